@@ -1,0 +1,158 @@
+ghost use Rattle.std.specs.Prelude.{◌≡◌, IfErr};
+
+use crate::{
+    MemorySink, MemorySource, ReadFailed, Sink, SinkFault, Source, StdSink, StdSource, SteadySink,
+    SteadySource, write_all,
+};
+use std::io;
+use std::io::{Read, Write};
+use std::process::Abort;
+use std::test::Fail;
+
+const TEXT: &[u8] = b"FXBOOK 1\nBANK ALFA\nBANK BETA\n";
+
+// A reader and a writer that fail each time.
+#[derive(Drop)]
+struct Broken;
+
+impl Read for Broken {
+    fn read(&mut self, _buf: &mut [u8]) -> io::Result<usize> {
+        Err(io::Error::from(io::ErrorKind::BrokenPipe))
+    }
+}
+
+impl Write for Broken {
+    fn write(&mut self, _buf: &[u8]) -> io::Result<usize> {
+        Err(io::Error::from(io::ErrorKind::BrokenPipe))
+    }
+
+    fn flush(&mut self) -> io::Result<()> {
+        Ok(())
+    }
+}
+
+// A writer that takes nothing.
+#[derive(Drop)]
+struct Full;
+
+impl Write for Full {
+    fn write(&mut self, _buf: &[u8]) -> io::Result<usize> {
+        Ok(0)
+    }
+
+    fn flush(&mut self) -> io::Result<()> {
+        Ok(())
+    }
+}
+
+// What one read with room for eight bytes gives. The rest of the room has to stay.
+fn read_eight<S: Source>(rt: &(impl Abort + AllocGlobal), source: &mut S) -> Result<Vec<u8>, Fail> {
+    let mut into = [b'.'; 8];
+    let count = source.read(&mut into)?;
+    assert!(rt; into[count..].iter().all(|byte| *byte == b'.'));
+    Ok(into[..count].to_vec(rt.alloc())?)
+}
+
+// A sink whose count stands at 0 wants for memory alone, also through a call that is generic over sinks.
+fn write_steadily(sink: &mut SteadySink, piece: &[u8]) -> Result<(), SinkFault>
+    ensures { IfErr result (λ fault. fault ≡ SinkFault.Memory) }
+{
+    write_all(sink, piece)
+}
+
+#[test]
+fn a_memory_source_gives_the_least_of_three(rt: HostRuntime) -> Result<(), Fail> {
+    for (most, pieces) in [
+        (1, [b"F".as_slice(), b"X", b"B", b"O"]),
+        (5, [b"FXBOO", b"K 1\nB", b"ANK A", b"LFA\nB"]),
+        (100, [b"FXBOOK 1", b"\nBANK AL", b"FA\nBANK ", b"BETA\n"]),
+    ] {
+        let bytes = TEXT.to_vec(rt.alloc())?;
+        let mut source = MemorySource::new(bytes, most, Vec::new(rt.alloc()));
+        for piece in pieces {
+            assert_eq!(rt;
+                read_eight(&rt, &mut source)?.as_slice(),
+                piece,
+                "most {most}"
+            );
+        }
+    }
+    Ok(())
+}
+
+#[test]
+fn a_memory_source_fails_at_its_calls_and_loses_nothing(rt: HostRuntime) -> Result<(), Fail> {
+    let fails = vec![in rt.alloc(); 1, 3, 4]?;
+    let mut source = MemorySource::new(b"0123456789abc".to_vec(rt.alloc())?, 8, fails);
+    let mut into = [0; 8];
+    for read in [
+        Err(ReadFailed),
+        Ok(8),
+        Err(ReadFailed),
+        Err(ReadFailed),
+        Ok(5),
+        Ok(0),
+    ] {
+        assert_eq!(rt; source.read(&mut into), read);
+    }
+    assert_eq!(rt; into, *b"89abc567");
+    Ok(())
+}
+
+#[test]
+fn a_sink_that_fails_at_its_third_call_holds_a_prefix(rt: HostRuntime) -> Result<(), Fail> {
+    let mut sink = MemorySink::new(10, vec![in rt.alloc(); 3]?);
+    assert_eq!(rt; write_all(&mut sink, TEXT), Err(SinkFault::Failed));
+    assert_eq!(rt; sink.written(), b"FXBOOK 1\nBANK ALFA\nB".as_slice());
+    assert_eq!(rt; sink.write(b"ANK"), Ok(3));
+    assert_eq!(rt; sink.written(), b"FXBOOK 1\nBANK ALFA\nBANK".as_slice());
+    Ok(())
+}
+
+#[test]
+fn write_all_writes_each_byte_once(rt: HostRuntime) -> Result<(), Fail> {
+    for most in [1, 3, 28, 29, 1000] {
+        let mut sink = MemorySink::new(most, Vec::new(rt.alloc()));
+        assert_eq!(rt; write_all(&mut sink, b""), Ok(()));
+        assert_eq!(rt; write_all(&mut sink, TEXT), Ok(()));
+        assert_eq!(rt; sink.written(), TEXT, "most {most}");
+    }
+    Ok(())
+}
+
+#[test]
+fn the_steady_ends_give_and_take_all(rt: HostRuntime) -> Result<(), Fail> {
+    let mut source = SteadySource::new(TEXT.to_vec(rt.alloc())?);
+    let mut sink = SteadySink::new(rt.alloc());
+    for _ in 0..4 {
+        let piece = read_eight(&rt, &mut source)?;
+        assert_eq!(rt; sink.write(&piece), Ok(piece.len()));
+    }
+    assert_eq!(rt; sink.written(), TEXT);
+    assert_eq!(rt; write_steadily(&mut sink, b"END\n"), Ok(()));
+    assert_eq!(rt;
+        sink.written(),
+        b"FXBOOK 1\nBANK ALFA\nBANK BETA\nEND\n".as_slice()
+    );
+    Ok(())
+}
+
+#[test]
+fn std_ends_pass_bytes_on_and_answer_faults(rt: HostRuntime) -> Result<(), Fail> {
+    let mut source = StdSource::new(TEXT);
+    let mut kept = Vec::new(rt.alloc());
+    let mut sink = StdSink::new(&mut kept);
+    for _ in 0..5 {
+        let piece = read_eight(&rt, &mut source)?;
+        assert_eq!(rt; write_all(&mut sink, &piece), Ok(()));
+    }
+    assert_eq!(rt; kept.as_slice(), TEXT);
+
+    let mut into = [b'.'; 8];
+    assert_eq!(rt; StdSource::new(Broken).read(&mut into), Err(ReadFailed));
+    assert_eq!(rt; into, [b'.'; 8]);
+    assert_eq!(rt; StdSink::new(Broken).write(b"text"), Err(SinkFault::Failed));
+    assert_eq!(rt; StdSink::new(Full).write(b"text"), Err(SinkFault::Failed));
+    assert_eq!(rt; StdSink::new(Full).write(b""), Ok(0));
+    Ok(())
+}
