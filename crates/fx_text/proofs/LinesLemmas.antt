@@ -1,0 +1,193 @@
+-- The lines of a text that is given piece by piece.
+use Rattle.std.proofs.Common.{◌≡◌, ◌≢◌, ap₂, ℕ, zero, suc, ◌+◌, ◌-◌, ◌<◌, ◌≤◌, Bool, true, false, List, [], ◌∷◌, ◌++◌, length, map, take, set, get_or, refl, sym, ap, ◌∙◌, arith, eqb, ⊎_elim, inl, inr, ◌⊎◌, append_assoc, append-nil}
+use Rattle.std.proofs.lemmas.Bool.{cases_Bool, cases_lt, lt-leb, cond-true, cond-false, ne_eqb}
+use Rattle.std.proofs.lemmas.List.{take_more_set, length_push, take-append-le, take_more, map-append, take_all, take-take, length-take}
+use Rattle.std.proofs.lemmas.List.Elements.{All-take}
+use Rattle.std.proofs.lemmas.List.Splits.{slice_split_none}
+use Rattle.std.specs.Str.Lines.{strip_carriage_return}
+use Rattle.fx_text.specs.Fields.{first_field}
+use Rattle.fx_text.specs.Lines.{parts_of, all_but_last, last_of, line_of, lines_of, rest_of, held_of, is_end_rest}
+use Rattle.fx_text.specs.Held.{IsHeld}
+use Rattle.fx_text.specs.declared.line.Line.{Line}
+use Rattle.fx_text.specs.declared.line.Line.TheVariants.{Long}
+use Rattle.fx_text.proofs.PartsLemmas.{Unbroken, Unbroken-last, all_but_last-split_append, last_of-split_append, slice_split-last_passes, slice_split-last_fails, slice_split-onto_front, onto_front}
+
+abbrev is_line_feed : ℕ → Bool
+is_line_feed byte = eqb byte 10
+
+-- the lines of two texts, one after the other: only the rest of the first goes on
+pub lines_of-append : (text more : List ℕ) → lines_of (text ++ more) ≡ lines_of text ++ lines_of (rest_of text ++ more)
+unfolding lines_of rest_of
+lines_of-append text more = ap (map line_of) (all_but_last-split_append is_line_feed text more)
+    ∙ map-append line_of (all_but_last (parts_of text)) (all_but_last (parts_of (last_of (parts_of text) ++ more)))
+
+pub rest_of-append : (text more : List ℕ) → rest_of (text ++ more) ≡ rest_of (rest_of text ++ more)
+unfolding rest_of
+rest_of-append text more = last_of-split_append is_line_feed text more
+
+-- a line feed ends the line of the rest
+pub lines_of-line_feed : (text : List ℕ) → lines_of (text ++ 10 ∷ []) ≡ lines_of text ++ line_of (rest_of text) ∷ []
+unfolding lines_of rest_of
+lines_of-line_feed text = lines_of-append text (10 ∷ []) ∙ ap (λ (parts : List (List ℕ)). lines_of text ++ map line_of (all_but_last parts)) (slice_split-last_passes is_line_feed text 10 refl)
+
+pub rest_of-line_feed : (text : List ℕ) → rest_of (text ++ 10 ∷ []) ≡ []
+unfolding rest_of
+rest_of-line_feed text = rest_of-append text (10 ∷ []) ∙ ap last_of (slice_split-last_passes is_line_feed text 10 refl)
+
+-- another byte is added to the rest
+pub lines_of-other : (text : List ℕ) (byte : ℕ) → eqb byte 10 ≡ false → lines_of (text ++ byte ∷ []) ≡ lines_of text
+unfolding lines_of rest_of
+lines_of-other text byte other = lines_of-append text (byte ∷ [])
+    ∙ ap (λ (parts : List (List ℕ)). lines_of text ++ map line_of (all_but_last parts)) (slice_split-last_fails is_line_feed text byte other)
+    ∙ append-nil (lines_of text)
+
+pub rest_of-other : (text : List ℕ) (byte : ℕ) → eqb byte 10 ≡ false → rest_of (text ++ byte ∷ []) ≡ rest_of text ++ byte ∷ []
+unfolding rest_of
+rest_of-other text byte other = rest_of-append text (byte ∷ []) ∙ ap last_of (slice_split-last_fails is_line_feed text byte other)
+
+-- a line that is long by more than a carriage return
+stripped : (part : List ℕ) → (strip_carriage_return part ≡ part) ⊎ (strip_carriage_return part ≡ take (length part - 1) part)
+stripped part = ⊎_elim
+    (λ (ends : eqb (get_or part (length part - 1) 0) 13 ≡ true). inr (cond-true _ _ _ ends))
+    (λ (other : eqb (get_or part (length part - 1) 0) 13 ≡ false). inl (cond-false _ _ _ other))
+    (cases_Bool (eqb (get_or part (length part - 1) 0) 13))
+
+line_of-stripped : (part text : List ℕ) → strip_carriage_return part ≡ text → 257 ≤ length text → take 256 text ≡ take 256 part → line_of part ≡ Long (first_field (take 256 part))
+unfolding line_of
+line_of-stripped part text is long same = rw (is, lt-leb (length text) 256 (omega arith), same) refl
+
+pub line_of-long : (part : List ℕ) → 258 ≤ length part → line_of part ≡ Long (first_field (take 256 part))
+line_of-long part long = ⊎_elim
+    (λ (is : strip_carriage_return part ≡ part). line_of-stripped part part is (omega arith) refl)
+    (λ (is : strip_carriage_return part ≡ take (length part - 1) part). line_of-stripped part (take (length part - 1) part) is (omega (arith, length-take (length part - 1) part)) (take-take 256 (length part - 1) part (omega arith)))
+    (stripped part)
+
+pub line_of-take : (part : List ℕ) → line_of (take 258 part) ≡ line_of part
+line_of-take part = ⊎_elim
+    (λ (long : 258 < length part). line_of-long (take 258 part) (omega (arith, length-take 258 part)) ∙ ap (λ (text : List ℕ). Long (first_field text)) (take-take 256 258 part (omega arith)) ∙ sym (line_of-long part (omega arith)))
+    (λ (short : length part ≤ 258). ap line_of (take_all 258 part short))
+    (cases_lt 258 (length part))
+
+-- a rest that is held cut to its first bytes goes on as the whole rest does
+pub take-take_append : (n : ℕ) (xs ys : List ℕ) → take n (take n xs ++ ys) ≡ take n (xs ++ ys)
+take-take_append zero xs ys = refl
+take-take_append (suc n) [] ys = refl
+take-take_append (suc n) (x ∷ xs) ys = ap (λ (rest : List ℕ). x ∷ rest) (take-take_append n xs ys)
+
+line_of-held : (front part : List ℕ) → line_of (take 258 front ++ part) ≡ line_of (front ++ part)
+line_of-held front part = sym (line_of-take (take 258 front ++ part)) ∙ ap line_of (take-take_append 258 front part) ∙ line_of-take (front ++ part)
+
+lines_onto : (front : List ℕ) (parts : List (List ℕ)) → map line_of (all_but_last (onto_front (take 258 front) parts)) ≡ map line_of (all_but_last (onto_front front parts))
+lines_onto front [] = refl
+lines_onto front (part ∷ []) = refl
+lines_onto front (part ∷ second ∷ more) = ap (λ (line : Line). line ∷ map line_of (all_but_last (second ∷ more))) (line_of-held front part)
+
+last_onto : (front : List ℕ) (parts : List (List ℕ)) → take 258 (last_of (onto_front (take 258 front) parts)) ≡ take 258 (last_of (onto_front front parts))
+last_onto front [] = take-take 258 258 front (omega arith)
+last_onto front (part ∷ []) = take-take_append 258 front part
+last_onto front (part ∷ second ∷ more) = refl
+
+pub lines_of-held : (text more : List ℕ) → lines_of (held_of text ++ more) ≡ lines_of (rest_of text ++ more)
+unfolding lines_of rest_of
+lines_of-held text more =
+    let whole : Unbroken is_line_feed (rest_of text) = Unbroken-last is_line_feed text in
+    let cut : Unbroken is_line_feed (held_of text) = All-take (λ byte. is_line_feed byte ≡ false) 258 (rest_of text) whole in
+    ap (λ (parts : List (List ℕ)). map line_of (all_but_last parts)) (slice_split-onto_front is_line_feed (held_of text) more cut)
+    ∙ lines_onto (rest_of text) (parts_of more)
+    ∙ sym (ap (λ (parts : List (List ℕ)). map line_of (all_but_last parts)) (slice_split-onto_front is_line_feed (rest_of text) more whole))
+
+pub held_of-held : (text more : List ℕ) → held_of (held_of text ++ more) ≡ held_of (rest_of text ++ more)
+unfolding rest_of
+held_of-held text more =
+    let whole : Unbroken is_line_feed (rest_of text) = Unbroken-last is_line_feed text in
+    let cut : Unbroken is_line_feed (held_of text) = All-take (λ byte. is_line_feed byte ≡ false) 258 (rest_of text) whole in
+    ap (λ (parts : List (List ℕ)). take 258 (last_of parts)) (slice_split-onto_front is_line_feed (held_of text) more cut)
+    ∙ last_onto (rest_of text) (parts_of more)
+    ∙ sym (ap (λ (parts : List (List ℕ)). take 258 (last_of parts)) (slice_split-onto_front is_line_feed (rest_of text) more whole))
+
+-- the law of cutting: what comes of more bytes depends on what is held alone
+pub lines_of-cut : (text more : List ℕ) → lines_of (text ++ more) ≡ lines_of text ++ lines_of (held_of text ++ more)
+lines_of-cut text more = lines_of-append text more ∙ ap (λ (lines : List Line). lines_of text ++ lines) (sym (lines_of-held text more))
+
+pub held_of-cut : (text more : List ℕ) → held_of (text ++ more) ≡ held_of (held_of text ++ more)
+held_of-cut text more = ap (take 258) (rest_of-append text more) ∙ sym (held_of-held text more)
+
+-- what is held tells whether the rest is the END line
+pub is_end_rest-held : (text : List ℕ) → is_end_rest (held_of text) ≡ is_end_rest (rest_of text)
+is_end_rest-held text = ⊎_elim
+    (λ (long : 258 < length (rest_of text)). rw (lt-leb (length (held_of text)) 256 (omega (arith, length-take 258 (rest_of text))), lt-leb (length (rest_of text)) 256 (omega arith)) refl)
+    (λ (short : length (rest_of text) ≤ 258). ap is_end_rest (take_all 258 (rest_of text) short))
+    (cases_lt 258 (length (rest_of text)))
+
+-- what is held has no line, and is held whole
+pub lines_of-held_alone : (text : List ℕ) → lines_of (held_of text) ≡ []
+unfolding lines_of rest_of
+lines_of-held_alone text = ap (λ (parts : List (List ℕ)). map line_of (all_but_last parts))
+    (slice_split_none is_line_feed (held_of text) (All-take (λ byte. is_line_feed byte ≡ false) 258 (rest_of text) (Unbroken-last is_line_feed text)))
+
+pub held_of-held_alone : (text : List ℕ) → held_of (held_of text) ≡ held_of text
+unfolding rest_of
+held_of-held_alone text = ap (λ (parts : List (List ℕ)). take 258 (last_of parts))
+    (slice_split_none is_line_feed (held_of text) (All-take (λ byte. is_line_feed byte ≡ false) 258 (rest_of text) (Unbroken-last is_line_feed text)))
+    ∙ take-take 258 258 (rest_of text) (omega arith)
+
+-- nothing is held without a line
+pub IsHeld-nil : IsHeld []
+unfolding lines_of rest_of
+IsHeld-nil = record { no_line = refl; whole = refl }
+
+pub IsHeld-held_of : (text : List ℕ) → IsHeld (held_of text)
+IsHeld-held_of text = record { no_line = lines_of-held_alone text; whole = held_of-held_alone text }
+
+-- one byte of a piece more
+grown : (before piece : List ℕ) (i : ℕ) → i < length piece → before ++ take (i + 1) piece ≡ (before ++ take i piece) ++ get_or piece i 0 ∷ []
+grown before piece i within = ap (λ (front : List ℕ). before ++ front) (take_more piece i 0 within) ∙ sym (append_assoc before (take i piece) (get_or piece i 0 ∷ []))
+
+pub record CutsOn (before piece : List ℕ) (i : ℕ) (held : List ℕ) (lines : List Line) : Type 0 where
+  pub held_is : held ≡ held_of (before ++ take i piece)
+  pub lines_are : lines ≡ lines_of (before ++ take i piece)
+
+pub CutsOn-none : (before piece : List ℕ) → IsHeld before → CutsOn before piece 0 before []
+CutsOn-none before piece is =
+    let same : before ++ [] ≡ before = append-nil before in
+    record { held_is = rw same (sym is.whole); lines_are = rw same (sym is.no_line) }
+
+pub CutsOn-line_feed : (before piece : List ℕ) (i : ℕ) (held : List ℕ) (lines : List Line) → i < length piece → get_or piece i 0 ≡ 10 → CutsOn before piece i held lines
+    → CutsOn before piece (i + 1) [] (lines ++ line_of held ∷ [])
+CutsOn-line_feed before piece i held lines within feed cuts =
+    let text : List ℕ = before ++ take i piece in
+    let on : before ++ take (i + 1) piece ≡ text ++ 10 ∷ [] = grown before piece i within ∙ ap (λ (byte : ℕ). text ++ byte ∷ []) feed in
+    let line : line_of held ≡ line_of (rest_of text) = ap line_of cuts.held_is ∙ line_of-take (rest_of text) in
+    record {
+      held_is = sym (ap held_of on ∙ ap (take 258) (rest_of-line_feed text));
+      lines_are = ap₂ (λ (front : List Line) (last : Line). front ++ last ∷ []) cuts.lines_are line ∙ sym (ap lines_of on ∙ lines_of-line_feed text);
+    }
+
+pub CutsOn-other : (before piece : List ℕ) (i : ℕ) (held : List ℕ) (lines : List Line) → i < length piece → get_or piece i 0 ≢ 10 → CutsOn before piece i held lines
+    → CutsOn before piece (i + 1) (take 258 (held ++ get_or piece i 0 ∷ [])) lines
+CutsOn-other before piece i held lines within other cuts =
+    let text : List ℕ = before ++ take i piece in
+    let byte : ℕ = get_or piece i 0 in
+    let on : before ++ take (i + 1) piece ≡ text ++ byte ∷ [] = grown before piece i within in
+    let not_feed : eqb byte 10 ≡ false = ne_eqb byte 10 other in
+    record {
+      held_is = ap (λ (front : List ℕ). take 258 (front ++ byte ∷ [])) cuts.held_is ∙ take-take_append 258 (rest_of text) (byte ∷ []) ∙ sym (ap held_of on ∙ ap (take 258) (rest_of-other text byte not_feed));
+      lines_are = cuts.lines_are ∙ sym (ap lines_of on ∙ lines_of-other text byte not_feed);
+    }
+
+pub CutsOn-all : (before piece : List ℕ) (i : ℕ) (held : List ℕ) (lines : List Line) → length piece ≤ i → CutsOn before piece i held lines
+    → (held ≡ held_of (before ++ piece)) × (lines ≡ lines_of (before ++ piece))
+CutsOn-all before piece i held lines all cuts =
+    let whole : take i piece ≡ piece = take_all i piece all in
+    (rw whole at cuts.held_is, rw whole at cuts.lines_are)
+
+-- a byte more in the fixed room of what is held
+pub room-push : (bytes : List ℕ) (len byte : ℕ) → length bytes ≡ 258 → len < 258 → take (len + 1) (set bytes len byte) ≡ take 258 (take len bytes ++ byte ∷ [])
+room-push bytes len byte room within = take_more_set bytes len byte (omega arith) ∙ sym (take_all 258 (take len bytes ++ byte ∷ []) (omega (arith, length_push (take len bytes) byte, length-take len bytes)))
+
+pub room-full : (bytes : List ℕ) (len byte : ℕ) → length bytes ≡ 258 → 258 ≤ len → len ≤ 258 → take len bytes ≡ take 258 (take len bytes ++ byte ∷ [])
+room-full bytes len byte room full within = sym (take-append-le 258 (take len bytes) (byte ∷ []) (omega (arith, length-take len bytes)) ∙ take_all 258 (take len bytes) (omega (arith, length-take len bytes)))
+
+-- a line more behind others
+pub pushed_line : (start lines items : List Line) (line same : Line) → items ≡ start ++ lines → line ≡ same → items ++ line ∷ [] ≡ start ++ (lines ++ same ∷ [])
+pushed_line start lines items line same is e = ap₂ (λ (front : List Line) (last : Line). front ++ last ∷ []) is e ∙ append_assoc start lines (same ∷ [])

@@ -1,0 +1,10 @@
+use Rattle.std.proofs.Common.{◌∙◌, ◌<◌, ap, List, ℕ, [], length, slice_index_or, arith}
+use Rattle.fx_text.specs.Fields.{fields_of}
+use Rattle.fx_text.proofs.FieldLemmas.{kept_field_or}
+use Rattle.fx_text.proofs.field.Fields.field.Goals as goal
+
+pub returns : goal.returns
+returns c =
+    let there : c.args.at < c.self.inside.count = omega (arith, c.self.invariant.0, ap (λ (fields : List (List ℕ)). length fields) c.self.view_is, c.requires.there) in
+    kept_field_or c.self.inside.kept (fields_of c.self.inside.line.now) c.self.inside.count c.args.at _ c.self.invariant.0 c.self.invariant.1 c.requires.kept there
+    ∙ ap (λ (fields : List (List ℕ)). slice_index_or fields c.args.at []) c.self.view_is

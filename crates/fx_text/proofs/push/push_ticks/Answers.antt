@@ -1,0 +1,19 @@
+use Rattle.std.proofs.Common.{◌≡◌, ◌∙◌, ap, sym, ℕ, arith}
+use Rattle.fx_amounts.specs.Numeral.{numeral}
+use Rattle.fx_amounts.specs.PriceText.{price_text}
+use Rattle.fx_text.proofs.PlacesLemmas.{BehindOne-decimal, pushed_price, price_text-whole}
+use Rattle.fx_text.proofs.push.push_ticks.Goals as goal
+
+pub returns-then-decimals-eq0-clause-ok : goal.returns-then-decimals-eq0-clause-ok
+returns-then-decimals-eq0-clause-ok c =
+    let text : price_text c.args.decimals c.args.ticks ≡ numeral c.from.result = ap (λ (d : ℕ). price_text d c.args.ticks) c.if-decimals-eq0.true ∙ price_text-whole c.args.ticks ∙ ap numeral (sym c.from.ensures) in
+    rw text c.push_number.ensures.ok
+
+pub split_at-requires : goal.split_at-requires
+split_at-requires c = (BehindOne-decimal c.args.decimals c.args.ticks c.unit_of-unit.result c.as_bytes.result.now c.unit_of-unit.ensures.value c.unit_of-unit.ensures.some c.unit_of-unit.ensures.most (c.as_bytes.ensures.value ∙ c.format.ensures.text)).some
+
+pub returns-clause-ok : goal.returns-clause-ok
+returns-clause-ok c =
+    let behind = BehindOne-decimal c.args.decimals c.args.ticks c.unit_of-unit.result c.as_bytes.result.now c.unit_of-unit.ensures.value c.unit_of-unit.ensures.some c.unit_of-unit.ensures.most (c.as_bytes.ensures.value ∙ c.format.ensures.text) in
+    pushed_price c.args.decimals c.args.ticks c.unit_of-unit.result c.args.out.now.items c.push_number-2.new.out.items c.push.new.self.items c.extend_from_slice.new.self.items (numeral c.from-2.result) c.split_at.result.1.now
+    (omega arith) c.unit_of-unit.ensures.value c.in_ok-push_number.ensures.ok (ap numeral c.from-2.ensures) c.in_ok-push.ensures.items c.in_ok-extend_from_slice.ensures.items (c.split_at.ensures.back ∙ behind.places)

@@ -1,0 +1,29 @@
+-- The fields of a line.
+use Rattle.std.specs.Prelude.{ℕ, Bool, false, ◌||◌, ◌==◌, nat_lt, List, [], ◌∷◌, length, filter, codes, bytes_eq, slice_index, slice_index_or}
+use Rattle.std.specs.List.{slice_split}
+
+-- a space or a tab
+abbrev pub is_blank : ℕ → Bool
+is_blank byte = (byte == 32) || (byte == 9)
+
+-- whether a text has a byte
+abbrev pub has_bytes : List ℕ → Bool
+has_bytes text = nat_lt 0 (length text)
+
+-- the fields of a line: what stands between its blanks, where something does
+unfoldable pub fields_of : List ℕ → List (List ℕ)
+fields_of line = filter has_bytes (slice_split is_blank line)
+
+-- the first field of a line, which is empty where the line has none
+abbrev pub first_field : List ℕ → List ℕ
+first_field line = slice_index_or (fields_of line) 0 []
+
+-- whether a field begins a comment: its first byte is `#`
+abbrev pub is_comment : List ℕ → Bool
+is_comment field = slice_index field 0 == 35
+
+-- whether `END` is the only field
+abbrev pub is_end : List (List ℕ) → Bool
+is_end [] = false
+is_end (field ∷ []) = bytes_eq field (codes "END")
+is_end (field ∷ second ∷ more) = false

@@ -1,0 +1,20 @@
+//! The text of a session: lines cut out of bytes in any pieces, the fields of a line, and numbers and prices
+//! in their one spelling.
+#![tactic(auto)]
+
+mod cutter;
+mod field;
+mod line;
+mod numeral;
+mod push;
+mod split;
+
+pub use cutter::LineCutter;
+pub use field::Fields;
+pub use line::{Bytes, Line};
+pub use numeral::number;
+pub use push::{push_number, push_price, push_signed};
+pub use split::fields;
+
+#[cfg(test)]
+mod tests;

@@ -1,0 +1,103 @@
+ghost use Rattle.std.specs.Prelude.{◌≡◌, IfOk};
+ghost use Rattle.std.specs.Str.Lines.{strip_carriage_return};
+ghost use Rattle.fx_text.specs.Fields.{is_comment};
+
+use crate::field::Fields;
+use fx_amounts::Memory;
+use std::alloc::Global;
+use std::marker::Model;
+
+/// The longest line, in bytes without its line end.
+pub(crate) const MOST_BYTES: usize = 256;
+
+/// A text of any bytes, held in a `Vec`.
+#[derive(Debug, Drop)]
+pub struct Bytes {
+    bytes: Vec<u8>,
+}
+
+impl Model for Bytes {
+    ghost use Rattle.std.specs.Prelude.{List, ℕ};
+
+    ghost Value = { List ℕ };
+
+    ghost view = { λ b. b.bytes.items };
+}
+
+impl Bytes {
+    /// The bytes of a `Vec`. Takes no memory.
+    pub fn from_vec(bytes: Vec<u8>) -> Bytes
+        ensures { result ≡ bytes.items }
+    {
+        Bytes { bytes }
+    }
+
+    /// The bytes as a slice.
+    pub fn as_slice(&self) -> &[u8]
+        ensures { result.now ≡ self.now }
+    {
+        &self.bytes
+    }
+
+    fn copied(alloc: Global, text: &[u8]) -> Result<Bytes, Memory>
+        ensures { IfOk result (λ bytes. bytes ≡ text.now) }
+    {
+        Ok(Bytes::from_vec(Vec::from_slice(alloc, text)?))
+    }
+}
+
+/// A line of a text, without its line end.
+#[derive(Debug, Drop)]
+pub enum Line {
+    /// A line of at most 256 bytes.
+    Whole(Bytes),
+    /// A longer line, of which the first field of its first 256 bytes is kept.
+    Long(Bytes),
+}
+
+impl Line {
+    ghost use Rattle.fx_text.specs.Lines.{line_of, is_passed_over};
+
+    // The line of a part that a line feed ends.
+    #[tactic(auto, unfolding(crate::specs::Lines::line_of))]
+    pub(crate) fn of(alloc: Global, part: &[u8]) -> Result<Line, Memory>
+        ensures { IfOk result (λ line. line ≡ line_of part.now) }
+    {
+        let text = without_carriage_return(part);
+        if text.len() <= MOST_BYTES {
+            Ok(Line::Whole(Bytes::copied(alloc, text)?))
+        } else {
+            let (front, _) = text.split_at(MOST_BYTES);
+            Ok(Line::Long(Bytes::copied(alloc, Fields::of(front).first())?))
+        }
+    }
+
+    /// Whether the line is passed over: it has no field, or its first field begins with `#`. Of a long line
+    /// only the field that is kept counts, also where it is empty.
+    pub fn is_passed_over(&self) -> bool
+        ensures { result ≡ is_passed_over self.now }
+    {
+        match self {
+            Line::Whole(text) => {
+                let fields = Fields::of(text.as_slice());
+                fields.count() == 0 || is_comment(fields.first())
+            }
+            Line::Long(field) => is_comment(field.as_slice()),
+        }
+    }
+}
+
+fn is_comment(field: &[u8]) -> bool
+    ensures { result ≡ is_comment field.now }
+{
+    field.first() == Some(&b'#')
+}
+
+fn without_carriage_return(part: &[u8]) -> &[u8]
+    ensures { result.now ≡ strip_carriage_return part.now }
+{
+    match part {
+        [text @ .., b'\r'] => text,
+        _ => part,
+    }
+}

@@ -1,0 +1,74 @@
+ghost use Rattle.std.specs.Prelude.{◌≡◌, ℕ, ◌<◌, ◌≤◌, ◌^◌, ◌++◌, take, vec_len, OnOk, OnErr};
+ghost use Rattle.fx_amounts.specs.Numeral.{numeral};
+ghost use Rattle.fx_amounts.specs.PriceText.{price_text, price_of};
+ghost use Rattle.fx_amounts.specs.Quantity.{IsDecimals};
+ghost use Rattle.fx_text.specs.Number.{number_of, signed_numeral};
+
+use fx_amounts::{Memory, Price};
+use itoa::Buffer;
+
+/// Appends a number's decimal digits. After `Err` the list is as it was.
+pub fn push_number(value: u128, out: &mut Vec<u8>) -> Result<(), Memory>
+    ensures ok { OnOk result (out.new.items ≡ out.old.items ++ numeral value) }
+    ensures err { OnErr result (out.new.items ≡ out.old.items) }
+    ensures read_back { (least most : ℕ) → least ≤ value → value ≤ most → number_of least most (numeral value) ≡ Some value }
+{
+    let mut buffer = Buffer::new();
+    out.extend_from_slice(buffer.format(value).as_bytes())?;
+    Ok(())
+}
+
+/// Appends a number's decimal digits, behind a minus where it is below 0. After `Err` the list is as it was.
+pub fn push_signed(value: i128, out: &mut Vec<u8>) -> Result<(), Memory>
+    ensures ok { OnOk result (out.new.items ≡ out.old.items ++ signed_numeral value) }
+    ensures err { OnErr result (out.new.items ≡ out.old.items) }
+{
+    let mut buffer = Buffer::new();
+    out.extend_from_slice(buffer.format(value).as_bytes())?;
+    Ok(())
+}
+
+/// Appends a price's one spelling, where a tick is the last of `decimals` decimal places. After `Err` the list is
+/// as it was.
+pub fn push_price(price: Price, decimals: u8, out: &mut Vec<u8>) -> Result<(), Memory>
+    requires { IsDecimals decimals }
+    ensures ok { OnOk result (out.new.items ≡ out.old.items ++ price_text decimals price) }
+    ensures err { OnErr result (out.new.items ≡ out.old.items) }
+    ensures read_back { price_of decimals (price_text decimals price) ≡ Ok price }
+{
+    let before = out.len();
+    let pushed = push_ticks(price.ticks(), u32::from(decimals), out);
+    if pushed.is_err() {
+        out.truncate(before);
+    }
+    pushed
+}
+
+// After `Err` a part of the price may be appended.
+fn push_ticks(ticks: u32, decimals: u32, out: &mut Vec<u8>) -> Result<(), Memory>
+    requires { IsDecimals decimals }
+    ensures ok { OnOk result (out.new.items ≡ out.old.items ++ price_text decimals ticks) }
+    ensures err { OnErr result (take (vec_len out.old) out.new.items ≡ out.old.items) }
+{
+    if decimals == 0 {
+        return push_number(u128::from(ticks), out);
+    }
+    let unit = unit_of(decimals);
+    push_number(u128::from(ticks / unit), out)?;
+    out.push(b'.')?;
+    // A leading one, which is left out, keeps the zeros behind the point.
+    let mut buffer = Buffer::new();
+    let (_, places) = buffer.format(unit + ticks % unit).as_bytes().split_at(1);
+    out.extend_from_slice(places)?;
+    Ok(())
+}
+
+// The ticks of a price of 1.
+fn unit_of(decimals: u32) -> u32
+    requires { IsDecimals decimals }
+    ensures value { result ≡ 10 ^ decimals }
+    ensures some { 0 < result }
+    ensures most { result ≤ 10 ^ 6 }
+{
+    10u32.pow(decimals)
+}
