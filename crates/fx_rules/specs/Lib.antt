@@ -1,0 +1,12 @@
+pub mod Reject
+pub mod Names
+pub mod Session
+pub mod Lists
+pub mod State
+pub mod Sweep
+pub mod Step
+pub mod History
+pub mod Sound
+pub mod Plan
+pub mod NoCross
+pub mod Laws

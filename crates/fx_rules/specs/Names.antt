@@ -1,0 +1,34 @@
+-- The texts of banks' names and of currency codes, as lists of bytes.
+use Rattle.std.specs.Prelude.{ℕ, Bool, false, ◌&&◌, ◌||◌, ◌-◌, not, nat_le, List, [], ◌∷◌, ◌++◌, ◌≡◌, IsTrue, length, slice_index, replicate, take, codes, bytes_eq}
+use Rattle.std.specs.Char.{is_ascii_digit, is_ascii_uppercase}
+use Rattle.std.specs.List.{list_all}
+
+-- a letter A to Z or a digit 0 to 9
+abbrev pub is_name_byte : ℕ → Bool
+is_name_byte byte = is_ascii_uppercase byte || is_ascii_digit byte
+
+-- the words that no bank may have as its name
+abbrev pub is_reserved : List ℕ → Bool
+is_reserved text = bytes_eq text (codes "HOST") || bytes_eq text (codes "END")
+
+-- a bank's name: 3 to 8 letters and digits, a letter first, and not a reserved word
+abbrev pub is_name : List ℕ → Bool
+is_name text =
+    nat_le 3 (length text) && nat_le (length text) 8
+    && is_ascii_uppercase (slice_index text 0) && list_all is_name_byte text
+    && not (is_reserved text)
+
+-- a currency code: three letters
+abbrev pub is_code : List ℕ → Bool
+is_code (a ∷ b ∷ c ∷ []) = is_ascii_uppercase a && is_ascii_uppercase b && is_ascii_uppercase c
+is_code _ = false
+
+-- a text with zeros behind it, up to eight bytes
+abbrev pub padded : List ℕ → List ℕ
+padded text = text ++ replicate (8 - length text) 0
+
+-- the first `len` bytes are a name, and zeros stand behind it
+pub record StoresName (bytes : List ℕ) (len : ℕ) : Type 0 where
+  pub size : length (take len bytes) ≡ len
+  pub padding : padded (take len bytes) ≡ bytes
+  pub name : IsTrue (is_name (take len bytes))

@@ -1,0 +1,70 @@
+-- What a session is: its banks and pairs in the order of its header, and the limits that the banks open with.
+-- Banks and pairs are named by their places, from 0. A name or a code is its text, a list of bytes.
+use Rattle.std.specs.Prelude.{ℕ, ◌≡◌, ◌≢◌, ◌≤◌, ◌+◌, ◌*◌, ◌^◌, ◌%◌, ◌<◌, ◌++◌, ◌∷◌, Option, List, length, map, position, bytes_eq, IsTrue, All, AllPairs, slice_index}
+use Rattle.std.specs.Str.{byte}
+use Rattle.fx_rules.specs.Names.{is_name, is_code}
+use Rattle.fx_rules.specs.declared.session.PairRule.{PairRule}
+
+-- a pair's terms are in their ranges: two different codes, 0 to 6 decimals, a lot of 1 to 10^9 that is a multiple of
+-- 10^decimals, a weight of 1 to 10^6
+pub record IsPairRule (rule : PairRule) : Type 0 where
+  pub base : IsTrue (is_code rule.base)
+  pub quote : IsTrue (is_code rule.quote)
+  pub differ : rule.base ≢ rule.quote
+  pub decimals : rule.decimals ≤ 6
+  pub lot_least : 1 ≤ rule.lot
+  pub lot_most : rule.lot ≤ 1000000000
+  pub lot_whole : rule.lot % 10 ^ rule.decimals ≡ 0
+  pub weight_least : 1 ≤ rule.weight
+  pub weight_most : rule.weight ≤ 1000000
+
+-- two pairs are of the same two currencies, in the same order
+abbrev pub AreSamePair : PairRule → PairRule → Type 0
+AreSamePair a b = (a.base ≡ b.base) × (a.quote ≡ b.quote)
+
+-- banks, pairs, and the opening limits row by row: the one that bank i sets on bank j stands at i * banks + j
+pub record Header : Type 0 where
+  pub banks : List (List ℕ)
+  pub pairs : List PairRule
+  pub limits : List ℕ
+
+abbrev pub bank_count : Header → ℕ
+bank_count h = length h.banks
+
+abbrev pub pair_count : Header → ℕ
+pair_count h = length h.pairs
+
+-- the limit that bank i opens with on bank j
+abbrev pub opening_limit : Header → ℕ → ℕ → ℕ
+opening_limit h i j = slice_index h.limits (i * bank_count h + j)
+
+-- credit units per lot of a pair
+abbrev pub weight_of : Header → ℕ → ℕ
+weight_of h pair = slice_index (map (λ rule. rule.weight) h.pairs) pair
+
+-- the bank of that name
+abbrev pub bank_of : Header → List ℕ → Option ℕ
+bank_of h text = position (λ name. bytes_eq name text) h.banks
+
+-- how a pair is written: BASE/QUOTE
+abbrev pub pair_text : PairRule → List ℕ
+pair_text rule = rule.base ++ (byte "/" ∷ rule.quote)
+
+-- the pair that is written so
+abbrev pub pair_of : Header → List ℕ → Option ℕ
+pair_of h text = position (λ rule. bytes_eq (pair_text rule) text) h.pairs
+
+-- a valid session: 2 to 64 banks of different names, 1 to 32 pairs, no two the same, and a limit of 0 to 10^15 that
+-- each bank sets on each bank, 0 on itself
+pub record IsSession (h : Header) : Type 0 where
+  pub banks_least : 2 ≤ bank_count h
+  pub banks_most : bank_count h ≤ 64
+  pub names : All (λ name. IsTrue (is_name name)) h.banks
+  pub names_differ : AllPairs (λ a b. a ≢ b) h.banks
+  pub pairs_least : 1 ≤ pair_count h
+  pub pairs_most : pair_count h ≤ 32
+  pub rules : All IsPairRule h.pairs
+  pub pairs_differ : AllPairs (λ a b. ¬ (AreSamePair a b)) h.pairs
+  pub limits_full : length h.limits ≡ bank_count h * bank_count h
+  pub limits_most : All (λ limit. limit ≤ 1000000000000000) h.limits
+  pub own_limits : (i : ℕ) → i < bank_count h → opening_limit h i i ≡ 0

@@ -1,0 +1,26 @@
+//! The market's words: sessions, commands, orders, fills and outcomes, and in `specs/` what they mean.
+//!
+//! Amounts are those of `fx_amounts`: prices in ticks, quantities in lots, credit in units. A bank or a pair is named
+//! by its place in the session's header, from 0.
+#![tactic(auto)]
+
+mod command;
+mod gates;
+mod laws;
+mod lists;
+mod names;
+mod orders;
+mod outcome;
+mod session;
+
+pub use command::{Command, Life, Reject};
+pub use gates::{Gate, OpenGate};
+pub use laws::{
+    legal_goes_on, legal_is_sound, legal_is_uncrossed, next_entries_agree, outcomes_agree,
+    sweeps_agree,
+};
+pub use lists::ListOf;
+pub use names::{Code, Name};
+pub use orders::{ActiveOrder, Fill, FillList, Level, LevelList, Plan, Resting};
+pub use outcome::{CommandList, Entry, EntryList, Outcome};
+pub use session::{PairRule, Session};

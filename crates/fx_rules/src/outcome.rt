@@ -1,0 +1,116 @@
+ghost use Rattle.std.specs.Prelude.{◌≡◌, IfOk};
+
+use crate::command::{Command, Reject};
+use crate::lists::ListOf;
+use crate::orders::{FillList, LevelList};
+use fx_amounts::{BankId, Memory, Units};
+
+/// What came of a command. What is filled, rests or is left is in lots, a limit, a use and a line in credit units.
+#[derive(Debug, Drop)]
+pub enum Outcome {
+    /// An order was swept: the lots filled, the lots that rest, and the fills in order.
+    Ordered {
+        filled: u32,
+        rests: u32,
+        fills: FillList,
+    },
+    /// A fill-or-kill order would have left a rest; nothing changed.
+    Killed,
+    /// The order was taken out with so many lots left.
+    Cancelled {
+        left: u32,
+    },
+    /// The order has so many lots left now.
+    Reduced {
+        left: u32,
+    },
+    /// The order has no more left than was asked for, and stays as it is with `left`.
+    NotLess {
+        left: u32,
+    },
+    /// No such order of the sender rests in the pair.
+    Nothing,
+    /// So many orders were taken out.
+    Pulled {
+        count: u32,
+    },
+    /// The limit that was set, and the fills that it made possible, in order.
+    LineSet {
+        limit: Units,
+        fills: FillList,
+    },
+    /// The sender's limit on the other bank, what the two have used, and the line between them.
+    Shown {
+        limit: Units,
+        used: Units,
+        eff: Units,
+    },
+    /// The sender's local book: of each side at most ten levels, the best first.
+    Depth {
+        bids: LevelList,
+        asks: LevelList,
+    },
+    /// The command line could not be read.
+    Rejected {
+        reason: Reject,
+    },
+}
+
+impl Outcome {
+    /// An equal outcome, in memory of its own. At `Memory` there is no new outcome, and this one is as it was.
+    pub fn copy(&self) -> Result<Outcome, Memory>
+        ensures equal { IfOk result (λ outcome. outcome ≡ self.now) }
+    {
+        Ok(match self {
+            Outcome::Ordered {
+                filled,
+                rests,
+                fills,
+            } => Outcome::Ordered {
+                filled: *filled,
+                rests: *rests,
+                fills: fills.copy()?,
+            },
+            Outcome::Killed => Outcome::Killed,
+            Outcome::Cancelled { left } => Outcome::Cancelled { left: *left },
+            Outcome::Reduced { left } => Outcome::Reduced { left: *left },
+            Outcome::NotLess { left } => Outcome::NotLess { left: *left },
+            Outcome::Nothing => Outcome::Nothing,
+            Outcome::Pulled { count } => Outcome::Pulled { count: *count },
+            Outcome::LineSet { limit, fills } => Outcome::LineSet {
+                limit: *limit,
+                fills: fills.copy()?,
+            },
+            Outcome::Shown { limit, used, eff } => Outcome::Shown {
+                limit: *limit,
+                used: *used,
+                eff: *eff,
+            },
+            Outcome::Depth { bids, asks } => Outcome::Depth {
+                bids: bids.copy()?,
+                asks: asks.copy()?,
+            },
+            Outcome::Rejected { reason } => Outcome::Rejected { reason: *reason },
+        })
+    }
+}
+
+/// An entry of the history: one command, with what came of it.
+#[derive(Debug, Drop)]
+pub struct Entry {
+    /// Who sent it.
+    pub bank: BankId,
+    /// Its place in the sender's stream, from 1.
+    pub number: u32,
+    pub command: Command,
+    pub outcome: Outcome,
+}
+
+/// Entries in the order of the history.
+pub type EntryList = ListOf<Entry>;
+
+/// Commands in the order of a stream.
+pub type CommandList = ListOf<Command>;
+
+#[cfg(test)]
+mod tests;

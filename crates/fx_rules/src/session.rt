@@ -1,0 +1,232 @@
+ghost use Rattle.std.specs.Prelude.{◌≡◌, ◌≢◌, ◌↔◌, ◌≤◌, ◌<◌, ◌+◌, ◌*◌, ◌&&◌, ℕ, IsTrue, SomeIff, All, AllPairs, length, position, slice_index, slice_get, bytes_eq, Contains, IfSome, IfNone, option_map};
+ghost use Rattle.fx_rules.specs.Names.{is_name};
+ghost use Rattle.fx_rules.specs.Session.{Header, IsSession, IsPairRule, AreSamePair, bank_count, pair_count, opening_limit, weight_of, bank_of, pair_of, pair_text};
+
+use crate::names::{Code, Name};
+use fx_amounts::{BankId, PairId, Units};
+use std::marker::Model;
+
+/// A currency pair and its units.
+#[derive(Clone, Copy, Debug, PartialEq, Eq)]
+pub struct PairRule {
+    /// The currency that is bought and sold.
+    pub base: Code,
+    /// The currency in which it is priced.
+    pub quote: Code,
+    /// One tick is `10^-decimals` of the quote currency per unit of base; 0 to 6.
+    pub decimals: u8,
+    /// Units of base per lot, 1 to 10^9, a multiple of `10^decimals`.
+    pub lot: u32,
+    /// Credit units per lot, 1 to 10^6.
+    pub weight: u32,
+}
+
+impl PairRule {
+    /// How the pair is written: `BASE/QUOTE`.
+    pub fn text(&self) -> [u8; 7]
+        ensures value { result ≡ pair_text self.now }
+    {
+        let base = self.base.letters();
+        let quote = self.quote.letters();
+        [
+            base[0], base[1], base[2], b'/', quote[0], quote[1], quote[2],
+        ]
+    }
+}
+
+/// A day's banks, pairs and opening limits. Each value is a valid session. Contracts see it as its header.
+#[derive(Debug, Drop)]
+pub struct Session {
+    banks: Vec<Name>,
+    pairs: Vec<PairRule>,
+    /// Row by row: the limit that bank i sets on bank j stands at `i * banks + j`.
+    limits: Vec<Units>,
+}
+
+impl Model for Session {
+    ghost use Rattle.fx_rules.specs.Session.{Header, IsSession};
+
+    ghost Value = { Header };
+
+    ghost view = { λ s. record { banks = s.banks.items; pairs = s.pairs.items; limits = s.limits.items } };
+
+    ghost invariant = { λ s. IsSession (record { banks = s.banks.items; pairs = s.pairs.items; limits = s.limits.items }) };
+}
+
+impl Session {
+    /// The session of these banks and pairs, where `limits` holds, row by row, the limit that each bank sets on each
+    /// bank. `None` exactly where they are no valid session; then they are dropped. It takes no memory.
+    pub fn build(banks: Vec<Name>, pairs: Vec<PairRule>, limits: Vec<Units>) -> Option<Self>
+        ensures value { let header : Header = record { banks = banks.items; pairs = pairs.items; limits = limits.items } in
+            SomeIff result (IsSession header) header }
+    {
+        if are_valid_banks(&banks)
+            && are_valid_pairs(&pairs)
+            && are_valid_limits(banks.len(), &limits)
+        {
+            Some(Session {
+                banks,
+                pairs,
+                limits,
+            })
+        } else {
+            None
+        }
+    }
+
+    /// The banks' names, in header order. It takes no memory.
+    pub fn banks(&self) -> &[Name]
+        ensures value { result.now ≡ self.now.banks }
+        ensures valid { IsSession self.now }
+    {
+        self.banks.as_slice()
+    }
+
+    /// The pairs, in header order. It takes no memory.
+    pub fn pairs(&self) -> &[PairRule]
+        ensures value { result.now ≡ self.now.pairs }
+        ensures valid { IsSession self.now }
+    {
+        self.pairs.as_slice()
+    }
+
+    /// The limit that bank `i` opens with on bank `j`, in credit units; 0 where they are one bank. It takes no memory.
+    pub fn limit(&self, i: BankId, j: BankId) -> Units
+        requires setter { i < bank_count self.now }
+        requires other { j < bank_count self.now }
+        ensures value { result ≡ opening_limit self.now i j }
+        ensures valid { IsSession self.now }
+    {
+        self.limits[i.index() * self.banks.len() + j.index()]
+    }
+
+    /// Credit units per lot of a pair, 1 to 10^6. It takes no memory.
+    pub fn weight(&self, pair: PairId) -> u32
+        requires { pair < pair_count self.now }
+        ensures value { result ≡ weight_of self.now pair }
+        ensures least { 1 ≤ result }
+        ensures most { result ≤ 1000000 }
+    {
+        self.pairs[pair.index()].weight
+    }
+
+    /// The bank of that name; `None` exactly where no bank has it. It takes no memory.
+    pub fn bank_named(&self, text: &[u8]) -> Option<BankId>
+        ensures value { result ≡ bank_of self.now text.now }
+        ensures within { IfSome result (λ bank. bank < bank_count self.now) }
+        ensures named { IfSome result (λ bank. slice_get self.now.banks bank ≡ Some text.now) }
+        ensures none { IfNone result (¬ (Contains self.now.banks text.now)) }
+    {
+        let place = place_of_bank(&self.banks, text)?;
+        BankId::new(place as u8)
+    }
+
+    /// The pair that is written so, as `BASE/QUOTE`; `None` exactly where no pair is. It takes no memory.
+    pub fn pair_named(&self, text: &[u8]) -> Option<PairId>
+        ensures value { result ≡ pair_of self.now text.now }
+        ensures within { IfSome result (λ pair. pair < pair_count self.now) }
+        ensures named { IfSome result
+            (λ pair. option_map pair_text (slice_get self.now.pairs pair) ≡ Some text.now) }
+        ensures none { IfNone result (All (λ rule. pair_text rule ≢ text.now) self.now.pairs) }
+    {
+        let place = place_of_pair_text(&self.pairs, text)?;
+        PairId::new(place as u8)
+    }
+}
+
+/// Whether there are 2 to 64 banks, each with a name of its own.
+fn are_valid_banks(banks: &[Name]) -> bool
+    ensures valid { IsTrue result
+        ↔ ((2 ≤ length banks.now) × (length banks.now ≤ 64) × AllPairs (λ a b. a ≢ b) banks.now) }
+    ensures names { IsTrue result → All (λ name. IsTrue (is_name name)) banks.now }
+{
+    if banks.len() < 2 || banks.len() > 64 {
+        return false;
+    }
+    for (at, name) in banks.iter().enumerate() {
+        if place_of_bank(&banks[..at], name.as_bytes()).is_some() {
+            return false;
+        }
+    }
+    true
+}
+
+/// The place of the first bank of that name.
+fn place_of_bank(banks: &[Name], text: &[u8]) -> Option<usize>
+    ensures value { result ≡ position (λ name. bytes_eq name text.now) banks.now }
+{
+    banks.iter().position(|name| name.as_bytes() == text)
+}
+
+/// Whether there are 1 to 32 pairs, each with terms in range and none of the same two currencies as another.
+fn are_valid_pairs(pairs: &[PairRule]) -> bool
+    ensures valid { IsTrue result
+        ↔ ((1 ≤ length pairs.now) × (length pairs.now ≤ 32)
+        × All IsPairRule pairs.now × AllPairs (λ a b. ¬ (AreSamePair a b)) pairs.now) }
+{
+    if pairs.is_empty() || pairs.len() > 32 {
+        return false;
+    }
+    for (at, rule) in pairs.iter().enumerate() {
+        if !is_valid_rule(rule) {
+            return false;
+        }
+        let base = rule.base.as_bytes();
+        let quote = rule.quote.as_bytes();
+        if place_of_pair(&pairs[..at], base, quote).is_some() {
+            return false;
+        }
+    }
+    true
+}
+
+/// The place of the first pair of those two currencies.
+fn place_of_pair(pairs: &[PairRule], base: &[u8], quote: &[u8]) -> Option<usize>
+    ensures value { result
+        ≡ position (λ rule. bytes_eq rule.base base.now && bytes_eq rule.quote quote.now) pairs.now }
+{
+    pairs.iter().position(|rule| rule.base.as_bytes() == base && rule.quote.as_bytes() == quote)
+}
+
+/// The place of the first pair that is written so.
+fn place_of_pair_text(pairs: &[PairRule], text: &[u8]) -> Option<usize>
+    ensures value { result ≡ position (λ rule. bytes_eq (pair_text rule) text.now) pairs.now }
+{
+    pairs.iter().position(|rule| rule.text().as_slice() == text)
+}
+
+/// Whether a pair's terms are in range.
+fn is_valid_rule(rule: &PairRule) -> bool
+    ensures valid { IsTrue result ↔ IsPairRule rule.now }
+{
+    rule.base.as_bytes() != rule.quote.as_bytes()
+        && rule.decimals <= 6
+        && rule.lot >= 1
+        && rule.lot <= 1_000_000_000
+        && rule.lot % 10u32.pow(rule.decimals as u32) == 0
+        && rule.weight >= 1
+        && rule.weight <= 1_000_000
+}
+
+/// Whether the limits are a full table for that many banks, with 0 where a bank would set one on itself.
+fn are_valid_limits(banks: usize, limits: &[Units]) -> bool
+    requires { banks ≤ 64 }
+    ensures valid { IsTrue result
+        ↔ ((length limits.now ≡ banks * banks)
+        × ((i : ℕ) → i < banks → slice_index limits.now (i * banks + i) ≡ 0)) }
+    ensures most { IsTrue result → All (λ limit. limit ≤ 1000000000000000) limits.now }
+{
+    if limits.len() != banks * banks {
+        return false;
+    }
+    for (at, limit) in limits.iter().enumerate() {
+        let is_own = at % (banks + 1) == 0;
+        if limit.get() > 0 && is_own {
+            return false;
+        }
+    }
+    true
+}
+
+#[cfg(test)]
+mod tests;
