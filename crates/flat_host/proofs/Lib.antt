@@ -1,0 +1,9 @@
+pub mod Searching
+pub mod PlanSteps
+pub mod Lowered
+pub mod Carrying
+pub mod Counting
+pub mod Affording
+pub mod Reading
+pub mod Stepping
+pub mod OpeningLemmas

@@ -1,0 +1,43 @@
+-- What was made is the ledger as the day opens.
+use Rattle.std.proofs.Common.{ℕ, List, ◌≡◌, sym, ap, subst, ◌∙◌, length, arith, replicate, map}
+use Rattle.fx_rules.specs.declared.session.PairRule.{PairRule}
+use Rattle.fx_rules.specs.Lists.{total}
+use Rattle.flat_host.specs.Host.{ledger_of}
+use Rattle.flat_host.proofs.OpeningLemmas.{IsOpening, opening-ledger, opening-stands, total_zero}
+use Rattle.flat_host.proofs.host.FlatHost.open.Goals as goal
+
+zeros_same : (counts : List ℕ) (read banks : ℕ) → read ≡ banks → counts ≡ replicate read 0 → counts ≡ replicate banks 0
+zeros_same counts read banks same are = subst (λ n. counts ≡ replicate n 0) same are
+
+opened : (c : goal.In_ok-weights_of) → IsOpening c.args.session.now (ledger_of (record {
+  orders = c.new.result;
+  limits = c.in_ok-opening_limits.field-0;
+  uses = c.in_ok-no_uses.field-0;
+  counts = c.in_ok-vec.field-0;
+  arrivals = 0;
+  weights = c.in_ok-weights_of.field-0;
+}))
+opened c = record {
+  session = c.banks-banks.ensures.valid;
+  orders = c.new.ensures.items;
+  limits_full = omega (arith, c.in_ok-opening_limits.ensures.full);
+  limits = c.in_ok-opening_limits.ensures.limits;
+  uses_full = omega (arith, c.in_ok-no_uses.ensures.full);
+  uses = c.in_ok-no_uses.ensures.uses;
+  counts = zeros_same c.in_ok-vec.field-0.items (length c.banks-banks.result.now) (length c.args.session.now.banks) (ap length c.banks-banks.ensures.value)
+      (c.in_ok-vec.ensures.items_if_clones_equal (λ y same. same));
+  weights = c.in_ok-weights_of.ensures.weights ∙ ap (map (λ (rule : PairRule). rule.weight)) c.pairs.ensures.value;
+}
+
+pub invariant_of-result : goal.invariant_of-result
+invariant_of-result c = record {
+  ledger = opening-ledger c.args.session.now _ (opened c);
+  arrivals = sym (ap (total (λ n. n)) (opened c).counts ∙ total_zero (length c.args.session.now.banks));
+}
+
+pub returns : goal.returns
+returns c = record {
+  opens = opening-stands c.args.session.now _ (opened c);
+  counts = (opened c).counts;
+  weights = (opened c).weights;
+}

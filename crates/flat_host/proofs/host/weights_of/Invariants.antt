@@ -1,0 +1,7 @@
+use Rattle.std.proofs.Common.{◌≡◌, map, take}
+use Rattle.fx_rules.specs.declared.session.PairRule.{PairRule}
+use Rattle.flat_host.proofs.host.weights_of.Given as goal
+
+-- the weights of the pairs that were passed
+abbrev pub invariant-loop-rule : goal.invariant-loop-rule
+invariant-loop-rule l = l.weights.items ≡ map (λ (rule : PairRule). rule.weight) (take l.rule-index l.pairs)

@@ -1,0 +1,77 @@
+-- Each turn takes one step of the planned sweep; at the end nothing is left, or nothing more is open.
+use Rattle.std.proofs.Common.{ℕ, ◌≡◌, ◌≤◌, ◌<◌, ◌-◌, ◌*◌, ◌/◌, ◌++◌, ◌∷◌, [], List, Some, None, refl, sym, ap, subst, ◌∙◌, arith, inl, append_assoc, append-nil, get_or, slice_index, min}
+use Rattle.std.proofs.Math.ListN.{set, length-set}
+use Rattle.fx_rules.specs.declared.orders.Fill.{Fill}
+use Rattle.fx_rules.specs.declared.orders.Resting.{Resting}
+use Rattle.fx_rules.specs.Lists.{Each}
+use Rattle.fx_rules.proofs.ListLemmas.{Each-append}
+use Rattle.fx_rules.specs.State.{orders_in}
+use Rattle.fx_rules.specs.Sweep.{Taker, fill_with, less}
+use Rattle.fx_rules.specs.Plan.{Planned}
+use Rattle.flat_host.specs.Parts.{taker_in}
+use Rattle.flat_host.proofs.PlanSteps.{best_reach, plan-step, plan-end}
+use Rattle.flat_host.proofs.sweep.plan.Goals as goal
+use Rattle.flat_host.proofs.sweep.plan.Goals.{else-loop-taker-test, then-loop-taker-test+in_default}
+
+reach_same : (lines : List ℕ) (bank place weight divisor : ℕ) → place ≡ bank → divisor ≡ weight → get_or lines bank 0 / weight ≡ get_or lines place 0 / divisor
+reach_same lines bank place weight divisor p d = ap (λ b. get_or lines b 0 / weight) (sym p) ∙ ap (λ w. get_or lines place 0 / w) (sym d)
+
+fills_same : (new old more : List Fill) (f g : Fill) → new ≡ old ++ f ∷ [] → f ≡ g → old ++ g ∷ more ≡ new ++ more
+fills_same new old more f g push is =
+    ap (λ (h : Fill). old ++ h ∷ more) (sym is) ∙ sym (append_assoc old (f ∷ []) more) ∙ ap (λ (fs : List Fill). fs ++ more) (sym push)
+
+lines_same : (lines : List ℕ) (bank to from lots count weight times : ℕ) → to ≡ bank → from ≡ bank → count ≡ lots → times ≡ weight → set lines to (get_or lines from 0 - count * times) ≡ set lines bank (get_or lines bank 0 - lots * weight)
+lines_same lines bank to from lots count weight times t f c w = cc
+
+pub amount-lots-requires-clause-reach : goal.amount-lots-requires-clause-reach
+amount-lots-requires-clause-reach c =
+    subst (λ n. 1 ≤ n)
+    (reach_same c.loop-taker.lines c.in-Some.maker.bank c.index.result c.args.weight c.from.result c.index.ensures.value c.from.ensures)
+    (best_reach c.args.weight c.loop-taker.lines (taker_in c.loop-taker.taker) c.loop-taker.last c.args.orders.now c.in-Some.maker c.in-Some.ensures.best)
+
+pub loop-taker-preserved : goal.loop-taker-preserved
+loop-taker-preserved c = record {
+  goes_on = λ more left planned.
+      let t : Taker = taker_in c.loop-taker.taker in
+      let maker : Resting = c.in-Some.maker in
+      let lines : List ℕ = c.loop-taker.lines in
+      let lots : ℕ = c.amount-lots.result in
+      let weight : ℕ = c.args.weight in
+      let next : List ℕ → ℕ → Type 0 = λ (l : List ℕ) n.
+      Planned weight (slice_index l) (orders_in t.pair c.args.orders.now) (less t n) (Some maker) more left in
+      let same_lines : set lines c.index-in-loop-taker.result (get_or lines c.index.result 0 - c.from-in-loop-taker.result * c.from-in-loop-taker-2.result) ≡ set lines maker.bank (get_or lines maker.bank 0 - lots * weight) =
+      lines_same lines maker.bank c.index-in-loop-taker.result c.index.result lots c.from-in-loop-taker.result weight c.from-in-loop-taker-2.result
+      c.index-in-loop-taker.ensures.value c.index.ensures.value (c.from-in-loop-taker.ensures ∙ c.count.ensures.value) c.from-in-loop-taker-2.ensures in
+      let here : next (set lines maker.bank (get_or lines maker.bank 0 - lots * weight)) lots =
+      subst (next (set lines maker.bank (get_or lines maker.bank 0 - lots * weight))) c.count-in-loop-taker.ensures.value
+      (subst (λ l. next l c.count-in-loop-taker.result) same_lines planned) in
+      let lots_are : lots ≡ min t.left (min maker.left (get_or lines maker.bank 0 / weight)) =
+      c.amount-lots.ensures.value
+      ∙ ap (λ n. min t.left (min maker.left n)) (sym (reach_same lines maker.bank c.index.result weight c.from.result c.index.ensures.value c.from.ensures)) in
+      subst (λ (fills : List Fill). Planned weight (slice_index c.args.lines) (orders_in c.args.taker.now.pair c.args.orders.now) (taker_in c.args.taker.now) None fills left)
+      (fills_same c.push.new.self.items c.loop-taker.fills.items more c.fill_with.result (fill_with t maker lots) c.in_ok-push.ensures.items c.fill_with.ensures.value)
+      (c.loop-taker.invariant.goes_on (fill_with t maker lots ∷ more) left
+      (plan-step weight lines c.args.orders.now t c.loop-taker.last maker lots more left
+      (omega (arith, c.loop-taker-test.true)) c.in-Some.ensures.best lots_are
+      (omega (arith, c.loop-taker.invariant.full, c.index.ensures.most, c.index.ensures.value)) here));
+  left = omega (arith, c.loop-taker.invariant.left);
+  full = length-set c.loop-taker.lines c.index-in-loop-taker.result (get_or c.loop-taker.lines c.index.result 0 - c.from-in-loop-taker.result * c.from-in-loop-taker-2.result) ∙ c.loop-taker.invariant.full;
+  makers = subst (Each (λ (fill : Fill). fill.maker < 64)) (sym c.in_ok-push.ensures.items)
+      (Each-append (λ (fill : Fill). fill.maker < 64) c.loop-taker.fills.items (c.fill_with.result ∷ []) c.loop-taker.invariant.makers
+      (omega (arith, ap (λ (f : Fill). f.maker) c.fill_with.ensures.value, c.index.ensures.value, c.index.ensures.most), tt));
+  less = omega (arith, c.loop-taker.invariant.less);
+}
+
+pub returns-clause-makers : goal.returns-clause-makers
+returns-clause-makers c = subst (Each (λ (fill : Fill). fill.maker < 64)) (sym c.from_vec.ensures.items) c.loop-taker.invariant.makers
+
+pub returns-clause-planned : goal.returns-clause-planned
+returns-clause-planned c =
+    subst (λ (fills : List Fill). Planned c.args.weight (slice_index c.args.lines) (orders_in c.args.taker.now.pair c.args.orders.now) (taker_in c.args.taker.now) None fills c.loop-taker.taker.left)
+    (append-nil c.loop-taker.fills.items ∙ sym c.from_vec.ensures.items)
+    (c.loop-taker.invariant.goes_on [] c.loop-taker.taker.left
+    (elim c.loop-taker-test.branch [
+      | else-loop-taker-test w ↦ (refl, inl (omega (arith, w.loop-taker-test.false)))
+      | then-loop-taker-test+in_default w ↦
+          plan-end c.args.weight c.loop-taker.lines c.args.orders.now (taker_in c.loop-taker.taker) c.loop-taker.last w.in_default.ensures.best
+    ]))

@@ -1,0 +1,10 @@
+use Rattle.std.proofs.Common.{ℕ, ◌≡◌, ◌≤◌, length, slice_index}
+use Rattle.flat_host.proofs.tests.play.Given as goal
+
+-- no bank has sent more than the rows so far
+abbrev pub invariant-loop-at : goal.invariant-loop-at
+invariant-loop-at g l = record {
+  banks : length l.host.counts ≡ 3;
+  pairs : length l.host.weights ≡ 1;
+  counts : (i : ℕ) → slice_index l.host.counts i ≤ l.at-counter;
+}

@@ -1,0 +1,14 @@
+//! The plain host: one thread, one flat list of resting orders, and the market's rules on it.
+//!
+//! It keeps no list of fills, but what each two banks have used; so it stands for each state of the market that has its
+//! orders, limits, uses and counts, and its contracts speak of each of these.
+#![tactic(auto)]
+
+mod host;
+mod ledger;
+mod sweep;
+
+pub use host::FlatHost;
+
+#[cfg(test)]
+mod tests;

@@ -1,0 +1,187 @@
+ghost use Rattle.std.specs.Prelude.{◌≡◌, ◌<◌, ◌≤◌, ◌/◌, ◌^◌, Some, None, length, slice_index, min, MatchOption, IfOk};
+ghost use Rattle.fx_rules.specs.Lists.{Each};
+ghost use Rattle.fx_rules.specs.State.{orders_in};
+ghost use Rattle.fx_rules.specs.Sweep.{fill_with, is_open, is_preferred};
+ghost use Rattle.fx_rules.specs.Plan.{Planned, is_behind};
+ghost use Rattle.flat_host.specs.Parts.{taker_in, resting_from};
+ghost use Rattle.flat_host.specs.Search.{is_candidate, candidates, preferred_of, IsBestOf};
+
+use fx_amounts::{BankId, Lots, Memory, PairId, Price, Side};
+use fx_rules::{ActiveOrder, Fill, FillList, Plan, Resting};
+use std::alloc::Global;
+
+/// An order as it comes in, before it is swept.
+#[derive(Clone, Copy)]
+pub struct Incoming {
+    pub bank: BankId,
+    /// The number of its command.
+    pub number: u32,
+    pub pair: PairId,
+    pub side: Side,
+    /// In ticks.
+    pub price: Price,
+    /// The lots that it still wants.
+    pub left: u32,
+    pub arrival: u64,
+}
+
+impl Incoming {
+    /// The order as it comes to rest, with so many lots left.
+    pub fn resting(&self, left: Lots) -> ActiveOrder
+        ensures value { result ≡ resting_from (taker_in self.now) left }
+    {
+        ActiveOrder {
+            pair: self.pair,
+            order: Resting {
+                bank: self.bank,
+                number: self.number,
+                side: self.side,
+                price: self.price,
+                left,
+                arrival: self.arrival,
+            },
+        }
+    }
+}
+
+/// Whether a taker of `side` prefers the first order: its price is better, or the same and it arrived earlier.
+fn is_preferred(side: Side, order: &Resting, other: &Resting) -> bool
+    ensures value { result ≡ is_preferred side order.now other.now }
+{
+    let is_better = match side {
+        Side::Buy => order.price < other.price,
+        Side::Sell => order.price > other.price,
+    };
+    is_better || (order.price == other.price && order.arrival < other.arrival)
+}
+
+/// Whether a resting order of the taker's pair is open to it, where `reach` lots are in reach of the order's owner.
+fn is_open(taker: &Incoming, reach: u64, order: &Resting) -> bool
+    ensures value { result ≡ is_open (taker_in taker.now) reach order.now }
+{
+    order.side == taker.side.opposite()
+        && order.bank != taker.bank
+        && reach >= 1
+        && taker.price.crosses(order.price, taker.side)
+        && order.arrival < taker.arrival
+}
+
+/// Whether an order comes behind the last one taken, where there is one.
+fn is_behind(side: Side, last: &Option<Resting>, order: &Resting) -> bool
+    ensures value { result ≡ is_behind side last.now order.now }
+{
+    match last {
+        None => true,
+        Some(last) => is_preferred(side, last, order),
+    }
+}
+
+/// Whether an order of the book is open to the taker, by the lines in credit units that it has left with each bank, and
+/// comes behind the last one taken.
+fn is_candidate(
+    taker: &Incoming,
+    lines: &[u64; 64],
+    weight: u32,
+    last: &Option<Resting>,
+    active: &ActiveOrder,
+) -> bool
+    requires { 1 ≤ weight }
+    ensures value { result ≡ is_candidate weight lines.now (taker_in taker.now) last.now active.now }
+{
+    let order = &active.order;
+    let reach = lines[order.bank.index()] / u64::from(weight);
+    active.pair == taker.pair && is_open(taker, reach, order) && is_behind(taker.side, last, order)
+}
+
+/// The best of the orders of the taker's pair that are open to it and come behind the last one taken; `None` where
+/// there is none. It looks at each order once.
+fn best_behind(
+    orders: &[ActiveOrder],
+    taker: &Incoming,
+    lines: &[u64; 64],
+    weight: u32,
+    last: &Option<Resting>,
+) -> Option<Resting>
+    requires { 1 ≤ weight }
+    ensures best { IsBestOf (taker_in taker.now).side (candidates weight lines.now (taker_in taker.now) last.now orders.now) result }
+{
+    let mut best: Option<Resting> = None;
+    for active in orders {
+        if is_candidate(taker, lines, weight, last, active) {
+            best = Some(preferred(taker.side, best, active.order));
+        }
+    }
+    best
+}
+
+/// The order that a taker of `side` prefers, of the best so far and the next one.
+fn preferred(side: Side, best: Option<Resting>, next: Resting) -> Resting
+    ensures value { result ≡ preferred_of side best next }
+{
+    match best {
+        Some(best) if !is_preferred(side, &next, &best) => best,
+        _ => next,
+    }
+}
+
+/// The fill of a taker with a resting order, at the resting order's price.
+fn fill_with(taker: &Incoming, maker: &Resting, lots: Lots) -> Fill
+    ensures value { result ≡ fill_with (taker_in taker.now) maker.now lots }
+{
+    Fill {
+        pair: taker.pair,
+        taker: taker.bank,
+        taker_number: taker.number,
+        taker_side: taker.side,
+        maker: maker.bank,
+        maker_number: maker.number,
+        price: maker.price,
+        lots,
+    }
+}
+
+/// The sweep of a taker over the orders as they rest, where `lines` are its lines with each bank, in credit units, and
+/// a lot costs `weight` of them. It finds the fills and changes nothing; only their list takes memory.
+pub fn plan(
+    alloc: Global,
+    orders: &[ActiveOrder],
+    taker: &Incoming,
+    mut lines: [u64; 64],
+    weight: u32,
+) -> Result<Plan, Memory>
+    requires weight { 1 ≤ weight }
+    requires left { taker.now.left ≤ 10 ^ 6 }
+    ensures planned { IfOk result (λ plan.
+        Planned weight (slice_index lines) (orders_in taker.now.pair orders.now) (taker_in taker.now) None plan.fills plan.left) }
+    ensures makers { IfOk result (λ plan. Each (λ fill. fill.maker < 64) plan.fills) }
+    ensures left { IfOk result (λ plan. plan.left ≤ taker.now.left) }
+{
+    let mut taker = *taker;
+    let mut last = None;
+    let mut fills = Vec::new(alloc);
+    while taker.left > 0 {
+        let Some(maker) = best_behind(orders, &taker, &lines, weight, &last) else {
+            break;
+        };
+        let line = lines[maker.bank.index()];
+        let lots = amount(taker.left, &maker, line / u64::from(weight));
+        fills.push(fill_with(&taker, &maker, lots))?;
+        lines[maker.bank.index()] = line - u64::from(lots.count()) * u64::from(weight);
+        taker.left -= lots.count();
+        last = Some(maker);
+    }
+    Ok(Plan {
+        fills: FillList::from_vec(fills),
+        left: taker.left,
+    })
+}
+
+/// What a taker with so much left takes of an order of which `reach` lots are in reach.
+fn amount(left: u32, maker: &Resting, reach: u64) -> Lots
+    requires left { 1 ≤ left }
+    requires reach { 1 ≤ reach }
+    ensures value { result ≡ min left (min maker.now.left reach) }
+{
+    let lots = reach.min(u64::from(maker.left.count().min(left)));
+    Lots::new(lots as u32).unwrap()
+}
