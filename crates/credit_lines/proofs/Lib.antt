@@ -1,0 +1,4 @@
+pub mod CreditLemmas
+pub mod OpeningLemmas
+pub mod MarketLemmas
+mod Steps

@@ -1,0 +1,22 @@
+use Rattle.credit_lines.proofs.Steps.{can_take, take_in_range, take_below_line, take_keeps}
+use Rattle.credit_lines.proofs.lines.CreditLines.take.Goals as goal
+
+pub sum-requires : goal.sum-requires
+sum-requires c =
+    let can = can_take _ _ _ _ _ c.self.view_is c.requires.first c.requires.second c.requires.credit in
+    take_in_range _ _ _ _ _ _ _ c.self.invariant can c.shared_place-at.ensures.value c.index.ensures
+
+pub difference-requires : goal.difference-requires
+difference-requires c =
+    let can = can_take _ _ _ _ _ c.self.view_is c.requires.first c.requires.second c.requires.credit in
+    take_below_line _ _ _ _ _ _ _ c.self.invariant can c.shared_place-at.ensures.value c.index-2.ensures
+
+pub invariant_of-self : goal.invariant_of-self
+invariant_of-self c =
+    let can = can_take _ _ _ _ _ c.self.view_is c.requires.first c.requires.second c.requires.credit in
+    take_keeps _ _ _ _ _ _ _ _ _ _ c.self.invariant can c.shared_place-at.ensures.value c.index.ensures c.index-2.ensures c.sum.ensures c.difference.ensures
+
+pub returns-clause-valid : goal.returns-clause-valid
+returns-clause-valid c =
+    let can = can_take _ _ _ _ _ c.self.view_is c.requires.first c.requires.second c.requires.credit in
+    (take_keeps _ _ _ _ _ _ _ _ _ _ c.self.invariant can c.shared_place-at.ensures.value c.index.ensures c.index-2.ensures c.sum.ensures c.difference.ensures).0
