@@ -1,0 +1,169 @@
+-- Each statement that can be made of a draft leaves a draft, and START makes a session of it.
+use Rattle.std.proofs.Common.{◌≡◌, ◌≢◌, ℕ, zero, suc, ◌+◌, ◌*◌, ◌/◌, ◌%◌, ◌<◌, ◌≤◌, List, [], ◌∷◌, ◌++◌, length, replicate, get_or, slice_index, slice_set, refl, sym, ap, ◌∙◌, subst, arith, IsTrue, inl, inr, Option, Some, None, SomeIff, IsSome}
+use Rattle.std.specs.List.{All, AllPairs}
+use Rattle.std.proofs.lemmas.Bool.{cases_lt}
+use Rattle.std.proofs.lemmas.List.{get_or-replicate, length-replicate, length-set, get_or-set_other, length_push, get_or_append_left, get_or_past}
+use Rattle.std.proofs.Math.Seq.{get_or-append_seam}
+use Rattle.std.proofs.lemmas.List.Elements.{All-push, All-set, All-nil, All-replicate, All-get_or}
+use Rattle.std.proofs.lemmas.List.Quantifiers.{all_pairs_push}
+use Rattle.std.proofs.lemmas.Nat.{mul-add-lt, mod-mul-add, div-mul-add}
+use Rattle.fx_rules.specs.Names.{is_name}
+use Rattle.fx_rules.specs.Session.{Header, IsSession, IsPairRule, AreSamePair}
+use Rattle.fx_rules.specs.declared.session.PairRule.{PairRule}
+use Rattle.session_head.specs.Draft.{Draft, IsDraft, limit_place, no_limits, table, square, header_of}
+use Rattle.session_head.specs.Statement.{CanState}
+use Rattle.session_head.specs.declared.statement.Statement.{Statement}
+use Rattle.session_head.specs.declared.statement.Statement.TheVariants as statements
+
+no_pairs : {X : Type 0} (R : X → X → Type 0) → AllPairs R []
+no_pairs R i j d less within = absurd (omega arith)
+
+-- nothing is declared
+declares_nothing : (banks : List (List ℕ)) (pairs : List PairRule) (limits : List ℕ) → banks ≡ [] → pairs ≡ [] → length limits ≡ 4096
+    → All (λ limit. limit ≤ 1000000000000000) limits → ((i : ℕ) → i < 64 → slice_index limits (limit_place i i) ≡ 0)
+    → IsDraft (record { banks = banks; pairs = pairs; limits = limits })
+declares_nothing banks pairs limits no_banks none full most own = record {
+  banks_most = rw no_banks (omega arith);
+  names = rw no_banks (All-nil (λ name. IsTrue (is_name name)));
+  names_differ = rw no_banks (no_pairs (λ a b. a ≢ b));
+  pairs_most = rw none (omega arith);
+  rules = rw none (All-nil IsPairRule);
+  pairs_differ = rw none (no_pairs (λ a b. ¬ (AreSamePair a b)));
+  limits_full = full;
+  limits_most = most;
+  own_limits = own;
+}
+
+zeros_own : (n : ℕ) → 4096 ≤ n → (i : ℕ) → i < 64 → slice_index (replicate n 0) (limit_place i i) ≡ 0
+zeros_own n room i within = get_or-replicate n (64 * i + i) 0 0 (omega arith)
+
+pub IsDraft-empty : (banks : List (List ℕ)) (pairs : List PairRule) (limits : List ℕ) → banks ≡ [] → pairs ≡ [] → limits ≡ no_limits → IsDraft (record { banks = banks; pairs = pairs; limits = limits })
+unfolding no_limits
+IsDraft-empty banks pairs limits no_banks none zeros =
+    declares_nothing banks pairs limits no_banks none
+    (ap (λ (xs : List ℕ). length xs) zeros ∙ length-replicate {A = ℕ} 4096 0)
+    (subst (λ (xs : List ℕ). All (λ limit. limit ≤ 1000000000000000) xs) (sym zeros) (All-replicate (λ limit. limit ≤ 1000000000000000) 4096 0 (omega arith)))
+    (λ i within. ap (λ (xs : List ℕ). slice_index xs (limit_place i i)) zeros ∙ zeros_own 4096 (omega arith) i within)
+
+-- the draft of which the session was taken
+pub IsDraft-taken : (d : Draft) (banks : List (List ℕ)) (pairs : List PairRule) → IsDraft d → banks ≡ [] → pairs ≡ [] → IsDraft (record { banks = banks; pairs = pairs; limits = d.limits })
+IsDraft-taken d banks pairs valid no_banks none = declares_nothing banks pairs d.limits no_banks none valid.limits_full valid.limits_most valid.own_limits
+
+-- a bank more
+pub IsDraft-bank : (d : Draft) (name : List ℕ) → IsDraft d → CanState d (statements.Bank name) → IsDraft (record d { banks = d.banks ++ name ∷ [] })
+IsDraft-bank d name valid can = record {
+  banks_most = omega (arith, can.0, length_push d.banks name);
+  names = All-push (λ text. IsTrue (is_name text)) d.banks name valid.names can.1;
+  names_differ = all_pairs_push (λ a b. a ≢ b) d.banks name valid.names_differ (λ k other within. All-get_or (λ standing. standing ≢ name) d.banks k other within can.2);
+  pairs_most = valid.pairs_most;
+  rules = valid.rules;
+  pairs_differ = valid.pairs_differ;
+  limits_full = valid.limits_full;
+  limits_most = valid.limits_most;
+  own_limits = valid.own_limits;
+}
+
+-- the same of a draft that is another's fields, by a statement that is this one
+pub bank_added : (before d : Draft) (statement : Statement) (name : List ℕ) (banks : List (List ℕ)) → IsDraft before → before ≡ d → statement ≡ statements.Bank name
+    → CanState d statement → banks ≡ before.banks ++ name ∷ [] → IsDraft (record before { banks = banks })
+bank_added before d statement name banks valid same is can added =
+    let here : CanState d (statements.Bank name) = subst (λ (s : Statement). CanState d s) is can in
+    let there : CanState before (statements.Bank name) = subst (λ (x : Draft). CanState x (statements.Bank name)) (sym same) here in
+    rw added (IsDraft-bank before name valid there)
+
+-- a pair more
+pub IsDraft-pair : (d : Draft) (rule : PairRule) → IsDraft d → CanState d (statements.Pair rule) → IsDraft (record d { pairs = d.pairs ++ rule ∷ [] })
+IsDraft-pair d rule valid can = record {
+  banks_most = valid.banks_most;
+  names = valid.names;
+  names_differ = valid.names_differ;
+  pairs_most = omega (arith, can.0, length_push d.pairs rule);
+  rules = All-push IsPairRule d.pairs rule valid.rules can.1;
+  pairs_differ = all_pairs_push (λ a b. ¬ (AreSamePair a b)) d.pairs rule valid.pairs_differ (λ k other within. All-get_or (λ standing. ¬ (AreSamePair standing rule)) d.pairs k other within can.2);
+  limits_full = valid.limits_full;
+  limits_most = valid.limits_most;
+  own_limits = valid.own_limits;
+}
+
+pub pair_added : (before d : Draft) (statement : Statement) (rule : PairRule) (pairs : List PairRule) → IsDraft before → before ≡ d → statement ≡ statements.Pair rule
+    → CanState d statement → pairs ≡ before.pairs ++ rule ∷ [] → IsDraft (record before { pairs = pairs })
+pair_added before d statement rule pairs valid same is can added =
+    let here : CanState d (statements.Pair rule) = subst (λ (s : Statement). CanState d s) is can in
+    let there : CanState before (statements.Pair rule) = subst (λ (x : Draft). CanState x (statements.Pair rule)) (sym same) here in
+    rw added (IsDraft-pair before rule valid there)
+
+-- a limit set
+pub IsDraft-limit : (d : Draft) (from to limit : ℕ) → IsDraft d → from < 64 → to < 64 → from ≢ to → limit ≤ 1000000000000000 → IsDraft (record d { limits = slice_set d.limits (limit_place from to) limit })
+IsDraft-limit d from to limit valid from_within to_within apart most = record {
+  banks_most = valid.banks_most;
+  names = valid.names;
+  names_differ = valid.names_differ;
+  pairs_most = valid.pairs_most;
+  rules = valid.rules;
+  pairs_differ = valid.pairs_differ;
+  limits_full = length-set d.limits (limit_place from to) limit ∙ valid.limits_full;
+  limits_most = All-set (λ l. l ≤ 1000000000000000) d.limits (limit_place from to) limit most valid.limits_most;
+  own_limits = λ i within.
+      get_or-set_other d.limits (limit_place from to) (limit_place i i) limit 0 (λ same. apart (omega arith)) ∙ valid.own_limits i within;
+}
+
+-- a table has the function's value at each number below its length
+pub length-table : (f : ℕ → ℕ) (n : ℕ) → length (table f n) ≡ n
+length-table f zero = refl
+length-table f (suc n) = omega (arith, length_push (table f n) (f n), length-table f n)
+
+pub get_or-table : (f : ℕ → ℕ) (n i : ℕ) → i < n → get_or (table f n) i 0 ≡ f i
+get_or-table f zero i within = absurd (omega arith)
+get_or-table f (suc n) i within =
+    let size : length (table f n) ≡ n = length-table f n in
+    elim (cases_lt i n) [
+      | inl earlier ↦ get_or_append_left (table f n) (f n ∷ []) 0 i (omega arith) ∙ get_or-table f n i earlier
+      | inr last ↦
+          let here : i ≡ n = omega arith in
+          ap (λ k. get_or (table f n ++ f n ∷ []) k 0) (here ∙ sym size) ∙ get_or-append_seam (table f n) (f n) [] 0 ∙ ap f (sym here)
+    ]
+
+All-table : (P : ℕ → Type 0) (f : ℕ → ℕ) → ((i : ℕ) → P (f i)) → (n : ℕ) → All P (table f n)
+All-table P f each zero = All-nil P
+All-table P f each (suc n) = All-push P (table f n) (f n) (All-table P f each n) (each n)
+
+-- the limit of two banks in the rows of a square
+pub square-at : (banks : ℕ) (limits : List ℕ) (i j : ℕ) → i < banks → j < banks → slice_index (square banks limits) (i * banks + j) ≡ slice_index limits (limit_place i j)
+square-at banks limits i j i_within j_within =
+    get_or-table (λ at. slice_index limits (limit_place (at / banks) (at % banks))) (banks * banks) (i * banks + j) (mul-add-lt i banks j banks i_within j_within)
+    ∙ ap (λ row. slice_index limits (limit_place row ((i * banks + j) % banks))) (div-mul-add i banks j j_within)
+    ∙ ap (λ column. slice_index limits (limit_place i column)) (mod-mul-add i banks j j_within)
+
+any_at_most : (limits : List ℕ) → All (λ limit. limit ≤ 1000000000000000) limits → (at : ℕ) → slice_index limits at ≤ 1000000000000000
+any_at_most limits most at = elim (cases_lt at (length limits)) [
+  | inl within ↦ All-get_or (λ limit. limit ≤ 1000000000000000) limits at 0 within most
+  | inr past ↦ subst (λ limit. limit ≤ 1000000000000000) (sym (get_or_past limits at 0 past)) (omega arith)
+]
+
+-- a draft with two banks and a pair is a session
+pub IsSession-header_of : (d : Draft) → IsDraft d → 2 ≤ length d.banks → 1 ≤ length d.pairs → IsSession (header_of d)
+IsSession-header_of d valid two one = record {
+  banks_least = two;
+  banks_most = valid.banks_most;
+  names = valid.names;
+  names_differ = valid.names_differ;
+  pairs_least = one;
+  pairs_most = valid.pairs_most;
+  rules = valid.rules;
+  pairs_differ = valid.pairs_differ;
+  limits_full = length-table (λ at. slice_index d.limits (limit_place (at / length d.banks) (at % length d.banks))) (length d.banks * length d.banks);
+  limits_most = All-table (λ limit. limit ≤ 1000000000000000) (λ at. slice_index d.limits (limit_place (at / length d.banks) (at % length d.banks))) (λ at. any_at_most d.limits valid.limits_most _) (length d.banks * length d.banks);
+  own_limits = λ i within. square-at (length d.banks) d.limits i i within within ∙ valid.own_limits i (omega (arith, valid.banks_most));
+}
+
+-- the session that is built of a draft's parts
+pub session_built : (d inside : Draft) (banks : List (List ℕ)) (pairs : List PairRule) (limits : List ℕ) → IsDraft inside → inside ≡ d → 2 ≤ length d.banks → 1 ≤ length d.pairs
+    → banks ≡ inside.banks → pairs ≡ inside.pairs → limits ≡ square (length inside.banks) inside.limits
+    → IsSession (record { banks = banks; pairs = pairs; limits = limits })
+session_built d inside banks pairs limits valid same two one banks_are pairs_are limits_are =
+    rw (banks_are, pairs_are, limits_are)
+    (IsSession-header_of inside valid (subst (λ (x : Draft). 2 ≤ length x.banks) (sym same) two) (subst (λ (x : Draft). 1 ≤ length x.pairs) (sym same) one))
+
+pub is_built : (made : Option Header) (fact : Type 0) (header : Header) → SomeIff made fact header → fact → IsSome made
+is_built None fact header none holds = absurd (none holds)
+is_built (Some made) fact header some holds = refl

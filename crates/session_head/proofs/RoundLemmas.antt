@@ -1,0 +1,359 @@
+-- A session's header is read back from its lines.
+use Rattle.std.proofs.Common.{◌≡◌, ◌≢◌, ℕ, zero, suc, ◌+◌, ◌*◌, ◌/◌, ◌%◌, ◌<◌, ◌≤◌, List, [], ◌∷◌, ◌++◌, length, map, replicate, get_or, slice_index, slice_set, codes, Some, Ok, refl, sym, ap, ◌∙◌, subst, arith, IsTrue, inl, inr, nat_lt, append_assoc, append-nil, length-append}
+use Rattle.std.specs.List.{All, AllPairs}
+use Rattle.std.proofs.lemmas.Bool.{cases_eq, cases_Bool, cond-true, cond-false}
+use Rattle.std.proofs.lemmas.Bool.Decides.{nat_tests}
+use Rattle.std.proofs.lemmas.List.{ext_get_or, get_or_append_left, get_or-set_same, get_or-set_other, map-append, get_or-replicate}
+use Rattle.std.proofs.lemmas.List.Elements.{All-get_or}
+use Rattle.std.proofs.lemmas.Nat.{div_below, mod_below, div-add-mod', mul-add-lt}
+use Rattle.std.proofs.Math.Seq.{get_or-append_seam}
+use Rattle.fx_text.specs.Fields.{fields_of}
+use Rattle.fx_text.specs.Lines.{lines_of, rest_of}
+use Rattle.fx_text.specs.declared.line.Line.{Line}
+use Rattle.fx_text.specs.declared.line.Line.TheVariants.{Whole}
+use Rattle.fx_rules.specs.Names.{is_name}
+use Rattle.fx_rules.specs.Session.{Header, IsSession, IsPairRule, AreSamePair, bank_count, opening_limit}
+use Rattle.fx_rules.specs.declared.session.PairRule.{PairRule}
+use Rattle.fx_rules.specs.Lists.{Each}
+use Rattle.fx_rules.proofs.ListLemmas.{Each-append}
+use Rattle.session_head.specs.Draft.{Draft, IsDraft, empty_draft, no_limits, limit_place, square}
+use Rattle.session_head.specs.Statement.{statement_of, CanState, spelling}
+use Rattle.session_head.specs.Head.{Head, Begun, Drafting, Started, next, stated, with_line, with_lines, read_head, session_of}
+use Rattle.session_head.specs.HeadText.{each_below, limit_statement, limits_of, statements_of, lines_text, head_text_of}
+use Rattle.session_head.specs.declared.statement.Statement.{Statement}
+use Rattle.session_head.specs.declared.statement.Statement.TheVariants as statements
+use Rattle.session_head.proofs.DraftLemmas.{IsDraft-empty, IsDraft-bank, IsDraft-pair, IsDraft-limit, length-table, get_or-table}
+use Rattle.session_head.proofs.AgainLemmas.{statement_again}
+use Rattle.session_head.proofs.SpacedLemmas.{spaced, IsLine, fields_of-spaced, lines_of-line, rest_of-line}
+use Rattle.session_head.proofs.SpellingLemmas.{word_field, spelling_line, spelling_taken}
+use Rattle.session_head.proofs.HeadLemmas.{with_lines-append}
+
+-- the line of a statement, where these banks are declared, and the lines of some
+abbrev pub line_for : List (List ℕ) → Statement → Line
+line_for banks statement = Whole (spaced (spelling banks statement))
+
+abbrev pub lines_for : List (List ℕ) → List Statement → List Line
+lines_for banks made = map (line_for banks) made
+
+-- a statement that can be made is read from its line
+pub line_read : (n : ℕ) (d : Draft) (statement : Statement) → IsDraft d → CanState d statement → with_line (Drafting n d) (line_for d.banks statement) ≡ stated (next n) d statement
+line_read n d statement valid can =
+    let is = spelling_line d statement valid can in
+    let read : statement_of d (fields_of (spaced (spelling d.banks statement))) ≡ Ok statement =
+    ap (statement_of d) (fields_of-spaced (spelling d.banks statement) is.fields_are) ∙ statement_again d statement valid can in
+    rw (spelling_taken d.banks statement is.fields_are, read) refl
+
+-- the elements before one, and that one
+at_seam : {X : Type 0} (P : X → Type 0) (done rest : List X) (x : X) → All P (done ++ x ∷ rest) → P x
+at_seam P done rest x all =
+    subst P (get_or-append_seam done x rest x) (All-get_or P (done ++ x ∷ rest) (length done) x (omega (arith, length-append done (x ∷ rest))) all)
+
+before_seam : {X : Type 0} (R : X → X → Type 0) (done rest : List X) (x : X) → AllPairs R (done ++ x ∷ rest) → All (λ y. R y x) done
+before_seam {X} R done rest x pairs k other within =
+    let first : get_or (done ++ x ∷ rest) k other ≡ get_or done k other = get_or_append_left done (x ∷ rest) other k within in
+    let second : get_or (done ++ x ∷ rest) (length done) other ≡ x = get_or-append_seam done x rest other in
+    let both : R (get_or (done ++ x ∷ rest) k other) (get_or (done ++ x ∷ rest) (length done) other) = pairs k (length done) other within (omega (arith, length-append done (x ∷ rest))) in
+    subst (λ (y : X). R y x) first (subst (λ (y : X). R (get_or (done ++ x ∷ rest) k other) y) second both)
+
+-- the draft that the lines of some statements lead to from a draft
+pub record Leads (n : ℕ) (banks : List (List ℕ)) (from : Draft) (made : List Statement) (to : Draft) : Type 0 where
+  pub count : ℕ
+  pub leads : with_lines (Drafting n from) (lines_for banks made) ≡ Drafting count to
+  pub valid : IsDraft to
+  pub lines : Each (λ statement. IsLine (spelling banks statement)) made
+
+one_leads : (n : ℕ) (d : Draft) (statement : Statement) (to : Draft) → IsDraft d → CanState d statement → stated (next n) d statement ≡ Drafting (next n) to → IsDraft to
+    → Leads n d.banks d (statement ∷ []) to
+one_leads n d statement to valid can made after = record {
+  count = next n;
+  leads = line_read n d statement valid can ∙ made;
+  valid = after;
+  lines = (spelling_line d statement valid can, tt);
+}
+
+none_leads : (n : ℕ) (banks : List (List ℕ)) (d : Draft) → IsDraft d → Leads n banks d [] d
+none_leads n banks d valid = record { count = n; leads = refl; valid = valid; lines = tt }
+
+-- statements behind others
+lead_on : (n : ℕ) (banks : List (List ℕ)) (a b : Draft) (made more : List Statement) → (first : Leads n banks a made b)
+    → with_lines (Drafting n a) (lines_for banks (made ++ more)) ≡ with_lines (Drafting first.count b) (lines_for banks more)
+lead_on n banks a b made more first =
+    ap (with_lines (Drafting n a)) (map-append (line_for banks) made more)
+    ∙ with_lines-append (Drafting n a) (lines_for banks made) (lines_for banks more)
+    ∙ ap (λ (head : Head). with_lines head (lines_for banks more)) first.leads
+
+both_lead : (n : ℕ) (banks : List (List ℕ)) (a b c : Draft) (made more : List Statement) → Leads n banks a made b → ((m : ℕ) → Leads m banks b more c) → Leads n banks a (made ++ more) c
+both_lead n banks a b c made more first second =
+    let then = second first.count in
+    record {
+      count = then.count;
+      leads = lead_on n banks a b made more first ∙ then.leads;
+      valid = then.valid;
+      lines = Each-append (λ statement. IsLine (spelling banks statement)) made more first.lines then.lines;
+    }
+
+-- the banks of a header
+banks_lead : (n : ℕ) (banks todo : List (List ℕ)) (d : Draft) → IsDraft d → length (d.banks ++ todo) ≤ 64 → All (λ name. IsTrue (is_name name)) (d.banks ++ todo)
+    → AllPairs (λ a b. a ≢ b) (d.banks ++ todo) → Leads n banks d (map statements.Bank todo) (record d { banks = d.banks ++ todo })
+banks_lead n banks [] d valid few names differ =
+    subst (λ (all : List (List ℕ)). Leads n banks d [] (record d { banks = all })) (sym (append-nil d.banks)) (none_leads n banks d valid)
+banks_lead n banks (name ∷ rest) d valid few names differ =
+    let can : CanState d (statements.Bank name) = (
+      omega (arith, length-append d.banks (name ∷ rest)),
+      at_seam (λ text. IsTrue (is_name text)) d.banks rest name names,
+      before_seam (λ a b. a ≢ b) d.banks rest name differ,
+    ) in
+    let after : Draft = record d { banks = d.banks ++ name ∷ [] } in
+    let valid_after : IsDraft after = IsDraft-bank d name valid can in
+    let first : Leads n banks d (statements.Bank name ∷ []) after = one_bank n banks d name valid can in
+    let grouped : (d.banks ++ name ∷ []) ++ rest ≡ d.banks ++ name ∷ rest = append_assoc d.banks (name ∷ []) rest in
+    both_lead n banks d after (record d { banks = d.banks ++ name ∷ rest }) (statements.Bank name ∷ []) (map statements.Bank rest) first
+    (λ m. subst (λ (all : List (List ℕ)). Leads m banks after (map statements.Bank rest) (record d { banks = all })) grouped
+    (banks_lead m banks rest after valid_after
+    (subst (λ (all : List (List ℕ)). length all ≤ 64) (sym grouped) few)
+    (subst (λ (all : List (List ℕ)). All (λ text. IsTrue (is_name text)) all) (sym grouped) names)
+    (subst (λ (all : List (List ℕ)). AllPairs (λ a b. a ≢ b) all) (sym grouped) differ)))
+  where
+    one_bank : (n : ℕ) (banks : List (List ℕ)) (d : Draft) (name : List ℕ) → IsDraft d → CanState d (statements.Bank name) → Leads n banks d (statements.Bank name ∷ []) (record d { banks = d.banks ++ name ∷ [] })
+    one_bank n banks d name valid can =
+        let it = one_leads n d (statements.Bank name) (record d { banks = d.banks ++ name ∷ [] }) valid can refl (IsDraft-bank d name valid can) in
+        record { count = it.count; leads = it.leads; valid = it.valid; lines = (it.lines.0, tt) }
+
+-- the pairs of a header
+pairs_lead : (n : ℕ) (banks : List (List ℕ)) (todo : List PairRule) (d : Draft) → IsDraft d → length (d.pairs ++ todo) ≤ 32 → All IsPairRule (d.pairs ++ todo)
+    → AllPairs (λ a b. ¬ (AreSamePair a b)) (d.pairs ++ todo) → Leads n banks d (map statements.Pair todo) (record d { pairs = d.pairs ++ todo })
+pairs_lead n banks [] d valid few rules differ =
+    subst (λ (all : List PairRule). Leads n banks d [] (record d { pairs = all })) (sym (append-nil d.pairs)) (none_leads n banks d valid)
+pairs_lead n banks (rule ∷ rest) d valid few rules differ =
+    let can : CanState d (statements.Pair rule) = (
+      omega (arith, length-append d.pairs (rule ∷ rest)),
+      at_seam IsPairRule d.pairs rest rule rules,
+      before_seam (λ a b. ¬ (AreSamePair a b)) d.pairs rest rule differ,
+    ) in
+    let after : Draft = record d { pairs = d.pairs ++ rule ∷ [] } in
+    let valid_after : IsDraft after = IsDraft-pair d rule valid can in
+    let first : Leads n banks d (statements.Pair rule ∷ []) after = one_pair n banks d rule valid can in
+    let grouped : (d.pairs ++ rule ∷ []) ++ rest ≡ d.pairs ++ rule ∷ rest = append_assoc d.pairs (rule ∷ []) rest in
+    both_lead n banks d after (record d { pairs = d.pairs ++ rule ∷ rest }) (statements.Pair rule ∷ []) (map statements.Pair rest) first
+    (λ m. subst (λ (all : List PairRule). Leads m banks after (map statements.Pair rest) (record d { pairs = all })) grouped
+    (pairs_lead m banks rest after valid_after
+    (subst (λ (all : List PairRule). length all ≤ 32) (sym grouped) few)
+    (subst (λ (all : List PairRule). All IsPairRule all) (sym grouped) rules)
+    (subst (λ (all : List PairRule). AllPairs (λ a b. ¬ (AreSamePair a b)) all) (sym grouped) differ)))
+  where
+    one_pair : (n : ℕ) (banks : List (List ℕ)) (d : Draft) (rule : PairRule) → IsDraft d → CanState d (statements.Pair rule) → Leads n banks d (statements.Pair rule ∷ []) (record d { pairs = d.pairs ++ rule ∷ [] })
+    one_pair n banks d rule valid can =
+        let it = one_leads n d (statements.Pair rule) (record d { pairs = d.pairs ++ rule ∷ [] }) valid can refl (IsDraft-pair d rule valid can) in
+        record { count = it.count; leads = it.leads; valid = it.valid; lines = (it.lines.0, tt) }
+
+-- a header's banks and pairs with these limits
+abbrev with_limits : Header → List ℕ → Draft
+with_limits h limits = record { banks = h.banks; pairs = h.pairs; limits = limits }
+
+-- the statement of one limit, where it is above 0
+record CellLeads (n : ℕ) (h : Header) (from to : ℕ) (limits : List ℕ) : Type 0 where
+  after : List ℕ
+  leads : Leads n h.banks (with_limits h limits) (limit_statement h from to) (with_limits h after)
+  here : slice_index after (limit_place from to) ≡ opening_limit h from to
+  others : (at : ℕ) → at ≢ limit_place from to → slice_index after at ≡ slice_index limits at
+
+cell_leads : (n : ℕ) (h : Header) (from to : ℕ) (limits : List ℕ) → IsSession h → IsDraft (with_limits h limits) → from < bank_count h → to < bank_count h
+    → slice_index limits (limit_place from to) ≡ 0 → CellLeads n h from to limits
+cell_leads n h from to limits session valid first second zeros =
+    elim (cases_Bool (nat_lt 0 (opening_limit h from to))) [
+      | inl some ↦
+          let stated_is : limit_statement h from to ≡ statements.Line from to (opening_limit h from to) ∷ [] = cond-true _ _ _ some in
+          let above : 0 < opening_limit h from to = grind (arith, nat_tests) in
+          let apart : from ≢ to = λ same. let own : opening_limit h from to ≡ 0 = ap (opening_limit h from) (sym same) ∙ session.own_limits from first in omega arith in
+          let most : opening_limit h from to ≤ 1000000000000000 =
+          All-get_or (λ limit. limit ≤ 1000000000000000) h.limits (from * bank_count h + to) 0 (omega (arith, session.limits_full, mul-add-lt from (bank_count h) to (bank_count h) first second)) session.limits_most in
+          let can : CanState (with_limits h limits) (statements.Line from to (opening_limit h from to)) = (first, second, apart, most) in
+          let after : List ℕ = slice_set limits (limit_place from to) (opening_limit h from to) in
+          let valid_after : IsDraft (with_limits h after) = IsDraft-limit (with_limits h limits) from to (opening_limit h from to) valid (omega (arith, session.banks_most)) (omega (arith, session.banks_most)) apart most in
+          record {
+            after = after;
+            leads = subst (λ (made : List Statement). Leads n h.banks (with_limits h limits) made (with_limits h after)) (sym stated_is)
+                (one_leads n (with_limits h limits) (statements.Line from to (opening_limit h from to)) (with_limits h after) valid can refl valid_after);
+            here = get_or-set_same limits (limit_place from to) (opening_limit h from to) 0 (omega (arith, valid.limits_full, session.banks_most));
+            others = λ at other. get_or-set_other limits (limit_place from to) at (opening_limit h from to) 0 other;
+          }
+      | inr none ↦
+          let stated_is : limit_statement h from to ≡ [] = cond-false _ _ _ none in
+          let zero_is : opening_limit h from to ≡ 0 = let least : opening_limit h from to ≤ 0 = grind (arith, nat_tests) in omega arith in
+          record {
+            after = limits;
+            leads = subst (λ (made : List Statement). Leads n h.banks (with_limits h limits) made (with_limits h limits)) (sym stated_is) (none_leads n h.banks (with_limits h limits) valid);
+            here = zeros ∙ sym zero_is;
+            others = λ at other. refl;
+          }
+    ]
+
+-- the statements of the limits that one bank sets on the first so many
+record RowLeads (n : ℕ) (h : Header) (from count : ℕ) (limits : List ℕ) : Type 0 where
+  after : List ℕ
+  leads : Leads n h.banks (with_limits h limits) (limits_of h from count) (with_limits h after)
+  row : (to : ℕ) → to < count → slice_index after (limit_place from to) ≡ opening_limit h from to
+  rest : (to : ℕ) → count ≤ to → slice_index after (limit_place from to) ≡ slice_index limits (limit_place from to)
+  others : (i to : ℕ) → i ≢ from → to < 64 → slice_index after (limit_place i to) ≡ slice_index limits (limit_place i to)
+
+row_leads : (n : ℕ) (h : Header) (from count : ℕ) (limits : List ℕ) → IsSession h → IsDraft (with_limits h limits) → from < bank_count h → count ≤ bank_count h
+    → ((to : ℕ) → to < bank_count h → slice_index limits (limit_place from to) ≡ 0) → RowLeads n h from count limits
+row_leads n h from zero limits session valid first within zeros = record {
+  after = limits;
+  leads = none_leads n h.banks (with_limits h limits) valid;
+  row = λ to none. absurd (omega arith);
+  rest = λ to past. refl;
+  others = λ i to other below. refl;
+}
+row_leads n h from (suc count) limits session valid first within zeros =
+    let before = row_leads n h from count limits session valid first (omega arith) zeros in
+    let zero_here : slice_index before.after (limit_place from count) ≡ 0 = before.rest count (omega arith) ∙ zeros count (omega arith) in
+    let cell : (m : ℕ) → CellLeads m h from count before.after = λ m. cell_leads m h from count before.after session before.leads.valid first (omega arith) zero_here in
+    let last = cell before.leads.count in
+    let step = last.leads in
+    record {
+      after = last.after;
+      leads = record {
+        count = step.count;
+        leads = lead_on n h.banks (with_limits h limits) (with_limits h before.after) (limits_of h from count) (limit_statement h from count) before.leads ∙ step.leads;
+        valid = step.valid;
+        lines = Each-append (λ statement. IsLine (spelling h.banks statement)) (limits_of h from count) (limit_statement h from count) before.leads.lines step.lines;
+      };
+      row = λ to less. elim (cases_eq to count) [
+        | inl same ↦ subst (λ k. slice_index last.after (limit_place from k) ≡ opening_limit h from k) (sym same) last.here
+        | inr other ↦ last.others (limit_place from to) (λ same. other (omega arith)) ∙ before.row to (omega arith)
+      ];
+      rest = λ to past. last.others (limit_place from to) (λ same. absurd (omega arith)) ∙ before.rest to (omega arith);
+      others = λ i to other below. last.others (limit_place i to) (λ same. other (omega (arith, session.banks_most))) ∙ before.others i to other below;
+    }
+
+-- the statements of the limits that the first so many banks set
+record RowsLead (n : ℕ) (h : Header) (count : ℕ) (limits : List ℕ) : Type 0 where
+  after : List ℕ
+  leads : Leads n h.banks (with_limits h limits) (each_below (λ from. limits_of h from (bank_count h)) count) (with_limits h after)
+  rows : (from to : ℕ) → from < count → to < bank_count h → slice_index after (limit_place from to) ≡ opening_limit h from to
+  rest : (from to : ℕ) → count ≤ from → to < 64 → slice_index after (limit_place from to) ≡ slice_index limits (limit_place from to)
+
+rows_lead : (n : ℕ) (h : Header) (count : ℕ) (limits : List ℕ) → IsSession h → IsDraft (with_limits h limits) → count ≤ bank_count h
+    → ((from to : ℕ) → from < 64 → to < 64 → slice_index limits (limit_place from to) ≡ 0) → RowsLead n h count limits
+rows_lead n h zero limits session valid within zeros = record {
+  after = limits;
+  leads = none_leads n h.banks (with_limits h limits) valid;
+  rows = λ from to none below. absurd (omega arith);
+  rest = λ from to past below. refl;
+}
+rows_lead n h (suc count) limits session valid within zeros =
+    let before = rows_lead n h count limits session valid (omega arith) zeros in
+    let zeros_here : (to : ℕ) → to < bank_count h → slice_index before.after (limit_place count to) ≡ 0 =
+    λ to below. before.rest count to (omega arith) (omega (arith, session.banks_most)) ∙ zeros count to (omega (arith, session.banks_most)) (omega (arith, session.banks_most)) in
+    let last = row_leads before.leads.count h count (bank_count h) before.after session before.leads.valid (omega arith) (omega arith) zeros_here in
+    let step = last.leads in
+    let all : ℕ → List Statement = λ from. limits_of h from (bank_count h) in
+    record {
+      after = last.after;
+      leads = record {
+        count = step.count;
+        leads = lead_on n h.banks (with_limits h limits) (with_limits h before.after) (each_below all count) (all count) before.leads ∙ step.leads;
+        valid = step.valid;
+        lines = Each-append (λ statement. IsLine (spelling h.banks statement)) (each_below all count) (all count) before.leads.lines step.lines;
+      };
+      rows = λ from to less below. elim (cases_eq from count) [
+        | inl same ↦ subst (λ k. slice_index last.after (limit_place k to) ≡ opening_limit h k to) (sym same) (last.row to below)
+        | inr other ↦ last.others from to other (omega (arith, session.banks_most)) ∙ before.rows from to (omega arith) below
+      ];
+      rest = λ from to past below. last.others from to (λ same. absurd (omega arith)) below ∙ before.rest from to (omega arith) below;
+    }
+
+-- the square of these limits is the header's table
+square_is : (h : Header) (limits : List ℕ) → IsSession h → ((from to : ℕ) → from < bank_count h → to < bank_count h → slice_index limits (limit_place from to) ≡ opening_limit h from to)
+    → square (bank_count h) limits ≡ h.limits
+square_is h limits session same =
+    let at_place : ℕ → ℕ = λ at. slice_index limits (limit_place (at / bank_count h) (at % bank_count h)) in
+    let size : length (square (bank_count h) limits) ≡ bank_count h * bank_count h = length-table at_place (bank_count h * bank_count h) in
+    ext_get_or 0 (square (bank_count h) limits) h.limits (size ∙ sym session.limits_full) (λ at within.
+    let below : at < bank_count h * bank_count h = omega arith in
+    let some : 0 < bank_count h = omega (arith, session.banks_least) in
+    get_or-table at_place (bank_count h * bank_count h) at below
+    ∙ same (at / bank_count h) (at % bank_count h) (div_below at (bank_count h) (bank_count h) some below) (mod_below at (bank_count h) some)
+    ∙ ap (λ k. get_or h.limits k 0) (div-add-mod' at (bank_count h)))
+
+zeros_at : (n : ℕ) → 4096 ≤ n → (from to : ℕ) → from < 64 → to < 64 → slice_index (replicate n 0) (limit_place from to) ≡ 0
+zeros_at n room from to first second = get_or-replicate n (64 * from + to) 0 0 (omega arith)
+
+no_limits-at : (from to : ℕ) → from < 64 → to < 64 → slice_index no_limits (limit_place from to) ≡ 0
+unfolding no_limits
+no_limits-at from to first second = zeros_at 4096 (omega arith) from to first second
+
+-- the lines of a session's statements start that session
+record Starts (n : ℕ) (h : Header) : Type 0 where
+  count : ℕ
+  starts : with_lines (Drafting n empty_draft) (lines_for h.banks (statements_of h)) ≡ Started count h
+  lines : Each (λ statement. IsLine (spelling h.banks statement)) (statements_of h)
+
+starts : (n : ℕ) (h : Header) → IsSession h → Starts n h
+starts n h session =
+    let named : List Statement = map statements.Bank h.banks in
+    let paired : List Statement = map statements.Pair h.pairs in
+    let limited : List Statement = each_below (λ from. limits_of h from (bank_count h)) (bank_count h) in
+    let last : List Statement = statements.Start ∷ [] in
+    let is_line : Statement → Type 0 = λ statement. IsLine (spelling h.banks statement) in
+    let with_banks : Draft = record empty_draft { banks = h.banks } in
+    let empty_valid : IsDraft empty_draft = IsDraft-empty [] [] no_limits refl refl refl in
+    let banks : Leads n h.banks empty_draft named with_banks = banks_lead n h.banks h.banks empty_draft empty_valid session.banks_most session.names session.names_differ in
+    let front : Leads n h.banks empty_draft (named ++ paired) (with_limits h no_limits) =
+    both_lead n h.banks empty_draft with_banks (with_limits h no_limits) named paired banks
+    (λ m. pairs_lead m h.banks h.pairs with_banks banks.valid session.pairs_most session.rules session.pairs_differ) in
+    let rows = rows_lead front.count h (bank_count h) no_limits session front.valid (omega arith) no_limits-at in
+    let table_is : square (bank_count h) rows.after ≡ h.limits = square_is h rows.after session rows.rows in
+    let can : CanState (with_limits h rows.after) statements.Start = (session.banks_least, session.pairs_least) in
+    let read_last : with_lines (Drafting rows.leads.count (with_limits h rows.after)) (lines_for h.banks last) ≡ Started (next rows.leads.count) h =
+    line_read rows.leads.count (with_limits h rows.after) statements.Start rows.leads.valid can
+    ∙ ap (λ (limits : List ℕ). Started (next rows.leads.count) (record { banks = h.banks; pairs = h.pairs; limits = limits })) table_is in
+    let all : Leads n h.banks empty_draft (named ++ paired ++ limited) (with_limits h rows.after) = record {
+      count = rows.leads.count;
+      leads = lead_on n h.banks empty_draft (with_limits h no_limits) (named ++ paired) limited front ∙ rows.leads.leads;
+      valid = rows.leads.valid;
+      lines = Each-append is_line (named ++ paired) limited front.lines rows.leads.lines;
+    } in
+    record {
+      count = next rows.leads.count;
+      starts = lead_on n h.banks empty_draft (with_limits h rows.after) (named ++ paired ++ limited) last all ∙ read_last;
+      lines = Each-append is_line (named ++ paired ++ limited) last all.lines (spelling_line (with_limits h rows.after) statements.Start rows.leads.valid can, tt);
+    }
+
+-- the lines of a text of statements
+lines_of-statements : (banks : List (List ℕ)) (made : List Statement) → Each (λ statement. IsLine (spelling banks statement)) made → lines_of (lines_text banks made) ≡ lines_for banks made
+unfolding lines_of
+lines_of-statements banks [] are = refl
+lines_of-statements banks (statement ∷ rest) are =
+    lines_of-line (spelling banks statement) (lines_text banks rest) are.0
+    ∙ ap (λ (lines : List Line). line_for banks statement ∷ lines) (lines_of-statements banks rest are.1)
+
+rest_of-statements : (banks : List (List ℕ)) (made : List Statement) → Each (λ statement. IsLine (spelling banks statement)) made → rest_of (lines_text banks made) ≡ []
+unfolding rest_of
+rest_of-statements banks [] are = refl
+rest_of-statements banks (statement ∷ rest) are = rest_of-line (spelling banks statement) (lines_text banks rest) are.0 ∙ rest_of-statements banks rest are.1
+
+-- the first line
+abbrev version_fields : List (List ℕ)
+version_fields = codes "FXBOOK" ∷ codes "1" ∷ []
+
+version_line : IsLine version_fields
+version_line = record { fields_are = (word_field (codes "FXBOOK") (omega arith) refl, (word_field (codes "1") (omega arith) refl, tt)); short = omega arith }
+
+version_read : with_line (Begun 0) (Whole (spaced version_fields)) ≡ Drafting 1 empty_draft
+version_read = rw (fields_of-spaced version_fields version_line.fields_are) refl
+
+-- the text of a session's header is whole lines, and their reading starts that session
+pub head_text-read : (h : Header) → IsSession h → session_of (read_head (lines_of (head_text_of h))) ≡ Some h
+head_text-read h session =
+    let it = starts 1 h session in
+    ap (λ (lines : List Line). session_of (read_head lines)) (lines_of-line version_fields (lines_text h.banks (statements_of h)) version_line)
+    ∙ ap (λ (lines : List Line). session_of (with_lines (with_line (Begun 0) (Whole (spaced version_fields))) lines)) (lines_of-statements h.banks (statements_of h) it.lines)
+    ∙ ap (λ (head : Head). session_of (with_lines head (lines_for h.banks (statements_of h)))) version_read
+    ∙ ap session_of it.starts
+
+pub head_text-whole : (h : Header) → IsSession h → rest_of (head_text_of h) ≡ []
+head_text-whole h session =
+    let it = starts 1 h session in
+    rest_of-line version_fields (lines_text h.banks (statements_of h)) version_line ∙ rest_of-statements h.banks (statements_of h) it.lines

@@ -1,0 +1,6 @@
+pub mod Reason
+pub mod Draft
+pub mod Statement
+pub mod Head
+pub mod Stage
+pub mod HeadText

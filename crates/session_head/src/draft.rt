@@ -1,0 +1,162 @@
+ghost use Rattle.std.specs.Prelude.{◌≡◌, ◌≢◌, ◌<◌, ◌≤◌, ◌&&◌, length, bytes_eq, position, slice_set, IfOk, IfSome, OnOk, OnErr};
+ghost use Rattle.session_head.specs.Draft.{no_limits, empty_draft, header_of, square, limit_place};
+ghost use Rattle.session_head.specs.Statement.{bank_in, new_name, with_statement, CanState, is_new_pair};
+
+use crate::statement::Statement;
+use fx_amounts::{BankId, Memory, Units};
+use fx_rules::{Code, Name, PairRule, Session};
+use std::alloc::Global;
+use std::marker::Model;
+use std::mem;
+
+/// A row of the table of limits, one for each bank that there can be.
+const ROW: usize = BankId::COUNT;
+
+/// The banks, pairs and limits that the lines of a header have declared.
+#[derive(Drop)]
+pub(crate) struct Draft {
+    banks: Vec<Name>,
+    pairs: Vec<PairRule>,
+    /// The limit that bank i sets on bank j stands at `ROW * i + j`, whether or not they are declared yet.
+    limits: Vec<Units>,
+}
+
+impl Model for Draft {
+    ghost use Rattle.session_head.specs.Draft.{Draft, IsDraft};
+
+    ghost Value = { Draft };
+
+    ghost view = { λ d. record { banks = d.banks.items; pairs = d.pairs.items; limits = d.limits.items } };
+
+    ghost invariant = { λ d. IsDraft (record { banks = d.banks.items; pairs = d.pairs.items; limits = d.limits.items }) };
+}
+
+impl Draft {
+    /// A draft that declares nothing, with its table of limits.
+    pub(crate) fn new(alloc: Global) -> Result<Draft, Memory>
+        ensures { IfOk result (λ draft. draft ≡ empty_draft) }
+    {
+        let limits = no_limits(alloc)?;
+        Ok(Draft {
+            banks: Vec::new(alloc),
+            pairs: Vec::new(alloc),
+            limits,
+        })
+    }
+
+    pub(crate) fn bank_count(&self) -> usize
+        ensures value { result ≡ length self.now.banks }
+        ensures most { result ≤ 64 }
+    {
+        self.banks.len()
+    }
+
+    pub(crate) fn pair_count(&self) -> usize
+        ensures value { result ≡ length self.now.pairs }
+        ensures most { result ≤ 32 }
+    {
+        self.pairs.len()
+    }
+
+    /// The declared bank of that name.
+    pub(crate) fn bank_named(&self, text: &[u8]) -> Option<BankId>
+        ensures value { result ≡ bank_in self.now.banks text.now }
+        ensures within { IfSome result (λ bank. bank < length self.now.banks) }
+    {
+        let place = place_of_bank(&self.banks, text)?;
+        BankId::new(place as u8)
+    }
+
+    /// The text as a name that no declared bank has.
+    #[tactic(auto, unfolding(crate::specs::Statement::new_name))]
+    pub(crate) fn new_name(&self, text: &[u8]) -> Option<Name>
+        ensures value { result ≡ new_name self.now.banks text.now }
+    {
+        let name = Name::from_bytes(text)?;
+        match place_of_bank(&self.banks, text) {
+            Some(_) => None,
+            None => Some(name),
+        }
+    }
+
+    /// Whether the codes differ and no declared pair is of the same two, in the same order.
+    pub(crate) fn is_new_pair(&self, base: &Code, quote: &Code) -> bool
+        ensures value { result ≡ is_new_pair self.now.pairs base.now quote.now }
+    {
+        let base = base.as_bytes();
+        let quote = quote.as_bytes();
+        base != quote && place_of_pair(&self.pairs, base, quote).is_none()
+    }
+
+    /// Adds what a statement declares. After `Err` the draft is as it was.
+    pub(crate) fn add(&mut self, statement: Statement) -> Result<(), Memory>
+        requires { CanState self.old statement }
+        ensures ok { OnOk result (self.new ≡ with_statement self.old statement) }
+        ensures err { OnErr result (self.new ≡ self.old) }
+    {
+        match statement {
+            Statement::Bank(name) => self.banks.push(name)?,
+            Statement::Pair(rule) => self.pairs.push(rule)?,
+            Statement::Line { from, to, limit } => self.set_limit(from, to, limit),
+            Statement::Start => {}
+        }
+        Ok(())
+    }
+
+    fn set_limit(&mut self, from: BankId, to: BankId, limit: Units)
+        requires { from ≢ to }
+        ensures { self.new ≡ record self.old { limits = slice_set self.old.limits (limit_place from to) limit } }
+    {
+        self.limits[ROW * from.index() + to.index()] = limit;
+    }
+
+    /// Takes the session that the draft declares out of it. After `Err` the draft is as it was.
+    pub(crate) fn take_session(&mut self) -> Result<Session, Memory>
+        requires banks { 2 ≤ length self.old.banks }
+        requires pairs { 1 ≤ length self.old.pairs }
+        ensures ok { IfOk result (λ session. session ≡ header_of self.old) }
+        ensures err { OnErr result (self.new ≡ self.old) }
+    {
+        let alloc = *self.limits.allocator();
+        let limits = square(alloc, self.banks.len(), &self.limits)?;
+        let banks = mem::replace(&mut self.banks, Vec::new(alloc));
+        let pairs = mem::replace(&mut self.pairs, Vec::new(alloc));
+        Ok(Session::build(banks, pairs, limits).unwrap())
+    }
+}
+
+// A table of limits in which each is 0.
+#[tactic(auto, unfolding(crate::specs::Draft::no_limits))]
+fn no_limits(alloc: Global) -> Result<Vec<Units>, Memory>
+    ensures { IfOk result (λ limits. limits.items ≡ no_limits) }
+{
+    let zero = Units::new(0).unwrap();
+    Ok(vec![in alloc; zero; ROW * ROW]?)
+}
+
+// The limits of so many banks row by row, without those of banks that are not declared.
+fn square(alloc: Global, banks: usize, limits: &[Units]) -> Result<Vec<Units>, Memory>
+    requires banks { banks ≤ 64 }
+    requires full { length limits.now ≡ 4096 }
+    ensures { IfOk result (λ rows. rows.items ≡ square banks limits.now) }
+{
+    let mut rows = Vec::new(alloc);
+    for at in 0..banks * banks {
+        rows.push(limits[ROW * (at / banks) + at % banks])?;
+    }
+    Ok(rows)
+}
+
+// The place of the first bank of that name.
+fn place_of_bank(banks: &[Name], text: &[u8]) -> Option<usize>
+    ensures value { result ≡ position (λ name. bytes_eq name text.now) banks.now }
+{
+    banks.iter().position(|name| name.as_bytes() == text)
+}
+
+// The place of the first pair of those two currencies.
+fn place_of_pair(pairs: &[PairRule], base: &[u8], quote: &[u8]) -> Option<usize>
+    ensures value { result ≡ position (λ rule. bytes_eq rule.base base.now && bytes_eq rule.quote quote.now) pairs.now }
+{
+    pairs.iter().position(|rule| rule.base.as_bytes() == base && rule.quote.as_bytes() == quote)
+}

@@ -1,0 +1,146 @@
+ghost use Rattle.std.specs.Prelude.{◌≡◌, ◌≢◌, ℕ, ◌++◌, ◌∷◌, [], List, Ok, Err, OnErr, IsTrue};
+ghost use Rattle.fx_text.specs.declared.line.Line.{Line as TextLine};
+ghost use Rattle.session_head.specs.Head.{read_head, with_line, answer_to, UnlessMemory, IsStarted, session_of, next};
+
+use crate::draft::Draft;
+use crate::reason::{HeadReason, HeadStep, HeadStop};
+use crate::statement::{Statement, is_version, statement_from};
+use fx_rules::Session;
+use fx_text::{Line, fields};
+use std::alloc::Global;
+use std::marker::Model;
+
+/// Reads a header line by line. Contracts see what the lines so far are as a header.
+#[derive(Drop)]
+pub struct HeadReader {
+    alloc: Global,
+    /// How many lines were read, with all that were passed over.
+    lines: u64,
+    stage: Stage,
+}
+
+impl Model for HeadReader {
+    ghost use Rattle.session_head.specs.Head.{Head};
+
+    ghost Value = { Head };
+
+    ghost use Rattle.session_head.specs.Stage.{head_of};
+
+    ghost view = { λ r. head_of r.lines r.stage };
+}
+
+// How far a header has come.
+#[derive(Drop)]
+enum Stage {
+    // No line but such as are passed over.
+    Begun,
+    // The first line has told the version.
+    Drafting(Draft),
+    // START has come.
+    Started(Session),
+    // That line had that fault.
+    Faulted { line: u64, reason: HeadReason },
+}
+
+impl HeadReader {
+    /// A reader of no lines. It takes no memory.
+    pub fn new(alloc: Global) -> HeadReader
+        ensures { result ≡ read_head [] }
+    {
+        HeadReader {
+            alloc,
+            lines: 0,
+            stage: Stage::Begun,
+        }
+    }
+
+    /// Reads one line more. After `Memory` the reader is as it was; after a fault each further call answers that fault.
+    pub fn line(&mut self, line: &Line) -> Result<HeadStep, HeadStop>
+        requires open { ¬ (IsStarted self.old) }
+        ensures read { UnlessMemory result (self.new ≡ with_line self.old line.now) }
+        ensures answer { UnlessMemory result (result ≡ answer_to self.new) }
+        ensures memory { result ≡ Err HeadStop.Memory → self.new ≡ self.old }
+        ensures goes_on { result ≢ Ok HeadStep.Start → ¬ (IsStarted self.new) }
+
+        // What the reader stands at is what all its lines are.
+        ensures whole { (lines : List TextLine) → self.old ≡ read_head lines → with_line self.old line.now ≡ read_head (lines ++ line.now ∷ []) }
+    {
+        let number = self.lines.saturating_add(1);
+        let step = self.stage.read(self.alloc, number, line)?;
+        self.lines = number;
+        Ok(step)
+    }
+
+    /// The session, where START was answered; `None` exactly where it was not. It takes no memory.
+    pub fn into_session(self) -> Option<Session>
+        ensures value { result ≡ session_of self }
+    {
+        match self.stage {
+            Stage::Started(session) => Some(session),
+            _ => None,
+        }
+    }
+}
+
+impl Stage {
+    ghost use Rattle.session_head.specs.Stage.{head_of, taken, IsTaken, is_open};
+
+    // Reads the line of that number.
+    fn read(&mut self, alloc: Global, number: u64, line: &Line) -> Result<HeadStep, HeadStop>
+        requires { ¬ (IsStarted (head_of number self.old)) }
+        ensures read { (lines : ℕ) → number ≡ next lines → UnlessMemory result (head_of number self.new ≡ with_line (head_of lines self.old) line.now) }
+        ensures answer { UnlessMemory result (result ≡ answer_to (head_of number self.new)) }
+        ensures memory { result ≡ Err HeadStop.Memory → self.new ≡ self.old }
+    {
+        if let Stage::Faulted { line, reason } = self {
+            return Err(HeadStop::Fault {
+                line: *line,
+                reason: *reason,
+            });
+        }
+        if line.is_passed_over() {
+            return Ok(HeadStep::More);
+        }
+        let taken = self.take(alloc, number, line);
+        if let Err(HeadStop::Fault { line, reason }) = taken {
+            *self = Stage::Faulted { line, reason };
+        }
+        taken
+    }
+
+    // Takes the line of that number, which is not passed over. After `Err` the stage is as it was.
+    fn take(&mut self, alloc: Global, number: u64, line: &Line) -> Result<HeadStep, HeadStop>
+        requires { IsTrue (is_open self.old) }
+        ensures taken { IsTaken number result self.new (taken number self.old line.now) }
+        ensures err { OnErr result (self.new ≡ self.old) }
+    {
+        let Line::Whole(text) = line else {
+            return Err(HeadStop::Fault {
+                line: number,
+                reason: HeadReason::Long,
+            });
+        };
+        let fields = fields(text.as_slice());
+        if let Stage::Drafting(draft) = self {
+            let statement = statement_from(draft, &fields).map_err(|reason| HeadStop::Fault {
+                line: number,
+                reason,
+            })?;
+            if let Statement::Start = statement {
+                let session = draft.take_session()?;
+                *self = Stage::Started(session);
+                return Ok(HeadStep::Start);
+            }
+            draft.add(statement)?;
+            return Ok(HeadStep::More);
+        }
+        if !is_version(&fields) {
+            return Err(HeadStop::Fault {
+                line: number,
+                reason: HeadReason::Version,
+            });
+        }
+        *self = Stage::Drafting(Draft::new(alloc)?);
+        Ok(HeadStep::More)
+    }
+}
