@@ -1,0 +1,71 @@
+-- The line of a command is one whole line, and is read back.
+use Rattle.std.proofs.Common.{◌≡◌, ℕ, ◌^◌, ◌<◌, ◌≤◌, length, get_or, ap, ◌∙◌, arith, All, Some}
+use Rattle.std.proofs.lemmas.List.{get_or-map}
+use Rattle.std.specs.List.{AllByRecursion}
+use Rattle.fx_text.specs.Fields.{fields_of}
+use Rattle.fx_text.specs.Lines.{line_of}
+use Rattle.fx_text.specs.declared.line.Line.TheVariants.{Whole}
+use Rattle.fx_rules.specs.Reject.{code_of}
+use Rattle.fx_rules.specs.Session.{Header, IsSession, bank_count, pair_count}
+use Rattle.fx_rules.specs.Step.{IsCommand}
+use Rattle.fx_rules.specs.declared.command.Command.{Command}
+use Rattle.fx_rules.specs.declared.command.Command.TheVariants as command
+use Rattle.order_lines.specs.Grammar.{journal_line}
+use Rattle.order_lines.specs.Reading.{decimals_of}
+use Rattle.order_lines.specs.Spelling.{price_spelled, command_fields, command_text_of}
+use Rattle.order_lines.specs.Words.{side_word}
+use Rattle.order_lines.specs.declared.word.Word.TheVariants as word
+use Rattle.order_lines.proofs.FieldTexts.{IsField-bank, IsField-pair, IsField-word, IsField-life, IsField-bad, IsField-numeral, IsField-price_text, no_rule}
+use Rattle.order_lines.proofs.JoinedFields.{IsField, fields_of-join, join-visible, line_of-join}
+use Rattle.order_lines.proofs.SaidLines.{journal_line-spelled, code_range}
+
+IsField-price : (h : Header) (pair price : ℕ) → IsSession h → pair < pair_count h → price ≤ 10 ^ 9 → IsField (price_spelled h pair price)
+IsField-price h pair price session within most =
+    let is : decimals_of h pair ≡ (get_or h.pairs pair no_rule).decimals = get_or-map (λ rule. rule.decimals) h.pairs pair no_rule 0 within in
+    let few : decimals_of h pair ≤ 6 = omega (arith, (session.rules pair no_rule within).decimals) in
+    IsField-price_text (decimals_of h pair) price few (omega arith)
+
+are_fields : (h : Header) (bank : ℕ) (said : Command) → IsSession h → bank < bank_count h → IsCommand (bank_count h) (pair_count h) bank said → AllByRecursion IsField (command_fields h bank said)
+are_fields h bank (command.Order side pair price lots life) session within is =
+    (IsField-bank h bank session within, (IsField-word (side_word side), (IsField-pair h pair session is.0, (IsField-price h pair price session is.0 is.1.1, (IsField-numeral lots (omega (arith, is.2.1)), (IsField-life life, tt))))))
+are_fields h bank (command.Cancel pair number) session within is =
+    (IsField-bank h bank session within, (IsField-word word.Cancel, (IsField-pair h pair session is.0, (IsField-numeral number (omega (arith, is.1.1)), tt))))
+are_fields h bank (command.Reduce pair number lots) session within is =
+    (IsField-bank h bank session within, (IsField-word word.Reduce, (IsField-pair h pair session is.0, (IsField-numeral number (omega (arith, is.1.1)), (IsField-numeral lots (omega (arith, is.2.1)), tt)))))
+are_fields h bank (command.Pull pair) session within is = (IsField-bank h bank session within, (IsField-word word.Pull, (IsField-pair h pair session is, tt)))
+are_fields h bank (command.Line other limit) session within is =
+    (IsField-bank h bank session within, (IsField-word word.Line, (IsField-bank h other session is.0, (IsField-numeral limit (omega (arith, is.2)), tt))))
+are_fields h bank (command.Show other) session within is = (IsField-bank h bank session within, (IsField-word word.Show, (IsField-bank h other session is.0, tt)))
+are_fields h bank (command.Book pair) session within is = (IsField-bank h bank session within, (IsField-word word.Book, (IsField-pair h pair session is, tt)))
+are_fields h bank (command.Bad fault) session within is = (IsField-bank h bank session within, (IsField-bad, (IsField-numeral (code_of fault) (omega (arith, (code_range fault).1)), tt)))
+
+few_fields : (h : Header) (bank : ℕ) (said : Command) → (0 < length (command_fields h bank said)) × (length (command_fields h bank said) ≤ 6)
+few_fields h bank (command.Order side pair price lots life) = (omega arith, omega arith)
+few_fields h bank (command.Cancel pair number) = (omega arith, omega arith)
+few_fields h bank (command.Reduce pair number lots) = (omega arith, omega arith)
+few_fields h bank (command.Pull pair) = (omega arith, omega arith)
+few_fields h bank (command.Line other limit) = (omega arith, omega arith)
+few_fields h bank (command.Show other) = (omega arith, omega arith)
+few_fields h bank (command.Book pair) = (omega arith, omega arith)
+few_fields h bank (command.Bad fault) = (omega arith, omega arith)
+
+-- the line of a command has its fields, no byte below the space, and cut out of a text it is whole and read back
+pub record IsWritten (h : Header) (bank : ℕ) (said : Command) : Type 0 where
+  pub fields : fields_of (command_text_of h bank said) ≡ command_fields h bank said
+  pub visible : All (λ byte. 32 ≤ byte) (command_text_of h bank said)
+  pub whole : line_of (command_text_of h bank said) ≡ Whole (command_text_of h bank said)
+  pub read_back : journal_line h (line_of (command_text_of h bank said)) ≡ Some (bank, said)
+
+pub IsWritten-command : (h : Header) (bank : ℕ) (said : Command) → IsSession h → bank < bank_count h → IsCommand (bank_count h) (pair_count h) bank said → IsWritten h bank said
+unfolding command_text_of
+IsWritten-command h bank said session within is =
+    let all : AllByRecursion IsField (command_fields h bank said) = are_fields h bank said session within is in
+    let few = few_fields h bank said in
+    let fields : fields_of (command_text_of h bank said) ≡ command_fields h bank said = fields_of-join (command_fields h bank said) few.0 all in
+    let whole : line_of (command_text_of h bank said) ≡ Whole (command_text_of h bank said) = line_of-join (command_fields h bank said) few.1 all in
+    record {
+      fields = fields;
+      visible = join-visible (command_fields h bank said) all;
+      whole = whole;
+      read_back = ap (journal_line h) whole ∙ journal_line-spelled h (Whole (command_text_of h bank said)) bank said session within is fields;
+    }

@@ -1,0 +1,46 @@
+-- The one spelling of a command of a bank, as a journal writes it.
+use Rattle.std.specs.Prelude.{◌≡◌, ℕ, List, [], ◌∷◌, map, slice_index_or}
+use Rattle.std.specs.List.{join_with_byte}
+use Rattle.fx_amounts.specs.Numeral.{numeral}
+use Rattle.fx_amounts.specs.PriceText.{price_text}
+use Rattle.fx_text.specs.Fields.{fields_of}
+use Rattle.fx_text.specs.declared.line.Line as lines
+use Rattle.fx_text.specs.declared.line.Line.TheVariants.{Whole, Long}
+use Rattle.fx_rules.specs.Reject.{code_of}
+use Rattle.fx_rules.specs.Session.{Header, pair_text}
+use Rattle.fx_rules.specs.declared.command.Command.{Command}
+use Rattle.fx_rules.specs.declared.command.Command.TheVariants.{Order, Cancel, Reduce, Pull, Line, Show, Book, Bad}
+use Rattle.order_lines.specs.Words.{word_text, side_word, life_text, bad_word}
+use Rattle.order_lines.specs.Reading.{decimals_of}
+use Rattle.order_lines.specs.declared.word.Word.TheVariants as word
+
+abbrev pub bank_name : Header → ℕ → List ℕ
+bank_name h bank = slice_index_or h.banks bank []
+
+-- BASE/QUOTE
+abbrev pub pair_name : Header → ℕ → List ℕ
+pair_name h pair = slice_index_or (map pair_text h.pairs) pair []
+
+abbrev pub price_spelled : Header → ℕ → ℕ → List ℕ
+price_spelled h pair price = price_text (decimals_of h pair) price
+
+-- the fields of a command's line
+abbrev pub command_fields : Header → ℕ → Command → List (List ℕ)
+command_fields h bank (Order side pair price lots life) =
+    bank_name h bank ∷ word_text (side_word side) ∷ pair_name h pair ∷ price_spelled h pair price ∷ numeral lots ∷ life_text life ∷ []
+command_fields h bank (Cancel pair number) = bank_name h bank ∷ word_text word.Cancel ∷ pair_name h pair ∷ numeral number ∷ []
+command_fields h bank (Reduce pair number lots) = bank_name h bank ∷ word_text word.Reduce ∷ pair_name h pair ∷ numeral number ∷ numeral lots ∷ []
+command_fields h bank (Pull pair) = bank_name h bank ∷ word_text word.Pull ∷ pair_name h pair ∷ []
+command_fields h bank (Line other limit) = bank_name h bank ∷ word_text word.Line ∷ bank_name h other ∷ numeral limit ∷ []
+command_fields h bank (Show other) = bank_name h bank ∷ word_text word.Show ∷ bank_name h other ∷ []
+command_fields h bank (Book pair) = bank_name h bank ∷ word_text word.Book ∷ pair_name h pair ∷ []
+command_fields h bank (Bad fault) = bank_name h bank ∷ bad_word ∷ numeral (code_of fault) ∷ []
+
+-- the line: its fields with one space between each two
+unfoldable pub command_text_of : Header → ℕ → Command → List ℕ
+command_text_of h bank command = join_with_byte 32 (command_fields h bank command)
+
+-- a line has the fields of that command of that bank
+abbrev pub IsSpelled : Header → lines.Line → ℕ → Command → Type 0
+IsSpelled h (Whole text) bank command = fields_of text ≡ command_fields h bank command
+IsSpelled h (Long first) bank command = ⊥

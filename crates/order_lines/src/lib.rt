@@ -1,0 +1,14 @@
+//! The lines of a session after its header: what each says, with the first fault of a bad one, and the journal's
+//! spelling of every command.
+#![tactic(auto)]
+
+mod reading;
+mod spoken;
+mod word;
+mod writing;
+
+pub use spoken::{Spoken, command_from, journal_from};
+pub use writing::command_text;
+
+#[cfg(test)]
+mod tests;

@@ -1,0 +1,143 @@
+ghost use Rattle.std.specs.Prelude.{◌≡◌, ◌<◌, ℕ, IsFalse, IfSome};
+ghost use Rattle.fx_rules.specs.Session.{bank_count, pair_count};
+ghost use Rattle.fx_rules.specs.Step.{IsCommand};
+ghost use Rattle.fx_rules.specs.declared.command.Command.{Command};
+ghost use Rattle.order_lines.specs.Grammar.{command_line, journal_line, bad_said, or_bad, is_bad, IfSent};
+ghost use Rattle.order_lines.specs.Spelling.{IsSpelled};
+
+use crate::reading::read_command;
+use crate::word::{BAD, fault_from};
+use fx_amounts::BankId;
+use fx_rules::{Command, Reject, Session};
+use fx_text::{Line, fields, number};
+
+/// What a line after the header's `START` says.
+#[derive(Clone, Copy, Debug, PartialEq, Eq)]
+pub enum Spoken {
+    /// A command of a bank, which may be bad.
+    Of(BankId, Command),
+    /// A line of no bank. It changes nothing.
+    Stray,
+    /// The session ends.
+    End,
+    /// A line without a field, or a comment.
+    Passed,
+}
+
+/// What a line after the header's `START` says. A line whose first field is a bank's name is that bank's command; one
+/// that is wrong is bad, with its first fault: a long line, then its word, then the number of its fields, then the
+/// fields from left to right. Takes no memory.
+pub fn command_from(session: &Session, line: &Line) -> Spoken
+    ensures reads { result ≡ command_line session.now line.now }
+
+    // What is read is a bank's of the session and in range.
+    ensures bank { IfSent result (λ bank command. bank < bank_count session.now) }
+    ensures range { IfSent result
+        (λ bank command. IsCommand (bank_count session.now) (pair_count session.now) bank command) }
+
+    // What is read and is not bad is spelled so, and what is spelled so is read.
+    ensures spelling { IfSent result
+        (λ bank command. IsFalse (is_bad command) → IsSpelled session.now line.now bank command) }
+    ensures spelled { (bank : ℕ) (command : Command) → bank < bank_count session.now
+        → IsCommand (bank_count session.now) (pair_count session.now) bank command → IsFalse (is_bad command)
+        → IsSpelled session.now line.now bank command → result ≡ Spoken.Of bank command }
+{
+    // The clauses on spelling rest on a valid session, as each is.
+    let _banks = session.banks();
+    spoken_by(session, line)
+}
+
+#[tactic(auto, unfolding(crate::specs::Grammar::command_line))]
+fn spoken_by(session: &Session, line: &Line) -> Spoken
+    ensures { result ≡ command_line session.now line.now }
+{
+    if line.is_passed_over() {
+        return Spoken::Passed;
+    }
+    match line {
+        Line::Whole(text) => {
+            let fields = fields(text.as_slice());
+            if fields.is_end() {
+                return Spoken::End;
+            }
+            match session.bank_named(fields.first()) {
+                Some(bank) => Spoken::Of(
+                    bank,
+                    command_or_bad(read_command(session, bank, &fields)),
+                ),
+                None => Spoken::Stray,
+            }
+        }
+        Line::Long(first) => match session.bank_named(first.as_slice()) {
+            Some(bank) => Spoken::Of(
+                bank,
+                Command::Bad {
+                    reason: Reject::Long,
+                },
+            ),
+            None => Spoken::Stray,
+        },
+    }
+}
+
+fn command_or_bad(read: Result<Command, Reject>) -> Command
+    ensures { result ≡ or_bad read }
+{
+    read.unwrap_or_else(|reason| Command::Bad { reason })
+}
+
+/// What a line of a journal says: as a line after `START`, but that a bad command stands as `bank BAD r` alone, `r`
+/// being the number of its fault. `None` where the line is no command of a bank, and where it is a bad one in itself.
+/// Takes no memory.
+pub fn journal_from(session: &Session, line: &Line) -> Option<(BankId, Command)>
+    ensures reads { result ≡ journal_line session.now line.now }
+
+    // What is read is a bank's of the session and in range.
+    ensures bank { IfSome result (λ entry. entry.0 < bank_count session.now) }
+    ensures range { IfSome result
+        (λ entry. IsCommand (bank_count session.now) (pair_count session.now) entry.0 entry.1) }
+
+    // What is read is spelled so, and what is spelled so is read, a bad command too.
+    ensures spelling { IfSome result (λ entry. IsSpelled session.now line.now entry.0 entry.1) }
+    ensures spelled { (bank : ℕ) (command : Command) → bank < bank_count session.now
+        → IsCommand (bank_count session.now) (pair_count session.now) bank command
+        → IsSpelled session.now line.now bank command → result ≡ Some (bank, command) }
+{
+    // The clauses on spelling rest on a valid session, as each is.
+    let _banks = session.banks();
+    recorded_by(session, line)
+}
+
+#[tactic(auto, unfolding(crate::specs::Grammar::journal_line))]
+fn recorded_by(session: &Session, line: &Line) -> Option<(BankId, Command)>
+    ensures { result ≡ journal_line session.now line.now }
+{
+    let Spoken::Of(bank, command) = spoken_by(session, line) else {
+        return None;
+    };
+    if is_bad(&command) {
+        let reason = recorded_fault(line)?;
+        return Some((bank, Command::Bad { reason }));
+    }
+    Some((bank, command))
+}
+
+fn is_bad(command: &Command) -> bool
+    ensures { result ≡ is_bad command.now }
+{
+    matches!(command, Command::Bad { .. })
+}
+
+/// The fault of a line `bank BAD r`.
+fn recorded_fault(line: &Line) -> Option<Reject>
+    ensures { result ≡ bad_said line.now }
+{
+    let Line::Whole(text) = line else {
+        return None;
+    };
+    let fields = fields(text.as_slice());
+    if fields.count() != 3 || fields.field(1) != BAD {
+        return None;
+    }
+    fault_from(number(fields.field(2), 1, 11)?)
+}
