@@ -1,0 +1,8 @@
+-- One part follows the other.
+use Rattle.fx_edges.proofs.Writing.{Wrote-then}
+use Rattle.reply_lines.specs.Output.{journal_text}
+use Rattle.reply_lines.proofs.output.write_journal.Goals as goal
+
+pub returns : goal.returns
+unfolding journal_text
+returns g c = record { wrote = Wrote-then c.write_entries.result c.in_ok-write_journal_line.ensures.wrote c.write_entries.ensures.wrote }

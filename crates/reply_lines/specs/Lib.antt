@@ -1,0 +1,4 @@
+pub mod Rows
+pub mod Notices
+pub mod Output
+pub mod Prints

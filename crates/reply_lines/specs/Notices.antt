@@ -1,0 +1,95 @@
+-- The notices that each bank gets of a history.
+use Rattle.std.specs.Prelude.{ℕ, ◌==◌, ◌+◌, if◌then◌else◌, List, [], ◌∷◌, ◌++◌, length, codes}
+use Rattle.std.specs.List.{flat_map}
+use Rattle.fx_amounts.specs.Numeral.{numeral}
+use Rattle.fx_amounts.specs.PriceText.{price_text}
+use Rattle.fx_amounts.specs.Amount.{base_amount, quote_amount}
+use Rattle.fx_amounts.specs.Side.{opposite}
+use Rattle.fx_amounts.specs.declared.side.Side.{Side}
+use Rattle.fx_rules.specs.declared.orders.Fill.{Fill}
+use Rattle.fx_rules.specs.declared.outcome.Entry.{Entry}
+use Rattle.fx_rules.specs.declared.outcome.Outcome.{Outcome}
+use Rattle.fx_rules.specs.declared.outcome.Outcome.TheVariants.{Ordered, Killed, Cancelled, Reduced, NotLess, Nothing, Pulled, LineSet, Shown, Depth, Rejected}
+use Rattle.fx_rules.specs.Reject.{code_of}
+use Rattle.fx_rules.specs.Session.{Header}
+use Rattle.fx_rules.specs.Step.{fills_of}
+use Rattle.reply_lines.specs.Rows.{row, side_text, bank_name, pair_name, decimals_of, lot_of}
+
+-- a bank's reply to a command of its own; a fill in which it was the taker; one in which it was the maker
+pub data Notice : Type 0 where
+  Replied : Entry → Notice
+  Took : Fill → Notice
+  Gave : Fill → Notice
+
+-- of a fill the taker's bank gets one notice, and the maker's bank one
+abbrev pub taken_notices : ℕ → Fill → List Notice
+taken_notices bank fill = if fill.taker == bank then Took fill ∷ [] else []
+
+abbrev pub given_notices : ℕ → Fill → List Notice
+given_notices bank fill = if fill.maker == bank then Gave fill ∷ [] else []
+
+abbrev pub fill_notices : ℕ → Fill → List Notice
+fill_notices bank fill = taken_notices bank fill ++ given_notices bank fill
+
+-- of an entry its sender gets the reply, and then the fills give theirs in order
+abbrev pub reply_notices : ℕ → Entry → List Notice
+reply_notices bank entry = if entry.bank == bank then Replied entry ∷ [] else []
+
+abbrev pub notices_in : ℕ → Entry → List Notice
+notices_in bank entry = reply_notices bank entry ++ flat_map (fill_notices bank) (fills_of entry.outcome)
+
+-- a bank's notices of a history
+abbrev pub notices : ℕ → List Entry → List Notice
+notices bank entries = flat_map (notices_in bank) entries
+
+-- the fields of a reply: what came of the command, and of a credit change the limit alone
+abbrev pub reply_fields : Outcome → List (List ℕ)
+reply_fields (Ordered done rests fills) = codes "ORDERED" ∷ numeral done ∷ numeral rests ∷ []
+reply_fields Killed = codes "KILLED" ∷ []
+reply_fields (Cancelled left) = codes "CANCELLED" ∷ numeral left ∷ []
+reply_fields (Reduced left) = codes "REDUCED" ∷ numeral left ∷ []
+reply_fields (NotLess left) = codes "NOTLESS" ∷ numeral left ∷ []
+reply_fields Nothing = codes "NOTHING" ∷ []
+reply_fields (Pulled count) = codes "PULLED" ∷ numeral count ∷ []
+reply_fields (LineSet limit fills) = codes "LIMIT" ∷ numeral limit ∷ []
+reply_fields (Shown limit spent eff) = codes "SHOWN" ∷ numeral limit ∷ numeral spent ∷ numeral eff ∷ []
+reply_fields (Depth bids asks) = []
+reply_fields (Rejected reason) = codes "BAD" ∷ numeral (code_of reason) ∷ []
+
+-- a fill's pair, lots and price
+abbrev pub trade_fields : Header → Fill → List (List ℕ)
+trade_fields h fill = pair_name h fill.pair ∷ numeral fill.lots ∷ price_text (decimals_of h fill.pair) fill.price ∷ []
+
+-- its base and quote amounts
+abbrev pub amount_fields : Header → Fill → List (List ℕ)
+amount_fields h fill =
+    numeral (base_amount fill.lots (lot_of h fill.pair))
+    ∷ numeral (quote_amount fill.lots (lot_of h fill.pair) fill.price (decimals_of h fill.pair)) ∷ []
+
+-- the fields of a fill as one of its banks sees it: its own order's number and side, and the other bank's name
+abbrev pub fill_fields : Header → ℕ → Side → ℕ → Fill → List (List ℕ)
+fill_fields h number side other fill =
+    (codes "FILL" ∷ numeral number ∷ side_text side ∷ []) ++ trade_fields h fill ++ bank_name h other ∷ amount_fields h fill
+
+-- the line of a reply, with its number on the desk
+abbrev pub reply_line : ℕ → Entry → List ℕ
+reply_line number entry = row (numeral number) (codes "REPLY" ∷ numeral entry.number ∷ reply_fields entry.outcome)
+
+-- the line of a notice, with its number on the desk
+abbrev pub notice_line : Header → ℕ → Notice → List ℕ
+notice_line h number (Replied entry) = reply_line number entry
+notice_line h number (Took fill) = row (numeral number) (fill_fields h fill.taker_number fill.taker_side fill.maker fill)
+notice_line h number (Gave fill) = row (numeral number) (fill_fields h fill.maker_number (opposite fill.taker_side) fill.taker fill)
+
+-- the lines of notices, numbered after so many
+abbrev pub notice_lines : Header → ℕ → List Notice → List ℕ
+notice_lines h before [] = []
+notice_lines h before (notice ∷ rest) = notice_line h (before + 1) notice ++ notice_lines h (before + 1) rest
+
+-- the line that begins a bank's desk
+abbrev pub desk_line : Header → ℕ → ℕ → List ℕ
+desk_line h bank count = row (codes "DESK") (bank_name h bank ∷ numeral count ∷ [])
+
+-- a bank's desk: how many notices it has, and these
+abbrev pub desk_text : Header → List Entry → ℕ → List ℕ
+desk_text h entries bank = desk_line h bank (length (notices bank entries)) ++ notice_lines h 0 (notices bank entries)

@@ -1,0 +1,270 @@
+ghost use Rattle.std.specs.Prelude.{◌≡◌, ℕ, List, [], ◌<◌, ◌≤◌, ◌^◌, ◌+◌, ◌++◌, ◌*◌, length, OnOk, IfOk};
+ghost use Rattle.std.specs.List.{flat_map};
+ghost use Rattle.fx_rules.specs.Lists.{Each};
+ghost use Rattle.fx_edges.specs.Writing.{Wrote};
+ghost use Rattle.fx_rules.specs.Session.{Header, bank_count};
+ghost use Rattle.fx_rules.specs.Step.{fills_of};
+ghost use Rattle.reply_lines.specs.Notices.{notice_lines, reply_notices, taken_notices, given_notices, fill_notices, notices_in, notices, desk_line, desk_text};
+ghost use Rattle.reply_lines.specs.Prints.{IsPrinted, IsFillOf, IsEntryOf};
+
+use crate::notices::{make_desk, make_fill, make_reply};
+use fx_amounts::{BankId, Memory};
+use fx_edges::{Sink, SinkFault, write_all};
+use fx_rules::{Entry, Fill, Outcome, Session};
+
+/// Writes a line that was made, where there was memory for it.
+pub fn write_made<K: Sink>(
+    made: Result<(), Memory>,
+    line: &[u8],
+    out: &mut K,
+) -> Result<(), SinkFault>
+    ensures wrote { (text : List ℕ) → OnOk made (line.now ≡ text) → Wrote K.written K.faults out.old out.new text result }
+{
+    match made {
+        Ok(()) => write_all(out, line),
+        Err(Memory) => Err(SinkFault::Memory),
+    }
+}
+
+/// Writes the notices that a bank gets of a fill, numbered after `before`, and answers the number of the last.
+fn write_fill<K: Sink>(
+    session: &Session,
+    bank: BankId,
+    fill: &Fill,
+    before: u128,
+    line: &mut Vec<u8>,
+    out: &mut K,
+) -> Result<u128, SinkFault>
+    requires fill { IsFillOf session.now fill.now }
+    requires room { before < 2 ^ 127 }
+    ensures wrote { Wrote K.written K.faults out.old out.new (notice_lines session.now before (fill_notices bank fill.now)) result }
+    ensures count { IfOk result (λ after. after ≡ before + length (fill_notices bank fill.now)) }
+    ensures most { IfOk result (λ after. after ≤ before + 2) }
+{
+    match write_taken(session, bank, fill, before, line, out) {
+        Ok(taken) => write_given(session, bank, fill, taken, line, out),
+        Err(fault) => Err(fault),
+    }
+}
+
+/// Writes a fill as its taker's bank sees it, where that is the bank.
+fn write_taken<K: Sink>(
+    session: &Session,
+    bank: BankId,
+    fill: &Fill,
+    before: u128,
+    line: &mut Vec<u8>,
+    out: &mut K,
+) -> Result<u128, SinkFault>
+    requires fill { IsFillOf session.now fill.now }
+    requires room { before < 2 ^ 127 }
+    ensures wrote { Wrote K.written K.faults out.old out.new (notice_lines session.now before (taken_notices bank fill.now)) result }
+    ensures count { IfOk result (λ after. after ≡ before + length (taken_notices bank fill.now)) }
+    ensures most { IfOk result (λ after. after ≤ before + 1) }
+{
+    if fill.taker != bank {
+        return Ok(before);
+    }
+    let made = make_fill(
+        session,
+        before + 1,
+        fill.taker_number,
+        fill.taker_side,
+        fill.maker,
+        fill,
+        line,
+    );
+    write_made(made, line, out)?;
+    Ok(before + 1)
+}
+
+/// Writes a fill as its maker's bank sees it, where that is the bank.
+fn write_given<K: Sink>(
+    session: &Session,
+    bank: BankId,
+    fill: &Fill,
+    before: u128,
+    line: &mut Vec<u8>,
+    out: &mut K,
+) -> Result<u128, SinkFault>
+    requires fill { IsFillOf session.now fill.now }
+    requires room { before ≤ 2 ^ 127 }
+    ensures wrote { Wrote K.written K.faults out.old out.new (notice_lines session.now before (given_notices bank fill.now)) result }
+    ensures count { IfOk result (λ after. after ≡ before + length (given_notices bank fill.now)) }
+    ensures most { IfOk result (λ after. after ≤ before + 1) }
+{
+    if fill.maker != bank {
+        return Ok(before);
+    }
+    let side = fill.taker_side.opposite();
+    let made = make_fill(
+        session,
+        before + 1,
+        fill.maker_number,
+        side,
+        fill.taker,
+        fill,
+        line,
+    );
+    write_made(made, line, out)?;
+    Ok(before + 1)
+}
+
+/// Writes the reply to an entry, where the bank sent it.
+fn write_reply<K: Sink>(
+    bank: BankId,
+    entry: &Entry,
+    before: u128,
+    line: &mut Vec<u8>,
+    out: &mut K,
+) -> Result<u128, SinkFault>
+    requires outcome { IsPrinted entry.now.outcome }
+    requires room { before < 2 ^ 127 }
+    ensures wrote { (h : Header) → Wrote K.written K.faults out.old out.new (notice_lines h before (reply_notices bank entry.now)) result }
+    ensures count { IfOk result (λ after. after ≡ before + length (reply_notices bank entry.now)) }
+    ensures most { IfOk result (λ after. after ≤ before + 1) }
+{
+    if entry.bank != bank {
+        return Ok(before);
+    }
+    let made = make_reply(before + 1, entry.number, &entry.outcome, line);
+    write_made(made, line, out)?;
+    Ok(before + 1)
+}
+
+/// Writes the notices that a bank gets of fills, numbered after `before`, and answers the number of the last.
+fn write_fills<K: Sink>(
+    session: &Session,
+    bank: BankId,
+    fills: &[Fill],
+    before: u128,
+    line: &mut Vec<u8>,
+    out: &mut K,
+) -> Result<u128, SinkFault>
+    requires fills { Each (IsFillOf session.now) fills.now }
+    requires room { before ≤ 2 ^ 126 }
+    ensures wrote { Wrote K.written K.faults out.old out.new (notice_lines session.now before (flat_map (fill_notices bank) fills.now)) result }
+    ensures count { IfOk result (λ after. after ≡ before + length (flat_map (fill_notices bank) fills.now)) }
+    ensures most { IfOk result (λ after. after ≤ before + 2 * length fills.now) }
+    ensures short { length fills.now < 2 ^ 63 }
+{
+    let _ = fills.len();
+    let mut number = before;
+    for fill in fills {
+        number = match write_fill(session, bank, fill, number, line, out) {
+            Ok(number) => number,
+            Err(fault) => return Err(fault),
+        };
+    }
+    Ok(number)
+}
+
+/// Writes the notices that a bank gets of an entry, numbered after `before`, and answers the number of the last.
+fn write_notices<K: Sink>(
+    session: &Session,
+    bank: BankId,
+    entry: &Entry,
+    before: u128,
+    line: &mut Vec<u8>,
+    out: &mut K,
+) -> Result<u128, SinkFault>
+    requires entry { IsEntryOf session.now entry.now }
+    requires room { before < 2 ^ 126 }
+    ensures wrote { Wrote K.written K.faults out.old out.new (notice_lines session.now before (notices_in bank entry.now)) result }
+    ensures count { IfOk result (λ after. after ≡ before + length (notices_in bank entry.now)) }
+    ensures most { IfOk result (λ after. after ≤ before + 2 ^ 64) }
+{
+    match write_reply(bank, entry, before, line, out) {
+        Ok(replied) => write_fills(session, bank, fills_of(&entry.outcome), replied, line, out),
+        Err(fault) => Err(fault),
+    }
+}
+
+/// The fills of an outcome.
+fn fills_of(outcome: &Outcome) -> &[Fill]
+    ensures { result.now ≡ fills_of outcome.now }
+{
+    match outcome {
+        Outcome::Ordered { fills, .. } => fills.as_slice(),
+        Outcome::LineSet { fills, .. } => fills.as_slice(),
+        _ => &[],
+    }
+}
+
+/// How many notices a bank gets of a history.
+fn count_notices(bank: BankId, entries: &[Entry]) -> u128
+    ensures value { result ≡ length (notices bank entries.now) }
+{
+    let mut count = 0;
+    for entry in entries {
+        count += notices_in(bank, entry);
+    }
+    count
+}
+
+/// How many notices a bank gets of an entry.
+fn notices_in(bank: BankId, entry: &Entry) -> u128
+    ensures value { result ≡ length (notices_in bank entry.now) }
+    ensures most { result ≤ 2 ^ 64 }
+{
+    let mut count = u128::from(entry.bank == bank);
+    for fill in fills_of(&entry.outcome) {
+        count += u128::from(fill.taker == bank) + u128::from(fill.maker == bank);
+    }
+    count
+}
+
+/// Writes a bank's desk: how many notices it has, and these.
+pub fn write_desk<K: Sink>(
+    session: &Session,
+    bank: BankId,
+    entries: &[Entry],
+    line: &mut Vec<u8>,
+    out: &mut K,
+) -> Result<(), SinkFault>
+    requires bank { bank < bank_count session.now }
+    requires entries { Each (IsEntryOf session.now) entries.now }
+    ensures wrote { Wrote K.written K.faults out.old out.new (desk_text session.now entries.now bank) result }
+{
+    match write_desk_line(session, bank, entries, line, out) {
+        Ok(()) => write_all_notices(session, bank, entries, line, out),
+        Err(fault) => Err(fault),
+    }
+}
+
+/// Writes the line that begins a bank's desk.
+fn write_desk_line<K: Sink>(
+    session: &Session,
+    bank: BankId,
+    entries: &[Entry],
+    line: &mut Vec<u8>,
+    out: &mut K,
+) -> Result<(), SinkFault>
+    requires { bank < bank_count session.now }
+    ensures wrote { Wrote K.written K.faults out.old out.new (desk_line session.now bank (length (notices bank entries.now))) result }
+{
+    let made = make_desk(session, bank, count_notices(bank, entries), line);
+    write_made(made, line, out)
+}
+
+/// Writes a bank's notices of a history.
+fn write_all_notices<K: Sink>(
+    session: &Session,
+    bank: BankId,
+    entries: &[Entry],
+    line: &mut Vec<u8>,
+    out: &mut K,
+) -> Result<(), SinkFault>
+    requires entries { Each (IsEntryOf session.now) entries.now }
+    ensures wrote { Wrote K.written K.faults out.old out.new (notice_lines session.now 0 (notices bank entries.now)) result }
+{
+    let _ = entries.len();
+    let mut number = 0;
+    for entry in entries {
+        number = match write_notices(session, bank, entry, number, line, out) {
+            Ok(number) => number,
+            Err(fault) => return Err(fault),
+        };
+    }
+    Ok(())
+}

@@ -1,0 +1,227 @@
+ghost use Rattle.std.specs.Prelude.{◌≡◌, ◌<◌, ◌∷◌, [], ◌++◌, codes, length, IfErr, OnOk, OnErr};
+ghost use Rattle.std.specs.List.{flat_map};
+ghost use Rattle.fx_amounts.specs.Numeral.{numeral};
+ghost use Rattle.fx_edges.specs.Faults.{Rose};
+ghost use Rattle.fx_edges.specs.Writing.{Appended, AppendedPart, Wrote};
+ghost use Rattle.fx_rules.specs.Lists.{Each};
+ghost use Rattle.fx_rules.specs.History.{IsLegal};
+ghost use Rattle.fx_rules.specs.Session.{bank_count};
+ghost use Rattle.session_head.specs.HeadText.{head_text_of};
+ghost use Rattle.reply_lines.specs.Rows.{row};
+ghost use Rattle.reply_lines.specs.Prints.{IsEntryOf};
+ghost use Rattle.reply_lines.specs.Output.{entry_line, journal_line, journal_text, desks_below, strays_line, ending_line, last_text, desks_text, history_text, first_output};
+
+use crate::desk::{write_desk, write_made};
+use crate::notices::make_count;
+use fx_amounts::{BankId, Memory};
+use fx_edges::{Sink, SinkFault, write_all};
+use fx_rules::{Entry, Session};
+use order_lines::command_text;
+use session_head::head_text;
+use std::alloc::Global;
+
+/// How the reading of a session ended.
+#[derive(Clone, Copy, Debug, PartialEq, Eq)]
+pub enum Ending {
+    /// At its END line.
+    End,
+    /// The input ended before.
+    Cut,
+    /// A read failed.
+    Read,
+    /// There was too much of it.
+    Much,
+}
+
+impl Ending {
+    #[tactic(auto, unfolding(crate::specs::Output::ending_line))]
+    fn line(self) -> &'static [u8]
+        ensures { result.now ≡ ending_line self }
+    {
+        match self {
+            Ending::End => b"END\n",
+            Ending::Cut => b"CUT\n",
+            Ending::Read => b"READ\n",
+            Ending::Much => b"MUCH\n",
+        }
+    }
+}
+
+/// Writes the output of a legal history. After a fault a prefix of it was appended, and the fault is `Failed` only where
+/// the sink's count of faults rose.
+#[tactic(auto, unfolding(crate::specs::Output::first_output))]
+pub fn write_output<K: Sink>(
+    alloc: Global,
+    session: &Session,
+    entries: &[Entry],
+    strays: u64,
+    ending: Ending,
+    out: &mut K,
+) -> Result<(), SinkFault>
+    requires legal { IsLegal session.now entries.now }
+    ensures wrote { Wrote K.written K.faults out.old out.new (first_output session.now entries.now strays ending) result }
+{
+    let mut line = Vec::new(alloc);
+    match write_head(session, &mut line, out) {
+        Ok(()) => write_history(session, entries, strays, ending, &mut line, out),
+        Err(fault) => Err(fault),
+    }
+}
+
+/// Writes the journal and what follows it.
+#[tactic(auto, unfolding(crate::specs::Output::history_text))]
+fn write_history<K: Sink>(
+    session: &Session,
+    entries: &[Entry],
+    strays: u64,
+    ending: Ending,
+    line: &mut Vec<u8>,
+    out: &mut K,
+) -> Result<(), SinkFault>
+    requires entries { Each (IsEntryOf session.now) entries.now }
+    ensures wrote { Wrote K.written K.faults out.old out.new (history_text session.now entries.now strays ending) result }
+{
+    write_journal(session, entries, line, out)?;
+    write_desks_on(session, entries, strays, ending, line, out)
+}
+
+/// Writes the desks and what follows them.
+#[tactic(auto, unfolding(crate::specs::Output::desks_text))]
+fn write_desks_on<K: Sink>(
+    session: &Session,
+    entries: &[Entry],
+    strays: u64,
+    ending: Ending,
+    line: &mut Vec<u8>,
+    out: &mut K,
+) -> Result<(), SinkFault>
+    requires entries { Each (IsEntryOf session.now) entries.now }
+    ensures wrote { Wrote K.written K.faults out.old out.new (desks_text session.now entries.now strays ending) result }
+{
+    write_desks(session, entries, line, out)?;
+    write_last(strays, ending, line, out)
+}
+
+/// Writes the last lines.
+#[tactic(auto, unfolding(crate::specs::Output::last_text))]
+fn write_last<K: Sink>(
+    strays: u64,
+    ending: Ending,
+    line: &mut Vec<u8>,
+    out: &mut K,
+) -> Result<(), SinkFault>
+    ensures wrote { Wrote K.written K.faults out.old out.new (last_text strays ending) result }
+{
+    write_strays(strays, line, out)?;
+    write_all(out, ending.line())
+}
+
+/// Writes the header.
+fn write_head<K: Sink>(session: &Session, line: &mut Vec<u8>, out: &mut K) -> Result<(), SinkFault>
+    ensures wrote { Wrote K.written K.faults out.old out.new (head_text_of session.now) result }
+{
+    line.clear();
+    let made = head_text(session, line);
+    write_made(made, line, out)
+}
+
+/// Writes the number of strays.
+#[tactic(auto, unfolding(crate::specs::Output::strays_line))]
+fn write_strays<K: Sink>(strays: u64, line: &mut Vec<u8>, out: &mut K) -> Result<(), SinkFault>
+    ensures wrote { Wrote K.written K.faults out.old out.new (strays_line strays) result }
+{
+    let made = make_count(b"STRAYS", u128::from(strays), line);
+    write_made(made, line, out)
+}
+
+/// Writes the journal.
+#[tactic(auto, unfolding(crate::specs::Output::journal_text))]
+fn write_journal<K: Sink>(
+    session: &Session,
+    entries: &[Entry],
+    line: &mut Vec<u8>,
+    out: &mut K,
+) -> Result<(), SinkFault>
+    requires entries { Each (IsEntryOf session.now) entries.now }
+    ensures wrote { Wrote K.written K.faults out.old out.new (journal_text session.now entries.now) result }
+{
+    write_journal_line(entries, line, out)?;
+    write_entries(session, entries, line, out)
+}
+
+/// Writes the line that begins the journal.
+#[tactic(auto, unfolding(crate::specs::Output::journal_line))]
+fn write_journal_line<K: Sink>(
+    entries: &[Entry],
+    line: &mut Vec<u8>,
+    out: &mut K,
+) -> Result<(), SinkFault>
+    ensures wrote { Wrote K.written K.faults out.old out.new (journal_line (length entries.now)) result }
+{
+    let made = make_count(b"JOURNAL", entries.len() as u128, line);
+    write_made(made, line, out)
+}
+
+/// Writes the commands of the entries.
+fn write_entries<K: Sink>(
+    session: &Session,
+    entries: &[Entry],
+    line: &mut Vec<u8>,
+    out: &mut K,
+) -> Result<(), SinkFault>
+    requires entries { Each (IsEntryOf session.now) entries.now }
+    ensures wrote { Wrote K.written K.faults out.old out.new (flat_map (entry_line session.now) entries.now) result }
+{
+    for entry in entries {
+        match write_entry(session, entry, line, out) {
+            Ok(()) => {}
+            Err(fault) => return Err(fault),
+        }
+    }
+    Ok(())
+}
+
+/// Writes an entry's command.
+fn write_entry<K: Sink>(
+    session: &Session,
+    entry: &Entry,
+    line: &mut Vec<u8>,
+    out: &mut K,
+) -> Result<(), SinkFault>
+    requires entry { IsEntryOf session.now entry.now }
+    ensures wrote { Wrote K.written K.faults out.old out.new (entry_line session.now entry.now) result }
+{
+    let made = make_entry(session, entry, line);
+    write_made(made, line, out)
+}
+
+/// Makes the line of an entry's command.
+fn make_entry(session: &Session, entry: &Entry, line: &mut Vec<u8>) -> Result<(), Memory>
+    requires entry { IsEntryOf session.now entry.now }
+    ensures ok { OnOk result (line.new.items ≡ entry_line session.now entry.now) }
+{
+    line.clear();
+    command_text(session, entry.bank, &entry.command, line)?;
+    line.push(b'\n')?;
+    Ok(())
+}
+
+/// Writes the desks of all banks.
+fn write_desks<K: Sink>(
+    session: &Session,
+    entries: &[Entry],
+    line: &mut Vec<u8>,
+    out: &mut K,
+) -> Result<(), SinkFault>
+    requires entries { Each (IsEntryOf session.now) entries.now }
+    ensures wrote { Wrote K.written K.faults out.old out.new (desks_below session.now entries.now (bank_count session.now)) result }
+{
+    for place in 0..session.banks().len() {
+        let bank = BankId::new(place as u8).unwrap();
+        match write_desk(session, bank, entries, line, out) {
+            Ok(()) => {}
+            Err(fault) => return Err(fault),
+        }
+    }
+    Ok(())
+}

@@ -1,0 +1,126 @@
+use crate::notices::{make_count, make_desk, make_fill, make_reply};
+use crate::{Ending, write_output};
+use fx_amounts::{BankId, Lots, PairId, Price, Side, Units};
+use fx_edges::{MemorySink, SinkFault};
+use fx_rules::{Code, Fill, FillList, Name, Outcome, PairRule, Reject, Session};
+use std::alloc::Global;
+use std::test::Fail;
+
+/// Banks ALFA and BETA, the pair EUR/USD, and a limit of 1000 that ALFA sets on BETA.
+fn market(alloc: Global) -> Result<Session, Fail> {
+    let mut banks = Vec::new(alloc);
+    for name in [b"ALFA", b"BETA"] {
+        banks.push(Name::from_bytes(name).ok_or("a name was refused")?)?;
+    }
+    let mut pairs = Vec::new(alloc);
+    pairs.push(PairRule {
+        base: Code::from_bytes(b"EUR").ok_or("a code was refused")?,
+        quote: Code::from_bytes(b"USD").ok_or("a code was refused")?,
+        decimals: 5,
+        lot: 1_000_000,
+        weight: 100,
+    })?;
+    let mut limits = Vec::new(alloc);
+    for limit in [0, 1000, 0, 0] {
+        limits.push(Units::new(limit).ok_or("a limit was refused")?)?;
+    }
+    Ok(Session::build(banks, pairs, limits).ok_or("the session was refused")?)
+}
+
+/// ALFA bought 2 lots at 1.08420 of BETA, with its order 7 against BETA's order 1.
+fn trade() -> Result<Fill, Fail> {
+    Ok(Fill {
+        pair: PairId::new(0).ok_or("a pair was refused")?,
+        taker: BankId::new(0).ok_or("a bank was refused")?,
+        taker_number: 7,
+        taker_side: Side::Buy,
+        maker: BankId::new(1).ok_or("a bank was refused")?,
+        maker_number: 1,
+        price: Price::new(108_420).ok_or("a price was refused")?,
+        lots: Lots::new(2).ok_or("lots were refused")?,
+    })
+}
+
+#[test]
+fn a_fill_as_its_taker_sees_it(rt: HostRuntime) -> Result<(), Fail> {
+    let session = market(rt.alloc())?;
+    let fill = trade()?;
+    let mut line = Vec::new(rt.alloc());
+    assert!(rt; fill.pair.index() < session.pairs().len());
+    assert!(rt; fill.maker.index() < session.banks().len());
+    make_fill(&session, 3, 7, Side::Buy, fill.maker, &fill, &mut line)?;
+    assert_eq!(rt;
+        line.as_slice(),
+        b"3 FILL 7 BUY EUR/USD 2 1.08420 BETA 2000000 2168400\n".as_slice()
+    );
+    Ok(())
+}
+
+#[test]
+fn replies_and_counts(rt: HostRuntime) -> Result<(), Fail> {
+    let mut line = Vec::new(rt.alloc());
+    let ordered = Outcome::Ordered {
+        filled: 2,
+        rests: 1,
+        fills: FillList::from_vec(Vec::new(rt.alloc())),
+    };
+    make_reply(1, 7, &ordered, &mut line)?;
+    assert_eq!(rt; line.as_slice(), b"1 REPLY 7 ORDERED 2 1\n".as_slice());
+    make_reply(2, 8, &Outcome::Killed, &mut line)?;
+    assert_eq!(rt; line.as_slice(), b"2 REPLY 8 KILLED\n".as_slice());
+    make_reply(
+        3,
+        9,
+        &Outcome::Rejected {
+            reason: Reject::Life,
+        },
+        &mut line,
+    )?;
+    assert_eq!(rt; line.as_slice(), b"3 REPLY 9 BAD 10\n".as_slice());
+    make_count(
+        b"STRAYS",
+        340_282_366_920_938_463_463_374_607_431_768_211_455,
+        &mut line,
+    )?;
+    assert_eq!(rt;
+        line.as_slice(),
+        b"STRAYS 340282366920938463463374607431768211455\n".as_slice()
+    );
+    Ok(())
+}
+
+#[test]
+fn the_line_of_a_desk(rt: HostRuntime) -> Result<(), Fail> {
+    let session = market(rt.alloc())?;
+    let bank = BankId::new(1).ok_or("a bank was refused")?;
+    let mut line = Vec::new(rt.alloc());
+    assert!(rt; bank.index() < session.banks().len());
+    make_desk(&session, bank, 12, &mut line)?;
+    assert_eq!(rt; line.as_slice(), b"DESK BETA 12\n".as_slice());
+    Ok(())
+}
+
+const QUIET_DAY: &[u8] =
+    b"FXBOOK 1\nBANK ALFA\nBANK BETA\nPAIR EUR/USD 5 1000000 100\nLINE ALFA BETA 1000\nSTART\nJOURNAL 0\nDESK ALFA 0\nDESK BETA 0\nSTRAYS 3\nCUT\n";
+
+#[test]
+fn a_day_without_commands(rt: HostRuntime) -> Result<(), Fail> {
+    let session = market(rt.alloc())?;
+    let mut out = MemorySink::new(7, Vec::new(rt.alloc()));
+    write_output(rt.alloc(), &session, &[], 3, Ending::Cut, &mut out)?;
+    assert_eq!(rt; out.written(), QUIET_DAY);
+    Ok(())
+}
+
+#[test]
+fn a_write_that_fails(rt: HostRuntime) -> Result<(), Fail> {
+    let session = market(rt.alloc())?;
+    let mut fails = Vec::new(rt.alloc());
+    fails.push(9)?;
+    let mut out = MemorySink::new(7, fails);
+    let answer = write_output(rt.alloc(), &session, &[], 3, Ending::End, &mut out);
+    assert_eq!(rt; answer, Err(SinkFault::Failed));
+    assert!(rt; QUIET_DAY.starts_with(out.written()));
+    assert!(rt; out.written().len() < 64);
+    Ok(())
+}
