@@ -1,0 +1,10 @@
+pub mod Status
+pub mod Words
+pub mod Input
+pub mod HeaderText
+pub mod Form
+pub mod FormReading
+pub mod FormParts
+pub mod Output
+pub mod Run
+pub mod TopCall
