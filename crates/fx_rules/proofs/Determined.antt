@@ -1,24 +1,29 @@
 -- State and command determine the outcome.
-use Rattle.std.proofs.Common.{ℕ, ◌≡◌, ◌-◌, ◌≤◌, ◌<◌, List, [], ◌∷◌, ◌⊎◌, inl, inr, refl, ap, sym, subst, ◌∙◌, arith}
+use Rattle.std.proofs.Common.{ℕ, zero, suc, ◌≡◌, ◌+◌, ◌-◌, ◌≤◌, ◌<◌, List, [], ◌∷◌, ◌++◌, take, Option, Some, None, MatchOption, ◌⊎◌, inl, inr, refl, ap, sym, subst, ◌∙◌, arith}
 use Rattle.fx_rules.specs.declared.orders.Resting.{Resting}
 use Rattle.fx_rules.specs.declared.orders.Fill.{Fill}
 use Rattle.fx_rules.specs.declared.command.Command.{Command}
-use Rattle.fx_rules.specs.declared.command.Command.TheVariants.{Order, Bad}
-use Rattle.fx_rules.specs.declared.command.Reject.{Reject}
+use Rattle.fx_rules.specs.declared.command.Command.TheVariants.{Order, Line, Book}
+use Rattle.fx_amounts.specs.declared.side.Side.{Side}
+use Rattle.fx_amounts.specs.declared.side.Side.TheVariants.{Buy, Sell}
+use Rattle.fx_rules.specs.declared.orders.Level.{Level}
 use Rattle.fx_rules.specs.declared.command.Life.{Life}
 use Rattle.fx_rules.specs.declared.command.Life.TheVariants.{Day, Ioc, Fok}
 use Rattle.fx_rules.specs.declared.outcome.Outcome.{Outcome}
-use Rattle.fx_rules.specs.declared.outcome.Outcome.TheVariants.{Ordered, Killed, Rejected}
+use Rattle.fx_rules.specs.declared.outcome.Outcome.TheVariants.{Ordered, Killed, LineSet, Depth}
 use Rattle.fx_rules.specs.Lists.{Among}
 use Rattle.fx_rules.specs.Session.{Header, IsSession, bank_count, pair_count, weight_of}
 use Rattle.fx_rules.specs.State.{State, orders_in, reach}
-use Rattle.fx_rules.specs.Sweep.{Taker, Swept, is_open, open_orders, IsBest, amount, fill_with, filled, less}
+use Rattle.fx_rules.specs.Sweep.{Taker, Swept, is_open, open_orders, IsBest, amount, fill_with, filled, filled_all, less}
+use Rattle.fx_rules.specs.Raise.{limited, order_of, taker_of_resting, Turned, PairsTurned, Raised}
+use Rattle.fx_rules.specs.Depth.{unlimited, levels_of, Shows}
 use Rattle.fx_rules.specs.Step.{IsCommand, IsOrdered, IsOutcome, taker_of}
 use Rattle.fx_rules.specs.Sound.{IsSound}
 use Rattle.fx_rules.proofs.ListLemmas.{Among-filter}
 use Rattle.fx_rules.proofs.Opens.{allowed-open}
 use Rattle.fx_rules.proofs.Credit.{IsAllowed}
-use Rattle.fx_rules.proofs.Soundness.{filled-sound, weight_of-least}
+use Rattle.fx_rules.proofs.SweepSound.{filled-sound, swept-sound, weight_of-least}
+use Rattle.fx_rules.proofs.RaiseSound.{turn_of, turn-sender, turned-sound, limited-sound}
 use Rattle.fx_rules.proofs.Preference.{best_same}
 use Rattle.fx_rules.proofs.Planning.{orders_in-rising}
 
@@ -89,14 +94,85 @@ ordered-same h S t Fok (Ordered d r f) other sound bank some a b = absurd b
 ordered-same h S t Fok Killed other sound bank some a b = absurd b
 ordered-same h S t life one other sound bank some a b = absurd a
 
-rejected_same : (reason : Reject) (one other : Outcome) (h : Header) (S : State) (bank : ℕ) → IsOutcome h S bank (Bad reason) one → IsOutcome h S bank (Bad reason) other → one ≡ other
-rejected_same reason (Rejected a) (Rejected b) h S bank one other = ap Rejected (one ∙ sym other)
-rejected_same reason (Rejected a) other h S bank one two = absurd two
-rejected_same reason one other h S bank one_is two = absurd one_is
+-- the turn of an order that is found so, and those of the orders behind it
+abbrev TurnOf : Header → ℕ → State → List Resting → List Fill → Option Resting → Type 0
+TurnOf h pair S orders fills found =
+    MatchOption found (Turned h pair S orders fills)
+    (λ now. (own more : List Fill) × (left : ℕ) × Swept h S (taker_of_resting pair now) own left
+    × (fills ≡ own ++ more) × Turned h pair (filled_all S own) orders more)
+
+-- with the same orders to go, two lists of fills are one: what is known of the turns that follow
+abbrev SameTurns : Header → ℕ → List Resting → Type 0
+SameTurns h pair orders =
+    (S : State) (fs gs : List Fill) → IsSound h S → Turned h pair S orders fs → Turned h pair S orders gs → fs ≡ gs
+
+append_same : (own more own' more' fs gs : List Fill) → fs ≡ own ++ more → gs ≡ own' ++ more' → own ≡ own' → more ≡ more' → fs ≡ gs
+append_same own more own' more' fs gs f g a b = cc
+
+-- one order's turn, where its order is found or not
+turn_same : (h : Header) (pair : ℕ) (S : State) (order : Resting) (orders : List Resting) (fs gs : List Fill) (o : Option Resting) → 0 < weight_of h pair → IsSound h S → SameTurns h pair orders → order_of S pair order.bank order.number ≡ o → TurnOf h pair S orders fs o → TurnOf h pair S orders gs o → fs ≡ gs
+turn_same h pair S order orders fs gs None some sound later is one other = later S fs gs sound one other
+turn_same h pair S order orders fs gs (Some now) some sound later is one other =
+    let own : List Fill = one.0 in
+    let t : Taker = taker_of_resting pair now in
+    let sender = turn-sender h S pair order.bank order.number now (turn_of h S pair order.bank order.number now sound is) in
+    let same_own : own ≡ other.0 = (swept-same h S t own other.0 one.2 other.2 sound sender some one.3 other.3).0 in
+    let next : IsSound h (filled_all S own) = (swept-sound h S t own one.2 sound sender some one.3).0 in
+    append_same own one.1 other.0 other.1 fs gs one.4 other.4 same_own
+    (later (filled_all S own) one.1 other.1 next one.5
+    (subst (λ (fills : List Fill). Turned h pair (filled_all S fills) orders other.1) (sym same_own) other.5))
+
+-- a pair's turns determine their fills
+pub turned-same : (h : Header) (pair : ℕ) (orders : List Resting) → 0 < weight_of h pair → SameTurns h pair orders
+turned-same h pair [] some S fs gs sound one other = one ∙ sym other
+turned-same h pair (order ∷ orders) some S fs gs sound one other =
+    turn_same h pair S order orders fs gs (order_of S pair order.bank order.number) some sound (turned-same h pair orders some) refl one other
+
+pub pairs_turned-same : (h : Header) (pairs pair : ℕ) (S : State) (fs gs : List Fill) → IsSession h → pair + pairs ≤ pair_count h → IsSound h S → PairsTurned h pairs pair S fs → PairsTurned h pairs pair S gs → fs ≡ gs
+pairs_turned-same h zero pair S fs gs session within sound one other = one ∙ sym other
+pairs_turned-same h (suc pairs) pair S fs gs session within sound one other =
+    let own : List Fill = one.0 in
+    let some : 0 < weight_of h pair = weight_of-least h pair session (omega arith) in
+    let same_own : own ≡ other.0 = turned-same h pair (orders_in pair S.orders) some S own other.0 sound one.2 other.2 in
+    let next : IsSound h (filled_all S own) = turned-sound h pair S (orders_in pair S.orders) own some sound one.2 in
+    append_same own one.1 other.0 other.1 fs gs one.3 other.3 same_own
+    (pairs_turned-same h pairs (pair + 1) (filled_all S own) one.1 other.1 session (omega arith) next one.4
+    (subst (λ (fills : List Fill). PairsTurned h pairs (pair + 1) (filled_all S fills) other.1) (sym same_own) other.4))
+
+-- with one limit set, the fills are the same
+raised_same : (h : Header) (S : State) (bank other limit limit' : ℕ) (fs gs : List Fill) → IsSession h → IsSound h (limited bank other limit S) → limit ≡ limit' → Raised h (limited bank other limit S) fs → Raised h (limited bank other limit' S) gs → LineSet limit fs ≡ LineSet limit' gs
+raised_same h S bank other limit limit' fs gs session sound same one two =
+    let fills : fs ≡ gs = pairs_turned-same h (pair_count h) 0 (limited bank other limit S) fs gs session (omega arith) sound one
+    (subst (λ l. Raised h (limited bank other l S) gs) (sym same) two) in cc
+
+line_same : (h : Header) (S : State) (bank other asked : ℕ) (one two : Outcome) → IsSession h → IsSound h S → bank < bank_count h → IsCommand (bank_count h) (pair_count h) bank (Line other asked) → IsOutcome h S bank (Line other asked) one → IsOutcome h S bank (Line other asked) two → one ≡ two
+line_same h S bank other asked (LineSet limit fs) (LineSet limit' gs) session sound sender valid a b =
+    raised_same h S bank other limit limit' fs gs session
+    (limited-sound h S bank other asked limit sound sender valid.0 valid.1 valid.2 a.0) (a.0 ∙ sym b.0) a.1 b.1
+line_same h S bank other asked (LineSet limit fs) two session sound sender valid a b = absurd b
+line_same h S bank other asked one two session sound sender valid a b = absurd a
+
+-- state, bank and pair determine a side of a local book
+pub shows-same : (h : Header) (S : State) (bank pair : ℕ) (side : Side) (levels levels' : List Level) → IsSound h S → bank < bank_count h → 0 < weight_of h pair → Shows h S bank pair side levels → Shows h S bank pair side levels' → levels ≡ levels'
+shows-same h S bank pair side levels levels' sound sender some one other =
+    let same : one.0 ≡ other.0 = (swept-same h S (unlimited S bank pair side) one.0 other.0 one.1 other.1 sound sender some one.2 other.2).0 in
+    one.3 ∙ ap (λ (fills : List Fill). take 10 (levels_of fills)) same ∙ sym other.3
+
+depth_same : (bids asks bids' asks' : List Level) → bids ≡ bids' → asks ≡ asks' → Depth bids asks ≡ Depth bids' asks'
+depth_same bids asks bids' asks' a b = cc
+
+book_same : (h : Header) (S : State) (bank pair : ℕ) (one two : Outcome) → IsSound h S → bank < bank_count h → 0 < weight_of h pair → IsOutcome h S bank (Book pair) one → IsOutcome h S bank (Book pair) two → one ≡ two
+book_same h S bank pair (Depth bids asks) (Depth bids' asks') sound sender some a b =
+    depth_same bids asks bids' asks'
+    (shows-same h S bank pair Sell bids bids' sound sender some a.sells b.sells)
+    (shows-same h S bank pair Buy asks asks' sound sender some a.buys b.buys)
+book_same h S bank pair (Depth bids asks) two sound sender some a b = absurd b
+book_same h S bank pair one two sound sender some a b = absurd a
 
 -- state and command determine the outcome
 pub outcome-same : (h : Header) (S : State) (bank : ℕ) (command : Command) (one other : Outcome) → IsSession h → IsSound h S → bank < bank_count h → IsCommand (bank_count h) (pair_count h) bank command → IsOutcome h S bank command one → IsOutcome h S bank command other → one ≡ other
 outcome-same h S bank (Order side pair price lots life) one other session sound sender valid a b =
     ordered-same h S (taker_of S bank side pair price lots) life one other sound sender (weight_of-least h pair session valid.0) a b
-outcome-same h S bank (Bad reason) one other session sound sender valid a b = rejected_same reason one other h S bank a b
-outcome-same h S bank command one other session sound sender valid a b = absurd a
+outcome-same h S bank (Line to asked) one other session sound sender valid a b = line_same h S bank to asked one other session sound sender valid a b
+outcome-same h S bank (Book pair) one other session sound sender valid a b = book_same h S bank pair one other sound sender (weight_of-least h pair session valid) a b
+outcome-same h S bank command one other session sound sender valid a b = a ∙ sym b

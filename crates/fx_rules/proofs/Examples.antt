@@ -21,17 +21,17 @@ use Rattle.fx_rules.specs.declared.outcome.Outcome.TheVariants.{Ordered, Killed}
 
 -- Three banks, 0 to 2, and one pair at 100 credit units a lot. Banks 0 and 1 have a line of 250, 0 and 2 of 100; 1 and
 -- 2 have none.
-abbrev pair : PairRule
+abbrev pub pair : PairRule
 pair = record { base = 69 ∷ 85 ∷ 82 ∷ []; quote = 85 ∷ 83 ∷ 68 ∷ []; decimals = 5; lot = 1000000; weight = 100 }
 
-abbrev header : Header
+abbrev pub header : Header
 header = record { banks = [] ∷ [] ∷ [] ∷ []; pairs = pair ∷ []; limits = 0 ∷ 250 ∷ 100 ∷ 250 ∷ 0 ∷ 0 ∷ 100 ∷ 0 ∷ 0 ∷ [] }
 
-abbrev sell : ℕ → ℕ → ℕ → ℕ → ℕ → ActiveOrder
+abbrev pub sell : ℕ → ℕ → ℕ → ℕ → ℕ → ActiveOrder
 sell bank number price left arrival = record { pair = 0; order = record { bank = bank; number = number; side = Sell; price = price; left = left; arrival = arrival } }
 
 -- bank 1 sells 3 lots at 20, bank 2 one at 10, and bank 0 one at 5 itself
-abbrev market : State
+abbrev pub market : State
 market = record {
   orders = sell 1 1 20 3 0 ∷ sell 2 1 10 2 1 ∷ sell 0 1 5 1 2 ∷ [];
   limits = opening_limit header;
@@ -40,10 +40,10 @@ market = record {
 }
 
 -- bank 0 buys 4 lots at 20
-abbrev buyer : Taker
+abbrev pub buyer : Taker
 buyer = record { bank = 0; number = 2; pair = 0; side = Buy; price = 20; left = 4; arrival = 3 }
 
-abbrev fill : ℕ → ℕ → ℕ → Fill
+abbrev pub fill : ℕ → ℕ → ℕ → Fill
 fill maker price lots = record {
   pair = 0;
   taker = 0;
@@ -66,11 +66,11 @@ reaches_of_two = refl
 opens : open_orders header market buyer ≡ (sell 1 1 20 3 0).order ∷ (sell 2 1 10 2 1).order ∷ []
 opens = refl
 
-abbrev taken : List Fill
+abbrev pub taken : List Fill
 taken = fill 2 10 1 ∷ fill 1 20 2 ∷ []
 
 -- It takes one lot of bank 2 at 10, as far as the line goes, then two of bank 1 at 20, and has one left.
-takes : Swept header market buyer taken 1
+pub takes : Swept header market buyer taken 1
 takes = (
   (sell 2 1 10 2 1).order,
   omega arith,
@@ -161,7 +161,7 @@ earlier_first f fs left swept = elim swept.2.there [
 ]
 
 -- A buy that could trade with a resting sell does not rest beside it.
-abbrev buy : ℕ → ℕ → ℕ → ℕ → ℕ → ActiveOrder
+abbrev pub buy : ℕ → ℕ → ℕ → ℕ → ℕ → ActiveOrder
 buy bank number price left arrival = record { pair = 0; order = record { bank = bank; number = number; side = Buy; price = price; left = left; arrival = arrival } }
 
 crossed : NoCross header (record market { orders = sell 1 1 20 1 0 ∷ buy 0 1 20 1 1 ∷ [] }) → ⊥

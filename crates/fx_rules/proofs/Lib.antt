@@ -2,6 +2,9 @@ pub mod ListLemmas
 pub mod Lowering
 pub mod Credit
 pub mod Opens
+pub mod SweepSound
+pub mod RaiseSound
+pub mod PlainSound
 pub mod Soundness
 pub mod Preference
 pub mod Planning
@@ -10,5 +13,22 @@ pub mod Determined
 pub mod NamesLemmas
 pub mod SessionLemmas
 pub mod Continuing
+pub mod Falling
+pub mod Staying
 mod Examples
+mod RaiseExamples
+pub mod Following
+pub mod Settling
 pub mod Uncrossed
+pub mod Levels
+pub mod ViewLists
+pub mod ViewOpen
+pub mod ViewFill
+pub mod ViewSweep
+pub mod ViewTold
+pub mod ViewCommands
+pub mod ViewHidden
+pub mod ViewRaise
+pub mod Truth
+mod KeyedExamples
+pub mod KeyedLemmas

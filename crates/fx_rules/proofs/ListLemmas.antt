@@ -115,3 +115,19 @@ Each-map P f (x ∷ xs) all = (all.0, Each-map P f xs all.1)
 pub EachPair-map : {X Y : Type 0} (R : Y → Y → Type 0) (f : X → Y) (xs : List X) → EachPair (λ a b. R (f a) (f b)) xs → EachPair R (map f xs)
 EachPair-map R f [] pairs = tt
 EachPair-map R f (x ∷ xs) pairs = (Each-map (R (f x)) f xs pairs.0, EachPair-map R f xs pairs.1)
+
+pub Each-of : {X : Type 0} (P : X → Type 0) (xs : List X) → ((x : X) → Among x xs → P x) → Each P xs
+Each-of P [] holds = tt
+Each-of P (x ∷ xs) holds = (holds x (inl refl), Each-of P xs (λ y there. holds y (inr there)))
+
+pub Each-first : {X : Type 0} (P : X → Type 0) (xs ys : List X) → Each P (xs ++ ys) → Each P xs
+Each-first P [] ys all = tt
+Each-first P (x ∷ xs) ys all = (all.0, Each-first P xs ys all.1)
+
+pub EachPair-first : {X : Type 0} (R : X → X → Type 0) (xs ys : List X) → EachPair R (xs ++ ys) → EachPair R xs
+EachPair-first R [] ys pairs = tt
+EachPair-first R (x ∷ xs) ys pairs = (Each-first (R x) xs ys pairs.0, EachPair-first R xs ys pairs.1)
+
+pub Each-both : {X : Type 0} (P Q R : X → Type 0) → ((x : X) → P x → Q x → R x) → (xs : List X) → Each P xs → Each Q xs → Each R xs
+Each-both P Q R makes [] ps qs = tt
+Each-both P Q R makes (x ∷ xs) ps qs = (makes x ps.0 qs.0, Each-both P Q R makes xs ps.1 qs.1)

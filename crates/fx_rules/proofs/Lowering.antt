@@ -1,7 +1,8 @@
 -- What lowering an order leaves of a book.
-use Rattle.std.proofs.Common.{ℕ, ◌-◌, ◌≤◌, ◌<◌, cond, List, [], ◌∷◌, arith, ltb}
-use Rattle.std.proofs.lemmas.Bool.{cond_both, ltb-true}
+use Rattle.std.proofs.Common.{ℕ, ◌≡◌, true, eqb, ◌-◌, ◌≤◌, ◌<◌, cond, List, [], ◌∷◌, arith, ltb}
+use Rattle.std.proofs.lemmas.Bool.{cond_both, ltb-true, and_parts, and_from, eqb-true, eq-eqb}
 use Rattle.fx_rules.specs.declared.orders.ActiveOrder.{ActiveOrder}
+use Rattle.fx_rules.specs.declared.orders.Resting.{Resting}
 use Rattle.fx_rules.specs.Lists.{Each, EachPair}
 use Rattle.fx_rules.specs.Sweep.{lowered, with_left, is_order}
 use Rattle.fx_rules.specs.Sound.{Rises}
@@ -39,3 +40,13 @@ rising-lowered bank number lots (a ∷ rest) rising =
     ))
     (λ _. rising.1))
     (λ _. (Each-lowered (Rises a) (before_lowered a) bank number lots rest rising.0, rising-lowered bank number lots rest rising.1))
+
+-- what it says that an order is the one of a bank and number
+pub is_order-says : (bank number : ℕ) (o : Resting) → is_order bank number o ≡ true → (o.bank ≡ bank) × (o.number ≡ number)
+is_order-says bank number o is =
+    let both = and_parts (eqb o.bank bank) (eqb o.number number) is in
+    (eqb-true o.bank bank both.0, eqb-true o.number number both.1)
+
+pub is_order-from : (bank number : ℕ) (o : Resting) → o.bank ≡ bank → o.number ≡ number → is_order bank number o ≡ true
+is_order-from bank number o owner command =
+    and_from (eqb o.bank bank) (eqb o.number number) (eq-eqb o.bank bank owner) (eq-eqb o.number number command)

@@ -50,11 +50,11 @@ open_own t r o own = false_from_ne_true (is_open t r o) (λ h. (is_open-says t r
 
 -- Tests of the orders of one pair, head by head.
 
-orders_in-here : (pair : ℕ) (a : ActiveOrder) (orders : List ActiveOrder) → eqb a.pair pair ≡ true → orders_in pair (a ∷ orders) ≡ a.order ∷ orders_in pair orders
+pub orders_in-here : (pair : ℕ) (a : ActiveOrder) (orders : List ActiveOrder) → eqb a.pair pair ≡ true → orders_in pair (a ∷ orders) ≡ a.order ∷ orders_in pair orders
 orders_in-here pair a orders here =
     ap (map (λ (b : ActiveOrder). b.order)) (filter_cons_true (λ (b : ActiveOrder). eqb b.pair pair) a orders here)
 
-orders_in-there : (pair : ℕ) (a : ActiveOrder) (orders : List ActiveOrder) → eqb a.pair pair ≡ false → orders_in pair (a ∷ orders) ≡ orders_in pair orders
+pub orders_in-there : (pair : ℕ) (a : ActiveOrder) (orders : List ActiveOrder) → eqb a.pair pair ≡ false → orders_in pair (a ∷ orders) ≡ orders_in pair orders
 orders_in-there pair a orders there =
     ap (map (λ (b : ActiveOrder). b.order)) (filter_cons_false (λ (b : ActiveOrder). eqb b.pair pair) a orders there)
 

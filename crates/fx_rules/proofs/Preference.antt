@@ -18,7 +18,7 @@ better_trans : (side : Side) (a b c : ℕ) → is_better side a b ≡ true → i
 better_trans Buy a b c f g = lt-ltb a c (omega (arith, ltb-true a b f, ltb-true b c g))
 better_trans Sell a b c f g = lt-ltb c a (omega (arith, ltb-true b a f, ltb-true c b g))
 
-better_self : (side : Side) (a : ℕ) → is_better side a a ≡ false
+pub better_self : (side : Side) (a : ℕ) → is_better side a a ≡ false
 better_self Buy a = le-ltb a a (omega arith)
 better_self Sell a = le-ltb a a (omega arith)
 

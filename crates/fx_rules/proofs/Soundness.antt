@@ -1,76 +1,33 @@
 -- Every state of a legal history is sound.
-use Rattle.std.proofs.Common.{get_or-set_same as get_or_set_here, ℕ, zero, suc, ◌≡◌, ◌+◌, ◌-◌, ◌*◌, ◌≤◌, ◌<◌, ltb, List, [], ◌∷◌, ◌++◌, refl, ap, sym, subst, ◌∙◌, arith, map, length, get_or}
+use Rattle.std.proofs.Common.{get_or-set_same as get_or_set_here, ℕ, zero, suc, ◌≡◌, ◌+◌, ◌-◌, ◌*◌, ◌≤◌, ◌<◌, ltb, List, [], ◌∷◌, ◌++◌, not, ◌&&◌, eqb, refl, ap, sym, subst, ◌∙◌, arith, length, get_or}
 use Rattle.std.proofs.Math.ListN.{set, length-set}
 use Rattle.std.proofs.lemmas.Bool.{cond_both, ltb-true}
 use Rattle.std.proofs.lemmas.List.{length-replicate}
-use Rattle.std.proofs.lemmas.List.Elements.{recursion_from_All}
 use Rattle.std.proofs.Math.Nat.{mul-le-mul_left}
 use Rattle.fx_amounts.specs.declared.side.Side.{Side}
 use Rattle.fx_amounts.specs.Price.{IsPrice}
-use Rattle.fx_amounts.specs.Quantity.{IsUnits}
+use Rattle.fx_amounts.specs.Quantity.{IsLots, IsUnits}
 use Rattle.fx_rules.specs.declared.orders.ActiveOrder.{ActiveOrder}
-use Rattle.fx_rules.specs.declared.orders.Resting.{Resting}
 use Rattle.fx_rules.specs.declared.orders.Fill.{Fill}
 use Rattle.fx_rules.specs.declared.command.Command.{Command}
-use Rattle.fx_rules.specs.declared.command.Command.TheVariants.{Order, Bad}
+use Rattle.fx_rules.specs.declared.command.Command.TheVariants.{Order, Cancel, Reduce, Pull, Line, Show, Book, Bad}
 use Rattle.fx_rules.specs.declared.command.Life.{Life}
 use Rattle.fx_rules.specs.declared.command.Life.TheVariants.{Day, Ioc, Fok}
 use Rattle.fx_rules.specs.declared.outcome.Outcome.{Outcome}
-use Rattle.fx_rules.specs.declared.outcome.Outcome.TheVariants.{Ordered, Killed}
+use Rattle.fx_rules.specs.declared.outcome.Outcome.TheVariants.{Ordered, Killed, Cancelled, Reduced, Pulled, LineSet}
 use Rattle.fx_rules.specs.declared.outcome.Entry.{Entry}
-use Rattle.fx_rules.specs.declared.session.PairRule.{PairRule}
-use Rattle.fx_rules.specs.Lists.{Each, total}
-use Rattle.fx_rules.specs.Session.{Header, IsSession, IsPairRule, bank_count, pair_count, weight_of, opening_limit}
-use Rattle.fx_rules.specs.State.{State, opening, arrivals, count_of, reach}
-use Rattle.fx_rules.specs.Sweep.{Taker, Swept, filled, filled_all, less, lowered, with_left, fill_with, amount}
-use Rattle.fx_rules.specs.Step.{IsCommand, IsOrdered, IsOutcome, taker_of, rested, counted, after}
+use Rattle.fx_rules.specs.Lists.{total}
+use Rattle.fx_rules.specs.Session.{Header, IsSession, bank_count, pair_count, weight_of, opening_limit}
+use Rattle.fx_rules.specs.State.{State, opening, arrivals, count_of}
+use Rattle.fx_rules.specs.Sweep.{Taker, Swept, filled_all, is_order}
+use Rattle.fx_rules.specs.Raise.{limited, order_of}
+use Rattle.fx_rules.specs.Step.{IsCommand, IsOrdered, IsOutcome, taker_of, rested, counted, changed, after}
 use Rattle.fx_rules.specs.History.{IsStep, Steps, IsLegal, after_entry, after_all, state}
 use Rattle.fx_rules.specs.Sound.{IsSound, IsKept, Rises}
 use Rattle.fx_rules.proofs.ListLemmas.{Each-append, Each-weaker, EachPair-push, total-set}
-use Rattle.fx_rules.proofs.Lowering.{Each-lowered, rising-lowered}
-use Rattle.fx_rules.proofs.Credit.{IsAllowed, Within-filled}
-use Rattle.fx_rules.proofs.Opens.{allowed-open}
-
-kept_less : (h : Header) (counts : List ℕ) (a : ActiveOrder) (left : ℕ) → IsKept h counts a → 1 ≤ left → left ≤ a.order.left → IsKept h counts (with_left a left)
-kept_less h counts a left kept least most = record {
-  pair = kept.pair;
-  bank = kept.bank;
-  number_least = kept.number_least;
-  number_most = kept.number_most;
-  price = kept.price;
-  left = (least, omega (arith, kept.left.1));
-  arrival = kept.arrival;
-}
-
-pub filled-sound : (h : Header) (S : State) (f : Fill) → IsSound h S → IsAllowed h S f → IsSound h (filled S f)
-filled-sound h S f sound allowed = record {
-  counts = sound.counts;
-  kept = Each-lowered (IsKept h S.counts) (kept_less h S.counts) f.taker f.taker_number f.lots (lowered f.maker f.maker_number f.lots S.orders)
-      (Each-lowered (IsKept h S.counts) (kept_less h S.counts) f.maker f.maker_number f.lots S.orders sound.kept);
-  rising = rising-lowered f.taker f.taker_number f.lots (lowered f.maker f.maker_number f.lots S.orders)
-      (rising-lowered f.maker f.maker_number f.lots S.orders sound.rising);
-  within = Within-filled h S f sound.within allowed;
-  limits = sound.limits;
-}
-
--- a sweep keeps a state sound, and takes no more than the taker has
-pub swept-sound : (h : Header) (S : State) (t : Taker) (fills : List Fill) (left : ℕ) → IsSound h S → t.bank < bank_count h → 0 < weight_of h t.pair → Swept h S t fills left → IsSound h (filled_all S fills) × (left ≤ t.left)
-swept-sound h S t [] left sound bank some swept = (sound, omega (arith, swept.0))
-swept-sound h S t (f ∷ fills) left sound bank some swept =
-    let best : Resting = swept.0 in
-    let allowed : IsAllowed h S (fill_with t best (amount t best (reach h S t.bank best.bank t.pair))) =
-    allowed-open h S t best sound bank some swept.1 swept.2.there in
-    let next = swept-sound h (filled S f) (less t f.lots) fills left
-    (filled-sound h S f sound (subst (IsAllowed h S) (sym swept.3) allowed)) bank some swept.4 in
-    (next.0, omega (arith, next.1))
-
-pub counts-filled_all : (S : State) (fills : List Fill) → (filled_all S fills).counts ≡ S.counts
-counts-filled_all S [] = refl
-counts-filled_all S (f ∷ fills) = counts-filled_all (filled S f) fills
-
-pub limits-filled_all : (S : State) (fills : List Fill) → (filled_all S fills).limits ≡ S.limits
-limits-filled_all S [] = refl
-limits-filled_all S (f ∷ fills) = limits-filled_all (filled S f) fills
+use Rattle.fx_rules.proofs.RaiseSound.{limited-sound, raised-sound}
+use Rattle.fx_rules.proofs.PlainSound.{fewer-sound, reduced-sound, reduced_to}
+pub use Rattle.fx_rules.proofs.SweepSound.{filled-sound, swept-sound, counts-filled_all, limits-filled_all, filled_all-append, weight_of-least}
 
 -- a count that is raised lets no count fall
 set_more : (counts : List ℕ) (i j : ℕ) → get_or counts j 0 ≤ get_or (set counts i (get_or counts i 0 + 1)) j 0
@@ -173,15 +130,6 @@ swept_rested h S t fills left rests sound next some most swept within =
     rested-sound h (filled_all S fills) t rests (swept-sound h S t fills left sound next.bank some swept).0
     (next_same h S (filled_all S fills) t (counts-filled_all S fills) next) (omega arith)
 
--- each pair's weight is above 0
-pub weight-least : (rules : List PairRule) (pair : ℕ) → Each IsPairRule rules → pair < length rules → 0 < get_or (map (λ (rule : PairRule). rule.weight) rules) pair 0
-weight-least [] pair all within = absurd (omega arith)
-weight-least (rule ∷ rules) zero all within = omega (arith, all.0.weight_least)
-weight-least (rule ∷ rules) (suc pair) all within = weight-least rules pair all.1 (omega arith)
-
-pub weight_of-least : (h : Header) (pair : ℕ) → IsSession h → pair < pair_count h → 0 < weight_of h pair
-weight_of-least h pair session within = weight-least h.pairs pair (recursion_from_All IsPairRule h.pairs session.rules) within
-
 -- the next order command of a bank
 pub taker_of-next : (h : Header) (S : State) (bank : ℕ) (side : Side) (pair price lots : ℕ) (life : Life) → bank < bank_count h → IsCommand (bank_count h) (pair_count h) bank (Order side pair price lots life) → IsNext h S (taker_of S bank side pair price lots)
 taker_of-next h S bank side pair price lots life sender command = record {
@@ -205,10 +153,41 @@ ordered-sound h S bank side pair price lots Fok (Ordered done rests fills) sessi
 ordered-sound h S bank side pair price lots Fok Killed session sound sender command ordered = counted-sound h S bank sound sender
 ordered-sound h S bank side pair price lots life outcome session sound sender command ordered = absurd ordered
 
+-- a line command leaves a sound state
+line-sound : (h : Header) (S : State) (bank other asked : ℕ) (outcome : Outcome) → IsSession h → IsSound h S → bank < bank_count h → IsCommand (bank_count h) (pair_count h) bank (Line other asked) → IsOutcome h S bank (Line other asked) outcome → IsSound h (changed S bank (Line other asked) outcome)
+line-sound h S bank other asked (LineSet limit fills) session sound sender command is =
+    raised-sound h (limited bank other limit S) fills session
+    (limited-sound h S bank other asked limit sound sender command.0 command.1 command.2 is.0) is.1
+line-sound h S bank other asked outcome session sound sender command is = absurd is
+
+cancel-sound : (h : Header) (S : State) (bank pair number : ℕ) (outcome : Outcome) → IsSound h S → IsSound h (changed S bank (Cancel pair number) outcome)
+cancel-sound h S bank pair number (Cancelled left) sound = fewer-sound h S (λ active. not (is_order bank number active.order)) sound
+cancel-sound h S bank pair number outcome sound = sound
+
+reduce-sound : (h : Header) (S : State) (bank pair number lots : ℕ) (outcome : Outcome) → IsSound h S → IsLots lots → IsOutcome h S bank (Reduce pair number lots) outcome → IsSound h (changed S bank (Reduce pair number lots) outcome)
+reduce-sound h S bank pair number lots (Reduced left) sound valid is =
+    reduced-sound h S bank number left sound (subst IsLots (sym (reduced_to lots left (order_of S pair bank number) is)) valid)
+reduce-sound h S bank pair number lots outcome sound valid is = sound
+
+pull-sound : (h : Header) (S : State) (bank pair : ℕ) (outcome : Outcome) → IsSound h S → IsSound h (changed S bank (Pull pair) outcome)
+pull-sound h S bank pair (Pulled count) sound = fewer-sound h S (λ active. not (eqb active.pair pair && eqb active.order.bank bank)) sound
+pull-sound h S bank pair outcome sound = sound
+
+-- each command leaves a sound state
 pub after-sound : (h : Header) (S : State) (bank : ℕ) (command : Command) (outcome : Outcome) → IsSession h → IsSound h S → bank < bank_count h → IsCommand (bank_count h) (pair_count h) bank command → IsOutcome h S bank command outcome → IsSound h (after S bank command outcome)
-after-sound h S bank (Order side pair price lots life) outcome session sound sender valid is = ordered-sound h S bank side pair price lots life outcome session sound sender valid is
+after-sound h S bank (Order side pair price lots life) outcome session sound sender valid is =
+    ordered-sound h S bank side pair price lots life outcome session sound sender valid is
+after-sound h S bank (Cancel pair number) outcome session sound sender valid is =
+    counted-sound h (changed S bank (Cancel pair number) outcome) bank (cancel-sound h S bank pair number outcome sound) sender
+after-sound h S bank (Reduce pair number lots) outcome session sound sender valid is =
+    counted-sound h (changed S bank (Reduce pair number lots) outcome) bank (reduce-sound h S bank pair number lots outcome sound valid.2 is) sender
+after-sound h S bank (Pull pair) outcome session sound sender valid is =
+    counted-sound h (changed S bank (Pull pair) outcome) bank (pull-sound h S bank pair outcome sound) sender
+after-sound h S bank (Line other asked) outcome session sound sender valid is =
+    counted-sound h (changed S bank (Line other asked) outcome) bank (line-sound h S bank other asked outcome session sound sender valid is) sender
+after-sound h S bank (Show other) outcome session sound sender valid is = counted-sound h S bank sound sender
+after-sound h S bank (Book pair) outcome session sound sender valid is = counted-sound h S bank sound sender
 after-sound h S bank (Bad reason) outcome session sound sender valid is = counted-sound h S bank sound sender
-after-sound h S bank command outcome session sound sender valid is = absurd is
 
 limit_place : (n i j : ℕ) → i < n → j < n → i * n + j < n * n
 limit_place n i j i_in j_in = omega (arith, mul-le-mul_left n i_in)

@@ -1,103 +1,35 @@
 -- In no state of a legal history do orders rest crossed that can reach each other.
-use Rattle.std.proofs.Common.{ℕ, ◌≡◌, ◌≢◌, ◌-◌, ◌/◌, ◌≤◌, ◌<◌, eqb, ltb, true, false, if◌then◌else◌, List, [], ◌∷◌, ◌++◌, map, ◌⊎◌, inl, inr, refl, ap, sym, subst, ◌∙◌, arith}
+use Rattle.std.proofs.Common.{ℕ, ◌≡◌, ◌≢◌, ◌-◌, ◌≤◌, ◌<◌, Bool, not, ◌&&◌, eqb, ltb, true, false, List, [], ◌∷◌, ◌++◌, ◌⊎◌, inl, inr, refl, ap, sym, subst, ◌∙◌, arith}
 use Rattle.std.specs.List.{filter}
-use Rattle.std.proofs.lemmas.Bool.{cond_both, ltb-true, leb-false, eq-eqb, false_from_ne_true}
+use Rattle.std.proofs.lemmas.Bool.{cond_both, ltb-true, leb-false}
 use Rattle.fx_amounts.specs.declared.side.Side.{Side}
 use Rattle.fx_amounts.specs.declared.side.Side.TheVariants.{Buy, Sell}
+use Rattle.fx_amounts.specs.Price.{crosses}
 use Rattle.fx_rules.specs.declared.orders.ActiveOrder.{ActiveOrder}
 use Rattle.fx_rules.specs.declared.orders.Resting.{Resting}
 use Rattle.fx_rules.specs.declared.orders.Fill.{Fill}
-use Rattle.fx_rules.specs.Lists.{Among}
-use Rattle.fx_rules.specs.Session.{Header, IsSession, bank_count, pair_count, weight_of}
-use Rattle.fx_amounts.specs.Price.{crosses}
-use Rattle.fx_rules.specs.State.{State, opening, line, reach, orders_in}
-use Rattle.fx_rules.specs.Sweep.{Taker, Swept, filled, filled_all, lowered, is_order, is_open, is_opposite, open_orders, less, with_left}
-use Rattle.fx_rules.specs.Sound.{IsSound, IsKept}
-use Rattle.fx_rules.specs.NoCross.{NoCross}
-use Rattle.fx_rules.proofs.ListLemmas.{Each-among, among_filter}
-use Rattle.fx_rules.proofs.Credit.{used-filled, cost_between-swap}
-use Rattle.fx_rules.proofs.Opens.{orders_in-among}
-use Rattle.fx_rules.proofs.Planning.{div_mono, open_parts}
-use Rattle.fx_rules.specs.Step.{IsCommand, IsOrdered, IsOutcome, taker_of, rested, counted, after}
-use Rattle.fx_rules.specs.History.{Steps, IsLegal, after_entry, after_all, state}
 use Rattle.fx_rules.specs.declared.command.Command.{Command}
-use Rattle.fx_rules.specs.declared.command.Command.TheVariants.{Order, Bad}
+use Rattle.fx_rules.specs.declared.command.Command.TheVariants.{Order, Cancel, Reduce, Pull, Line, Show, Book, Bad}
 use Rattle.fx_rules.specs.declared.command.Life.{Life}
 use Rattle.fx_rules.specs.declared.command.Life.TheVariants.{Day, Ioc, Fok}
 use Rattle.fx_rules.specs.declared.outcome.Outcome.{Outcome}
-use Rattle.fx_rules.specs.declared.outcome.Outcome.TheVariants.{Ordered, Killed}
+use Rattle.fx_rules.specs.declared.outcome.Outcome.TheVariants.{Ordered, Killed, Cancelled, Reduced, Pulled, LineSet}
 use Rattle.fx_rules.specs.declared.outcome.Entry.{Entry}
+use Rattle.fx_rules.specs.Lists.{Among}
+use Rattle.fx_rules.specs.Session.{Header, IsSession, bank_count, pair_count, weight_of}
+use Rattle.fx_rules.specs.State.{State, opening, reach, orders_in}
+use Rattle.fx_rules.specs.Sweep.{Taker, Swept, filled_all, is_order, is_opposite, open_orders, with_left}
+use Rattle.fx_rules.specs.Raise.{limited}
+use Rattle.fx_rules.specs.Step.{IsCommand, IsOrdered, IsOutcome, taker_of, rested, reduced, counted, changed, after}
+use Rattle.fx_rules.specs.History.{Steps, IsLegal, after_entry, after_all, state}
+use Rattle.fx_rules.specs.Sound.{IsSound, IsKept}
+use Rattle.fx_rules.specs.NoCross.{NoCross}
+use Rattle.fx_rules.proofs.ListLemmas.{Each-among}
+use Rattle.fx_rules.proofs.Opens.{orders_in-among}
+use Rattle.fx_rules.proofs.Following.{Follows, filled_all-follows, fewer-follows, reduced-follows, among_orders_in, pair_known, reach_falls, swept_end, reach_swap, crosses_none}
+use Rattle.fx_rules.proofs.RaiseSound.{limited-sound, raised-sound}
+use Rattle.fx_rules.proofs.Settling.{raised-uncrossed}
 use Rattle.fx_rules.proofs.Soundness.{IsNext, resting_of, swept-sound, next_same, counts-filled_all, taker_of-next, weight_of-least, after-sound, opening-sound}
-
--- an order of a pair's book stands in the list of all
-abbrev pub IsLess : ActiveOrder → ActiveOrder → Type 0
-IsLess after before = after ≡ with_left before after.order.left
-
--- each order that is left was there, with as much or more
-lowered_from : (bank number lots : ℕ) (orders : List ActiveOrder) (a : ActiveOrder) → Among a (lowered bank number lots orders) → (b : ActiveOrder) × Among b orders × IsLess a b
-lowered_from bank number lots [] a there = absurd there
-lowered_from bank number lots (b ∷ orders) a there =
-    cond_both (is_order bank number b.order)
-    (if ltb lots b.order.left then with_left b (b.order.left - lots) ∷ orders else orders) (b ∷ lowered bank number lots orders)
-    (λ os. Among a os → (c : ActiveOrder) × Among c (b ∷ orders) × IsLess a c)
-    (λ _. cond_both (ltb lots b.order.left) (with_left b (b.order.left - lots) ∷ orders) orders
-    (λ os. Among a os → (c : ActiveOrder) × Among c (b ∷ orders) × IsLess a c)
-    (λ _ among. elim among [
-      | inl is ↦ (b, inl refl, subst (λ q. IsLess q b) (sym is) refl)
-      | inr later ↦ (a, inr later, refl)
-    ])
-    (λ _ among. (a, inr among, refl)))
-    (λ _ among. elim among [
-      | inl is ↦ (b, inl refl, subst (λ q. IsLess q b) (sym is) refl)
-      | inr later ↦ let found = lowered_from bank number lots orders a later in (found.0, inr found.1, found.2)
-    ])
-    there
-
--- The second state came of the first: its orders were there, with as much left or more, and no line was less.
-record Follows (h : Header) (S S' : State) : Type 0 where
-  pub orders : (a : ActiveOrder) → Among a S'.orders → (b : ActiveOrder) × Among b S.orders × IsLess a b
-  pub lines : (i j : ℕ) → line h S' i j ≤ line h S i j
-
-less_trans : (a b c : ActiveOrder) → IsLess a b → IsLess b c → IsLess a c
-less_trans a b c ab bc = ab ∙ ap (λ (q : ActiveOrder). with_left q a.order.left) bc
-
-filled-follows : (h : Header) (S : State) (f : Fill) → Follows h S (filled S f)
-filled-follows h S f = record {
-  orders = λ a there.
-      let once = lowered_from f.taker f.taker_number f.lots (lowered f.maker f.maker_number f.lots S.orders) a there in
-      let twice = lowered_from f.maker f.maker_number f.lots S.orders once.0 once.1 in
-      (twice.0, twice.1, less_trans a once.0 twice.0 once.2 twice.2);
-  lines = λ i j. omega (arith, used-filled h S f i j);
-}
-
-follows-then : (h : Header) (S T U : State) → Follows h S T → Follows h T U → Follows h S U
-follows-then h S T U first next = record {
-  orders = λ a there.
-      let once = next.orders a there in
-      let twice = first.orders once.0 once.1 in
-      (twice.0, twice.1, less_trans a once.0 twice.0 once.2 twice.2);
-  lines = λ i j. omega (arith, first.lines i j, next.lines i j);
-}
-
-filled_all-follows : (h : Header) (S : State) (fills : List Fill) → Follows h S (filled_all S fills)
-filled_all-follows h S [] = record { orders = λ a there. (a, there, refl); lines = λ i j. omega arith }
-filled_all-follows h S (f ∷ fills) = follows-then h S (filled S f) (filled_all (filled S f) fills) (filled-follows h S f) (filled_all-follows h (filled S f) fills)
-
-among_map : {X Y : Type 0} (f : X → Y) (xs : List X) (x : X) → Among x xs → Among (f x) (map f xs)
-among_map f [] x there = absurd there
-among_map f (y ∷ xs) x (inl is) = inl (ap f is)
-among_map f (y ∷ xs) x (inr there) = inr (among_map f xs x there)
-
-among_orders_in : (pair : ℕ) (orders : List ActiveOrder) (a : ActiveOrder) → Among a orders → a.pair ≡ pair → Among a.order (orders_in pair orders)
-among_orders_in pair orders a there of_pair =
-    among_map (λ (q : ActiveOrder). q.order) (filter (λ (q : ActiveOrder). eqb q.pair pair) orders) a
-    (among_filter (λ (q : ActiveOrder). eqb q.pair pair) orders a there (eq-eqb a.pair pair of_pair))
-
-pair_known : (h : Header) (S : State) (a : ActiveOrder) → IsSession h → IsSound h S → Among a S.orders → 0 < weight_of h a.pair
-pair_known h S a session sound there = weight_of-least h a.pair session (Each-among (IsKept h S.counts) S.orders a sound.kept there).pair
-
-reach_falls : (h : Header) (S S' : State) (i j pair : ℕ) → 0 < weight_of h pair → line h S' i j ≤ line h S i j → reach h S' i j pair ≤ reach h S i j pair
-reach_falls h S S' i j pair some falls = div_mono (line h S' i j) (line h S i j) (weight_of h pair) some falls
 
 -- Where nothing rests crossed, nothing does in a state that came of it.
 uncrossed-follows : (h : Header) (S S' : State) → IsSession h → IsSound h S → Follows h S S' → NoCross h S → NoCross h S'
@@ -122,14 +54,6 @@ uncrossed-follows h S S' session sound follows uncrossed pair b s b_rests s_rest
     (λ same. others (b_bank ∙ same ∙ sym s_bank)) (omega (arith, reached_now, falls)) in
     omega (arith, below, ap (λ (q : Resting). q.price) b_is, ap (λ (q : Resting). q.price) s_is)
 
--- at its end a taker has nothing left, or nothing is open to it
-swept_end : (h : Header) (S : State) (t : Taker) (fills : List Fill) (left : ℕ) → Swept h S t fills left → (left ≡ 0) ⊎ (open_orders h (filled_all S fills) t ≡ [])
-swept_end h S t [] left swept = elim swept.1 [
-  | inl none_left ↦ inl (swept.0 ∙ none_left)
-  | inr none_open ↦ inr none_open
-]
-swept_end h S t (f ∷ fills) left swept = swept_end h (filled S f) (less t f.lots) fills left swept.4
-
 among_push : {X : Type 0} (xs : List X) (y x : X) → Among x (xs ++ y ∷ []) → Among x xs ⊎ (x ≡ y)
 among_push [] y x (inl is) = inr is
 among_push [] y x (inr none) = absurd none
@@ -139,40 +63,22 @@ among_push (z ∷ xs) y x (inr there) = elim (among_push xs y x there) [
   | inr is ↦ inr is
 ]
 
-line_swap : (h : Header) (S : State) (i j : ℕ) → line h S i j ≡ line h S j i
-line_swap h S i j = omega (arith, cost_between-swap h i j S.fills)
-
-reach_swap : (h : Header) (S : State) (i j pair : ℕ) → reach h S i j pair ≡ reach h S j i pair
-reach_swap h S i j pair = ap (λ l. l / weight_of h pair) (line_swap h S i j)
-
--- where nothing is open to a taker, it crosses no order of the other side that it can reach
-crosses_none : (h : Header) (S : State) (t : Taker) (a : ActiveOrder) → IsSound h S → IsNext h S t → open_orders h S t ≡ [] → Among a S.orders → a.pair ≡ t.pair → is_opposite t.side a.order.side ≡ true → a.order.bank ≢ t.bank → 1 ≤ reach h S t.bank a.order.bank t.pair → crosses t.side t.price a.order.price ≡ false
-crosses_none h S t a sound next none_open there of_pair opposite other reached =
-    false_from_ne_true (crosses t.side t.price a.order.price) (λ crossing.
-    let kept = Each-among (IsKept h S.counts) S.orders a sound.kept there in
-    let is = open_parts t (reach h S t.bank a.order.bank t.pair) a.order (record {
-      opposite = opposite;
-      other = other;
-      reach = reached;
-      crosses = crossing;
-      earlier = omega (arith, kept.arrival, next.arrival);
-    }) in
-    let found = among_filter (λ (q : Resting). is_open t (reach h S t.bank q.bank t.pair) q) (orders_in t.pair S.orders) a.order
-    (among_orders_in t.pair S.orders a there of_pair) is in
-    absurd (subst (Among a.order) none_open found))
+before_taker : (h : Header) (S : State) (t : Taker) (a : ActiveOrder) → IsSound h S → IsNext h S t → Among a S.orders → a.order.arrival < t.arrival
+before_taker h S t a sound next there =
+    let kept = Each-among (IsKept h S.counts) S.orders a sound.kept there in omega (arith, kept.arrival, next.arrival)
 
 -- a buy that comes to rest
 below_old_sell : (h : Header) (S : State) (t : Taker) (a : ActiveOrder) → IsSound h S → IsNext h S t → open_orders h S t ≡ [] → Among a S.orders → a.pair ≡ t.pair → t.side ≡ Buy → a.order.side ≡ Sell → a.order.bank ≢ t.bank → 1 ≤ reach h S t.bank a.order.bank t.pair → t.price < a.order.price
 below_old_sell h S t a sound next none_open there of_pair buys sells other reached =
     let opposite : is_opposite t.side a.order.side ≡ true = subst (λ side. is_opposite t.side side ≡ true) (sym sells) (subst (λ side. is_opposite side Sell ≡ true) (sym buys) refl) in
-    let none : crosses t.side t.price a.order.price ≡ false = crosses_none h S t a sound next none_open there of_pair opposite other reached in
+    let none : crosses t.side t.price a.order.price ≡ false = crosses_none h S t a none_open there of_pair (before_taker h S t a sound next there) opposite other reached in
     leb-false a.order.price t.price (subst (λ side. crosses side t.price a.order.price ≡ false) buys none)
 
 -- a sell that comes to rest
 above_old_buy : (h : Header) (S : State) (t : Taker) (a : ActiveOrder) → IsSound h S → IsNext h S t → open_orders h S t ≡ [] → Among a S.orders → a.pair ≡ t.pair → t.side ≡ Sell → a.order.side ≡ Buy → a.order.bank ≢ t.bank → 1 ≤ reach h S t.bank a.order.bank t.pair → a.order.price < t.price
 above_old_buy h S t a sound next none_open there of_pair sells buys other reached =
     let opposite : is_opposite t.side a.order.side ≡ true = subst (λ side. is_opposite t.side side ≡ true) (sym buys) (subst (λ side. is_opposite side Buy ≡ true) (sym sells) refl) in
-    let none : crosses t.side t.price a.order.price ≡ false = crosses_none h S t a sound next none_open there of_pair opposite other reached in
+    let none : crosses t.side t.price a.order.price ≡ false = crosses_none h S t a none_open there of_pair (before_taker h S t a sound next there) opposite other reached in
     leb-false t.price a.order.price (subst (λ side. crosses side t.price a.order.price ≡ false) sells none)
 
 -- the book with an order that came to rest
@@ -252,10 +158,39 @@ uncrossed-ordered h S bank side pair price lots Fok (Ordered done rests fills) s
 uncrossed-ordered h S bank side pair price lots Fok Killed session sound sender command ordered uncrossed = uncrossed
 uncrossed-ordered h S bank side pair price lots life outcome session sound sender command ordered uncrossed = absurd ordered
 
+uncrossed-cancel : (h : Header) (S : State) (bank pair number : ℕ) (outcome : Outcome) → IsSession h → IsSound h S → NoCross h S → NoCross h (changed S bank (Cancel pair number) outcome)
+uncrossed-cancel h S bank pair number (Cancelled left) session sound uncrossed =
+    let stays : ActiveOrder → Bool = λ active. not (is_order bank number active.order) in
+    uncrossed-follows h S (record S { orders = filter stays S.orders }) session sound (fewer-follows h S stays) uncrossed
+uncrossed-cancel h S bank pair number outcome session sound uncrossed = uncrossed
+
+uncrossed-reduce : (h : Header) (S : State) (bank pair number lots : ℕ) (outcome : Outcome) → IsSession h → IsSound h S → NoCross h S → NoCross h (changed S bank (Reduce pair number lots) outcome)
+uncrossed-reduce h S bank pair number lots (Reduced left) session sound uncrossed =
+    uncrossed-follows h S (record S { orders = reduced bank number left S.orders }) session sound (reduced-follows h S bank number left) uncrossed
+uncrossed-reduce h S bank pair number lots outcome session sound uncrossed = uncrossed
+
+uncrossed-pull : (h : Header) (S : State) (bank pair : ℕ) (outcome : Outcome) → IsSession h → IsSound h S → NoCross h S → NoCross h (changed S bank (Pull pair) outcome)
+uncrossed-pull h S bank pair (Pulled count) session sound uncrossed =
+    let stays : ActiveOrder → Bool = λ active. not (eqb active.pair pair && eqb active.order.bank bank) in
+    uncrossed-follows h S (record S { orders = filter stays S.orders }) session sound (fewer-follows h S stays) uncrossed
+uncrossed-pull h S bank pair outcome session sound uncrossed = uncrossed
+
+uncrossed-line : (h : Header) (S : State) (bank other asked : ℕ) (outcome : Outcome) → IsSession h → IsSound h S → bank < bank_count h → IsCommand (bank_count h) (pair_count h) bank (Line other asked) → IsOutcome h S bank (Line other asked) outcome → NoCross h (changed S bank (Line other asked) outcome)
+uncrossed-line h S bank other asked (LineSet limit fills) session sound sender command is =
+    let T : State = limited bank other limit S in
+    let set_sound : IsSound h T = limited-sound h S bank other asked limit sound sender command.0 command.1 command.2 is.0 in
+    raised-uncrossed h T fills session set_sound (raised-sound h T fills session set_sound is.1) is.1
+uncrossed-line h S bank other asked outcome session sound sender command is = absurd is
+
 uncrossed-after : (h : Header) (S : State) (bank : ℕ) (command : Command) (outcome : Outcome) → IsSession h → IsSound h S → bank < bank_count h → IsCommand (bank_count h) (pair_count h) bank command → IsOutcome h S bank command outcome → NoCross h S → NoCross h (after S bank command outcome)
 uncrossed-after h S bank (Order side pair price lots life) outcome session sound sender valid is uncrossed = uncrossed-ordered h S bank side pair price lots life outcome session sound sender valid is uncrossed
+uncrossed-after h S bank (Cancel pair number) outcome session sound sender valid is uncrossed = uncrossed-cancel h S bank pair number outcome session sound uncrossed
+uncrossed-after h S bank (Reduce pair number lots) outcome session sound sender valid is uncrossed = uncrossed-reduce h S bank pair number lots outcome session sound uncrossed
+uncrossed-after h S bank (Pull pair) outcome session sound sender valid is uncrossed = uncrossed-pull h S bank pair outcome session sound uncrossed
+uncrossed-after h S bank (Line other asked) outcome session sound sender valid is uncrossed = uncrossed-line h S bank other asked outcome session sound sender valid is
+uncrossed-after h S bank (Show other) outcome session sound sender valid is uncrossed = uncrossed
+uncrossed-after h S bank (Book pair) outcome session sound sender valid is uncrossed = uncrossed
 uncrossed-after h S bank (Bad reason) outcome session sound sender valid is uncrossed = uncrossed
-uncrossed-after h S bank command outcome session sound sender valid is uncrossed = absurd is
 
 uncrossed-steps : (h : Header) (S : State) (entries : List Entry) → IsSession h → IsSound h S → NoCross h S → Steps h S entries → NoCross h (after_all S entries)
 uncrossed-steps h S [] session sound uncrossed steps = uncrossed

@@ -1,9 +1,9 @@
 -- Histories: the entries of a day in order, and which of them are legal.
-use Rattle.std.specs.Prelude.{ℕ, ◌≡◌, ◌<◌, ◌+◌, ◌^◌, ◌==◌, List, [], ◌∷◌, filter}
+use Rattle.std.specs.Prelude.{ℕ, ◌≡◌, ◌≢◌, ◌<◌, ◌+◌, ◌-◌, ◌^◌, ◌==◌, min, List, [], ◌∷◌, filter}
 use Rattle.fx_rules.specs.declared.outcome.Entry.{Entry}
 use Rattle.fx_rules.specs.Session.{Header, IsSession, bank_count, pair_count}
-use Rattle.fx_rules.specs.State.{State, opening, count_of}
-use Rattle.fx_rules.specs.Step.{IsCommand, IsOutcome, after}
+use Rattle.fx_rules.specs.State.{State, opening, count_of, cost_between, used, line}
+use Rattle.fx_rules.specs.Step.{IsCommand, IsOutcome, after, fills_of}
 
 -- the state after an entry
 abbrev pub after_entry : State → Entry → State
@@ -40,3 +40,11 @@ pub record IsLegal (h : Header) (entries : List Entry) : Type 0 where
 -- the entries of one bank
 abbrev pub own : ℕ → List Entry → List Entry
 own bank entries = filter (λ e. e.bank == bank) entries
+
+-- By an entry each line falls by the cost of the entry's fills between its two banks, from what the limits leave of it as
+-- they stand behind the entry. (A line command sets a limit first, and its fills use the line of the new limits.)
+abbrev pub Falls : Header → State → Entry → Type 0
+Falls h S e =
+    (i j : ℕ) → i < bank_count h → j < bank_count h → i ≢ j →
+    line h (after_entry S e) i j + cost_between h i j (fills_of e.outcome)
+    ≡ min ((after_entry S e).limits i j) ((after_entry S e).limits j i) - used h S i j

@@ -1,16 +1,24 @@
 -- Laws that hold of the definitions themselves.
-use Rattle.std.specs.Prelude.{ℕ, ◌≡◌, ◌<◌, List, [], ◌∷◌, ◌++◌}
+use Rattle.std.specs.Prelude.{ℕ, ◌≡◌, ◌≢◌, ◌<◌, false, List, [], ◌∷◌, ◌++◌, map}
 use Rattle.fx_rules.specs.declared.command.Command.{Command}
+use Rattle.fx_amounts.specs.declared.side.Side.TheVariants.{Buy, Sell}
+use Rattle.fx_rules.specs.declared.command.Command.TheVariants.{Line}
+use Rattle.fx_rules.specs.declared.outcome.Outcome.TheVariants.{LineSet}
 use Rattle.fx_rules.specs.declared.orders.Fill.{Fill}
+use Rattle.fx_rules.specs.declared.orders.Level.{Level}
 use Rattle.fx_rules.specs.declared.outcome.Outcome.{Outcome}
 use Rattle.fx_rules.specs.declared.outcome.Entry.{Entry}
 use Rattle.fx_rules.specs.Session.{Header, IsSession, bank_count, pair_count}
-use Rattle.fx_rules.specs.State.{State, Within}
+use Rattle.fx_rules.specs.State.{State, Within, orders_in, count_of}
 use Rattle.fx_rules.specs.Sweep.{Taker, Swept}
-use Rattle.fx_rules.specs.Step.{IsCommand, IsOutcome}
-use Rattle.fx_rules.specs.History.{IsStep, IsLegal, state}
+use Rattle.fx_rules.specs.Raise.{limited}
+use Rattle.fx_rules.specs.Depth.{IsDepth}
+use Rattle.fx_rules.specs.Step.{IsCommand, IsOutcome, may_change}
+use Rattle.fx_rules.specs.History.{IsStep, IsLegal, after_entry, state, Falls}
+use Rattle.fx_rules.specs.Truthful.{IsTruthful}
 use Rattle.fx_rules.specs.Sound.{IsSound}
 use Rattle.fx_rules.specs.NoCross.{NoCross}
+use Rattle.fx_rules.specs.View.{view, told, fill_seen}
 
 -- Two sweeps of one taker in one state have the same fills and leave the same.
 abbrev pub SweepsAgree : Type 0
@@ -47,3 +55,48 @@ LegalGoesOn =
 -- In the state of a legal history no orders rest crossed that can reach each other.
 abbrev pub LegalIsUncrossed : Type 0
 LegalIsUncrossed = (h : Header) (entries : List Entry) → IsLegal h entries → NoCross h (state h entries)
+
+-- A step of a sound state lets each line fall by its fills, from the limits behind it.
+abbrev pub LinesFall : Type 0
+LinesFall = (h : Header) (S : State) (e : Entry) → IsSession h → IsSound h S → IsStep h S e → Falls h S e
+
+-- A step of a sound state leaves the orders of each pair in which its command may change nothing.
+abbrev pub OtherPairsStay : Type 0
+OtherPairsStay =
+    (h : Header) (S : State) (e : Entry) (pair : ℕ) → IsSession h → IsSound h S → IsStep h S e →
+    may_change pair e.command ≡ false → orders_in pair (after_entry S e).orders ≡ orders_in pair S.orders
+
+-- An entry of one bank leaves the counts of all others.
+abbrev pub OtherCountsStay : Type 0
+OtherCountsStay = (S : State) (e : Entry) (bank : ℕ) → e.bank ≢ bank → count_of (after_entry S e) bank ≡ count_of S bank
+
+-- A bank's local book of a pair in a sound state is truthful on both sides.
+abbrev pub LocalBooksAreTruthful : Type 0
+LocalBooksAreTruthful =
+    (h : Header) (S : State) (bank pair : ℕ) (bids asks : List Level) → IsSession h → IsSound h S →
+    bank < bank_count h → pair < pair_count h → IsDepth h S bank pair bids asks →
+    IsTruthful h S bank pair Sell bids × IsTruthful h S bank pair Buy asks
+
+-- Two sound states that a bank sees alike tell it the same of each of its commands.
+abbrev pub ViewsTellAll : Type 0
+ViewsTellAll =
+    (h : Header) (S T : State) (bank : ℕ) (command : Command) (one other : Outcome) → IsSession h → IsSound h S → IsSound h T →
+    bank < bank_count h → IsCommand (bank_count h) (pair_count h) bank command → view h S bank ≡ view h T bank →
+    IsOutcome h S bank command one → IsOutcome h T bank command other → told one ≡ told other
+
+-- Two sound states that a bank sees alike have the same local books of it.
+abbrev pub ViewsShowAll : Type 0
+ViewsShowAll =
+    (h : Header) (S T : State) (bank pair : ℕ) (bids asks bids' asks' : List Level) → IsSession h → IsSound h S → IsSound h T →
+    bank < bank_count h → pair < pair_count h → view h S bank ≡ view h T bank →
+    IsDepth h S bank pair bids asks → IsDepth h T bank pair bids' asks' → (bids ≡ bids') × (asks ≡ asks')
+
+-- Two sound states without crossed orders that a bank sees alike once it has set a limit make the same fills by it, but for
+-- the numbers of the other bank's orders.
+abbrev pub ViewsFillAll : Type 0
+ViewsFillAll =
+    (h : Header) (S T : State) (bank other asked limit : ℕ) (fills others : List Fill) → IsSession h → IsSound h S → IsSound h T →
+    NoCross h S → NoCross h T → bank < bank_count h → IsCommand (bank_count h) (pair_count h) bank (Line other asked) →
+    view h (limited bank other limit S) bank ≡ view h (limited bank other limit T) bank →
+    IsOutcome h S bank (Line other asked) (LineSet limit fills) → IsOutcome h T bank (Line other asked) (LineSet limit others) →
+    map (fill_seen bank) fills ≡ map (fill_seen bank) others

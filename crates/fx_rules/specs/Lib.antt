@@ -4,9 +4,14 @@ pub mod Session
 pub mod Lists
 pub mod State
 pub mod Sweep
+pub mod Raise
+pub mod Depth
 pub mod Step
+pub mod Truthful
 pub mod History
 pub mod Sound
 pub mod Plan
 pub mod NoCross
+pub mod View
 pub mod Laws
+pub mod Keyed

@@ -1,6 +1,6 @@
 -- What a session is: its banks and pairs in the order of its header, and the limits that the banks open with.
 -- Banks and pairs are named by their places, from 0. A name or a code is its text, a list of bytes.
-use Rattle.std.specs.Prelude.{ℕ, ◌≡◌, ◌≢◌, ◌≤◌, ◌+◌, ◌*◌, ◌^◌, ◌%◌, ◌<◌, ◌++◌, ◌∷◌, Option, List, length, map, position, bytes_eq, IsTrue, All, AllPairs, slice_index}
+use Rattle.std.specs.Prelude.{ℕ, ◌≡◌, ◌≢◌, ◌≤◌, ◌+◌, ◌*◌, ◌^◌, ◌%◌, ◌<◌, ◌++◌, ◌∷◌, Option, List, [], length, map, position, bytes_eq, IsTrue, All, AllPairs, slice_index, slice_index_or}
 use Rattle.std.specs.Str.{byte}
 use Rattle.fx_rules.specs.Names.{is_name, is_code}
 use Rattle.fx_rules.specs.declared.session.PairRule.{PairRule}
@@ -42,6 +42,17 @@ opening_limit h i j = slice_index h.limits (i * bank_count h + j)
 abbrev pub weight_of : Header → ℕ → ℕ
 weight_of h pair = slice_index (map (λ rule. rule.weight) h.pairs) pair
 
+-- how many decimals a pair's prices have, and units of base per lot
+abbrev pub decimals_of : Header → ℕ → ℕ
+decimals_of h pair = slice_index (map (λ rule. rule.decimals) h.pairs) pair
+
+abbrev pub lot_of : Header → ℕ → ℕ
+lot_of h pair = slice_index (map (λ rule. rule.lot) h.pairs) pair
+
+-- a bank's name
+abbrev pub bank_name : Header → ℕ → List ℕ
+bank_name h bank = slice_index_or h.banks bank []
+
 -- the bank of that name
 abbrev pub bank_of : Header → List ℕ → Option ℕ
 bank_of h text = position (λ name. bytes_eq name text) h.banks
@@ -49,6 +60,9 @@ bank_of h text = position (λ name. bytes_eq name text) h.banks
 -- how a pair is written: BASE/QUOTE
 abbrev pub pair_text : PairRule → List ℕ
 pair_text rule = rule.base ++ (byte "/" ∷ rule.quote)
+
+abbrev pub pair_name : Header → ℕ → List ℕ
+pair_name h pair = slice_index_or (map pair_text h.pairs) pair []
 
 -- the pair that is written so
 abbrev pub pair_of : Header → List ℕ → Option ℕ

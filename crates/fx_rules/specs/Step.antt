@@ -1,5 +1,5 @@
 -- What a command may answer in a state, and the state after it.
-use Rattle.std.specs.Prelude.{ℕ, ◌≡◌, ◌≢◌, ◌≤◌, ◌<◌, ◌-◌, ◌+◌, ◌^◌, nat_lt, if◌then◌else◌, List, [], ◌∷◌, ◌++◌, slice_set}
+use Rattle.std.specs.Prelude.{ℕ, ◌≡◌, ◌≢◌, ◌≤◌, ◌<◌, ◌-◌, ◌+◌, ◌^◌, ◌==◌, Bool, true, false, ◌&&◌, not, nat_lt, if◌then◌else◌, List, [], ◌∷◌, ◌++◌, length, map, filter, slice_set, Option, Some, None}
 use Rattle.fx_amounts.specs.Price.{IsPrice}
 use Rattle.fx_amounts.specs.Quantity.{IsLots, IsUnits}
 use Rattle.fx_amounts.specs.declared.side.Side.{Side}
@@ -9,10 +9,14 @@ use Rattle.fx_rules.specs.declared.command.Command.TheVariants.{Order, Cancel, R
 use Rattle.fx_rules.specs.declared.command.Life.{Life}
 use Rattle.fx_rules.specs.declared.command.Life.TheVariants.{Day, Ioc, Fok}
 use Rattle.fx_rules.specs.declared.outcome.Outcome.{Outcome}
-use Rattle.fx_rules.specs.declared.outcome.Outcome.TheVariants.{Ordered, Killed, LineSet, Rejected}
+use Rattle.fx_rules.specs.declared.outcome.Outcome.TheVariants.{Ordered, Killed, Cancelled, Reduced, NotLess, Nothing, Pulled, LineSet, Shown, Depth, Rejected}
 use Rattle.fx_rules.specs.Session.{Header}
-use Rattle.fx_rules.specs.State.{State, count_of, arrivals}
-use Rattle.fx_rules.specs.Sweep.{Taker, Swept, filled_all}
+use Rattle.fx_rules.specs.declared.orders.ActiveOrder.{ActiveOrder}
+use Rattle.fx_rules.specs.declared.orders.Resting.{Resting}
+use Rattle.fx_rules.specs.State.{State, orders_in, count_of, arrivals, used, line}
+use Rattle.fx_rules.specs.Sweep.{Taker, Swept, filled_all, is_order, with_left}
+use Rattle.fx_rules.specs.Raise.{limit_set, limited, order_of, Raised}
+use Rattle.fx_rules.specs.Depth.{IsDepth}
 
 -- a number that a command can have
 abbrev pub IsNumber : ℕ → Type 0
@@ -51,11 +55,32 @@ IsOrdered h S t Fok (Ordered done rests fills) = Swept h S t fills 0 × (done �
 IsOrdered h S t Fok Killed = (fills : List Fill) × (left : ℕ) × Swept h S t fills left × (1 ≤ left)
 IsOrdered _ _ _ _ _ = ⊥
 
+-- a cancel's answer by the sender's order of that number, where it rests in the pair
+abbrev pub cancel_answer : Option Resting → Outcome
+cancel_answer None = Nothing
+cancel_answer (Some order) = Cancelled order.left
+
+-- a reduction's
+abbrev pub reduce_answer : ℕ → Option Resting → Outcome
+reduce_answer lots None = Nothing
+reduce_answer lots (Some order) = if nat_lt lots order.left then Reduced lots else NotLess order.left
+
+-- a bank's resting orders of a pair
+abbrev pub orders_by : State → ℕ → ℕ → List Resting
+orders_by S pair bank = filter (λ order. order.bank == bank) (orders_in pair S.orders)
+
 -- what a command may answer
 abbrev pub IsOutcome : Header → State → ℕ → Command → Outcome → Type 0
 IsOutcome h S bank (Order side pair price lots life) outcome =
     IsOrdered h S (taker_of S bank side pair price lots) life outcome
-IsOutcome h S bank (Bad reason) (Rejected reported) = reported ≡ reason
+IsOutcome h S bank (Cancel pair number) outcome = outcome ≡ cancel_answer (order_of S pair bank number)
+IsOutcome h S bank (Reduce pair number lots) outcome = outcome ≡ reduce_answer lots (order_of S pair bank number)
+IsOutcome h S bank (Pull pair) outcome = outcome ≡ Pulled (length (orders_by S pair bank))
+IsOutcome h S bank (Line other asked) (LineSet limit fills) =
+    (limit ≡ limit_set h S bank other asked) × Raised h (limited bank other limit S) fills
+IsOutcome h S bank (Show other) outcome = outcome ≡ Shown (S.limits bank other) (used h S bank other) (line h S bank other)
+IsOutcome h S bank (Book pair) (Depth bids asks) = IsDepth h S bank pair bids asks
+IsOutcome h S bank (Bad reason) outcome = outcome ≡ Rejected reason
 IsOutcome _ _ _ _ _ = ⊥
 
 -- what is left of a taker rests at the end of the book, where anything is
@@ -70,10 +95,26 @@ rested t rests S =
     }
     else S
 
+-- the orders without the one of this bank and number
+abbrev pub without_order : ℕ → ℕ → List ActiveOrder → List ActiveOrder
+without_order bank number orders = filter (λ active. not (is_order bank number active.order)) orders
+
+-- the orders, of which the one of this bank and number has so many lots left; it keeps its place
+abbrev pub reduced : ℕ → ℕ → ℕ → List ActiveOrder → List ActiveOrder
+reduced bank number left orders = map (λ active. if is_order bank number active.order then with_left active left else active) orders
+
+-- the orders without a bank's orders of a pair
+abbrev pub without_orders : ℕ → ℕ → List ActiveOrder → List ActiveOrder
+without_orders pair bank orders = filter (λ active. not (active.pair == pair && active.order.bank == bank)) orders
+
 -- the state after a command's outcome, but for the sender's count
 abbrev pub changed : State → ℕ → Command → Outcome → State
 changed S bank (Order side pair price lots life) (Ordered done rests fills) =
     rested (taker_of S bank side pair price lots) rests (filled_all S fills)
+changed S bank (Cancel pair number) (Cancelled left) = record S { orders = without_order bank number S.orders }
+changed S bank (Reduce pair number lots) (Reduced left) = record S { orders = reduced bank number left S.orders }
+changed S bank (Pull pair) (Pulled count) = record S { orders = without_orders pair bank S.orders }
+changed S bank (Line other asked) (LineSet limit fills) = filled_all (limited bank other limit S) fills
 changed S _ _ _ = S
 
 -- one more command of a bank
@@ -89,3 +130,15 @@ abbrev pub fills_of : Outcome → List Fill
 fills_of (Ordered done rests fills) = fills
 fills_of (LineSet limit fills) = fills
 fills_of _ = []
+
+-- a command may change what rests in a pair: an order, a cancel, a reduction or a pull in that pair, and a line command,
+-- which goes through all pairs
+abbrev pub may_change : ℕ → Command → Bool
+may_change pair (Order side its_pair price lots life) = its_pair == pair
+may_change pair (Cancel its_pair number) = its_pair == pair
+may_change pair (Reduce its_pair number lots) = its_pair == pair
+may_change pair (Pull its_pair) = its_pair == pair
+may_change pair (Line other asked) = true
+may_change pair (Show other) = false
+may_change pair (Book its_pair) = false
+may_change pair (Bad reason) = false

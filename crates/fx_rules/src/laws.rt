@@ -1,4 +1,4 @@
-ghost use Rattle.fx_rules.specs.Laws.{SweepsAgree, OutcomesAgree, NextEntriesAgree, LegalIsSound, LegalIsUncrossed, LegalGoesOn};
+ghost use Rattle.fx_rules.specs.Laws.{SweepsAgree, OutcomesAgree, NextEntriesAgree, LegalIsSound, LegalIsUncrossed, LegalGoesOn, LinesFall, OtherPairsStay, OtherCountsStay, LocalBooksAreTruthful, ViewsTellAll, ViewsShowAll, ViewsFillAll};
 
 /// State and taker determine a sweep: two sweeps of one taker in one sound state have the same fills in the same order,
 /// and leave the taker the same lots.
@@ -31,4 +31,46 @@ pub fn legal_is_uncrossed()
 /// A legal history stays one when it goes on by a step of its state.
 pub fn legal_goes_on()
     ensures legal { LegalGoesOn }
+{}
+
+/// Each step from a sound state lets the line of two banks fall by the cost of its fills between them, from what their
+/// limits, as they stand behind the step, leave of what they had used.
+pub fn lines_fall()
+    ensures fall { LinesFall }
+{}
+
+/// A step from a sound state leaves the orders of every pair but the one that its command names, and a show, a local
+/// book or a line that could not be read leaves those of every pair. (A line command goes through all pairs.)
+pub fn other_pairs_stay()
+    ensures stay { OtherPairsStay }
+{}
+
+/// An entry raises its own bank's count and no other's.
+pub fn other_counts_stay()
+    ensures stay { OtherCountsStay }
+{}
+
+/// A local book in a sound state is truthful: where a side is not empty and its lots are no more than 10^6, an
+/// immediate-or-cancel order of that bank for all of them at the side's last price, buying the asks or selling the bids,
+/// is filled whole, and its fills by price are the levels shown.
+pub fn local_books_are_truthful()
+    ensures truthful { LocalBooksAreTruthful }
+{}
+
+/// What a bank is told of a command depends on what it sees alone: two sound states with one view of a bank tell it the
+/// same of each of its commands.
+pub fn views_tell_all()
+    ensures tell { ViewsTellAll }
+{}
+
+/// A local book depends on what its bank sees alone: two sound states with one view of a bank have the same local books
+/// of it.
+pub fn views_show_all()
+    ensures show { ViewsShowAll }
+{}
+
+/// The fills of a bank's credit change depend on what it sees alone: where two sound states without crossed orders have
+/// one view of the bank once its limit is set, they make the same fills, but for the numbers of the other bank's orders.
+pub fn views_fill_all()
+    ensures fill { ViewsFillAll }
 {}

@@ -6,6 +6,7 @@
 
 mod command;
 mod gates;
+mod keyed;
 mod laws;
 mod lists;
 mod names;
@@ -15,9 +16,11 @@ mod session;
 
 pub use command::{Command, Life, Reject};
 pub use gates::{Gate, OpenGate};
+pub use keyed::Keyed;
 pub use laws::{
-    legal_goes_on, legal_is_sound, legal_is_uncrossed, next_entries_agree, outcomes_agree,
-    sweeps_agree,
+    legal_goes_on, legal_is_sound, legal_is_uncrossed, lines_fall, local_books_are_truthful,
+    next_entries_agree, other_counts_stay, other_pairs_stay, outcomes_agree, sweeps_agree,
+    views_fill_all, views_show_all, views_tell_all,
 };
 pub use lists::ListOf;
 pub use names::{Code, Name};

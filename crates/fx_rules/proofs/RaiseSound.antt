@@ -1,0 +1,115 @@
+-- A credit change keeps a state sound: a limit falls to no less than what is used, and each turn is a sweep.
+use Rattle.std.proofs.Common.{ℕ, zero, suc, ◌≡◌, ◌≢◌, ◌+◌, ◌≤◌, ◌<◌, Bool, true, ◌&&◌, eqb, List, [], ◌∷◌, ◌++◌, ◌⊎◌, inl, inr, refl, ap, sym, subst, ◌∙◌, arith, Option, Some, None, MatchOption, find}
+use Rattle.std.proofs.lemmas.Bool.{cond_both, and_parts, eqb-true}
+use Rattle.fx_amounts.specs.Quantity.{IsUnits}
+use Rattle.fx_rules.specs.declared.orders.ActiveOrder.{ActiveOrder}
+use Rattle.fx_rules.specs.declared.orders.Resting.{Resting}
+use Rattle.fx_rules.specs.declared.orders.Fill.{Fill}
+use Rattle.fx_rules.specs.Lists.{Among}
+use Rattle.fx_rules.specs.Session.{Header, IsSession, bank_count, pair_count, weight_of}
+use Rattle.fx_rules.specs.State.{State, used, orders_in}
+use Rattle.fx_rules.specs.Sweep.{Swept, is_order, filled_all}
+use Rattle.fx_rules.specs.Raise.{limit_set, limited, order_of, taker_of_resting, Turned, PairsTurned, Raised}
+use Rattle.fx_rules.specs.Sound.{IsSound, IsKept}
+use Rattle.fx_rules.proofs.ListLemmas.{Each-among}
+use Rattle.fx_rules.proofs.Opens.{orders_in-among}
+use Rattle.fx_rules.proofs.SweepSound.{swept-sound, filled_all-append, weight_of-least}
+
+-- what is found is one of the items, and passes
+pub find-says : {X : Type 0} (test : X → Bool) (xs : List X) (x : X) → find test xs ≡ Some x → Among x xs × (test x ≡ true)
+find-says test [] x found = cc
+find-says {X = X} test (y ∷ xs) x found =
+    cond_both (test y) (Some y) (find test xs) (λ (o : Option X). o ≡ Some x → Among x (y ∷ xs) × (test x ≡ true))
+    (λ passes is. let same : y ≡ x = cc in (inl (sym same), ap test (sym same) ∙ passes))
+    (λ _ is. let later = find-says test xs x is in (inr later.0, later.1))
+    found
+
+pub match_cases : {X : Type 0} (o : Option X) (P : Type 0) (Q : X → Type 0) → MatchOption o P Q → ((o ≡ None) × P) ⊎ ((x : X) × (o ≡ Some x) × Q x)
+match_cases None P Q holds = inl (refl, holds)
+match_cases (Some x) P Q holds = inr (x, refl, holds)
+
+-- what is known of an order whose turn comes: it rests in the pair, and is of the bank and the number
+pub record IsTurn (h : Header) (S : State) (pair bank number : ℕ) (now : Resting) : Type 0 where
+  pub among : Among now (orders_in pair S.orders)
+  pub owner : now.bank ≡ bank
+  pub command : now.number ≡ number
+  pub active : ActiveOrder
+  pub rests : Among active S.orders
+  pub of_pair : active.pair ≡ pair
+  pub order : now ≡ active.order
+  pub kept : IsKept h S.counts active
+
+pub turn_of : (h : Header) (S : State) (pair bank number : ℕ) (now : Resting) → IsSound h S → order_of S pair bank number ≡ Some now → IsTurn h S pair bank number now
+turn_of h S pair bank number now sound found =
+    let says = find-says (λ (o : Resting). is_order bank number o) (orders_in pair S.orders) now found in
+    let both = and_parts (eqb now.bank bank) (eqb now.number number) says.1 in
+    let stands = orders_in-among pair S.orders now says.0 in
+    record {
+      among = says.0;
+      owner = eqb-true now.bank bank both.0;
+      command = eqb-true now.number number both.1;
+      active = stands.0;
+      rests = stands.1;
+      of_pair = stands.2;
+      order = stands.3;
+      kept = Each-among (IsKept h S.counts) S.orders stands.0 sound.kept stands.1;
+    }
+
+pub turn-sender : (h : Header) (S : State) (pair bank number : ℕ) (now : Resting) → IsTurn h S pair bank number now → now.bank < bank_count h
+turn-sender h S pair bank number now turn =
+    let owner : now.bank ≡ turn.active.order.bank = ap (λ (o : Resting). o.bank) turn.order in
+    omega (arith, turn.kept.bank)
+
+pub turned-sound : (h : Header) (pair : ℕ) (S : State) (orders : List Resting) (fills : List Fill) → 0 < weight_of h pair → IsSound h S → Turned h pair S orders fills → IsSound h (filled_all S fills)
+turned-sound h pair S [] fills some sound turned = subst (λ (fs : List Fill). IsSound h (filled_all S fs)) (sym turned) sound
+turned-sound h pair S (order ∷ orders) fills some sound turned =
+    elim (match_cases (order_of S pair order.bank order.number) (Turned h pair S orders fills)
+    (λ now. (own more : List Fill) × (left : ℕ) × Swept h S (taker_of_resting pair now) own left × (fills ≡ own ++ more) × Turned h pair (filled_all S own) orders more)
+    turned) [
+      | inl gone ↦ turned-sound h pair S orders fills some sound gone.1
+      | inr here ↦
+          let now : Resting = here.0 in
+          let own : List Fill = here.2.0 in
+          let more : List Fill = here.2.1 in
+          let sender = turn-sender h S pair order.bank order.number now (turn_of h S pair order.bank order.number now sound here.1) in
+          let next : IsSound h (filled_all S own) = (swept-sound h S (taker_of_resting pair now) own here.2.2 sound sender some here.2.3).0 in
+          subst (IsSound h) (sym (ap (filled_all S) here.2.4 ∙ filled_all-append S own more))
+          (turned-sound h pair (filled_all S own) orders more some next here.2.5)
+    ]
+
+pub pairs_turned-sound : (h : Header) (pairs pair : ℕ) (S : State) (fills : List Fill) → IsSession h → pair + pairs ≤ pair_count h → IsSound h S → PairsTurned h pairs pair S fills → IsSound h (filled_all S fills)
+pairs_turned-sound h zero pair S fills session within sound turned = subst (λ (fs : List Fill). IsSound h (filled_all S fs)) (sym turned) sound
+pairs_turned-sound h (suc pairs) pair S fills session within sound turned =
+    let own : List Fill = turned.0 in
+    let more : List Fill = turned.1 in
+    let some : 0 < weight_of h pair = weight_of-least h pair session (omega arith) in
+    let next : IsSound h (filled_all S own) = turned-sound h pair S (orders_in pair S.orders) own some sound turned.2 in
+    subst (IsSound h) (sym (ap (filled_all S) turned.3 ∙ filled_all-append S own more))
+    (pairs_turned-sound h pairs (pair + 1) (filled_all S own) more session (omega arith) next turned.4)
+
+-- what is used is in range
+used_most : (h : Header) (S : State) (i j : ℕ) → IsSound h S → i < bank_count h → j < bank_count h → i ≢ j → IsUnits (used h S i j)
+used_most h S i j sound i_in j_in differ = omega (arith, sound.within i j i_in j_in differ, sound.limits i j i_in j_in differ)
+
+-- the limits of a state in which a bank set one
+limit_cases : (h : Header) (S : State) (bank other limit i j : ℕ) (P : ℕ → ℕ → ℕ → Type 0) → P bank other limit → P i j (S.limits i j) → P i j ((limited bank other limit S).limits i j)
+limit_cases h S bank other limit i j P here there =
+    cond_both (eqb i bank && eqb j other) limit (S.limits i j) (P i j)
+    (λ same. let both = and_parts (eqb i bank) (eqb j other) same in
+    subst (λ a. P a j limit) (sym (eqb-true i bank both.0)) (subst (λ b. P bank b limit) (sym (eqb-true j other both.1)) here))
+    (λ _. there)
+
+-- A limit may be set to what is asked or what is used, whichever is more.
+pub limited-sound : (h : Header) (S : State) (bank other asked limit : ℕ) → IsSound h S → bank < bank_count h → other < bank_count h → other ≢ bank → IsUnits asked → limit ≡ limit_set h S bank other asked → IsSound h (limited bank other limit S)
+limited-sound h S bank other asked limit sound sender other_in differ most is_limit = record {
+  counts = sound.counts;
+  kept = sound.kept;
+  rising = sound.rising;
+  within = λ i j i_in j_in apart. limit_cases h S bank other limit i j (λ a b l. used h S a b ≤ l)
+      (omega (arith, is_limit)) (sound.within i j i_in j_in apart);
+  limits = λ i j i_in j_in apart. limit_cases h S bank other limit i j (λ _ _ l. IsUnits l)
+      (omega (arith, is_limit, most, used_most h S bank other sound sender other_in (λ same. differ (sym same)))) (sound.limits i j i_in j_in apart);
+}
+
+pub raised-sound : (h : Header) (S : State) (fills : List Fill) → IsSession h → IsSound h S → Raised h S fills → IsSound h (filled_all S fills)
+raised-sound h S fills session sound raised = pairs_turned-sound h (pair_count h) 0 S fills session (omega arith) sound raised
