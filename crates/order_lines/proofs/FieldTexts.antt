@@ -12,12 +12,11 @@ use Rattle.fx_amounts.specs.Numeral.{numeral}
 use Rattle.fx_amounts.specs.PriceText.{price_text, last_digits}
 use Rattle.fx_amounts.proofs.NumeralLemmas.{IsNumeralOf-numeral, numeral-digit, numeral-step}
 use Rattle.fx_rules.specs.Names.{is_name, is_code, is_name_byte, is_reserved}
-use Rattle.fx_rules.specs.Session.{Header, IsSession, IsPairRule, bank_count, pair_count, pair_text}
+use Rattle.fx_rules.specs.Session.{Header, IsSession, IsPairRule, bank_count, pair_count, pair_text, bank_name, pair_name}
 use Rattle.fx_rules.specs.declared.session.PairRule.{PairRule}
 use Rattle.fx_rules.specs.declared.command.Life.{Life}
 use Rattle.fx_rules.specs.declared.command.Life.TheVariants.{Day, Ioc, Fok}
 use Rattle.order_lines.specs.Words.{word_text, life_text, bad_word}
-use Rattle.order_lines.specs.Spelling.{bank_name, pair_name}
 use Rattle.order_lines.specs.declared.word.Word.{Word}
 use Rattle.order_lines.specs.declared.word.Word.TheVariants.{Buy, Sell, Cancel, Reduce, Pull, Line, Show, Book}
 use Rattle.order_lines.proofs.JoinedFields.{IsField}

@@ -3,7 +3,7 @@ use Rattle.std.proofs.Common.{◌≡◌, ℕ, true, false, cond, List, [], ◌�
 use Rattle.std.proofs.lemmas.Bool.{cases_Bool, cond-true, cond-false, eqb-true}
 use Rattle.fx_amounts.specs.declared.side.Side.{Side}
 use Rattle.fx_amounts.specs.declared.side.Side.TheVariants as side
-use Rattle.fx_rules.specs.Session.{Header, IsSession, bank_count, pair_count}
+use Rattle.fx_rules.specs.Session.{Header, IsSession, bank_count, pair_count, bank_name}
 use Rattle.fx_rules.specs.Step.{IsCommand}
 use Rattle.fx_rules.specs.declared.command.Command.{Command}
 use Rattle.fx_rules.specs.declared.command.Command.TheVariants as command
@@ -12,7 +12,7 @@ use Rattle.fx_rules.specs.declared.command.Reject.{Reject}
 use Rattle.fx_rules.specs.declared.command.Reject.TheVariants as reject
 use Rattle.order_lines.specs.Grammar.{is_bad}
 use Rattle.order_lines.specs.Reading.{◌>>=◌, field, order_said, cancel_said, reduce_said, pull_said, line_said, show_said, book_said, said_by, word_said, command_said}
-use Rattle.order_lines.specs.Spelling.{bank_name, command_fields}
+use Rattle.order_lines.specs.Spelling.{command_fields}
 use Rattle.order_lines.specs.Words.{word_text, word_of, field_count, side_word}
 use Rattle.order_lines.specs.declared.word.Word.{Word}
 use Rattle.order_lines.specs.declared.word.Word.TheVariants.{Buy, Sell, Cancel, Reduce, Pull, Line, Show, Book}

@@ -16,7 +16,7 @@ use Rattle.fx_amounts.proofs.PriceTextLemmas.{Says, Says-price_of, price_of-pric
 use Rattle.fx_text.specs.Number.{number_of}
 use Rattle.fx_text.proofs.NumberLemmas.{Reads, Reads-number_of, number_of-numeral}
 use Rattle.fx_rules.specs.Reject.{code_of}
-use Rattle.fx_rules.specs.Session.{Header, IsSession, IsPairRule, AreSamePair, bank_count, pair_count, bank_of, pair_of, pair_text}
+use Rattle.fx_rules.specs.Session.{Header, IsSession, IsPairRule, AreSamePair, bank_count, pair_count, bank_of, pair_of, pair_text, bank_name, decimals_of, pair_name}
 use Rattle.fx_rules.specs.Step.{IsNumber}
 use Rattle.fx_rules.specs.declared.command.Life.{Life}
 use Rattle.fx_rules.specs.declared.command.Life.TheVariants.{Day, Ioc, Fok}
@@ -25,8 +25,8 @@ use Rattle.fx_rules.specs.declared.command.Reject.TheVariants as reject
 use Rattle.fx_rules.specs.declared.session.PairRule.{PairRule}
 use Rattle.fx_rules.proofs.SessionLemmas.{found_from_place}
 use Rattle.order_lines.specs.Words.{word_text, word_of, words, life_text, life_of, lives, fault_of, faults}
-use Rattle.order_lines.specs.Reading.{decimals_of, pair_said, price_said, price_or_fault, lots_said, life_said, number_said, other_said, other_than, limit_said}
-use Rattle.order_lines.specs.Spelling.{bank_name, pair_name, price_spelled}
+use Rattle.order_lines.specs.Reading.{pair_said, price_said, price_or_fault, lots_said, life_said, number_said, other_said, other_than, limit_said}
+use Rattle.order_lines.specs.Spelling.{price_spelled}
 use Rattle.order_lines.specs.declared.word.Word.{Word}
 use Rattle.order_lines.specs.declared.word.Word.TheVariants.{Buy, Sell, Cancel, Reduce, Pull, Line, Show, Book}
 use Rattle.order_lines.proofs.FieldTexts.{IsLetters-code, no_rule, pair_name-is}

@@ -11,7 +11,7 @@ use Rattle.fx_text.specs.declared.line.Line.{Line}
 use Rattle.fx_text.specs.declared.line.Line.TheVariants.{Whole, Long}
 use Rattle.fx_text.proofs.NumberLemmas.{Reads, Reads-number_of, number_of-numeral}
 use Rattle.fx_rules.specs.Reject.{code_of}
-use Rattle.fx_rules.specs.Session.{Header, IsSession, bank_count, pair_count, bank_of}
+use Rattle.fx_rules.specs.Session.{Header, IsSession, bank_count, pair_count, bank_of, bank_name}
 use Rattle.fx_rules.specs.Step.{IsCommand}
 use Rattle.fx_rules.specs.declared.command.Command.{Command}
 use Rattle.fx_rules.specs.declared.command.Command.TheVariants as command
@@ -19,7 +19,7 @@ use Rattle.fx_rules.specs.declared.command.Reject.{Reject}
 use Rattle.fx_rules.specs.declared.command.Reject.TheVariants as reject
 use Rattle.order_lines.specs.Grammar.{command_line, journal_line, sent_by, or_bad, recorded, is_bad, fault_in, bad_said, IfSent}
 use Rattle.order_lines.specs.Reading.{field, command_said, word_said}
-use Rattle.order_lines.specs.Spelling.{bank_name, command_fields, IsSpelled}
+use Rattle.order_lines.specs.Spelling.{command_fields, IsSpelled}
 use Rattle.order_lines.specs.Words.{bad_word, fault_of}
 use Rattle.order_lines.specs.declared.spoken.Spoken.{Spoken}
 use Rattle.order_lines.specs.declared.spoken.Spoken.TheVariants.{Of, Stray, End, Passed}

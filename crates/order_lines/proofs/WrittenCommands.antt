@@ -6,12 +6,11 @@ use Rattle.fx_text.specs.Fields.{fields_of}
 use Rattle.fx_text.specs.Lines.{line_of}
 use Rattle.fx_text.specs.declared.line.Line.TheVariants.{Whole}
 use Rattle.fx_rules.specs.Reject.{code_of}
-use Rattle.fx_rules.specs.Session.{Header, IsSession, bank_count, pair_count}
+use Rattle.fx_rules.specs.Session.{Header, IsSession, bank_count, pair_count, decimals_of}
 use Rattle.fx_rules.specs.Step.{IsCommand}
 use Rattle.fx_rules.specs.declared.command.Command.{Command}
 use Rattle.fx_rules.specs.declared.command.Command.TheVariants as command
 use Rattle.order_lines.specs.Grammar.{journal_line}
-use Rattle.order_lines.specs.Reading.{decimals_of}
 use Rattle.order_lines.specs.Spelling.{price_spelled, command_fields, command_text_of}
 use Rattle.order_lines.specs.Words.{side_word}
 use Rattle.order_lines.specs.declared.word.Word.TheVariants as word

@@ -2,12 +2,12 @@
 use Rattle.std.specs.Prelude.{ℕ, ◌<◌, List, map}
 use Rattle.std.specs.List.{join_with_byte, AllByRecursion}
 use Rattle.fx_amounts.specs.Numeral.{numeral}
-use Rattle.fx_rules.specs.Session.{Header, bank_count, pair_count}
+use Rattle.fx_rules.specs.Session.{Header, bank_count, pair_count, bank_name, pair_name}
 use Rattle.fx_rules.specs.declared.command.Command.{Command}
 use Rattle.fx_rules.specs.declared.command.Command.TheVariants as command
 use Rattle.order_lines.specs.Words.{word_text, side_word, life_text, bad_word}
 use Rattle.order_lines.specs.declared.word.Word.TheVariants as word
-use Rattle.order_lines.specs.Spelling.{bank_name, pair_name, price_spelled}
+use Rattle.order_lines.specs.Spelling.{price_spelled}
 use Rattle.order_lines.specs.declared.writing.Field.{Field}
 use Rattle.order_lines.specs.declared.writing.Field.TheVariants.{Bank, Word, Bad, Pair, Price, Number, Life}
 

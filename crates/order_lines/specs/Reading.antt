@@ -1,12 +1,12 @@
 -- What the fields of a command line say: the command, or the first fault from the left.
-use Rattle.std.specs.Prelude.{ℕ, ◌==◌, Option, Some, None, Result, Ok, Err, ok_or, List, [], map, length, slice_index, slice_index_or, if◌then◌else◌}
+use Rattle.std.specs.Prelude.{ℕ, ◌==◌, Option, Some, None, Result, Ok, Err, ok_or, List, [], length, slice_index_or, if◌then◌else◌}
 use Rattle.fx_amounts.specs.PriceText.{price_of}
 use Rattle.fx_amounts.specs.declared.price_text.PriceFault.{PriceFault}
 use Rattle.fx_amounts.specs.declared.price_text.PriceFault.TheVariants.{Form, Range}
 use Rattle.fx_amounts.specs.declared.side.Side.{Side}
 use Rattle.fx_amounts.specs.declared.side.Side.TheVariants as side
 use Rattle.fx_text.specs.Number.{number_of}
-use Rattle.fx_rules.specs.Session.{Header, bank_of, pair_of}
+use Rattle.fx_rules.specs.Session.{Header, bank_of, pair_of, decimals_of}
 use Rattle.fx_rules.specs.declared.command.Command.{Command}
 use Rattle.fx_rules.specs.declared.command.Command.TheVariants as command
 use Rattle.fx_rules.specs.declared.command.Life.{Life}
@@ -25,10 +25,6 @@ abbrev pub ◌>>=◌ : {A B : Type 0} → Result A Reject → (A → Result B Re
 -- the field at a place from 0
 abbrev pub field : List (List ℕ) → ℕ → List ℕ
 field fields at = slice_index_or fields at []
-
--- the decimals of a pair's prices
-abbrev pub decimals_of : Header → ℕ → ℕ
-decimals_of h pair = slice_index (map (λ rule. rule.decimals) h.pairs) pair
 
 -- a field that names a pair
 unfoldable pub pair_said : Header → List ℕ → Result ℕ Reject

@@ -1,5 +1,5 @@
 -- The one spelling of a command of a bank, as a journal writes it.
-use Rattle.std.specs.Prelude.{◌≡◌, ℕ, List, [], ◌∷◌, map, slice_index_or}
+use Rattle.std.specs.Prelude.{◌≡◌, ℕ, List, [], ◌∷◌}
 use Rattle.std.specs.List.{join_with_byte}
 use Rattle.fx_amounts.specs.Numeral.{numeral}
 use Rattle.fx_amounts.specs.PriceText.{price_text}
@@ -7,19 +7,11 @@ use Rattle.fx_text.specs.Fields.{fields_of}
 use Rattle.fx_text.specs.declared.line.Line as lines
 use Rattle.fx_text.specs.declared.line.Line.TheVariants.{Whole, Long}
 use Rattle.fx_rules.specs.Reject.{code_of}
-use Rattle.fx_rules.specs.Session.{Header, pair_text}
+use Rattle.fx_rules.specs.Session.{Header, bank_name, pair_name, decimals_of}
 use Rattle.fx_rules.specs.declared.command.Command.{Command}
 use Rattle.fx_rules.specs.declared.command.Command.TheVariants.{Order, Cancel, Reduce, Pull, Line, Show, Book, Bad}
 use Rattle.order_lines.specs.Words.{word_text, side_word, life_text, bad_word}
-use Rattle.order_lines.specs.Reading.{decimals_of}
 use Rattle.order_lines.specs.declared.word.Word.TheVariants as word
-
-abbrev pub bank_name : Header → ℕ → List ℕ
-bank_name h bank = slice_index_or h.banks bank []
-
--- BASE/QUOTE
-abbrev pub pair_name : Header → ℕ → List ℕ
-pair_name h pair = slice_index_or (map pair_text h.pairs) pair []
 
 abbrev pub price_spelled : Header → ℕ → ℕ → List ℕ
 price_spelled h pair price = price_text (decimals_of h pair) price

@@ -1,8 +1,8 @@
 ghost use Rattle.std.specs.Prelude.{◌≡◌, ◌<◌, length, IfOk};
 ghost use Rattle.fx_amounts.specs.Quantity.{IsDecimals};
-ghost use Rattle.fx_rules.specs.Session.{pair_count};
+ghost use Rattle.fx_rules.specs.Session.{pair_count, decimals_of};
 ghost use Rattle.order_lines.specs.Words.{field_count};
-ghost use Rattle.order_lines.specs.Reading.{decimals_of, pair_said, price_said, lots_said, life_said, number_said, other_said, limit_said, order_said, cancel_said, reduce_said, pull_said, line_said, show_said, book_said, word_said, command_said, said_by};
+ghost use Rattle.order_lines.specs.Reading.{pair_said, price_said, lots_said, life_said, number_said, other_said, limit_said, order_said, cancel_said, reduce_said, pull_said, line_said, show_said, book_said, word_said, command_said, said_by};
 
 use crate::word::{Word, life_from};
 use fx_amounts::{BankId, Lots, PairId, Price, PriceFault, Side, Units, price_from};
