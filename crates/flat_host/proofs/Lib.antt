@@ -2,8 +2,15 @@ pub mod Searching
 pub mod PlanSteps
 pub mod Lowered
 pub mod Carrying
+pub mod Tables
+pub mod Pairs
+pub mod Market
 pub mod Counting
-pub mod Affording
 pub mod Reading
-pub mod Stepping
 pub mod OpeningLemmas
+pub mod Levelling
+pub mod Probing
+pub mod Pulling
+pub mod Stepping
+pub mod GoingOn
+pub mod Viewing

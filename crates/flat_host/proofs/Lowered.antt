@@ -14,11 +14,11 @@ tail_at bank number b rest i a at' = record {
   first = λ k below. at'.first (suc k) (omega (arith, below));
 }
 
-lowered_here : (bank number lots : ℕ) (b : ActiveOrder) (rest : List ActiveOrder) → is_order bank number b.order ≡ true → lowered bank number lots (b ∷ rest) ≡ cond (ltb lots b.order.left) (with_left b (b.order.left - lots) ∷ rest) rest
+pub lowered_here : (bank number lots : ℕ) (b : ActiveOrder) (rest : List ActiveOrder) → is_order bank number b.order ≡ true → lowered bank number lots (b ∷ rest) ≡ cond (ltb lots b.order.left) (with_left b (b.order.left - lots) ∷ rest) rest
 lowered_here bank number lots b rest is =
     cond-true (is_order bank number b.order) (cond (ltb lots b.order.left) (with_left b (b.order.left - lots) ∷ rest) rest) (b ∷ lowered bank number lots rest) is
 
-lowered_later : (bank number lots : ℕ) (b : ActiveOrder) (rest : List ActiveOrder) → is_order bank number b.order ≡ false → lowered bank number lots (b ∷ rest) ≡ b ∷ lowered bank number lots rest
+pub lowered_later : (bank number lots : ℕ) (b : ActiveOrder) (rest : List ActiveOrder) → is_order bank number b.order ≡ false → lowered bank number lots (b ∷ rest) ≡ b ∷ lowered bank number lots rest
 lowered_later bank number lots b rest is =
     cond-false (is_order bank number b.order) (cond (ltb lots b.order.left) (with_left b (b.order.left - lots) ∷ rest) rest) (b ∷ lowered bank number lots rest) is
 

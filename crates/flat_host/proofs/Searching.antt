@@ -1,8 +1,8 @@
 -- The best so far, after one more order.
-use Rattle.std.proofs.Common.{ℕ, ◌≡◌, ◌+◌, ◌<◌, Bool, true, false, List, [], ◌∷◌, ◌++◌, inl, inr, refl, ap, sym, subst, ◌∙◌, length, get_or, take, map, Option, Some, None}
+use Rattle.std.proofs.Common.{ℕ, ◌≡◌, ◌+◌, ◌<◌, Bool, true, false, ◌&&◌, List, [], ◌∷◌, ◌++◌, inl, inr, refl, ap, sym, subst, ◌∙◌, length, get_or, take, map, Option, Some, None}
 use Rattle.std.proofs.lemmas.List.{take_more, map-append, append-nil}
 use Rattle.std.proofs.lemmas.List.Elements.{filter-append}
-use Rattle.std.proofs.lemmas.Bool.{cases_Bool, cond-true, cond-false, false_from_ne_true, both_ways}
+use Rattle.std.proofs.lemmas.Bool.{cases_Bool, cond-true, cond-false, false_from_ne_true, both_ways, and_from, and_left, and_right}
 use Rattle.std.specs.List.{filter}
 use Rattle.fx_amounts.specs.declared.side.Side.{Side}
 use Rattle.fx_rules.specs.declared.orders.ActiveOrder.{ActiveOrder}
@@ -17,13 +17,13 @@ use Rattle.flat_host.specs.Search.{preferred_of, IsBestOf}
 abbrev pub chosen : (ActiveOrder → Bool) → List ActiveOrder → List Resting
 chosen test orders = map (λ (a : ActiveOrder). a.order) (filter test orders)
 
-chosen-yes : (test : ActiveOrder → Bool) (orders : List ActiveOrder) (i : ℕ) (a : ActiveOrder) → i < length orders → a ≡ get_or orders i a → test a ≡ true → chosen test (take (i + 1) orders) ≡ chosen test (take i orders) ++ a.order ∷ []
+pub chosen-yes : (test : ActiveOrder → Bool) (orders : List ActiveOrder) (i : ℕ) (a : ActiveOrder) → i < length orders → a ≡ get_or orders i a → test a ≡ true → chosen test (take (i + 1) orders) ≡ chosen test (take i orders) ++ a.order ∷ []
 chosen-yes test orders i a within is passes =
     ap (chosen test) (take_more orders i a within ∙ ap (λ (b : ActiveOrder). take i orders ++ b ∷ []) (sym is))
     ∙ ap (map (λ (b : ActiveOrder). b.order)) (filter-append test (take i orders) (a ∷ []) ∙ ap (λ (rest : List ActiveOrder). filter test (take i orders) ++ rest) (filter_cons_true test a [] passes))
     ∙ map-append (λ (b : ActiveOrder). b.order) (filter test (take i orders)) (a ∷ [])
 
-chosen-no : (test : ActiveOrder → Bool) (orders : List ActiveOrder) (i : ℕ) (a : ActiveOrder) → i < length orders → a ≡ get_or orders i a → test a ≡ false → chosen test (take (i + 1) orders) ≡ chosen test (take i orders)
+pub chosen-no : (test : ActiveOrder → Bool) (orders : List ActiveOrder) (i : ℕ) (a : ActiveOrder) → i < length orders → a ≡ get_or orders i a → test a ≡ false → chosen test (take (i + 1) orders) ≡ chosen test (take i orders)
 chosen-no test orders i a within is fails =
     ap (chosen test) (take_more orders i a within ∙ ap (λ (b : ActiveOrder). take i orders ++ b ∷ []) (sym is))
     ∙ ap (map (λ (b : ActiveOrder). b.order)) (filter-append test (take i orders) (a ∷ []) ∙ ap (λ (rest : List ActiveOrder). filter test (take i orders) ++ rest) (filter_cons_false test a [] fails))
@@ -76,3 +76,23 @@ best-yes side test orders i a best within is passes so_far =
 pub best-no : (side : Side) (test : ActiveOrder → Bool) (orders : List ActiveOrder) (i : ℕ) (a : ActiveOrder) (best : Option Resting) → i < length orders → a ≡ get_or orders i a → test a ≡ false → IsBestOf side (chosen test (take i orders)) best → IsBestOf side (chosen test (take (i + 1) orders)) best
 best-no side test orders i a best within is fails so_far =
     subst (λ os. IsBestOf side os best) (sym (chosen-no test orders i a within is fails)) so_far
+
+-- two tests, one after the other
+pub chosen-both : (here : ActiveOrder → Bool) (test : Resting → Bool) (orders : List ActiveOrder) → chosen (λ (a : ActiveOrder). here a && test a.order) orders ≡ filter test (map (λ (a : ActiveOrder). a.order) (filter here orders))
+chosen-both here test [] = refl
+chosen-both here test (a ∷ orders) =
+    let both : ActiveOrder → Bool = λ (b : ActiveOrder). here b && test b.order in
+    let order : ActiveOrder → Resting = λ (b : ActiveOrder). b.order in
+    let rest : map order (filter both orders) ≡ filter test (map order (filter here orders)) = chosen-both here test orders in
+    elim (cases_Bool (here a)) [
+      | inl is ↦ elim (cases_Bool (test a.order)) [
+        | inl passes ↦ ap (map order) (filter_cons_true both a orders (and_from (here a) (test a.order) is passes)) ∙ ap (λ (os : List Resting). a.order ∷ os) rest
+            ∙ sym (filter_cons_true test a.order (map order (filter here orders)) passes)
+            ∙ sym (ap (λ (kept : List ActiveOrder). filter test (map order kept)) (filter_cons_true here a orders is))
+        | inr fails ↦ ap (map order) (filter_cons_false both a orders (and_right (here a) (test a.order) fails)) ∙ rest
+            ∙ sym (filter_cons_false test a.order (map order (filter here orders)) fails)
+            ∙ sym (ap (λ (kept : List ActiveOrder). filter test (map order kept)) (filter_cons_true here a orders is))
+      ]
+      | inr is_not ↦ ap (map order) (filter_cons_false both a orders (and_left (here a) (test a.order) is_not)) ∙ rest
+          ∙ sym (ap (λ (kept : List ActiveOrder). filter test (map order kept)) (filter_cons_false here a orders is_not))
+    ]

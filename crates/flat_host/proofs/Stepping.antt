@@ -1,168 +1,55 @@
--- What the host's sweep means in each state that the host stands for.
-use Rattle.std.proofs.Common.{ℕ, zero, suc, ◌≡◌, ◌≢◌, ◌+◌, ◌-◌, ◌*◌, ◌/◌, ◌≤◌, ◌<◌, ◌^◌, min, Bool, true, false, ◌&&◌, eqb, ltb, List, [], ◌∷◌, ◌++◌, inl, inr, refl, ap, sym, subst, ◌∙◌, arith, length, get_or, None, add-zero}
+-- What the host answers and makes of a command, in each state that it stands for.
+use Rattle.std.proofs.Common.{ℕ, zero, suc, ◌≡◌, ◌≢◌, ◌+◌, ◌-◌, ◌*◌, ◌≤◌, ◌<◌, ◌^◌, min, max, Bool, true, false, ◌&&◌, eqb, ltb, cond, List, [], ◌∷◌, ◌++◌, inl, inr, refl, ap, sym, subst, ◌∙◌, arith, length, get_or, get_or-set_same, get_or-set_other, map, find, Option, Some, None}
 use Rattle.std.proofs.Math.ListN.{set}
-use Rattle.std.proofs.lemmas.Bool.{cases_Bool, cases_eq, cond-true, cond-false, cond_both, and_parts, eqb-true, false_from_ne_true}
+use Rattle.std.proofs.lemmas.Bool.{cases_Bool, cond-true, cond-false, cond_both, and_parts, and_from, eqb-true, eq-eqb, both_ways}
 use Rattle.std.proofs.lemmas.List.{length-map}
+use Rattle.std.specs.Prelude.{nat_lt}
+use Rattle.std.specs.List.{filter}
 use Rattle.fx_amounts.specs.declared.side.Side.{Side}
+use Rattle.fx_amounts.specs.declared.side.Side.TheVariants.{Buy, Sell}
 use Rattle.fx_rules.specs.declared.orders.ActiveOrder.{ActiveOrder}
 use Rattle.fx_rules.specs.declared.orders.Resting.{Resting}
 use Rattle.fx_rules.specs.declared.orders.Fill.{Fill}
+use Rattle.fx_rules.specs.declared.orders.Level.{Level}
 use Rattle.fx_rules.specs.declared.command.Command.{Command}
-use Rattle.fx_rules.specs.declared.command.Command.TheVariants.{Order, Bad}
+use Rattle.fx_rules.specs.declared.command.Command.TheVariants.{Order, Cancel, Reduce, Pull, Line, Show, Book, Bad}
 use Rattle.fx_rules.specs.declared.command.Reject.{Reject}
 use Rattle.fx_rules.specs.declared.command.Life.{Life}
 use Rattle.fx_rules.specs.declared.command.Life.TheVariants.{Day, Ioc, Fok}
 use Rattle.fx_rules.specs.declared.outcome.Outcome.{Outcome}
-use Rattle.fx_rules.specs.declared.outcome.Outcome.TheVariants.{Ordered, Killed, Rejected}
+use Rattle.fx_rules.specs.declared.outcome.Outcome.TheVariants.{Ordered, Killed, Cancelled, Reduced, NotLess, Nothing, Pulled, LineSet, Shown, Depth, Rejected}
 use Rattle.fx_rules.specs.declared.session.PairRule.{PairRule}
-use Rattle.fx_rules.specs.declared.outcome.Entry.{Entry}
-use Rattle.fx_rules.specs.Lists.{Among, Each, total}
+use Rattle.fx_rules.specs.Lists.{total}
 use Rattle.fx_rules.specs.Session.{Header, IsSession, bank_count, pair_count, weight_of}
-use Rattle.fx_rules.specs.State.{State, opening, orders_in, line, reach, used, cost, cost_between, is_between}
-use Rattle.fx_rules.specs.Sweep.{Taker, Swept, is_open, is_order, open_orders, filled, filled_all, lowered}
-use Rattle.fx_rules.specs.Step.{IsCommand, IsOutcome, taker_of, rested, counted, after}
-use Rattle.fx_rules.specs.History.{IsStep, state}
-use Rattle.fx_rules.specs.Sound.{IsSound, IsKept}
-use Rattle.fx_rules.specs.Plan.{Planned, is_behind, open_behind}
-use Rattle.fx_rules.proofs.ListLemmas.{Each-among, Each-weaker, filter_agree_on, filter_cons_true, filter_cons_false}
-use Rattle.fx_rules.proofs.Credit.{cost_between-append, used-filled}
-use Rattle.fx_rules.proofs.Opens.{orders_in-among}
-use Rattle.fx_rules.proofs.Lowering.{Each-lowered}
-use Rattle.fx_rules.proofs.Soundness.{weight_of-least, counts-filled_all, limits-filled_all, legal-sound, legal-push, after_all-push}
-use Rattle.fx_rules.proofs.Planning.{orders_in-rising, open_own}
-use Rattle.fx_rules.proofs.PlanSwept.{planned-swept}
-use Rattle.flat_host.specs.Ledger.{Ledger, StandsFor, limit_in, use_in, line_in}
-use Rattle.flat_host.specs.Parts.{PlannedIn, CarriedIn, SweptIn, taker_from, makers_lowered, with_rest, resting_from, cost_at}
-use Rattle.flat_host.specs.Steps.{IsCommandOf, StepsEach, GoesOn, entry_of}
-use Rattle.flat_host.proofs.Lowered.{lowered-none}
+use Rattle.fx_rules.specs.State.{State, orders_in, line, used, cost_between}
+use Rattle.fx_rules.specs.Sweep.{Taker, Swept, is_order, filled, filled_all}
+use Rattle.fx_rules.specs.Raise.{limit_set, limited, order_of, Raised, PairsTurned}
+use Rattle.fx_rules.specs.Step.{IsCommand, IsOrdered, IsOutcome, cancel_answer, reduce_answer, orders_by, taker_of, rested, counted, changed, after, fills_of, without_order, without_orders, reduced}
+use Rattle.fx_rules.specs.Sound.{IsSound}
+use Rattle.fx_rules.proofs.SweepSound.{weight_of-least, counts-filled_all, limits-filled_all}
+use Rattle.fx_rules.proofs.RaiseSound.{limited-sound}
+use Rattle.flat_host.specs.Ledger.{Ledger, IsLedger, IsWithin, TablesFor, StandsFor, limit_place, limit_in, use_in, line_in}
+use Rattle.flat_host.specs.Parts.{PlannedOver, PlannedIn, OrderedIn, taker_from, both_lowered, uses_after, with_rest, resting_from, rests_of, is_done, order_carried, filled_in, limits_with, counted_in, cancelled_in, reduced_in, shown_in}
+use Rattle.flat_host.specs.Turns.{in_pair, RaisedIn, LineSetIn, limited_in, raised_in}
+use Rattle.flat_host.specs.Levels.{ProbedIn}
+use Rattle.flat_host.specs.Steps.{IsCommandOf, AnswersEach, ChangesEach, FollowsEach, StepsEach, ShowsEach}
+use Rattle.flat_host.proofs.Carrying.{places_same}
+use Rattle.flat_host.proofs.Tables.{tables_of, line-same, tables-swept, tables-pairs}
+use Rattle.flat_host.proofs.Market.{swept-planned, raised-market}
+use Rattle.flat_host.proofs.Probing.{shows-probed}
+use Rattle.flat_host.proofs.Pulling.{pulled-most}
 
--- the market's state over the ledger's own orders and counts
-abbrev pub over : Ledger → (ℕ → ℕ → ℕ) → List Fill → State
-over l limits past = record { orders = l.orders; limits = limits; fills = past; counts = l.counts }
+pub bank_within : (h : Header) (S : State) (l : Ledger) (bank : ℕ) → IsSound h S → StandsFor h S l → bank < length l.counts → bank < bank_count h
+bank_within h S l bank sound stands sender = omega (arith, ap length stands.counts, sound.counts, sender)
 
-lines_of_two : (a b u a' b' u' : ℕ) → a ≡ a' → b ≡ b' → u ≡ u' → min a b - u ≡ min a' b' - u'
-lines_of_two a b u a' b' u' p q r = cc
+pub pair_within : (h : Header) (S : State) (l : Ledger) (pair : ℕ) → StandsFor h S l → pair < length l.weights → pair < pair_count h
+pair_within h S l pair stands within = omega (arith, ap length stands.weights, length-map h.pairs (λ (rule : PairRule). rule.weight), within)
 
-and_true_right : (a : Bool) → (a && true) ≡ a
-and_true_right true = refl
-and_true_right false = refl
+orders-filled_all : (S : State) (fills : List Fill) → (filled_all S fills).orders ≡ both_lowered S.orders fills
+orders-filled_all S [] = refl
+orders-filled_all S (f ∷ fills) = orders-filled_all (filled S f) fills
 
--- the line that the ledger tells is the state's
-line-same : (h : Header) (S : State) (l : Ledger) (i j : ℕ) → StandsFor h S l → i < bank_count h → j < bank_count h → i ≢ j → line_in l.limits l.uses i j ≡ line h S i j
-line-same h S l i j stands i_in j_in differ =
-    lines_of_two (limit_in l.limits i j) (limit_in l.limits j i) (use_in l.uses i j) (S.limits i j) (S.limits j i) (used h S i j)
-    (stands.limits i j i_in j_in differ) (stands.limits j i j_in i_in (λ e. differ (sym e))) (stands.uses i j i_in j_in differ)
-
-owners_in : (h : Header) (S : State) (pair : ℕ) → IsSound h S → (o : Resting) → Among o (orders_in pair S.orders) → o.bank < bank_count h
-owners_in h S pair sound o there =
-    let found = orders_in-among pair S.orders o there in
-    let kept : IsKept h S.counts found.0 = Each-among (IsKept h S.counts) S.orders found.0 sound.kept found.1 in
-    omega (arith, kept.bank, ap (λ (q : Resting). q.bank) found.3)
-
--- as the sweep begins, the orders behind none are the open ones
-opens_first : (h : Header) (S : State) (t : Taker) (lines : ℕ → ℕ) → IsSound h S → ((b : ℕ) → b < bank_count h → b ≢ t.bank → lines b ≡ line h S t.bank b) → open_behind (λ bank. lines bank / weight_of h t.pair) t None (orders_in t.pair S.orders) ≡ open_orders h S t
-opens_first h S t lines sound agrees =
-    filter_agree_on (λ o. is_open t (lines o.bank / weight_of h t.pair) o && is_behind t.side None o) (λ o. is_open t (reach h S t.bank o.bank t.pair) o) (orders_in t.pair S.orders)
-    (λ o there. and_true_right (is_open t (lines o.bank / weight_of h t.pair) o)
-    ∙ elim (cases_eq o.bank t.bank) [
-      | inl own ↦ open_own t (lines o.bank / weight_of h t.pair) o own ∙ sym (open_own t (reach h S t.bank o.bank t.pair) o own)
-      | inr other ↦ ap (λ n. is_open t (n / weight_of h t.pair) o) (agrees o.bank (owners_in h S t.pair sound o there) other)
-    ])
-
--- a sweep planned in the ledger is the state's sweep
-pub swept-planned : (h : Header) (S : State) (l : Ledger) (t : Taker) (fills : List Fill) (left : ℕ) → IsSession h → IsSound h S → StandsFor h S l → t.bank < bank_count h → t.pair < pair_count h → PlannedIn l t fills left → Swept h S t fills left
-swept-planned h S l t fills left session sound stands bank pair planned =
-    let agrees : (b : ℕ) → b < bank_count h → b ≢ t.bank → planned.lines b ≡ line h S t.bank b = λ b b_in differ.
-    planned.lines_are b (omega (arith, session.banks_most, b_in)) ∙ line-same h S l t.bank b stands bank b_in (λ e. differ (sym e)) in
-    let weight : get_or l.weights t.pair 0 ≡ weight_of h t.pair = ap (λ (ws : List ℕ). get_or ws t.pair 0) stands.weights in
-    planned-swept h S t planned.lines (orders_in t.pair S.orders) None fills left
-    (record {
-      sound = sound;
-      bank = bank;
-      weight = weight_of-least h t.pair session pair;
-      agrees = agrees;
-      rising = orders_in-rising t.pair S.orders sound.rising;
-      owners = owners_in h S t.pair sound;
-      opens = λ _. opens_first h S t planned.lines sound agrees;
-    })
-    (subst (λ w. Planned w planned.lines (orders_in t.pair S.orders) t None fills left) weight
-    (subst (λ (os : List ActiveOrder). Planned (get_or l.weights t.pair 0) planned.lines (orders_in t.pair os) t None fills left) stands.orders planned.planned))
-
--- Each fill of a sweep is of its taker.
-pub record IsOf (t : Taker) (f : Fill) : Type 0 where
-  pub pair : f.pair ≡ t.pair
-  pub taker : f.taker ≡ t.bank
-  pub number : f.taker_number ≡ t.number
-
-pub swept-of : (h : Header) (S : State) (t : Taker) (fills : List Fill) (left : ℕ) → Swept h S t fills left → Each (IsOf t) fills
-swept-of h S t [] left swept = tt
-swept-of h S t (f ∷ fills) left swept = (
-  record { pair = ap (λ (g : Fill). g.pair) swept.3; taker = ap (λ (g : Fill). g.taker) swept.3; number = ap (λ (g : Fill). g.taker_number) swept.3 },
-  Each-weaker (IsOf (record t { left = t.left - f.lots })) (IsOf t) (λ g is. record { pair = is.pair; taker = is.taker; number = is.number }) fills
-      (swept-of h (filled S f) (record t { left = t.left - f.lots }) fills left swept.4),
-)
-
-each_at : (P : ActiveOrder → Type 0) (orders : List ActiveOrder) (k : ℕ) (d : ActiveOrder) → Each P orders → k < length orders → P (get_or orders k d)
-each_at P [] k d all below = absurd (omega arith)
-each_at P (a ∷ orders) zero d all below = all.0
-each_at P (a ∷ orders) (suc k) d all below = each_at P orders k d all.1 (omega arith)
-
-sum_same : (a b c d : ℕ) → a ≡ b → c ≡ d → a + c ≡ b + d
-sum_same a b c d p q = cc
-
--- no order of the taker's own command rests
-abbrev NotResting : Taker → ActiveOrder → Type 0
-NotResting t a = is_order t.bank t.number a.order ≡ false
-
-none_lowered : (bank number lots : ℕ) (orders : List ActiveOrder) → Each (λ a. is_order bank number a.order ≡ false) orders → lowered bank number lots orders ≡ orders
-none_lowered bank number lots orders none =
-    lowered-none bank number lots orders (λ k d below. each_at (λ a. is_order bank number a.order ≡ false) orders k d none below)
-
-orders-filled_all : (S : State) (t : Taker) (fills : List Fill) → Each (IsOf t) fills → Each (NotResting t) S.orders → (filled_all S fills).orders ≡ makers_lowered S.orders fills
-orders-filled_all S t [] all none = refl
-orders-filled_all S t (f ∷ fills) all none =
-    let rest : List ActiveOrder = lowered f.maker f.maker_number f.lots S.orders in
-    let none_rest : Each (NotResting t) rest = Each-lowered (NotResting t) (λ a left is _ _. is) f.maker f.maker_number f.lots S.orders none in
-    let same : lowered f.taker f.taker_number f.lots rest ≡ rest =
-    none_lowered f.taker f.taker_number f.lots rest
-    (subst (λ b. Each (λ a. is_order b f.taker_number a.order ≡ false) rest) (sym all.0.taker)
-    (subst (λ n. Each (λ a. is_order t.bank n a.order ≡ false) rest) (sym all.0.number) none_rest)) in
-    orders-filled_all (filled S f) t fills all.1 (subst (Each (NotResting t)) (sym same) none_rest)
-    ∙ ap (λ (os : List ActiveOrder). makers_lowered os fills) same
-
--- what two banks have used after the fills
-used-filled_all : (h : Header) (S : State) (fills : List Fill) (i j : ℕ) → used h (filled_all S fills) i j ≡ used h S i j + cost_between h i j fills
-used-filled_all h S [] i j = sym (add-zero (used h S i j))
-used-filled_all h S (f ∷ fills) i j =
-    let rest : used h (filled_all (filled S f) fills) i j ≡ used h (filled S f) i j + cost_between h i j fills = used-filled_all h (filled S f) fills i j in
-    let one : used h (filled S f) i j ≡ used h S i j + cost_between h i j (f ∷ []) = used-filled h S f i j in
-    let both : cost_between h i j (f ∷ fills) ≡ cost_between h i j (f ∷ []) + cost_between h i j fills = cost_between-append h i j (f ∷ []) fills in
-    omega arith
-
--- fills of one pair cost its weight
-cost_at-between : (h : Header) (t : Taker) (weight i j : ℕ) (fills : List Fill) → weight ≡ weight_of h t.pair → Each (IsOf t) fills → cost_at weight i j fills ≡ cost_between h i j fills
-cost_at-between h t weight i j [] is all = refl
-cost_at-between h t weight i j (f ∷ fills) is all =
-    let rest : cost_at weight i j fills ≡ cost_between h i j fills = cost_at-between h t weight i j fills is all.1 in
-    let one : f.lots * weight ≡ cost h f = ap (λ w. f.lots * w) (is ∙ ap (weight_of h) (sym all.0.pair)) in
-    elim (cases_Bool (is_between i j f)) [
-      | inl here ↦ ap (total (λ (g : Fill). g.lots * weight)) (filter_cons_true (is_between i j) f fills here)
-          ∙ sum_same (f.lots * weight) (cost h f) (cost_at weight i j fills) (cost_between h i j fills) one rest
-          ∙ sym (ap (total (cost h)) (filter_cons_true (is_between i j) f fills here))
-      | inr there ↦ ap (total (λ (g : Fill). g.lots * weight)) (filter_cons_false (is_between i j) f fills there) ∙ rest
-          ∙ sym (ap (total (cost h)) (filter_cons_false (is_between i j) f fills there))
-    ]
-
--- the sender's next command does not rest yet
-next_not_resting : (h : Header) (S : State) (bank : ℕ) (t : Taker) → t.bank ≡ bank → t.number ≡ get_or S.counts bank 0 + 1 → IsSound h S → Each (NotResting t) S.orders
-next_not_resting h S bank t own number sound =
-    Each-weaker (IsKept h S.counts) (NotResting t)
-    (λ a kept. false_from_ne_true (is_order t.bank t.number a.order) (λ is.
-    let p = and_parts (eqb a.order.bank t.bank) (eqb a.order.number t.number) is in
-    let most : a.order.number ≤ get_or S.counts bank 0 =
-    subst (λ b. a.order.number ≤ get_or S.counts b 0) (eqb-true a.order.bank t.bank p.0 ∙ own) kept.number_most in
-    omega (arith, eqb-true a.order.number t.number p.1)))
-    S.orders sound.kept
+-- Orders.
 
 -- what it changes of a state that a rest stands
 rested-orders : (t : Taker) (rests : ℕ) (S : State) → (rested t rests S).orders ≡ with_rest t rests S.orders
@@ -175,7 +62,7 @@ rested-orders t rests S =
     ]
 
 -- and what it leaves
-pub record SameBut (S T : State) : Type 0 where
+record SameBut (S T : State) : Type 0 where
   pub limits : T.limits ≡ S.limits
   pub fills : T.fills ≡ S.fills
   pub counts : T.counts ≡ S.counts
@@ -199,114 +86,297 @@ taker-same S l bank side pair price lots same =
     } in
     ap made same
 
--- The ledger after the sweep was carried out and the command counted stands for the state after it.
-pub stands-after : (h : Header) (S : State) (old carried new : Ledger) (bank : ℕ) (side : Side) (pair price lots rests : ℕ) (fills : List Fill) (left : ℕ) → IsSession h → IsSound h S → StandsFor h S old → Swept h S (taker_of S bank side pair price lots) fills left → CarriedIn old carried (taker_from old bank side pair price lots) rests fills → new ≡ record carried { counts = set carried.counts bank (get_or carried.counts bank 0 + 1) } → StandsFor h (counted bank (rested (taker_of S bank side pair price lots) rests (filled_all S fills))) new
-stands-after h S old carried new bank side pair price lots rests fills left session sound stands swept carried_in counted_is =
-    let t : Taker = taker_of S bank side pair price lots in
+-- a sweep carried out stands for the state with its fills and its rest
+stands-ordered : (h : Header) (S : State) (old : Ledger) (t : Taker) (rests : ℕ) (fills : List Fill) (left : ℕ) → IsSession h → IsSound h S → StandsFor h S old → length old.uses ≡ 4096 → t.bank < bank_count h → t.pair < pair_count h → Swept h S t fills left → StandsFor h (rested t rests (filled_all S fills)) (order_carried old t rests fills)
+stands-ordered h S old t rests fills left session sound stands full bank pair swept =
     let T : State = filled_all S fills in
-    let R : State = rested t rests T in
-    let rest : SameBut T R = rested-same t rests T in
-    let all_of : Each (IsOf t) fills = swept-of h S t fills left swept in
-    let none : Each (NotResting t) S.orders = next_not_resting h S bank t refl refl sound in
-    let counts_are : R.counts ≡ carried.counts = rest.counts ∙ counts-filled_all S fills ∙ sym stands.counts ∙ sym carried_in.counts in
-    let weight : get_or old.weights pair 0 ≡ weight_of h pair = ap (λ (ws : List ℕ). get_or ws pair 0) stands.weights in
+    let rest : SameBut T (rested t rests T) = rested-same t rests T in
+    let tables : TablesFor h T old.weights old.limits (uses_after old.weights old.limits old.uses fills) =
+    tables-swept h S old.weights old.limits old.uses t fills left session.banks_most full sound bank (weight_of-least h t.pair session pair) (tables_of h S old stands) swept in
     record {
       orders =
-          ap (λ (l : Ledger). l.orders) counted_is ∙ carried_in.orders
-          ∙ ap (λ (u : Taker). with_rest u rests (makers_lowered old.orders fills)) (taker-same S old bank side pair price lots stands.counts)
-          ∙ ap (λ (os : List ActiveOrder). with_rest t rests (makers_lowered os fills)) stands.orders
-          ∙ ap (with_rest t rests) (sym (orders-filled_all S t fills all_of none))
+          ap (λ (os : List ActiveOrder). with_rest t rests (both_lowered os fills)) stands.orders
+          ∙ ap (with_rest t rests) (sym (orders-filled_all S fills))
           ∙ sym (rested-orders t rests T);
-      counts =
-          ap (λ (l : Ledger). l.counts) counted_is
-          ∙ ap (λ (cs : List ℕ). set cs bank (get_or cs bank 0 + 1)) (sym counts_are);
-      weights = ap (λ (l : Ledger). l.weights) counted_is ∙ carried_in.weights ∙ stands.weights;
-      limits = λ i j i_in j_in differ.
-          ap (λ (l : Ledger). limit_in l.limits i j) counted_is
-          ∙ ap (λ (ls : List ℕ). limit_in ls i j) carried_in.limits
-          ∙ stands.limits i j i_in j_in differ
-          ∙ ap (λ (ls : ℕ → ℕ → ℕ). ls i j) (sym (rest.limits ∙ limits-filled_all S fills));
-      uses = λ i j i_in j_in differ.
-          ap (λ (l : Ledger). use_in l.uses i j) counted_is
-          ∙ carried_in.uses i j (omega (arith, session.banks_most)) (omega (arith, session.banks_most)) differ
-          ∙ sum_same (use_in old.uses i j) (used h S i j) (cost_at (get_or old.weights pair 0) i j fills) (cost_between h i j fills)
-          (stands.uses i j i_in j_in differ) (cost_at-between h t (get_or old.weights pair 0) i j fills weight all_of)
-          ∙ sym (used-filled_all h S fills i j)
-          ∙ ap (λ (past : List Fill). cost_between h i j past) (sym rest.fills);
+      counts = stands.counts ∙ sym (counts-filled_all S fills) ∙ sym rest.counts;
+      weights = stands.weights;
+      limits = λ i j i_in j_in differ. tables.limit i j i_in j_in differ ∙ ap (λ (ls : ℕ → ℕ → ℕ). ls i j) (sym rest.limits);
+      uses = λ i j i_in j_in differ. tables.spent i j i_in j_in differ ∙ ap (λ (past : List Fill). cost_between h i j past) (sym rest.fills);
     }
 
--- A killed order leaves the ledger as it was, but for the count.
-stands-counted : (h : Header) (S : State) (old new : Ledger) (bank : ℕ) → StandsFor h S old → new ≡ record old { counts = set old.counts bank (get_or old.counts bank 0 + 1) } → StandsFor h (counted bank S) new
-stands-counted h S old new bank stands counted_is = record {
-  orders = ap (λ (l : Ledger). l.orders) counted_is ∙ stands.orders;
-  counts = ap (λ (l : Ledger). l.counts) counted_is ∙ ap (λ (cs : List ℕ). set cs bank (get_or cs bank 0 + 1)) stands.counts;
-  weights = ap (λ (l : Ledger). l.weights) counted_is ∙ stands.weights;
-  limits = λ i j i_in j_in differ. ap (λ (l : Ledger). limit_in l.limits i j) counted_is ∙ stands.limits i j i_in j_in differ;
-  uses = λ i j i_in j_in differ. ap (λ (l : Ledger). use_in l.uses i j) counted_is ∙ stands.uses i j i_in j_in differ;
+planned-market : (h : Header) (S : State) (l : Ledger) (t : Taker) (fills : List Fill) (left : ℕ) → IsSession h → IsSound h S → StandsFor h S l → t.bank < bank_count h → t.pair < pair_count h → PlannedIn l t fills left → Swept h S t fills left
+planned-market h S l t fills left session sound stands bank pair planned =
+    swept-planned h S l.weights l.limits l.uses t fills left session sound (tables_of h S l stands) bank pair
+    (subst (λ (os : List ActiveOrder). PlannedOver l.weights l.limits l.uses (orders_in t.pair os) t fills left) stands.orders planned)
+
+ordered-market : (h : Header) (S : State) (l : Ledger) (t : Taker) (life : Life) (outcome : Outcome) → IsSession h → IsSound h S → StandsFor h S l → t.bank < bank_count h → t.pair < pair_count h → OrderedIn l t life outcome → IsOrdered h S t life outcome
+ordered-market h S l t Day (Ordered done rests fills) session sound stands bank pair is =
+    (planned-market h S l t fills rests session sound stands bank pair is.0, is.1, is.2)
+ordered-market h S l t Ioc (Ordered done rests fills) session sound stands bank pair is =
+    (planned-market h S l t fills (t.left - done) session sound stands bank pair is.0, is.1, is.2)
+ordered-market h S l t Fok (Ordered done rests fills) session sound stands bank pair is =
+    (planned-market h S l t fills 0 session sound stands bank pair is.0, is.1, is.2)
+ordered-market h S l t Fok Killed session sound stands bank pair is =
+    (is.0, is.1, planned-market h S l t is.0 is.1 session sound stands bank pair is.2, is.3)
+ordered-market h S l t life outcome session sound stands bank pair is = absurd is
+
+pub order-answers : (l : Ledger) (bank : ℕ) (side : Side) (pair price lots : ℕ) (life : Life) (command : Command) (t : Taker) (outcome : Outcome) → command ≡ Order side pair price lots life → t ≡ taker_from l bank side pair price lots → bank < length l.counts → IsCommandOf l bank command → OrderedIn l t life outcome → AnswersEach l bank command outcome
+order-answers l bank side pair price lots life command t outcome command_is taker_is sender valid is h S session sound stands =
+    let in_range : IsCommandOf l bank (Order side pair price lots life) = subst (IsCommandOf l bank) command_is valid in
+    subst (λ (c : Command). IsOutcome h S bank c outcome) (sym command_is)
+    (ordered-market h S l (taker_of S bank side pair price lots) life outcome session sound stands
+    (bank_within h S l bank sound stands sender) (pair_within h S l pair stands in_range.0)
+    (subst (λ (u : Taker). OrderedIn l u life outcome) (taker_is ∙ taker-same S l bank side pair price lots stands.counts) is))
+
+order-changed : (h : Header) (S : State) (old : Ledger) (bank : ℕ) (side : Side) (pair price lots : ℕ) (life : Life) (outcome : Outcome) → IsSession h → IsSound h S → StandsFor h S old → length old.uses ≡ 4096 → bank < bank_count h → pair < pair_count h → lots ≤ 10 ^ 6 → IsOrdered h S (taker_of S bank side pair price lots) life outcome → (rests_of outcome ≤ 10 ^ 6) × StandsFor h (changed S bank (Order side pair price lots life) outcome) (order_carried old (taker_of S bank side pair price lots) (rests_of outcome) (fills_of outcome))
+order-changed h S old bank side pair price lots Day (Ordered done rests fills) session sound stands full bank_in pair_in most is =
+    (omega (arith, is.2), stands-ordered h S old (taker_of S bank side pair price lots) rests fills rests session sound stands full bank_in pair_in is.0)
+order-changed h S old bank side pair price lots Ioc (Ordered done rests fills) session sound stands full bank_in pair_in most is =
+    (omega (arith, is.2), stands-ordered h S old (taker_of S bank side pair price lots) rests fills (lots - done) session sound stands full bank_in pair_in is.0)
+order-changed h S old bank side pair price lots Fok (Ordered done rests fills) session sound stands full bank_in pair_in most is =
+    (omega (arith, is.2), stands-ordered h S old (taker_of S bank side pair price lots) rests fills 0 session sound stands full bank_in pair_in is.0)
+order-changed h S old bank side pair price lots Fok Killed session sound stands full bank_in pair_in most is = (omega arith, stands)
+order-changed h S old bank side pair price lots life outcome session sound stands full bank_in pair_in most is = absurd is
+
+pub order-changes : (old new : Ledger) (bank : ℕ) (side : Side) (pair price lots : ℕ) (life : Life) (command : Command) (t : Taker) (outcome : Outcome) → length old.uses ≡ 4096 → command ≡ Order side pair price lots life → t ≡ taker_from old bank side pair price lots → bank < length old.counts → IsCommandOf old bank command → (rests_of outcome ≤ 10 ^ 6 → new ≡ order_carried old t (rests_of outcome) (fills_of outcome)) → ChangesEach old new bank command outcome
+order-changes old new bank side pair price lots life command t outcome full command_is taker_is sender valid made h S session sound stands is =
+    let in_range : IsCommandOf old bank (Order side pair price lots life) = subst (IsCommandOf old bank) command_is valid in
+    let T : Taker = taker_of S bank side pair price lots in
+    let done = order-changed h S old bank side pair price lots life outcome session sound stands full
+    (bank_within h S old bank sound stands sender) (pair_within h S old pair stands in_range.0) (in_range.2.1)
+    (subst (λ (c : Command). IsOutcome h S bank c outcome) command_is is) in
+    subst (λ (c : Command). StandsFor h (changed S bank c outcome) new) (sym command_is)
+    (subst (StandsFor h (changed S bank (Order side pair price lots life) outcome))
+    (ap (λ (u : Taker). order_carried old u (rests_of outcome) (fills_of outcome)) (sym (taker_is ∙ taker-same S old bank side pair price lots stands.counts)) ∙ sym (made done.0))
+    done.1)
+
+-- Cancels, reductions and pulls.
+
+stands-orders : (h : Header) (S : State) (l : Ledger) (f : List ActiveOrder → List ActiveOrder) → StandsFor h S l → StandsFor h (record S { orders = f S.orders }) (record l { orders = f l.orders })
+stands-orders h S l f stands = record {
+  orders = ap f stands.orders;
+  counts = stands.counts;
+  weights = stands.weights;
+  limits = stands.limits;
+  uses = stands.uses;
 }
 
-bank_within : (h : Header) (S : State) (l : Ledger) (bank : ℕ) → IsSound h S → StandsFor h S l → bank < length l.counts → bank < bank_count h
-bank_within h S l bank sound stands sender = omega (arith, ap length stands.counts, sound.counts, sender)
+pub cancel-answers : (l : Ledger) (bank pair number : ℕ) (command : Command) (outcome : Outcome) → command ≡ Cancel pair number → outcome ≡ cancel_answer (find (λ o. is_order bank number o) (orders_in pair l.orders)) → AnswersEach l bank command outcome
+cancel-answers l bank pair number command outcome command_is is h S session sound stands =
+    subst (λ (c : Command). IsOutcome h S bank c outcome) (sym command_is)
+    (is ∙ ap (λ (os : List ActiveOrder). cancel_answer (find (λ o. is_order bank number o) (orders_in pair os))) stands.orders)
 
-pair_within : (h : Header) (S : State) (l : Ledger) (pair : ℕ) → StandsFor h S l → pair < length l.weights → pair < pair_count h
-pair_within h S l pair stands within = omega (arith, ap length stands.weights, length-map h.pairs (λ (rule : PairRule). rule.weight), within)
+cancel-changed : (h : Header) (S : State) (old : Ledger) (bank pair number : ℕ) (found : Option Resting) → StandsFor h S old → StandsFor h (changed S bank (Cancel pair number) (cancel_answer found)) (cancelled_in old bank number (is_done (cancel_answer found)))
+cancel-changed h S old bank pair number None stands = stands
+cancel-changed h S old bank pair number (Some order) stands = stands-orders h S old (without_order bank number) stands
 
-planned-of : (S : State) (l : Ledger) (bank : ℕ) (side : Side) (pair price lots : ℕ) (fills : List Fill) (left : ℕ) → l.counts ≡ S.counts → PlannedIn l (taker_from l bank side pair price lots) fills left → PlannedIn l (taker_of S bank side pair price lots) fills left
-planned-of S l bank side pair price lots fills left same planned =
-    subst (λ (t : Taker). PlannedIn l t fills left) (taker-same S l bank side pair price lots same) planned
+pub cancel-changes : (old new : Ledger) (bank pair number : ℕ) (command : Command) (outcome : Outcome) → command ≡ Cancel pair number → new ≡ cancelled_in old bank number (is_done outcome) → ChangesEach old new bank command outcome
+cancel-changes old new bank pair number command outcome command_is made h S session sound stands is =
+    let answer : outcome ≡ cancel_answer (order_of S pair bank number) = subst (λ (c : Command). IsOutcome h S bank c outcome) command_is is in
+    subst (λ (c : Command). StandsFor h (changed S bank c outcome) new) (sym command_is)
+    (subst (StandsFor h (changed S bank (Cancel pair number) outcome)) (sym made)
+    (subst (λ (o : Outcome). StandsFor h (changed S bank (Cancel pair number) o) (cancelled_in old bank number (is_done o))) (sym answer)
+    (cancel-changed h S old bank pair number (order_of S pair bank number) stands)))
 
--- An order that was swept in the ledger is a step of each state that the ledger stands for.
-pub order-steps : (h : Header) (S : State) (old swept new : Ledger) (bank : ℕ) (side : Side) (pair price lots : ℕ) (life : Life) (outcome : Outcome) → IsSession h → IsSound h S → StandsFor h S old → bank < length old.counts → pair < length old.weights → SweptIn old swept (taker_from old bank side pair price lots) life outcome → new ≡ record swept { counts = set swept.counts bank (get_or swept.counts bank 0 + 1) } → IsOutcome h S bank (Order side pair price lots life) outcome × StandsFor h (after S bank (Order side pair price lots life) outcome) new
-order-steps h S old swept new bank side pair price lots Day (Ordered done rests fills) session sound stands sender pair_in is counted_is =
-    let market = swept-planned h S old (taker_of S bank side pair price lots) fills rests session sound stands
-    (bank_within h S old bank sound stands sender) (pair_within h S old pair stands pair_in) (planned-of S old bank side pair price lots fills rests stands.counts is.0) in
-    ((market, is.1, is.2), stands-after h S old swept new bank side pair price lots rests fills rests session sound stands market is.3 counted_is)
-order-steps h S old swept new bank side pair price lots Ioc (Ordered done rests fills) session sound stands sender pair_in is counted_is =
-    let market = swept-planned h S old (taker_of S bank side pair price lots) fills (lots - done) session sound stands
-    (bank_within h S old bank sound stands sender) (pair_within h S old pair stands pair_in) (planned-of S old bank side pair price lots fills (lots - done) stands.counts is.0) in
-    ((market, is.1, is.2), stands-after h S old swept new bank side pair price lots rests fills (lots - done) session sound stands market is.3 counted_is)
-order-steps h S old swept new bank side pair price lots Fok (Ordered done rests fills) session sound stands sender pair_in is counted_is =
-    let market = swept-planned h S old (taker_of S bank side pair price lots) fills 0 session sound stands
-    (bank_within h S old bank sound stands sender) (pair_within h S old pair stands pair_in) (planned-of S old bank side pair price lots fills 0 stands.counts is.0) in
-    ((market, is.1, is.2), stands-after h S old swept new bank side pair price lots rests fills 0 session sound stands market is.3 counted_is)
-order-steps h S old swept new bank side pair price lots Fok Killed session sound stands sender pair_in is counted_is =
-    let market = swept-planned h S old (taker_of S bank side pair price lots) is.0 is.1 session sound stands
-    (bank_within h S old bank sound stands sender) (pair_within h S old pair stands pair_in) (planned-of S old bank side pair price lots is.0 is.1 stands.counts is.2) in (
-      (is.0, is.1, market, is.3),
-      stands-counted h S old new bank stands (counted_is ∙ ap (λ (l : Ledger). record l { counts = set l.counts bank (get_or l.counts bank 0 + 1) }) is.4),
+pub reduce-answers : (l : Ledger) (bank pair number lots : ℕ) (command : Command) (outcome : Outcome) → command ≡ Reduce pair number lots → outcome ≡ reduce_answer lots (find (λ o. is_order bank number o) (orders_in pair l.orders)) → AnswersEach l bank command outcome
+reduce-answers l bank pair number lots command outcome command_is is h S session sound stands =
+    subst (λ (c : Command). IsOutcome h S bank c outcome) (sym command_is)
+    (is ∙ ap (λ (os : List ActiveOrder). reduce_answer lots (find (λ o. is_order bank number o) (orders_in pair os))) stands.orders)
+
+reduce-changed : (h : Header) (S : State) (old : Ledger) (bank pair number lots : ℕ) (found : Option Resting) → StandsFor h S old → StandsFor h (changed S bank (Reduce pair number lots) (reduce_answer lots found)) (reduced_in old bank number lots (is_done (reduce_answer lots found)))
+reduce-changed h S old bank pair number lots None stands = stands
+reduce-changed h S old bank pair number lots (Some order) stands =
+    cond_both (nat_lt lots order.left) (Reduced lots) (NotLess order.left)
+    (λ (o : Outcome). StandsFor h (changed S bank (Reduce pair number lots) o) (reduced_in old bank number lots (is_done o)))
+    (λ _. stands-orders h S old (reduced bank number lots) stands) (λ _. stands)
+
+pub reduce-changes : (old new : Ledger) (bank pair number lots : ℕ) (command : Command) (outcome : Outcome) → command ≡ Reduce pair number lots → new ≡ reduced_in old bank number lots (is_done outcome) → ChangesEach old new bank command outcome
+reduce-changes old new bank pair number lots command outcome command_is made h S session sound stands is =
+    let answer : outcome ≡ reduce_answer lots (order_of S pair bank number) = subst (λ (c : Command). IsOutcome h S bank c outcome) command_is is in
+    subst (λ (c : Command). StandsFor h (changed S bank c outcome) new) (sym command_is)
+    (subst (StandsFor h (changed S bank (Reduce pair number lots) outcome)) (sym made)
+    (subst (λ (o : Outcome). StandsFor h (changed S bank (Reduce pair number lots) o) (reduced_in old bank number lots (is_done o))) (sym answer)
+    (reduce-changed h S old bank pair number lots (order_of S pair bank number) stands)))
+
+least_of : (n most : ℕ) → n ≤ most → min n most ≡ n
+least_of n most within = omega arith
+
+pub pull-answers : (l : Ledger) (bank pair count : ℕ) (command : Command) → command ≡ Pull pair → get_or l.counts bank 0 < 2 ^ 32 - 1 → count ≡ min (length (filter (λ order. eqb order.bank bank) (orders_in pair l.orders))) (2 ^ 32 - 1) → AnswersEach l bank command (Pulled count)
+pull-answers l bank pair count command command_is below is h S session sound stands =
+    let most : length (orders_by S pair bank) ≤ 2 ^ 32 - 1 =
+    omega (arith, pulled-most h S pair bank sound, ap (λ (cs : List ℕ). get_or cs bank 0) stands.counts) in
+    subst (λ (c : Command). IsOutcome h S bank c (Pulled count)) (sym command_is)
+    (ap Pulled (is
+    ∙ ap (λ (os : List ActiveOrder). min (length (filter (λ order. eqb order.bank bank) (orders_in pair os))) (2 ^ 32 - 1)) stands.orders
+    ∙ least_of (length (orders_by S pair bank)) (2 ^ 32 - 1) most))
+
+pub pull-changes : (old new : Ledger) (bank pair : ℕ) (command : Command) (outcome : Outcome) → command ≡ Pull pair → new ≡ record old { orders = without_orders pair bank old.orders } → ChangesEach old new bank command outcome
+pull-changes old new bank pair command outcome command_is made h S session sound stands is =
+    let answer : outcome ≡ Pulled (length (orders_by S pair bank)) = subst (λ (c : Command). IsOutcome h S bank c outcome) command_is is in
+    subst (λ (c : Command). StandsFor h (changed S bank c outcome) new) (sym command_is)
+    (subst (StandsFor h (changed S bank (Pull pair) outcome)) (sym made)
+    (subst (λ (o : Outcome). StandsFor h (changed S bank (Pull pair) o) (record old { orders = without_orders pair bank old.orders })) (sym answer)
+    (stands-orders h S old (without_orders pair bank) stands)))
+
+-- Credit changes.
+
+not_both : (i j bank other : ℕ) → i < 64 → j < 64 → bank < 64 → other < 64 → limit_place i j ≡ limit_place bank other → (i ≡ bank) × (j ≡ other)
+not_both i j bank other i_in j_in bank_in other_in same = (omega arith, omega arith)
+
+limits-set : (limits : List ℕ) (i j bank other limit : ℕ) → length limits ≡ 4096 → i < 64 → j < 64 → bank < 64 → other < 64 → limit_in (limits_with limits bank other limit) i j ≡ cond (eqb i bank && eqb j other) limit (limit_in limits i j)
+limits-set limits i j bank other limit full i_in j_in bank_in other_in =
+    elim (cases_Bool (eqb i bank && eqb j other)) [
+      | inl is ↦
+          let both = and_parts (eqb i bank) (eqb j other) is in
+          let place : limit_place i j ≡ limit_place bank other = omega (arith, eqb-true i bank both.0, eqb-true j other both.1) in
+          ap (λ p. get_or (limits_with limits bank other limit) p 0) place
+          ∙ get_or-set_same limits (limit_place bank other) limit 0 (omega arith)
+          ∙ sym (cond-true (eqb i bank && eqb j other) limit (limit_in limits i j) is)
+      | inr is_not ↦
+          get_or-set_other limits (limit_place bank other) (limit_place i j) limit 0
+          (λ same. let both = not_both i j bank other i_in j_in bank_in other_in same in
+          both_ways (eqb i bank && eqb j other) is_not (and_from (eqb i bank) (eqb j other) (eq-eqb i bank both.0) (eq-eqb j other both.1)))
+          ∙ sym (cond-false (eqb i bank && eqb j other) limit (limit_in limits i j) is_not)
+    ]
+
+-- the tables with the limit are those of the state with it
+tables-limited : (h : Header) (S : State) (weights limits uses : List ℕ) (bank other limit : ℕ) → bank_count h ≤ 64 → length limits ≡ 4096 → bank < bank_count h → other < bank_count h → TablesFor h S weights limits uses → TablesFor h (limited bank other limit S) weights (limits_with limits bank other limit) uses
+tables-limited h S weights limits uses bank other limit banks full bank_in other_in tables = record {
+  weighs = tables.weighs;
+  limit = λ i j i_in j_in differ.
+      limits-set limits i j bank other limit full (omega arith) (omega arith) (omega arith) (omega arith)
+      ∙ ap (cond (eqb i bank && eqb j other) limit) (tables.limit i j i_in j_in differ);
+  spent = tables.spent;
+}
+
+line-answered : (h : Header) (S : State) (l : Ledger) (bank other asked : ℕ) (outcome : Outcome) → IsSession h → IsSound h S → StandsFor h S l → length l.limits ≡ 4096 → length l.uses ≡ 4096 → bank < bank_count h → IsCommand (bank_count h) (pair_count h) bank (Line other asked) → LineSetIn l bank other asked outcome → IsOutcome h S bank (Line other asked) outcome
+line-answered h S l bank other asked (LineSet limit fills) session sound stands limits_full uses_full bank_in valid is =
+    let limit_is : limit ≡ limit_set h S bank other asked = is.0 ∙ ap (max asked) (stands.uses bank other bank_in valid.0 (λ same. valid.1 (sym same))) in
+    let T : State = limited bank other limit S in
+    let pairs : length l.weights ≡ pair_count h = ap length stands.weights ∙ length-map h.pairs (λ (rule : PairRule). rule.weight) in (
+      limit_is,
+      raised-market h (pair_count h) 0 l.orders T l.weights (limits_with l.limits bank other limit) l.uses fills session (omega arith)
+          (limited-sound h S bank other asked limit sound bank_in valid.0 valid.1 valid.2 limit_is) uses_full
+          (tables-limited h S l.weights l.limits l.uses bank other limit session.banks_most limits_full bank_in valid.0 (tables_of h S l stands))
+          (λ pair _. ap (in_pair pair) (sym stands.orders))
+          (subst (λ n. RaisedIn l.weights (limits_with l.limits bank other limit) l.orders n 0 l.uses fills) pairs is.1),
     )
-order-steps h S old swept new bank side pair price lots life outcome session sound stands sender pair_in is counted_is = absurd is
+line-answered h S l bank other asked outcome session sound stands limits_full uses_full bank_in valid is = absurd is
 
--- What is a step of each sound state goes on each legal history.
-pub goes-on : (old new : Ledger) (bank : ℕ) (command : Command) (outcome : Outcome) → bank < length old.counts → get_or old.counts bank 0 < 2 ^ 32 - 1 → IsCommandOf old bank command → StepsEach old new bank command outcome → GoesOn old new bank command outcome
-goes-on old new bank command outcome sender count command_in steps h H legal stands =
-    let S : State = state h H in
-    let sound : IsSound h S = legal-sound h H legal in
-    let e : Entry = entry_of old bank command outcome in
-    let both = steps h S legal.session sound stands in
-    let banks : length old.counts ≡ bank_count h = ap length stands.counts ∙ sound.counts in
-    let pairs : length old.weights ≡ pair_count h = ap length stands.weights ∙ length-map h.pairs (λ (rule : PairRule). rule.weight) in
-    let step : IsStep h S e = record {
-      sender = omega (arith, banks, sender);
-      command = subst (λ n. IsCommand n (pair_count h) bank command) banks (subst (λ n. IsCommand (length old.counts) n bank command) pairs command_in);
-      number = ap (λ (cs : List ℕ). get_or cs bank 0 + 1) stands.counts;
-      number_most = omega (arith, count);
-      outcome = both.0;
-    } in (
-      legal-push h H e legal step,
-      subst (λ (T : State). StandsFor h T new) (sym (after_all-push (opening h) H e)) both.1,
-    )
+command_of : (h : Header) (S : State) (l : Ledger) (bank : ℕ) (command : Command) → IsSound h S → StandsFor h S l → IsCommandOf l bank command → IsCommand (bank_count h) (pair_count h) bank command
+command_of h S l bank command sound stands valid =
+    let banks : length l.counts ≡ bank_count h = ap length stands.counts ∙ sound.counts in
+    let pairs : length l.weights ≡ pair_count h = ap length stands.weights ∙ length-map h.pairs (λ (rule : PairRule). rule.weight) in
+    subst (λ n. IsCommand n (pair_count h) bank command) banks (subst (λ n. IsCommand (length l.counts) n bank command) pairs valid)
 
--- The same, where the command and its taker are known by equations.
-pub order-steps_of : (old swept new : Ledger) (bank : ℕ) (side : Side) (pair price lots : ℕ) (life : Life) (command : Command) (t : Taker) (outcome : Outcome) → command ≡ Order side pair price lots life → t ≡ taker_from old bank side pair price lots → bank < length old.counts → IsCommandOf old bank command → SweptIn old swept t life outcome → new ≡ record swept { counts = set swept.counts bank (get_or swept.counts bank 0 + 1) } → StepsEach old new bank command outcome
-order-steps_of old swept new bank side pair price lots life command t outcome command_is taker_is sender valid is counted_is h S session sound stands =
-    let in_range : IsCommandOf old bank (Order side pair price lots life) = subst (IsCommandOf old bank) command_is valid in
-    subst (λ (c : Command). IsOutcome h S bank c outcome × StandsFor h (after S bank c outcome) new) (sym command_is)
-    (order-steps h S old swept new bank side pair price lots life outcome session sound stands sender in_range.0
-    (subst (λ (u : Taker). SweptIn old swept u life outcome) taker_is is) counted_is)
+pub line-answers : (l : Ledger) (bank other asked : ℕ) (command : Command) (outcome : Outcome) → IsLedger l → command ≡ Line other asked → bank < length l.counts → IsCommandOf l bank command → LineSetIn l bank other asked outcome → AnswersEach l bank command outcome
+line-answers l bank other asked command outcome ledger command_is sender valid is h S session sound stands =
+    subst (λ (c : Command). IsOutcome h S bank c outcome) (sym command_is)
+    (line-answered h S l bank other asked outcome session sound stands ledger.limits_full ledger.uses_full (bank_within h S l bank sound stands sender)
+    (subst (IsCommand (bank_count h) (pair_count h) bank) command_is (command_of h S l bank command sound stands valid)) is)
 
--- A line that could not be read is a step of each state.
-pub bad-steps_of : (old new : Ledger) (bank : ℕ) (reason : Reject) (command : Command) → command ≡ Bad reason → new ≡ record old { counts = set old.counts bank (get_or old.counts bank 0 + 1) } → StepsEach old new bank command (Rejected reason)
-bad-steps_of old new bank reason command command_is counted_is h S session sound stands =
-    subst (λ (c : Command). IsOutcome h S bank c (Rejected reason) × StandsFor h (after S bank c (Rejected reason)) new) (sym command_is)
-    (refl, stands-counted h S old new bank stands counted_is)
+line-changed : (h : Header) (S : State) (old : Ledger) (bank other asked : ℕ) (outcome : Outcome) → IsSession h → IsSound h S → StandsFor h S old → length old.limits ≡ 4096 → length old.uses ≡ 4096 → bank < bank_count h → IsCommand (bank_count h) (pair_count h) bank (Line other asked) → IsOutcome h S bank (Line other asked) outcome → StandsFor h (changed S bank (Line other asked) outcome) (raised_in old bank other asked (fills_of outcome))
+line-changed h S old bank other asked (LineSet limit fills) session sound stands limits_full uses_full bank_in valid is =
+    let T : State = limited bank other limit S in
+    let U : State = filled_all T fills in
+    let set_to : max asked (use_in old.uses bank other) ≡ limit =
+    ap (max asked) (stands.uses bank other bank_in valid.0 (λ same. valid.1 (sym same))) ∙ sym is.0 in
+    let limits : List ℕ = limits_with old.limits bank other limit in
+    let same : limits_with old.limits bank other (max asked (use_in old.uses bank other)) ≡ limits = ap (limits_with old.limits bank other) set_to in
+    let sound' : IsSound h T = limited-sound h S bank other asked limit sound bank_in valid.0 valid.1 valid.2 is.0 in
+    let tables : TablesFor h U old.weights limits (uses_after old.weights limits old.uses fills) =
+    tables-pairs h (pair_count h) 0 T old.weights limits old.uses fills session (omega arith) uses_full sound'
+    (tables-limited h S old.weights old.limits old.uses bank other limit session.banks_most limits_full bank_in valid.0 (tables_of h S old stands)) is.1 in
+    let at_limit : StandsFor h U (record old { orders = both_lowered old.orders fills; limits = limits; uses = uses_after old.weights limits old.uses fills }) = record {
+      orders = ap (λ (os : List ActiveOrder). both_lowered os fills) stands.orders ∙ sym (orders-filled_all T fills);
+      counts = stands.counts ∙ sym (counts-filled_all T fills);
+      weights = stands.weights;
+      limits = tables.limit;
+      uses = tables.spent;
+    } in
+    subst (λ (ls : List ℕ). StandsFor h U (record old { orders = both_lowered old.orders fills; limits = ls; uses = uses_after old.weights ls old.uses fills })) (sym same) at_limit
+line-changed h S old bank other asked outcome session sound stands limits_full uses_full bank_in valid is = absurd is
+
+pub line-changes : (old new : Ledger) (bank other asked : ℕ) (command : Command) (outcome : Outcome) → IsLedger old → command ≡ Line other asked → bank < length old.counts → IsCommandOf old bank command → new ≡ raised_in old bank other asked (fills_of outcome) → ChangesEach old new bank command outcome
+line-changes old new bank other asked command outcome ledger command_is sender valid made h S session sound stands is =
+    subst (λ (c : Command). StandsFor h (changed S bank c outcome) new) (sym command_is)
+    (subst (StandsFor h (changed S bank (Line other asked) outcome)) (sym made)
+    (line-changed h S old bank other asked outcome session sound stands ledger.limits_full ledger.uses_full (bank_within h S old bank sound stands sender)
+    (subst (IsCommand (bank_count h) (pair_count h) bank) command_is (command_of h S old bank command sound stands valid))
+    (subst (λ (c : Command). IsOutcome h S bank c outcome) command_is is)))
+
+-- Shows, local books, and lines that could not be read.
+
+shown_same : (a b c a' b' c' : ℕ) → a ≡ a' → b ≡ b' → c ≡ c' → Shown a b c ≡ Shown a' b' c'
+shown_same a b c a' b' c' p q r = cc
+
+pub show-answers : (l : Ledger) (bank other : ℕ) (command : Command) (outcome : Outcome) → command ≡ Show other → bank < length l.counts → IsCommandOf l bank command → outcome ≡ shown_in l bank other → AnswersEach l bank command outcome
+show-answers l bank other command outcome command_is sender valid is h S session sound stands =
+    let bank_in : bank < bank_count h = bank_within h S l bank sound stands sender in
+    let asked : IsCommand (bank_count h) (pair_count h) bank (Show other) =
+    subst (IsCommand (bank_count h) (pair_count h) bank) command_is (command_of h S l bank command sound stands valid) in
+    let differ : bank ≢ other = λ same. asked.1 (sym same) in
+    subst (λ (c : Command). IsOutcome h S bank c outcome) (sym command_is)
+    (is ∙ shown_same (limit_in l.limits bank other) (use_in l.uses bank other) (line_in l.limits l.uses bank other) (S.limits bank other) (used h S bank other) (line h S bank other)
+    (stands.limits bank other bank_in asked.0 differ) (stands.uses bank other bank_in asked.0 differ)
+    (line-same h S l.weights l.limits l.uses bank other (tables_of h S l stands) bank_in asked.0 differ))
+
+pub shows : (l : Ledger) (bank pair : ℕ) (bids asks : List Level) → bank < length l.counts → pair < length l.weights → ProbedIn l bank pair Sell bids → ProbedIn l bank pair Buy asks → ShowsEach l bank pair (Depth bids asks)
+shows l bank pair bids asks sender pair_in sells buys h S session sound stands =
+    let bank_within' = bank_within h S l bank sound stands sender in
+    let pair_within' = pair_within h S l pair stands pair_in in record {
+      sells = shows-probed h S l bank pair Sell bids session sound stands bank_within' pair_within' sells;
+      buys = shows-probed h S l bank pair Buy asks session sound stands bank_within' pair_within' buys;
+    }
+
+book-answered : (l : Ledger) (bank pair : ℕ) (outcome : Outcome) → ShowsEach l bank pair outcome → AnswersEach l bank (Book pair) outcome
+book-answered l bank pair (Depth bids asks) is h S session sound stands = is h S session sound stands
+book-answered l bank pair outcome is h S session sound stands = absurd is
+
+pub book-answers : (l : Ledger) (bank pair : ℕ) (command : Command) (outcome : Outcome) → command ≡ Book pair → ShowsEach l bank pair outcome → AnswersEach l bank command outcome
+book-answers l bank pair command outcome command_is is =
+    subst (λ (c : Command). AnswersEach l bank c outcome) (sym command_is) (book-answered l bank pair outcome is)
+
+pub bad-answers : (l : Ledger) (bank : ℕ) (reason : Reject) (command : Command) → command ≡ Bad reason → AnswersEach l bank command (Rejected reason)
+bad-answers l bank reason command command_is h S session sound stands =
+    subst (λ (c : Command). IsOutcome h S bank c (Rejected reason)) (sym command_is) refl
+
+pub show-changes : (l : Ledger) (bank other : ℕ) (command : Command) (outcome : Outcome) → command ≡ Show other → ChangesEach l l bank command outcome
+show-changes l bank other command outcome command_is h S session sound stands is =
+    subst (λ (c : Command). StandsFor h (changed S bank c outcome) l) (sym command_is) stands
+
+pub book-changes : (l : Ledger) (bank pair : ℕ) (command : Command) (outcome : Outcome) → command ≡ Book pair → ChangesEach l l bank command outcome
+book-changes l bank pair command outcome command_is h S session sound stands is =
+    subst (λ (c : Command). StandsFor h (changed S bank c outcome) l) (sym command_is) stands
+
+pub bad-changes : (l : Ledger) (bank : ℕ) (reason : Reject) (command : Command) (outcome : Outcome) → command ≡ Bad reason → ChangesEach l l bank command outcome
+bad-changes l bank reason command outcome command_is h S session sound stands is =
+    subst (λ (c : Command). StandsFor h (changed S bank c outcome) l) (sym command_is) stands
+
+-- The count, and both together.
+
+pub follows-counted : (old mid new : Ledger) (bank : ℕ) (command : Command) (outcome : Outcome) → ChangesEach old mid bank command outcome → new ≡ counted_in mid bank → FollowsEach old new bank command outcome
+follows-counted old mid new bank command outcome changes counted_is h S session sound stands is =
+    let made : StandsFor h (changed S bank command outcome) mid = changes h S session sound stands is in
+    subst (StandsFor h (after S bank command outcome)) (sym counted_is) (record {
+      orders = made.orders;
+      counts = ap (λ (cs : List ℕ). set cs bank (get_or cs bank 0 + 1)) made.counts;
+      weights = made.weights;
+      limits = made.limits;
+      uses = made.uses;
+    })
+
+pub steps-each : (old new : Ledger) (bank : ℕ) (command : Command) (outcome : Outcome) → AnswersEach old bank command outcome → FollowsEach old new bank command outcome → StepsEach old new bank command outcome
+steps-each old new bank command outcome answers follows h S session sound stands =
+    let is : IsOutcome h S bank command outcome = answers h S session sound stands in
+    (is, follows h S session sound stands is)
+
+-- a limit that is set keeps the uses within the limits, where it is at least what is used
+pub limits-within : (limits uses : List ℕ) (bank other limit : ℕ) → length limits ≡ 4096 → bank < 64 → other < 64 → use_in uses bank other ≤ limit → IsWithin limits uses → IsWithin (limits_with limits bank other limit) uses
+limits-within limits uses bank other limit full bank_in other_in fits within i j i_in j_in differ =
+    subst (λ n. use_in uses i j ≤ n) (sym (limits-set limits i j bank other limit full i_in j_in bank_in other_in))
+    (cond_both (eqb i bank && eqb j other) limit (limit_in limits i j) (λ n. use_in uses i j ≤ n)
+    (λ same. let both = and_parts (eqb i bank) (eqb j other) same in
+    let used : use_in uses i j ≡ use_in uses bank other = ap (λ p. get_or uses p 0) (places_same i j bank other (eqb-true i bank both.0) (eqb-true j other both.1)) in
+    omega arith)
+    (λ _. within i j i_in j_in differ))

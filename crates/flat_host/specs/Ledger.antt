@@ -37,6 +37,10 @@ line_in limits uses i j = min (limit_in limits i j) (limit_in limits j i) - use_
 abbrev pub IsWithin : List ℕ → List ℕ → Type 0
 IsWithin limits uses = (i j : ℕ) → i < 64 → j < 64 → i ≢ j → use_in uses i j ≤ limit_in limits i j
 
+-- numbers that weights can be
+abbrev pub AreWeights : List ℕ → Type 0
+AreWeights weights = Each (λ weight. (1 ≤ weight) × (weight ≤ 10 ^ 6)) weights
+
 -- what holds of every ledger: full tables, no use above a limit, numbers that fit
 pub record IsLedger (l : Ledger) : Type 0 where
   pub limits_full : length l.limits ≡ 4096
@@ -45,7 +49,13 @@ pub record IsLedger (l : Ledger) : Type 0 where
   pub banks : length l.counts ≤ 64
   pub counts : Each (λ count. count < 2 ^ 32) l.counts
   pub pairs : length l.weights ≤ 32
-  pub weights : Each (λ weight. (1 ≤ weight) × (weight ≤ 10 ^ 6)) l.weights
+  pub weights : AreWeights l.weights
+
+-- tables of weights, limits and uses that are those of a state, for each two different banks
+pub record TablesFor (h : Header) (S : State) (weights limits uses : List ℕ) : Type 0 where
+  pub weighs : weights ≡ map (λ rule. rule.weight) h.pairs
+  pub limit : (i j : ℕ) → i < bank_count h → j < bank_count h → i ≢ j → limit_in limits i j ≡ S.limits i j
+  pub spent : (i j : ℕ) → i < bank_count h → j < bank_count h → i ≢ j → use_in uses i j ≡ used h S i j
 
 -- the ledger stands for a state: it has its orders and counts, the weights of its session, and the limit and the use of
 -- each two different banks

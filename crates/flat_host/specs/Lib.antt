@@ -1,6 +1,9 @@
 pub mod Ledger
 pub mod Steps
 pub mod Parts
+pub mod Turns
+pub mod Levels
 pub mod Search
 pub mod Host
 pub mod Opening
+pub mod Views

@@ -1,17 +1,19 @@
 -- What the host's parts do to its orders and tables.
-use Rattle.std.specs.Prelude.{ℕ, ◌≡◌, ◌≢◌, ◌≤◌, ◌<◌, ◌+◌, ◌*◌, ◌-◌, List, [], ◌∷◌, slice_index, slice_index_or, length, true, false, filter, nat_lt, if◌then◌else◌, ◌++◌, None}
+use Rattle.std.specs.Prelude.{ℕ, Bool, ◌≡◌, ◌≢◌, ◌≤◌, ◌<◌, ◌+◌, ◌*◌, ◌-◌, List, [], ◌∷◌, slice_index, slice_index_or, slice_set, length, true, false, filter, nat_lt, nat_le, ◌==◌, if◌then◌else◌, ◌++◌, None}
 use Rattle.fx_amounts.specs.declared.side.Side.{Side}
 use Rattle.fx_rules.specs.declared.command.Life.{Life}
 use Rattle.fx_rules.specs.declared.command.Life.TheVariants.{Day, Ioc, Fok}
 use Rattle.fx_rules.specs.declared.outcome.Outcome.{Outcome}
-use Rattle.fx_rules.specs.declared.outcome.Outcome.TheVariants.{Ordered, Killed}
+use Rattle.fx_rules.specs.declared.outcome.Outcome.TheVariants.{Ordered, Killed, Cancelled, Reduced, Shown}
 use Rattle.fx_rules.specs.declared.orders.ActiveOrder.{ActiveOrder}
+use Rattle.fx_rules.specs.declared.orders.Resting.{Resting}
 use Rattle.fx_rules.specs.declared.orders.Fill.{Fill}
 use Rattle.fx_rules.specs.Lists.{total}
-use Rattle.fx_rules.specs.State.{is_between, orders_in}
+use Rattle.fx_rules.specs.State.{orders_in}
 use Rattle.fx_rules.specs.Sweep.{Taker, lowered, is_order}
-use Rattle.fx_rules.specs.Plan.{Planned, spend}
-use Rattle.flat_host.specs.Ledger.{Ledger, use_in, line_in}
+use Rattle.fx_rules.specs.Step.{without_order, reduced}
+use Rattle.fx_rules.specs.Plan.{Planned}
+use Rattle.flat_host.specs.Ledger.{Ledger, limit_place, use_place, limit_in, use_in, line_in}
 use Rattle.flat_host.specs.declared.sweep.Incoming.{Incoming}
 
 -- an order as it comes in is the taker of its sweep
@@ -26,26 +28,23 @@ taker_in i = record {
   arrival = i.arrival;
 }
 
--- the makers of these fills are lowered, in order
-abbrev pub makers_lowered : List ActiveOrder → List Fill → List ActiveOrder
-makers_lowered orders [] = orders
-makers_lowered orders (fill ∷ fills) = makers_lowered (lowered fill.maker fill.maker_number fill.lots orders) fills
+-- both orders of each of these fills are lowered, in order, where they rest
+abbrev pub both_lowered : List ActiveOrder → List Fill → List ActiveOrder
+both_lowered orders [] = orders
+both_lowered orders (fill ∷ fills) =
+    both_lowered (lowered fill.taker fill.taker_number fill.lots (lowered fill.maker fill.maker_number fill.lots orders)) fills
 
--- each fill is with another bank, and within what the fills before it leave of the line with that bank
-abbrev pub AreAffordable : ℕ → ℕ → (ℕ → ℕ) → List Fill → Type 0
-AreAffordable weight bank lines [] = Unit {0}
-AreAffordable weight bank lines (fill ∷ fills) =
-    (fill.maker < 64) × (fill.maker ≡ bank → ⊥) × (fill.taker ≡ bank) × (fill.lots * weight ≤ lines fill.maker)
-    × AreAffordable weight bank (spend lines fill.maker (fill.lots * weight)) fills
+-- a fill's cost is added to what its two banks have used, where their line pays for it
+abbrev pub use_added : List ℕ → List ℕ → List ℕ → Fill → List ℕ
+use_added weights limits uses fill =
+    if nat_le (fill.lots * slice_index weights fill.pair) (line_in limits uses fill.taker fill.maker)
+    then slice_set uses (use_place fill.taker fill.maker) (use_in uses fill.taker fill.maker + fill.lots * slice_index weights fill.pair)
+    else uses
 
--- the credit that the fills between two banks use at one weight
-abbrev pub cost_at : ℕ → ℕ → ℕ → List Fill → ℕ
-cost_at weight i j fills = total (λ fill. fill.lots * weight) (filter (is_between i j) fills)
-
--- to what each two different banks have used, the cost of the fills between them is added
-abbrev pub AddsUse : ℕ → List ℕ → List ℕ → List Fill → Type 0
-AddsUse weight old new fills =
-    (i j : ℕ) → i < 64 → j < 64 → i ≢ j → use_in new i j ≡ use_in old i j + cost_at weight i j fills
+-- the uses after these fills
+abbrev pub uses_after : List ℕ → List ℕ → List ℕ → List Fill → List ℕ
+uses_after weights limits uses [] = uses
+uses_after weights limits uses (fill ∷ fills) = uses_after weights limits (use_added weights limits uses fill) fills
 
 -- the first order of a command stands at a place
 pub record StandsAt (bank number : ℕ) (orders : List ActiveOrder) (i : ℕ) (a : ActiveOrder) : Type 0 where
@@ -65,15 +64,23 @@ taker_from l bank side pair price lots = record {
   arrival = total (λ count. count) l.counts;
 }
 
--- a sweep planned over a ledger
-pub record PlannedIn (l : Ledger) (t : Taker) (fills : List Fill) (left : ℕ) : Type 0 where
+-- a sweep planned over a book, with the lines that tables of limits and uses leave
+pub record PlannedOver (weights limits uses : List ℕ) (book : List Resting) (t : Taker) (fills : List Fill) (left : ℕ) : Type 0 where
   pub lines : ℕ → ℕ
-  pub lines_are : (bank : ℕ) → bank < 64 → lines bank ≡ line_in l.limits l.uses t.bank bank
-  pub planned : Planned (slice_index l.weights t.pair) lines (orders_in t.pair l.orders) t None fills left
+  pub lines_are : (bank : ℕ) → bank < 64 → lines bank ≡ line_in limits uses t.bank bank
+  pub planned : Planned (slice_index weights t.pair) lines book t None fills left
 
--- each fill is within what the fills before it leave of the lines in a ledger
-abbrev pub IsAffordableIn : Ledger → Taker → List Fill → Type 0
-IsAffordableIn l t fills = AreAffordable (slice_index l.weights t.pair) t.bank (line_in l.limits l.uses t.bank) fills
+-- a sweep planned over a ledger
+abbrev pub PlannedIn : Ledger → Taker → List Fill → ℕ → Type 0
+PlannedIn l t fills left = PlannedOver l.weights l.limits l.uses (orders_in t.pair l.orders) t fills left
+
+-- an order's outcome by its life, of the sweep that was planned in the ledger
+abbrev pub OrderedIn : Ledger → Taker → Life → Outcome → Type 0
+OrderedIn l t Day (Ordered done rests fills) = PlannedIn l t fills rests × (done ≡ t.left - rests) × (rests ≤ t.left)
+OrderedIn l t Ioc (Ordered done rests fills) = PlannedIn l t fills (t.left - done) × (done ≤ t.left) × (rests ≡ 0)
+OrderedIn l t Fok (Ordered done rests fills) = PlannedIn l t fills 0 × (done ≡ t.left) × (rests ≡ 0)
+OrderedIn l t Fok Killed = (fills : List Fill) × (left : ℕ) × PlannedIn l t fills left × (1 ≤ left)
+OrderedIn _ _ _ _ = ⊥
 
 -- an order as it comes to rest
 abbrev pub resting_from : Taker → ℕ → ActiveOrder
@@ -86,22 +93,44 @@ resting_from t rests = record {
 abbrev pub with_rest : Taker → ℕ → List ActiveOrder → List ActiveOrder
 with_rest t rests orders = if nat_lt 0 rests then orders ++ resting_from t rests ∷ [] else orders
 
--- a sweep carried out in a ledger: its makers are lowered, its rest stands, and its cost is added to what was used
-pub record CarriedIn (old new : Ledger) (t : Taker) (rests : ℕ) (fills : List Fill) : Type 0 where
-  pub orders : new.orders ≡ with_rest t rests (makers_lowered old.orders fills)
-  pub uses : AddsUse (slice_index old.weights t.pair) old.uses new.uses fills
-  pub limits : new.limits ≡ old.limits
-  pub counts : new.counts ≡ old.counts
-  pub weights : new.weights ≡ old.weights
+-- the ledger with these fills made: their orders are lowered, and their cost is used
+abbrev pub filled_in : Ledger → List Fill → Ledger
+filled_in l fills = record l {
+  orders = both_lowered l.orders fills;
+  uses = uses_after l.weights l.limits l.uses fills;
+}
 
--- an order's outcome by its life, of the sweep that was planned in the ledger
-abbrev pub SweptIn : Ledger → Ledger → Taker → Life → Outcome → Type 0
-SweptIn old new t Day (Ordered done rests fills) =
-    PlannedIn old t fills rests × (done ≡ t.left - rests) × (rests ≤ t.left) × CarriedIn old new t rests fills
-SweptIn old new t Ioc (Ordered done rests fills) =
-    PlannedIn old t fills (t.left - done) × (done ≤ t.left) × (rests ≡ 0) × CarriedIn old new t rests fills
-SweptIn old new t Fok (Ordered done rests fills) =
-    PlannedIn old t fills 0 × (done ≡ t.left) × (rests ≡ 0) × CarriedIn old new t rests fills
-SweptIn old new t Fok Killed =
-    (fills : List Fill) × (left : ℕ) × PlannedIn old t fills left × (1 ≤ left) × (new ≡ old)
-SweptIn _ _ _ _ _ = ⊥
+-- the ledger after an order: its fills are made, and its rest stands
+abbrev pub order_carried : Ledger → Taker → ℕ → List Fill → Ledger
+order_carried l t rests fills = record (filled_in l fills) { orders = with_rest t rests (both_lowered l.orders fills) }
+
+-- the limits with one set
+abbrev pub limits_with : List ℕ → ℕ → ℕ → ℕ → List ℕ
+limits_with limits bank other limit = slice_set limits (limit_place bank other) limit
+
+-- the ledger with one more command of a bank
+abbrev pub counted_in : Ledger → ℕ → Ledger
+counted_in l bank = record l { counts = slice_set l.counts bank (slice_index l.counts bank + 1) }
+
+-- the lots of an order that rest by its outcome
+abbrev pub rests_of : Outcome → ℕ
+rests_of (Ordered done rests fills) = rests
+rests_of _ = 0
+
+-- a cancel or a reduction was done
+abbrev pub is_done : Outcome → Bool
+is_done (Cancelled left) = true
+is_done (Reduced left) = true
+is_done _ = false
+
+-- the ledger without an order, where its cancel was done
+abbrev pub cancelled_in : Ledger → ℕ → ℕ → Bool → Ledger
+cancelled_in l bank number done = record l { orders = if done then without_order bank number l.orders else l.orders }
+
+-- the ledger with an order lowered to so many lots, where that was done
+abbrev pub reduced_in : Ledger → ℕ → ℕ → ℕ → Bool → Ledger
+reduced_in l bank number left done = record l { orders = if done then reduced bank number left l.orders else l.orders }
+
+-- the line of a bank with another
+abbrev pub shown_in : Ledger → ℕ → ℕ → Outcome
+shown_in l bank other = Shown (limit_in l.limits bank other) (use_in l.uses bank other) (line_in l.limits l.uses bank other)

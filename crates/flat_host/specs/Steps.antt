@@ -1,25 +1,38 @@
 -- What a call of the plain host does to each state that the host stands for.
 use Rattle.std.specs.Prelude.{ℕ, ◌+◌, List, [], ◌∷◌, ◌++◌, length, slice_index}
 use Rattle.fx_rules.specs.declared.command.Command.{Command}
-use Rattle.fx_rules.specs.declared.command.Command.TheVariants.{Order, Bad}
 use Rattle.fx_rules.specs.declared.outcome.Outcome.{Outcome}
+use Rattle.fx_rules.specs.declared.outcome.Outcome.TheVariants.{Depth}
 use Rattle.fx_rules.specs.declared.outcome.Entry.{Entry}
 use Rattle.fx_rules.specs.Session.{Header, IsSession}
 use Rattle.fx_rules.specs.State.{State}
-use Rattle.fx_rules.specs.Step.{IsCommand, IsOutcome, after}
+use Rattle.fx_rules.specs.Depth.{IsDepth}
+use Rattle.fx_rules.specs.Step.{IsCommand, IsOutcome, changed, after}
 use Rattle.fx_rules.specs.History.{IsLegal, state}
 use Rattle.fx_rules.specs.Sound.{IsSound}
 use Rattle.flat_host.specs.Ledger.{Ledger, StandsFor}
 
--- the commands that the host serves: orders, and lines that could not be read
-abbrev pub IsServed : Command → Type 0
-IsServed (Order side pair price lots life) = Unit {0}
-IsServed (Bad reason) = Unit {0}
-IsServed _ = ⊥
-
 -- the command is one that a bank of the host's session may send
 abbrev pub IsCommandOf : Ledger → ℕ → Command → Type 0
 IsCommandOf l bank command = IsCommand (length l.counts) (length l.weights) bank command
+
+-- the outcome is one of each sound state that the host stands for
+abbrev pub AnswersEach : Ledger → ℕ → Command → Outcome → Type 0
+AnswersEach l bank command outcome =
+    (h : Header) (S : State) → IsSession h → IsSound h S → StandsFor h S l → IsOutcome h S bank command outcome
+
+-- Each sound state that the host stood for and of which this is an outcome: the host stands for the state that it makes,
+-- but for the sender's count.
+abbrev pub ChangesEach : Ledger → Ledger → ℕ → Command → Outcome → Type 0
+ChangesEach old new bank command outcome =
+    (h : Header) (S : State) → IsSession h → IsSound h S → StandsFor h S old →
+    IsOutcome h S bank command outcome → StandsFor h (changed S bank command outcome) new
+
+-- the same, with the sender's count
+abbrev pub FollowsEach : Ledger → Ledger → ℕ → Command → Outcome → Type 0
+FollowsEach old new bank command outcome =
+    (h : Header) (S : State) → IsSession h → IsSound h S → StandsFor h S old →
+    IsOutcome h S bank command outcome → StandsFor h (after S bank command outcome) new
 
 -- Each sound state that the host stood for: the outcome is one of it, and the host stands for the state after it.
 abbrev pub StepsEach : Ledger → Ledger → ℕ → Command → Outcome → Type 0
@@ -32,9 +45,31 @@ abbrev pub entry_of : Ledger → ℕ → Command → Outcome → Entry
 entry_of l bank command outcome =
     record { bank = bank; number = slice_index l.counts bank + 1; command = command; outcome = outcome }
 
--- Each legal history whose state the host stood for: it goes on, legally, with this entry, and the host stands for the
--- state after it.
-abbrev pub GoesOn : Ledger → Ledger → ℕ → Command → Outcome → Type 0
-GoesOn old new bank command outcome =
+-- Each legal history whose state the host stood for: it goes on, legally, with these entries, and the host stands for the
+-- state after them.
+abbrev pub EntriesGoOn : Ledger → Ledger → List Entry → Type 0
+EntriesGoOn old new entries =
     (h : Header) (H : List Entry) → IsLegal h H → StandsFor h (state h H) old →
-    IsLegal h (H ++ entry_of old bank command outcome ∷ []) × StandsFor h (state h (H ++ entry_of old bank command outcome ∷ [])) new
+    IsLegal h (H ++ entries) × StandsFor h (state h (H ++ entries)) new
+
+-- the same of the one entry that the call adds
+abbrev pub GoesOn : Ledger → Ledger → ℕ → Command → Outcome → Type 0
+GoesOn old new bank command outcome = EntriesGoOn old new (entry_of old bank command outcome ∷ [])
+
+-- the outcome is the bank's local book of the pair in each sound state that the host stands for
+abbrev pub ShowsEach : Ledger → ℕ → ℕ → Outcome → Type 0
+ShowsEach l bank pair (Depth bids asks) =
+    (h : Header) (S : State) → IsSession h → IsSound h S → StandsFor h S l → IsDepth h S bank pair bids asks
+ShowsEach _ _ _ _ = ⊥
+
+-- the entry goes on a legal history whose state the host stands for
+abbrev pub IsNextOf : Ledger → Entry → Type 0
+IsNextOf l entry =
+    (h : Header) × (H : List Entry) × IsLegal h (H ++ entry ∷ []) × StandsFor h (state h H) l
+
+-- Each legal history that goes on with the entry, and whose state the host stood for: the host stands for the state after
+-- it.
+abbrev pub FollowsOn : Ledger → Ledger → Entry → Type 0
+FollowsOn old new entry =
+    (h : Header) (H : List Entry) → IsLegal h (H ++ entry ∷ []) → StandsFor h (state h H) old →
+    StandsFor h (state h (H ++ entry ∷ [])) new

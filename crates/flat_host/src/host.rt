@@ -1,15 +1,30 @@
-ghost use Rattle.std.specs.Prelude.{◌≡◌, ℕ, ◌<◌, ◌≤◌, ◌+◌, ◌-◌, ◌^◌, [], length, slice_index, slice_set, OnOk, OnErr, IfOk, map, replicate, vec_len};
+ghost use Rattle.std.specs.Prelude.{ℕ, ◌≡◌, ◌≢◌, ◌<◌, ◌≤◌, ◌+◌, ◌-◌, ◌*◌, ◌^◌, [], length, slice_index, slice_set, OnOk, OnErr, IfOk, map, replicate, vec_len, max, min, take, filter, ◌==◌};
+ghost use Rattle.fx_rules.specs.Lists.{total};
 ghost use Rattle.fx_rules.specs.Session.{IsSession, bank_count};
-ghost use Rattle.fx_rules.specs.State.{opening};
-ghost use Rattle.flat_host.specs.Ledger.{Ledger, IsLedger, IsWithin, StandsFor};
-ghost use Rattle.flat_host.specs.Parts.{taker_in, taker_from, PlannedIn, IsAffordableIn, CarriedIn, SweptIn};
+ghost use Rattle.fx_rules.specs.State.{opening, orders_in};
+ghost use Rattle.fx_rules.specs.Depth.{levels_of};
+ghost use Rattle.fx_rules.specs.Step.{without_orders};
+ghost use Rattle.fx_rules.specs.History.{IsLegal, state};
+ghost use Rattle.flat_host.specs.Ledger.{Ledger, IsLedger, IsWithin, StandsFor, limit_in, use_in, line_in};
+ghost use Rattle.flat_host.specs.Parts.{taker_in, taker_from, PlannedIn, OrderedIn, order_carried, filled_in, counted_in, cancelled_in, reduced_in, shown_in};
+ghost use Rattle.flat_host.specs.Turns.{LineSetIn, limited_in, raised_in};
+ghost use Rattle.flat_host.specs.Levels.{ProbedIn};
 ghost use Rattle.flat_host.specs.Opening.{OpensWith, limit_at};
-ghost use Rattle.flat_host.specs.Steps.{IsServed, IsCommandOf, StepsEach, GoesOn};
+ghost use Rattle.flat_host.specs.Steps.{IsCommandOf, AnswersEach, ChangesEach, FollowsEach, StepsEach, GoesOn, ShowsEach, IsNextOf, FollowsOn};
+ghost use Rattle.flat_host.specs.Views.{TellsByView, FillsByView, ShowsByView, ShowsTruly};
 
-use crate::ledger::{carry, lines_of};
-use crate::sweep::{Incoming, plan};
+use crate::changes::{
+    cancel_answer, count_of, fills_of, is_done, order_of, pull, reduce, reduce_answer, rests_of,
+    take_out,
+};
+use crate::depth::{any_price, levels_of, lots_against};
+use crate::ledger::{carry, limit_place, line, lines_of, use_place};
+use crate::raise::{Terms, raise};
+use crate::sweep::{Incoming, Sweep, plan};
 use fx_amounts::{BankId, Lots, Memory, PairId, Price, Side, Units};
-use fx_rules::{ActiveOrder, Command, Fill, Life, Outcome, PairRule, Plan, Session};
+use fx_rules::{
+    ActiveOrder, Command, Entry, Fill, LevelList, Life, Outcome, PairRule, Plan, Session,
+};
 use std::alloc::Global;
 use std::marker::Model;
 
@@ -109,19 +124,48 @@ impl FlatHost {
         })
     }
 
-    /// Carries out a bank's next command, where the host serves it: orders, and lines that could not be read.
+    /// Carries out a bank's next command.
     ///
     /// The answer is the market's, in each state that the host stands for. After `Memory` the host is as it was.
     pub fn apply(&mut self, bank: BankId, command: &Command) -> Result<Outcome, Memory>
         requires sender { bank < length self.old.counts }
         requires count { slice_index self.old.counts bank < 2 ^ 32 - 1 }
         requires command { IsCommandOf self.old bank command.now }
-        requires served { IsServed command.now }
         ensures steps { IfOk result (StepsEach self.old self.new bank command.now) }
         ensures goes_on { IfOk result (GoesOn self.old self.new bank command.now) }
+
+        // What the bank is told rests on what it sees alone.
+        ensures tells { IfOk result (TellsByView self.old bank command.now) }
+        ensures fills { IfOk result (FillsByView self.old bank command.now) }
+
         ensures counts { OnOk result (self.new.counts ≡ slice_set self.old.counts bank (slice_index self.old.counts bank + 1)) }
         ensures weights { OnOk result (self.new.weights ≡ self.old.weights) }
         ensures memory { OnErr result (self.new ≡ self.old) }
+    {
+        let outcome = self.answer(bank, command)?;
+        self.carry_out(bank, command, &outcome)?;
+        Ok(outcome)
+    }
+
+    /// What `apply` would answer to a bank's next command; nothing changes.
+    pub fn answer(&self, bank: BankId, command: &Command) -> Result<Outcome, Memory>
+        requires sender { bank < length self.now.counts }
+        requires count { slice_index self.now.counts bank < 2 ^ 32 - 1 }
+        requires command { IsCommandOf self.now bank command.now }
+        ensures answers { IfOk result (AnswersEach self.now bank command.now) }
+        ensures tells { IfOk result (TellsByView self.now bank command.now) }
+        ensures fills { IfOk result (FillsByView self.now bank command.now) }
+    {
+        let outcome = self.find_answer(bank, command)?;
+        Ok(outcome)
+    }
+
+    /// The market's answer to a bank's next command.
+    fn find_answer(&self, bank: BankId, command: &Command) -> Result<Outcome, Memory>
+        requires sender { bank < length self.now.counts }
+        requires count { slice_index self.now.counts bank < 2 ^ 32 - 1 }
+        requires command { IsCommandOf self.now bank command.now }
+        ensures answers { IfOk result (AnswersEach self.now bank command.now) }
     {
         match *command {
             Command::Order {
@@ -132,23 +176,61 @@ impl FlatHost {
                 life,
             } => {
                 let incoming = self.incoming(bank, side, pair, price, lots);
-                let outcome = self.sweep(&incoming, life)?;
-                self.count_command(bank);
-                Ok(outcome)
+                self.ordered(&incoming, life)
             }
-            Command::Bad { reason } => {
-                self.count_command(bank);
-                Ok(Outcome::Rejected { reason })
+            Command::Cancel { pair, number } => {
+                Ok(cancel_answer(order_of(&self.orders, pair, bank, number)))
             }
-            _ => unreachable!(),
+            Command::Reduce { pair, number, lots } => Ok(reduce_answer(
+                lots,
+                order_of(&self.orders, pair, bank, number),
+            )),
+            Command::Pull { pair } => Ok(Outcome::Pulled {
+                count: count_of(&self.orders, pair, bank),
+            }),
+            Command::Line { bank: other, limit } => self.line_set(bank, other, limit),
+            Command::Show { bank: other } => Ok(self.shown(bank, other)),
+            Command::Book { pair } => self.depth(bank, pair),
+            Command::Bad { reason } => Ok(Outcome::Rejected { reason }),
         }
+    }
+
+    /// The bank's local book of the pair: what it could take now, by price. It is truthful, and rests on what the bank sees
+    /// alone.
+    pub fn depth(&self, bank: BankId, pair: PairId) -> Result<Outcome, Memory>
+        requires bank { bank < length self.now.counts }
+        requires pair { pair < length self.now.weights }
+        ensures shows { IfOk result (ShowsEach self.now bank pair) }
+        ensures view { IfOk result (ShowsByView self.now bank pair) }
+        ensures truthful { IfOk result (ShowsTruly self.now bank pair) }
+    {
+        let bids = self.levels(bank, pair, Side::Sell)?;
+        let asks = self.levels(bank, pair, Side::Buy)?;
+        Ok(Outcome::Depth { bids, asks })
+    }
+
+    /// The first ten levels of what an order of a bank would take at any price, were it to want all there is.
+    fn levels(&self, bank: BankId, pair: PairId, side: Side) -> Result<LevelList, Memory>
+        requires pair { pair < length self.now.weights }
+        ensures levels { IfOk result (ProbedIn self.now bank pair side) }
+    {
+        let unlimited = Incoming {
+            bank,
+            number: 0,
+            pair,
+            side,
+            price: any_price(side),
+            left: lots_against(&self.orders, pair, side),
+            arrival: self.arrivals,
+        };
+        let sweep = self.sweep(&unlimited)?;
+        levels_of(*self.orders.allocator(), sweep.fills.as_slice())
     }
 
     /// An order command as it comes in.
     fn incoming(&self, bank: BankId, side: Side, pair: PairId, price: Price, lots: Lots) -> Incoming
         requires sender { bank < length self.now.counts }
         requires count { slice_index self.now.counts bank < 2 ^ 32 - 1 }
-        ensures bank { result.bank < 64 }
         ensures taker { taker_in result ≡ taker_from self.now bank side pair price lots }
     {
         Incoming {
@@ -157,18 +239,16 @@ impl FlatHost {
             pair,
             side,
             price,
-            left: lots.count(),
+            left: u128::from(lots.count()),
             arrival: self.arrivals,
         }
     }
 
-    /// Sweeps an order, and lets its rest stand as its life says; the command is not counted yet.
-    fn sweep(&mut self, incoming: &Incoming, life: Life) -> Result<Outcome, Memory>
-        requires pair { incoming.now.pair < length self.old.weights }
+    /// What an order answers by its life.
+    fn ordered(&self, incoming: &Incoming, life: Life) -> Result<Outcome, Memory>
+        requires pair { incoming.now.pair < length self.now.weights }
         requires left { incoming.now.left ≤ 10 ^ 6 }
-        requires bank { incoming.now.bank < 64 }
-        ensures swept { IfOk result (SweptIn self.old self.new (taker_in incoming.now) life) }
-        ensures memory { OnErr result (self.new ≡ self.old) }
+        ensures ordered { IfOk result (OrderedIn self.now (taker_in incoming.now) life) }
     {
         let plan = self.plan(incoming)?;
         let rests = match life {
@@ -177,21 +257,33 @@ impl FlatHost {
             Life::Fok if plan.left > 0 => return Ok(Outcome::Killed),
             Life::Fok => 0,
         };
-        self.carry(incoming, plan.fills.as_slice(), rests)?;
         Ok(Outcome::Ordered {
-            filled: incoming.left - plan.left,
+            filled: incoming.left as u32 - plan.left,
             rests,
             fills: plan.fills,
         })
     }
 
-    /// The sweep of an order as the book stands; nothing changes.
+    /// The sweep of an order that wants at most what an order can.
     fn plan(&self, incoming: &Incoming) -> Result<Plan, Memory>
         requires pair { incoming.now.pair < length self.now.weights }
         requires left { incoming.now.left ≤ 10 ^ 6 }
         ensures planned { IfOk result (λ plan. PlannedIn self.now (taker_in incoming.now) plan.fills plan.left) }
-        ensures affordable { IfOk result (λ plan. IsAffordableIn self.now (taker_in incoming.now) plan.fills) }
         ensures left { IfOk result (λ plan. plan.left ≤ incoming.now.left) }
+    {
+        let sweep = self.sweep(incoming)?;
+        Ok(Plan {
+            fills: sweep.fills,
+            left: sweep.left as u32,
+        })
+    }
+
+    /// The sweep of an order as the book stands; nothing changes.
+    fn sweep(&self, incoming: &Incoming) -> Result<Sweep, Memory>
+        requires pair { incoming.now.pair < length self.now.weights }
+        ensures planned { IfOk result (λ sweep. PlannedIn self.now (taker_in incoming.now) sweep.fills sweep.left) }
+        ensures lots { IfOk result (λ sweep. total (λ fill. fill.lots) sweep.fills ≤ 64 * 10 ^ 15) }
+        ensures left { IfOk result (λ sweep. sweep.left ≤ incoming.now.left) }
     {
         let weight = self.weights[incoming.pair.index()];
         let lines = lines_of(&self.limits, &self.uses, incoming.bank);
@@ -204,23 +296,139 @@ impl FlatHost {
         )
     }
 
-    /// Carries out the fills of a sweep, and lets `rests` lots of its taker rest.
-    fn carry(&mut self, incoming: &Incoming, fills: &[Fill], rests: u32) -> Result<(), Memory>
-        requires pair { incoming.now.pair < length self.old.weights }
-        requires affordable { IsAffordableIn self.old (taker_in incoming.now) fills.now }
-        requires rests { rests ≤ 10 ^ 6 }
-        requires bank { incoming.now.bank < 64 }
-        ensures carried { OnOk result (CarriedIn self.old self.new (taker_in incoming.now) rests fills.now) }
+    /// The limit that a bank which asks for one gets on another: never below what the two have used.
+    fn limit_for(&self, bank: BankId, other: BankId, asked: Units) -> Units
+        ensures value { result ≡ max asked (use_in self.now.uses bank other) }
+    {
+        asked.max(self.uses[use_place(bank, other)])
+    }
+
+    /// What a bank's asking for a limit answers.
+    fn line_set(&self, bank: BankId, other: BankId, asked: Units) -> Result<Outcome, Memory>
+        requires bank { bank < 64 }
+        requires other { other < 64 }
+        ensures set { IfOk result (LineSetIn self.now bank other asked) }
+    {
+        let alloc = *self.orders.allocator();
+        let limit = self.limit_for(bank, other, asked);
+        let mut limits = Vec::from_slice(alloc, &self.limits)?;
+        limits[limit_place(bank, other)] = limit;
+        let terms = Terms {
+            limits: &limits,
+            weights: &self.weights,
+        };
+        let fills = raise(alloc, &self.orders, terms, &self.uses)?;
+        Ok(Outcome::LineSet { limit, fills })
+    }
+
+    /// The line of a bank with another.
+    fn shown(&self, bank: BankId, other: BankId) -> Outcome
+        ensures shown { result ≡ shown_in self.now bank other }
+    {
+        let eff = line(&self.limits, &self.uses, bank, other);
+        Outcome::Shown {
+            limit: self.limits[limit_place(bank, other)],
+            used: self.uses[use_place(bank, other)],
+            eff: Units::new(eff).unwrap(),
+        }
+    }
+
+    /// Carries a recorded entry: makes what came of its command, with no search, and counts it.
+    ///
+    /// The host stands for the state after the entry. After `Memory` it is as it was.
+    pub fn follow(&mut self, entry: &Entry) -> Result<(), Memory>
+        requires next { IsNextOf self.old entry.now }
+        ensures follows { OnOk result (FollowsOn self.old self.new entry.now) }
+        ensures counts { OnOk result (self.new.counts ≡ slice_set self.old.counts entry.now.bank entry.now.number) }
+        ensures weights { OnOk result (self.new.weights ≡ self.old.weights) }
         ensures memory { OnErr result (self.new ≡ self.old) }
     {
-        let weight = self.weights[incoming.pair.index()];
+        self.carry_out(entry.bank, &entry.command, &entry.outcome)
+    }
+
+    /// How many commands a bank of the session has sent.
+    pub fn count(&self, bank: BankId) -> u32
+        requires sender { bank < length self.now.counts }
+        ensures value { result ≡ slice_index self.now.counts bank }
+    {
+        self.counts[bank.index()]
+    }
+
+    /// How many orders rest.
+    pub fn resting(&self) -> u64
+        ensures value { result ≡ length self.now.orders }
+    {
+        self.orders.len() as u64
+    }
+
+    /// Makes what came of a command, and counts it.
+    fn carry_out(
+        &mut self,
+        bank: BankId,
+        command: &Command,
+        outcome: &Outcome,
+    ) -> Result<(), Memory>
+        requires sender { bank < length self.old.counts }
+        requires count { slice_index self.old.counts bank < 2 ^ 32 - 1 }
+        requires command { IsCommandOf self.old bank command.now }
+        ensures follows { OnOk result (FollowsEach self.old self.new bank command.now outcome.now) }
+        ensures counts { OnOk result (self.new.counts ≡ slice_set self.old.counts bank (slice_index self.old.counts bank + 1)) }
+        ensures weights { OnOk result (self.new.weights ≡ self.old.weights) }
+        ensures memory { OnErr result (self.new ≡ self.old) }
+    {
+        self.change(bank, command, outcome)?;
+        self.count_command(bank);
+        Ok(())
+    }
+
+    /// Makes what came of a command, which is not counted yet.
+    fn change(&mut self, bank: BankId, command: &Command, outcome: &Outcome) -> Result<(), Memory>
+        requires sender { bank < length self.old.counts }
+        requires count { slice_index self.old.counts bank < 2 ^ 32 - 1 }
+        requires command { IsCommandOf self.old bank command.now }
+        ensures changes { OnOk result (ChangesEach self.old self.new bank command.now outcome.now) }
+        ensures counts { self.new.counts ≡ self.old.counts }
+        ensures weights { self.new.weights ≡ self.old.weights }
+        ensures memory { OnErr result (self.new ≡ self.old) }
+    {
+        match *command {
+            Command::Order {
+                side,
+                pair,
+                price,
+                lots,
+                ..
+            } => {
+                let incoming = self.incoming(bank, side, pair, price, lots);
+                return self.carry(&incoming, fills_of(outcome), rests_of(outcome));
+            }
+            Command::Cancel { number, .. } => self.cancel(bank, number, is_done(outcome)),
+            Command::Reduce { number, lots, .. } => {
+                self.reduce(bank, number, lots, is_done(outcome))
+            }
+            Command::Pull { pair } => self.pull(bank, pair),
+            Command::Line { bank: other, limit } => {
+                self.raise(bank, other, limit, fills_of(outcome))
+            }
+            Command::Show { .. } | Command::Book { .. } | Command::Bad { .. } => {}
+        }
+        Ok(())
+    }
+
+    /// Makes the fills of a sweep, and lets `rests` lots of its taker rest.
+    fn carry(&mut self, incoming: &Incoming, fills: &[Fill], rests: u32) -> Result<(), Memory>
+        ensures ledger { IsLedger self.old }
+        ensures carried { rests ≤ 10 ^ 6 → OnOk result (self.new ≡ order_carried self.old (taker_in incoming.now) rests fills.now) }
+        ensures counts { self.new.counts ≡ self.old.counts }
+        ensures weights { self.new.weights ≡ self.old.weights }
+        ensures memory { OnErr result (self.new ≡ self.old) }
+    {
         self.orders.reserve(1)?;
         carry(
             &mut self.orders,
             &self.limits,
             &mut self.uses,
-            weight,
-            incoming.bank,
+            &self.weights,
             fills,
         );
         if let Some(left) = Lots::new(rests) {
@@ -229,11 +437,66 @@ impl FlatHost {
         Ok(())
     }
 
+    /// Takes an order of a bank out, where its cancel was done.
+    fn cancel(&mut self, bank: BankId, number: u32, is_done: bool)
+        ensures cancelled { self.new ≡ cancelled_in self.old bank number is_done }
+    {
+        if is_done {
+            take_out(&mut self.orders, bank, number);
+        }
+    }
+
+    /// Leaves an order of a bank so many lots, where its reduction was done.
+    fn reduce(&mut self, bank: BankId, number: u32, left: Lots, is_done: bool)
+        ensures reduced { self.new ≡ reduced_in self.old bank number left is_done }
+    {
+        if is_done {
+            reduce(&mut self.orders, bank, number, left);
+        }
+    }
+
+    /// Takes all orders of a bank in a pair out.
+    fn pull(&mut self, bank: BankId, pair: PairId)
+        ensures pulled { self.new ≡ record self.old { orders = without_orders pair bank self.old.orders } }
+    {
+        pull(&mut self.orders, pair, bank);
+    }
+
+    /// Sets the limit that a bank asks for on another, and makes the fills of that credit change.
+    fn raise(&mut self, bank: BankId, other: BankId, asked: Units, fills: &[Fill])
+        ensures ledger { IsLedger self.old }
+        ensures raised { self.new ≡ raised_in self.old bank other asked fills.now }
+    {
+        self.set_limit(bank, other, asked);
+        self.fill(fills);
+    }
+
+    /// Sets the limit that a bank asks for on another.
+    fn set_limit(&mut self, bank: BankId, other: BankId, asked: Units)
+        ensures ledger { IsLedger self.old }
+        ensures limited { self.new ≡ limited_in self.old bank other asked }
+    {
+        self.limits[limit_place(bank, other)] = self.limit_for(bank, other, asked);
+    }
+
+    /// Makes these fills.
+    fn fill(&mut self, fills: &[Fill])
+        ensures filled { self.new ≡ filled_in self.old fills.now }
+    {
+        carry(
+            &mut self.orders,
+            &self.limits,
+            &mut self.uses,
+            &self.weights,
+            fills,
+        );
+    }
+
     /// Counts a command of a bank.
     fn count_command(&mut self, bank: BankId)
         requires sender { bank < length self.old.counts }
         requires count { slice_index self.old.counts bank < 2 ^ 32 - 1 }
-        ensures counts { self.new ≡ record self.old { counts = slice_set self.old.counts bank (slice_index self.old.counts bank + 1) } }
+        ensures counts { self.new ≡ counted_in self.old bank }
     {
         self.counts[bank.index()] += 1;
         self.arrivals += 1;

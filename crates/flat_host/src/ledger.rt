@@ -1,16 +1,18 @@
-ghost use Rattle.std.specs.Prelude.{◌≡◌, ◌≢◌, ◌<◌, ◌≤◌, ◌+◌, ◌^◌, ℕ, length, slice_index, slice_set, vec_len, vec_capacity, slice_index_or, false, IfSome, IfNone};
+ghost use Rattle.std.specs.Prelude.{◌≡◌, ◌≢◌, ◌<◌, ◌≤◌, ◌+◌, ◌*◌, ◌^◌, ℕ, length, slice_index, slice_set, vec_len, vec_capacity, slice_index_or, false, IfSome, IfNone, if◌then◌else◌, nat_le};
+ghost use Rattle.fx_rules.specs.Lists.{total};
 ghost use Rattle.fx_rules.specs.Sweep.{lowered, is_order};
 ghost use Rattle.fx_rules.specs.declared.orders.ActiveOrder.{ActiveOrder};
 ghost use Rattle.flat_host.specs.Ledger.{limit_place, use_place, limit_in, use_in, line_in, IsWithin};
-ghost use Rattle.flat_host.specs.Parts.{makers_lowered, AreAffordable, AddsUse, StandsAt};
+ghost use Rattle.flat_host.specs.Parts.{both_lowered, uses_after, StandsAt};
 
-use fx_amounts::{BankId, Lots, Units};
+use fx_amounts::{BankId, Lots, PairId, Units};
 use fx_rules::{ActiveOrder, Fill, Resting};
 
 /// The place of the limit that bank `i` sets on bank `j`.
 pub fn limit_place(i: BankId, j: BankId) -> usize
     ensures value { result ≡ limit_place i j }
     ensures most { result < 4096 }
+    ensures banks { (i < 64) × (j < 64) }
 {
     64 * i.index() + j.index()
 }
@@ -28,6 +30,7 @@ pub fn line(limits: &[Units], uses: &[Units], i: BankId, j: BankId) -> u64
     requires limits { length limits.now ≡ 4096 }
     requires uses { length uses.now ≡ 4096 }
     ensures value { result ≡ line_in limits.now uses.now i j }
+    ensures most { result + use_in uses.now i j ≤ 10 ^ 15 }
 {
     let there = limits[limit_place(i, j)].get();
     let back = limits[limit_place(j, i)].get();
@@ -39,6 +42,7 @@ pub fn lines_of(limits: &[Units], uses: &[Units], bank: BankId) -> [u64; 64]
     requires limits { length limits.now ≡ 4096 }
     requires uses { length uses.now ≡ 4096 }
     ensures lines { (other : ℕ) → other < 64 → slice_index result other ≡ line_in limits.now uses.now bank other }
+    ensures most { total (λ line. line) result ≤ 64 * 10 ^ 15 }
 {
     let mut lines = [0; 64];
     for place in 0..64u8 {
@@ -84,45 +88,52 @@ pub fn lower(orders: &mut Vec<ActiveOrder>, bank: BankId, number: u32, lots: Lot
     }
 }
 
-/// Adds to what two different banks have used.
+/// Credit units a lot of a pair; 0 where the weights have none for it.
+pub fn weight_of(weights: &[u32], pair: PairId) -> u32
+    ensures value { result ≡ slice_index weights.now pair }
+{
+    match weights.get(pair.index()) {
+        Some(weight) => *weight,
+        None => 0,
+    }
+}
+
+/// Adds to what two banks have used, where their line pays for it.
 fn raise_use(limits: &[Units], uses: &mut [Units], i: BankId, j: BankId, units: u64)
     requires limits { length limits.now ≡ 4096 }
     requires uses { length uses.old ≡ 4096 }
-    requires within { use_in uses.old i j + units ≤ limit_in limits.now i j }
-    ensures uses { uses.new ≡ slice_set uses.old (use_place i j) (use_in uses.old i j + units) }
+    ensures uses { uses.new ≡ (if nat_le units (line_in limits.now uses.old i j) then slice_set uses.old (use_place i j) (use_in uses.old i j + units) else uses.old) }
+    ensures within { IsWithin limits.now uses.old → IsWithin limits.now uses.new }
 {
-    let limit = limits[limit_place(i, j)].get();
-    let place = use_place(i, j);
-    let used = uses[place].get() + units;
-    prove!(used <= limit);
-    uses[place] = Units::new(used).unwrap();
+    if units <= line(limits, uses, i, j) {
+        let place = use_place(i, j);
+        let used = uses[place].get() + units;
+        uses[place] = Units::new(used).unwrap();
+    }
 }
 
-/// Carries out the fills of a sweep of `bank`, of which a lot costs `weight` credit units: lowers each maker, and adds
-/// to what its owner and `bank` have used.
+/// Makes these fills: each lowers both its orders, where they rest, and its cost is added to what its banks have used.
+/// A pair's lot costs its weight in credit units.
 pub fn carry(
     orders: &mut Vec<ActiveOrder>,
     limits: &[Units],
     uses: &mut [Units],
-    weight: u32,
-    bank: BankId,
+    weights: &[u32],
     fills: &[Fill],
 )
     requires limits { length limits.now ≡ 4096 }
     requires uses { length uses.old ≡ 4096 }
-    requires weight { weight ≤ 10 ^ 6 }
-    requires within { IsWithin limits.now uses.old }
-    requires bank { bank < 64 }
-    requires affordable { AreAffordable weight bank (line_in limits.now uses.old bank) fills.now }
-    ensures orders { orders.new.items ≡ makers_lowered orders.old.items fills.now }
+    ensures orders { orders.new.items ≡ both_lowered orders.old.items fills.now }
     ensures len { vec_len orders.new ≤ vec_len orders.old }
     ensures room { vec_capacity orders.new ≡ vec_capacity orders.old }
-    ensures uses { AddsUse weight uses.old uses.new fills.now }
-    ensures within { IsWithin limits.now uses.new }
+    ensures uses { uses.new ≡ uses_after weights.now limits.now uses.old fills.now }
+    ensures within { IsWithin limits.now uses.old → IsWithin limits.now uses.new }
 {
     for fill in fills {
         lower(orders, fill.maker, fill.maker_number, fill.lots);
+        lower(orders, fill.taker, fill.taker_number, fill.lots);
+        let weight = weight_of(weights, fill.pair);
         let cost = u64::from(fill.lots.count()) * u64::from(weight);
-        raise_use(limits, uses, bank, fill.maker, cost);
+        raise_use(limits, uses, fill.taker, fill.maker, cost);
     }
 }

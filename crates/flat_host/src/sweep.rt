@@ -1,16 +1,17 @@
 ghost use Rattle.std.specs.Prelude.{◌≡◌, ◌<◌, ◌≤◌, ◌/◌, ◌^◌, Some, None, length, slice_index, min, MatchOption, IfOk};
-ghost use Rattle.fx_rules.specs.Lists.{Each};
+ghost use Rattle.fx_rules.specs.Lists.{total};
 ghost use Rattle.fx_rules.specs.State.{orders_in};
 ghost use Rattle.fx_rules.specs.Sweep.{fill_with, is_open, is_preferred};
 ghost use Rattle.fx_rules.specs.Plan.{Planned, is_behind};
+ghost use Rattle.fx_rules.specs.Raise.{taker_of_resting};
 ghost use Rattle.flat_host.specs.Parts.{taker_in, resting_from};
 ghost use Rattle.flat_host.specs.Search.{is_candidate, candidates, preferred_of, IsBestOf};
 
 use fx_amounts::{BankId, Lots, Memory, PairId, Price, Side};
-use fx_rules::{ActiveOrder, Fill, FillList, Plan, Resting};
+use fx_rules::{ActiveOrder, Fill, FillList, Resting};
 use std::alloc::Global;
 
-/// An order as it comes in, before it is swept.
+/// An order as it is swept: one that comes in, or one that rests when its turn comes.
 #[derive(Clone, Copy)]
 pub struct Incoming {
     pub bank: BankId,
@@ -20,12 +21,36 @@ pub struct Incoming {
     pub side: Side,
     /// In ticks.
     pub price: Price,
-    /// The lots that it still wants.
-    pub left: u32,
+    /// The lots that it still wants; of an order that takes all there is they may be more than an order can have.
+    pub left: u128,
     pub arrival: u64,
 }
 
+/// A sweep that was found and is not yet carried out.
+#[derive(Drop)]
+pub struct Sweep {
+    /// What it fills, in order.
+    pub fills: FillList,
+    /// The lots that the taker has left.
+    pub left: u128,
+}
+
 impl Incoming {
+    /// A resting order of a pair as it is swept: as it stands, with its own arrival.
+    pub fn of_resting(pair: PairId, order: &Resting) -> Incoming
+        ensures taker { taker_in result ≡ taker_of_resting pair order.now }
+    {
+        Incoming {
+            bank: order.bank,
+            number: order.number,
+            pair,
+            side: order.side,
+            price: order.price,
+            left: u128::from(order.left.count()),
+            arrival: order.arrival,
+        }
+    }
+
     /// The order as it comes to rest, with so many lots left.
     pub fn resting(&self, left: Lots) -> ActiveOrder
         ensures value { result ≡ resting_from (taker_in self.now) left }
@@ -148,13 +173,12 @@ pub fn plan(
     taker: &Incoming,
     mut lines: [u64; 64],
     weight: u32,
-) -> Result<Plan, Memory>
+) -> Result<Sweep, Memory>
     requires weight { 1 ≤ weight }
-    requires left { taker.now.left ≤ 10 ^ 6 }
-    ensures planned { IfOk result (λ plan.
-        Planned weight (slice_index lines) (orders_in taker.now.pair orders.now) (taker_in taker.now) None plan.fills plan.left) }
-    ensures makers { IfOk result (λ plan. Each (λ fill. fill.maker < 64) plan.fills) }
-    ensures left { IfOk result (λ plan. plan.left ≤ taker.now.left) }
+    ensures planned { IfOk result (λ sweep.
+        Planned weight (slice_index lines) (orders_in taker.now.pair orders.now) (taker_in taker.now) None sweep.fills sweep.left) }
+    ensures lots { IfOk result (λ sweep. total (λ fill. fill.lots) sweep.fills ≤ total (λ line. line) lines) }
+    ensures left { IfOk result (λ sweep. sweep.left ≤ taker.now.left) }
 {
     let mut taker = *taker;
     let mut last = None;
@@ -167,21 +191,22 @@ pub fn plan(
         let lots = amount(taker.left, &maker, line / u64::from(weight));
         fills.push(fill_with(&taker, &maker, lots))?;
         lines[maker.bank.index()] = line - u64::from(lots.count()) * u64::from(weight);
-        taker.left -= lots.count();
+        taker.left -= u128::from(lots.count());
         last = Some(maker);
     }
-    Ok(Plan {
+    Ok(Sweep {
         fills: FillList::from_vec(fills),
         left: taker.left,
     })
 }
 
 /// What a taker with so much left takes of an order of which `reach` lots are in reach.
-fn amount(left: u32, maker: &Resting, reach: u64) -> Lots
+fn amount(left: u128, maker: &Resting, reach: u64) -> Lots
     requires left { 1 ≤ left }
     requires reach { 1 ≤ reach }
     ensures value { result ≡ min left (min maker.now.left reach) }
 {
-    let lots = reach.min(u64::from(maker.left.count().min(left)));
+    let within = reach.min(u64::from(maker.left.count()));
+    let lots = left.min(u128::from(within));
     Lots::new(lots as u32).unwrap()
 }

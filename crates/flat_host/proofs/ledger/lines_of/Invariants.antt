@@ -1,4 +1,4 @@
-use Rattle.std.proofs.Common.{ℕ, ◌≡◌, ◌<◌, slice_index, length}
+use Rattle.std.proofs.Common.{ℕ, ◌≡◌, ◌≤◌, ◌<◌, ◌^◌, slice_index, length}
 use Rattle.flat_host.specs.Ledger.{line_in}
 use Rattle.flat_host.proofs.ledger.lines_of.Given as goal
 
@@ -6,5 +6,6 @@ use Rattle.flat_host.proofs.ledger.lines_of.Given as goal
 abbrev pub invariant-loop-place : goal.invariant-loop-place
 invariant-loop-place l = record {
   lines : (other : ℕ) → other < l.place → slice_index l.lines other ≡ line_in l.limits l.uses l.bank other;
+  small : (other : ℕ) → slice_index l.lines other ≤ 10 ^ 15;
   full : length l.lines ≡ 64;
 }

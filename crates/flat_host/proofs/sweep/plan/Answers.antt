@@ -1,10 +1,12 @@
 -- Each turn takes one step of the planned sweep; at the end nothing is left, or nothing more is open.
-use Rattle.std.proofs.Common.{ℕ, ◌≡◌, ◌≤◌, ◌<◌, ◌-◌, ◌*◌, ◌/◌, ◌++◌, ◌∷◌, [], List, Some, None, refl, sym, ap, subst, ◌∙◌, arith, inl, append_assoc, append-nil, get_or, slice_index, min}
+use Rattle.std.proofs.Common.{ℕ, length, ◌≡◌, ◌+◌, ◌≤◌, ◌<◌, ◌-◌, ◌*◌, ◌/◌, ◌++◌, ◌∷◌, [], List, Some, None, refl, sym, ap, subst, ◌∙◌, arith, inl, append_assoc, append-nil, get_or, slice_index, min}
 use Rattle.std.proofs.Math.ListN.{set, length-set}
 use Rattle.fx_rules.specs.declared.orders.Fill.{Fill}
 use Rattle.fx_rules.specs.declared.orders.Resting.{Resting}
-use Rattle.fx_rules.specs.Lists.{Each}
-use Rattle.fx_rules.proofs.ListLemmas.{Each-append}
+use Rattle.std.proofs.Math.Nat.{mul-le-mul_left}
+use Rattle.fx_rules.specs.Lists.{total}
+use Rattle.fx_rules.proofs.ListLemmas.{total-append}
+use Rattle.flat_host.proofs.Counting.{total-changed}
 use Rattle.fx_rules.specs.State.{orders_in}
 use Rattle.fx_rules.specs.Sweep.{Taker, fill_with, less}
 use Rattle.fx_rules.specs.Plan.{Planned}
@@ -22,6 +24,20 @@ fills_same new old more f g push is =
 
 lines_same : (lines : List ℕ) (bank to from lots count weight times : ℕ) → to ≡ bank → from ≡ bank → count ≡ lots → times ≡ weight → set lines to (get_or lines from 0 - count * times) ≡ set lines bank (get_or lines bank 0 - lots * weight)
 lines_same lines bank to from lots count weight times t f c w = cc
+
+least_le : (a b r : ℕ) → min a (min b r) ≤ r
+least_le a b r = omega arith
+
+amount_fits : (a b line weight : ℕ) → 1 ≤ weight → min a (min b (line / weight)) * weight ≤ line
+amount_fits a b line weight some = omega (arith, mul-le-mul_left weight (least_le a b (line / weight)))
+
+-- a fill's lots are paid for by what its line falls
+paid_step : (fills new : List Fill) (f : Fill) (lines lines' : List ℕ) (most bank lots weight : ℕ) → new ≡ fills ++ f ∷ [] → f.lots ≡ lots → lines' ≡ set lines bank (get_or lines bank 0 - lots * weight) → bank < length lines → lots * weight ≤ get_or lines bank 0 → 1 ≤ weight → total (λ (g : Fill). g.lots) fills + total (λ (n : ℕ). n) lines ≤ most → total (λ (g : Fill). g.lots) new + total (λ (n : ℕ). n) lines' ≤ most
+paid_step fills new f lines lines' most bank lots weight push is spent within fits some paid =
+    let made : total (λ (g : Fill). g.lots) new ≡ total (λ (g : Fill). g.lots) fills + (f.lots + 0) =
+    ap (total (λ (g : Fill). g.lots)) push ∙ total-append (λ (g : Fill). g.lots) fills (f ∷ []) in
+    let fell : total (λ (n : ℕ). n) lines' ≡ total (λ (n : ℕ). n) (set lines bank (get_or lines bank 0 - lots * weight)) = ap (total (λ (n : ℕ). n)) spent in
+    omega (arith, total-changed lines bank (get_or lines bank 0 - lots * weight) within, mul-le-mul_left lots some)
 
 pub amount-lots-requires-clause-reach : goal.amount-lots-requires-clause-reach
 amount-lots-requires-clause-reach c =
@@ -43,8 +59,8 @@ loop-taker-preserved c = record {
       lines_same lines maker.bank c.index-in-loop-taker.result c.index.result lots c.from-in-loop-taker.result weight c.from-in-loop-taker-2.result
       c.index-in-loop-taker.ensures.value c.index.ensures.value (c.from-in-loop-taker.ensures ∙ c.count.ensures.value) c.from-in-loop-taker-2.ensures in
       let here : next (set lines maker.bank (get_or lines maker.bank 0 - lots * weight)) lots =
-      subst (next (set lines maker.bank (get_or lines maker.bank 0 - lots * weight))) c.count-in-loop-taker.ensures.value
-      (subst (λ l. next l c.count-in-loop-taker.result) same_lines planned) in
+      subst (next (set lines maker.bank (get_or lines maker.bank 0 - lots * weight))) (c.from-in-loop-taker-3.ensures ∙ c.count-in-loop-taker.ensures.value)
+      (subst (λ l. next l c.from-in-loop-taker-3.result) same_lines planned) in
       let lots_are : lots ≡ min t.left (min maker.left (get_or lines maker.bank 0 / weight)) =
       c.amount-lots.ensures.value
       ∙ ap (λ n. min t.left (min maker.left n)) (sym (reach_same lines maker.bank c.index.result weight c.from.result c.index.ensures.value c.from.ensures)) in
@@ -54,16 +70,23 @@ loop-taker-preserved c = record {
       (plan-step weight lines c.args.orders.now t c.loop-taker.last maker lots more left
       (omega (arith, c.loop-taker-test.true)) c.in-Some.ensures.best lots_are
       (omega (arith, c.loop-taker.invariant.full, c.index.ensures.most, c.index.ensures.value)) here));
-  left = omega (arith, c.loop-taker.invariant.left);
   full = length-set c.loop-taker.lines c.index-in-loop-taker.result (get_or c.loop-taker.lines c.index.result 0 - c.from-in-loop-taker.result * c.from-in-loop-taker-2.result) ∙ c.loop-taker.invariant.full;
-  makers = subst (Each (λ (fill : Fill). fill.maker < 64)) (sym c.in_ok-push.ensures.items)
-      (Each-append (λ (fill : Fill). fill.maker < 64) c.loop-taker.fills.items (c.fill_with.result ∷ []) c.loop-taker.invariant.makers
-      (omega (arith, ap (λ (f : Fill). f.maker) c.fill_with.ensures.value, c.index.ensures.value, c.index.ensures.most), tt));
+  paid =
+      let maker : Resting = c.in-Some.maker in
+      let lines : List ℕ = c.loop-taker.lines in
+      let lots : ℕ = c.amount-lots.result in
+      let lots_are : lots ≡ min c.loop-taker.taker.left (min maker.left (get_or lines maker.bank 0 / c.args.weight)) =
+      c.amount-lots.ensures.value
+      ∙ ap (λ n. min c.loop-taker.taker.left (min maker.left n)) (sym (reach_same lines maker.bank c.index.result c.args.weight c.from.result c.index.ensures.value c.from.ensures)) in
+      paid_step c.loop-taker.fills.items c.push.new.self.items c.fill_with.result lines _ (total (λ (line : ℕ). line) c.args.lines) maker.bank lots c.args.weight
+      c.in_ok-push.ensures.items (ap (λ (f : Fill). f.lots) c.fill_with.ensures.value)
+      (lines_same lines maker.bank c.index-in-loop-taker.result c.index.result lots c.from-in-loop-taker.result c.args.weight c.from-in-loop-taker-2.result
+      c.index-in-loop-taker.ensures.value c.index.ensures.value (c.from-in-loop-taker.ensures ∙ c.count.ensures.value) c.from-in-loop-taker-2.ensures)
+      (omega (arith, c.loop-taker.invariant.full, c.index.ensures.most, c.index.ensures.value))
+      (subst (λ n. n * c.args.weight ≤ get_or lines maker.bank 0) (sym lots_are) (amount_fits c.loop-taker.taker.left maker.left (get_or lines maker.bank 0) c.args.weight c.requires.weight))
+      c.requires.weight c.loop-taker.invariant.paid;
   less = omega (arith, c.loop-taker.invariant.less);
 }
-
-pub returns-clause-makers : goal.returns-clause-makers
-returns-clause-makers c = subst (Each (λ (fill : Fill). fill.maker < 64)) (sym c.from_vec.ensures.items) c.loop-taker.invariant.makers
 
 pub returns-clause-planned : goal.returns-clause-planned
 returns-clause-planned c =
@@ -75,3 +98,7 @@ returns-clause-planned c =
       | then-loop-taker-test+in_default w ↦
           plan-end c.args.weight c.loop-taker.lines c.args.orders.now (taker_in c.loop-taker.taker) c.loop-taker.last w.in_default.ensures.best
     ]))
+
+pub returns-clause-lots : goal.returns-clause-lots
+returns-clause-lots c =
+    omega (arith, c.loop-taker.invariant.paid, ap (total (λ (f : Fill). f.lots)) c.from_vec.ensures.items)

@@ -1,8 +1,10 @@
+use Rattle.std.proofs.Common.{List, [], sym, subst}
+use Rattle.fx_rules.specs.declared.outcome.Entry.{Entry}
+use Rattle.fx_rules.specs.History.{IsLegal}
 use Rattle.flat_host.proofs.tests.play.Goals as goal
 
-pub loop-at-preserved : goal.loop-at-preserved
-loop-at-preserved g c = record {
-  banks = c.in_ok-outcome.ensures.banks;
-  pairs = c.in_ok-outcome.ensures.pairs;
-  counts = c.in_ok-outcome.ensures.counts c.loop-at.at-counter c.loop-at.invariant.counts;
+pub replay-requires : goal.replay-requires
+replay-requires g c = record {
+  legal = subst (λ (es : List Entry). IsLegal c.in_ok-session.session es) (sym c.deref.ensures.value)
+      (c.in_ok-entries.ensures.goes_on c.in_ok-session.session [] (record { session = c.in_ok-session.ensures.valid; steps = tt }) c.in_ok-host.ensures.opens).0;
 }

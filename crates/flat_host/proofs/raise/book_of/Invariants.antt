@@ -1,0 +1,7 @@
+use Rattle.std.proofs.Common.{◌≡◌, take}
+use Rattle.flat_host.specs.Turns.{in_pair}
+use Rattle.flat_host.proofs.raise.book_of.Given as goal
+
+-- the pair's orders of those that were passed
+abbrev pub invariant-loop-active : goal.invariant-loop-active
+invariant-loop-active l = l.book.items ≡ in_pair l.pair (take l.active-index l.orders)

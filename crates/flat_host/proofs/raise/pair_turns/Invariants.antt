@@ -1,0 +1,16 @@
+use Rattle.std.proofs.Common.{◌≡◌, List, ◌++◌, drop, length}
+use Rattle.fx_rules.specs.declared.orders.Fill.{Fill}
+use Rattle.fx_rules.specs.State.{orders_in}
+use Rattle.flat_host.specs.Parts.{uses_after}
+use Rattle.flat_host.specs.Turns.{in_pair, TurnedIn}
+use Rattle.flat_host.proofs.raise.pair_turns.Given as goal
+
+-- whatever fills the turns from here make, make, behind those so far, the fills of all turns
+abbrev pub invariant-loop-active : goal.invariant-loop-active
+invariant-loop-active l = record {
+  goes_on : (more : List Fill) →
+      TurnedIn l.terms.weights.now l.terms.limits.now l.pair l.book.items l.uses (orders_in l.pair (drop l.active-index l.orders)) more →
+      TurnedIn l.terms.weights.now l.terms.limits.now l.pair (in_pair l.pair l.orders) l.initial.uses (orders_in l.pair l.orders) (l.fills.items ++ more);
+  uses : l.uses ≡ uses_after l.terms.weights.now l.terms.limits.now l.initial.uses l.fills.items;
+  full : length l.uses ≡ 4096;
+}
