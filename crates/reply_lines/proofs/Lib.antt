@@ -1,3 +1,4 @@
 pub mod Numbering
 pub mod Parts
 pub mod Printable
+mod Levels

@@ -6,14 +6,17 @@ use Rattle.fx_amounts.specs.PriceText.{price_text}
 use Rattle.fx_amounts.specs.Amount.{base_amount, quote_amount}
 use Rattle.fx_amounts.specs.Side.{opposite}
 use Rattle.fx_amounts.specs.declared.side.Side.{Side}
+use Rattle.fx_rules.specs.declared.command.Command.{Command}
+use Rattle.fx_rules.specs.declared.command.Command.TheVariants.{Book}
 use Rattle.fx_rules.specs.declared.orders.Fill.{Fill}
+use Rattle.fx_rules.specs.declared.orders.Level.{Level}
 use Rattle.fx_rules.specs.declared.outcome.Entry.{Entry}
 use Rattle.fx_rules.specs.declared.outcome.Outcome.{Outcome}
 use Rattle.fx_rules.specs.declared.outcome.Outcome.TheVariants.{Ordered, Killed, Cancelled, Reduced, NotLess, Nothing, Pulled, LineSet, Shown, Depth, Rejected}
 use Rattle.fx_rules.specs.Reject.{code_of}
-use Rattle.fx_rules.specs.Session.{Header}
+use Rattle.fx_rules.specs.Session.{Header, bank_name, decimals_of, lot_of, pair_name}
 use Rattle.fx_rules.specs.Step.{fills_of}
-use Rattle.reply_lines.specs.Rows.{row, side_text, bank_name, pair_name, decimals_of, lot_of}
+use Rattle.reply_lines.specs.Rows.{row, side_text}
 
 -- a bank's reply to a command of its own; a fill in which it was the taker; one in which it was the maker
 pub data Notice : Type 0 where
@@ -42,19 +45,36 @@ notices_in bank entry = reply_notices bank entry ++ flat_map (fill_notices bank)
 abbrev pub notices : ℕ → List Entry → List Notice
 notices bank entries = flat_map (notices_in bank) entries
 
+-- the pair whose book a command asks for
+abbrev pub booked_pair : Command → ℕ
+booked_pair (Book pair) = pair
+booked_pair _ = 0
+
+-- the price and the lots of a level, and of each level, the best first
+abbrev pub fields_of_level : ℕ → Level → List (List ℕ)
+fields_of_level decimals level = price_text decimals level.price ∷ numeral level.lots ∷ []
+
+abbrev pub level_fields : ℕ → List Level → List (List ℕ)
+level_fields decimals levels = flat_map (fields_of_level decimals) levels
+
+-- a local book of a pair: what its bank could sell now, and then what it could buy
+abbrev pub book_fields : Header → ℕ → List Level → List Level → List (List ℕ)
+book_fields h pair bids asks =
+    pair_name h pair ∷ codes "BIDS" ∷ level_fields (decimals_of h pair) bids ++ codes "ASKS" ∷ level_fields (decimals_of h pair) asks
+
 -- the fields of a reply: what came of the command, and of a credit change the limit alone
-abbrev pub reply_fields : Outcome → List (List ℕ)
-reply_fields (Ordered done rests fills) = codes "ORDERED" ∷ numeral done ∷ numeral rests ∷ []
-reply_fields Killed = codes "KILLED" ∷ []
-reply_fields (Cancelled left) = codes "CANCELLED" ∷ numeral left ∷ []
-reply_fields (Reduced left) = codes "REDUCED" ∷ numeral left ∷ []
-reply_fields (NotLess left) = codes "NOTLESS" ∷ numeral left ∷ []
-reply_fields Nothing = codes "NOTHING" ∷ []
-reply_fields (Pulled count) = codes "PULLED" ∷ numeral count ∷ []
-reply_fields (LineSet limit fills) = codes "LIMIT" ∷ numeral limit ∷ []
-reply_fields (Shown limit spent eff) = codes "SHOWN" ∷ numeral limit ∷ numeral spent ∷ numeral eff ∷ []
-reply_fields (Depth bids asks) = []
-reply_fields (Rejected reason) = codes "BAD" ∷ numeral (code_of reason) ∷ []
+abbrev pub reply_fields : Header → Command → Outcome → List (List ℕ)
+reply_fields h command (Ordered done rests fills) = codes "ORDERED" ∷ numeral done ∷ numeral rests ∷ []
+reply_fields h command Killed = codes "KILLED" ∷ []
+reply_fields h command (Cancelled left) = codes "CANCELLED" ∷ numeral left ∷ []
+reply_fields h command (Reduced left) = codes "REDUCED" ∷ numeral left ∷ []
+reply_fields h command (NotLess left) = codes "NOTLESS" ∷ numeral left ∷ []
+reply_fields h command Nothing = codes "NOTHING" ∷ []
+reply_fields h command (Pulled count) = codes "PULLED" ∷ numeral count ∷ []
+reply_fields h command (LineSet limit fills) = codes "LIMIT" ∷ numeral limit ∷ []
+reply_fields h command (Shown limit spent eff) = codes "SHOWN" ∷ numeral limit ∷ numeral spent ∷ numeral eff ∷ []
+reply_fields h command (Depth bids asks) = codes "BOOK" ∷ book_fields h (booked_pair command) bids asks
+reply_fields h command (Rejected reason) = codes "BAD" ∷ numeral (code_of reason) ∷ []
 
 -- a fill's pair, lots and price
 abbrev pub trade_fields : Header → Fill → List (List ℕ)
@@ -72,12 +92,12 @@ fill_fields h number side other fill =
     (codes "FILL" ∷ numeral number ∷ side_text side ∷ []) ++ trade_fields h fill ++ bank_name h other ∷ amount_fields h fill
 
 -- the line of a reply, with its number on the desk
-abbrev pub reply_line : ℕ → Entry → List ℕ
-reply_line number entry = row (numeral number) (codes "REPLY" ∷ numeral entry.number ∷ reply_fields entry.outcome)
+abbrev pub reply_line : Header → ℕ → Entry → List ℕ
+reply_line h number entry = row (numeral number) (codes "REPLY" ∷ numeral entry.number ∷ reply_fields h entry.command entry.outcome)
 
 -- the line of a notice, with its number on the desk
 abbrev pub notice_line : Header → ℕ → Notice → List ℕ
-notice_line h number (Replied entry) = reply_line number entry
+notice_line h number (Replied entry) = reply_line h number entry
 notice_line h number (Took fill) = row (numeral number) (fill_fields h fill.taker_number fill.taker_side fill.maker fill)
 notice_line h number (Gave fill) = row (numeral number) (fill_fields h fill.maker_number (opposite fill.taker_side) fill.taker fill)
 

@@ -1,19 +1,19 @@
--- What can be printed so far.
+-- What a printed entry names of its session.
 use Rattle.std.specs.Prelude.{◌<◌}
 use Rattle.fx_rules.specs.Lists.{Each}
 use Rattle.fx_rules.specs.Session.{Header, bank_count, pair_count}
 use Rattle.fx_rules.specs.Step.{fills_of, IsCommand}
+use Rattle.fx_rules.specs.declared.command.Command.{Command}
 use Rattle.fx_rules.specs.declared.orders.Fill.{Fill}
 use Rattle.fx_rules.specs.declared.outcome.Entry.{Entry}
 use Rattle.fx_rules.specs.declared.outcome.Outcome.{Outcome}
-use Rattle.fx_rules.specs.declared.outcome.Outcome.TheVariants.{Ordered, Killed, Rejected}
+use Rattle.fx_rules.specs.declared.outcome.Outcome.TheVariants.{Depth}
+use Rattle.reply_lines.specs.Notices.{booked_pair}
 
--- the outcomes of orders, and of lines that could not be read
-abbrev pub IsPrinted : Outcome → Type 0
-IsPrinted (Ordered done rests fills) = Unit {0}
-IsPrinted Killed = Unit {0}
-IsPrinted (Rejected reason) = Unit {0}
-IsPrinted _ = ⊥
+-- a local book is one of the session's pairs
+abbrev pub IsAnswerOf : Header → Command → Outcome → Type 0
+IsAnswerOf h command (Depth bids asks) = booked_pair command < pair_count h
+IsAnswerOf h command _ = Unit {0}
 
 -- a fill of the session's pairs and banks
 pub record IsFillOf (h : Header) (fill : Fill) : Type 0 where
@@ -25,5 +25,5 @@ pub record IsFillOf (h : Header) (fill : Fill) : Type 0 where
 pub record IsEntryOf (h : Header) (entry : Entry) : Type 0 where
   pub sender : entry.bank < bank_count h
   pub command : IsCommand (bank_count h) (pair_count h) entry.bank entry.command
-  pub outcome : IsPrinted entry.outcome
+  pub answer : IsAnswerOf h entry.command entry.outcome
   pub fills : Each (IsFillOf h) (fills_of entry.outcome)

@@ -2,10 +2,10 @@ ghost use Rattle.std.specs.Prelude.{◌≡◌, ℕ, List, [], ◌<◌, ◌≤◌
 ghost use Rattle.std.specs.List.{flat_map};
 ghost use Rattle.fx_rules.specs.Lists.{Each};
 ghost use Rattle.fx_edges.specs.Writing.{Wrote};
-ghost use Rattle.fx_rules.specs.Session.{Header, bank_count};
+ghost use Rattle.fx_rules.specs.Session.{bank_count};
 ghost use Rattle.fx_rules.specs.Step.{fills_of};
 ghost use Rattle.reply_lines.specs.Notices.{notice_lines, reply_notices, taken_notices, given_notices, fill_notices, notices_in, notices, desk_line, desk_text};
-ghost use Rattle.reply_lines.specs.Prints.{IsPrinted, IsFillOf, IsEntryOf};
+ghost use Rattle.reply_lines.specs.Prints.{IsAnswerOf, IsFillOf, IsEntryOf};
 
 use crate::notices::{make_desk, make_fill, make_reply};
 use fx_amounts::{BankId, Memory};
@@ -112,22 +112,30 @@ fn write_given<K: Sink>(
 
 /// Writes the reply to an entry, where the bank sent it.
 fn write_reply<K: Sink>(
+    session: &Session,
     bank: BankId,
     entry: &Entry,
     before: u128,
     line: &mut Vec<u8>,
     out: &mut K,
 ) -> Result<u128, SinkFault>
-    requires outcome { IsPrinted entry.now.outcome }
+    requires answer { IsAnswerOf session.now entry.now.command entry.now.outcome }
     requires room { before < 2 ^ 127 }
-    ensures wrote { (h : Header) → Wrote K.written K.faults out.old out.new (notice_lines h before (reply_notices bank entry.now)) result }
+    ensures wrote { Wrote K.written K.faults out.old out.new (notice_lines session.now before (reply_notices bank entry.now)) result }
     ensures count { IfOk result (λ after. after ≡ before + length (reply_notices bank entry.now)) }
     ensures most { IfOk result (λ after. after ≤ before + 1) }
 {
     if entry.bank != bank {
         return Ok(before);
     }
-    let made = make_reply(before + 1, entry.number, &entry.outcome, line);
+    let made = make_reply(
+        session,
+        before + 1,
+        entry.number,
+        &entry.command,
+        &entry.outcome,
+        line,
+    );
     write_made(made, line, out)?;
     Ok(before + 1)
 }
@@ -174,7 +182,7 @@ fn write_notices<K: Sink>(
     ensures count { IfOk result (λ after. after ≡ before + length (notices_in bank entry.now)) }
     ensures most { IfOk result (λ after. after ≤ before + 2 ^ 64) }
 {
-    match write_reply(bank, entry, before, line, out) {
+    match write_reply(session, bank, entry, before, line, out) {
         Ok(replied) => write_fills(session, bank, fills_of(&entry.outcome), replied, line, out),
         Err(fault) => Err(fault),
     }

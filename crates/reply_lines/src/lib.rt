@@ -6,7 +6,7 @@ mod notices;
 mod output;
 mod row;
 
-pub use output::{Ending, write_output};
+pub use output::{Ending, OutFault, write_output};
 
 #[cfg(test)]
 mod tests;

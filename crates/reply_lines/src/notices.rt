@@ -1,52 +1,130 @@
 ghost use Rattle.std.specs.Prelude.{◌≡◌, ℕ, ◌∷◌, [], ◌<◌, ◌≤◌, ◌^◌, ◌+◌, ◌++◌, codes, OnOk};
 ghost use Rattle.std.specs.List.{flat_map};
 ghost use Rattle.fx_amounts.specs.Numeral.{numeral};
-ghost use Rattle.reply_lines.specs.Rows.{row, fields_text, side_text, bank_name, pair_name, decimals_of, lot_of};
-ghost use Rattle.fx_rules.specs.Session.{IsPairRule, bank_count, pair_count, pair_text};
-ghost use Rattle.reply_lines.specs.Notices.{reply_fields, fill_fields, trade_fields, amount_fields};
-ghost use Rattle.reply_lines.specs.Prints.{IsPrinted};
+ghost use Rattle.fx_amounts.specs.Quantity.{IsDecimals};
+ghost use Rattle.reply_lines.specs.Rows.{row, fields_text, side_text};
+ghost use Rattle.fx_rules.specs.Session.{IsPairRule, bank_count, pair_count, pair_text, bank_name, decimals_of, lot_of, pair_name};
+ghost use Rattle.reply_lines.specs.Notices.{booked_pair, level_fields, book_fields, reply_fields, fill_fields, trade_fields, amount_fields};
+ghost use Rattle.reply_lines.specs.Prints.{IsAnswerOf};
 
 use crate::row::{
     begin_row, begin_word_row, end_row, push_field, push_number_field, push_price_field,
 };
 use fx_amounts::{BankId, Memory, PairId, Side, base_amount, quote_amount};
-use fx_rules::{Fill, Outcome, PairRule, Session};
+use fx_rules::{Command, Fill, Level, Outcome, PairRule, Session};
 
-/// Makes the line of a reply, with its number on the desk.
+/// Makes the line of the reply to a bank's command `number`, with its number `notice` on the desk.
 pub fn make_reply(
-    number: u128,
-    command: u32,
+    session: &Session,
+    notice: u128,
+    number: u32,
+    command: &Command,
     outcome: &Outcome,
     line: &mut Vec<u8>,
 ) -> Result<(), Memory>
-    requires { IsPrinted outcome.now }
-    ensures ok { OnOk result (line.new.items ≡ row (numeral number) (codes "REPLY" ∷ numeral command ∷ reply_fields outcome.now)) }
+    requires { IsAnswerOf session.now command.now outcome.now }
+    ensures ok { OnOk result (line.new.items ≡ row (numeral notice)
+        (codes "REPLY" ∷ numeral number ∷ reply_fields session.now command.now outcome.now)) }
 {
-    begin_row(number, line)?;
+    begin_row(notice, line)?;
     push_field(b"REPLY", line)?;
-    push_number_field(u128::from(command), line)?;
-    push_outcome(outcome, line)?;
+    push_number_field(u128::from(number), line)?;
+    push_outcome(session, command, outcome, line)?;
     end_row(line)
 }
 
 /// Appends the fields of an outcome.
-fn push_outcome(outcome: &Outcome, line: &mut Vec<u8>) -> Result<(), Memory>
-    requires { IsPrinted outcome.now }
-    ensures ok { OnOk result (line.new.items ≡ line.old.items ++ fields_text (reply_fields outcome.now)) }
+fn push_outcome(
+    session: &Session,
+    command: &Command,
+    outcome: &Outcome,
+    line: &mut Vec<u8>,
+) -> Result<(), Memory>
+    requires { IsAnswerOf session.now command.now outcome.now }
+    ensures ok { OnOk result (line.new.items ≡ line.old.items ++ fields_text (reply_fields session.now command.now outcome.now)) }
 {
     match outcome {
-        Outcome::Ordered { filled, rests, .. } => {
-            push_field(b"ORDERED", line)?;
-            push_number_field(u128::from(*filled), line)?;
-            push_number_field(u128::from(*rests), line)
-        }
+        Outcome::Ordered { filled, rests, .. } => push_counts(b"ORDERED", *filled, *rests, line),
         Outcome::Killed => push_field(b"KILLED", line),
-        Outcome::Rejected { reason } => {
-            push_field(b"BAD", line)?;
-            push_number_field(u128::from(reason.code()), line)
+        Outcome::Cancelled { left } => push_count(b"CANCELLED", *left, line),
+        Outcome::Reduced { left } => push_count(b"REDUCED", *left, line),
+        Outcome::NotLess { left } => push_count(b"NOTLESS", *left, line),
+        Outcome::Nothing => push_field(b"NOTHING", line),
+        Outcome::Pulled { count } => push_count(b"PULLED", *count, line),
+        Outcome::LineSet { limit, .. } => {
+            push_field(b"LIMIT", line)?;
+            push_number_field(u128::from(limit.get()), line)
         }
-        _ => unreachable!(),
+        Outcome::Shown { limit, used, eff } => {
+            push_field(b"SHOWN", line)?;
+            push_number_field(u128::from(limit.get()), line)?;
+            push_number_field(u128::from(used.get()), line)?;
+            push_number_field(u128::from(eff.get()), line)
+        }
+        Outcome::Depth { bids, asks } => {
+            push_field(b"BOOK", line)?;
+            let pair = booked_pair(command);
+            push_book(session, pair, bids.as_slice(), asks.as_slice(), line)
+        }
+        Outcome::Rejected { reason } => push_count(b"BAD", u32::from(reason.code()), line),
     }
+}
+
+/// Appends a word and a number.
+fn push_count(word: &[u8], count: u32, line: &mut Vec<u8>) -> Result<(), Memory>
+    ensures ok { OnOk result (line.new.items ≡ line.old.items ++ fields_text (word.now ∷ numeral count ∷ [])) }
+{
+    push_field(word, line)?;
+    push_number_field(u128::from(count), line)
+}
+
+/// Appends a word and two numbers.
+fn push_counts(word: &[u8], first: u32, second: u32, line: &mut Vec<u8>) -> Result<(), Memory>
+    ensures ok { OnOk result (line.new.items ≡ line.old.items ++ fields_text (word.now ∷ numeral first ∷ numeral second ∷ [])) }
+{
+    push_count(word, first, line)?;
+    push_number_field(u128::from(second), line)
+}
+
+/// The pair whose book a command asks for; the first pair where it asks for none.
+fn booked_pair(command: &Command) -> PairId
+    ensures { result ≡ booked_pair command.now }
+{
+    match command {
+        Command::Book { pair } => *pair,
+        _ => PairId::new(0).unwrap(),
+    }
+}
+
+/// Appends a pair and the levels of a local book of it.
+pub fn push_book(
+    session: &Session,
+    pair: PairId,
+    bids: &[Level],
+    asks: &[Level],
+    line: &mut Vec<u8>,
+) -> Result<(), Memory>
+    requires { pair < pair_count session.now }
+    ensures ok { OnOk result (line.new.items ≡ line.old.items ++ fields_text (book_fields session.now pair bids.now asks.now)) }
+{
+    let rule = rule_of(session, pair);
+    push_field(&rule.text(), line)?;
+    push_field(b"BIDS", line)?;
+    push_levels(rule.decimals, bids, line)?;
+    push_field(b"ASKS", line)?;
+    push_levels(rule.decimals, asks, line)
+}
+
+/// Appends the price and the lots of each level.
+fn push_levels(decimals: u8, levels: &[Level], line: &mut Vec<u8>) -> Result<(), Memory>
+    requires { IsDecimals decimals }
+    ensures ok { OnOk result (line.new.items ≡ line.old.items ++ fields_text (level_fields decimals levels.now)) }
+{
+    for level in levels {
+        push_price_field(level.price, decimals, line)?;
+        push_number_field(u128::from(level.lots), line)?;
+    }
+    Ok(())
 }
 
 /// Makes the line of a fill as one of its banks sees it, with its number on the desk: its own order's number and side,

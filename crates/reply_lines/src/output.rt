@@ -8,6 +8,7 @@ ghost use Rattle.fx_rules.specs.History.{IsLegal};
 ghost use Rattle.fx_rules.specs.Session.{bank_count};
 ghost use Rattle.session_head.specs.HeadText.{head_text_of};
 ghost use Rattle.reply_lines.specs.Rows.{row};
+ghost use Rattle.reply_lines.specs.Faults.{WroteOutput};
 ghost use Rattle.reply_lines.specs.Prints.{IsEntryOf};
 ghost use Rattle.reply_lines.specs.Output.{entry_line, journal_line, journal_text, desks_below, strays_line, ending_line, last_text, desks_text, history_text, first_output};
 
@@ -19,6 +20,7 @@ use fx_rules::{Entry, Session};
 use order_lines::command_text;
 use session_head::head_text;
 use std::alloc::Global;
+use thiserror::Error;
 
 /// How the reading of a session ended.
 #[derive(Clone, Copy, Debug, PartialEq, Eq)]
@@ -47,10 +49,52 @@ impl Ending {
     }
 }
 
-/// Writes the output of a legal history. After a fault a prefix of it was appended, and the fault is `Failed` only where
+/// Why an output was not written whole.
+#[derive(Clone, Copy, Debug, PartialEq, Eq, Error)]
+pub enum OutFault {
+    /// The sink failed, and its count of faults rose.
+    #[error("the output could not be written")]
+    Write,
+    /// A growth of memory was refused.
+    #[error("out of memory")]
+    Memory,
+}
+
+impl From<SinkFault> for OutFault {
+    ghost use Rattle.reply_lines.specs.Faults.{fault_of};
+
+    ghost from_gives = { λ sink fault. fault ≡ fault_of sink };
+
+    fn from(fault: SinkFault) -> Self {
+        match fault {
+            SinkFault::Failed => OutFault::Write,
+            SinkFault::Memory => OutFault::Memory,
+        }
+    }
+}
+
+/// Writes the output of a legal history. After a fault a prefix of it was appended, and the fault is `Write` only where
 /// the sink's count of faults rose.
-#[tactic(auto, unfolding(crate::specs::Output::first_output))]
 pub fn write_output<K: Sink>(
+    alloc: Global,
+    session: &Session,
+    entries: &[Entry],
+    strays: u64,
+    ending: Ending,
+    out: &mut K,
+) -> Result<(), OutFault>
+    requires legal { IsLegal session.now entries.now }
+    ensures wrote { WroteOutput K.written K.faults out.old out.new (first_output session.now entries.now strays ending) result }
+{
+    match write_text(alloc, session, entries, strays, ending, out) {
+        Ok(()) => Ok(()),
+        Err(fault) => Err(OutFault::from(fault)),
+    }
+}
+
+/// Writes the output of a legal history.
+#[tactic(auto, unfolding(crate::specs::Output::first_output))]
+fn write_text<K: Sink>(
     alloc: Global,
     session: &Session,
     entries: &[Entry],

@@ -1,8 +1,10 @@
 use crate::notices::{make_count, make_desk, make_fill, make_reply};
-use crate::{Ending, write_output};
+use crate::{Ending, OutFault, write_output};
 use fx_amounts::{BankId, Lots, PairId, Price, Side, Units};
-use fx_edges::{MemorySink, SinkFault};
-use fx_rules::{Code, Fill, FillList, Name, Outcome, PairRule, Reject, Session};
+use fx_edges::MemorySink;
+use fx_rules::{
+    Code, Command, Fill, FillList, Level, LevelList, Name, Outcome, PairRule, Reject, Session,
+};
 use std::alloc::Global;
 use std::test::Fail;
 
@@ -57,26 +59,126 @@ fn a_fill_as_its_taker_sees_it(rt: HostRuntime) -> Result<(), Fail> {
 }
 
 #[test]
-fn replies_and_counts(rt: HostRuntime) -> Result<(), Fail> {
+fn replies_of_few_words(rt: HostRuntime) -> Result<(), Fail> {
+    let session = market(rt.alloc())?;
     let mut line = Vec::new(rt.alloc());
+    let pair = PairId::new(0).ok_or("a pair was refused")?;
+    let pull = Command::Pull { pair };
+    let rejected = Outcome::Rejected {
+        reason: Reject::Life,
+    };
+    make_reply(&session, 3, 7, &pull, &Outcome::Killed, &mut line)?;
+    assert_eq!(rt; line.as_slice(), b"3 REPLY 7 KILLED\n".as_slice());
+    make_reply(
+        &session,
+        3,
+        7,
+        &pull,
+        &Outcome::Cancelled { left: 2 },
+        &mut line,
+    )?;
+    assert_eq!(rt; line.as_slice(), b"3 REPLY 7 CANCELLED 2\n".as_slice());
+    make_reply(
+        &session,
+        3,
+        7,
+        &pull,
+        &Outcome::Reduced { left: 1 },
+        &mut line,
+    )?;
+    assert_eq!(rt; line.as_slice(), b"3 REPLY 7 REDUCED 1\n".as_slice());
+    make_reply(
+        &session,
+        3,
+        7,
+        &pull,
+        &Outcome::NotLess { left: 4 },
+        &mut line,
+    )?;
+    assert_eq!(rt; line.as_slice(), b"3 REPLY 7 NOTLESS 4\n".as_slice());
+    make_reply(&session, 3, 7, &pull, &Outcome::Nothing, &mut line)?;
+    assert_eq!(rt; line.as_slice(), b"3 REPLY 7 NOTHING\n".as_slice());
+    make_reply(
+        &session,
+        3,
+        7,
+        &pull,
+        &Outcome::Pulled { count: 12 },
+        &mut line,
+    )?;
+    assert_eq!(rt; line.as_slice(), b"3 REPLY 7 PULLED 12\n".as_slice());
+    make_reply(&session, 3, 7, &pull, &rejected, &mut line)?;
+    assert_eq!(rt; line.as_slice(), b"3 REPLY 7 BAD 10\n".as_slice());
+    Ok(())
+}
+
+#[test]
+fn replies_with_amounts(rt: HostRuntime) -> Result<(), Fail> {
+    let session = market(rt.alloc())?;
+    let mut line = Vec::new(rt.alloc());
+    let bank = BankId::new(1).ok_or("a bank was refused")?;
+    let show = Command::Show { bank };
     let ordered = Outcome::Ordered {
         filled: 2,
         rests: 1,
         fills: FillList::from_vec(Vec::new(rt.alloc())),
     };
-    make_reply(1, 7, &ordered, &mut line)?;
+    make_reply(&session, 1, 7, &show, &ordered, &mut line)?;
     assert_eq!(rt; line.as_slice(), b"1 REPLY 7 ORDERED 2 1\n".as_slice());
-    make_reply(2, 8, &Outcome::Killed, &mut line)?;
-    assert_eq!(rt; line.as_slice(), b"2 REPLY 8 KILLED\n".as_slice());
-    make_reply(
-        3,
-        9,
-        &Outcome::Rejected {
-            reason: Reject::Life,
-        },
-        &mut line,
-    )?;
-    assert_eq!(rt; line.as_slice(), b"3 REPLY 9 BAD 10\n".as_slice());
+    let set = Outcome::LineSet {
+        limit: units(400)?,
+        fills: FillList::from_vec(Vec::new(rt.alloc())),
+    };
+    make_reply(&session, 2, 8, &show, &set, &mut line)?;
+    assert_eq!(rt; line.as_slice(), b"2 REPLY 8 LIMIT 400\n".as_slice());
+    let shown = Outcome::Shown {
+        limit: units(800)?,
+        used: units(376)?,
+        eff: units(424)?,
+    };
+    make_reply(&session, 3, 9, &show, &shown, &mut line)?;
+    assert_eq!(rt;
+        line.as_slice(),
+        b"3 REPLY 9 SHOWN 800 376 424\n".as_slice()
+    );
+    Ok(())
+}
+
+fn units(count: u64) -> Result<Units, Fail> {
+    Ok(Units::new(count).ok_or("units were refused")?)
+}
+
+/// A level of that many lots at that many ticks.
+fn level(ticks: u32, lots: u64) -> Result<Level, Fail> {
+    let price = Price::new(ticks).ok_or("a price was refused")?;
+    Ok(Level { price, lots })
+}
+
+#[test]
+fn the_reply_of_a_local_book(rt: HostRuntime) -> Result<(), Fail> {
+    let session = market(rt.alloc())?;
+    let pair = PairId::new(0).ok_or("a pair was refused")?;
+    let book = Command::Book { pair };
+    let mut line = Vec::new(rt.alloc());
+    let mut asks = Vec::new(rt.alloc());
+    asks.push(level(108_400, 4)?)?;
+    asks.push(level(108_410, 2)?)?;
+    let depth = Outcome::Depth {
+        bids: LevelList::from_vec(Vec::new(rt.alloc())),
+        asks: LevelList::from_vec(asks),
+    };
+    assert!(rt; pair.index() < session.pairs().len());
+    make_reply(&session, 1, 1, &book, &depth, &mut line)?;
+    assert_eq!(rt;
+        line.as_slice(),
+        b"1 REPLY 1 BOOK EUR/USD BIDS ASKS 1.08400 4 1.08410 2\n".as_slice()
+    );
+    Ok(())
+}
+
+#[test]
+fn the_line_of_strays(rt: HostRuntime) -> Result<(), Fail> {
+    let mut line = Vec::new(rt.alloc());
     make_count(
         b"STRAYS",
         340_282_366_920_938_463_463_374_607_431_768_211_455,
@@ -119,7 +221,7 @@ fn a_write_that_fails(rt: HostRuntime) -> Result<(), Fail> {
     fails.push(9)?;
     let mut out = MemorySink::new(7, fails);
     let answer = write_output(rt.alloc(), &session, &[], 3, Ending::End, &mut out);
-    assert_eq!(rt; answer, Err(SinkFault::Failed));
+    assert_eq!(rt; answer, Err(OutFault::Write));
     assert!(rt; QUIET_DAY.starts_with(out.written()));
     assert!(rt; out.written().len() < 64);
     Ok(())

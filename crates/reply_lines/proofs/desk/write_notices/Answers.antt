@@ -11,7 +11,7 @@ use Rattle.reply_lines.proofs.desk.write_notices.Goals as goal
 pub returns-in-Ok-clause-wrote : goal.returns-in-Ok-clause-wrote
 returns-in-Ok-clause-wrote g c =
     then-notices c.args.session.now c.args.before c.in-Ok.replied (reply_notices c.args.bank c.args.entry.now) (flat_map (fill_notices c.args.bank) (fills_of c.args.entry.now.outcome))
-    c.in-Ok.replied c.write_fills.result c.in-Ok.ensures.count (c.in-Ok.ensures.wrote c.args.session.now)
+    c.in-Ok.replied c.write_fills.result c.in-Ok.ensures.count c.in-Ok.ensures.wrote
     (subst (λ (fills : List Fill). Wrote g.K.Sink.written g.K.Sink.faults c.write_reply.new.out c.write_fills.new.out
     (notice_lines c.args.session.now c.in-Ok.replied (flat_map (fill_notices c.args.bank) fills)) c.write_fills.result)
     c.fills_of.ensures c.write_fills.ensures.wrote)
@@ -19,4 +19,4 @@ returns-in-Ok-clause-wrote g c =
 pub returns-in-Err-clause-wrote : goal.returns-in-Err-clause-wrote
 returns-in-Err-clause-wrote g c =
     stop-notices c.args.session.now c.args.before (reply_notices c.args.bank c.args.entry.now) (flat_map (fill_notices c.args.bank) (fills_of c.args.entry.now.outcome)) c.in-Err.fault
-    (c.in-Err.ensures.wrote c.args.session.now)
+    c.in-Err.ensures.wrote

@@ -3,7 +3,7 @@ use Rattle.fx_edges.proofs.Writing.{Wrote-then, Wrote-of_longer, IsPrefixOf-appe
 use Rattle.session_head.specs.HeadText.{head_text_of}
 use Rattle.reply_lines.specs.Output.{first_output, history_text}
 use Rattle.reply_lines.proofs.Printable.{legal-prints}
-use Rattle.reply_lines.proofs.output.write_output.Goals as goal
+use Rattle.reply_lines.proofs.output.write_text.Goals as goal
 
 pub write_history-requires : goal.write_history-requires
 write_history-requires g c = record { entries = legal-prints c.args.session.now c.args.entries.now c.requires.legal }
