@@ -1,0 +1,11 @@
+pub mod Sought
+mod Flat
+mod Rowing
+mod Looking
+mod Keeping
+mod Rooms
+mod Lifting
+mod Pulling
+mod Finding
+mod Turns
+mod Bests

@@ -1,0 +1,9 @@
+use Rattle.std.proofs.Common.{ap}
+use Rattle.global_book.specs.Book.{Book}
+use Rattle.global_book.proofs.Finding.{kept_book}
+use Rattle.global_book.proofs.book.PairBook.banks.Goals as goal
+
+pub returns-clause-valid : goal.returns-clause-valid
+returns-clause-valid c =
+    kept_book c.self.inside.banks c.self.inside.orders c.self.inside.sides.bids c.self.inside.sides.asks c.self.inside.owners.items c.args.self.now
+    c.self.invariant (ap (λ (b : Book). b.orders) c.self.view_is) (ap (λ (b : Book). b.banks) c.self.view_is)

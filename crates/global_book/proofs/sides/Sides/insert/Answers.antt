@@ -1,0 +1,13 @@
+use Rattle.std.proofs.Common.{subst}
+use Rattle.fx_amounts.specs.declared.side.Side.{Side}
+use Rattle.price_levels.specs.Ladder.{IsNewArrival}
+use Rattle.global_book.specs.Sides.{row_of}
+use Rattle.global_book.proofs.sides.Sides.insert.Goals as goal
+
+pub insert-requires-clause-absent : goal.insert-requires-clause-absent
+insert-requires-clause-absent c =
+    subst (λ (side : Side). IsNewArrival c.args.place.arrival (row_of c.args.self.now side).places) c.in-Buy.is c.requires.absent
+
+pub insert-requires-in-Sell-clause-absent : goal.insert-requires-in-Sell-clause-absent
+insert-requires-in-Sell-clause-absent c =
+    subst (λ (side : Side). IsNewArrival c.args.place.arrival (row_of c.args.self.now side).places) c.in-Sell.is c.requires.absent

@@ -1,0 +1,96 @@
+-- One pair's book, as contracts see it: the orders that rest, in arrival order.
+use Rattle.std.specs.Prelude.{ℕ, ◌≡◌, ◌+◌, ◌≤◌, ◌<◌, ◌^◌, Bool, true, ◌&&◌, ◌==◌, nat_le, nat_lt, if◌then◌else◌, List, filter, Option, Some, None, slice_get, slice_index, slice_index_or, option_map}
+use Rattle.fx_amounts.specs.Price.{crosses}
+use Rattle.fx_amounts.specs.Side.{opposite}
+use Rattle.fx_amounts.specs.declared.side.Side.{Side}
+use Rattle.fx_amounts.specs.declared.side.Side.TheVariants.{Buy, Sell}
+use Rattle.fx_rules.specs.declared.orders.Resting.{Resting}
+use Rattle.fx_rules.specs.Lists.{Among, Each, EachPair}
+use Rattle.fx_rules.specs.Sound.{ArrivesBefore}
+use Rattle.fx_rules.specs.Sweep.{is_opposite, is_order}
+use Rattle.fx_rules.specs.Plan.{is_behind}
+use Rattle.price_levels.specs.declared.place.Place.{Place}
+
+-- for each bank, how many buys and how many sells of its own can come to rest
+pub record Book : Type 0 where
+  pub pair : ℕ
+  pub banks : ℕ
+  pub orders : List Resting
+  pub room : List (ℕ × ℕ)
+
+-- how many orders of this bank and side can come to rest
+abbrev pub room_for : Book → ℕ → Side → ℕ
+room_for book bank Buy = (slice_index_or book.room bank (0, 0)).0
+room_for book bank Sell = (slice_index_or book.room bank (0, 0)).1
+
+-- there is room for one order of this bank and side
+abbrev pub HasRoom : Book → ℕ → Side → Type 0
+HasRoom book bank side = 1 ≤ room_for book bank side
+
+-- there is at least as much room as before
+pub record KeepsRoom (old new : Book) : Type 0 where
+  pub room : (bank : ℕ) (side : Side) → room_for old bank side ≤ room_for new bank side
+
+-- of each room at most one place went
+pub record TakesRoom (old new : Book) : Type 0 where
+  pub room : (bank : ℕ) (side : Side) → room_for old bank side ≤ room_for new bank side + 1
+
+-- an order of the book's banks, with a number of its bank's stream
+pub record IsHeld (banks : ℕ) (order : Resting) : Type 0 where
+  pub bank : order.bank < banks
+  pub number_least : 1 ≤ order.number
+  pub number_most : order.number < 2 ^ 32
+
+-- the orders stand by arrival, no two have one arrival or are of one command, and each is one of the book's banks
+pub record IsBook (book : Book) : Type 0 where
+  pub rising : EachPair ArrivesBefore book.orders
+  pub held : Each (IsHeld book.banks) book.orders
+
+-- the first item, if there is one
+abbrev pub first : {X : Type 0} → List X → Option X
+first items = slice_get items 0
+
+-- an order of this bank
+abbrev pub is_of : ℕ → Resting → Bool
+is_of bank order = order.bank == bank
+
+-- an order of this bank that arrived at or after this
+abbrev pub is_of_from : ℕ → ℕ → Resting → Bool
+is_of_from bank arrival order = is_of bank order && nat_le arrival order.arrival
+
+-- the order with so many lots left, where it is the one of this bank and number
+abbrev pub relotted : ℕ → ℕ → ℕ → Resting → Resting
+relotted bank number left order = if is_order bank number order then record order { left = left } else order
+
+-- the order of this bank and number rests with more than so many lots left
+abbrev pub RestsAbove : List Resting → ℕ → ℕ → ℕ → Type 0
+RestsAbove orders bank number left = (order : Resting) × Among order orders × (is_order bank number order ≡ true) × (left < order.left)
+
+-- the order of this bank and number rests
+abbrev pub Rests : List Resting → ℕ → ℕ → Type 0
+Rests orders bank number = (order : Resting) × Among order orders × (is_order bank number order ≡ true)
+
+-- a taker of this side with this limit, if it has one, may trade at this price
+abbrev pub allows : Side → Option ℕ → ℕ → Bool
+allows taker None price = true
+allows taker (Some limit) price = crosses taker limit price
+
+-- an order that stands at a place: its price and arrival are all that the place tells of it
+abbrev pub standing_at : Place → Resting
+standing_at place = record { bank = 0; number = 0; side = Buy; price = place.price; left = 0; arrival = place.arrival }
+
+-- an order that a taker of this side is looking for: it is on the other side, its owner can be reached for a lot at
+-- least, the limit allows its price, it arrived before `before` and it stands behind the place `past`, where there is one
+abbrev pub is_sought : Side → List ℕ → Option ℕ → ℕ → Option Place → Resting → Bool
+is_sought taker reach limit before past order =
+    is_opposite taker order.side && nat_le 1 (slice_index reach order.bank) && allows taker limit order.price
+    && nat_lt order.arrival before && is_behind taker (option_map standing_at past) order
+
+-- the orders of a side that are sought
+abbrev pub sought : Side → List ℕ → Option ℕ → ℕ → Option Place → List Resting → List Resting
+sought side reach limit before past orders = filter (is_sought (opposite side) reach limit before past) orders
+
+-- the place is where the order stands
+pub record IsPlaceOf (order : Resting) (place : Place) : Type 0 where
+  pub price : place.price ≡ order.price
+  pub arrival : place.arrival ≡ order.arrival

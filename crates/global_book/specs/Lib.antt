@@ -1,0 +1,4 @@
+pub mod Book
+pub mod Rows
+pub mod Sides
+pub mod Search

@@ -1,0 +1,275 @@
+ghost use Rattle.std.specs.Prelude.{◌≡◌, ◌+◌, ◌≤◌, ◌<◌, ◌↔◌, [], ◌∷◌, ◌++◌, None, not, map, filter, length, false, OnOk, IfOk, IfSome};
+ghost use Rattle.std.specs.List.{All};
+ghost use Rattle.std.specs.Option.{option_copied};
+ghost use Rattle.fx_amounts.specs.Side.{opposite};
+ghost use Rattle.fx_rules.specs.Lists.{Each};
+ghost use Rattle.fx_rules.specs.Sweep.{IsBest, is_order};
+ghost use Rattle.global_book.specs.Book.{HasRoom, KeepsRoom, IsBook, IsPlaceOf, Rests, RestsAbove, first, is_of, is_of_from, TakesRoom, relotted, sought};
+ghost use Rattle.global_book.specs.Rows.{IsEmptyRow, place_in, its_price};
+
+use crate::search::{Search, best_in};
+use crate::sides::Sides;
+use fx_amounts::{BankId, Lots, Memory, PairId, Price, Side};
+use fx_rules::Resting;
+use order_store::{OrderKey, OrderStore};
+use price_levels::{Levels, Place, Steps};
+use std::alloc::Global;
+use std::marker::{Brand, Model};
+use std::sync::ledger::{Blank, Ledger};
+
+/// The orders that rest in one pair. Contracts see them as a list in arrival order.
+#[derive(Drop)]
+pub struct PairBook {
+    pair: PairId,
+    banks: usize,
+    orders: OrderStore,
+    sides: Sides,
+    /// For each bank the places of its orders, by arrival alone.
+    owners: Vec<Levels>,
+}
+
+impl Model for PairBook {
+    ghost use Rattle.std.specs.Prelude.{map};
+    ghost use Rattle.global_book.specs.Book.{Book};
+    ghost use Rattle.global_book.specs.Rows.{IsKept, flat, room_in};
+
+    ghost Value = { Book };
+
+    ghost view = { λ b. record {
+      pair = b.pair;
+      banks = b.banks;
+      orders = flat b.orders.slots;
+      room = map (room_in b.orders b.sides.bids b.sides.asks) b.owners.items;
+    } };
+
+    ghost invariant = { λ b. IsKept b.banks b.orders b.sides.bids b.sides.asks b.owners.items };
+}
+
+impl PairBook {
+    /// The book of a pair for so many banks, with no orders and no room for any. `Memory` for want of memory.
+    pub fn new(alloc: Global, pair: PairId, banks: usize) -> Result<PairBook, Memory>
+        ensures pair { IfOk result (λ book. book.pair ≡ pair) }
+        ensures banks { IfOk result (λ book. book.banks ≡ banks) }
+        ensures empty { IfOk result (λ book. book.orders ≡ []) }
+    {
+        Ok(PairBook {
+            pair,
+            banks,
+            orders: OrderStore::new(alloc),
+            sides: Sides::new(alloc),
+            owners: empty_rows(alloc, banks.min(BankId::COUNT))?,
+        })
+    }
+
+    /// The pair that the book is of.
+    pub fn pair(&self) -> PairId
+        ensures value { result ≡ self.now.pair }
+        ensures valid { IsBook self.now }
+    {
+        self.pair
+    }
+
+    /// How many banks the book was made for.
+    pub fn banks(&self) -> usize
+        ensures value { result ≡ self.now.banks }
+        ensures valid { IsBook self.now }
+    {
+        self.banks
+    }
+
+    /// Makes room for one order more of a bank and a side. At `Memory` there may be none.
+    pub fn reserve(&mut self, bank: BankId, side: Side) -> Result<(), Memory>
+        requires bank { bank < self.old.banks }
+        ensures has_room { OnOk result (HasRoom self.new bank side) }
+        ensures room { KeepsRoom self.old self.new }
+        ensures pair { self.new.pair ≡ self.old.pair }
+        ensures banks { self.new.banks ≡ self.old.banks }
+        ensures orders { self.new.orders ≡ self.old.orders }
+        ensures valid { IsBook self.new }
+    {
+        self.orders.reserve(1)?;
+        self.sides.reserve(side)?;
+        let row = &mut self.owners[bank.index()];
+        row.reserve(1)
+    }
+
+    /// An order comes to rest, behind all others. It takes room that was made for its bank and side; of all other room
+    /// at most one place goes with it.
+    pub fn rest(&mut self, order: Resting)
+        requires room { HasRoom self.old order.bank order.side }
+        requires last { Each (λ other. other.arrival < order.arrival) self.old.orders }
+        requires number { 1 ≤ order.number }
+        requires absent { Each (λ other. is_order order.bank order.number other ≡ false) self.old.orders }
+        ensures pair { self.new.pair ≡ self.old.pair }
+        ensures banks { self.new.banks ≡ self.old.banks }
+        ensures orders { self.new.orders ≡ self.old.orders ++ order ∷ [] }
+        ensures room { TakesRoom self.old self.new }
+        ensures valid { IsBook self.new }
+    {
+        let key = self.orders.add(order).0;
+        self.sides.insert(order.side, by_price(&order, key));
+        let row = &mut self.owners[order.bank.index()];
+        row.insert(by_arrival(order.arrival, key));
+    }
+
+    /// The order of this bank and number; `None` where none rests. One step.
+    pub fn find<L: Ledger>(
+        &self,
+        bank: BankId,
+        number: u32,
+        steps: &mut Steps<L>,
+    ) -> Option<Resting>
+        ensures order { result ≡ first (filter (is_order bank number) self.now.orders) }
+        ensures step { steps.new ≡ steps.old + 1 }
+        ensures valid { IsBook self.now }
+    {
+        steps.tick();
+        let key = self.orders.find(bank, number)?;
+        Some(self.orders.get(key))
+    }
+
+    /// The order of this bank and number has so many lots left from now on, fewer than it had. It keeps its place.
+    pub fn lower(&mut self, bank: BankId, number: u32, left: Lots)
+        requires above { RestsAbove self.old.orders bank number left }
+        ensures pair { self.new.pair ≡ self.old.pair }
+        ensures banks { self.new.banks ≡ self.old.banks }
+        ensures orders { self.new.orders ≡ map (relotted bank number left) self.old.orders }
+        ensures room { KeepsRoom self.old self.new }
+        ensures valid { IsBook self.new }
+    {
+        let key = self.orders.find(bank, number).unwrap();
+        self.orders.lower(key, left);
+    }
+
+    /// Takes the order of this bank and number out.
+    pub fn remove(&mut self, bank: BankId, number: u32)
+        requires rests { Rests self.old.orders bank number }
+        ensures pair { self.new.pair ≡ self.old.pair }
+        ensures banks { self.new.banks ≡ self.old.banks }
+        ensures orders { self.new.orders ≡ filter (λ order. not (is_order bank number order)) self.old.orders }
+        ensures room { KeepsRoom self.old self.new }
+        ensures valid { IsBook self.new }
+    {
+        let key = self.orders.find(bank, number).unwrap();
+        let order = self.orders.remove(key);
+        self.sides.remove(order.side, &by_price(&order, key.0));
+        let row = &mut self.owners[bank.index()];
+        row.remove(&by_arrival(order.arrival, key.0));
+    }
+
+    /// Takes all orders of a bank out, and answers how many they were.
+    pub fn pull(&mut self, bank: BankId) -> u32
+        ensures count { result ≡ length (filter (is_of bank) self.old.orders) }
+        ensures pair { self.new.pair ≡ self.old.pair }
+        ensures banks { self.new.banks ≡ self.old.banks }
+        ensures orders { self.new.orders ≡ filter (λ order. not (is_of bank order)) self.old.orders }
+        ensures room { KeepsRoom self.old self.new }
+        ensures valid { IsBook self.new }
+    {
+        self.pull_counted::<Brand>(bank, Blank::new(1))
+    }
+
+    /// The same, with a ledger for the steps.
+    fn pull_counted<L: Ledger>(&mut self, bank: BankId, blank: Blank) -> u32
+        requires name { blank.name ≡ L.name }
+        requires parts { blank.parts ≡ L.parts }
+        requires some { 0 < blank.parts }
+        ensures count { result ≡ length (filter (is_of bank) self.old.orders) }
+        ensures pair { self.new.pair ≡ self.old.pair }
+        ensures banks { self.new.banks ≡ self.old.banks }
+        ensures orders { self.new.orders ≡ filter (λ order. not (is_of bank order)) self.old.orders }
+        ensures room { KeepsRoom self.old self.new }
+        ensures valid { IsBook self.new }
+    {
+        let mut steps = Steps::<L>::new(blank);
+        let mut count = 0;
+        let mut next = self.next_of(bank, 0, &mut steps);
+        while let Some(order) = next {
+            self.remove(bank, order.number);
+            count += 1;
+            next = self.next_of(bank, 0, &mut steps);
+        }
+        count
+    }
+
+    /// The first order of a bank that arrived at or after this; `None` where there is none. One step.
+    pub fn next_of<L: Ledger>(
+        &self,
+        bank: BankId,
+        after: u64,
+        steps: &mut Steps<L>,
+    ) -> Option<Resting>
+        ensures order { result ≡ first (filter (is_of_from bank after) self.now.orders) }
+        ensures step { steps.new ≡ steps.old + 1 }
+        ensures valid { IsBook self.now }
+    {
+        if bank.index() >= self.owners.len() {
+            steps.tick();
+            return None;
+        }
+        let row = &self.owners[bank.index()];
+        let place = row.from(&by_arrival(after, 0), steps)?;
+        Some(self.orders.get(OrderKey(place.key)))
+    }
+
+    /// The best order of a side, and its place, among those whose owner can be reached for a lot at least, that the limit
+    /// allows, that arrived before `before` and that stand behind the place `past`; without a limit any price is allowed,
+    /// and without a place all are looked at. `None` where there is no such order. `reach` has the lots for each bank.
+    pub fn best<L: Ledger>(
+        &self,
+        side: Side,
+        reach: &[u64],
+        limit: Option<Price>,
+        before: u64,
+        past: Option<&Place>,
+        steps: &mut Steps<L>,
+    ) -> Option<(Resting, Place)>
+        requires one_each { length reach.now ≡ self.now.banks }
+        ensures none { (result ≡ None) ↔ (sought side reach.now limit before (option_copied past.entry) self.now.orders ≡ []) }
+        ensures best { IfSome result (λ found. IsBest (opposite side) (sought side reach.now limit before (option_copied past.entry) self.now.orders) found.0) }
+        ensures place { IfSome result (λ found. IsPlaceOf found.0 found.1) }
+        ensures valid { IsBook self.now }
+    {
+        let search = Search {
+            side,
+            reach,
+            limit,
+            before,
+        };
+        best_in(&self.orders, self.sides.of(side), &search, past, steps)
+    }
+}
+
+/// The place of an order in the row of its side.
+fn by_price(order: &Resting, key: usize) -> Place
+    ensures { result ≡ place_in its_price key order.now }
+{
+    Place {
+        price: order.price,
+        arrival: order.arrival,
+        key,
+    }
+}
+
+/// The place of an order in its bank's row, where all prices are one.
+fn by_arrival(arrival: u64, key: usize) -> Place
+    ensures { result ≡ record { price = 1; arrival = arrival; key = key } }
+{
+    Place {
+        price: Price::new(Price::LEAST).unwrap(),
+        arrival,
+        key,
+    }
+}
+
+/// So many rows by arrival, with no places.
+fn empty_rows(alloc: Global, count: usize) -> Result<Vec<Levels>, Memory>
+    ensures count { IfOk result (λ rows. length rows.items ≡ count) }
+    ensures empty { IfOk result (λ rows. All IsEmptyRow rows.items) }
+{
+    let mut rows = Vec::new(alloc);
+    for _bank in 0..count {
+        rows.push(Levels::new(alloc, Side::Sell))?;
+    }
+    Ok(rows)
+}

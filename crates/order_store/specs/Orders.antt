@@ -1,0 +1,42 @@
+-- The orders that are kept, as contracts see them: a finite map from keys to orders.
+use Rattle.std.specs.Prelude.{ℕ, ◌≡◌, ◌≢◌, ◌+◌, ◌*◌, ◌<◌, ◌^◌, List, Option, Some, None, slice_index_or}
+use Rattle.fx_rules.specs.declared.orders.Resting.{Resting}
+
+-- the order or nothing at each key from 0 on, and how many orders more can be added
+pub record Orders : Type 0 where
+  pub slots : List (Option Resting)
+  pub room : ℕ
+
+-- the order at a key
+abbrev pub order_at : Orders → ℕ → Option Resting
+order_at orders key = slice_index_or orders.slots key None
+
+-- an order is the one of this bank and number
+pub record IsOf (owner place : ℕ) (order : Resting) : Type 0 where
+  pub bank : order.bank ≡ owner
+  pub number : order.number ≡ place
+
+-- no order of this bank and number is kept
+abbrev pub Lacks : Orders → ℕ → ℕ → Type 0
+Lacks orders bank number = (key : ℕ) (order : Resting) → order_at orders key ≡ Some order → order.bank ≡ bank → order.number ≢ number
+
+-- no two orders are of one bank and number; the numbers of a bank and of an order are in their ranges
+pub record AreOrders (orders : Orders) : Type 0 where
+  pub unique : (key other : ℕ) (order same : Resting) → order_at orders key ≡ Some order → order_at orders other ≡ Some same
+      → order.bank ≡ same.bank → order.number ≡ same.number → key ≡ other
+  pub numbered : (key : ℕ) (order : Resting) → order_at orders key ≡ Some order → (order.bank < 64) × (order.number < 2 ^ 32)
+
+-- this key has got this order, or none, and all other keys have what they had
+pub record Changes (old new : Orders) (key : ℕ) (slot : Option Resting) : Type 0 where
+  pub changed : order_at new key ≡ slot
+  pub others : (other : ℕ) → other ≢ key → order_at new other ≡ order_at old other
+
+-- the number that stands for a bank and a number of its stream
+abbrev pub name_of : ℕ → ℕ → ℕ
+name_of bank number = bank * 2 ^ 32 + number
+
+-- `names` finds the key of each order by its name, and of nothing else
+pub record IsIndexed (slot_at : ℕ → Option Resting) (names : ℕ → Option ℕ) : Type 0 where
+  pub named : (key : ℕ) (order : Resting) → slot_at key ≡ Some order → names (name_of order.bank order.number) ≡ Some key
+  pub owned : (name key : ℕ) → names name ≡ Some key → (order : Resting) × (slot_at key ≡ Some order) × (name ≡ name_of order.bank order.number)
+  pub numbered : (key : ℕ) (order : Resting) → slot_at key ≡ Some order → (order.bank < 64) × (order.number < 2 ^ 32)

@@ -1,0 +1,9 @@
+//! The orders that rest in a book, each under a key of its own, found by bank and number.
+#![tactic(auto)]
+
+mod store;
+
+pub use store::{OrderKey, OrderStore};
+
+#[cfg(test)]
+mod tests;

@@ -1,0 +1,56 @@
+-- The places of the resting orders of one side, as contracts see them.
+use Rattle.std.specs.Prelude.{ℕ, ◌≡◌, ◌≢◌, Bool, true, ◌&&◌, ◌||◌, ◌==◌, nat_lt, List, [], ◌∷◌, ◌⊎◌, Option, slice_get}
+use Rattle.std.specs.List.{AllByRecursion, Contains, filter}
+use Rattle.fx_amounts.specs.declared.side.Side.{Side}
+use Rattle.fx_amounts.specs.declared.side.Side.TheVariants.{Buy, Sell}
+use Rattle.price_levels.specs.declared.place.Place.{Place}
+
+-- `room` is how many places more can be inserted
+pub record Ladder : Type 0 where
+  pub side : Side
+  pub places : List Place
+  pub room : ℕ
+
+-- the first price is the better one of two orders of this side: the higher bid, the lower offer
+abbrev pub is_better : Side → ℕ → ℕ → Bool
+is_better Buy price other = nat_lt other price
+is_better Sell price other = nat_lt price other
+
+-- the first place stands before the other: its price is better, or it is the same and its order arrived earlier
+abbrev pub sorts_before : Side → Place → Place → Bool
+sorts_before side place other =
+    is_better side place.price other.price || (place.price == other.price && nat_lt place.arrival other.arrival)
+
+-- two places in order, of two orders
+pub record Sorts (side : Side) (place other : Place) : Type 0 where
+  pub before : sorts_before side place other ≡ true
+  pub differ : place.arrival ≢ other.arrival
+
+-- each place stands before all that follow it
+abbrev pub InOrder : Side → List Place → Type 0
+InOrder side [] = Unit {0}
+InOrder side (place ∷ places) = AllByRecursion (Sorts side place) places × InOrder side places
+
+-- the places stand from the best price on, those of one price by arrival, and no two have one arrival
+pub record IsSorted (side : Side) (places : List Place) : Type 0 where
+  pub in_order : InOrder side places
+
+-- no place has this arrival
+abbrev pub IsNewArrival : ℕ → List Place → Type 0
+IsNewArrival arrival places = (place : Place) → Contains places place → place.arrival ≢ arrival
+
+-- the place came in, and nothing else changed
+pub record Gains (old new : List Place) (place : Place) : Type 0 where
+  pub has : Contains new place
+  pub keeps : (other : Place) → Contains old other → Contains new other
+  pub only : (other : Place) → Contains new other → (other ≡ place) ⊎ Contains old other
+
+-- the place went, and nothing else changed
+pub record Loses (old new : List Place) (place : Place) : Type 0 where
+  pub gone : (other : Place) → Contains new other → other.arrival ≢ place.arrival
+  pub keeps : (other : Place) → Contains old other → other.arrival ≢ place.arrival → Contains new other
+  pub only : (other : Place) → Contains new other → Contains old other
+
+-- the first of the places that pass a test
+abbrev pub first_where : (Place → Bool) → List Place → Option Place
+first_where test places = slice_get (filter test places) 0

@@ -1,0 +1,13 @@
+//! The places of resting orders of one side, sorted from the best price, and the counter of a search's steps.
+#![tactic(auto)]
+
+mod levels;
+mod place;
+mod steps;
+
+pub use levels::Levels;
+pub use place::Place;
+pub use steps::Steps;
+
+#[cfg(test)]
+mod tests;
