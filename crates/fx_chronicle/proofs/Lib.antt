@@ -1,0 +1,4 @@
+pub mod Prefixes
+pub mod Pending
+pub mod Untouched
+pub mod Moves

@@ -1,0 +1,4 @@
+pub mod Touching
+pub mod Faces
+pub mod Views
+pub mod Rule
