@@ -1,8 +1,7 @@
-pub mod FormLoops
-pub mod Printing
-pub mod Runs
+pub mod ScriptLaws
+pub mod Taking
+pub mod Closing
+pub mod ScriptReading
+pub mod HeadlineLaws
+pub mod Running
 pub mod TopCallLaws
-pub mod FieldLaws
-pub mod LineLaws
-pub mod LimitTable
-pub mod FormLaws

@@ -1,21 +1,35 @@
 -- What a run that ended with a status says of that status, of the bytes taken and of the bytes written.
-use Rattle.std.proofs.Common.{◌≡◌, ℕ, ◌≤◌, List, [], ◌∷◌, ◌++◌, length, Option, Some, None, refl, sym, ap, ◌∙◌, subst, arith, ◌⊎◌, inl, inr, ⊎_elim}
+use Rattle.std.proofs.Common.{◌≡◌, ℕ, ◌≤◌, ◌<◌, Bool, true, false, List, [], ◌∷◌, ◌++◌, length, take, Option, Some, None, Result, Ok, Err, refl, sym, ap, ◌∙◌, subst, arith, ◌⊎◌, inl, inr}
 use Rattle.std.specs.Prelude.{IfSome}
 use Rattle.std.specs.Io.KnownBytes.{prepend_known, IsAtEnd}
-use Rattle.std.proofs.lemmas.List.{append_cancel_right, append-nil, length-append, nil_from_length}
+use Rattle.std.proofs.lemmas.List.{append_cancel_right, append-nil, length-append, take_all, take-append-le}
+use Rattle.fx_rules.specs.declared.outcome.Entry.{Entry}
 use Rattle.fx_rules.specs.Lists.{Among}
+use Rattle.fx_rules.specs.Session.{Header}
 use Rattle.fx_edges.specs.Faults.{Rose}
 use Rattle.fx_edges.specs.Reading.{Took}
-use Rattle.fx_edges.specs.Writing.{Appended}
+use Rattle.fx_edges.specs.Writing.{Appended, AppendedPart}
 use Rattle.fx_edges.proofs.Reading.{Took-nil}
 use Rattle.fx_edges.proofs.Writing.{Appended-nil, IsPrefixOf-refl}
-use Rattle.fx_cli.specs.Form.{IsServed}
-use Rattle.fx_cli.specs.Input.{input_limit, TookAtMost, OfTaken, IsWhole}
-use Rattle.fx_cli.specs.Output.{IsOutputOf}
-use Rattle.fx_cli.specs.Run.{TookWhole, WrotePart, TookUnserved, Ran}
-use Rattle.fx_cli.specs.TopCall.{EndsExactly, GotOutput, GotPart, GotNothing}
+use Rattle.reply_lines.specs.Output.{first_output}
+use Rattle.reply_lines.specs.declared.output.Ending.TheVariants as endings
+use Rattle.session_head.specs.Head as heads
+use Rattle.session_head.specs.declared.reason.HeadReason.{HeadReason}
+use Rattle.fx_cli.specs.Input.{input_limit, TookAtMost, OfTaken}
+use Rattle.fx_cli.specs.Headline.{IsSerial}
+use Rattle.fx_cli.specs.Reading.{HasNoFault, IsPrompt, Says, MetEnd, IsEnded, Stopped, Ended, HasRead}
+use Rattle.fx_cli.specs.Run.{WroteAll, WrotePart, RanScript, Followed, Ran}
+use Rattle.fx_cli.specs.Script.{HasSession, HasFault, HasEnd, EndsWithEnd, sent_in, strays_of}
+use Rattle.fx_cli.specs.Status.{status_of}
+use Rattle.fx_cli.specs.TopCall.{EndsExactly, IsOutputOf, GotOutput, GotPart, GotNothing, WritesNothing, IsSessionText}
+use Rattle.fx_cli.specs.declared.reading.Stop.{Stop}
+use Rattle.fx_cli.specs.declared.reading.Stop.TheVariants as stops
+use Rattle.fx_cli.specs.declared.script.Sent.{Sent}
+use Rattle.fx_cli.specs.declared.script.Script.{Script}
 use Rattle.fx_cli.specs.declared.status.Status.{Status}
-use Rattle.fx_cli.specs.declared.status.Status.TheVariants.{Done, Usage, ReadFault, WriteFault, Memory, Unready}
+use Rattle.fx_cli.specs.declared.status.Status.TheVariants.{Done, Usage, Header as HeadFault, Cut, ReadFault, WriteFault, Memory, TooMuch}
+use Rattle.fx_cli.proofs.ScriptReading.{GoesOn-nil, prompt_here}
+use Rattle.fx_cli.proofs.ScriptLaws.{HasSession-more, HasSession-one, HasSession-no_fault, HasFault-more}
 
 -- Bytes taken
 
@@ -23,200 +37,400 @@ some_list : (a b : List ℕ) → Some a ≡ Some b → a ≡ b
 some_list a b e = cc
 
 -- the bytes that a source gave are those that it told
-pub Took-is : {S : Type 0} (left : S → Option (List ℕ)) (faults : S → ℕ) (before now : S) (bytes taken rest : List ℕ) → Took left faults before now bytes → left before ≡ Some (taken ++ rest) → left now ≡ Some rest → bytes ≡ taken
+Took-is : {S : Type 0} (left : S → Option (List ℕ)) (faults : S → ℕ) (before now : S) (bytes taken rest : List ℕ) → Took left faults before now bytes → left before ≡ Some (taken ++ rest) → left now ≡ Some rest → bytes ≡ taken
 Took-is left faults before now bytes taken rest took had has =
     let known : Some (bytes ++ rest) ≡ Some (taken ++ rest) = ap (prepend_known bytes) (sym has) ∙ sym took.moved ∙ had in
     append_cancel_right bytes taken rest (some_list (bytes ++ rest) (taken ++ rest) known)
 
-at_end : (known : Option (List ℕ)) (rest : List ℕ) → known ≡ Some rest → IsAtEnd known → rest ≡ []
-at_end None rest e ended = absurd cc
-at_end (Some xs) rest e ended = some_list rest xs (sym e) ∙ ended
+-- a source that told its bytes tells those that are left
+told : (input : List ℕ) (bytes : List ℕ) (now : Option (List ℕ)) → Some input ≡ prepend_known bytes now → (rest : List ℕ) × (now ≡ Some rest) × (input ≡ bytes ++ rest)
+told input bytes None moved = absurd (cc)
+told input bytes (Some rest) moved = (rest, refl, some_list input (bytes ++ rest) moved)
 
-pub IsWhole-took : {S : Type 0} (left : S → Option (List ℕ)) (faults : S → ℕ) (before now : S) (input taken rest : List ℕ) → TookWhole left faults before now input → left before ≡ Some (taken ++ rest) → left now ≡ Some rest → (input ≡ taken) × IsWhole taken rest
-IsWhole-took left faults before now input taken rest took had has =
-    let same : input ≡ taken = Took-is left faults before now input taken rest took.took had has in (
-      same,
-      ⊎_elim
-          (λ (ended : IsAtEnd (left now)). let none : rest ≡ [] = at_end (left now) rest has ended in inl none)
-          (λ (full : length input ≡ input_limit). let full_too : length taken ≡ input_limit = ap length (sym same) ∙ full in inr full_too)
-          took.whole,
-    )
+-- Headers
 
--- A run by its status
+-- a text has one fault at most in its header
+faults_agree : (text : List ℕ) (line other : ℕ) (reason why : HeadReason) → HasFault text line reason → HasFault text other why → HeadFault other why ≡ HeadFault line reason
+unfolding HasFault
+faults_agree text line other reason why fault again = let same : heads.Faulted line reason ≡ heads.Faulted other why = sym fault ∙ again in cc
+
+-- The status of each stop
+
+stop_of : Status → Option Stop
+stop_of (HeadFault line reason) = Some (stops.Header line reason)
+stop_of Cut = Some stops.Cut
+stop_of ReadFault = Some stops.ReadFault
+stop_of TooMuch = Some stops.TooMuch
+stop_of Memory = Some stops.Memory
+stop_of _ = None
+
+stop_is : (stop : Stop) → stop_of (status_of stop) ≡ Some stop
+unfolding stop_of
+stop_is (stops.Header line reason) = refl
+stop_is stops.Cut = refl
+stop_is stops.ReadFault = refl
+stop_is stops.TooMuch = refl
+stop_is stops.Memory = refl
+
+some_stop : (a b : Stop) → Some a ≡ Some b → a ≡ b
+some_stop a b e = cc
+
+status_injective : (stop other : Stop) → status_of stop ≡ status_of other → stop ≡ other
+status_injective stop other same = some_stop stop other (sym (stop_is stop) ∙ ap stop_of same ∙ stop_is other)
+
+stop_same : (stop other : Stop) (result : Status) → (other ≡ stops.Memory → ⊥) → Among result (status_of stop ∷ Memory ∷ []) → result ≡ status_of other → stop ≡ other
+stop_same stop other result differ (inl one) is = status_injective stop other (sym one ∙ is)
+stop_same stop other result differ (inr (inl one)) is = absurd (differ (status_injective other stops.Memory (sym is ∙ one)))
+stop_same stop other result differ (inr (inr none)) is = absurd none
+
+no_done : stop_of Done ≡ None
+unfolding stop_of
+no_done = refl
+
+no_write_fault : stop_of WriteFault ≡ None
+unfolding stop_of
+no_write_fault = refl
+
+-- a status that is no stop's
+no_stop : (stop : Stop) (result status : Status) → stop_of status ≡ None → Among result (status_of stop ∷ Memory ∷ []) → result ≡ status → ⊥
+unfolding stop_of
+no_stop stop result status other (inl one) is = let same : Some stop ≡ None = sym (stop_is stop) ∙ ap stop_of (sym one ∙ is) ∙ other in cc
+no_stop stop result status other (inr (inl one)) is = let same : Some stops.Memory ≡ None = ap stop_of (sym one ∙ is) ∙ other in cc
+no_stop stop result status other (inr (inr none)) is = none
+
+among_stop : (result status other : Status) (earlier : List Status) → Among result (status ∷ Memory ∷ []) → Among status (other ∷ Memory ∷ earlier) → Among result (other ∷ Memory ∷ earlier)
+among_stop result status other earlier (inl same) there = subst (λ (s : Status). Among s (other ∷ Memory ∷ earlier)) (sym same) there
+among_stop result status other earlier (inr (inl same)) there = inr (inl same)
+among_stop result status other earlier (inr (inr none)) there = absurd none
+
+-- How the reading ended, where the source has `rest` left
+
+not_ended : (input rest : List ℕ) → IsEnded (Some rest) input → ¬ (HasEnd input) → ¬ (EndsWithEnd input) → ⊥
+not_ended input rest (inl has) line_not rest_not = line_not has
+not_ended input rest (inr ends) line_not rest_not = rest_not ends.1
+
+not_full : (input rest : List ℕ) → IsEnded (Some rest) input → ¬ (HasEnd input) → length input ≡ input_limit → ⊥
+not_full input rest (inl has) line_not full = line_not has
+not_full input rest (inr ends) line_not full = omega (arith, ends.0.short, full)
+
+header_stop : (input rest : List ℕ) (line : ℕ) (reason : HeadReason) (stop : Stop) → Stopped (Some rest) input stop → HasFault input line reason → Among (status_of stop) (HeadFault line reason ∷ Memory ∷ Usage ∷ [])
+header_stop input rest line reason (stops.Header other why) stopped fault = inl (faults_agree input line other reason why fault stopped)
+header_stop input rest line reason stops.Cut stopped fault = absurd (stopped.1 line reason fault)
+header_stop input rest line reason stops.ReadFault stopped fault = absurd (stopped.1 line reason fault)
+header_stop input rest line reason stops.TooMuch stopped fault = absurd (stopped.1 line reason fault)
+header_stop input rest line reason stops.Memory stopped fault = inr (inl refl)
+
+cut_stop : (input rest : List ℕ) (stop : Stop) → Stopped (Some rest) input stop → Stopped (Some rest) input stops.Cut → Among (status_of stop) (Cut ∷ Memory ∷ Usage ∷ ReadFault ∷ [])
+cut_stop input rest (stops.Header other why) stopped cut = absurd (cut.1 other why stopped)
+cut_stop input rest stops.Cut stopped cut = inl refl
+cut_stop input rest stops.ReadFault stopped cut = inr (inr (inr (inl refl)))
+cut_stop input rest stops.TooMuch stopped cut = absurd (omega (arith, stopped.0, cut.0.short))
+cut_stop input rest stops.Memory stopped cut = inr (inl refl)
+
+much_stop : (input rest : List ℕ) (stop : Stop) → Stopped (Some rest) input stop → Stopped (Some rest) input stops.TooMuch → Among (status_of stop) (TooMuch ∷ Memory ∷ Usage ∷ [])
+much_stop input rest (stops.Header other why) stopped much = absurd (much.1 other why stopped)
+much_stop input rest stops.Cut stopped much = absurd (omega (arith, stopped.0.short, much.0))
+much_stop input rest stops.ReadFault stopped much = absurd (omega (arith, stopped.0, much.0))
+much_stop input rest stops.TooMuch stopped much = inl refl
+much_stop input rest stops.Memory stopped much = inr (inl refl)
+
+-- Whole texts
+
+at_end : (text rest : List ℕ) → rest ≡ [] → text ++ rest ≡ text
+at_end text rest none = ap (λ (xs : List ℕ). text ++ xs) none ∙ append-nil text
+
+-- a text has its END line in the bytes that are taken, where they are taken to its end or to the limit
+line_taken : (input rest : List ℕ) → HasEnd (take input_limit (input ++ rest)) → length input ≤ input_limit → ((rest ≡ []) ⊎ (length input ≡ input_limit)) → HasEnd input
+line_taken input rest has within (inl none) =
+    subst (λ (text : List ℕ). HasEnd text) (ap (take input_limit) (at_end input rest none) ∙ take_all input_limit input within) has
+line_taken input rest has within (inr full) =
+    subst (λ (text : List ℕ). HasEnd text) (take-append-le input_limit input rest (omega (arith, full)) ∙ take_all input_limit input within) has
+
+text_short : (input rest : List ℕ) → length (input ++ rest) < input_limit → length input ≡ input_limit → ⊥
+text_short input rest short full = omega (arith, length-append input rest)
+
+-- the reading of a whole text stops for no other reason
+served_cut : (input rest : List ℕ) → Stopped (Some rest) input stops.Cut → length input ≤ input_limit → HasEnd (take input_limit (input ++ rest)) ⊎ ((length (input ++ rest) < input_limit) × EndsWithEnd (input ++ rest)) → ⊥
+served_cut input rest cut within (inl has) = cut.2 (line_taken input rest has within (inl cut.0.met))
+served_cut input rest cut within (inr ends) = cut.3 (subst (λ (text : List ℕ). EndsWithEnd text) (at_end input rest cut.0.met) ends.1)
+
+served_much : (input rest : List ℕ) → Stopped (Some rest) input stops.TooMuch → length input ≤ input_limit → HasEnd (take input_limit (input ++ rest)) ⊎ ((length (input ++ rest) < input_limit) × EndsWithEnd (input ++ rest)) → ⊥
+served_much input rest much within (inl has) = much.2 (line_taken input rest has within (inr much.0))
+served_much input rest much within (inr ends) = text_short input rest ends.0 much.0
+
+served_stop : (stop : Stop) (input rest : List ℕ) → Stopped (Some rest) input stop → length input ≤ input_limit → IsSessionText (input ++ rest) → (stop ≡ stops.ReadFault → ⊥) → status_of stop ≡ Memory
+served_stop (stops.Header line reason) input rest fault within is reads =
+    absurd (HasSession-no_fault (input ++ rest) is.session line reason is.header (HasFault-more input rest line reason fault))
+served_stop stops.Cut input rest cut within is reads = absurd (served_cut input rest cut within is.ended)
+served_stop stops.ReadFault input rest fault within is reads = absurd (reads refl)
+served_stop stops.TooMuch input rest much within is reads = absurd (served_much input rest much within is.ended)
+served_stop stops.Memory input rest stopped within is reads = refl
+
+memory_alone : (result : Status) (stop : Stop) → Among result (status_of stop ∷ Memory ∷ []) → status_of stop ≡ Memory → Among result (Done ∷ Memory ∷ [])
+memory_alone result stop (inl one) is = inr (inl (one ∙ is))
+memory_alone result stop (inr (inl one)) is = inr (inl one)
+memory_alone result stop (inr (inr none)) is = absurd none
+
+module _ {K : Type 0} (written : K → Option (List ℕ)) (faults : K → ℕ) (out out' : K) where
+  -- what was done at the status that was told; want of memory may have taken a status' place
+  abbrev pub After : Result Script Stop → Status → Type 0
+  After (Ok script) status = RanScript written faults out out' script status
+  After (Err stop) status = Among status (status_of stop ∷ Memory ∷ []) × (out' ≡ out)
+
+  whole_part : (script : Script) → WroteAll written faults out out' script → WrotePart written faults out out' script
+  whole_part script all = record {
+    history = all.history;
+    serial = all.serial;
+    part = record {
+      part = first_output script.session all.history script.strays endings.End;
+      prefix = IsPrefixOf-refl (first_output script.session all.history script.strays endings.End);
+      appended = all.all;
+    };
+  }
+
+  script_memory : (script : Script) (status : Status) → RanScript written faults out out' script status → RanScript written faults out out' script Memory
+  script_memory script Done ran = inr (whole_part script ran)
+  script_memory script WriteFault ran = inr ran.0
+  script_memory script Memory ran = ran
+  script_memory script status ran = absurd ran
+
+  pub After-told : (read : Result Script Stop) (status result : Status) → Followed written faults out out' read status → Among result (status ∷ Memory ∷ []) → After read result
+  After-told (Ok script) status result ran (inl same) = subst (λ (s : Status). RanScript written faults out out' script s) (sym same) ran
+  After-told (Ok script) status result ran (inr (inl same)) = subst (λ (s : Status). RanScript written faults out out' script s) (sym same) (script_memory script status ran)
+  After-told (Ok script) status result ran (inr (inr none)) = absurd none
+  After-told (Err stop) status result ran is = (subst (λ (s : Status). Among result (s ∷ Memory ∷ [])) ran.0 is, ran.1)
+
+  no_script : (script : Script) (other : Stop) → (other ≡ stops.Memory → ⊥) → RanScript written faults out out' script (status_of other) → ⊥
+  no_script script (stops.Header line reason) unlike ran = ran
+  no_script script stops.Cut unlike ran = ran
+  no_script script stops.ReadFault unlike ran = ran
+  no_script script stops.TooMuch unlike ran = ran
+  no_script script stops.Memory unlike ran = unlike refl
+
+  -- so the reading stopped as the status tells
+  pub stopped : (read : Result Script Stop) (result : Status) (other : Stop) → (other ≡ stops.Memory → ⊥) → After read result → result ≡ status_of other → read ≡ Err other
+  stopped (Ok script) result other unlike ran is = absurd (no_script script other unlike (subst (λ (s : Status). RanScript written faults out out' script s) is ran))
+  stopped (Err stop) result other unlike ran is = ap (λ (s : Stop). Err s) (stop_same stop other result unlike ran.0 is)
+
+  pub stop_only : (read : Result Script Stop) (result : Status) (other : Stop) (known : Option (List ℕ)) (input : List ℕ) → (other ≡ stops.Memory → ⊥) → After read result → Ended known input read → result ≡ status_of other → Stopped known input other
+  stop_only read result other known input unlike ran ended is = subst (Ended known input) (stopped read result other unlike ran is) ended
+
+  pub header_exactly : (read : Result Script Stop) (result : Status) (input rest : List ℕ) (line : ℕ) (reason : HeadReason) → After read result → Ended (Some rest) input read → EndsExactly result (HeadFault line reason) (Usage ∷ []) (HasFault input line reason)
+  header_exactly (Ok script) result input rest line reason ran ended = record {
+    only = λ is. stop_only (Ok script) result (stops.Header line reason) (Some rest) input (λ same. cc) ran ended is;
+    always = λ fault. absurd (HasSession-no_fault input script.session line reason ended.1.session fault);
+  }
+  header_exactly (Err stop) result input rest line reason ran ended = record {
+    only = λ is. stop_only (Err stop) result (stops.Header line reason) (Some rest) input (λ same. cc) ran ended is;
+    always = λ fault. among_stop result (status_of stop) (HeadFault line reason) (Usage ∷ []) ran.0 (header_stop input rest line reason stop ended fault);
+  }
+
+  pub cut_exactly : (read : Result Script Stop) (result : Status) (input rest : List ℕ) → After read result → Ended (Some rest) input read → EndsExactly result Cut (Usage ∷ ReadFault ∷ []) (Stopped (Some rest) input stops.Cut)
+  cut_exactly (Ok script) result input rest ran ended = record {
+    only = λ is. stop_only (Ok script) result stops.Cut (Some rest) input (λ same. cc) ran ended is;
+    always = λ cut. absurd (not_ended input rest ended.0 cut.2 cut.3);
+  }
+  cut_exactly (Err stop) result input rest ran ended = record {
+    only = λ is. stop_only (Err stop) result stops.Cut (Some rest) input (λ same. cc) ran ended is;
+    always = λ cut. among_stop result (status_of stop) Cut (Usage ∷ ReadFault ∷ []) ran.0 (cut_stop input rest stop ended cut);
+  }
+
+  pub much_exactly : (read : Result Script Stop) (result : Status) (input rest : List ℕ) → After read result → Ended (Some rest) input read → EndsExactly result TooMuch (Usage ∷ []) (Stopped (Some rest) input stops.TooMuch)
+  much_exactly (Ok script) result input rest ran ended = record {
+    only = λ is. stop_only (Ok script) result stops.TooMuch (Some rest) input (λ same. cc) ran ended is;
+    always = λ much. absurd (not_full input rest ended.0 much.2 much.0);
+  }
+  much_exactly (Err stop) result input rest ran ended = record {
+    only = λ is. stop_only (Err stop) result stops.TooMuch (Some rest) input (λ same. cc) ran ended is;
+    always = λ much. among_stop result (status_of stop) TooMuch (Usage ∷ []) ran.0 (much_stop input rest stop ended much);
+  }
+
+  output_of : (script : Script) (input rest : List ℕ) (history : List Entry) → IsEnded (Some rest) input → Says input script → IsSerial script.session script.sent.items history → IsOutputOf input rest (first_output script.session history script.strays endings.End)
+  output_of script input rest history ended says serial = record {
+    at_its_end = ended;
+    session = script.session;
+    of_its_header = says.session;
+    history = history;
+    of_its_commands = subst (λ (sent : List Sent). IsSerial script.session sent history) says.sent serial;
+    exactly = ap (λ (strays : ℕ). first_output script.session history strays endings.End) says.strays;
+  }
+
+  part_of : (script : Script) (input rest : List ℕ) → Ended (Some rest) input (Ok script) → WrotePart written faults out out' script → GotPart written faults out out' input rest
+  part_of script input rest ended part =
+      (first_output script.session part.history script.strays endings.End, output_of script input rest part.history ended.0 ended.1 part.serial, part.part)
+
+  pub done_whole : (read : Result Script Stop) (result : Status) (input rest : List ℕ) → After read result → Ended (Some rest) input read → result ≡ Done → GotOutput written faults out out' input rest
+  done_whole (Ok script) result input rest ran ended is =
+      let done : RanScript written faults out out' script Done = subst (λ (s : Status). RanScript written faults out out' script s) is ran in
+      (first_output script.session done.history script.strays endings.End, output_of script input rest done.history ended.0 ended.1 done.serial, done.all)
+  done_whole (Err stop) result input rest ran ended is = absurd (no_stop stop result Done no_done ran.0 is)
+
+  pub fault_rose : (read : Result Script Stop) (result : Status) → After read result → result ≡ WriteFault → Rose (faults out) (faults out')
+  fault_rose (Ok script) result ran is =
+      let wrote : RanScript written faults out out' script WriteFault = subst (λ (s : Status). RanScript written faults out out' script s) is ran in wrote.1
+  fault_rose (Err stop) result ran is = absurd (no_stop stop result WriteFault no_write_fault ran.0 is)
+
+  pub fault_part : (read : Result Script Stop) (result : Status) (input rest : List ℕ) → After read result → Ended (Some rest) input read → result ≡ WriteFault → GotPart written faults out out' input rest
+  fault_part (Ok script) result input rest ran ended is =
+      let wrote : RanScript written faults out out' script WriteFault = subst (λ (s : Status). RanScript written faults out out' script s) is ran in
+      part_of script input rest ended wrote.0
+  fault_part (Err stop) result input rest ran ended is = absurd (no_stop stop result WriteFault no_write_fault ran.0 is)
+
+  pub nothing_of : out' ≡ out → GotNothing written faults out out'
+  nothing_of same = subst (λ (k : K). Appended written faults out k []) (sym same) (Appended-nil written faults out)
+
+  memory_script : (script : Script) (input rest : List ℕ) → Ended (Some rest) input (Ok script) → RanScript written faults out out' script Memory → GotNothing written faults out out' ⊎ GotPart written faults out out' input rest
+  memory_script script input rest ended (inl none) = inl (nothing_of none)
+  memory_script script input rest ended (inr part) = inr (part_of script input rest ended part)
+
+  pub memory_part : (read : Result Script Stop) (result : Status) (input rest : List ℕ) → After read result → Ended (Some rest) input read → result ≡ Memory → GotNothing written faults out out' ⊎ GotPart written faults out out' input rest
+  memory_part (Ok script) result input rest ran ended is =
+      memory_script script input rest ended (subst (λ (s : Status). RanScript written faults out out' script s) is ran)
+  memory_part (Err stop) result input rest ran ended is = inl (nothing_of ran.1)
+
+  script_nothing : (script : Script) (result : Status) → RanScript written faults out out' script result → WritesNothing result → GotNothing written faults out out'
+  script_nothing script Done ran none = absurd none
+  script_nothing script WriteFault ran none = absurd none
+  script_nothing script Memory ran none = absurd none
+  script_nothing script result ran none = absurd ran
+
+  pub wrote_nothing : (read : Result Script Stop) (result : Status) → After read result → WritesNothing result → GotNothing written faults out out'
+  wrote_nothing (Ok script) result ran none = script_nothing script result ran none
+  wrote_nothing (Err stop) result ran none = nothing_of ran.1
+
+  -- Completeness
+
+  served_script : (script : Script) (result : Status) → RanScript written faults out out' script result → ¬ (Rose (faults out) (faults out')) → Among result (Done ∷ Memory ∷ [])
+  served_script script Done ran writes = inl refl
+  served_script script WriteFault ran writes = absurd (writes ran.1)
+  served_script script Memory ran writes = inr (inl refl)
+  served_script script result ran writes = absurd ran
+
+  pub served : (read : Result Script Stop) (result : Status) (input rest : List ℕ) → After read result → Ended (Some rest) input read → length input ≤ input_limit → IsSessionText (input ++ rest)
+      → (read ≡ Err stops.ReadFault → ⊥) → ¬ (Rose (faults out) (faults out')) → Among result (Done ∷ Memory ∷ [])
+  served (Ok script) result input rest ran ended within is reads writes =
+      served_script script result ran writes
+  served (Err stop) result input rest ran ended within is reads writes =
+      memory_alone result stop ran.0 (served_stop stop input rest ended within is (λ same. reads (ap (λ (s : Stop). Err s) same)))
+
+-- The top call
+
+refused_exactly : (result status : Status) (earlier : List Status) (cause : Type 0) → (status ≡ Usage → ⊥) → (status ≡ Memory → ⊥) → Among result (Usage ∷ Memory ∷ []) → EndsExactly result status (Usage ∷ earlier) cause
+refused_exactly result status earlier cause no_usage no_memory (inl usage) = record { only = λ is. absurd (no_usage (sym is ∙ usage)); always = λ _. inr (inr (inl usage)) }
+refused_exactly result status earlier cause no_usage no_memory (inr (inl memory)) = record { only = λ is. absurd (no_memory (sym is ∙ memory)); always = λ _. inr (inl memory) }
+refused_exactly result status earlier cause no_usage no_memory (inr (inr none)) = absurd none
+
+refused_other : (result status : Status) → (status ≡ Usage → ⊥) → (status ≡ Memory → ⊥) → Among result (Usage ∷ Memory ∷ []) → result ≡ status → ⊥
+refused_other result status no_usage no_memory (inl usage) is = no_usage (sym is ∙ usage)
+refused_other result status no_usage no_memory (inr (inl memory)) is = no_memory (sym is ∙ memory)
+refused_other result status no_usage no_memory (inr (inr none)) is = none
 
 module _ {S K : Type 0} (left : S → Option (List ℕ)) (taken : S → ℕ) (written : K → Option (List ℕ)) (faults : K → ℕ) (source source' : S) (out out' : K) where
   -- what was done at a status that the program ended with: the run of accepted words, or nothing
   abbrev pub Called : Type 0 → Status → Type 0
-  Called accepted result = (accepted × Ran left taken written faults source source' out out' result)
+  Called accepted result = (accepted × ((read : Result Script Stop) × HasRead left taken source source' read × After written faults out out' read result))
       ⊎ ((¬ accepted) × (source' ≡ source) × (out' ≡ out) × Among result (Usage ∷ Memory ∷ []))
 
-  -- want of memory may take a status' place
-  Ran-memory : (status : Status) → Ran left taken written faults source source' out out' status → Ran left taken written faults source source' out out' Memory
-  Ran-memory Done ran = inr (record { input = ran.input; took = ran.took; text = ran.text; output = ran.output; part = record { part = ran.text; prefix = IsPrefixOf-refl ran.text; appended = ran.all } })
-  Ran-memory Usage ran = absurd ran
-  Ran-memory ReadFault ran = inl (ran.0, ran.2)
-  Ran-memory WriteFault ran = inr ran.0
-  Ran-memory Memory ran = ran
-  Ran-memory Unready ran = inl (record { bytes = ran.0.input; took = ran.0.took.took; within = ran.0.took.within }, ran.1)
-
-  -- so a run whose status was told is one of the status that came of it
-  pub Ran-told : (status result : Status) → Ran left taken written faults source source' out out' status → Among result (status ∷ Memory ∷ []) → Ran left taken written faults source source' out out' result
-  Ran-told status result ran (inl same) = subst (λ (s : Status). Ran left taken written faults source source' out out' s) (sym same) ran
-  Ran-told status result ran (inr (inl same)) = subst (λ (s : Status). Ran left taken written faults source source' out out' s) (sym same) (Ran-memory status ran)
-  Ran-told status result ran (inr (inr none)) = absurd none
-
-  Ran-took : (result : Status) → Ran left taken written faults source source' out out' result → TookAtMost input_limit left taken source source'
-  Ran-took Done ran = record { bytes = ran.input; took = ran.took.took; within = ran.took.within }
-  Ran-took Usage ran = absurd ran
-  Ran-took ReadFault ran = ran.0
-  Ran-took WriteFault ran = record { bytes = ran.0.input; took = ran.0.took.took; within = ran.0.took.within }
-  Ran-took Memory (inl ran) = ran.0
-  Ran-took Memory (inr ran) = record { bytes = ran.input; took = ran.took.took; within = ran.took.within }
-  Ran-took Unready ran = record { bytes = ran.0.input; took = ran.0.took.took; within = ran.0.took.within }
+  ended_at : (read : Result Script Stop) (input rest : List ℕ) → HasRead left taken source source' read → left source ≡ Some (input ++ rest) → left source' ≡ Some rest → Ended (Some rest) input read
+  ended_at read input rest has had now =
+      subst (λ (known : Option (List ℕ)). Ended known input read) now
+      (subst (λ (bytes : List ℕ). Ended (left source') bytes read) (Took-is left taken source source' has.input input rest has.took had now) has.ended)
 
   pub taken_of : (accepted : Type 0) (result : Status) → Called accepted result → TookAtMost input_limit left taken source source'
-  taken_of accepted result (inl ran) = Ran-took result ran.1
+  taken_of accepted result (inl ran) = record { bytes = ran.1.1.input; took = ran.1.1.took; within = ran.1.1.within }
   taken_of accepted result (inr refused) = record {
     bytes = [];
     took = subst (λ (s : S). Took left taken source s []) (sym refused.1) (Took-nil left taken source);
     within = omega arith;
   }
 
-  -- Unready exactly where the whole input is none that is served
+  pub prompt_clause : (accepted : Type 0) (result : Status) → Called accepted result → OfTaken left source source' (λ input _. IsPrompt input)
+  prompt_clause accepted result (inl ran) input rest had now =
+      subst (λ (bytes : List ℕ). IsPrompt bytes) (Took-is left taken source source' ran.1.1.input input rest ran.1.1.took had now) ran.1.1.prompt
+  prompt_clause accepted result (inr refused) input rest had now =
+      let same : Some (input ++ rest) ≡ Some rest = sym had ∙ ap left (sym refused.1) ∙ now in
+      let none : input ≡ [] = append_cancel_right input [] rest (some_list (input ++ rest) rest same) in
+      subst (λ (bytes : List ℕ). IsPrompt bytes) (sym none) (prompt_here [] GoesOn-nil)
 
-  unready_cause : (input rest : List ℕ) → left source ≡ Some (input ++ rest) → left source' ≡ Some rest → TookUnserved left taken source source' → IsWhole input rest × ¬ (IsServed input)
-  unready_cause input rest had has took =
-      let whole = IsWhole-took left taken source source' took.input input rest took.took had has in
-      (whole.1, subst (λ (text : List ℕ). ¬ (IsServed text)) whole.0 took.unserved)
+  pub header_clause : (accepted : Type 0) (result : Status) → Called accepted result → OfTaken left source source' (λ input _. (line : ℕ) (reason : HeadReason) → EndsExactly result (HeadFault line reason) (Usage ∷ []) (HasFault input line reason))
+  header_clause accepted result (inl ran) input rest had now line reason =
+      header_exactly written faults out out' ran.1.0 result input rest line reason ran.1.2 (ended_at ran.1.0 input rest ran.1.1 had now)
+  header_clause accepted result (inr refused) input rest had now line reason =
+      refused_exactly result (HeadFault line reason) [] (HasFault input line reason) (λ same. cc) (λ same. cc) refused.3
 
-  served : (input rest bytes text : List ℕ) → left source ≡ Some (input ++ rest) → left source' ≡ Some rest → TookWhole left taken source source' bytes → IsOutputOf bytes text → IsServed input
-  served input rest bytes text had has took output =
-      let whole = IsWhole-took left taken source source' bytes input rest took had has in
-      subst (λ (read : List ℕ). IsServed read) whole.0 (output.session, output.is.is)
+  pub cut_clause : (accepted : Type 0) (result : Status) → Called accepted result → OfTaken left source source' (λ input rest. EndsExactly result Cut (Usage ∷ ReadFault ∷ []) (Stopped (Some rest) input stops.Cut))
+  cut_clause accepted result (inl ran) input rest had now =
+      cut_exactly written faults out out' ran.1.0 result input rest ran.1.2 (ended_at ran.1.0 input rest ran.1.1 had now)
+  cut_clause accepted result (inr refused) input rest had now =
+      refused_exactly result Cut (ReadFault ∷ []) (Stopped (Some rest) input stops.Cut) (λ same. cc) (λ same. cc) refused.3
 
-  unready_always : (result : Status) (input rest : List ℕ) → left source ≡ Some (input ++ rest) → left source' ≡ Some rest → Ran left taken written faults source source' out out' result → ¬ (IsServed input) → Among result (Unready ∷ Memory ∷ Usage ∷ ReadFault ∷ [])
-  unready_always Done input rest had has ran unserved = absurd (unserved (served input rest ran.input ran.text had has ran.took ran.output))
-  unready_always Usage input rest had has ran unserved = absurd ran
-  unready_always ReadFault input rest had has ran unserved = inr (inr (inr (inl refl)))
-  unready_always WriteFault input rest had has ran unserved = absurd (unserved (served input rest ran.0.input ran.0.text had has ran.0.took ran.0.output))
-  unready_always Memory input rest had has ran unserved = inr (inl refl)
-  unready_always Unready input rest had has ran unserved = inl refl
+  pub much_clause : (accepted : Type 0) (result : Status) → Called accepted result → OfTaken left source source' (λ input rest. EndsExactly result TooMuch (Usage ∷ []) (Stopped (Some rest) input stops.TooMuch))
+  much_clause accepted result (inl ran) input rest had now =
+      much_exactly written faults out out' ran.1.0 result input rest ran.1.2 (ended_at ran.1.0 input rest ran.1.1 had now)
+  much_clause accepted result (inr refused) input rest had now =
+      refused_exactly result TooMuch [] (Stopped (Some rest) input stops.TooMuch) (λ same. cc) (λ same. cc) refused.3
 
-  refused_first : (result : Status) → Among result (Usage ∷ Memory ∷ []) → Among result (Unready ∷ Memory ∷ Usage ∷ ReadFault ∷ [])
-  refused_first result (inl usage) = inr (inr (inl usage))
-  refused_first result (inr (inl memory)) = inr (inl memory)
-  refused_first result (inr (inr none)) = absurd none
+  pub read_fault_clause : (accepted : Type 0) (result : Status) → Called accepted result → result ≡ ReadFault → Rose (taken source) (taken source')
+  read_fault_clause accepted result (inl ran) is = ran.1.1.cause (stopped written faults out out' ran.1.0 result stops.ReadFault (λ same. cc) ran.1.2 is)
+  read_fault_clause accepted result (inr refused) is = absurd (refused_other result ReadFault (λ same. cc) (λ same. cc) refused.3 is)
 
-  refused_status : (result : Status) → Among result (Usage ∷ Memory ∷ []) → result ≡ Unready → ⊥
-  refused_status result (inl usage) is = absurd (cc)
-  refused_status result (inr (inl memory)) is = absurd (cc)
-  refused_status result (inr (inr none)) is = absurd none
+  pub read_before_clause : (accepted : Type 0) (result : Status) → Called accepted result → result ≡ ReadFault → OfTaken left source source' (λ input _. HasNoFault input × ¬ (HasEnd input))
+  read_before_clause accepted result (inl ran) is input rest had now =
+      let before : Stopped (Some rest) input stops.ReadFault = stop_only written faults out out' ran.1.0 result stops.ReadFault (Some rest) input (λ same. cc) ran.1.2 (ended_at ran.1.0 input rest ran.1.1 had now) is in
+      (before.1, before.2)
+  read_before_clause accepted result (inr refused) is input rest had now = absurd (refused_other result ReadFault (λ same. cc) (λ same. cc) refused.3 is)
 
-  unready_only : (result : Status) (input rest : List ℕ) → left source ≡ Some (input ++ rest) → left source' ≡ Some rest → Ran left taken written faults source source' out out' result → result ≡ Unready → IsWhole input rest × ¬ (IsServed input)
-  unready_only result input rest had has ran is =
-      let unready : Ran left taken written faults source source' out out' Unready = subst (λ (s : Status). Ran left taken written faults source source' out out' s) is ran in
-      unready_cause input rest had has unready.0
+  pub done_clause : (accepted : Type 0) (result : Status) → Called accepted result → result ≡ Done → OfTaken left source source' (λ input rest. GotOutput written faults out out' input rest)
+  done_clause accepted result (inl ran) is input rest had now =
+      done_whole written faults out out' ran.1.0 result input rest ran.1.2 (ended_at ran.1.0 input rest ran.1.1 had now) is
+  done_clause accepted result (inr refused) is input rest had now = absurd (refused_other result Done (λ same. cc) (λ same. cc) refused.3 is)
 
-  pub unready_exactly : (accepted : Type 0) (result : Status) → Called accepted result → OfTaken left source source' (λ input rest. EndsExactly result Unready (Usage ∷ ReadFault ∷ []) (IsWhole input rest × ¬ (IsServed input)))
-  unready_exactly accepted result (inl ran) input rest had has = record {
-    only = unready_only result input rest had has ran.1;
-    always = λ cause. unready_always result input rest had has ran.1 cause.1;
-  }
-  unready_exactly accepted result (inr refused) input rest had has = record {
-    only = λ is. absurd (refused_status result refused.3 is);
-    always = λ cause. refused_first result refused.3;
-  }
+  pub write_fault_clause : (accepted : Type 0) (result : Status) → Called accepted result → result ≡ WriteFault → Rose (faults out) (faults out')
+  write_fault_clause accepted result (inl ran) is = fault_rose written faults out out' ran.1.0 result ran.1.2 is
+  write_fault_clause accepted result (inr refused) is = absurd (refused_other result WriteFault (λ same. cc) (λ same. cc) refused.3 is)
 
-  -- What was written
+  pub part_clause : (accepted : Type 0) (result : Status) → Called accepted result → result ≡ WriteFault → OfTaken left source source' (λ input rest. GotPart written faults out out' input rest)
+  part_clause accepted result (inl ran) is input rest had now =
+      fault_part written faults out out' ran.1.0 result input rest ran.1.2 (ended_at ran.1.0 input rest ran.1.1 had now) is
+  part_clause accepted result (inr refused) is input rest had now = absurd (refused_other result WriteFault (λ same. cc) (λ same. cc) refused.3 is)
 
-  ran_at : (accepted : Type 0) (result status : Status) → Called accepted result → result ≡ status → (Among status (Usage ∷ Memory ∷ []) → ⊥) → Ran left taken written faults source source' out out' status
-  ran_at accepted result status (inl ran) is other = subst (λ (s : Status). Ran left taken written faults source source' out out' s) is ran.1
-  ran_at accepted result status (inr refused) is other = absurd (other (subst (λ (s : Status). Among s (Usage ∷ Memory ∷ [])) is refused.3))
+  pub memory_clause : (accepted : Type 0) (result : Status) → Called accepted result → result ≡ Memory → OfTaken left source source' (λ input rest. GotNothing written faults out out' ⊎ GotPart written faults out out' input rest)
+  memory_clause accepted result (inl ran) is input rest had now =
+      memory_part written faults out out' ran.1.0 result input rest ran.1.2 (ended_at ran.1.0 input rest ran.1.1 had now) is
+  memory_clause accepted result (inr refused) is input rest had now = inl (nothing_of written faults out out' refused.2)
 
-  refused_done : Among Done (Usage ∷ Memory ∷ []) → ⊥
-  refused_done (inl usage) = absurd (cc)
-  refused_done (inr (inl memory)) = absurd (cc)
-  refused_done (inr (inr none)) = none
+  pub nothing_clause : (accepted : Type 0) (result : Status) → Called accepted result → WritesNothing result → GotNothing written faults out out'
+  nothing_clause accepted result (inl ran) none = wrote_nothing written faults out out' ran.1.0 result ran.1.2 none
+  nothing_clause accepted result (inr refused) none = nothing_of written faults out out' refused.2
 
-  refused_write_fault : Among WriteFault (Usage ∷ Memory ∷ []) → ⊥
-  refused_write_fault (inl usage) = absurd (cc)
-  refused_write_fault (inr (inl memory)) = absurd (cc)
-  refused_write_fault (inr (inr none)) = none
+  complete_ran : (read : Result Script Stop) (result : Status) (bytes : List ℕ) → HasRead left taken source source' read → After written faults out out' read result → left source ≡ Some bytes → IsSessionText bytes → ¬ (Rose (taken source) (taken source')) → ¬ (Rose (faults out) (faults out')) → Among result (Done ∷ Memory ∷ [])
+  complete_ran read result bytes has ran had is reads writes =
+      let split = told bytes has.input (left source') (sym had ∙ has.took.moved) in
+      served written faults out out' read result has.input split.0 ran (subst (λ (known : Option (List ℕ)). Ended known has.input read) split.1 has.ended) has.within
+      (subst (λ (text : List ℕ). IsSessionText text) split.2 is) (λ failed. reads (has.cause failed)) writes
 
-  pub done_whole : (accepted : Type 0) (result : Status) → Called accepted result → result ≡ Done → OfTaken left source source' (λ input rest. IsWhole input rest × GotOutput written faults out out' input)
-  done_whole accepted result called is input rest had has =
-      let ran : Ran left taken written faults source source' out out' Done = ran_at accepted result Done called is refused_done in
-      let whole = IsWhole-took left taken source source' ran.input input rest ran.took had has in
-      (whole.1, (ran.text, subst (λ (read : List ℕ). IsOutputOf read ran.text) whole.0 ran.output, ran.all))
+  complete_known : (read : Result Script Stop) (result : Status) (known : Option (List ℕ)) → HasRead left taken source source' read → After written faults out out' read result → left source ≡ known
+      → IfSome known (λ bytes. IsSessionText bytes → ¬ (Rose (taken source) (taken source')) → ¬ (Rose (faults out) (faults out')) → Among result (Done ∷ Memory ∷ []))
+  complete_known read result None has ran had = tt
+  complete_known read result (Some bytes) has ran had = complete_ran read result bytes has ran had
 
-  part_of : (input rest : List ℕ) → left source ≡ Some (input ++ rest) → left source' ≡ Some rest → WrotePart left taken written faults source source' out out' → IsWhole input rest × GotPart written faults out out' input
-  part_of input rest had has part =
-      let whole = IsWhole-took left taken source source' part.input input rest part.took had has in
-      (whole.1, (part.text, subst (λ (read : List ℕ). IsOutputOf read part.text) whole.0 part.output, part.part))
-
-  pub write_fault_part : (accepted : Type 0) (result : Status) → Called accepted result → result ≡ WriteFault → OfTaken left source source' (λ input rest. IsWhole input rest × GotPart written faults out out' input)
-  write_fault_part accepted result called is input rest had has =
-      let ran : Ran left taken written faults source source' out out' WriteFault = ran_at accepted result WriteFault called is refused_write_fault in
-      part_of input rest had has ran.0
-
-  nothing_of : out' ≡ out → GotNothing written faults out out'
-  nothing_of same = subst (λ (k : K). Appended written faults out k []) (sym same) (Appended-nil written faults out)
-
-  memory_ran : (input rest : List ℕ) → left source ≡ Some (input ++ rest) → left source' ≡ Some rest → Ran left taken written faults source source' out out' Memory → GotNothing written faults out out' ⊎ GotPart written faults out out' input
-  memory_ran input rest had has (inl none) = inl (nothing_of none.1)
-  memory_ran input rest had has (inr part) = inr (part_of input rest had has part).1
-
-  pub memory_part : (accepted : Type 0) (result : Status) → Called accepted result → result ≡ Memory → OfTaken left source source' (λ input rest. GotNothing written faults out out' ⊎ GotPart written faults out out' input)
-  memory_part accepted result (inl ran) is input rest had has = memory_ran input rest had has (subst (λ (s : Status). Ran left taken written faults source source' out out' s) is ran.1)
-  memory_part accepted result (inr refused) is input rest had has = inl (nothing_of refused.2)
-
-  -- Completeness
-
-  -- a source that told its bytes tells those that are left
-  told : (input : List ℕ) (bytes : List ℕ) (now : Option (List ℕ)) → Some input ≡ prepend_known bytes now → (rest : List ℕ) × (now ≡ Some rest) × (input ≡ bytes ++ rest)
-  told input bytes None moved = absurd (cc)
-  told input bytes (Some rest) moved = (rest, refl, some_list input (bytes ++ rest) moved)
-
-  -- an input within the limit was taken whole
-  all_taken : (input bytes : List ℕ) → left source ≡ Some input → length input ≤ input_limit → TookWhole left taken source source' bytes → bytes ≡ input
-  all_taken input bytes had fits took =
-      let split = told input bytes (left source') (sym had ∙ took.took.moved) in
-      let rest : List ℕ = split.0 in
-      let none : split.0 ≡ [] = ⊎_elim
-      (λ (ended : IsAtEnd (left source')). at_end (left source') split.0 split.1 ended)
-      (λ (full : length bytes ≡ input_limit). nil_from_length split.0 (omega (arith, ap length split.2, length-append bytes split.0)))
-      took.whole in
-      sym (split.2 ∙ ap (λ xs. bytes ++ xs) none ∙ append-nil bytes)
-
-  complete_ran : (result : Status) (input : List ℕ) → left source ≡ Some input → Ran left taken written faults source source' out out' result → IsServed input → length input ≤ input_limit → ¬ (Rose (taken source) (taken source')) → ¬ (Rose (faults out) (faults out')) → Among result (Done ∷ Memory ∷ [])
-  complete_ran Done input had ran is fits reads writes = inl refl
-  complete_ran Usage input had ran is fits reads writes = absurd ran
-  complete_ran ReadFault input had ran is fits reads writes = absurd (reads ran.1)
-  complete_ran WriteFault input had ran is fits reads writes = absurd (writes ran.1)
-  complete_ran Memory input had ran is fits reads writes = inr (inl refl)
-  complete_ran Unready input had ran is fits reads writes = absurd (ran.0.unserved (subst (λ (text : List ℕ). IsServed text) (sym (all_taken input ran.0.input had fits ran.0.took)) is))
-
-  complete_known : (result : Status) (known : Option (List ℕ)) → left source ≡ known → Ran left taken written faults source source' out out' result → IfSome known (λ input. IsServed input → length input ≤ input_limit → ¬ (Rose (taken source) (taken source')) → ¬ (Rose (faults out) (faults out')) → Among result (Done ∷ Memory ∷ []))
-  complete_known result None had ran = tt
-  complete_known result (Some input) had ran = complete_ran result input had ran
-
-  pub complete_of : (accepted : Type 0) (result : Status) → Called accepted result → accepted → IfSome (left source) (λ input. IsServed input → length input ≤ input_limit → ¬ (Rose (taken source) (taken source')) → ¬ (Rose (faults out) (faults out')) → Among result (Done ∷ Memory ∷ []))
-  complete_of accepted result (inl ran) accepts = complete_known result (left source) refl ran.1
-  complete_of accepted result (inr refused) accepts = absurd (refused.0 accepts)
+  pub complete_clause : (accepted : Type 0) (result : Status) → Called accepted result → accepted → IfSome (left source) (λ bytes. IsSessionText bytes → ¬ (Rose (taken source) (taken source')) → ¬ (Rose (faults out) (faults out')) → Among result (Done ∷ Memory ∷ []))
+  complete_clause accepted result (inl ran) accepts = complete_known ran.1.0 result (left source) ran.1.1 ran.1.2 refl
+  complete_clause accepted result (inr refused) accepts = absurd (refused.0 accepts)
 
 -- the run of accepted words, told
 pub Called-ran : {S K : Type 0} (left : S → Option (List ℕ)) (taken : S → ℕ) (written : K → Option (List ℕ)) (faults : K → ℕ) (source source' ran_source : S) (out out' ran_out : K) (accepted : Type 0) (status ran_status result : Status)
     → accepted → Ran left taken written faults source ran_source out ran_out ran_status → source' ≡ ran_source → out' ≡ ran_out → status ≡ ran_status → Among result (status ∷ Memory ∷ [])
     → Called left taken written faults source source' out out' accepted result
-Called-ran {S} {K} left taken written faults source source' ran_source out out' ran_out accepted status ran_status result accepts ran source_is out_is status_is told =
+Called-ran {S} {K} left taken written faults source source' ran_source out out' ran_out accepted status ran_status result accepts ran source_is out_is status_is told_is =
     let there : Ran left taken written faults source source' out ran_out ran_status = subst (λ (s : S). Ran left taken written faults source s out ran_out ran_status) (sym source_is) ran in
     let here : Ran left taken written faults source source' out out' ran_status = subst (λ (k : K). Ran left taken written faults source source' out k ran_status) (sym out_is) there in
     let stands : Ran left taken written faults source source' out out' status = subst (λ (s : Status). Ran left taken written faults source source' out out' s) (sym status_is) here in
-    inl (accepts, Ran-told left taken written faults source source' out out' status result stands told)
+    inl (accepts, (stands.read, stands.has_read, After-told written faults out out' stands.read status result stands.followed told_is))
 
 -- other words, told
 pub Called-refused : {S K : Type 0} (left : S → Option (List ℕ)) (taken : S → ℕ) (written : K → Option (List ℕ)) (faults : K → ℕ) (source source' : S) (out out' : K) (accepted : Type 0) (status result : Status)
     → ¬ accepted → source' ≡ source → out' ≡ out → status ≡ Usage → Among result (status ∷ Memory ∷ [])
     → Called left taken written faults source source' out out' accepted result
-Called-refused left taken written faults source source' out out' accepted status result refuses source_is out_is status_is told =
-    inr (refuses, source_is, out_is, subst (λ (s : Status). Among result (s ∷ Memory ∷ [])) status_is told)
+Called-refused left taken written faults source source' out out' accepted status result refuses source_is out_is status_is told_is =
+    inr (refuses, source_is, out_is, subst (λ (s : Status). Among result (s ∷ Memory ∷ [])) status_is told_is)

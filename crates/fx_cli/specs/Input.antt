@@ -1,5 +1,5 @@
 -- The input: the bytes that a run takes from its source.
-use Rattle.std.specs.Prelude.{◌≡◌, ℕ, ◌≤◌, ◌^◌, List, [], ◌++◌, length, Option, Some, ◌⊎◌}
+use Rattle.std.specs.Prelude.{◌≡◌, ℕ, ◌≤◌, ◌^◌, List, ◌++◌, length, Option, Some}
 use Rattle.fx_edges.specs.Reading.{Took}
 
 -- the most bytes that are taken
@@ -15,7 +15,3 @@ pub record TookAtMost {S : Type 0} (most : ℕ) (left : S → Option (List ℕ))
 -- what P says of the bytes that were taken and of those that are left, where the source tells them
 abbrev pub OfTaken : {S : Type 0} (left : S → Option (List ℕ)) (before now : S) → (List ℕ → List ℕ → Type 0) → Type 0
 OfTaken left before now P = (taken rest : List ℕ) → left before ≡ Some (taken ++ rest) → left now ≡ Some rest → P taken rest
-
--- all was taken: the source has no more, or the limit is reached
-abbrev pub IsWhole : List ℕ → List ℕ → Type 0
-IsWhole taken rest = (rest ≡ []) ⊎ (length taken ≡ input_limit)

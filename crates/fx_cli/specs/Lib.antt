@@ -1,10 +1,10 @@
-pub mod Status
 pub mod Words
+pub mod Status
 pub mod Input
-pub mod HeaderText
-pub mod Form
-pub mod FormReading
-pub mod FormParts
-pub mod Output
+pub mod Script
+pub mod Stage
+pub mod Intake
+pub mod Reading
+pub mod Headline
 pub mod Run
 pub mod TopCall

@@ -1,51 +1,45 @@
 -- What a run does to its source and to standard output.
-use Rattle.std.specs.Prelude.{◌≡◌, ℕ, ◌≤◌, List, length, Option, ◌⊎◌}
-use Rattle.std.specs.Io.KnownBytes.{IsAtEnd}
+use Rattle.std.specs.Prelude.{◌≡◌, ℕ, List, Option, Bool, true, false, Result, Ok, Err, ◌⊎◌}
 use Rattle.fx_edges.specs.Faults.{Rose}
-use Rattle.fx_edges.specs.Reading.{Took}
 use Rattle.fx_edges.specs.Writing.{Appended, AppendedPart}
-use Rattle.fx_cli.specs.Form.{IsServed}
-use Rattle.fx_cli.specs.Input.{input_limit, TookAtMost}
-use Rattle.fx_cli.specs.Output.{IsOutputOf}
+use Rattle.fx_rules.specs.declared.outcome.Entry.{Entry}
+use Rattle.reply_lines.specs.Output.{first_output}
+use Rattle.reply_lines.specs.declared.output.Ending.TheVariants.{End}
+use Rattle.fx_cli.specs.Headline.{IsSerial}
+use Rattle.fx_cli.specs.Reading.{HasRead}
+use Rattle.fx_cli.specs.Status.{status_of}
+use Rattle.fx_cli.specs.declared.reading.Stop.{Stop}
+use Rattle.fx_cli.specs.declared.script.Script.{Script}
 use Rattle.fx_cli.specs.declared.status.Status.{Status}
-use Rattle.fx_cli.specs.declared.status.Status.TheVariants.{Done, Usage, ReadFault, WriteFault, Memory, Unready}
+use Rattle.fx_cli.specs.declared.status.Status.TheVariants.{Done, WriteFault, Memory}
 
--- the source gave this input, to its end or to the limit
-pub record TookWhole {S : Type 0} (left : S → Option (List ℕ)) (faults : S → ℕ) (before now : S) (input : List ℕ) : Type 0 where
-  pub took : Took left faults before now input
-  pub within : length input ≤ input_limit
-  pub whole : IsAtEnd (left now) ⊎ (length input ≡ input_limit)
+-- a sink got the output of the script's commands in the order of their lines
+pub record WroteAll {K : Type 0} (written : K → Option (List ℕ)) (faults : K → ℕ) (before now : K) (script : Script) : Type 0 where
+  pub history : List Entry
+  pub serial : IsSerial script.session script.sent.items history
+  pub all : Appended written faults before now (first_output script.session history script.strays End)
 
--- standard output got a prefix of what is written for the whole input
-pub record WrotePart {S K : Type 0} (left : S → Option (List ℕ)) (taken : S → ℕ) (written : K → Option (List ℕ)) (faults : K → ℕ)
-    (source source' : S) (out out' : K) : Type 0 where
-  pub input : List ℕ
-  pub took : TookWhole left taken source source' input
-  pub text : List ℕ
-  pub output : IsOutputOf input text
-  pub part : AppendedPart written faults out out' text
+-- and here a prefix of it
+pub record WrotePart {K : Type 0} (written : K → Option (List ℕ)) (faults : K → ℕ) (before now : K) (script : Script) : Type 0 where
+  pub history : List Entry
+  pub serial : IsSerial script.session script.sent.items history
+  pub part : AppendedPart written faults before now (first_output script.session history script.strays End)
 
--- and here the whole of it
-pub record WroteWhole {S K : Type 0} (left : S → Option (List ℕ)) (taken : S → ℕ) (written : K → Option (List ℕ)) (faults : K → ℕ)
-    (source source' : S) (out out' : K) : Type 0 where
-  pub input : List ℕ
-  pub took : TookWhole left taken source source' input
-  pub text : List ℕ
-  pub output : IsOutputOf input text
-  pub all : Appended written faults out out' text
+-- what the run of a script did to standard output, by the status that it ended with
+abbrev pub RanScript : {K : Type 0} (written : K → Option (List ℕ)) (faults : K → ℕ) (before now : K) → Script → Status → Type 0
+RanScript written faults before now script Done = WroteAll written faults before now script
+RanScript written faults before now script WriteFault = WrotePart written faults before now script × Rose (faults before) (faults now)
+RanScript written faults before now script Memory = (now ≡ before) ⊎ WrotePart written faults before now script
+RanScript written faults before now script _ = ⊥
 
--- the whole input is none that is served
-pub record TookUnserved {S : Type 0} (left : S → Option (List ℕ)) (faults : S → ℕ) (before now : S) : Type 0 where
-  pub input : List ℕ
-  pub took : TookWhole left faults before now input
-  pub unserved : ¬ (IsServed input)
+-- what came of the reading: the script is run, or nothing is written and the status tells why the reading stopped
+abbrev pub Followed : {K : Type 0} (written : K → Option (List ℕ)) (faults : K → ℕ) (before now : K) → Result Script Stop → Status → Type 0
+Followed written faults before now (Ok script) status = RanScript written faults before now script status
+Followed written faults before now (Err stop) status = (status ≡ status_of stop) × (now ≡ before)
 
 -- what a run whose words are accepted did, by the status that it ended with
-abbrev pub Ran : {S K : Type 0} (left : S → Option (List ℕ)) (taken : S → ℕ) (written : K → Option (List ℕ)) (faults : K → ℕ)
-    (source source' : S) (out out' : K) → Status → Type 0
-Ran left taken written faults source source' out out' Done = WroteWhole left taken written faults source source' out out'
-Ran left taken written faults source source' out out' Usage = ⊥
-Ran left taken written faults source source' out out' ReadFault = TookAtMost input_limit left taken source source' × Rose (taken source) (taken source') × (out' ≡ out)
-Ran left taken written faults source source' out out' WriteFault = WrotePart left taken written faults source source' out out' × Rose (faults out) (faults out')
-Ran left taken written faults source source' out out' Memory = (TookAtMost input_limit left taken source source' × (out' ≡ out)) ⊎ WrotePart left taken written faults source source' out out'
-Ran left taken written faults source source' out out' Unready = TookUnserved left taken source source' × (out' ≡ out)
+pub record Ran {S K : Type 0} (left : S → Option (List ℕ)) (taken : S → ℕ) (written : K → Option (List ℕ)) (faults : K → ℕ)
+    (source source' : S) (out out' : K) (status : Status) : Type 0 where
+  pub read : Result Script Stop
+  pub has_read : HasRead left taken source source' read
+  pub followed : Followed written faults out out' read status

@@ -1,21 +1,42 @@
 -- The statuses that the program ends with: the code of each, and what it writes on standard error.
-use Rattle.std.specs.Prelude.{ℕ, List, [], codes}
+use Rattle.std.specs.Prelude.{ℕ, List, [], ◌∷◌, ◌++◌, codes}
+use Rattle.fx_amounts.specs.Numeral.{numeral}
+use Rattle.session_head.specs.declared.reason.HeadReason.{HeadReason}
+use Rattle.session_head.specs.Reason.{reason_code}
+use Rattle.fx_cli.specs.declared.reading.Stop.{Stop}
+use Rattle.fx_cli.specs.declared.reading.Stop.TheVariants as stops
 use Rattle.fx_cli.specs.declared.status.Status.{Status}
-use Rattle.fx_cli.specs.declared.status.Status.TheVariants.{Done, Usage, ReadFault, WriteFault, Memory, Unready}
+use Rattle.fx_cli.specs.declared.status.Status.TheVariants.{Done, Usage, Header, Cut, ReadFault, WriteFault, Memory, TooMuch}
+
+-- what the program ends with where the reading stopped
+abbrev pub status_of : Stop → Status
+status_of (stops.Header line reason) = Header line reason
+status_of stops.Cut = Cut
+status_of stops.ReadFault = ReadFault
+status_of stops.TooMuch = TooMuch
+status_of stops.Memory = Memory
 
 abbrev pub code_of : Status → ℕ
 code_of Done = 0
 code_of Usage = 1
+code_of (Header line reason) = 2
+code_of Cut = 3
 code_of ReadFault = 4
 code_of WriteFault = 5
 code_of Memory = 6
-code_of Unready = 9
+code_of TooMuch = 7
+
+-- the line of a header's fault
+unfoldable pub fault_text : ℕ → HeadReason → List ℕ
+fault_text line reason = codes "header line " ++ numeral line ++ codes " reason " ++ numeral (reason_code reason) ++ 10 ∷ []
 
 -- the line for standard error, none where all went well
 unfoldable pub err_text : Status → List ℕ
 err_text Done = []
 err_text Usage = codes "usage: fx_cli run [--workers N] | serial | check | load SEED BANKS PAIRS COMMANDS [--workers N]\n"
+err_text (Header line reason) = fault_text line reason
+err_text Cut = codes "input ended before END\n"
 err_text ReadFault = codes "read failed\n"
 err_text WriteFault = codes "write failed\n"
 err_text Memory = codes "out of memory\n"
-err_text Unready = codes "not yet served\n"
+err_text TooMuch = codes "too much input\n"

@@ -1,12 +1,19 @@
 -- What the top call says of its status and of what the streams got.
-use Rattle.std.specs.Prelude.{◌≡◌, ℕ, List, [], ◌∷◌, Option, ◌⊎◌}
-use Rattle.fx_rules.specs.Lists.{Among}
+use Rattle.std.specs.Prelude.{◌≡◌, ◌<◌, ℕ, Bool, true, false, List, [], ◌∷◌, length, take, Option, Some, ◌⊎◌}
 use Rattle.fx_edges.specs.Faults.{Rose}
 use Rattle.fx_edges.specs.Writing.{Appended, AppendedPart}
-use Rattle.fx_cli.specs.Output.{IsOutputOf}
+use Rattle.fx_rules.specs.declared.outcome.Entry.{Entry}
+use Rattle.fx_rules.specs.Lists.{Among}
+use Rattle.fx_rules.specs.Session.{Header}
+use Rattle.reply_lines.specs.Output.{first_output}
+use Rattle.reply_lines.specs.declared.output.Ending.TheVariants as endings
+use Rattle.fx_cli.specs.Headline.{IsSerial}
+use Rattle.fx_cli.specs.Input.{input_limit}
+use Rattle.fx_cli.specs.Reading.{IsEnded}
+use Rattle.fx_cli.specs.Script.{HasSession, HasEnd, EndsWithEnd, sent_in, strays_of}
 use Rattle.fx_cli.specs.Status.{err_text}
 use Rattle.fx_cli.specs.declared.status.Status.{Status}
-use Rattle.fx_cli.specs.declared.status.Status.TheVariants.{Memory}
+use Rattle.fx_cli.specs.declared.status.Status.TheVariants.{Done, WriteFault, Memory}
 
 -- The run ended with this status exactly where the cause stands, unless it ended with one of `earlier`, whose causes
 -- come first, or for want of memory.
@@ -14,17 +21,42 @@ pub record EndsExactly (result status : Status) (earlier : List Status) (cause :
   pub only : result ≡ status → cause
   pub always : cause → Among result (status ∷ Memory ∷ earlier)
 
--- a sink got what is written for the input
-abbrev pub GotOutput : {K : Type 0} (written : K → Option (List ℕ)) (faults : K → ℕ) (before now : K) → List ℕ → Type 0
-GotOutput written faults before now input = (text : List ℕ) × IsOutputOf input text × Appended written faults before now text
+-- The headline. The input that was taken, where the source has `rest` left, reached its END line, and a text is exactly
+-- the output of one history: one of the session of the input's own header, legal, of each bank's commands once and in its
+-- order, here the order of their lines. What this says of replies, fills, lines and resting orders stands in `IsHeadline`.
+pub record IsOutputOf (input rest text : List ℕ) : Type 0 where
+  pub at_its_end : IsEnded (Some rest) input
+  pub session : Header
+  pub of_its_header : HasSession input session
+  pub history : List Entry
+  pub of_its_commands : IsSerial session (sent_in session input) history
+  pub exactly : text ≡ first_output session history (strays_of session input) endings.End
+
+-- a sink got exactly that output
+abbrev pub GotOutput : {K : Type 0} (written : K → Option (List ℕ)) (faults : K → ℕ) (before now : K) → List ℕ → List ℕ → Type 0
+GotOutput written faults before now input rest = (text : List ℕ) × IsOutputOf input rest text × Appended written faults before now text
 
 -- a sink got a prefix of it
-abbrev pub GotPart : {K : Type 0} (written : K → Option (List ℕ)) (faults : K → ℕ) (before now : K) → List ℕ → Type 0
-GotPart written faults before now input = (text : List ℕ) × IsOutputOf input text × AppendedPart written faults before now text
+abbrev pub GotPart : {K : Type 0} (written : K → Option (List ℕ)) (faults : K → ℕ) (before now : K) → List ℕ → List ℕ → Type 0
+GotPart written faults before now input rest = (text : List ℕ) × IsOutputOf input rest text × AppendedPart written faults before now text
 
 -- a sink got nothing
 abbrev pub GotNothing : {K : Type 0} (written : K → Option (List ℕ)) (faults : K → ℕ) (before now : K) → Type 0
 GotNothing written faults before now = Appended written faults before now []
+
+-- the statuses at which nothing is written on standard output
+abbrev pub WritesNothing : Status → Type 0
+WritesNothing Done = ⊥
+WritesNothing WriteFault = ⊥
+WritesNothing Memory = ⊥
+WritesNothing _ = Unit {0}
+
+-- The text of a session: it has a whole header, and an END line among the bytes that are taken at most; or fewer bytes than
+-- that end with the END line.
+pub record IsSessionText (bytes : List ℕ) : Type 0 where
+  pub session : Header
+  pub header : HasSession bytes session
+  pub ended : HasEnd (take input_limit bytes) ⊎ ((length bytes < input_limit) × EndsWithEnd bytes)
 
 -- Standard error got the text of the status, or where its count of faults rose a prefix of it. At want of memory it got
 -- a prefix of the text of some status.

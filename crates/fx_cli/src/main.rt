@@ -1,9 +1,10 @@
 //! The program: sessions of the market from bytes to bytes.
 #![tactic(auto)]
 
-mod form;
-mod input;
-mod output;
+mod intake;
+mod reading;
+mod run;
+mod script;
 mod serial;
 mod status;
 mod top;

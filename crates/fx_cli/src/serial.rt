@@ -1,29 +1,45 @@
-ghost use Rattle.std.specs.Prelude.{◌≡◌};
-ghost use Rattle.fx_cli.specs.Run.{Ran};
+ghost use Rattle.std.specs.Prelude.{◌≤◌, ◌^◌, length};
+ghost use Rattle.fx_rules.specs.Lists.{Each};
+ghost use Rattle.fx_cli.specs.Run.{Ran, RanScript};
+ghost use Rattle.fx_cli.specs.Script.{IsSentOf};
 
-use crate::form::served_session;
-use crate::input::{INPUT_LIMIT, read_input};
-use crate::output::write_first_output;
+use crate::reading::read_script;
+use crate::run::run_in_order;
+use crate::script::Script;
 use crate::status::Status;
-use fx_amounts::Memory;
-use fx_edges::{Sink, SinkFault, Source};
+use fx_edges::{Sink, Source};
+use reply_lines::{Ending, OutFault, write_output};
 use std::alloc::Global;
 
 /// Runs the session of the source's bytes in the order of its lines, and answers the status that the run ends with.
 pub fn serial<S: Source, K: Sink>(alloc: Global, source: &mut S, out: &mut K) -> Status
     ensures ran { Ran S.left S.faults K.written K.faults source.old source.new out.old out.new result }
 {
-    let input = match read_input(alloc, source, INPUT_LIMIT) {
-        Ok(input) => input,
-        Err(status) => return status,
+    match read_script(alloc, source) {
+        Ok(script) => run_script(alloc, &script, out),
+        Err(stop) => Status::from(stop),
+    }
+}
+
+/// Runs a script and writes its output.
+fn run_script<K: Sink>(alloc: Global, script: &Script, out: &mut K) -> Status
+    requires valid { Each (IsSentOf script.now.session) script.now.sent.items }
+    requires few { length script.now.sent.items ≤ 2 ^ 26 }
+    ensures ran { RanScript K.written K.faults out.old out.new script.now result }
+{
+    let Ok(history) = run_in_order(alloc, &script.session, &script.sent) else {
+        return Status::Memory;
     };
-    match served_session(alloc, &input) {
-        Ok(Some(session)) => match write_first_output(alloc, &session, out) {
-            Ok(()) => Status::Done,
-            Err(SinkFault::Failed) => Status::WriteFault,
-            Err(SinkFault::Memory) => Status::Memory,
-        },
-        Ok(None) => Status::Unready,
-        Err(Memory) => Status::Memory,
+    match write_output(
+        alloc,
+        &script.session,
+        &history,
+        script.strays,
+        Ending::End,
+        out,
+    ) {
+        Ok(()) => Status::Done,
+        Err(OutFault::Write) => Status::WriteFault,
+        Err(OutFault::Memory) => Status::Memory,
     }
 }

@@ -1,9 +1,13 @@
-ghost use Rattle.std.specs.Prelude.{◌≡◌};
-ghost use Rattle.fx_cli.specs.Status.{code_of, err_text};
-ghost use Rattle.fx_cli.specs.declared.status.Status.TheVariants.{Memory as WantOfMemory};
+ghost use Rattle.std.specs.Prelude.{◌≡◌, IfOk};
+ghost use Rattle.fx_edges.specs.Writing.{Wrote};
+ghost use Rattle.fx_cli.specs.Status.{code_of, err_text, fault_text, status_of};
 
+use crate::reading::Stop;
 use fx_amounts::Memory;
-use std::alloc::AllocError;
+use fx_edges::{Sink, SinkFault, write_all};
+use fx_text::push_number;
+use session_head::HeadReason;
+use std::alloc::Global;
 
 /// How the program ended.
 #[derive(Clone, Copy, Debug, PartialEq, Eq)]
@@ -12,14 +16,19 @@ pub enum Status {
     Done,
     /// The words are none that the program accepts.
     Usage,
+    /// The input's header has a fault: the number of its line, counted from 1 with all lines that are passed over, and the
+    /// reason.
+    Header { line: u64, reason: HeadReason },
+    /// The input ended before its END line.
+    Cut,
     /// The source failed.
     ReadFault,
     /// Standard output failed; a prefix of the output was written.
     WriteFault,
     /// A growth of memory was refused.
     Memory,
-    /// The input is none that is served so far.
-    Unready,
+    /// The END line did not come within the input that is taken.
+    TooMuch,
 }
 
 impl Status {
@@ -30,43 +39,74 @@ impl Status {
         match self {
             Status::Done => 0,
             Status::Usage => 1,
+            Status::Header { .. } => 2,
+            Status::Cut => 3,
             Status::ReadFault => 4,
             Status::WriteFault => 5,
             Status::Memory => 6,
-            Status::Unready => 9,
+            Status::TooMuch => 7,
         }
     }
 
-    /// The line that standard error gets; none where all went well.
+    /// Writes the line that standard error gets; none where all went well. After a fault a prefix of it was written.
     #[tactic(auto, unfolding(crate::specs::Status::err_text))]
-    pub fn message(self) -> &'static [u8]
-        ensures { result.now ≡ err_text self }
+    pub fn write_line<E: Sink>(self, alloc: Global, err: &mut E) -> Result<(), SinkFault>
+        ensures wrote { Wrote E.written E.faults err.old err.new (err_text self) result }
     {
         match self {
-            Status::Done => b"",
-            Status::Usage => {
-                b"usage: fx_cli run [--workers N] | serial | check | load SEED BANKS PAIRS COMMANDS [--workers N]\n"
-            }
-            Status::ReadFault => b"read failed\n",
-            Status::WriteFault => b"write failed\n",
-            Status::Memory => b"out of memory\n",
-            Status::Unready => b"not yet served\n",
+            Status::Done => write_all(err, b""),
+            Status::Usage => write_all(
+                err,
+                b"usage: fx_cli run [--workers N] | serial | check | load SEED BANKS PAIRS COMMANDS [--workers N]\n",
+            ),
+            Status::Header { line, reason } => write_fault_line(alloc, line, reason, err),
+            Status::Cut => write_all(err, b"input ended before END\n"),
+            Status::ReadFault => write_all(err, b"read failed\n"),
+            Status::WriteFault => write_all(err, b"write failed\n"),
+            Status::Memory => write_all(err, b"out of memory\n"),
+            Status::TooMuch => write_all(err, b"too much input\n"),
         }
     }
 }
 
-impl From<Memory> for Status {
-    ghost from_gives = { λ _ status. status ≡ WantOfMemory };
+impl From<Stop> for Status {
+    ghost from_gives = { λ stop status. status ≡ status_of stop };
 
-    fn from(_: Memory) -> Self {
-        Status::Memory
+    fn from(stop: Stop) -> Self {
+        match stop {
+            Stop::Header { line, reason } => Status::Header { line, reason },
+            Stop::Cut => Status::Cut,
+            Stop::ReadFault => Status::ReadFault,
+            Stop::TooMuch => Status::TooMuch,
+            Stop::Memory => Status::Memory,
+        }
     }
 }
 
-impl From<AllocError> for Status {
-    ghost from_gives = { λ _ status. status ≡ WantOfMemory };
-
-    fn from(_: AllocError) -> Self {
-        Status::Memory
+/// Writes the line of a header's fault.
+fn write_fault_line<E: Sink>(
+    alloc: Global,
+    line: u64,
+    reason: HeadReason,
+    err: &mut E,
+) -> Result<(), SinkFault>
+    ensures wrote { Wrote E.written E.faults err.old err.new (fault_text line reason) result }
+{
+    match fault_line(alloc, line, reason) {
+        Ok(text) => write_all(err, &text),
+        Err(Memory) => Err(SinkFault::Memory),
     }
+}
+
+/// The line of a header's fault.
+#[tactic(auto, unfolding(crate::specs::Status::fault_text))]
+fn fault_line(alloc: Global, line: u64, reason: HeadReason) -> Result<Vec<u8>, Memory>
+    ensures value { IfOk result (λ text. text.items ≡ fault_text line reason) }
+{
+    let mut text = b"header line ".to_vec(alloc)?;
+    push_number(u128::from(line), &mut text)?;
+    text.extend_from_slice(b" reason ")?;
+    push_number(u128::from(reason.code()), &mut text)?;
+    text.push(b'\n')?;
+    Ok(text)
 }

@@ -1,36 +1,16 @@
 ghost use Rattle.std.specs.Prelude.{◌≤◌};
 
-use crate::{Status, fx_main};
+use crate::fx_main;
 use fx_edges::{MemorySink, MemorySource};
 use fx_rules::OpenGate;
+use samples::Sample;
+use std::alloc::Global;
 use std::process::Abort;
 use std::sync::Wait;
 use std::test::Fail;
 use std::thread::Threads;
 
-// A session of three banks without a line or an order, and what is written for it.
-const INPUT: &[u8] = b"FXBOOK 1
-BANK ALFA
-BANK BETA
-BANK GAMA
-PAIR EUR/USD 5 1000000 100
-START
-END
-";
-
-const OUTPUT: &[u8] = b"FXBOOK 1
-BANK ALFA
-BANK BETA
-BANK GAMA
-PAIR EUR/USD 5 1000000 100
-START
-JOURNAL 0
-DESK ALFA 0
-DESK BETA 0
-DESK GAMA 0
-STRAYS 0
-END
-";
+mod samples;
 
 const USAGE: &[u8] =
     b"usage: fx_cli run [--workers N] | serial | check | load SEED BANKS PAIRS COMMANDS [--workers N]\n";
@@ -49,28 +29,27 @@ const NONE: Fails<'static> = Fails {
     err: &[],
 };
 
-// How a run ends, and what standard output and standard error hold then.
+// How a run ends: the exit status, and what standard output and standard error hold then.
 #[derive(Clone, Copy)]
 struct Ending<'a> {
-    status: Status,
+    code: u8,
     out: &'a [u8],
     err: &'a [u8],
 }
 
-const DONE: Ending<'static> = Ending {
-    status: Status::Done,
-    out: OUTPUT,
-    err: b"",
-};
+// A refusal before anything is written.
+fn refusal<'a>(code: u8, err: &'a [u8]) -> Ending<'a> {
+    let out = b"";
+    Ending { code, out, err }
+}
 
-const UNREADY: Ending<'static> = Ending {
-    status: Status::Unready,
-    out: b"",
-    err: b"not yet served\n",
-};
+fn done<'a>(out: &'a [u8]) -> Ending<'a> {
+    let err = b"";
+    Ending { code: 0, out, err }
+}
 
-// Runs over ends in memory, where a source gives at most `most` bytes at a call and a sink takes a line, and wants this
-// ending.
+// Runs over ends in memory, where the source gives at most `most` bytes at a call and standard output takes one, and
+// wants this ending.
 fn expect<R: Abort + AllocGlobal + Threads + Wait + Sync>(
     rt: &R,
     words: &[&str],
@@ -88,7 +67,7 @@ fn expect<R: Abort + AllocGlobal + Threads + Wait + Sync>(
     }
     let source_fails = fails.source.to_vec(alloc)?;
     let mut source = MemorySource::new(input.to_vec(alloc)?, most, source_fails);
-    let mut out = MemorySink::new(128, fails.out.to_vec(alloc)?);
+    let mut out = MemorySink::new(1, fails.out.to_vec(alloc)?);
     let mut err = MemorySink::new(128, fails.err.to_vec(alloc)?);
     let status = fx_main(
         rt,
@@ -98,167 +77,238 @@ fn expect<R: Abort + AllocGlobal + Threads + Wait + Sync>(
         &mut err,
         &OpenGate,
     );
-    assert_eq!(rt; status, ending.status, "{words:?} {input:?} {fails:?}");
+    assert_eq!(rt; status.code(), ending.code, "{words:?} {input:?} {fails:?}");
     assert_eq!(rt; out.written(), ending.out, "{words:?} {input:?}");
     assert_eq!(rt; err.written(), ending.err, "{words:?} {input:?}");
     Ok(())
 }
 
-// A text that is no first form, one byte or one field away from one that is.
-const OTHERS: [&[u8]; 24] = [
-    // Blanks and line ends.
-    b"FXBOOK 1\nBANK\tALFA\nBANK BETA\nPAIR EUR/USD 5 1000000 100\nSTART\nEND\n",
-    b"FXBOOK 1\nBANK ALFA\r\nBANK BETA\nPAIR EUR/USD 5 1000000 100\nSTART\nEND\n",
-    b"FXBOOK 1\nBANK  ALFA\nBANK BETA\nPAIR EUR/USD 5 1000000 100\nSTART\nEND\n",
-    b"FXBOOK 1\nBANK ALFA \nBANK BETA\nPAIR EUR/USD 5 1000000 100\nSTART\nEND\n",
-    b"FXBOOK 1\n\nBANK ALFA\nBANK BETA\nPAIR EUR/USD 5 1000000 100\nSTART\nEND\n",
-    // The end.
-    b"FXBOOK 1\nBANK ALFA\nBANK BETA\nPAIR EUR/USD 5 1000000 100\nSTART\n",
-    b"FXBOOK 1\nBANK ALFA\nBANK BETA\nPAIR EUR/USD 5 1000000 100\nSTART\nEND",
-    b"FXBOOK 1\nBANK ALFA\nBANK BETA\nPAIR EUR/USD 5 1000000 100\nSTART\nEND\n\n",
-    b"FXBOOK 1\nBANK ALFA\nBANK BETA\nPAIR EUR/USD 5 1000000 100\nEND\n",
-    b"",
-    // Names.
-    b"FXBOOK 2\nBANK ALFA\nBANK BETA\nPAIR EUR/USD 5 1000000 100\nSTART\nEND\n",
-    b"FXBOOK 1\nBANK ALFA\nPAIR EUR/USD 5 1000000 100\nSTART\nEND\n",
-    b"FXBOOK 1\nBANK ALFA\nBANK ALFA\nPAIR EUR/USD 5 1000000 100\nSTART\nEND\n",
-    b"FXBOOK 1\nBANK ALFA\nBANK HOST\nPAIR EUR/USD 5 1000000 100\nSTART\nEND\n",
-    // Pairs.
-    b"FXBOOK 1\nBANK ALFA\nBANK BETA\nPAIR EUR/USD 5 1000000 100\nPAIR USD/JPY 3 1000000 92\nSTART\nEND\n",
-    b"FXBOOK 1\nBANK ALFA\nBANK BETA\nPAIR EUR/EUR 5 1000000 100\nSTART\nEND\n",
-    b"FXBOOK 1\nBANK ALFA\nBANK BETA\nPAIR EUR/USD 5 1000001 100\nSTART\nEND\n",
-    b"FXBOOK 1\nBANK ALFA\nBANK BETA\nPAIR EUR/USD 05 1000000 100\nSTART\nEND\n",
-    b"FXBOOK 1\nBANK ALFA\nBANK BETA\nPAIR EUR/USD 5 1000000 1000001\nSTART\nEND\n",
-    // Limits.
-    b"FXBOOK 1\nBANK ALFA\nBANK BETA\nPAIR EUR/USD 5 1000000 100\nLINE ALFA ALFA 1\nSTART\nEND\n",
-    b"FXBOOK 1\nBANK ALFA\nBANK BETA\nPAIR EUR/USD 5 1000000 100\nLINE ALFA GAMA 1\nSTART\nEND\n",
-    b"FXBOOK 1\nBANK ALFA\nBANK BETA\nPAIR EUR/USD 5 1000000 100\nLINE ALFA BETA 1000000000000001\nSTART\nEND\n",
-    b"FXBOOK 1\nBANK ALFA\nBANK BETA\nLINE ALFA BETA 1\nPAIR EUR/USD 5 1000000 100\nSTART\nEND\n",
-    // An order, which isn't served so far.
-    b"FXBOOK 1\nBANK ALFA\nBANK BETA\nPAIR EUR/USD 5 1000000 100\nSTART\nALFA BUY EUR/USD 1.08425 3 DAY\nEND\n",
+// Headers with a fault, and the line that standard error gets.
+const FAULTS: [(&[u8], &[u8]); 12] = [
+    (b"FXBOOK 9\n", b"header line 1 reason 1\n"),
+    (b"FXBOOK 1\nBANC ALFA\n", b"header line 2 reason 2\n"),
+    (b"FXBOOK 1\nBANK\n", b"header line 2 reason 3\n"),
+    (b"FXBOOK 1\nBANK AB\n", b"header line 2 reason 4\n"),
+    (
+        b"FXBOOK 1\nPAIR EUR/EUR 5 1000000 100\n",
+        b"header line 2 reason 5\n",
+    ),
+    (
+        b"FXBOOK 1\nPAIR EUR/USD 7 10000000 100\n",
+        b"header line 2 reason 6\n",
+    ),
+    (
+        b"FXBOOK 1\nPAIR EUR/USD 5 1000 100\n",
+        b"header line 2 reason 7\n",
+    ),
+    (
+        b"FXBOOK 1\nPAIR EUR/USD 5 1000000 0\n",
+        b"header line 2 reason 8\n",
+    ),
+    (b"FXBOOK 1\nLINE ALFA ALFA 5\n", b"header line 2 reason 9\n"),
+    (
+        b"FXBOOK 1\nBANK ALFA\nBANK BETA\nLINE ALFA BETA 05\n",
+        b"header line 4 reason 10\n",
+    ),
+    (b"FXBOOK 1\nSTART\n", b"header line 2 reason 11\n"),
+    (
+        b"FXBOOK 1\nxxxxxxxxxxxxxxxxxxxxxxxxxxxxxxxxxxxxxxxxxxxxxxxxxxxxxxxxxxxxxxxxxxxxxxxxxxxxxxxxxxxxxxxxxxxxxxxxxxxxxxxxxxxxxxxxxxxxxxxxxxxxxxxxxxxxxxxxxxxxxxxxxxxxxxxxxxxxxxxxxxxxxxxxxxxxxxxxxxxxxxxxxxxxxxxxxxxxxxxxxxxxxxxxxxxxxxxxxxxxxxxxxxxxxxxxxxxxxxxxxxxxxxxxxxxxxxxxx\n",
+        b"header line 2 reason 13\n",
+    ),
 ];
 
-#[test]
-fn each_ending(rt: HostRuntime) -> Result<(), Fail> {
-    for most in [1, 7, 4096, 10_000] {
-        expect(&rt, &["serial"], INPUT, most, &NONE, &DONE)?;
+// Runs each of the sessions in pieces of any size.
+fn expect_samples<R: Abort + AllocGlobal + Threads + Wait + Sync>(
+    rt: &R,
+    samples: &[Sample],
+) -> Result<(), Fail> {
+    for sample in samples {
+        for most in [1, 2, 3, 7, 10_000] {
+            let ending = done(sample.output);
+            expect(rt, &["serial"], sample.input, most, &NONE, &ending)?;
+        }
     }
-    for input in OTHERS {
-        expect(&rt, &["serial"], input, 64, &NONE, &UNREADY)?;
-    }
+    Ok(())
+}
 
-    // Words of other forms.
-    let usage = Ending {
-        status: Status::Usage,
-        out: b"",
-        err: USAGE,
-    };
-    expect(&rt, &[], INPUT, 64, &NONE, &usage)?;
-    expect(&rt, &["serial", "now"], INPUT, 64, &NONE, &usage)?;
+#[test]
+fn orders_in_pieces_of_any_size(rt: HostRuntime) -> Result<(), Fail> {
+    expect_samples(&rt, &samples::ORDERS)
+}
+
+#[test]
+fn changes_in_pieces_of_any_size(rt: HostRuntime) -> Result<(), Fail> {
+    expect_samples(&rt, &samples::CHANGES)
+}
+
+#[test]
+fn books_in_pieces_of_any_size(rt: HostRuntime) -> Result<(), Fail> {
+    expect_samples(&rt, &samples::BOOKS)
+}
+
+#[test]
+fn faults_of_the_header(rt: HostRuntime) -> Result<(), Fail> {
+    for (input, err) in FAULTS {
+        for most in [1, 64] {
+            expect(&rt, &["serial"], input, most, &NONE, &refusal(2, err))?;
+        }
+    }
+    // The 65th bank.
+    let mut input = b"FXBOOK 1\n".to_vec(rt.alloc())?;
+    for bank in 10..75 {
+        let line = format!(in rt.alloc(); "BANK B{bank}\n")?;
+        input.extend_from_slice(line.as_bytes())?;
+    }
+    let many = refusal(2, b"header line 66 reason 12\n");
+    expect(&rt, &["serial"], &input, 64, &NONE, &many)
+}
+
+// The header of two banks and one pair.
+const HEADER: &[u8] = b"FXBOOK 1\nBANK ALFA\nBANK BETA\nPAIR EUR/USD 5 1000000 100\nSTART\n";
+
+// What is written for it without commands.
+const NO_COMMANDS: &[u8] = b"FXBOOK 1
+BANK ALFA
+BANK BETA
+PAIR EUR/USD 5 1000000 100
+START
+JOURNAL 0
+DESK ALFA 0
+DESK BETA 0
+STRAYS 0
+END
+";
+
+// What the header and these lines end with.
+fn expect_lines<R: Abort + AllocGlobal + Threads + Wait + Sync>(
+    rt: &R,
+    lines: &[u8],
+    ending: &Ending,
+) -> Result<(), Fail> {
+    let mut input = HEADER.to_vec(rt.alloc())?;
+    input.extend_from_slice(lines)?;
+    for most in [1, 4096] {
+        expect(rt, &["serial"], &input, most, &NONE, ending)?;
+    }
+    Ok(())
+}
+
+#[test]
+fn inputs_without_their_end(rt: HostRuntime) -> Result<(), Fail> {
+    let cut = refusal(3, b"input ended before END\n");
+    for input in [&b""[..], b"\n# END\n", b"FXBOOK 1\nBANK ALFA\n"] {
+        expect(&rt, &["serial"], input, 64, &NONE, &cut)?;
+    }
+    for lines in [&b""[..], b"END now", b"ALFA END\n", b"BETA SHOW AL", b"EN"] {
+        expect_lines(&rt, lines, &cut)?;
+    }
+    Ok(())
+}
+
+#[test]
+fn other_words(rt: HostRuntime) -> Result<(), Fail> {
+    let usage = refusal(1, USAGE);
+    let input = samples::NO_COMMANDS.input;
+    expect(&rt, &[], input, 64, &NONE, &usage)?;
+    expect(&rt, &["serial", "now"], input, 64, &NONE, &usage)?;
     for word in [
         "", "Serial", "seria", "serials", "serial ", "run", "check", "--help",
     ] {
-        expect(&rt, &[word], INPUT, 64, &NONE, &usage)?;
+        expect(&rt, &[word], input, 64, &NONE, &usage)?;
     }
+    // Standard error that fails changes no status.
+    let fails = Fails { err: &[1], ..NONE };
+    expect(&rt, &["Serial"], input, 64, &fails, &refusal(1, b""))
+}
 
-    // A source that fails at one of its three calls: two pieces, and the end.
-    let read_fault = Ending {
-        status: Status::ReadFault,
-        out: b"",
-        err: b"read failed\n",
-    };
+// The reading stops at the END line, so the third of three pieces is the last call; without a line end behind END it is
+// the fourth, which meets the end.
+#[test]
+fn a_source_that_fails_at_each_call(rt: HostRuntime) -> Result<(), Fail> {
+    let read_fault = refusal(4, b"read failed\n");
+    let sample = samples::ONE_SELL_ONE_BUY;
     for call in [1, 2, 3] {
         let fails = Fails {
             source: &[call],
             ..NONE
         };
-        expect(&rt, &["serial"], INPUT, 64, &fails, &read_fault)?;
+        expect(&rt, &["serial"], sample.input, 64, &fails, &read_fault)?;
     }
     let late = Fails {
         source: &[4],
         ..NONE
     };
-    expect(&rt, &["serial"], INPUT, 64, &late, &DONE)?;
-
-    // Standard output that fails at one of its twelve calls, one for each line.
-    let mut written = Vec::new(rt.alloc());
-    let mut call = 0u64;
-    for line in OUTPUT.split_inclusive(|byte| *byte == b'\n') {
-        call = call.saturating_add(1);
+    expect(
+        &rt,
+        &["serial"],
+        sample.input,
+        64,
+        &late,
+        &done(sample.output),
+    )?;
+    let unended = samples::COMMENTS_AND_LINE_ENDS.input;
+    for call in [1, 2, 3] {
         let fails = Fails {
-            out: &[call],
+            source: &[call],
             ..NONE
         };
-        let write_fault = Ending {
-            status: Status::WriteFault,
-            out: &written,
-            err: b"write failed\n",
-        };
-        expect(&rt, &["serial"], INPUT, 64, &fails, &write_fault)?;
-        written.extend_from_slice(line)?;
-    }
-    let late = Fails { out: &[13], ..NONE };
-    expect(&rt, &["serial"], INPUT, 64, &late, &DONE)?;
-
-    // Standard error that fails, which changes no status.
-    let fails = Fails { err: &[1], ..NONE };
-    let silent = Ending { err: b"", ..usage };
-    expect(&rt, &["Serial"], INPUT, 64, &fails, &silent)
-}
-
-// The line of a repeated limit counts, in the order of the banks; one of 0 is not printed.
-#[test]
-fn limits_are_printed_by_their_banks(rt: HostRuntime) -> Result<(), Fail> {
-    let input = b"FXBOOK 1
-BANK ALFA
-BANK BETA
-BANK GAMA
-PAIR USD/JPY 3 1000000 92
-LINE GAMA ALFA 300
-LINE ALFA BETA 1000
-LINE BETA GAMA 0
-LINE ALFA BETA 1000000000000000
-START
-END
-";
-    let done = Ending {
-        status: Status::Done,
-        out: b"FXBOOK 1
-BANK ALFA
-BANK BETA
-BANK GAMA
-PAIR USD/JPY 3 1000000 92
-LINE ALFA BETA 1000000000000000
-LINE GAMA ALFA 300
-START
-JOURNAL 0
-DESK ALFA 0
-DESK BETA 0
-DESK GAMA 0
-STRAYS 0
-END
-",
-        err: b"",
-    };
-    expect(&rt, &["serial"], input, 64, &NONE, &done)
-}
-
-// A session has at most 64 banks.
-#[test]
-fn sixty_five_banks_are_refused(rt: HostRuntime) -> Result<(), Fail> {
-    for (banks, status) in [(64, Status::Done), (65, Status::Unready)] {
-        let mut input = b"FXBOOK 1\n".to_vec(rt.alloc())?;
-        for bank in 10..10 + banks {
-            let line = format!(in rt.alloc(); "BANK B{bank}\n")?;
-            input.extend_from_slice(line.as_bytes())?;
-        }
-        input.extend_from_slice(b"PAIR EUR/USD 5 1000000 100\nSTART\nEND\n")?;
-        let words = vec![in rt.alloc(); String::from_str(rt.alloc(), "serial")?]?;
-        let mut source = MemorySource::new(input, 4096, Vec::new(rt.alloc()));
-        let mut out = MemorySink::new(128, Vec::new(rt.alloc()));
-        let mut err = MemorySink::new(128, Vec::new(rt.alloc()));
-        let ended = fx_main(&rt, &words, &mut source, &mut out, &mut err, &OpenGate);
-        assert_eq!(rt; ended, status, "{banks} banks");
+        expect(&rt, &["serial"], unended, 64, &fails, &read_fault)?;
     }
     Ok(())
+}
+
+// Each byte of the output is one call.
+#[test]
+fn an_output_that_fails_at_each_call(rt: HostRuntime) -> Result<(), Fail> {
+    let sample = samples::ONE_SELL_ONE_BUY;
+    for written in 0..sample.output.len() {
+        let write_fault = Ending {
+            code: 5,
+            out: &sample.output[..written],
+            err: b"write failed\n",
+        };
+        let fails = Fails {
+            out: &[written as u64 + 1],
+            ..NONE
+        };
+        expect(&rt, &["serial"], sample.input, 64, &fails, &write_fault)?;
+    }
+    let late = Fails {
+        out: &[sample.output.len() as u64 + 1],
+        ..NONE
+    };
+    expect(
+        &rt,
+        &["serial"],
+        sample.input,
+        64,
+        &late,
+        &done(sample.output),
+    )
+}
+
+// The header, 262,143 comments of 256 bytes and one of `last` bytes, and END.
+fn long_input(alloc: Global, last: usize) -> Result<Vec<u8>, Fail>
+    requires { last ≤ 256 }
+{
+    let mut comment = [b'#'; 256];
+    comment[255] = b'\n';
+    let mut input = HEADER.to_vec(alloc)?;
+    for _ in 0..262_143 {
+        input.extend_from_slice(&comment)?;
+    }
+    input.extend_from_slice(&comment[256 - last..])?;
+    input.extend_from_slice(b"END\n")?;
+    Ok(input)
+}
+
+// The line feed of the END line is the last byte that is taken, or the first that is not.
+#[test]
+fn inputs_up_to_the_limit(rt: HostRuntime) -> Result<(), Fail> {
+    let input = long_input(rt.alloc(), 190)?;
+    assert_eq!(&rt; input.len(), 1 << 26);
+    expect(&rt, &["serial"], &input, 4096, &NONE, &done(NO_COMMANDS))?;
+    let input = long_input(rt.alloc(), 191)?;
+    let too_much = refusal(7, b"too much input\n");
+    expect(&rt, &["serial"], &input, 4096, &NONE, &too_much)
 }

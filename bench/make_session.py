@@ -1,0 +1,83 @@
+#!/usr/bin/env python3
+"""Writes a session text: make_session.py BANKS PAIRS COMMANDS [KIND [SEED]].
+
+KIND is `orders` (DAY orders around one price; the default), `rest` (DAY orders that never cross, so that books grow deep),
+`mixed` (orders of every life, cancels, credit changes, books), or `raise` (a deep book without credit, and then one credit
+change between the first two banks). The same arguments give the same text.
+"""
+import random
+import sys
+
+
+def name(bank):
+    return f"B{bank + 1:02}"
+
+
+def pair(index):
+    return f"A{chr(65 + index // 26)}{chr(65 + index % 26)}/ZZZ"
+
+
+def price(ticks):
+    return f"{ticks // 100}.{ticks % 100:02}"
+
+
+def header(out, banks, pairs, limits):
+    out.append("FXBOOK 1")
+    out += [f"BANK {name(bank)}" for bank in range(banks)]
+    out += [f"PAIR {pair(index)} 2 1000 {10 + index}" for index in range(pairs)]
+    out += [f"LINE {name(i)} {name(j)} {limits(i, j)}" for i in range(banks) for j in range(banks) if i != j and limits(i, j)]
+    out.append("START")
+
+
+def order(rng, banks, pairs, life="DAY"):
+    side = rng.choice(["BUY", "SELL"])
+    ticks = 9950 + rng.randrange(101)
+    return f"{name(rng.randrange(banks))} {side} {pair(rng.randrange(pairs))} {price(ticks)} {1 + rng.randrange(20)} {life}"
+
+
+def resting(rng, banks, pairs):
+    side = rng.choice(["BUY", "SELL"])
+    ticks = 9000 + rng.randrange(900) if side == "BUY" else 10100 + rng.randrange(900)
+    return f"{name(rng.randrange(banks))} {side} {pair(rng.randrange(pairs))} {price(ticks)} {1 + rng.randrange(20)} DAY"
+
+
+def mixed(rng, banks, pairs, number):
+    kind = rng.randrange(16)
+    bank = rng.randrange(banks)
+    if kind < 10:
+        return order(rng, banks, pairs)
+    if kind < 12:
+        return order(rng, banks, pairs, "IOC" if kind == 10 else "FOK")
+    if kind == 12:
+        return f"{name(bank)} CANCEL {pair(rng.randrange(pairs))} {1 + rng.randrange(max(1, number // banks))}"
+    if kind == 13:
+        other = (bank + 1 + rng.randrange(banks - 1)) % banks
+        return f"{name(bank)} LINE {name(other)} {1000 * rng.randrange(21)}"
+    if kind == 14:
+        return f"{name(bank)} PULL {pair(rng.randrange(pairs))}"
+    return f"{name(bank)} BOOK {pair(rng.randrange(pairs))}"
+
+
+def main():
+    banks, pairs, commands = (int(word) for word in sys.argv[1:4])
+    kind = sys.argv[4] if len(sys.argv) > 4 else "orders"
+    rng = random.Random(int(sys.argv[5]) if len(sys.argv) > 5 else 1)
+    out = []
+    amounts = {(i, j): 1000 * (1 + rng.randrange(20)) for i in range(banks) for j in range(banks)}
+    header(out, banks, pairs, (lambda i, j: 0) if kind == "raise" else lambda i, j: 100 * amounts[i, j])
+    if kind == "orders":
+        out += [order(rng, banks, pairs) for _ in range(commands)]
+    elif kind == "rest":
+        out += [resting(rng, banks, pairs) for _ in range(commands)]
+    elif kind == "mixed":
+        out += [mixed(rng, banks, pairs, number) for number in range(commands)]
+    elif kind == "raise":
+        out += [order(rng, banks, pairs) for _ in range(commands)]
+        out += [f"{name(0)} LINE {name(1)} 1000000", f"{name(1)} LINE {name(0)} 1000000"]
+    else:
+        sys.exit(__doc__)
+    out.append("END")
+    print("\n".join(out))
+
+
+main()

@@ -1,0 +1,36 @@
+#!/usr/bin/env bash
+# Times `serial` on made sessions: bench/serial.sh [BANKS PAIRS COMMANDS KIND]. It builds the program first where needed.
+# The best of five runs counts. What reading alone costs is the run of the same text with its commands as comments.
+set -eu
+cd "$(dirname "$0")/.."
+./fx serial < examples/first.fx > /dev/null
+program=crates/fx_cli/out/fx_cli
+folder=$(mktemp -d)
+trap 'rm -rf "$folder"' EXIT
+
+# The best time of five runs of the program on a text, in milliseconds.
+best() {
+    local least= started ended
+    for _ in 1 2 3 4 5; do
+        started=$(date +%s%N)
+        "$program" serial < "$1" > "$folder/out"
+        ended=$(date +%s%N)
+        if [ -z "$least" ] || [ $((ended - started)) -lt "$least" ]; then least=$((ended - started)); fi
+    done
+    echo $((least / 1000000))
+}
+
+row() {
+    python3 bench/make_session.py "$1" "$2" "$3" "$4" > "$folder/in"
+    sed 's/^B[0-9][0-9] /#&/' "$folder/in" > "$folder/passed"
+    printf '%-8s %3s banks %3s pairs %7s commands: %6s ms, of which reading %s ms; output %s bytes\n' \
+        "$4" "$1" "$2" "$3" "$(best "$folder/in")" "$(best "$folder/passed")" "$(wc -c < "$folder/out")"
+}
+
+if [ $# -eq 4 ]; then
+    row "$1" "$2" "$3" "$4"
+else
+    row 16 4 20000 orders
+    row 16 4 20000 rest
+    row 64 8 20000 orders
+fi
