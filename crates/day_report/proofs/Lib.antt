@@ -1,0 +1,11 @@
+pub mod Sums
+pub mod LotsFit
+pub mod Balance
+pub mod Codes
+pub mod Bounds
+pub mod VolumeSums
+pub mod FlowSums
+pub mod Listing
+pub mod Trading
+pub mod Following
+pub mod FirstFill

@@ -1,0 +1,126 @@
+ghost use Rattle.std.specs.Prelude.{ℕ, List, [], ◌∷◌, ◌≡◌, ◌++◌, pos, IfOk};
+ghost use Rattle.fx_rules.specs.State.{State, opening};
+ghost use Rattle.fx_rules.specs.Step.{fills_of};
+ghost use Rattle.fx_rules.specs.History.{IsLegal, state};
+ghost use Rattle.fx_rules.specs.declared.outcome.Entry.{Entry};
+ghost use Rattle.credit_lines.specs.Credit.{IsCredit};
+ghost use Rattle.day_report.specs.Report.{volumes_of, uses_of, nets_of, balance, NetsBalance};
+ghost use Rattle.day_report.specs.Parts.{IsDayOf};
+ghost use Rattle.day_report.specs.Day.{CanFill, filled_with, CanFollow, CanReport, line_set, IsReportOf};
+
+use crate::amounts::rule_of;
+use crate::flows::Flows;
+use crate::rows::{NetList, Report, UseList, Volume, VolumeList};
+use crate::uses::uses;
+use crate::volumes::{add_volume, no_volumes};
+use credit_lines::CreditLines;
+use fx_amounts::Memory;
+use fx_rules::{Command, Entry, Fill, Outcome, Session};
+use std::alloc::Global;
+
+/// The report of a legal history, from one walk along its entries. `Memory` for want of memory; nothing is changed then.
+pub fn report(alloc: Global, session: &Session, entries: &[Entry]) -> Result<Report, Memory>
+    requires legal { IsLegal session.now entries.now }
+    ensures volumes { IfOk result (λ report. report.volumes ≡ volumes_of session.now (state session.now entries.now)) }
+    ensures uses { IfOk result (λ report. report.uses ≡ uses_of session.now (state session.now entries.now)) }
+    ensures nets { IfOk result (λ report. report.nets ≡ nets_of session.now (state session.now entries.now)) }
+    ensures balance { IfOk result (λ report. (currency : List ℕ) → balance currency report.nets ≡ pos 0) }
+{
+    let mut day = Day::open(alloc, session)?;
+    for entry in entries {
+        day.follow(session, entry);
+    }
+    day.into_report(alloc, session)
+}
+
+/// In the report of every legal history the nets of all banks add up to 0 in each currency.
+pub fn nets_balance()
+    ensures balance { NetsBalance }
+{}
+
+/// What is known of a day so far.
+#[derive(Debug, Drop)]
+pub(crate) struct Day {
+    pub lines: CreditLines,
+    /// By pair.
+    volumes: Vec<Volume>,
+    flows: Flows,
+}
+
+impl Day {
+    /// The day as it opens.
+    pub(crate) fn open(alloc: Global, session: &Session) -> Result<Day, Memory>
+        ensures value { IfOk result (IsDayOf session.now (opening session.now)) }
+    {
+        Ok(Day {
+            lines: CreditLines::open(alloc, session)?,
+            volumes: no_volumes(alloc, session)?,
+            flows: Flows::open(alloc, session)?,
+        })
+    }
+
+    /// Follows a recorded entry: the limit that it set, and then its fills.
+    pub(crate) fn follow(&mut self, session: &Session, entry: &Entry)
+        requires { CanFollow session.now self.old entry.now }
+        ensures follows { (entries : List Entry) → IsLegal session.now (entries ++ entry.now ∷ []) → IsDayOf session.now (state session.now entries) self.old → IsDayOf session.now (state session.now (entries ++ entry.now ∷ [])) self.new }
+    {
+        self.set_limit(session, entry);
+        for fill in fills_of(&entry.outcome) {
+            self.add(session, fill);
+        }
+    }
+
+    /// Sets the limit that an entry's command asks for.
+    fn set_limit(&mut self, session: &Session, entry: &Entry)
+        requires { CanFollow session.now self.old entry.now }
+        ensures lines { self.new.lines ≡ line_set self.old.lines entry.now.bank entry.now.command }
+        ensures valid { IsCredit self.new.lines }
+        ensures volumes { self.new.volumes ≡ self.old.volumes }
+        ensures flows { self.new.flows ≡ self.old.flows }
+    {
+        if let Command::Line { bank, limit } = entry.command {
+            self.lines.set(entry.bank, bank, limit);
+        }
+    }
+
+    /// Adds a fill.
+    pub(crate) fn add(&mut self, session: &Session, fill: &Fill)
+        requires { CanFill session.now self.old fill.now }
+        ensures adds { (S : State) → IsDayOf session.now S self.old → IsDayOf session.now (filled_with S fill.now) self.new }
+    {
+        let weight = rule_of(session, fill.pair).weight;
+        let units = fill.lots.cost(weight);
+        self.lines.take(fill.taker, fill.maker, units);
+        add_volume(session, fill, &mut self.volumes);
+        self.flows.add(session, fill);
+    }
+
+    /// The report of the day.
+    pub(crate) fn into_report(self, alloc: Global, session: &Session) -> Result<Report, Memory>
+        requires { CanReport session.now self }
+        ensures reports { IfOk result (λ report. (S : State) → IsDayOf session.now S self → IsReportOf session.now S report) }
+    {
+        let Day {
+            lines,
+            volumes,
+            flows,
+        } = self;
+        let banks = session.banks().len();
+        Ok(Report {
+            volumes: VolumeList::from_vec(volumes),
+            uses: UseList::from_vec(uses(alloc, &lines, banks)?),
+            nets: NetList::from_vec(flows.nets(alloc, banks)?),
+        })
+    }
+}
+
+/// The fills that an outcome tells.
+fn fills_of(outcome: &Outcome) -> &[Fill]
+    ensures fills { result.now ≡ fills_of outcome.now }
+{
+    match outcome {
+        Outcome::Ordered { fills, .. } => fills.as_slice(),
+        Outcome::LineSet { fills, .. } => fills.as_slice(),
+        _ => &[],
+    }
+}
