@@ -11,7 +11,7 @@ use Rattle.fx_edges.specs.Reading.{Took}
 use Rattle.fx_edges.specs.Writing.{Appended, AppendedPart}
 use Rattle.fx_edges.proofs.Reading.{Took-nil}
 use Rattle.fx_edges.proofs.Writing.{Appended-nil, IsPrefixOf-refl}
-use Rattle.reply_lines.specs.Output.{first_output}
+use Rattle.reply_lines.specs.Output.{IsOutput}
 use Rattle.reply_lines.specs.declared.output.Ending.TheVariants as endings
 use Rattle.session_head.specs.Head as heads
 use Rattle.session_head.specs.declared.reason.HeadReason.{HeadReason}
@@ -181,11 +181,9 @@ module _ {K : Type 0} (written : K → Option (List ℕ)) (faults : K → ℕ) (
   whole_part script all = record {
     history = all.history;
     serial = all.serial;
-    part = record {
-      part = first_output script.session all.history script.strays endings.End;
-      prefix = IsPrefixOf-refl (first_output script.session all.history script.strays endings.End);
-      appended = all.all;
-    };
+    text = all.text;
+    is_output = all.is_output;
+    part = record { part = all.text; prefix = IsPrefixOf-refl all.text; appended = all.all };
   }
 
   script_memory : (script : Script) (status : Status) → RanScript written faults out out' script status → RanScript written faults out out' script Memory
@@ -245,24 +243,24 @@ module _ {K : Type 0} (written : K → Option (List ℕ)) (faults : K → ℕ) (
     always = λ much. among_stop result (status_of stop) TooMuch (Usage ∷ []) ran.0 (much_stop input rest stop ended much);
   }
 
-  output_of : (script : Script) (input rest : List ℕ) (history : List Entry) → IsEnded (Some rest) input → Says input script → IsSerial script.session script.sent.items history → IsOutputOf input rest (first_output script.session history script.strays endings.End)
-  output_of script input rest history ended says serial = record {
+  output_of : (script : Script) (input rest text : List ℕ) (history : List Entry) → IsEnded (Some rest) input → Says input script → IsSerial script.session script.sent.items history → IsOutput script.session history script.strays endings.End text → IsOutputOf input rest text
+  output_of script input rest text history ended says serial output = record {
     at_its_end = ended;
     session = script.session;
     of_its_header = says.session;
     history = history;
     of_its_commands = subst (λ (sent : List Sent). IsSerial script.session sent history) says.sent serial;
-    exactly = ap (λ (strays : ℕ). first_output script.session history strays endings.End) says.strays;
+    exactly = subst (λ (strays : ℕ). IsOutput script.session history strays endings.End text) says.strays output;
   }
 
   part_of : (script : Script) (input rest : List ℕ) → Ended (Some rest) input (Ok script) → WrotePart written faults out out' script → GotPart written faults out out' input rest
   part_of script input rest ended part =
-      (first_output script.session part.history script.strays endings.End, output_of script input rest part.history ended.0 ended.1 part.serial, part.part)
+      (part.text, output_of script input rest part.text part.history ended.0 ended.1 part.serial part.is_output, part.part)
 
   pub done_whole : (read : Result Script Stop) (result : Status) (input rest : List ℕ) → After read result → Ended (Some rest) input read → result ≡ Done → GotOutput written faults out out' input rest
   done_whole (Ok script) result input rest ran ended is =
       let done : RanScript written faults out out' script Done = subst (λ (s : Status). RanScript written faults out out' script s) is ran in
-      (first_output script.session done.history script.strays endings.End, output_of script input rest done.history ended.0 ended.1 done.serial, done.all)
+      (done.text, output_of script input rest done.text done.history ended.0 ended.1 done.serial done.is_output, done.all)
   done_whole (Err stop) result input rest ran ended is = absurd (no_stop stop result Done no_done ran.0 is)
 
   pub fault_rose : (read : Result Script Stop) (result : Status) → After read result → result ≡ WriteFault → Rose (faults out) (faults out')

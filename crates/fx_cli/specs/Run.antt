@@ -3,7 +3,7 @@ use Rattle.std.specs.Prelude.{◌≡◌, ℕ, List, Option, Bool, true, false, R
 use Rattle.fx_edges.specs.Faults.{Rose}
 use Rattle.fx_edges.specs.Writing.{Appended, AppendedPart}
 use Rattle.fx_rules.specs.declared.outcome.Entry.{Entry}
-use Rattle.reply_lines.specs.Output.{first_output}
+use Rattle.reply_lines.specs.Output.{IsOutput}
 use Rattle.reply_lines.specs.declared.output.Ending.TheVariants.{End}
 use Rattle.fx_cli.specs.Headline.{IsSerial}
 use Rattle.fx_cli.specs.Reading.{HasRead}
@@ -17,13 +17,17 @@ use Rattle.fx_cli.specs.declared.status.Status.TheVariants.{Done, WriteFault, Me
 pub record WroteAll {K : Type 0} (written : K → Option (List ℕ)) (faults : K → ℕ) (before now : K) (script : Script) : Type 0 where
   pub history : List Entry
   pub serial : IsSerial script.session script.sent.items history
-  pub all : Appended written faults before now (first_output script.session history script.strays End)
+  pub text : List ℕ
+  pub is_output : IsOutput script.session history script.strays End text
+  pub all : Appended written faults before now text
 
 -- and here a prefix of it
 pub record WrotePart {K : Type 0} (written : K → Option (List ℕ)) (faults : K → ℕ) (before now : K) (script : Script) : Type 0 where
   pub history : List Entry
   pub serial : IsSerial script.session script.sent.items history
-  pub part : AppendedPart written faults before now (first_output script.session history script.strays End)
+  pub text : List ℕ
+  pub is_output : IsOutput script.session history script.strays End text
+  pub part : AppendedPart written faults before now text
 
 -- what the run of a script did to standard output, by the status that it ended with
 abbrev pub RanScript : {K : Type 0} (written : K → Option (List ℕ)) (faults : K → ℕ) (before now : K) → Script → Status → Type 0

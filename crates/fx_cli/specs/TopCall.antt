@@ -5,7 +5,7 @@ use Rattle.fx_edges.specs.Writing.{Appended, AppendedPart}
 use Rattle.fx_rules.specs.declared.outcome.Entry.{Entry}
 use Rattle.fx_rules.specs.Lists.{Among}
 use Rattle.fx_rules.specs.Session.{Header}
-use Rattle.reply_lines.specs.Output.{first_output}
+use Rattle.reply_lines.specs.Output.{IsOutput}
 use Rattle.reply_lines.specs.declared.output.Ending.TheVariants as endings
 use Rattle.fx_cli.specs.Headline.{IsSerial}
 use Rattle.fx_cli.specs.Input.{input_limit}
@@ -30,7 +30,7 @@ pub record IsOutputOf (input rest text : List ℕ) : Type 0 where
   pub of_its_header : HasSession input session
   pub history : List Entry
   pub of_its_commands : IsSerial session (sent_in session input) history
-  pub exactly : text ≡ first_output session history (strays_of session input) endings.End
+  pub exactly : IsOutput session history (strays_of session input) endings.End text
 
 -- a sink got exactly that output
 abbrev pub GotOutput : {K : Type 0} (written : K → Option (List ℕ)) (faults : K → ℕ) (before now : K) → List ℕ → List ℕ → Type 0

@@ -32,7 +32,7 @@ stop-notices {T = T} {U = U} {written = written} {faults = faults} {a = a} {b = 
     (subst (IsPrefixOf (notice_lines h before xs)) (sym (notice_lines-append h before xs ys)) (IsPrefixOf-append (notice_lines h before xs) (notice_lines h (before + length xs) ys)))
 
 -- the notices of the items so far, and of one item more
-notices_more : {X : Type 0} (f : X → List Notice) (xs : List X) (i : ℕ) (x : X) → i < length xs → x ≡ get_or xs i x → flat_map f (take (i + 1) xs) ≡ flat_map f (take i xs) ++ f x
+pub notices_more : {X : Type 0} (f : X → List Notice) (xs : List X) (i : ℕ) (x : X) → i < length xs → x ≡ get_or xs i x → flat_map f (take (i + 1) xs) ≡ flat_map f (take i xs) ++ f x
 notices_more f xs i x within is =
     ap (flat_map f) (take_more xs i x within) ∙ flat_map-append f (take i xs) (get_or xs i x ∷ []) ∙ ap (λ ns. flat_map f (take i xs) ++ ns) (append-nil (f (get_or xs i x)) ∙ ap f (sym is))
 

@@ -12,10 +12,12 @@ abbrev pub fault_of : SinkFault → OutFault
 fault_of sinks.Failed = Write
 fault_of sinks.Memory = Memory
 
--- An output was written: the sink got it whole at `Ok`, and a prefix of it at a fault. The fault was `Write` only where the
--- sink's count rose.
+-- The sink got a text of this kind whole at `Ok`, and a prefix of it at a fault. The fault was `Write` only where the sink's
+-- count rose.
 pub record WroteOutput {K T : Type 0} (written : K → Option (List ℕ)) (faults : K → ℕ)
-    (before now : K) (text : List ℕ) (result : Result T OutFault) : Type 0 where
+    (before now : K) (is_output : List ℕ → Type 0) (result : Result T OutFault) : Type 0 where
+  pub text : List ℕ
+  pub is_text : is_output text
   pub ok : OnOk result (Appended written faults before now text)
   pub fault : OnErr result (AppendedPart written faults before now text)
   pub cause : IfErr result (λ fault. fault ≡ Write → Rose (faults before) (faults now))

@@ -1,13 +1,16 @@
--- The output of a history: header, journal, desks, strays, ending.
-use Rattle.std.specs.Prelude.{ℕ, zero, suc, List, [], ◌∷◌, ◌++◌, length, codes}
+-- The output of a history: header, journal, desks, local books, report, strays, ending.
+use Rattle.std.specs.Prelude.{ℕ, zero, suc, ◌≡◌, List, [], ◌∷◌, ◌++◌, length, codes}
 use Rattle.std.specs.List.{flat_map}
 use Rattle.fx_amounts.specs.Numeral.{numeral}
 use Rattle.fx_rules.specs.declared.outcome.Entry.{Entry}
 use Rattle.fx_rules.specs.Session.{Header, bank_count}
+use Rattle.fx_rules.specs.History.{state}
 use Rattle.session_head.specs.HeadText.{head_text_of}
 use Rattle.order_lines.specs.Spelling.{command_text_of}
 use Rattle.reply_lines.specs.Rows.{row}
 use Rattle.reply_lines.specs.Notices.{desk_text}
+use Rattle.reply_lines.specs.Books.{LocalBook, AreBooks, books_text}
+use Rattle.reply_lines.specs.Report.{report_text}
 use Rattle.reply_lines.specs.declared.output.Ending.{Ending}
 use Rattle.reply_lines.specs.declared.output.Ending.TheVariants.{End, Cut, Read, Much}
 
@@ -28,6 +31,22 @@ abbrev pub desks_below : Header → List Entry → ℕ → List ℕ
 desks_below h entries zero = []
 desks_below h entries (suc bank) = desks_below h entries bank ++ desk_text h entries bank
 
+-- the local books at the end, and the report
+unfoldable pub close_text : Header → List Entry → (ℕ → ℕ → LocalBook) → List ℕ
+close_text h entries books = books_text h books ++ report_text h (state h entries)
+
+-- the desks, and what follows them
+unfoldable pub desks_text : Header → List Entry → (ℕ → ℕ → LocalBook) → List ℕ
+desks_text h entries books = desks_below h entries (bank_count h) ++ close_text h entries books
+
+-- the journal, and what follows it
+unfoldable pub history_text : Header → List Entry → (ℕ → ℕ → LocalBook) → List ℕ
+history_text h entries books = journal_text h entries ++ desks_text h entries books
+
+-- all but the last lines, which a history has no part in
+unfoldable pub day_text : Header → List Entry → (ℕ → ℕ → LocalBook) → List ℕ
+day_text h entries books = head_text_of h ++ history_text h entries books
+
 unfoldable pub strays_line : ℕ → List ℕ
 strays_line strays = row (codes "STRAYS") (numeral strays ∷ [])
 
@@ -42,15 +61,14 @@ ending_line Much = codes "MUCH\n"
 unfoldable pub last_text : ℕ → Ending → List ℕ
 last_text strays ending = strays_line strays ++ ending_line ending
 
--- the desks, and what follows them
-unfoldable pub desks_text : Header → List Entry → ℕ → Ending → List ℕ
-desks_text h entries strays ending = desks_below h entries (bank_count h) ++ last_text strays ending
+-- A text is all but the last lines of a history's output.
+pub record IsDayText (h : Header) (entries : List Entry) (text : List ℕ) : Type 0 where
+  pub books : ℕ → ℕ → LocalBook
+  pub at_the_end : AreBooks h (state h entries) books
+  pub exactly : text ≡ day_text h entries books
 
--- the journal, and what follows it
-unfoldable pub history_text : Header → List Entry → ℕ → Ending → List ℕ
-history_text h entries strays ending = journal_text h entries ++ desks_text h entries strays ending
-
--- the output without its local books and its report, which come later: the header, and then the journal, the desks and
--- the last lines
-unfoldable pub first_output : Header → List Entry → ℕ → Ending → List ℕ
-first_output h entries strays ending = head_text_of h ++ history_text h entries strays ending
+-- A text is the output of a history.
+pub record IsOutput (h : Header) (entries : List Entry) (strays : ℕ) (ending : Ending) (text : List ℕ) : Type 0 where
+  pub day : List ℕ
+  pub is_day : IsDayText h entries day
+  pub whole : text ≡ day ++ last_text strays ending

@@ -1,10 +1,11 @@
-ghost use Rattle.std.specs.Prelude.{◌≡◌, ℕ, List, [], ◌<◌, ◌≤◌, ◌^◌, ◌+◌, ◌++◌, ◌*◌, length, OnOk, IfOk};
+ghost use Rattle.std.specs.Prelude.{◌≡◌, ℕ, List, [], ◌<◌, ◌≤◌, ◌^◌, ◌+◌, ◌++◌, ◌*◌, length, OnOk, IfOk, Some, slice_get};
 ghost use Rattle.std.specs.List.{flat_map};
 ghost use Rattle.fx_rules.specs.Lists.{Each};
 ghost use Rattle.fx_edges.specs.Writing.{Wrote};
 ghost use Rattle.fx_rules.specs.Session.{bank_count};
 ghost use Rattle.fx_rules.specs.Step.{fills_of};
-ghost use Rattle.reply_lines.specs.Notices.{notice_lines, reply_notices, taken_notices, given_notices, fill_notices, notices_in, notices, desk_line, desk_text};
+ghost use Rattle.reply_lines.specs.Notices.{notice_lines, reply_notices, taken_notices, given_notices, fill_notices, notices_in, desk_line, desk_text};
+ghost use Rattle.reply_lines.specs.Index.{IsIndexed, noticed};
 ghost use Rattle.reply_lines.specs.Prints.{IsAnswerOf, IsFillOf, IsEntryOf};
 
 use crate::notices::{make_desk, make_fill, make_reply};
@@ -189,7 +190,7 @@ fn write_notices<K: Sink>(
 }
 
 /// The fills of an outcome.
-fn fills_of(outcome: &Outcome) -> &[Fill]
+pub(crate) fn fills_of(outcome: &Outcome) -> &[Fill]
     ensures { result.now ≡ fills_of outcome.now }
 {
     match outcome {
@@ -199,15 +200,24 @@ fn fills_of(outcome: &Outcome) -> &[Fill]
     }
 }
 
-/// How many notices a bank gets of a history.
-fn count_notices(bank: BankId, entries: &[Entry]) -> u128
-    ensures value { result ≡ length (notices bank entries.now) }
+/// How many notices a bank gets of the entries at some places.
+fn count_notices(bank: BankId, entries: &[Entry], places: &[usize]) -> u128
+    requires within { Each (λ place. place < length entries.now) places.now }
+    ensures value { result ≡ length (noticed bank entries.now places.now) }
 {
     let mut count = 0;
-    for entry in entries {
-        count += notices_in(bank, entry);
+    for place in places {
+        count += notices_in(bank, entry_at(entries, *place));
     }
     count
+}
+
+/// The entry at a place.
+fn entry_at(entries: &[Entry], place: usize) -> &Entry
+    requires within { place < length entries.now }
+    ensures entry { slice_get entries.now place ≡ Some result.now }
+{
+    &entries[place]
 }
 
 /// How many notices a bank gets of an entry.
@@ -222,20 +232,22 @@ fn notices_in(bank: BankId, entry: &Entry) -> u128
     count
 }
 
-/// Writes a bank's desk: how many notices it has, and these.
+/// Writes a bank's desk: how many notices it has, and these. They are found at the places.
 pub fn write_desk<K: Sink>(
     session: &Session,
     bank: BankId,
     entries: &[Entry],
+    places: &[usize],
     line: &mut Vec<u8>,
     out: &mut K,
 ) -> Result<(), SinkFault>
     requires bank { bank < bank_count session.now }
     requires entries { Each (IsEntryOf session.now) entries.now }
+    requires places { IsIndexed entries.now bank places.now }
     ensures wrote { Wrote K.written K.faults out.old out.new (desk_text session.now entries.now bank) result }
 {
-    match write_desk_line(session, bank, entries, line, out) {
-        Ok(()) => write_all_notices(session, bank, entries, line, out),
+    match write_desk_line(session, bank, entries, places, line, out) {
+        Ok(()) => write_all_notices(session, bank, entries, places, line, out),
         Err(fault) => Err(fault),
     }
 }
@@ -245,30 +257,35 @@ fn write_desk_line<K: Sink>(
     session: &Session,
     bank: BankId,
     entries: &[Entry],
+    places: &[usize],
     line: &mut Vec<u8>,
     out: &mut K,
 ) -> Result<(), SinkFault>
-    requires { bank < bank_count session.now }
-    ensures wrote { Wrote K.written K.faults out.old out.new (desk_line session.now bank (length (notices bank entries.now))) result }
+    requires bank { bank < bank_count session.now }
+    requires within { Each (λ place. place < length entries.now) places.now }
+    ensures wrote { Wrote K.written K.faults out.old out.new (desk_line session.now bank (length (noticed bank entries.now places.now))) result }
 {
-    let made = make_desk(session, bank, count_notices(bank, entries), line);
+    let made = make_desk(session, bank, count_notices(bank, entries, places), line);
     write_made(made, line, out)
 }
 
-/// Writes a bank's notices of a history.
+/// Writes a bank's notices of the entries at some places.
 fn write_all_notices<K: Sink>(
     session: &Session,
     bank: BankId,
     entries: &[Entry],
+    places: &[usize],
     line: &mut Vec<u8>,
     out: &mut K,
 ) -> Result<(), SinkFault>
     requires entries { Each (IsEntryOf session.now) entries.now }
-    ensures wrote { Wrote K.written K.faults out.old out.new (notice_lines session.now 0 (notices bank entries.now)) result }
+    requires within { Each (λ place. place < length entries.now) places.now }
+    ensures wrote { Wrote K.written K.faults out.old out.new (notice_lines session.now 0 (noticed bank entries.now places.now)) result }
 {
-    let _ = entries.len();
+    let _ = places.len();
     let mut number = 0;
-    for entry in entries {
+    for place in places {
+        let entry = entry_at(entries, *place);
         number = match write_notices(session, bank, entry, number, line, out) {
             Ok(number) => number,
             Err(fault) => return Err(fault),

@@ -1,12 +1,15 @@
-//! The text of an output: each bank's desk with its replies and fills.
+//! The text of an output: header, journal, each bank's desk with its replies and fills, local books and report.
 #![tactic(auto)]
 
+mod books;
 mod desk;
+mod index;
 mod notices;
 mod output;
+mod report;
 mod row;
 
-pub use output::{Ending, OutFault, write_output};
+pub use output::{Ending, OutFault, write_day, write_output};
 
 #[cfg(test)]
 mod tests;

@@ -193,7 +193,7 @@ fn side_word(side: Side) -> &'static [u8]
 }
 
 /// A pair's terms.
-fn rule_of(session: &Session, pair: PairId) -> &PairRule
+pub(crate) fn rule_of(session: &Session, pair: PairId) -> &PairRule
     requires { pair < pair_count session.now }
     ensures text { pair_text result.now ≡ pair_name session.now pair }
     ensures decimals { result.now.decimals ≡ decimals_of session.now pair }
@@ -204,7 +204,7 @@ fn rule_of(session: &Session, pair: PairId) -> &PairRule
 }
 
 /// A bank's name.
-fn name_of(session: &Session, bank: BankId) -> &[u8]
+pub(crate) fn name_of(session: &Session, bank: BankId) -> &[u8]
     requires { bank < bank_count session.now }
     ensures { result.now ≡ bank_name session.now bank }
 {

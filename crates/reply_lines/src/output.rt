@@ -1,19 +1,25 @@
-ghost use Rattle.std.specs.Prelude.{◌≡◌, ◌<◌, ◌∷◌, [], ◌++◌, codes, length, IfErr, OnOk, OnErr};
+ghost use Rattle.std.specs.Prelude.{◌≡◌, ℕ, ◌∷◌, [], ◌++◌, codes, length, IfOk, OnOk};
 ghost use Rattle.std.specs.List.{flat_map};
 ghost use Rattle.fx_amounts.specs.Numeral.{numeral};
-ghost use Rattle.fx_edges.specs.Faults.{Rose};
-ghost use Rattle.fx_edges.specs.Writing.{Appended, AppendedPart, Wrote};
+ghost use Rattle.fx_edges.specs.Writing.{Wrote};
 ghost use Rattle.fx_rules.specs.Lists.{Each};
-ghost use Rattle.fx_rules.specs.History.{IsLegal};
+ghost use Rattle.fx_rules.specs.History.{IsLegal, state};
 ghost use Rattle.fx_rules.specs.Session.{bank_count};
 ghost use Rattle.session_head.specs.HeadText.{head_text_of};
-ghost use Rattle.reply_lines.specs.Rows.{row};
+ghost use Rattle.reply_lines.specs.Books.{LocalBook, AreBooks, AreBooksOf};
+ghost use Rattle.reply_lines.specs.Day.{IsDayOf};
 ghost use Rattle.reply_lines.specs.Faults.{WroteOutput};
+ghost use Rattle.reply_lines.specs.Index.{IsIndex};
 ghost use Rattle.reply_lines.specs.Prints.{IsEntryOf};
-ghost use Rattle.reply_lines.specs.Output.{entry_line, journal_line, journal_text, desks_below, strays_line, ending_line, last_text, desks_text, history_text, first_output};
+ghost use Rattle.reply_lines.specs.Output.{entry_line, journal_line, journal_text, desks_below, close_text, desks_text, history_text, day_text, strays_line, ending_line, last_text, IsDayText, IsOutput};
 
+use crate::books::write_books;
 use crate::desk::{write_desk, write_made};
+use crate::index::{Places, index_of};
 use crate::notices::make_count;
+use crate::report::write_report;
+use day_report::{Report, report};
+use flat_host::{FlatHost, replay};
 use fx_amounts::{BankId, Memory};
 use fx_edges::{Sink, SinkFault, write_all};
 use fx_rules::{Entry, Session};
@@ -73,8 +79,10 @@ impl From<SinkFault> for OutFault {
     }
 }
 
-/// Writes the output of a legal history. After a fault a prefix of it was appended, and the fault is `Write` only where
-/// the sink's count of faults rose.
+/// Writes the output of a legal history: header, journal, desks, local books, report and the last lines, which tell of the
+/// strays and of how the reading ended. After a fault a prefix of it was appended, and the fault is `Write` only where the
+/// sink's count of faults rose. Beside one line at a time it keeps the places of each bank's entries and the market at the
+/// end; all that is found before the first byte is written.
 pub fn write_output<K: Sink>(
     alloc: Global,
     session: &Session,
@@ -84,17 +92,33 @@ pub fn write_output<K: Sink>(
     out: &mut K,
 ) -> Result<(), OutFault>
     requires legal { IsLegal session.now entries.now }
-    ensures wrote { WroteOutput K.written K.faults out.old out.new (first_output session.now entries.now strays ending) result }
+    ensures wrote { WroteOutput K.written K.faults out.old out.new (IsOutput session.now entries.now strays ending) result }
 {
-    match write_text(alloc, session, entries, strays, ending, out) {
+    match write_whole(alloc, session, entries, strays, ending, out) {
+        Ok(()) => Ok(()),
+        Err(fault) => Err(OutFault::from(fault)),
+    }
+}
+
+/// Writes the output of a legal history without its last lines. Faults are as those of `write_output`.
+pub fn write_day<K: Sink>(
+    alloc: Global,
+    session: &Session,
+    entries: &[Entry],
+    out: &mut K,
+) -> Result<(), OutFault>
+    requires legal { IsLegal session.now entries.now }
+    ensures wrote { WroteOutput K.written K.faults out.old out.new (IsDayText session.now entries.now) result }
+{
+    let mut line = Vec::new(alloc);
+    match write_text(alloc, session, entries, &mut line, out) {
         Ok(()) => Ok(()),
         Err(fault) => Err(OutFault::from(fault)),
     }
 }
 
 /// Writes the output of a legal history.
-#[tactic(auto, unfolding(crate::specs::Output::first_output))]
-fn write_text<K: Sink>(
+fn write_whole<K: Sink>(
     alloc: Global,
     session: &Session,
     entries: &[Entry],
@@ -103,11 +127,74 @@ fn write_text<K: Sink>(
     out: &mut K,
 ) -> Result<(), SinkFault>
     requires legal { IsLegal session.now entries.now }
-    ensures wrote { Wrote K.written K.faults out.old out.new (first_output session.now entries.now strays ending) result }
+    ensures wrote { (books : ℕ → ℕ → LocalBook) → AreBooks session.now (state session.now entries.now) books →
+        Wrote K.written K.faults out.old out.new (day_text session.now entries.now books ++ last_text strays ending) result }
 {
     let mut line = Vec::new(alloc);
-    match write_head(session, &mut line, out) {
-        Ok(()) => write_history(session, entries, strays, ending, &mut line, out),
+    match write_text(alloc, session, entries, &mut line, out) {
+        Ok(()) => write_last(strays, ending, &mut line, out),
+        Err(fault) => Err(fault),
+    }
+}
+
+/// Writes all but the last lines.
+fn write_text<K: Sink>(
+    alloc: Global,
+    session: &Session,
+    entries: &[Entry],
+    line: &mut Vec<u8>,
+    out: &mut K,
+) -> Result<(), SinkFault>
+    requires legal { IsLegal session.now entries.now }
+    ensures wrote { (books : ℕ → ℕ → LocalBook) → AreBooks session.now (state session.now entries.now) books →
+        Wrote K.written K.faults out.old out.new (day_text session.now entries.now books) result }
+{
+    match Day::new(alloc, session, entries) {
+        Ok(day) => write_day_text(session, entries, &day, line, out),
+        Err(Memory) => Err(SinkFault::Memory),
+    }
+}
+
+/// What is found of a history before it is printed.
+#[derive(Drop)]
+struct Day {
+    /// The market at the end.
+    host: FlatHost,
+    /// The sums of its fills.
+    report: Report,
+    /// For each bank the places of the entries of which it has notices.
+    index: Vec<Places>,
+}
+
+impl Day {
+    fn new(alloc: Global, session: &Session, entries: &[Entry]) -> Result<Day, Memory>
+        requires legal { IsLegal session.now entries.now }
+        ensures day { IfOk result (IsDayOf session.now entries.now) }
+    {
+        Ok(Day {
+            host: replay(alloc, session, entries)?,
+            report: report(alloc, session, entries)?,
+            index: index_of(alloc, session, entries)?,
+        })
+    }
+}
+
+/// Writes the header and what follows it, but for the last lines.
+#[tactic(auto, unfolding(crate::specs::Output::day_text))]
+fn write_day_text<K: Sink>(
+    session: &Session,
+    entries: &[Entry],
+    day: &Day,
+    line: &mut Vec<u8>,
+    out: &mut K,
+) -> Result<(), SinkFault>
+    requires entries { Each (IsEntryOf session.now) entries.now }
+    requires day { IsDayOf session.now entries.now day.now }
+    ensures wrote { (books : ℕ → ℕ → LocalBook) → AreBooksOf session.now day.now.host books →
+        Wrote K.written K.faults out.old out.new (day_text session.now entries.now books) result }
+{
+    match write_head(session, line, out) {
+        Ok(()) => write_history(session, entries, day, line, out),
         Err(fault) => Err(fault),
     }
 }
@@ -117,16 +204,19 @@ fn write_text<K: Sink>(
 fn write_history<K: Sink>(
     session: &Session,
     entries: &[Entry],
-    strays: u64,
-    ending: Ending,
+    day: &Day,
     line: &mut Vec<u8>,
     out: &mut K,
 ) -> Result<(), SinkFault>
     requires entries { Each (IsEntryOf session.now) entries.now }
-    ensures wrote { Wrote K.written K.faults out.old out.new (history_text session.now entries.now strays ending) result }
+    requires day { IsDayOf session.now entries.now day.now }
+    ensures wrote { (books : ℕ → ℕ → LocalBook) → AreBooksOf session.now day.now.host books →
+        Wrote K.written K.faults out.old out.new (history_text session.now entries.now books) result }
 {
-    write_journal(session, entries, line, out)?;
-    write_desks_on(session, entries, strays, ending, line, out)
+    match write_journal(session, entries, line, out) {
+        Ok(()) => write_desks_on(session, entries, day, line, out),
+        Err(fault) => Err(fault),
+    }
 }
 
 /// Writes the desks and what follows them.
@@ -134,16 +224,38 @@ fn write_history<K: Sink>(
 fn write_desks_on<K: Sink>(
     session: &Session,
     entries: &[Entry],
-    strays: u64,
-    ending: Ending,
+    day: &Day,
     line: &mut Vec<u8>,
     out: &mut K,
 ) -> Result<(), SinkFault>
     requires entries { Each (IsEntryOf session.now) entries.now }
-    ensures wrote { Wrote K.written K.faults out.old out.new (desks_text session.now entries.now strays ending) result }
+    requires day { IsDayOf session.now entries.now day.now }
+    ensures wrote { (books : ℕ → ℕ → LocalBook) → AreBooksOf session.now day.now.host books →
+        Wrote K.written K.faults out.old out.new (desks_text session.now entries.now books) result }
 {
-    write_desks(session, entries, line, out)?;
-    write_last(strays, ending, line, out)
+    match write_desks(session, entries, &day.index, line, out) {
+        Ok(()) => write_close(session, entries, day, line, out),
+        Err(fault) => Err(fault),
+    }
+}
+
+/// Writes the local books and the report.
+#[tactic(auto, unfolding(crate::specs::Output::close_text))]
+fn write_close<K: Sink>(
+    session: &Session,
+    entries: &[Entry],
+    day: &Day,
+    line: &mut Vec<u8>,
+    out: &mut K,
+) -> Result<(), SinkFault>
+    requires day { IsDayOf session.now entries.now day.now }
+    ensures wrote { (books : ℕ → ℕ → LocalBook) → AreBooksOf session.now day.now.host books →
+        Wrote K.written K.faults out.old out.new (close_text session.now entries.now books) result }
+{
+    match write_books(session, &day.host, line, out) {
+        Ok(()) => write_report(session, &day.report, line, out),
+        Err(fault) => Err(fault),
+    }
 }
 
 /// Writes the last lines.
@@ -254,15 +366,18 @@ fn make_entry(session: &Session, entry: &Entry, line: &mut Vec<u8>) -> Result<()
 fn write_desks<K: Sink>(
     session: &Session,
     entries: &[Entry],
+    index: &[Places],
     line: &mut Vec<u8>,
     out: &mut K,
 ) -> Result<(), SinkFault>
     requires entries { Each (IsEntryOf session.now) entries.now }
+    requires index { IsIndex (bank_count session.now) entries.now index.now }
     ensures wrote { Wrote K.written K.faults out.old out.new (desks_below session.now entries.now (bank_count session.now)) result }
 {
     for place in 0..session.banks().len() {
         let bank = BankId::new(place as u8).unwrap();
-        match write_desk(session, bank, entries, line, out) {
+        let places = index[place].as_slice();
+        match write_desk(session, bank, entries, places, line, out) {
             Ok(()) => {}
             Err(fault) => return Err(fault),
         }

@@ -2,9 +2,10 @@ ghost use Rattle.std.specs.Prelude.{◌≡◌, ◌∷◌, ◌++◌, [], OnOk};
 ghost use Rattle.fx_amounts.specs.Numeral.{numeral};
 ghost use Rattle.fx_amounts.specs.PriceText.{price_text};
 ghost use Rattle.fx_amounts.specs.Quantity.{IsDecimals};
+ghost use Rattle.fx_text.specs.Number.{signed_numeral};
 
 use fx_amounts::{Memory, Price};
-use fx_text::{push_number, push_price};
+use fx_text::{push_number, push_price, push_signed};
 
 /// Begins a line anew with its first field, a number.
 pub fn begin_row(first: u128, line: &mut Vec<u8>) -> Result<(), Memory>
@@ -38,6 +39,14 @@ pub fn push_number_field(value: u128, line: &mut Vec<u8>) -> Result<(), Memory>
 {
     line.push(b' ')?;
     push_number(value, line)
+}
+
+/// Appends a number with its sign, where it is below 0, behind a space.
+pub fn push_signed_field(value: i128, line: &mut Vec<u8>) -> Result<(), Memory>
+    ensures ok { OnOk result (line.new.items ≡ line.old.items ++ 32 ∷ signed_numeral value) }
+{
+    line.push(b' ')?;
+    push_signed(value, line)
 }
 
 /// Appends a price behind a space.

@@ -1,5 +1,7 @@
 use crate::notices::{make_count, make_desk, make_fill, make_reply};
-use crate::{Ending, OutFault, write_output};
+use crate::report::{make_net, make_use, make_volume};
+use crate::{Ending, OutFault, write_day, write_output};
+use day_report::{Net, Use, Volume};
 use fx_amounts::{BankId, Lots, PairId, Price, Side, Units};
 use fx_edges::MemorySink;
 use fx_rules::{
@@ -202,8 +204,28 @@ fn the_line_of_a_desk(rt: HostRuntime) -> Result<(), Fail> {
     Ok(())
 }
 
-const QUIET_DAY: &[u8] =
-    b"FXBOOK 1\nBANK ALFA\nBANK BETA\nPAIR EUR/USD 5 1000000 100\nLINE ALFA BETA 1000\nSTART\nJOURNAL 0\nDESK ALFA 0\nDESK BETA 0\nSTRAYS 3\nCUT\n";
+const QUIET_DAY: &[u8] = b"FXBOOK 1
+BANK ALFA
+BANK BETA
+PAIR EUR/USD 5 1000000 100
+LINE ALFA BETA 1000
+START
+JOURNAL 0
+DESK ALFA 0
+DESK BETA 0
+BOOKS
+ALFA EUR/USD BIDS ASKS
+BETA EUR/USD BIDS ASKS
+REPORT
+VOLUME EUR/USD 0 0 0 0
+USE ALFA BETA 1000 0 0 0
+NET ALFA EUR 0
+NET ALFA USD 0
+NET BETA EUR 0
+NET BETA USD 0
+STRAYS 3
+CUT
+";
 
 #[test]
 fn a_day_without_commands(rt: HostRuntime) -> Result<(), Fail> {
@@ -211,6 +233,9 @@ fn a_day_without_commands(rt: HostRuntime) -> Result<(), Fail> {
     let mut out = MemorySink::new(7, Vec::new(rt.alloc()));
     write_output(rt.alloc(), &session, &[], 3, Ending::Cut, &mut out)?;
     assert_eq!(rt; out.written(), QUIET_DAY);
+    let mut out = MemorySink::new(7, Vec::new(rt.alloc()));
+    write_day(rt.alloc(), &session, &[], &mut out)?;
+    assert_eq!(rt; out.written(), &QUIET_DAY[..QUIET_DAY.len() - 13]);
     Ok(())
 }
 
@@ -224,5 +249,49 @@ fn a_write_that_fails(rt: HostRuntime) -> Result<(), Fail> {
     assert_eq!(rt; answer, Err(OutFault::Write));
     assert!(rt; QUIET_DAY.starts_with(out.written()));
     assert!(rt; out.written().len() < 64);
+    Ok(())
+}
+
+#[test]
+fn the_lines_of_a_report(rt: HostRuntime) -> Result<(), Fail> {
+    let session = market(rt.alloc())?;
+    let alfa = BankId::new(0).ok_or("a bank was refused")?;
+    let beta = BankId::new(1).ok_or("a bank was refused")?;
+    let pair = PairId::new(0).ok_or("a pair was refused")?;
+    assert!(rt; pair.index() < session.pairs().len());
+    assert!(rt; beta.index() < session.banks().len());
+    let mut line = Vec::new(rt.alloc());
+    let volume = Volume {
+        pair,
+        fills: 1,
+        lots: 2,
+        base: 2_000_000,
+        quote: 2_168_400,
+    };
+    make_volume(&session, &volume, &mut line)?;
+    assert_eq!(rt;
+        line.as_slice(),
+        b"VOLUME EUR/USD 1 2 2000000 2168400\n".as_slice()
+    );
+    let credit = Use {
+        a: alfa,
+        b: beta,
+        limit_ab: units(1000)?,
+        limit_ba: units(800)?,
+        used: units(200)?,
+        eff: units(600)?,
+    };
+    make_use(&session, &credit, &mut line)?;
+    assert_eq!(rt;
+        line.as_slice(),
+        b"USE ALFA BETA 1000 800 200 600\n".as_slice()
+    );
+    let net = Net {
+        bank: beta,
+        currency: Code::from_bytes(b"USD").ok_or("a code was refused")?,
+        amount: -2_168_400,
+    };
+    make_net(&session, &net, &mut line)?;
+    assert_eq!(rt; line.as_slice(), b"NET BETA USD -2168400\n".as_slice());
     Ok(())
 }

@@ -1,22 +1,35 @@
 -- Each turn writes one entry's notices behind those so far.
-use Rattle.std.proofs.Common.{arith}
-use Rattle.reply_lines.specs.Notices.{notices_in}
-use Rattle.reply_lines.specs.Prints.{IsEntryOf}
+use Rattle.std.proofs.Common.{ℕ, ◌≡◌, ◌<◌, ◌+◌, ◌∙◌, get_or, ap, sym, subst, length, arith, Ok, Err}
+use Rattle.fx_edges.specs.Writing.{Wrote}
+use Rattle.reply_lines.specs.Notices.{notice_lines}
+use Rattle.reply_lines.specs.Index.{notices_at}
+use Rattle.reply_lines.proofs.Indexing.{at-entry, item_is}
 use Rattle.reply_lines.proofs.Numbering.{written-more, cut-more, count-more, at-place}
 use Rattle.reply_lines.proofs.desk.write_all_notices.Goals as goal
 
 pub returns-in-Err : goal.returns-in-Err
-returns-in-Err g c = record {
-  wrote = cut-more c.args.session.now 0 c.loop-entry.number (notices_in c.args.bank) c.args.entries.now c.loop-entry.entry-index c.entry-item.result c.in-Err.fault
-      c.loop-entry-test.true c.entry-item.is c.loop-entry.invariant.count c.loop-entry.invariant.written c.in-Err.ensures.wrote;
-}
+returns-in-Err g c =
+    let place = get_or c.args.places.now c.loop-place.place-index 0 in
+    let is : place ≡ get_or c.args.places.now c.loop-place.place-index place = item_is c.args.places.now c.loop-place.place-index 0 place c.loop-place-test.true in
+    record {
+      wrote = cut-more c.args.session.now 0 c.loop-place.number (notices_at c.args.bank c.args.entries.now) c.args.places.now c.loop-place.place-index place c.in-Err.fault
+          c.loop-place-test.true is c.loop-place.invariant.count c.loop-place.invariant.written
+          (subst (λ ns. Wrote {T = ℕ} g.K.Sink.written g.K.Sink.faults c.loop-place.out c.write_notices.new.out (notice_lines c.args.session.now c.loop-place.number ns) (Err c.in-Err.fault))
+          (sym (at-entry c.args.bank c.args.entries.now place c.entry_at-entry.result.now c.entry_at-entry.ensures.entry)) c.in-Err.ensures.wrote);
+    }
 
-pub loop-entry-preserved : goal.loop-entry-preserved
-loop-entry-preserved g c = record {
-  written = written-more c.args.session.now 0 c.loop-entry.number (notices_in c.args.bank) c.args.entries.now c.loop-entry.entry-index c.entry-item.result c.in-Ok.number
-      c.loop-entry-test.true c.entry-item.is c.loop-entry.invariant.count c.loop-entry.invariant.written c.in-Ok.ensures.wrote;
-  count = count-more 0 c.loop-entry.number c.in-Ok.number (notices_in c.args.bank) c.args.entries.now c.loop-entry.entry-index c.entry-item.result
-      c.loop-entry-test.true c.entry-item.is c.loop-entry.invariant.count c.in-Ok.ensures.count;
-  most = omega (arith, c.loop-entry.invariant.most, c.in-Ok.ensures.most);
-  entries = (at-place (IsEntryOf c.args.session.now) c.args.entries.now c.loop-entry.entry-index c.entry-item.result c.loop-entry-test.true c.entry-item.is c.loop-entry.invariant.entries).1;
-}
+pub loop-place-preserved : goal.loop-place-preserved
+loop-place-preserved g c =
+    let place = get_or c.args.places.now c.loop-place.place-index 0 in
+    let is : place ≡ get_or c.args.places.now c.loop-place.place-index place = item_is c.args.places.now c.loop-place.place-index 0 place c.loop-place-test.true in
+    let here = sym (at-entry c.args.bank c.args.entries.now place c.entry_at-entry.result.now c.entry_at-entry.ensures.entry) in
+    record {
+      written = written-more c.args.session.now 0 c.loop-place.number (notices_at c.args.bank c.args.entries.now) c.args.places.now c.loop-place.place-index place c.in-Ok.number
+          c.loop-place-test.true is c.loop-place.invariant.count c.loop-place.invariant.written
+          (subst (λ ns. Wrote g.K.Sink.written g.K.Sink.faults c.loop-place.out c.write_notices.new.out (notice_lines c.args.session.now c.loop-place.number ns) (Ok c.in-Ok.number)) here c.in-Ok.ensures.wrote);
+      count = count-more 0 c.loop-place.number c.in-Ok.number (notices_at c.args.bank c.args.entries.now) c.args.places.now c.loop-place.place-index place
+          c.loop-place-test.true is c.loop-place.invariant.count
+          (c.in-Ok.ensures.count ∙ ap (λ ns. c.loop-place.number + length ns) here);
+      most = omega (arith, c.loop-place.invariant.most, c.in-Ok.ensures.most);
+      within = (at-place (λ place. place < length c.args.entries.now) c.args.places.now c.loop-place.place-index place c.loop-place-test.true is c.loop-place.invariant.within).1;
+    }

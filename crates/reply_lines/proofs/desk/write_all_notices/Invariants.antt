@@ -1,16 +1,16 @@
-use Rattle.std.proofs.Common.{◌≡◌, ◌≤◌, ◌+◌, ◌*◌, ◌^◌, length, take, drop}
+use Rattle.std.proofs.Common.{◌≡◌, ◌≤◌, ◌<◌, ◌+◌, ◌*◌, ◌^◌, length, take, drop}
 use Rattle.fx_edges.specs.Writing.{Appended}
 use Rattle.fx_rules.specs.Lists.{Each}
-use Rattle.reply_lines.specs.Notices.{notice_lines, notices}
-use Rattle.reply_lines.specs.Prints.{IsEntryOf}
+use Rattle.reply_lines.specs.Notices.{notice_lines}
+use Rattle.reply_lines.specs.Index.{noticed}
 use Rattle.reply_lines.proofs.desk.write_all_notices.Given as goal
 
--- the notices of the entries so far are written
-abbrev pub invariant-loop-entry : goal.invariant-loop-entry
-invariant-loop-entry g l = record {
+-- the notices at the places so far are written
+abbrev pub invariant-loop-place : goal.invariant-loop-place
+invariant-loop-place g l = record {
   written : Appended g.K.Sink.written g.K.Sink.faults l.initial.out l.out
-      (notice_lines l.session 0 (notices l.bank (take l.entry-index l.entries)));
-  count : l.number ≡ 0 + length (notices l.bank (take l.entry-index l.entries));
-  most : l.number ≤ l.entry-index * 2 ^ 64;
-  entries : Each (IsEntryOf l.session) (drop l.entry-index l.entries);
+      (notice_lines l.session 0 (noticed l.bank l.entries (take l.place-index l.places)));
+  count : l.number ≡ 0 + length (noticed l.bank l.entries (take l.place-index l.places));
+  most : l.number ≤ l.place-index * 2 ^ 64;
+  within : Each (λ place. place < length l.entries) (drop l.place-index l.places);
 }

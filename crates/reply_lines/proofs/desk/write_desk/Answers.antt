@@ -1,15 +1,24 @@
--- The notices follow the desk's line.
+-- The notices follow the desk's line; those at the places are all.
+use Rattle.std.proofs.Common.{List, ◌++◌, length, subst, Err}
+use Rattle.fx_edges.specs.Writing.{Wrote}
 use Rattle.fx_edges.proofs.Writing.{Wrote-then, Wrote-of_longer, IsPrefixOf-append}
-use Rattle.std.proofs.Common.{length}
-use Rattle.reply_lines.specs.Notices.{notice_lines, notices, desk_line}
+use Rattle.reply_lines.specs.Notices.{Notice, notice_lines, desk_line}
+use Rattle.reply_lines.specs.Index.{noticed}
 use Rattle.reply_lines.proofs.desk.write_desk.Goals as goal
 
 pub returns-in-Ok : goal.returns-in-Ok
-returns-in-Ok g c = record { wrote = Wrote-then c.write_all_notices.result c.in-Ok.ensures.wrote c.write_all_notices.ensures.wrote }
+returns-in-Ok g c = record {
+  wrote = subst (λ (ns : List Notice). Wrote {T = Unit {0}} g.K.Sink.written g.K.Sink.faults c.args.out.now c.write_all_notices.new.out
+      (desk_line c.args.session.now c.args.bank (length ns) ++ notice_lines c.args.session.now 0 ns) c.write_all_notices.result)
+      c.requires.places.all (Wrote-then c.write_all_notices.result c.in-Ok.ensures.wrote c.write_all_notices.ensures.wrote);
+}
 
 pub returns-in-Err : goal.returns-in-Err
-returns-in-Err g c = record {
-  wrote = Wrote-of_longer c.in-Err.ensures.wrote
-      (IsPrefixOf-append (desk_line c.args.session.now c.args.bank (length (notices c.args.bank c.args.entries.now)))
-      (notice_lines c.args.session.now 0 (notices c.args.bank c.args.entries.now)));
-}
+returns-in-Err g c =
+    let ns = noticed c.args.bank c.args.entries.now c.args.places.now in
+    record {
+      wrote = subst (λ (all : List Notice). Wrote {T = Unit {0}} g.K.Sink.written g.K.Sink.faults c.args.out.now c.write_desk_line.new.out
+          (desk_line c.args.session.now c.args.bank (length all) ++ notice_lines c.args.session.now 0 all) (Err c.in-Err.fault))
+          c.requires.places.all
+          (Wrote-of_longer c.in-Err.ensures.wrote (IsPrefixOf-append (desk_line c.args.session.now c.args.bank (length ns)) (notice_lines c.args.session.now 0 ns)));
+    }

@@ -1,14 +1,11 @@
 -- A fault within one desk cuts the desks there.
-use Rattle.std.proofs.Common.{ℕ, ◌≡◌, Some, Option, IfSome, arith, ap, subst, length, Err}
+use Rattle.std.proofs.Common.{◌≡◌, arith, ap, subst, length, Err}
 use Rattle.fx_edges.specs.Writing.{Wrote}
 use Rattle.fx_edges.proofs.Writing.{Wrote-cut}
 use Rattle.reply_lines.specs.Notices.{desk_text}
 use Rattle.reply_lines.specs.Output.{desks_below}
-use Rattle.reply_lines.proofs.Parts.{desks-prefix}
+use Rattle.reply_lines.proofs.Parts.{desks-prefix, same_place}
 use Rattle.reply_lines.proofs.output.write_desks.Goals as goal
-
-same_place : (r : Option ℕ) (bank place : ℕ) → r ≡ Some bank → IfSome r (λ b. b ≡ place) → bank ≡ place
-same_place r bank place is value = subst (λ (o : Option ℕ). IfSome o (λ b. b ≡ place)) is value
 
 pub returns-in-Err : goal.returns-in-Err
 returns-in-Err g c =

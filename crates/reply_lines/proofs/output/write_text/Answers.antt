@@ -1,20 +1,31 @@
--- Every entry of a legal history can be printed; the history follows the header.
-use Rattle.fx_edges.proofs.Writing.{Wrote-then, Wrote-of_longer, IsPrefixOf-append}
-use Rattle.session_head.specs.HeadText.{head_text_of}
-use Rattle.reply_lines.specs.Output.{first_output, history_text}
+-- The day that was found is that of the history.
+use Rattle.std.proofs.Common.{refl, arith}
+use Rattle.fx_edges.proofs.Writing.{Wrote-stopped, Appended-nil, IsPrefixOf-nil}
+use Rattle.fx_rules.specs.History.{state}
+use Rattle.fx_rules.proofs.Soundness.{legal-sound}
+use Rattle.reply_lines.specs.Output.{day_text}
 use Rattle.reply_lines.proofs.Printable.{legal-prints}
 use Rattle.reply_lines.proofs.output.write_text.Goals as goal
 
-pub write_history-requires : goal.write_history-requires
-write_history-requires g c = record { entries = legal-prints c.args.session.now c.args.entries.now c.requires.legal }
+pub write_day_text-requires : goal.write_day_text-requires
+write_day_text-requires g c = record {
+  entries = legal-prints c.args.session.now c.args.entries.now c.requires.legal;
+  day = c.in-Ok.ensures.day;
+}
 
 pub returns-in-Ok : goal.returns-in-Ok
-unfolding first_output
-returns-in-Ok g c = record { wrote = Wrote-then c.write_history.result c.in-Ok.ensures.wrote c.write_history.ensures.wrote }
+returns-in-Ok g c = record {
+  wrote = λ books are. c.write_day_text.ensures.wrote books (record {
+    state = state c.args.session.now c.args.entries.now;
+    session = c.requires.legal.session;
+    sound = legal-sound c.args.session.now c.args.entries.now c.requires.legal;
+    stands = c.in-Ok.ensures.day.stands;
+    are_books = are;
+  });
+}
 
-pub returns : goal.returns
-unfolding first_output
-returns g c = record {
-  wrote = Wrote-of_longer c.in-Err.ensures.wrote
-      (IsPrefixOf-append (head_text_of c.args.session.now) (history_text c.args.session.now c.args.entries.now c.args.strays c.args.ending));
+pub returns-in-Err : goal.returns-in-Err
+returns-in-Err g c = record {
+  wrote = λ books are. Wrote-stopped (Appended-nil g.K.Sink.written g.K.Sink.faults c.args.out.now)
+      (IsPrefixOf-nil (day_text c.args.session.now c.args.entries.now books)) refl (omega arith) (λ failed. absurd cc);
 }

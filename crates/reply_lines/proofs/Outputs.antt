@@ -1,0 +1,47 @@
+-- A legal history has an output; what was written of a text tells how the writing of the output ended.
+use Rattle.std.proofs.Common.{ℕ, ◌≡◌, List, ◌++◌, Option, Result, Ok, Err, OnOk, refl, sym, subst, ◌∙◌}
+use Rattle.fx_edges.specs.Writing.{Wrote}
+use Rattle.fx_edges.specs.declared.sink.SinkFault.{SinkFault}
+use Rattle.fx_edges.specs.declared.sink.SinkFault.TheVariants as sinks
+use Rattle.fx_rules.specs.declared.outcome.Entry.{Entry}
+use Rattle.fx_rules.specs.Session.{Header}
+use Rattle.fx_rules.specs.History.{IsLegal, state}
+use Rattle.fx_rules.proofs.Soundness.{legal-sound}
+use Rattle.reply_lines.specs.Books.{LocalBook, AreBooks}
+use Rattle.reply_lines.specs.Faults.{WroteOutput, fault_of}
+use Rattle.reply_lines.specs.Output.{IsDayText, IsOutput, day_text, last_text}
+use Rattle.reply_lines.specs.declared.output.Ending.{Ending}
+use Rattle.reply_lines.specs.declared.output.OutFault.{OutFault}
+use Rattle.reply_lines.specs.declared.output.OutFault.TheVariants.{Write, Memory}
+use Rattle.reply_lines.proofs.Existing.{books-exist}
+
+-- what is known of a result that is Ok holds of what follows from it
+pub on_ok : {T E P Q : Type 0} (result : Result T E) → (P → Q) → OnOk result P → OnOk result Q
+on_ok (Ok value) leads known = leads known
+on_ok (Err e) leads known = tt
+
+pub day-books : (h : Header) (entries : List Entry) → IsLegal h entries → (books : ℕ → ℕ → LocalBook) × AreBooks h (state h entries) books
+day-books h entries legal = books-exist h (state h entries) legal.session (legal-sound h entries legal)
+
+pub is_day : (h : Header) (entries : List Entry) (books : ℕ → ℕ → LocalBook) → AreBooks h (state h entries) books → IsDayText h entries (day_text h entries books)
+is_day h entries books are = record { books = books; at_the_end = are; exactly = refl }
+
+pub is_output : (h : Header) (entries : List Entry) (strays : ℕ) (ending : Ending) (books : ℕ → ℕ → LocalBook) → AreBooks h (state h entries) books → IsOutput h entries strays ending (day_text h entries books ++ last_text strays ending)
+is_output h entries strays ending books are = record { day = day_text h entries books; is_day = is_day h entries books are; whole = refl }
+
+failed_from : (fault : SinkFault) → fault_of fault ≡ Write → fault ≡ sinks.Failed
+failed_from sinks.Failed is = refl
+failed_from sinks.Memory is = absurd cc
+
+module _ {K : Type 0} {written : K → Option (List ℕ)} {faults : K → ℕ} {before now : K} (is_output : List ℕ → Type 0) (text : List ℕ) where
+  pub wrote_whole : is_output text → Wrote {T = Unit {0}} written faults before now text (Ok tt) → WroteOutput {T = Unit {0}} written faults before now is_output (Ok tt)
+  wrote_whole is wrote = record { text = text; is_text = is; ok = wrote.ok; fault = tt; cause = tt }
+
+  pub wrote_part : (fault : SinkFault) (told : OutFault) → told ≡ fault_of fault → is_output text → Wrote {T = Unit {0}} written faults before now text (Err fault) → WroteOutput {T = Unit {0}} written faults before now is_output (Err told)
+  wrote_part fault told tells is wrote = record {
+    text = text;
+    is_text = is;
+    ok = tt;
+    fault = wrote.fault;
+    cause = λ failed. wrote.cause (failed_from fault (sym tells ∙ failed));
+  }

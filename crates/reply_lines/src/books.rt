@@ -1,0 +1,115 @@
+ghost use Rattle.std.specs.Prelude.{◌≡◌, ◌<◌, ℕ, OnOk, length};
+ghost use Rattle.fx_edges.specs.Writing.{Wrote};
+ghost use Rattle.fx_rules.specs.Session.{bank_count, pair_count};
+ghost use Rattle.reply_lines.specs.Books.{LocalBook, IsHostOf, AreBooksOf, book_line, book_lines_below, books_below, books_text};
+
+use crate::desk::write_made;
+use crate::notices::{name_of, push_book};
+use crate::row::{begin_word_row, end_row};
+use flat_host::FlatHost;
+use fx_amounts::{BankId, Memory, PairId};
+use fx_edges::{Sink, SinkFault, write_all};
+use fx_rules::{Outcome, Session};
+
+/// Writes the local books of each bank in each pair, as they stand in the host.
+#[tactic(auto, unfolding(crate::specs::Books::books_text))]
+pub(crate) fn write_books<K: Sink>(
+    session: &Session,
+    host: &FlatHost,
+    line: &mut Vec<u8>,
+    out: &mut K,
+) -> Result<(), SinkFault>
+    requires host { IsHostOf session.now host.now }
+    ensures wrote { (books : ℕ → ℕ → LocalBook) → AreBooksOf session.now host.now books →
+        Wrote K.written K.faults out.old out.new (books_text session.now books) result }
+{
+    match write_all(out, b"BOOKS\n") {
+        Ok(()) => write_banks(session, host, line, out),
+        Err(fault) => Err(fault),
+    }
+}
+
+/// Writes the local books of all banks.
+fn write_banks<K: Sink>(
+    session: &Session,
+    host: &FlatHost,
+    line: &mut Vec<u8>,
+    out: &mut K,
+) -> Result<(), SinkFault>
+    requires host { IsHostOf session.now host.now }
+    ensures wrote { (books : ℕ → ℕ → LocalBook) → AreBooksOf session.now host.now books →
+        Wrote K.written K.faults out.old out.new (books_below session.now books (bank_count session.now)) result }
+{
+    for place in 0..session.banks().len() {
+        let bank = BankId::new(place as u8).unwrap();
+        match write_pairs(session, host, bank, line, out) {
+            Ok(()) => {}
+            Err(fault) => return Err(fault),
+        }
+    }
+    Ok(())
+}
+
+/// Writes a bank's local books of all pairs.
+fn write_pairs<K: Sink>(
+    session: &Session,
+    host: &FlatHost,
+    bank: BankId,
+    line: &mut Vec<u8>,
+    out: &mut K,
+) -> Result<(), SinkFault>
+    requires host { IsHostOf session.now host.now }
+    requires bank { bank < bank_count session.now }
+    ensures wrote { (books : ℕ → ℕ → LocalBook) → AreBooksOf session.now host.now books →
+        Wrote K.written K.faults out.old out.new (book_lines_below session.now books bank (pair_count session.now)) result }
+{
+    for place in 0..session.pairs().len() {
+        let pair = PairId::new(place as u8).unwrap();
+        match write_book(session, host, bank, pair, line, out) {
+            Ok(()) => {}
+            Err(fault) => return Err(fault),
+        }
+    }
+    Ok(())
+}
+
+/// Writes a bank's local book of a pair.
+fn write_book<K: Sink>(
+    session: &Session,
+    host: &FlatHost,
+    bank: BankId,
+    pair: PairId,
+    line: &mut Vec<u8>,
+    out: &mut K,
+) -> Result<(), SinkFault>
+    requires host { IsHostOf session.now host.now }
+    requires bank { bank < bank_count session.now }
+    requires pair { pair < pair_count session.now }
+    ensures wrote { (books : ℕ → ℕ → LocalBook) → AreBooksOf session.now host.now books →
+        Wrote K.written K.faults out.old out.new (book_line session.now books bank pair) result }
+{
+    let made = make_book(session, host, bank, pair, line);
+    write_made(made, line, out)
+}
+
+/// Makes the line of a bank's local book of a pair.
+fn make_book(
+    session: &Session,
+    host: &FlatHost,
+    bank: BankId,
+    pair: PairId,
+    line: &mut Vec<u8>,
+) -> Result<(), Memory>
+    requires host { IsHostOf session.now host.now }
+    requires bank { bank < bank_count session.now }
+    requires pair { pair < pair_count session.now }
+    ensures ok { OnOk result ((books : ℕ → ℕ → LocalBook) → AreBooksOf session.now host.now books →
+        line.new.items ≡ book_line session.now books bank pair) }
+{
+    let Outcome::Depth { bids, asks } = host.depth(bank, pair)? else {
+        unreachable!()
+    };
+    begin_word_row(name_of(session, bank), line)?;
+    push_book(session, pair, bids.as_slice(), asks.as_slice(), line)?;
+    end_row(line)
+}
