@@ -1,0 +1,6 @@
+pub mod Tables
+pub mod Finding
+pub mod Planning
+pub mod Lowering
+pub mod OfBook
+pub mod Paying

@@ -1,0 +1,64 @@
+-- Tables of reaches, and what they add up to.
+use Rattle.std.proofs.Common.{ℕ, zero, suc, ◌≡◌, ◌≢◌, ◌+◌, ◌-◌, ◌*◌, ◌≤◌, ◌<◌, List, [], ◌∷◌, refl, sym, subst, ◌∙◌, arith, inl, inr, length, get_or, replicate, get_or-set_same, get_or-set_other}
+use Rattle.std.proofs.Math.ListN.{set}
+use Rattle.std.proofs.lemmas.Bool.{cases_eq}
+use Rattle.fx_rules.specs.Lists.{total}
+
+-- a sum of numbers that are each at most one
+pub total-most : (xs : List ℕ) (most : ℕ) → ((k : ℕ) → get_or xs k 0 ≤ most) → total (λ n. n) xs ≤ length xs * most
+total-most [] most each' = omega arith
+total-most (x ∷ xs) most each' = omega (arith, each' 0, total-most xs most (λ k. each' (suc k)))
+
+-- a sum with one number changed
+pub total-changed : (xs : List ℕ) (i n : ℕ) → i < length xs → total (λ m. m) (set xs i n) + get_or xs i 0 ≡ total (λ m. m) xs + n
+total-changed [] i n within = absurd (omega arith)
+total-changed (x ∷ xs) zero n within = omega arith
+total-changed (x ∷ xs) (suc i) n within = omega (arith, total-changed xs i n (omega arith))
+
+-- a table of zeros
+abbrev pub zeros : ℕ → List ℕ
+zeros n = replicate n 0
+
+pub zeros-at : (n k : ℕ) → get_or (zeros n) k 0 ≡ 0
+zeros-at zero k = refl
+zeros-at (suc n) zero = refl
+zeros-at (suc n) (suc k) = zeros-at n k
+
+-- numbers that are each at most one, with one more of them
+pub set-most : (xs : List ℕ) (i n most : ℕ) → i < length xs → n ≤ most → ((k : ℕ) → get_or xs k 0 ≤ most) → (k : ℕ) → get_or (set xs i n) k 0 ≤ most
+set-most xs i n most within fits each' k =
+    elim (cases_eq k i) [
+      | inl same ↦ subst (λ (j : ℕ). get_or (set xs i n) j 0 ≤ most) (sym same) (omega (arith, get_or-set_same xs i n 0 within))
+      | inr other ↦ omega (arith, get_or-set_other xs i k n 0 other, each' k)
+    ]
+
+-- a bank of which nothing can be reached, after another's reach fell
+pub none-kept : (xs : List ℕ) (i own n : ℕ) → i < length xs → n ≤ get_or xs i 0 → get_or xs own 0 ≡ 0 → get_or (set xs i n) own 0 ≡ 0
+none-kept xs i own n within fell none =
+    elim (cases_eq own i) [
+      | inl same ↦ subst (λ (j : ℕ). get_or (set xs i n) j 0 ≡ 0) (sym same)
+          (omega (arith, get_or-set_same xs i n 0 within, subst (λ (j : ℕ). get_or xs j 0 ≡ 0) same none))
+      | inr other ↦ get_or-set_other xs i own n 0 other ∙ none
+    ]
+
+-- the entries below a number, but for one, when the next is written or passed over
+abbrev pub Filled : (ℕ → ℕ) → ℕ → ℕ → ℕ → List ℕ → Type 0
+Filled f own banks number xs = (other : ℕ) → other < number → other < banks → other ≢ own → get_or xs other 0 ≡ f other
+
+pub filled-set : (f : ℕ → ℕ) (own banks number at value : ℕ) (xs : List ℕ) → at ≡ number → at < length xs → value ≡ f at → Filled f own banks number xs → Filled f own banks (number + 1) (set xs at value)
+filled-set f own banks number at value xs is within value_is filled other below in_banks differ =
+    elim (cases_eq other at) [
+      | inl same ↦ subst (λ (j : ℕ). get_or (set xs at value) j 0 ≡ f j) (sym same) (get_or-set_same xs at value 0 within ∙ value_is)
+      | inr apart ↦ get_or-set_other xs at other value 0 apart ∙ filled other (omega arith) in_banks differ
+    ]
+
+pub filled-passed : (f : ℕ → ℕ) (own banks number : ℕ) (xs : List ℕ) → (number < banks → number ≢ own → ⊥) → Filled f own banks number xs → Filled f own banks (number + 1) xs
+filled-passed f own banks number xs passed filled other below in_banks differ =
+    elim (cases_eq other number) [
+      | inl same ↦ absurd (passed (omega arith) (λ e. differ (same ∙ e)))
+      | inr apart ↦ filled other (omega arith) in_banks differ
+    ]
+
+-- what was filled and what can still be reached are no more than what could be at first, after a fill
+pub paid-step : (fills most lots : ℕ) (xs : List ℕ) (i : ℕ) → i < length xs → fills + total (λ n. n) xs ≤ most → lots ≤ get_or xs i 0 → fills + lots + total (λ n. n) (set xs i (get_or xs i 0 - lots)) ≤ most
+paid-step fills most lots xs i within paid fits = omega (arith, total-changed xs i (get_or xs i 0 - lots) within)

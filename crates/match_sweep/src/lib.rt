@@ -1,0 +1,18 @@
+//! The sweep of a taker through one pair's book: found first, over a book and lines that stay as they are, and then
+//! carried out in the book.
+#![tactic(auto)]
+
+mod carrying;
+mod laws;
+mod sweeping;
+mod taker;
+
+pub use carrying::carry;
+pub use laws::{
+    plans_are_sweeps, sweeps_are_carried, sweeps_are_paid, turns_are_carried, turns_are_paid,
+};
+pub use sweeping::{SweepPlan, plan, sweep};
+pub use taker::{Incoming, Taker};
+
+#[cfg(test)]
+mod tests;
