@@ -1,0 +1,9 @@
+pub mod Lessening
+pub mod Playing
+pub mod Looking
+pub mod Walking
+pub mod Apart
+pub mod Meeting
+pub mod Paying
+pub mod Raising
+pub mod Going

@@ -1,0 +1,80 @@
+-- Each turn of the loop is one fill; at the end nothing is left, or nothing more is open.
+use Rattle.std.proofs.Common.{ℕ, ◌≡◌, ◌≤◌, ◌-◌, ◌*◌, ◌/◌, ◌++◌, ◌∷◌, [], List, refl, sym, ap, subst, ◌∙◌, arith, inl, inr, min, append_assoc, append-nil}
+use Rattle.fx_rules.specs.declared.orders.Fill.{Fill}
+use Rattle.fx_rules.specs.declared.orders.Resting.{Resting}
+use Rattle.fx_rules.specs.Sweep.{Taker, fill_with}
+use Rattle.fx_rules.specs.Raise.{taker_of_resting}
+use Rattle.credit_raise.specs.Playing.{SweptAmong, lessened}
+use Rattle.credit_raise.proofs.Playing.{paid-append, lessened_all-append, maker-of, sweep-step, one_more}
+use Rattle.credit_raise.proofs.replay.Replay.sweep.Goals as goal
+
+pub amount-lots-requires-clause-reach : goal.amount-lots-requires-clause-reach
+amount-lots-requires-clause-reach g c =
+    let line : ℕ = c.loop-left.self.line in
+    let maker = maker-of (line / c.loop-left.self.weight) c.args.other (taker_of_resting c.loop-left.self.book.pair c.args.order.now) c.loop-left.self.book.orders c.in-Some.maker c.in-Some.ensures.best.there in
+    subst (λ n. 1 ≤ line / n) (sym c.from.ensures) maker.reached
+
+pub trade-requires-clause-waits : goal.trade-requires-clause-waits
+trade-requires-clause-waits g c =
+    (maker-of (c.loop-left.self.line / c.loop-left.self.weight) c.args.other (taker_of_resting c.loop-left.self.book.pair c.args.order.now) c.loop-left.self.book.orders c.in-Some.maker c.in-Some.ensures.best.there).waits
+
+pub loop-left-preserved : goal.loop-left-preserved
+loop-left-preserved g c =
+    let was = c.loop-left.invariant in
+    let order : Resting = c.args.order.now in
+    let maker : Resting = c.in-Some.maker in
+    let lots : ℕ = c.amount-lots.result in
+    let weight : ℕ = c.loop-left.self.weight in
+    let line : ℕ = c.loop-left.self.line in
+    let pair : ℕ = c.loop-left.self.book.pair in
+    let t : Taker = taker_of_resting pair (record order { left = c.loop-left.left }) in
+    let f : Fill = fill_with t maker lots in
+    let own : List Fill = was.own ++ f ∷ [] in
+    let lots_is : lots ≡ min c.loop-left.left (min maker.left (line / weight)) =
+    c.amount-lots.ensures.value ∙ ap (λ n. min c.loop-left.left (min maker.left (line / n))) c.from.ensures in
+    record {
+      most = omega (arith, was.most);
+      own = own;
+      fills = c.in_ok-trade.ensures.fills ∙ ap (λ (fs : List Fill). fs ++ f ∷ []) was.fills ∙ append_assoc c.args.self.now.fills.items was.own (f ∷ []);
+      line = c.in_ok-trade.ensures.line
+          ∙ ap (λ n. line - lots * n) was.weight
+          ∙ ap (λ n. n - lots * c.args.self.now.weight) was.line
+          ∙ sym (paid-append c.args.self.now.weight c.args.self.now.line was.own (f ∷ []));
+      orders = c.in_ok-trade.ensures.orders
+          ∙ ap (lessened maker.bank maker.number lots) was.orders
+          ∙ sym (lessened_all-append c.args.self.now.book.orders was.own (f ∷ []));
+      weight = c.trade.ensures.weight ∙ was.weight;
+      banks = c.trade.ensures.banks ∙ was.banks;
+      pair = c.trade.ensures.pair ∙ was.pair;
+      goes_on = λ more left swept.
+          subst (λ (fs : List Fill). SweptAmong c.args.self.now.weight c.args.other c.args.self.now.line c.args.self.now.book.orders (taker_of_resting c.args.self.now.book.pair order) fs left)
+          (sym (one_more was.own more f))
+          (was.goes_on (f ∷ more) left
+          (sweep-step weight c.args.other line c.loop-left.self.book.orders t maker lots more left c.trade.new.self.line c.trade.new.self.book.orders
+          (omega (arith, c.loop-left-test.true)) c.in-Some.ensures.best lots_is c.in_ok-trade.ensures.line c.in_ok-trade.ensures.orders
+          (subst (λ n. SweptAmong weight c.args.other c.trade.new.self.line c.trade.new.self.book.orders (taker_of_resting pair (record order { left = c.loop-left.left - n })) more left) c.count-left-in-loop-left.ensures.value
+          (subst (λ n. SweptAmong weight c.args.other c.trade.new.self.line c.trade.new.self.book.orders (taker_of_resting n (record order { left = c.loop-left.left - c.count-left-in-loop-left.result })) more left) c.trade.ensures.pair
+          (subst (λ n. SweptAmong n c.args.other c.trade.new.self.line c.trade.new.self.book.orders (taker_of_resting c.trade.new.self.book.pair (record order { left = c.loop-left.left - c.count-left-in-loop-left.result })) more left) c.trade.ensures.weight swept)))));
+    }
+
+pub returns-after-loop-left-clause-swept : goal.returns-after-loop-left-clause-swept
+returns-after-loop-left-clause-swept g c =
+    let was = c.loop-left.invariant in (
+      was.own,
+      subst (λ (fs : List Fill). SweptAmong c.args.self.now.weight c.args.other c.args.self.now.line c.args.self.now.book.orders (taker_of_resting c.args.self.now.book.pair c.args.order.now) fs c.loop-left.left) (append-nil was.own)
+          (was.goes_on [] c.loop-left.left (refl, inl (omega (arith, c.loop-left-test.false)))),
+      was.fills,
+      was.line,
+      was.orders,
+    )
+
+pub returns-in_default-clause-swept : goal.returns-in_default-clause-swept
+returns-in_default-clause-swept g c =
+    let was = c.loop-left.invariant in (
+      was.own,
+      subst (λ (fs : List Fill). SweptAmong c.args.self.now.weight c.args.other c.args.self.now.line c.args.self.now.book.orders (taker_of_resting c.args.self.now.book.pair c.args.order.now) fs c.loop-left.left) (append-nil was.own)
+          (was.goes_on [] c.loop-left.left (refl, inr c.in_default.ensures.best)),
+      was.fills,
+      was.line,
+      was.orders,
+    )

@@ -1,0 +1,25 @@
+use Rattle.std.proofs.Common.{ℕ, ◌≡◌, ◌≤◌, ◌^◌, ◌++◌, List}
+use Rattle.fx_rules.specs.declared.orders.Fill.{Fill}
+use Rattle.fx_rules.specs.Raise.{taker_of_resting}
+use Rattle.credit_raise.specs.Playing.{SweptAmong, lessened_all, paid}
+use Rattle.credit_raise.proofs.replay.Replay.sweep.Given as goal
+
+-- the sweep's own fills so far, which were paid for and taken from those that wait; whatever fills make a sweep from here
+-- make, behind those, a sweep from the start
+abbrev pub invariant-loop-left : goal.invariant-loop-left
+invariant-loop-left g l = record {
+  most : l.left ≤ 10 ^ 6;
+  own : List Fill;
+  fills : l.self.fills.items ≡ l.initial.self.fills.items ++ own;
+  line : l.self.line ≡ paid l.initial.self.weight l.initial.self.line own;
+  orders : l.self.book.orders ≡ lessened_all l.initial.self.book.orders own;
+  weight : l.self.weight ≡ l.initial.self.weight;
+  banks : l.self.book.banks ≡ l.initial.self.book.banks;
+  pair : l.self.book.pair ≡ l.initial.self.book.pair;
+  goes_on : (more : List Fill) (left : ℕ) →
+      SweptAmong l.self.weight l.other l.self.line l.self.book.orders (taker_of_resting l.self.book.pair (record l.order { left = l.left })) more left →
+      SweptAmong l.initial.self.weight l.other l.initial.self.line l.initial.self.book.orders (taker_of_resting l.initial.self.book.pair l.order) (own ++ more) left;
+}
+
+abbrev pub decreases-loop-left : goal.decreases-loop-left
+decreases-loop-left g l = l.left

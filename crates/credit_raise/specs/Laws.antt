@@ -1,0 +1,31 @@
+-- Laws on a line that is raised between two banks.
+use Rattle.std.specs.Prelude.{ℕ, ◌≡◌, ◌≢◌, ◌≤◌, ◌<◌, ◌-◌, ◌*◌, List, filter}
+use Rattle.fx_rules.specs.declared.orders.Resting.{Resting}
+use Rattle.fx_rules.specs.declared.orders.Fill.{Fill}
+use Rattle.fx_rules.specs.Lists.{Each}
+use Rattle.fx_rules.specs.Session.{Header, weight_of}
+use Rattle.fx_rules.specs.State.{State, orders_in}
+use Rattle.fx_rules.specs.Sweep.{filled_all}
+use Rattle.fx_rules.specs.Raise.{Turned, limited}
+use Rattle.fx_rules.specs.Sound.{IsSound}
+use Rattle.fx_rules.specs.NoCross.{NoCross}
+use Rattle.global_book.specs.Book.{Book}
+use Rattle.credit_raise.specs.Two.{is_of_two, NoCrossBut, IsRaised, IsFillOf, lots_of}
+
+-- Where nothing rests crossed in a pair but between two banks, the turns of their orders alone are the turns of all.
+abbrev pub TwoBanksTurn : Type 0
+TwoBanksTurn =
+    (h : Header) (S : State) (pair i j : ℕ) (orders : List Resting) (fills : List Fill) → 0 < weight_of h pair → IsSound h S →
+    NoCrossBut h S pair i j → Turned h pair S (filter (is_of_two i j) orders) fills → Turned h pair S orders fills
+
+-- Where nothing rested crossed before a limit was set, nothing rests crossed behind it but between the two banks.
+abbrev pub LimitsSetOthersApart : Type 0
+LimitsSetOthersApart = (h : Header) (S : State) (pair i j limit : ℕ) → NoCross h S → NoCrossBut h (limited i j limit S) pair i j
+
+-- With the fills of one pair added, the state is one in which the next pair's turn comes, with what they leave of the line.
+abbrev pub RaisesGoOn : Type 0
+RaisesGoOn =
+    (h : Header) (S : State) (book next : Book) (weight next_weight i j eff : ℕ) (fills : List Fill) → book.pair ≢ next.pair →
+    1 ≤ weight → 1 ≤ next_weight → IsRaised h S book weight i j eff → Turned h book.pair S book.orders fills →
+    Each (IsFillOf book.pair i j) fills → orders_in next.pair S.orders ≡ next.orders → weight_of h next.pair ≡ next_weight →
+    NoCrossBut h S next.pair i j → IsRaised h (filled_all S fills) next next_weight i j (eff - lots_of fills * weight)

@@ -1,0 +1,3 @@
+pub mod Two
+pub mod Playing
+pub mod Laws

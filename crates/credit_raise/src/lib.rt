@@ -1,0 +1,13 @@
+//! What a raised line between two banks brings together in one pair, planned from the two banks' orders alone.
+#![tactic(auto)]
+
+mod laws;
+mod raise;
+mod replay;
+mod walk;
+
+pub use laws::{limits_set_others_apart, raises_go_on, two_banks_turn};
+pub use raise::plan_raise;
+
+#[cfg(test)]
+mod tests;

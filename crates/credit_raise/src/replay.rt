@@ -1,0 +1,202 @@
+ghost use Rattle.std.specs.Prelude.{ℕ, ◌≡◌, ◌≢◌, ◌≤◌, ◌<◌, ◌*◌, ◌/◌, ◌-◌, ◌^◌, ◌++◌, ◌∷◌, [], List, length, slice_index, min, false, IfOk, OnOk};
+ghost use Rattle.fx_amounts.specs.Quantity.{IsWeight};
+ghost use Rattle.fx_rules.specs.declared.orders.Fill.{Fill};
+ghost use Rattle.fx_rules.specs.Lists.{Among, Each};
+ghost use Rattle.fx_rules.specs.Sweep.{fill_with, is_order, open_in};
+ghost use Rattle.fx_rules.specs.Raise.{taker_of_resting};
+ghost use Rattle.credit_raise.specs.Playing.{IsBestOf, SweptAmong, joined, lessened, lessened_all, only, paid};
+
+use fx_amounts::{BankId, Lots, Memory, PairId};
+use fx_rules::{Fill, Resting};
+use global_book::PairBook;
+use price_levels::Steps;
+use std::alloc::Global;
+use std::sync::ledger::Ledger;
+
+/// Two banks' orders as they meet one another, one after the other in arrival order.
+#[derive(Drop)]
+pub(crate) struct Replay {
+    /// What the orders that had their turns have left, in a book of their own.
+    pub(crate) book: PairBook,
+    /// Credit units a lot, 1 to 10^6.
+    pub(crate) weight: u32,
+    /// What the fills so far leave of the line between the two banks, in credit units.
+    pub(crate) line: u64,
+    /// The fills so far.
+    pub(crate) fills: Vec<Fill>,
+}
+
+impl Replay {
+    /// Before the first turn, for the first so many banks, with a line of so many credit units. `Memory` for want of memory.
+    pub(crate) fn new(
+        alloc: Global,
+        pair: PairId,
+        banks: usize,
+        weight: u32,
+        line: u64,
+    ) -> Result<Replay, Memory>
+        ensures pair { IfOk result (λ replay. replay.book.pair ≡ pair) }
+        ensures banks { IfOk result (λ replay. replay.book.banks ≡ banks) }
+        ensures empty { IfOk result (λ replay. replay.book.orders ≡ []) }
+        ensures weight { IfOk result (λ replay. replay.weight ≡ weight) }
+        ensures line { IfOk result (λ replay. replay.line ≡ line) }
+        ensures fills { IfOk result (λ replay. replay.fills.items ≡ []) }
+    {
+        Ok(Replay {
+            book: PairBook::new(alloc, pair, banks)?,
+            weight,
+            line,
+            fills: Vec::new(alloc),
+        })
+    }
+
+    /// The turn of an order that arrived behind all others, against the orders of the other bank. Where it has lots left
+    /// it waits behind them.
+    pub(crate) fn turn<L: Ledger>(
+        &mut self,
+        order: &Resting,
+        other: BankId,
+        steps: &mut Steps<L>,
+    ) -> Result<(), Memory>
+        requires weight { IsWeight self.old.weight }
+        requires banks { self.old.book.banks ≤ 64 }
+        requires bank { order.now.bank < self.old.book.banks }
+        requires other { other < self.old.book.banks }
+        requires differ { order.now.bank ≢ other }
+        requires last { Each (λ waiting. waiting.arrival < order.now.arrival) self.old.book.orders }
+        requires number { 1 ≤ order.now.number }
+        requires absent { Each (λ waiting. is_order order.now.bank order.now.number waiting ≡ false) self.old.book.orders }
+        ensures weight { self.new.weight ≡ self.old.weight }
+        ensures banks { self.new.book.banks ≡ self.old.book.banks }
+        ensures pair { self.new.book.pair ≡ self.old.book.pair }
+        ensures turn { OnOk result ((own : List Fill) × (left : ℕ)
+            × SweptAmong self.old.weight other self.old.line self.old.book.orders (taker_of_resting self.old.book.pair order.now) own left
+            × (self.new.fills.items ≡ self.old.fills.items ++ own)
+            × (self.new.line ≡ paid self.old.weight self.old.line own)
+            × (self.new.book.orders ≡ joined order.now left (lessened_all self.old.book.orders own))) }
+    {
+        let left = self.sweep(order, other, steps)?;
+        if let Some(left) = Lots::new(left) {
+            self.book.reserve(order.bank, order.side)?;
+            self.book.rest(Resting { left, ..*order });
+        }
+        Ok(())
+    }
+
+    /// The sweep of an order among those that wait. It answers what the order has left, 0 to 10^6 lots.
+    fn sweep<L: Ledger>(
+        &mut self,
+        order: &Resting,
+        other: BankId,
+        steps: &mut Steps<L>,
+    ) -> Result<u32, Memory>
+        requires weight { IsWeight self.old.weight }
+        requires banks { self.old.book.banks ≤ 64 }
+        requires other { other < self.old.book.banks }
+        requires differ { order.now.bank ≢ other }
+        ensures weight { self.new.weight ≡ self.old.weight }
+        ensures banks { self.new.book.banks ≡ self.old.book.banks }
+        ensures pair { self.new.book.pair ≡ self.old.book.pair }
+        ensures most { IfOk result (λ left. left ≤ 10 ^ 6) }
+        ensures swept { IfOk result (λ left. (own : List Fill)
+            × SweptAmong self.old.weight other self.old.line self.old.book.orders (taker_of_resting self.old.book.pair order.now) own left
+            × (self.new.fills.items ≡ self.old.fills.items ++ own)
+            × (self.new.line ≡ paid self.old.weight self.old.line own)
+            × (self.new.book.orders ≡ lessened_all self.old.book.orders own)) }
+    {
+        let mut left = order.left.count();
+        while left > 0 {
+            let Some(maker) = self.best_open(order, other, steps) else {
+                break;
+            };
+            let lots = amount(left, &maker, self.line / u64::from(self.weight));
+            self.trade(order, &maker, lots)?;
+            left -= lots.count();
+        }
+        Ok(left)
+    }
+
+    /// The best of the waiting orders that are open to an order; `None` where there is none.
+    fn best_open<L: Ledger>(
+        &self,
+        order: &Resting,
+        other: BankId,
+        steps: &mut Steps<L>,
+    ) -> Option<Resting>
+        requires weight { IsWeight self.now.weight }
+        requires banks { self.now.book.banks ≤ 64 }
+        requires other { other < self.now.book.banks }
+        requires differ { order.now.bank ≢ other }
+        ensures best { IsBestOf order.now.side (open_in (only other (self.now.line / self.now.weight)) (taker_of_resting self.now.book.pair order.now) self.now.book.orders) result }
+    {
+        let reach = reach_of(other, self.line / u64::from(self.weight));
+        let (maker, _place) = self.book.best(
+            order.side.opposite(),
+            &reach[..self.book.banks()],
+            Some(order.price),
+            order.arrival,
+            None,
+            steps,
+        )?;
+        Some(maker)
+    }
+
+    /// Trades lots of a waiting order, at its price, which the line pays for.
+    fn trade(&mut self, taker: &Resting, maker: &Resting, lots: Lots) -> Result<(), Memory>
+        requires weight { IsWeight self.old.weight }
+        requires waits { Among maker.now self.old.book.orders }
+        requires lots { lots ≤ maker.now.left }
+        requires line { lots * self.old.weight ≤ self.old.line }
+        ensures weight { self.new.weight ≡ self.old.weight }
+        ensures banks { self.new.book.banks ≡ self.old.book.banks }
+        ensures pair { self.new.book.pair ≡ self.old.book.pair }
+        ensures fills { OnOk result (self.new.fills.items ≡ self.old.fills.items ++ fill_with (taker_of_resting self.old.book.pair taker.now) maker.now lots ∷ []) }
+        ensures line { OnOk result (self.new.line ≡ self.old.line - lots * self.old.weight) }
+        ensures orders { OnOk result (self.new.book.orders ≡ lessened maker.now.bank maker.now.number lots self.old.book.orders) }
+    {
+        let pair = self.book.pair();
+        self.fills.push(fill_of(pair, taker, maker, lots))?;
+        self.line -= lots.cost(self.weight).get();
+        match Lots::new(maker.left.count() - lots.count()) {
+            Some(left) => self.book.lower(maker.bank, maker.number, left),
+            None => self.book.remove(maker.bank, maker.number),
+        }
+        Ok(())
+    }
+}
+
+/// The lots in reach of each bank, where one bank alone can be reached.
+fn reach_of(other: BankId, lots: u64) -> [u64; 64]
+    ensures one_each { length result ≡ 64 }
+    ensures reach { (bank : ℕ) → slice_index result bank ≡ only other lots bank }
+{
+    let mut reach = [0; 64];
+    reach[other.index()] = lots;
+    reach
+}
+
+/// What an order with so much left takes of another one, of which `reach` lots are in reach.
+fn amount(left: u32, maker: &Resting, reach: u64) -> Lots
+    requires left { 1 ≤ left }
+    requires reach { 1 ≤ reach }
+    ensures value { result ≡ min left (min maker.now.left reach) }
+{
+    let most = reach.min(u64::from(maker.left.count()));
+    Lots::new(most.min(u64::from(left)) as u32).unwrap()
+}
+
+/// The fill of an order with an earlier one, at the earlier one's price.
+fn fill_of(pair: PairId, taker: &Resting, maker: &Resting, lots: Lots) -> Fill
+    ensures value { result ≡ fill_with (taker_of_resting pair taker.now) maker.now lots }
+{
+    Fill {
+        pair,
+        taker: taker.bank,
+        taker_number: taker.number,
+        taker_side: taker.side,
+        maker: maker.bank,
+        maker_number: maker.number,
+        price: maker.price,
+        lots,
+    }
+}
