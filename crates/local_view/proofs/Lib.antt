@@ -1,0 +1,3 @@
+pub mod Levelling
+pub mod Enough
+pub mod Probing

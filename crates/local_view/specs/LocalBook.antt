@@ -1,0 +1,37 @@
+-- A bank's local book of a pair, of a book and lines.
+use Rattle.std.specs.Prelude.{ℕ, ◌<◌, ◌-◌, ◌^◌, List}
+use Rattle.fx_amounts.specs.declared.side.Side.{Side}
+use Rattle.fx_rules.specs.declared.orders.Level.{Level}
+use Rattle.fx_rules.specs.declared.outcome.Outcome.{Outcome}
+use Rattle.fx_rules.specs.declared.outcome.Outcome.TheVariants.{Depth}
+use Rattle.fx_rules.specs.Session.{Header}
+use Rattle.fx_rules.specs.State.{State, arrivals}
+use Rattle.fx_rules.specs.Sound.{IsSound}
+use Rattle.fx_rules.specs.Depth.{any_price, Shows, IsDepth}
+use Rattle.global_book.specs.Book.{Book}
+use Rattle.credit_lines.specs.Credit.{Credit}
+use Rattle.match_sweep.specs.declared.taker.Incoming.{Incoming}
+use Rattle.match_sweep.specs.Sweeps.{Fits}
+
+-- an order of a bank that takes any price, wants more than its lines allow, and comes after all others
+abbrev pub unlimited_order : ℕ → Side → Incoming
+unlimited_order bank side = record {
+  bank = bank;
+  number = 0;
+  side = side;
+  price = any_price side;
+  left = 2 ^ 64 - 1;
+  arrival = 2 ^ 64 - 1;
+}
+
+-- The levels of one side of the local book, in every sound state that book and credit are of. A sound state's orders
+-- arrived before its next command, and that has an arrival below 2^64.
+abbrev pub IsShown : Book → Credit → ℕ → ℕ → Side → List Level → Type 0
+IsShown book credit weight bank side levels =
+    (h : Header) (S : State) → IsSound h S → Fits h S book credit weight → arrivals S < 2 ^ 64 → Shows h S bank book.pair side levels
+
+-- and of both sides
+abbrev pub IsLocalBook : Book → Credit → ℕ → ℕ → Outcome → Type 0
+IsLocalBook book credit weight bank (Depth bids asks) =
+    (h : Header) (S : State) → IsSound h S → Fits h S book credit weight → arrivals S < 2 ^ 64 → IsDepth h S bank book.pair bids asks
+IsLocalBook book credit weight bank _ = ⊥

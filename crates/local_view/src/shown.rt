@@ -1,0 +1,101 @@
+ghost use Rattle.std.specs.Prelude.{◌≡◌, ◌<◌, IfOk};
+ghost use Rattle.fx_amounts.specs.Quantity.{IsWeight};
+ghost use Rattle.fx_rules.specs.Depth.{any_price};
+ghost use Rattle.local_view.specs.LocalBook.{IsLocalBook, IsShown, unlimited_order};
+
+use crate::levels::levels_of;
+use credit_lines::CreditLines;
+use fx_amounts::{BankId, Memory, Price, Side};
+use fx_rules::{LevelList, Outcome};
+use global_book::PairBook;
+use match_sweep::{Incoming, sweep};
+use price_levels::Steps;
+use std::alloc::Global;
+use std::marker::Brand;
+use std::sync::ledger::{Blank, Ledger};
+
+/// The local book of a bank in a pair: `Depth` with, for bids, what an order of it would sell now at any price and, for
+/// asks, what one would buy, each capped by the bank's lines, summed by price and cut to ten levels. Both sides are of
+/// the book and the lines as they stand. A lot costs `weight` credit units, 1 to 10^6; the book was made for as many
+/// banks as the lines have, and the viewer is one of them. At `Memory` there was none for the levels.
+pub fn depth(
+    alloc: Global,
+    book: &PairBook,
+    lines: &CreditLines,
+    weight: u32,
+    viewer: BankId,
+) -> Result<Outcome, Memory>
+    requires banks { book.now.banks ≡ lines.now.banks }
+    requires bank { viewer < lines.now.banks }
+    requires weight { IsWeight weight }
+    ensures depth { IfOk result (IsLocalBook book.now lines.now weight viewer) }
+{
+    both_sides::<Brand>(alloc, book, lines, weight, viewer, Blank::new(1))
+}
+
+/// The same, with a ledger for the steps.
+fn both_sides<L: Ledger>(
+    alloc: Global,
+    book: &PairBook,
+    lines: &CreditLines,
+    weight: u32,
+    viewer: BankId,
+    blank: Blank,
+) -> Result<Outcome, Memory>
+    requires banks { book.now.banks ≡ lines.now.banks }
+    requires bank { viewer < lines.now.banks }
+    requires weight { IsWeight weight }
+    requires name { blank.name ≡ L.name }
+    requires parts { blank.parts ≡ L.parts }
+    requires some { 0 < blank.parts }
+    ensures depth { IfOk result (IsLocalBook book.now lines.now weight viewer) }
+{
+    let mut steps = Steps::<L>::new(blank);
+    let bids = shown(alloc, book, lines, weight, viewer, Side::Sell, &mut steps)?;
+    let asks = shown(alloc, book, lines, weight, viewer, Side::Buy, &mut steps)?;
+    Ok(Outcome::Depth { bids, asks })
+}
+
+/// The first ten levels of what an unlimited order of a bank and a side would take now.
+fn shown<L: Ledger>(
+    alloc: Global,
+    book: &PairBook,
+    lines: &CreditLines,
+    weight: u32,
+    viewer: BankId,
+    side: Side,
+    steps: &mut Steps<L>,
+) -> Result<LevelList, Memory>
+    requires banks { book.now.banks ≡ lines.now.banks }
+    requires bank { viewer < lines.now.banks }
+    requires weight { IsWeight weight }
+    ensures shown { IfOk result (IsShown book.now lines.now weight viewer side) }
+{
+    let order = unlimited_order(viewer, side);
+    let sweep = sweep(alloc, book, lines, weight, &order, steps)?;
+    levels_of(alloc, sweep.fills.as_slice())
+}
+
+/// An order of a bank that takes any price, wants more than its lines allow, and comes after all others.
+fn unlimited_order(viewer: BankId, side: Side) -> Incoming
+    ensures value { result ≡ unlimited_order viewer side }
+{
+    Incoming {
+        bank: viewer,
+        number: 0,
+        side,
+        price: any_price(side),
+        left: u64::MAX,
+        arrival: u64::MAX,
+    }
+}
+
+/// The price at which an order of a side takes any price.
+fn any_price(side: Side) -> Price
+    ensures value { result ≡ any_price side }
+{
+    match side {
+        Side::Buy => Price::new(Price::MOST).unwrap(),
+        Side::Sell => Price::new(Price::LEAST).unwrap(),
+    }
+}
