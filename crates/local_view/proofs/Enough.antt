@@ -1,17 +1,17 @@
 -- An order that wants more than its lines allow takes what one would that wants as much as there is.
-use Rattle.std.proofs.Common.{ℕ, ◌≡◌, ◌≢◌, ◌+◌, ◌-◌, ◌*◌, ◌/◌, ◌≤◌, ◌<◌, min, Bool, true, false, not, ◌&&◌, eqb, leb, ltb, List, [], ◌∷◌, ◌⊎◌, inl, inr, refl, ap, sym, subst, ◌∙◌, arith, map, Option, Some, None}
-use Rattle.std.proofs.lemmas.Bool.{cases_Bool, cond-true, cond-false, and_parts, and_from, false_from_ne_true, both_ways, lt-ltb}
+use Rattle.std.proofs.Common.{ℕ, ◌≡◌, ◌+◌, ◌-◌, ◌*◌, ◌/◌, ◌≤◌, ◌<◌, min, Bool, true, false, not, ◌&&◌, eqb, leb, List, [], ◌∷◌, ◌⊎◌, inl, inr, refl, ap, sym, subst, ◌∙◌, arith, map, Option, Some, None}
+use Rattle.std.proofs.lemmas.Bool.{cases_Bool, cond-true, cond-false, and_parts, and_from, false_from_ne_true, lt-ltb}
 use Rattle.std.specs.List.{filter}
 use Rattle.fx_amounts.specs.Price.{crosses}
 use Rattle.fx_amounts.specs.declared.side.Side.{Side}
 use Rattle.fx_rules.specs.declared.orders.Resting.{Resting}
 use Rattle.fx_rules.specs.declared.orders.Fill.{Fill}
 use Rattle.fx_rules.specs.declared.orders.Level.{Level}
-use Rattle.fx_rules.specs.Lists.{Among, Each, total}
+use Rattle.fx_rules.specs.Lists.{Among, total}
 use Rattle.fx_rules.specs.Sweep.{Taker, is_opposite, is_open, is_preferred, IsBest, amount, fill_with, less}
 use Rattle.fx_rules.specs.Plan.{Planned, is_behind, open_behind, spend}
 use Rattle.fx_rules.specs.Depth.{with_fill, levels_of}
-use Rattle.fx_rules.proofs.ListLemmas.{Each-among, Among-filter, filter_agree_on, filter_cons_true, filter_cons_false}
+use Rattle.fx_rules.proofs.ListLemmas.{Among-filter, filter_agree_on, filter_cons_true, filter_cons_false}
 use Rattle.fx_rules.proofs.Preference.{preferred_self, preferred_trans}
 use Rattle.fx_rules.proofs.Planning.{open_more, div_mono}
 

@@ -1,10 +1,8 @@
 -- The sweep of an order that wants more than its lines allow, and the local book.
-use Rattle.std.proofs.Common.{ℕ, ◌≡◌, ◌+◌, ◌-◌, ◌*◌, ◌^◌, ◌/◌, ◌≤◌, ◌<◌, Bool, true, ◌&&◌, not, eqb, leb, List, Result, Ok, Err, IfOk, refl, ap, sym, subst, ◌∙◌, arith, map, Option, Some, None, take}
+use Rattle.std.proofs.Common.{ℕ, ◌≡◌, ◌+◌, ◌-◌, ◌*◌, ◌^◌, ◌/◌, ◌≤◌, ◌<◌, true, ◌&&◌, List, refl, ap, sym, subst, ◌∙◌, arith, map, None, take}
 use Rattle.std.proofs.lemmas.Bool.{and_parts}
 use Rattle.std.specs.List.{filter}
-use Rattle.fx_amounts.specs.declared.memory.Memory.{Memory}
 use Rattle.fx_amounts.specs.declared.side.Side.{Side}
-use Rattle.fx_rules.specs.declared.orders.ActiveOrder.{ActiveOrder}
 use Rattle.fx_rules.specs.declared.orders.Resting.{Resting}
 use Rattle.fx_rules.specs.declared.orders.Fill.{Fill}
 use Rattle.fx_rules.specs.declared.orders.Level.{Level}
@@ -13,13 +11,13 @@ use Rattle.fx_rules.specs.Session.{Header}
 use Rattle.fx_rules.specs.State.{State, orders_in, count_of, arrivals}
 use Rattle.fx_rules.specs.Sweep.{Taker, is_opposite, is_open}
 use Rattle.fx_rules.specs.Plan.{Planned, is_behind, open_behind}
-use Rattle.fx_rules.specs.Depth.{any_price, unlimited, lots_against, levels_of, Shows}
+use Rattle.fx_rules.specs.Depth.{unlimited, lots_against, levels_of}
 use Rattle.fx_rules.specs.Sound.{IsSound, IsKept}
 use Rattle.fx_rules.proofs.ListLemmas.{Each-among}
 use Rattle.fx_rules.proofs.Opens.{orders_in-among, is_open-says}
 use Rattle.global_book.specs.Book.{Book, IsBook}
 use Rattle.credit_lines.specs.Credit.{Credit, line_in}
-use Rattle.match_sweep.specs.Sweeps.{Fits, IsPlanned, order_in}
+use Rattle.match_sweep.specs.Sweeps.{IsPlanned, order_in}
 use Rattle.match_sweep.proofs.Planning.{planned-sweep}
 use Rattle.local_view.specs.LocalBook.{IsShown, unlimited_order}
 use Rattle.local_view.proofs.Enough.{total-fewer, planned-sum, renumbered, instead, CameBefore, planned-instead, levels_of-renumbered}

@@ -9,6 +9,8 @@ use fx_rules::{Code, Level, Name, Outcome, PairRule, Resting, Session};
 use global_book::PairBook;
 use std::alloc::Global;
 
+mod side_by_side;
+
 fn units(count: u64) -> Units
     requires { IsUnits count }
     ensures { result ≡ count }
@@ -25,7 +27,8 @@ fn bank(number: u8) -> BankId
 
 /// Banks ALFA, BETA and GAMA with EUR/USD; ALFA and each of the two others set these limits on each other.
 fn session(alloc: Global, beta: Units, gama: Units) -> Result<Option<Session>, Memory>
-    ensures { IfOk result (λ found. IfSome found (λ session. length session.banks ≡ 3)) }
+    ensures banks { IfOk result (λ found. IfSome found (λ session. length session.banks ≡ 3)) }
+    ensures pairs { IfOk result (λ found. IfSome found (λ session. length session.pairs ≡ 1)) }
 {
     let (Some(first), Some(second), Some(third)) = (
         Name::from_bytes(b"ALFA"),

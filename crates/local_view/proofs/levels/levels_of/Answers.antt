@@ -1,5 +1,5 @@
 -- One more fill is added behind the levels of those before it.
-use Rattle.std.proofs.Common.{ℕ, ◌≡◌, ◌+◌, ◌≤◌, ◌<◌, ◌^◌, List, [], ◌∷◌, ◌++◌, arith, sym, ap, ◌∙◌, take, drop, length, get_or}
+use Rattle.std.proofs.Common.{ℕ, ◌≡◌, ◌+◌, ◌≤◌, ◌<◌, List, [], ◌∷◌, ◌++◌, arith, sym, ap, ◌∙◌, take, drop, length, get_or}
 use Rattle.std.proofs.lemmas.List.{take_more, take-append-drop}
 use Rattle.fx_rules.specs.declared.orders.Fill.{Fill}
 use Rattle.fx_rules.specs.declared.orders.Level.{Level}

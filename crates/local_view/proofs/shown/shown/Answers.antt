@@ -1,5 +1,5 @@
 -- What is planned for an order that wants more than its lines allow shows the local book.
-use Rattle.std.proofs.Common.{ℕ, ◌≡◌, ◌≤◌, ◌<◌, ◌*◌, ◌^◌, List, Result, Ok, Err, IfOk, sym, ap, subst, ◌∙◌, arith, take}
+use Rattle.std.proofs.Common.{ℕ, ◌≡◌, ◌≤◌, ◌<◌, ◌*◌, ◌^◌, List, Result, Ok, Err, IfOk, ap, subst, ◌∙◌, arith, take}
 use Rattle.fx_amounts.specs.declared.memory.Memory.{Memory}
 use Rattle.fx_amounts.specs.declared.side.Side.{Side}
 use Rattle.fx_rules.specs.declared.orders.Fill.{Fill}
