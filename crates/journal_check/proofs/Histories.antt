@@ -1,0 +1,126 @@
+-- The commands of a legal history determine it, and it determines the text of its day.
+use Rattle.std.proofs.Common.{ℕ, zero, suc, ◌≡◌, ◌+◌, ◌<◌, ◌≤◌, List, [], ◌∷◌, ◌++◌, length, map, refl, ap, ap₂, sym, subst, ◌∙◌, arith}
+use Rattle.fx_amounts.specs.declared.side.Side.TheVariants.{Buy, Sell}
+use Rattle.fx_rules.specs.declared.command.Command.{Command}
+use Rattle.fx_rules.specs.declared.orders.Level.{Level}
+use Rattle.fx_rules.specs.declared.outcome.Outcome.{Outcome}
+use Rattle.fx_rules.specs.declared.outcome.Entry.{Entry}
+use Rattle.fx_rules.specs.Session.{Header, IsSession, bank_count, pair_count, bank_name}
+use Rattle.fx_rules.specs.State.{State, opening, count_of}
+use Rattle.fx_rules.specs.Step.{IsOutcome, IsCommand}
+use Rattle.fx_rules.specs.History.{IsStep, Steps, IsLegal, after_entry, state}
+use Rattle.fx_rules.specs.Sound.{IsSound}
+use Rattle.fx_rules.proofs.Soundness.{after-sound, opening-sound, legal-sound, weight_of-least}
+use Rattle.fx_rules.proofs.Determined.{outcome-same, shows-same}
+use Rattle.reply_lines.specs.Rows.{row}
+use Rattle.reply_lines.specs.Notices.{book_fields}
+use Rattle.reply_lines.specs.Books.{LocalBook, AreBooks, book_line, book_lines_below, books_below, books_text}
+use Rattle.reply_lines.specs.Output.{desks_below, close_text, desks_text, journal_text, history_text, day_text, IsDayText}
+use Rattle.session_head.specs.HeadText.{head_text_of}
+use Rattle.journal_check.specs.Listed.{Sent}
+use Rattle.journal_check.specs.Verdict.{sent_by}
+
+-- The history
+
+make : ℕ → ℕ → Command → Outcome → Entry
+make bank number command outcome = record { bank = bank; number = number; command = command; outcome = outcome }
+
+make_same : (bank bank' number number' : ℕ) (command command' : Command) (outcome outcome' : Outcome) → bank ≡ bank' → number ≡ number' → command ≡ command' → outcome ≡ outcome' → make bank number command outcome ≡ make bank' number' command' outcome'
+make_same bank bank' number number' command command' outcome outcome' a b c d = cc
+
+entry_same : (a b : Entry) → a.bank ≡ b.bank → a.number ≡ b.number → a.command ≡ b.command → a.outcome ≡ b.outcome → a ≡ b
+unfolding make
+entry_same a b bank number command outcome = make_same a.bank b.bank a.number b.number a.command b.command a.outcome b.outcome bank number command outcome
+
+-- two steps of one state by the same command of the same bank
+step_same : (h : Header) (S : State) (one other : Entry) → IsSession h → IsSound h S → IsStep h S one → IsStep h S other → one.bank ≡ other.bank → one.command ≡ other.command → one ≡ other
+step_same h S one other session sound a b bank command =
+    let moved : IsOutcome h S one.bank one.command other.outcome =
+    subst (λ (k : ℕ). IsOutcome h S k one.command other.outcome) (sym bank)
+    (subst (λ (k : Command). IsOutcome h S other.bank k other.outcome) (sym command) b.outcome) in
+    let number : one.number ≡ other.number = a.number ∙ ap (λ (k : ℕ). count_of S k + 1) bank ∙ sym b.number in
+    entry_same one other bank number command (outcome-same h S one.bank one.command one.outcome other.outcome session sound a.sender a.command a.outcome moved)
+
+apart : (x y : Sent) (xs ys : List Sent) → x ∷ xs ≡ y ∷ ys → (x ≡ y) × (xs ≡ ys)
+apart x y xs ys same = (cc, cc)
+
+joined : (e f : Entry) (es fs : List Entry) → e ≡ f → es ≡ fs → e ∷ es ≡ f ∷ fs
+joined e f es fs head tail = cc
+
+steps_same : (h : Header) (S : State) (es fs : List Entry) → IsSession h → IsSound h S → Steps h S es → Steps h S fs → map sent_by es ≡ map sent_by fs → es ≡ fs
+steps_same h S [] [] session sound a b same = refl
+steps_same h S [] (f ∷ fs) session sound a b same = absurd cc
+steps_same h S (e ∷ es) [] session sound a b same = absurd cc
+steps_same h S (e ∷ es) (f ∷ fs) session sound a b same =
+    let parts = apart (sent_by e) (sent_by f) (map sent_by es) (map sent_by fs) same in
+    let one : e ≡ f = step_same h S e f session sound a.0 b.0 (ap (λ (s : Sent). s.0) parts.0) (ap (λ (s : Sent). s.1) parts.0) in
+    let sound_next : IsSound h (after_entry S e) = after-sound h S e.bank e.command e.outcome session sound a.0.sender a.0.command a.0.outcome in
+    joined e f es fs one
+    (steps_same h (after_entry S e) es fs session sound_next a.1 (subst (λ (x : Entry). Steps h (after_entry S x) fs) (sym one) b.1) parts.1)
+
+pub histories_agree : (h : Header) (es fs : List Entry) → IsLegal h es → IsLegal h fs → map sent_by es ≡ map sent_by fs → es ≡ fs
+histories_agree h es fs a b same = steps_same h (opening h) es fs a.session (opening-sound h a.session) a.steps b.steps same
+
+-- each entry is of a bank of the session, with a command that it may send
+pub record IsSentOf (h : Header) (entry : Entry) : Type 0 where
+  pub sender : entry.bank < bank_count h
+  pub command : IsCommand (bank_count h) (pair_count h) entry.bank entry.command
+
+abbrev pub AreSentOf : Header → List Entry → Type 0
+AreSentOf h [] = Unit {0}
+AreSentOf h (e ∷ es) = IsSentOf h e × AreSentOf h es
+
+pub steps_sent : (h : Header) (S : State) (es : List Entry) → Steps h S es → AreSentOf h es
+steps_sent h S [] steps = tt
+steps_sent h S (e ∷ es) steps = (record { sender = steps.0.sender; command = steps.0.command }, steps_sent h (after_entry S e) es steps.1)
+
+-- The day
+
+abbrev AreSame : LocalBook → LocalBook → Type 0
+AreSame one other = (one.bids ≡ other.bids) × (one.asks ≡ other.asks)
+
+book_same : (h : Header) (S : State) (books others : ℕ → ℕ → LocalBook) (bank pair : ℕ) → IsSession h → IsSound h S → AreBooks h S books → AreBooks h S others → bank < bank_count h → pair < pair_count h → AreSame (books bank pair) (others bank pair)
+book_same h S books others bank pair session sound are they first second =
+    let some = weight_of-least h pair session second in
+    let one = are bank pair first second in
+    let other = they bank pair first second in (
+      shows-same h S bank pair Sell (books bank pair).bids (others bank pair).bids sound first some one.sells other.sells,
+      shows-same h S bank pair Buy (books bank pair).asks (others bank pair).asks sound first some one.buys other.buys,
+    )
+
+line_same : (h : Header) (books others : ℕ → ℕ → LocalBook) (bank pair : ℕ) → AreSame (books bank pair) (others bank pair) → book_line h books bank pair ≡ book_line h others bank pair
+line_same h books others bank pair same = ap₂ (λ (bids asks : List Level). row (bank_name h bank) (book_fields h pair bids asks)) same.0 same.1
+
+lines_same : (h : Header) (books others : ℕ → ℕ → LocalBook) (bank pairs : ℕ) → ((pair : ℕ) → pair < pairs → AreSame (books bank pair) (others bank pair)) → book_lines_below h books bank pairs ≡ book_lines_below h others bank pairs
+lines_same h books others bank zero same = refl
+lines_same h books others bank (suc pairs) same =
+    ap₂ (λ (front line : List ℕ). front ++ line) (lines_same h books others bank pairs (λ pair less. same pair (omega arith))) (line_same h books others bank pairs (same pairs (omega arith)))
+
+books_same : (h : Header) (books others : ℕ → ℕ → LocalBook) (banks : ℕ) → ((bank pair : ℕ) → bank < banks → pair < pair_count h → AreSame (books bank pair) (others bank pair)) → books_below h books banks ≡ books_below h others banks
+books_same h books others zero same = refl
+books_same h books others (suc banks) same =
+    ap₂ (λ (front lines : List ℕ). front ++ lines) (books_same h books others banks (λ bank pair less within. same bank pair (omega arith) within))
+    (lines_same h books others banks (pair_count h) (λ pair within. same banks pair (omega arith) within))
+
+-- what stands behind the desks speaks of nothing but the history
+close_same : (h : Header) (entries : List Entry) (books others : ℕ → ℕ → LocalBook) → IsLegal h entries → AreBooks h (state h entries) books → AreBooks h (state h entries) others → close_text h entries books ≡ close_text h entries others
+unfolding close_text books_text
+close_same h entries books others legal are they =
+    let same : books_below h books (bank_count h) ≡ books_below h others (bank_count h) =
+    books_same h books others (bank_count h) (λ bank pair first second. book_same h (state h entries) books others bank pair legal.session (legal-sound h entries legal) are they first second) in
+    rw same refl
+
+day_same : (h : Header) (entries : List Entry) (books others : ℕ → ℕ → LocalBook) → close_text h entries books ≡ close_text h entries others → day_text h entries books ≡ day_text h entries others
+unfolding day_text history_text desks_text
+day_same h entries books others same =
+    ap (λ (close : List ℕ). head_text_of h ++ (journal_text h entries ++ (desks_below h entries (bank_count h) ++ close))) same
+
+-- a legal history has one text of its day
+pub days_agree : (h : Header) (entries : List Entry) (day other : List ℕ) → IsLegal h entries → IsDayText h entries day → IsDayText h entries other → day ≡ other
+days_agree h entries day other legal is they =
+    is.exactly ∙ day_same h entries is.books they.books (close_same h entries is.books they.books legal is.at_the_end they.at_the_end) ∙ sym they.exactly
+
+-- the text of a day begins with the header and the journal
+pub day_begins : (h : Header) (entries : List Entry) (day : List ℕ) → IsDayText h entries day → (rest : List ℕ) × (day ≡ head_text_of h ++ (journal_text h entries ++ rest))
+unfolding day_text history_text
+day_begins h entries day is = (desks_text h entries is.books, is.exactly)

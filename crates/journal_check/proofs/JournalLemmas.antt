@@ -1,0 +1,123 @@
+-- A journal that is read line by line.
+use Rattle.std.proofs.Common.{◌≡◌, ℕ, zero, suc, ◌+◌, ◌-◌, ◌<◌, ◌≤◌, Bool, true, false, List, [], ◌∷◌, ◌++◌, length, map, Option, Some, None, Result, Ok, Err, refl, sym, ap, ◌∙◌, subst, arith}
+use Rattle.std.proofs.lemmas.Bool.{cond-true, cond-false, lt-ltb, le-ltb}
+use Rattle.fx_text.specs.Lines.{line_of}
+use Rattle.std.proofs.lemmas.List.{length-map, length_push}
+use Rattle.fx_rules.specs.Session.{Header}
+use Rattle.fx_rules.specs.declared.outcome.Entry.{Entry}
+use Rattle.journal_check.specs.Verdict.{sent_by}
+use Rattle.order_lines.specs.Grammar.{journal_line}
+use Rattle.journal_check.specs.Lines.{LineAt, behind, is_long, lines_from}
+use Rattle.journal_check.specs.Listed.{Sent, counted, count_told, count_of, sent_in, commands_in}
+use Rattle.journal_check.specs.Stops.{IsLineAt, IsReadAt, IsStopAt, Missing, TooLong, ReadsLine, Answers, AnswersBy}
+use Rattle.journal_check.specs.declared.journal.Counted.{Counted}
+use Rattle.journal_check.specs.declared.line.ReadLine.{ReadLine}
+use Rattle.journal_check.specs.declared.stop.Stop.{Stop}
+use Rattle.journal_check.specs.declared.stop.Stop.TheVariants.{Wrong, Memory}
+
+-- How many entries there are
+
+count_of-long : (end : ℕ) (line : LineAt) (more : List LineAt) → is_long line ≡ true → count_of end (line ∷ more) ≡ Err line.at
+unfolding count_of
+count_of-long end line more long = cond-true (is_long line) _ _ long
+
+pub count_of-short : (end : ℕ) (line : LineAt) (more : List LineAt) → is_long line ≡ false → count_of end (line ∷ more) ≡ counted line (count_told (line_of line.part))
+unfolding count_of
+count_of-short end line more short = cond-false (is_long line) _ _ short
+
+count_of-none : (end : ℕ) → count_of end [] ≡ Err end
+unfolding count_of
+count_of-none end = refl
+
+pub count_stops : (text : List ℕ) (at offset : ℕ) → IsStopAt text at offset → count_of (length text) (lines_from text at) ≡ Err offset
+count_stops text at offset (Missing none is) = ap (count_of (length text)) none ∙ count_of-none (length text) ∙ ap (λ (n : ℕ). Err n) (sym is)
+count_stops text at offset (TooLong part there long is) =
+    ap (count_of (length text)) there.lines
+    ∙ count_of-long (length text) (record { at = at; part = part }) (lines_from text (at + length part + 1)) (lt-ltb 256 (length part) long)
+    ∙ ap (λ (n : ℕ). Err n) (sym is)
+
+count_reads : (text : List ℕ) (at : ℕ) (read : ReadLine) (told : Option ℕ) (is : IsReadAt text at read) → told ≡ count_told read.line
+    → count_of (length text) (lines_from text at) ≡ counted (record { at = at; part = is.part }) told
+count_reads text at read told is then =
+    ap (count_of (length text)) is.there.lines
+    ∙ count_of-short (length text) (record { at = at; part = is.part }) (lines_from text (at + length is.part + 1)) (le-ltb 256 (length is.part) is.short)
+    ∙ ap (counted (record { at = at; part = is.part })) (ap (count_told) (sym is.line_is) ∙ sym then)
+
+pub count_wrong : (text : List ℕ) (at : ℕ) (read : ReadLine) → IsReadAt text at read → None ≡ count_told read.line → count_of (length text) (lines_from text at) ≡ Err at
+count_wrong text at read is then = count_reads text at read None is then
+
+pub count_right : (text : List ℕ) (at : ℕ) (read : ReadLine) (entries : ℕ) → IsReadAt text at read → Some entries ≡ count_told read.line
+    → count_of (length text) (lines_from text at) ≡ Ok (record { entries = entries; next = read.next })
+count_right text at read entries is then =
+    count_reads text at read (Some entries) is then ∙ ap (λ (next : ℕ). Ok (record { entries = entries; next = next })) (sym is.next_is)
+
+-- The entries
+
+commands_in-long : (h : Header) (end : ℕ) (before : List Sent) (count : ℕ) (line : LineAt) (more : List LineAt) → is_long line ≡ true → commands_in h end before (suc count) (line ∷ more) ≡ Err line.at
+unfolding commands_in
+commands_in-long h end before count line more long = cond-true (is_long line) _ _ long
+
+pub commands_in-short : (h : Header) (end : ℕ) (before : List Sent) (count : ℕ) (line : LineAt) (more : List LineAt) → is_long line ≡ false
+    → commands_in h end before (suc count) (line ∷ more) ≡ sent_in line (journal_line h (line_of line.part)) (λ sent. commands_in h end (before ++ sent ∷ []) count more)
+unfolding commands_in
+commands_in-short h end before count line more short = cond-false (is_long line) _ _ short
+
+commands_in-none : (h : Header) (end : ℕ) (before : List Sent) (count : ℕ) → commands_in h end before (suc count) [] ≡ Err end
+unfolding commands_in
+commands_in-none h end before count = refl
+
+pub commands_in-all : (h : Header) (end : ℕ) (before : List Sent) (count : ℕ) (lines : List LineAt) → count ≡ 0 → commands_in h end before count lines ≡ Ok before
+unfolding commands_in
+commands_in-all h end before zero lines none = refl
+commands_in-all h end before (suc count) lines none = absurd (omega arith)
+
+pub commands_stop : (h : Header) (text : List ℕ) (at offset : ℕ) (before : List Sent) (count : ℕ) → 0 < count → IsStopAt text at offset → commands_in h (length text) before count (lines_from text at) ≡ Err offset
+commands_stop h text at offset before zero some stop = absurd (omega arith)
+commands_stop h text at offset before (suc count) some (Missing none is) =
+    ap (commands_in h (length text) before (suc count)) none ∙ commands_in-none h (length text) before count ∙ ap (λ (n : ℕ). Err n) (sym is)
+commands_stop h text at offset before (suc count) some (TooLong part there long is) =
+    ap (commands_in h (length text) before (suc count)) there.lines
+    ∙ commands_in-long h (length text) before count (record { at = at; part = part }) (lines_from text (at + length part + 1)) (lt-ltb 256 (length part) long)
+    ∙ ap (λ (n : ℕ). Err n) (sym is)
+
+commands_read : (h : Header) (text : List ℕ) (at : ℕ) (before : List Sent) (count : ℕ) (read : ReadLine) (said : Option Sent) (is : IsReadAt text at read) → said ≡ journal_line h read.line
+    → commands_in h (length text) before (suc count) (lines_from text at) ≡ sent_in (record { at = at; part = is.part }) said (λ sent. commands_in h (length text) (before ++ sent ∷ []) count (lines_from text read.next))
+commands_read h text at before count read said is then =
+    let line : LineAt = record { at = at; part = is.part } in
+    ap (commands_in h (length text) before (suc count)) is.there.lines
+    ∙ commands_in-short h (length text) before count line (lines_from text (at + length is.part + 1)) (le-ltb 256 (length is.part) is.short)
+    ∙ ap (λ (o : Option Sent). sent_in line o (λ sent. commands_in h (length text) (before ++ sent ∷ []) count (lines_from text (at + length is.part + 1)))) (ap (journal_line h) (sym is.line_is) ∙ sym then)
+    ∙ ap (λ (n : ℕ). sent_in line said (λ sent. commands_in h (length text) (before ++ sent ∷ []) count (lines_from text n))) (sym is.next_is)
+
+pub commands_wrong : (h : Header) (text : List ℕ) (at : ℕ) (before : List Sent) (count : ℕ) (read : ReadLine) → 0 < count → IsReadAt text at read → None ≡ journal_line h read.line
+    → commands_in h (length text) before count (lines_from text at) ≡ Err at
+commands_wrong h text at before zero read some is then = absurd (omega arith)
+commands_wrong h text at before (suc count) read some is then = commands_read h text at before count read None is then
+
+more_sent : (h : Header) (text : List ℕ) (at : ℕ) (before : List Sent) (count : ℕ) (read : ReadLine) (sent : Sent) → IsReadAt text at read → Some sent ≡ journal_line h read.line
+    → commands_in h (length text) before (suc count) (lines_from text at) ≡ commands_in h (length text) (before ++ sent ∷ []) count (lines_from text read.next)
+more_sent h text at before count read sent is then = commands_read h text at before count read (Some sent) is then
+
+pub commands_more : (h : Header) (text : List ℕ) (at : ℕ) (before after : List Sent) (count left : ℕ) (read : ReadLine) (sent : Sent) → IsReadAt text at read → Some sent ≡ journal_line h read.line → count ≡ left + 1 → after ≡ before ++ sent ∷ []
+    → commands_in h (length text) before count (lines_from text at) ≡ commands_in h (length text) after left (lines_from text read.next)
+commands_more h text at before after count left read sent is then one after_is =
+    let up : count ≡ suc left = omega arith in
+    ap (λ (n : ℕ). commands_in h (length text) before n (lines_from text at)) up
+    ∙ more_sent h text at before left read sent is then
+    ∙ ap (λ (b : List Sent). commands_in h (length text) b left (lines_from text read.next)) (sym after_is)
+
+-- No line can be read
+
+pub count_stopped : (text : List ℕ) (at : ℕ) (stop : Stop) → ReadsLine text at (Err stop) → Answers (Err stop) (count_of (length text) (lines_from text at))
+count_stopped text at (Wrong offset) stops = count_stops text at offset stops
+count_stopped text at Memory stops = tt
+
+pub commands_stopped : {A : Type 0} (f : A → List Sent) (h : Header) (text : List ℕ) (at : ℕ) (before : List Sent) (count : ℕ) (stop : Stop) (there : Result (List Sent) ℕ) → 0 < count → ReadsLine text at (Err stop)
+    → there ≡ commands_in h (length text) before count (lines_from text at) → AnswersBy f (Err stop) there
+commands_stopped f h text at before count (Wrong offset) there some stops is = is ∙ commands_stop h text at offset before count some stops
+commands_stopped f h text at before count Memory there some stops is = tt
+
+-- an entry more
+pub sent_more : (old new : List Entry) (sent : Sent) → map sent_by new ≡ map sent_by old ++ sent ∷ [] → length new ≡ length old + 1
+sent_more old new sent same =
+    sym (length-map new sent_by) ∙ ap length same ∙ length_push (map sent_by old) sent ∙ ap (λ (n : ℕ). n + 1) (length-map old sent_by)

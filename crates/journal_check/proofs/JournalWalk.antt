@@ -1,0 +1,116 @@
+-- The journal of a history is read as its commands.
+use Rattle.std.proofs.Common.{◌≡◌, ℕ, zero, suc, ◌+◌, ◌^◌, ◌<◌, ◌≤◌, Bool, true, false, List, [], ◌∷◌, ◌++◌, length, map, take, drop, codes, Some, None, Option, Result, Ok, Err, refl, sym, ap, ◌∙◌, subst, arith, append_assoc, append-nil, length-append, All, leb, inl, inr}
+use Rattle.std.specs.Str.Lines.{strip_carriage_return}
+use Rattle.std.proofs.lemmas.Bool.{cases_Bool, leb-true, cond-true, cond-false}
+use Rattle.std.proofs.lemmas.List.Elements.{All-nil, All-cons, All-append, All-weaker}
+use Rattle.fx_amounts.specs.Numeral.{numeral}
+use Rattle.fx_text.specs.Fields.{fields_of, first_field}
+use Rattle.fx_text.specs.Lines.{line_of}
+use Rattle.fx_text.specs.declared.line.Line.{Line}
+use Rattle.fx_text.specs.declared.line.Line.TheVariants.{Whole, Long}
+use Rattle.fx_text.proofs.NumberLemmas.{number_of-numeral}
+use Rattle.fx_rules.specs.Session.{Header, IsSession}
+use Rattle.fx_rules.specs.declared.outcome.Entry.{Entry}
+use Rattle.order_lines.specs.Grammar.{journal_line}
+use Rattle.order_lines.specs.Spelling.{command_text_of}
+use Rattle.order_lines.proofs.FieldTexts.{IsField-numeral}
+use Rattle.order_lines.proofs.JoinedFields.{fields_of-join, join-visible, length-join, IsField}
+use Rattle.order_lines.proofs.WrittenCommands.{IsWritten, IsWritten-command}
+use Rattle.reply_lines.specs.Output as output
+use Rattle.reply_lines.specs.Output.{entry_line, journal_text}
+use Rattle.std.specs.List.{flat_map, join_with_byte, AllByRecursion}
+use Rattle.journal_check.specs.Lines.{LineAt, lines_from}
+use Rattle.journal_check.specs.Listed.{Sent, most_entries, counted, count_in, count_told, count_of, sent_in, commands_in}
+use Rattle.journal_check.specs.Verdict.{sent_by}
+use Rattle.journal_check.proofs.JournalLemmas.{count_of-short, commands_in-short, commands_in-all}
+use Rattle.journal_check.proofs.Walking.{IsPlain, IsAt, IsAt-plain, short_line, line_of-plain, ended}
+use Rattle.journal_check.proofs.HeadWalk.{IsField-word}
+use Rattle.journal_check.proofs.Histories.{IsSentOf, AreSentOf}
+
+-- The line that tells how many entries there are
+
+count_fields : ℕ → List (List ℕ)
+count_fields n = codes "JOURNAL" ∷ numeral n ∷ []
+
+count_part : ℕ → List ℕ
+count_part n = join_with_byte 32 (count_fields n)
+
+journal_word : IsField (codes "JOURNAL")
+journal_word = IsField-word (codes "JOURNAL") (omega arith) (omega arith) refl
+
+are_fields : (n : ℕ) → n < 10 ^ 20 → AllByRecursion IsField (count_fields n)
+unfolding count_fields
+are_fields n small = (journal_word, (IsField-numeral n small, tt))
+
+-- the line, as it is written
+journal_line-part : (n : ℕ) → output.journal_line n ≡ count_part n ++ 10 ∷ []
+unfolding output.journal_line count_part count_fields
+journal_line-part n = ap (λ (t : List ℕ). codes "JOURNAL" ++ 32 ∷ t ++ 10 ∷ []) (append-nil (numeral n)) ∙ sym (append_assoc (codes "JOURNAL") (32 ∷ numeral n) (10 ∷ []))
+
+told : (n : ℕ) → n < 10 ^ 20 → n ≤ most_entries → count_told (Whole (count_part n)) ≡ Some n
+unfolding count_part count_fields
+told n small few =
+    ap (count_in) (fields_of-join (codes "JOURNAL" ∷ numeral n ∷ []) (omega arith) (are_fields n small))
+    ∙ number_of-numeral 0 most_entries n (omega arith) few
+
+count_short : (n : ℕ) → n < 10 ^ 20 → length (count_part n) ≤ 256
+unfolding count_part count_fields
+count_short n small = omega (arith, length-join (codes "JOURNAL" ∷ numeral n ∷ []) (are_fields n small))
+
+count_plain : (n : ℕ) → n < 10 ^ 20 → IsPlain (count_part n)
+unfolding count_part
+count_plain n small = join-visible (count_fields n) (are_fields n small)
+
+-- a text in which the journal's first line stands at an offset
+pub record CountsAt (end : ℕ) (text : List ℕ) (at n : ℕ) (more : List ℕ) : Type 0 where
+  pub behind : ℕ
+  pub count : count_of end (lines_from text at) ≡ Ok (record { entries = n; next = behind })
+  pub rest : drop behind text ≡ more
+
+pub counts_at : (end : ℕ) (text : List ℕ) (at n : ℕ) (more : List ℕ) → n < 10 ^ 20 → n ≤ most_entries → drop at text ≡ output.journal_line n ++ more → CountsAt end text at n more
+counts_at end text at n more small few there =
+    let part : List ℕ = count_part n in
+    let here : drop at text ≡ part ++ 10 ∷ more = there ∙ ap (λ (t : List ℕ). t ++ more) (journal_line-part n) ∙ ended part more in
+    let flat = count_plain n small in
+    let on = IsAt-plain text at part more here flat in
+    record {
+      behind = at + length part + 1;
+      count = ap (count_of end) on.line
+          ∙ count_of-short end (record { at = at; part = part }) (lines_from text (at + length part + 1)) (short_line at part (count_short n small))
+          ∙ ap (λ (l : Line). counted (record { at = at; part = part }) (count_told l)) (line_of-plain part flat (count_short n small))
+          ∙ ap (counted (record { at = at; part = part })) (told n small few);
+      rest = on.rest;
+    }
+
+-- The entries
+
+whole_length : (part : List ℕ) → Whole (strip_carriage_return part) ≡ Whole part → leb (length (strip_carriage_return part)) 256 ≡ true → length part ≤ 256
+whole_length part same few =
+    let stripped : strip_carriage_return part ≡ part = cc in
+    subst (λ (t : List ℕ). length t ≤ 256) stripped (leb-true (length (strip_carriage_return part)) 256 few)
+
+whole_short : (part : List ℕ) → line_of part ≡ Whole part → length part ≤ 256
+unfolding line_of
+whole_short part whole = elim (cases_Bool (leb (length (strip_carriage_return part)) 256)) [
+  | inl few ↦ let same : Whole (strip_carriage_return part) ≡ Whole part = sym (cond-true _ _ _ few) ∙ whole in whole_length part same few
+  | inr long ↦ let same : Long (first_field (take 256 (strip_carriage_return part))) ≡ Whole part = sym (cond-false _ _ _ long) ∙ whole in absurd cc
+]
+
+abbrev sent : Entry → Sent
+sent entry = sent_by entry
+
+pub entries_at : (h : Header) (end : ℕ) (text more : List ℕ) (entries : List Entry) (at : ℕ) (before : List Sent) → IsSession h → AreSentOf h entries → drop at text ≡ flat_map (entry_line h) entries ++ more
+    → commands_in h end before (length entries) (lines_from text at) ≡ Ok (before ++ map sent_by entries)
+entries_at h end text more [] at before session are there = commands_in-all h end before 0 (lines_from text at) refl ∙ ap (λ (s : List Sent). Ok s) (sym (append-nil before))
+entries_at h end text more (e ∷ es) at before session are there =
+    let part : List ℕ = command_text_of h e.bank e.command in
+    let rest : List ℕ = flat_map (entry_line h) es ++ more in
+    let written = IsWritten-command h e.bank e.command session are.0.sender are.0.command in
+    let here : drop at text ≡ part ++ 10 ∷ rest = there ∙ append_assoc (part ++ 10 ∷ []) (flat_map (entry_line h) es) more ∙ ended part rest in
+    let on = IsAt-plain text at part rest here written.visible in
+    let line : LineAt = record { at = at; part = part } in
+    ap (commands_in h end before (suc (length es))) on.line
+    ∙ commands_in-short h end before (length es) line (lines_from text (at + length part + 1)) (short_line at part (whole_short part written.whole))
+    ∙ ap (λ (said : Option Sent). sent_in line said (λ one. commands_in h end (before ++ one ∷ []) (length es) (lines_from text (at + length part + 1)))) written.read_back
+    ∙ entries_at h end text more es (at + length part + 1) (before ++ sent_by e ∷ []) session are.1 on.rest
+    ∙ ap (λ (s : List Sent). Ok s) (append_assoc before (sent_by e ∷ []) (map sent_by es))

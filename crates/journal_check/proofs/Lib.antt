@@ -1,0 +1,12 @@
+pub mod LineLemmas
+pub mod HeaderLemmas
+pub mod JournalLemmas
+pub mod CompareLemmas
+pub mod JudgeLemmas
+pub mod Walking
+pub mod HeadWalk
+pub mod Histories
+pub mod JournalWalk
+pub mod LastLines
+pub mod Exactly
+pub mod Agreeing

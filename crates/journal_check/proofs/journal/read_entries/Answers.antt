@@ -1,0 +1,30 @@
+use Rattle.std.proofs.Common.{◌-◌, ◌+◌, List, map, arith, ◌∙◌, ap, ℕ}
+use Rattle.fx_rules.specs.declared.outcome.Entry.{Entry}
+use Rattle.journal_check.specs.Verdict.{sent_by}
+use Rattle.journal_check.proofs.HeaderLemmas.{read-within}
+use Rattle.journal_check.proofs.JournalLemmas.{commands_stopped, commands_wrong, commands_more, commands_in-all, sent_more}
+use Rattle.journal_check.proofs.journal.read_entries.Goals as goal
+
+pub returns-in-Err-clause-answers : goal.returns-in-Err-clause-answers
+returns-in-Err-clause-answers c =
+    commands_stopped {A = List Entry} (map sent_by) c.args.session.now c.args.text.now c.loop-entry.at (map sent_by c.loop-entry.run.entries.items) (c.args.counted.now.entries - c.loop-entry._entry) c.in-Err.stop _ (omega arith) c.in-Err.ensures c.loop-entry.invariant.reads
+
+pub returns-in_default-clause-answers : goal.returns-in_default-clause-answers
+returns-in_default-clause-answers c =
+    c.loop-entry.invariant.reads
+    ∙ commands_wrong c.args.session.now c.args.text.now c.loop-entry.at (map sent_by c.loop-entry.run.entries.items) (c.args.counted.now.entries - c.loop-entry._entry) c.in-Ok.read (omega arith) c.in-Ok.ensures c.in_default.ensures.reads
+
+pub loop-entry-preserved : goal.loop-entry-preserved
+loop-entry-preserved c = record {
+  within = read-within c.args.text.now c.loop-entry.at c.in-Ok.read c.in-Ok.ensures;
+  run = c.in_ok-carry_out.ensures.run;
+  size = sent_more c.loop-entry.run.entries.items c.carry_out.new.self.entries.items _ c.in_ok-carry_out.ensures.sent ∙ ap (λ (n : ℕ). n + 1) c.loop-entry.invariant.size;
+  reads = c.loop-entry.invariant.reads
+      ∙ commands_more c.args.session.now c.args.text.now c.loop-entry.at (map sent_by c.loop-entry.run.entries.items) (map sent_by c.carry_out.new.self.entries.items) (c.args.counted.now.entries - c.loop-entry._entry) (c.args.counted.now.entries - (c.loop-entry._entry + 1))
+      c.in-Ok.read _ c.in-Ok.ensures c.in-Some.ensures.reads (omega arith) c.in_ok-carry_out.ensures.sent;
+}
+
+pub returns-clause-answers : goal.returns-clause-answers
+returns-clause-answers c =
+    c.loop-entry.invariant.reads
+    ∙ commands_in-all c.args.session.now _ (map sent_by c.loop-entry.run.entries.items) (c.args.counted.now.entries - c.loop-entry._entry) _ (omega arith)

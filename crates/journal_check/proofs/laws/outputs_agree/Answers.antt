@@ -1,0 +1,5 @@
+use Rattle.journal_check.proofs.Agreeing as laws
+use Rattle.journal_check.proofs.laws.outputs_agree.Goals as goal
+
+pub returns : goal.returns
+returns c = record { agree = laws.outputs_agree }

@@ -1,0 +1,8 @@
+pub mod Lines
+pub mod Listed
+pub mod Compared
+pub mod Comparing
+pub mod Verdict
+pub mod Run
+pub mod Stops
+pub mod Laws

@@ -1,0 +1,90 @@
+ghost use Rattle.std.specs.Prelude.{◌≡◌, ◌≤◌, ◌^◌, length, map, [], IfOk, IfSome};
+ghost use Rattle.fx_rules.specs.History.{IsLegal};
+ghost use Rattle.journal_check.specs.Lines.{lines_from};
+ghost use Rattle.journal_check.specs.Listed.{count_of, count_told, commands_in, most_entries};
+ghost use Rattle.journal_check.specs.Stops.{Answers, AnswersBy};
+ghost use Rattle.journal_check.specs.Verdict.{sent_by};
+
+use crate::line::read_line;
+use crate::run::Run;
+use crate::stop::Stop;
+use fx_rules::{Entry, Session};
+use fx_text::{Line, fields, number};
+use order_lines::journal_from;
+use std::alloc::Global;
+
+/// The most entries of a history whose output can be checked.
+const MOST_ENTRIES: u64 = 268_435_456;
+
+/// The line that begins a journal.
+#[derive(Drop)]
+pub(crate) struct Counted {
+    /// How many entries it tells.
+    pub(crate) entries: u64,
+    /// Where the first of them begins.
+    pub(crate) next: usize,
+}
+
+/// Reads the line that begins a journal: `JOURNAL` and how many entries it has, at most 2^28.
+pub(crate) fn read_count(alloc: Global, text: &[u8], at: usize) -> Result<Counted, Stop>
+    requires { at ≤ length text.now }
+    ensures answers { Answers result (count_of (length text.now) (lines_from text.now at)) }
+    ensures within { IfOk result (λ counted. counted.next ≤ length text.now) }
+    ensures few { IfOk result (λ counted. counted.entries ≤ 2 ^ 28) }
+{
+    let read = match read_line(alloc, text, at) {
+        Ok(read) => read,
+        Err(stop) => return Err(stop),
+    };
+    let Some(entries) = count_told(&read.line) else {
+        return Err(Stop::Wrong { offset: at as u64 });
+    };
+    Ok(Counted {
+        entries,
+        next: read.next,
+    })
+}
+
+/// The number of entries that a line tells, where `JOURNAL` and that number are its two fields.
+fn count_told(line: &Line) -> Option<u64>
+    ensures value { result ≡ count_told line.now }
+    ensures most { IfSome result (λ entries. entries ≤ 2 ^ 28) }
+{
+    let Line::Whole(text) = line else {
+        return None;
+    };
+    let fields = fields(text.as_slice());
+    if fields.count() != 2 || fields.field(0) != b"JOURNAL".as_slice() {
+        return None;
+    }
+    number(fields.field(1), 0, MOST_ENTRIES)
+}
+
+/// Reads the entries of a journal and carries out their commands in order: the only legal history that has them.
+pub(crate) fn read_entries(
+    alloc: Global,
+    session: &Session,
+    text: &[u8],
+    counted: &Counted,
+) -> Result<Vec<Entry>, Stop>
+    requires within { counted.now.next ≤ length text.now }
+    requires few { counted.now.entries ≤ 2 ^ 28 }
+    ensures answers { AnswersBy (λ entries. map sent_by entries.items) result
+        (commands_in session.now (length text.now) [] counted.now.entries (lines_from text.now counted.now.next)) }
+    ensures legal { IfOk result (λ entries. IsLegal session.now entries.items) }
+{
+    let mut run = Run::open(alloc, session)?;
+    let mut at = counted.next;
+    for _entry in 0..counted.entries {
+        let read = match read_line(alloc, text, at) {
+            Ok(read) => read,
+            Err(stop) => return Err(stop),
+        };
+        let Some((bank, command)) = journal_from(session, &read.line) else {
+            return Err(Stop::Wrong { offset: at as u64 });
+        };
+        run.carry_out(session, bank, command)?;
+        at = read.next;
+    }
+    Ok(run.entries)
+}
