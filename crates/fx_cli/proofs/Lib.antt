@@ -5,3 +5,4 @@ pub mod ScriptReading
 pub mod HeadlineLaws
 pub mod Running
 pub mod TopCallLaws
+pub mod CheckLaws

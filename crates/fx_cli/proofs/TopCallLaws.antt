@@ -15,11 +15,12 @@ use Rattle.reply_lines.specs.Output.{IsOutput}
 use Rattle.reply_lines.specs.declared.output.Ending.TheVariants as endings
 use Rattle.session_head.specs.Head as heads
 use Rattle.session_head.specs.declared.reason.HeadReason.{HeadReason}
-use Rattle.fx_cli.specs.Input.{input_limit, TookAtMost, OfTaken}
+use Rattle.fx_cli.specs.Input.{input_limit}
 use Rattle.fx_cli.specs.Headline.{IsSerial}
 use Rattle.fx_cli.specs.Reading.{HasNoFault, IsPrompt, Says, MetEnd, IsEnded, Stopped, Ended, HasRead}
 use Rattle.fx_cli.specs.Run.{WroteAll, WrotePart, RanScript, Followed, Ran}
 use Rattle.fx_cli.specs.Script.{HasSession, HasFault, HasEnd, EndsWithEnd, sent_in, strays_of}
+use Rattle.fx_cli.specs.SerialCall.{DidSerial}
 use Rattle.fx_cli.specs.Status.{status_of}
 use Rattle.fx_cli.specs.TopCall.{EndsExactly, IsOutputOf, GotOutput, GotPart, GotNothing, WritesNothing, IsSessionText}
 use Rattle.fx_cli.specs.declared.reading.Stop.{Stop}
@@ -27,7 +28,7 @@ use Rattle.fx_cli.specs.declared.reading.Stop.TheVariants as stops
 use Rattle.fx_cli.specs.declared.script.Sent.{Sent}
 use Rattle.fx_cli.specs.declared.script.Script.{Script}
 use Rattle.fx_cli.specs.declared.status.Status.{Status}
-use Rattle.fx_cli.specs.declared.status.Status.TheVariants.{Done, Usage, Header as HeadFault, Cut, ReadFault, WriteFault, Memory, TooMuch}
+use Rattle.fx_cli.specs.declared.status.Status.TheVariants.{Done, Usage, Header as HeadFault, Cut, ReadFault, WriteFault, Memory, TooMuch, Differs}
 use Rattle.fx_cli.proofs.ScriptReading.{GoesOn-nil, prompt_here}
 use Rattle.fx_cli.proofs.ScriptLaws.{HasSession-more, HasSession-one, HasSession-no_fault, HasFault-more}
 
@@ -37,15 +38,15 @@ some_list : (a b : List ℕ) → Some a ≡ Some b → a ≡ b
 some_list a b e = cc
 
 -- the bytes that a source gave are those that it told
-Took-is : {S : Type 0} (left : S → Option (List ℕ)) (faults : S → ℕ) (before now : S) (bytes taken rest : List ℕ) → Took left faults before now bytes → left before ≡ Some (taken ++ rest) → left now ≡ Some rest → bytes ≡ taken
+pub Took-is : {S : Type 0} (left : S → Option (List ℕ)) (faults : S → ℕ) (before now : S) (bytes taken rest : List ℕ) → Took left faults before now bytes → left before ≡ Some (taken ++ rest) → left now ≡ Some rest → bytes ≡ taken
 Took-is left faults before now bytes taken rest took had has =
     let known : Some (bytes ++ rest) ≡ Some (taken ++ rest) = ap (prepend_known bytes) (sym has) ∙ sym took.moved ∙ had in
     append_cancel_right bytes taken rest (some_list (bytes ++ rest) (taken ++ rest) known)
 
 -- a source that told its bytes tells those that are left
-told : (input : List ℕ) (bytes : List ℕ) (now : Option (List ℕ)) → Some input ≡ prepend_known bytes now → (rest : List ℕ) × (now ≡ Some rest) × (input ≡ bytes ++ rest)
-told input bytes None moved = absurd (cc)
-told input bytes (Some rest) moved = (rest, refl, some_list input (bytes ++ rest) moved)
+pub told_bytes : (input : List ℕ) (bytes : List ℕ) (now : Option (List ℕ)) → Some input ≡ prepend_known bytes now → (rest : List ℕ) × (now ≡ Some rest) × (input ≡ bytes ++ rest)
+told_bytes input bytes None moved = absurd (cc)
+told_bytes input bytes (Some rest) moved = (rest, refl, some_list input (bytes ++ rest) moved)
 
 -- Headers
 
@@ -113,21 +114,21 @@ not_full : (input rest : List ℕ) → IsEnded (Some rest) input → ¬ (HasEnd 
 not_full input rest (inl has) line_not full = line_not has
 not_full input rest (inr ends) line_not full = omega (arith, ends.0.short, full)
 
-header_stop : (input rest : List ℕ) (line : ℕ) (reason : HeadReason) (stop : Stop) → Stopped (Some rest) input stop → HasFault input line reason → Among (status_of stop) (HeadFault line reason ∷ Memory ∷ Usage ∷ [])
+header_stop : (input rest : List ℕ) (line : ℕ) (reason : HeadReason) (stop : Stop) → Stopped (Some rest) input stop → HasFault input line reason → Among (status_of stop) (HeadFault line reason ∷ Memory ∷ [])
 header_stop input rest line reason (stops.Header other why) stopped fault = inl (faults_agree input line other reason why fault stopped)
 header_stop input rest line reason stops.Cut stopped fault = absurd (stopped.1 line reason fault)
 header_stop input rest line reason stops.ReadFault stopped fault = absurd (stopped.1 line reason fault)
 header_stop input rest line reason stops.TooMuch stopped fault = absurd (stopped.1 line reason fault)
 header_stop input rest line reason stops.Memory stopped fault = inr (inl refl)
 
-cut_stop : (input rest : List ℕ) (stop : Stop) → Stopped (Some rest) input stop → Stopped (Some rest) input stops.Cut → Among (status_of stop) (Cut ∷ Memory ∷ Usage ∷ ReadFault ∷ [])
+cut_stop : (input rest : List ℕ) (stop : Stop) → Stopped (Some rest) input stop → Stopped (Some rest) input stops.Cut → Among (status_of stop) (Cut ∷ Memory ∷ ReadFault ∷ [])
 cut_stop input rest (stops.Header other why) stopped cut = absurd (cut.1 other why stopped)
 cut_stop input rest stops.Cut stopped cut = inl refl
-cut_stop input rest stops.ReadFault stopped cut = inr (inr (inr (inl refl)))
+cut_stop input rest stops.ReadFault stopped cut = inr (inr (inl refl))
 cut_stop input rest stops.TooMuch stopped cut = absurd (omega (arith, stopped.0, cut.0.short))
 cut_stop input rest stops.Memory stopped cut = inr (inl refl)
 
-much_stop : (input rest : List ℕ) (stop : Stop) → Stopped (Some rest) input stop → Stopped (Some rest) input stops.TooMuch → Among (status_of stop) (TooMuch ∷ Memory ∷ Usage ∷ [])
+much_stop : (input rest : List ℕ) (stop : Stop) → Stopped (Some rest) input stop → Stopped (Some rest) input stops.TooMuch → Among (status_of stop) (TooMuch ∷ Memory ∷ [])
 much_stop input rest (stops.Header other why) stopped much = absurd (much.1 other why stopped)
 much_stop input rest stops.Cut stopped much = absurd (omega (arith, stopped.0.short, much.0))
 much_stop input rest stops.ReadFault stopped much = absurd (omega (arith, stopped.0, much.0))
@@ -213,34 +214,34 @@ module _ {K : Type 0} (written : K → Option (List ℕ)) (faults : K → ℕ) (
   pub stop_only : (read : Result Script Stop) (result : Status) (other : Stop) (known : Option (List ℕ)) (input : List ℕ) → (other ≡ stops.Memory → ⊥) → After read result → Ended known input read → result ≡ status_of other → Stopped known input other
   stop_only read result other known input unlike ran ended is = subst (Ended known input) (stopped read result other unlike ran is) ended
 
-  pub header_exactly : (read : Result Script Stop) (result : Status) (input rest : List ℕ) (line : ℕ) (reason : HeadReason) → After read result → Ended (Some rest) input read → EndsExactly result (HeadFault line reason) (Usage ∷ []) (HasFault input line reason)
+  pub header_exactly : (read : Result Script Stop) (result : Status) (input rest : List ℕ) (line : ℕ) (reason : HeadReason) → After read result → Ended (Some rest) input read → EndsExactly result (HeadFault line reason) [] (HasFault input line reason)
   header_exactly (Ok script) result input rest line reason ran ended = record {
     only = λ is. stop_only (Ok script) result (stops.Header line reason) (Some rest) input (λ same. cc) ran ended is;
     always = λ fault. absurd (HasSession-no_fault input script.session line reason ended.1.session fault);
   }
   header_exactly (Err stop) result input rest line reason ran ended = record {
     only = λ is. stop_only (Err stop) result (stops.Header line reason) (Some rest) input (λ same. cc) ran ended is;
-    always = λ fault. among_stop result (status_of stop) (HeadFault line reason) (Usage ∷ []) ran.0 (header_stop input rest line reason stop ended fault);
+    always = λ fault. among_stop result (status_of stop) (HeadFault line reason) [] ran.0 (header_stop input rest line reason stop ended fault);
   }
 
-  pub cut_exactly : (read : Result Script Stop) (result : Status) (input rest : List ℕ) → After read result → Ended (Some rest) input read → EndsExactly result Cut (Usage ∷ ReadFault ∷ []) (Stopped (Some rest) input stops.Cut)
+  pub cut_exactly : (read : Result Script Stop) (result : Status) (input rest : List ℕ) → After read result → Ended (Some rest) input read → EndsExactly result Cut (ReadFault ∷ []) (Stopped (Some rest) input stops.Cut)
   cut_exactly (Ok script) result input rest ran ended = record {
     only = λ is. stop_only (Ok script) result stops.Cut (Some rest) input (λ same. cc) ran ended is;
     always = λ cut. absurd (not_ended input rest ended.0 cut.2 cut.3);
   }
   cut_exactly (Err stop) result input rest ran ended = record {
     only = λ is. stop_only (Err stop) result stops.Cut (Some rest) input (λ same. cc) ran ended is;
-    always = λ cut. among_stop result (status_of stop) Cut (Usage ∷ ReadFault ∷ []) ran.0 (cut_stop input rest stop ended cut);
+    always = λ cut. among_stop result (status_of stop) Cut (ReadFault ∷ []) ran.0 (cut_stop input rest stop ended cut);
   }
 
-  pub much_exactly : (read : Result Script Stop) (result : Status) (input rest : List ℕ) → After read result → Ended (Some rest) input read → EndsExactly result TooMuch (Usage ∷ []) (Stopped (Some rest) input stops.TooMuch)
+  pub much_exactly : (read : Result Script Stop) (result : Status) (input rest : List ℕ) → After read result → Ended (Some rest) input read → EndsExactly result TooMuch [] (Stopped (Some rest) input stops.TooMuch)
   much_exactly (Ok script) result input rest ran ended = record {
     only = λ is. stop_only (Ok script) result stops.TooMuch (Some rest) input (λ same. cc) ran ended is;
     always = λ much. absurd (not_full input rest ended.0 much.2 much.0);
   }
   much_exactly (Err stop) result input rest ran ended = record {
     only = λ is. stop_only (Err stop) result stops.TooMuch (Some rest) input (λ same. cc) ran ended is;
-    always = λ much. among_stop result (status_of stop) TooMuch (Usage ∷ []) ran.0 (much_stop input rest stop ended much);
+    always = λ much. among_stop result (status_of stop) TooMuch [] ran.0 (much_stop input rest stop ended much);
   }
 
   output_of : (script : Script) (input rest text : List ℕ) (history : List Entry) → IsEnded (Some rest) input → Says input script → IsSerial script.session script.sent.items history → IsOutput script.session history script.strays endings.End text → IsOutputOf input rest text
@@ -289,6 +290,7 @@ module _ {K : Type 0} (written : K → Option (List ℕ)) (faults : K → ℕ) (
   script_nothing : (script : Script) (result : Status) → RanScript written faults out out' script result → WritesNothing result → GotNothing written faults out out'
   script_nothing script Done ran none = absurd none
   script_nothing script WriteFault ran none = absurd none
+  script_nothing script Differs ran none = absurd none
   script_nothing script Memory ran none = absurd none
   script_nothing script result ran none = absurd ran
 
@@ -311,99 +313,25 @@ module _ {K : Type 0} (written : K → Option (List ℕ)) (faults : K → ℕ) (
   served (Err stop) result input rest ran ended within is reads writes =
       memory_alone result stop ran.0 (served_stop stop input rest ended within is (λ same. reads (ap (λ (s : Stop). Err s) same)))
 
--- The top call
+-- What was done with the word `serial`
 
-refused_exactly : (result status : Status) (earlier : List Status) (cause : Type 0) → (status ≡ Usage → ⊥) → (status ≡ Memory → ⊥) → Among result (Usage ∷ Memory ∷ []) → EndsExactly result status (Usage ∷ earlier) cause
-refused_exactly result status earlier cause no_usage no_memory (inl usage) = record { only = λ is. absurd (no_usage (sym is ∙ usage)); always = λ _. inr (inr (inl usage)) }
-refused_exactly result status earlier cause no_usage no_memory (inr (inl memory)) = record { only = λ is. absurd (no_memory (sym is ∙ memory)); always = λ _. inr (inl memory) }
-refused_exactly result status earlier cause no_usage no_memory (inr (inr none)) = absurd none
+no_differs : stop_of Differs ≡ None
+unfolding stop_of
+no_differs = refl
 
-refused_other : (result status : Status) → (status ≡ Usage → ⊥) → (status ≡ Memory → ⊥) → Among result (Usage ∷ Memory ∷ []) → result ≡ status → ⊥
-refused_other result status no_usage no_memory (inl usage) is = no_usage (sym is ∙ usage)
-refused_other result status no_usage no_memory (inr (inl memory)) is = no_memory (sym is ∙ memory)
-refused_other result status no_usage no_memory (inr (inr none)) is = none
+no_usage : stop_of Usage ≡ None
+unfolding stop_of
+no_usage = refl
 
 module _ {S K : Type 0} (left : S → Option (List ℕ)) (taken : S → ℕ) (written : K → Option (List ℕ)) (faults : K → ℕ) (source source' : S) (out out' : K) where
-  -- what was done at a status that the program ended with: the run of accepted words, or nothing
-  abbrev pub Called : Type 0 → Status → Type 0
-  Called accepted result = (accepted × ((read : Result Script Stop) × HasRead left taken source source' read × After written faults out out' read result))
-      ⊎ ((¬ accepted) × (source' ≡ source) × (out' ≡ out) × Among result (Usage ∷ Memory ∷ []))
-
   ended_at : (read : Result Script Stop) (input rest : List ℕ) → HasRead left taken source source' read → left source ≡ Some (input ++ rest) → left source' ≡ Some rest → Ended (Some rest) input read
   ended_at read input rest has had now =
       subst (λ (known : Option (List ℕ)). Ended known input read) now
       (subst (λ (bytes : List ℕ). Ended (left source') bytes read) (Took-is left taken source source' has.input input rest has.took had now) has.ended)
 
-  pub taken_of : (accepted : Type 0) (result : Status) → Called accepted result → TookAtMost input_limit left taken source source'
-  taken_of accepted result (inl ran) = record { bytes = ran.1.1.input; took = ran.1.1.took; within = ran.1.1.within }
-  taken_of accepted result (inr refused) = record {
-    bytes = [];
-    took = subst (λ (s : S). Took left taken source s []) (sym refused.1) (Took-nil left taken source);
-    within = omega arith;
-  }
-
-  pub prompt_clause : (accepted : Type 0) (result : Status) → Called accepted result → OfTaken left source source' (λ input _. IsPrompt input)
-  prompt_clause accepted result (inl ran) input rest had now =
-      subst (λ (bytes : List ℕ). IsPrompt bytes) (Took-is left taken source source' ran.1.1.input input rest ran.1.1.took had now) ran.1.1.prompt
-  prompt_clause accepted result (inr refused) input rest had now =
-      let same : Some (input ++ rest) ≡ Some rest = sym had ∙ ap left (sym refused.1) ∙ now in
-      let none : input ≡ [] = append_cancel_right input [] rest (some_list (input ++ rest) rest same) in
-      subst (λ (bytes : List ℕ). IsPrompt bytes) (sym none) (prompt_here [] GoesOn-nil)
-
-  pub header_clause : (accepted : Type 0) (result : Status) → Called accepted result → OfTaken left source source' (λ input _. (line : ℕ) (reason : HeadReason) → EndsExactly result (HeadFault line reason) (Usage ∷ []) (HasFault input line reason))
-  header_clause accepted result (inl ran) input rest had now line reason =
-      header_exactly written faults out out' ran.1.0 result input rest line reason ran.1.2 (ended_at ran.1.0 input rest ran.1.1 had now)
-  header_clause accepted result (inr refused) input rest had now line reason =
-      refused_exactly result (HeadFault line reason) [] (HasFault input line reason) (λ same. cc) (λ same. cc) refused.3
-
-  pub cut_clause : (accepted : Type 0) (result : Status) → Called accepted result → OfTaken left source source' (λ input rest. EndsExactly result Cut (Usage ∷ ReadFault ∷ []) (Stopped (Some rest) input stops.Cut))
-  cut_clause accepted result (inl ran) input rest had now =
-      cut_exactly written faults out out' ran.1.0 result input rest ran.1.2 (ended_at ran.1.0 input rest ran.1.1 had now)
-  cut_clause accepted result (inr refused) input rest had now =
-      refused_exactly result Cut (ReadFault ∷ []) (Stopped (Some rest) input stops.Cut) (λ same. cc) (λ same. cc) refused.3
-
-  pub much_clause : (accepted : Type 0) (result : Status) → Called accepted result → OfTaken left source source' (λ input rest. EndsExactly result TooMuch (Usage ∷ []) (Stopped (Some rest) input stops.TooMuch))
-  much_clause accepted result (inl ran) input rest had now =
-      much_exactly written faults out out' ran.1.0 result input rest ran.1.2 (ended_at ran.1.0 input rest ran.1.1 had now)
-  much_clause accepted result (inr refused) input rest had now =
-      refused_exactly result TooMuch [] (Stopped (Some rest) input stops.TooMuch) (λ same. cc) (λ same. cc) refused.3
-
-  pub read_fault_clause : (accepted : Type 0) (result : Status) → Called accepted result → result ≡ ReadFault → Rose (taken source) (taken source')
-  read_fault_clause accepted result (inl ran) is = ran.1.1.cause (stopped written faults out out' ran.1.0 result stops.ReadFault (λ same. cc) ran.1.2 is)
-  read_fault_clause accepted result (inr refused) is = absurd (refused_other result ReadFault (λ same. cc) (λ same. cc) refused.3 is)
-
-  pub read_before_clause : (accepted : Type 0) (result : Status) → Called accepted result → result ≡ ReadFault → OfTaken left source source' (λ input _. HasNoFault input × ¬ (HasEnd input))
-  read_before_clause accepted result (inl ran) is input rest had now =
-      let before : Stopped (Some rest) input stops.ReadFault = stop_only written faults out out' ran.1.0 result stops.ReadFault (Some rest) input (λ same. cc) ran.1.2 (ended_at ran.1.0 input rest ran.1.1 had now) is in
-      (before.1, before.2)
-  read_before_clause accepted result (inr refused) is input rest had now = absurd (refused_other result ReadFault (λ same. cc) (λ same. cc) refused.3 is)
-
-  pub done_clause : (accepted : Type 0) (result : Status) → Called accepted result → result ≡ Done → OfTaken left source source' (λ input rest. GotOutput written faults out out' input rest)
-  done_clause accepted result (inl ran) is input rest had now =
-      done_whole written faults out out' ran.1.0 result input rest ran.1.2 (ended_at ran.1.0 input rest ran.1.1 had now) is
-  done_clause accepted result (inr refused) is input rest had now = absurd (refused_other result Done (λ same. cc) (λ same. cc) refused.3 is)
-
-  pub write_fault_clause : (accepted : Type 0) (result : Status) → Called accepted result → result ≡ WriteFault → Rose (faults out) (faults out')
-  write_fault_clause accepted result (inl ran) is = fault_rose written faults out out' ran.1.0 result ran.1.2 is
-  write_fault_clause accepted result (inr refused) is = absurd (refused_other result WriteFault (λ same. cc) (λ same. cc) refused.3 is)
-
-  pub part_clause : (accepted : Type 0) (result : Status) → Called accepted result → result ≡ WriteFault → OfTaken left source source' (λ input rest. GotPart written faults out out' input rest)
-  part_clause accepted result (inl ran) is input rest had now =
-      fault_part written faults out out' ran.1.0 result input rest ran.1.2 (ended_at ran.1.0 input rest ran.1.1 had now) is
-  part_clause accepted result (inr refused) is input rest had now = absurd (refused_other result WriteFault (λ same. cc) (λ same. cc) refused.3 is)
-
-  pub memory_clause : (accepted : Type 0) (result : Status) → Called accepted result → result ≡ Memory → OfTaken left source source' (λ input rest. GotNothing written faults out out' ⊎ GotPart written faults out out' input rest)
-  memory_clause accepted result (inl ran) is input rest had now =
-      memory_part written faults out out' ran.1.0 result input rest ran.1.2 (ended_at ran.1.0 input rest ran.1.1 had now) is
-  memory_clause accepted result (inr refused) is input rest had now = inl (nothing_of written faults out out' refused.2)
-
-  pub nothing_clause : (accepted : Type 0) (result : Status) → Called accepted result → WritesNothing result → GotNothing written faults out out'
-  nothing_clause accepted result (inl ran) none = wrote_nothing written faults out out' ran.1.0 result ran.1.2 none
-  nothing_clause accepted result (inr refused) none = nothing_of written faults out out' refused.2
-
   complete_ran : (read : Result Script Stop) (result : Status) (bytes : List ℕ) → HasRead left taken source source' read → After written faults out out' read result → left source ≡ Some bytes → IsSessionText bytes → ¬ (Rose (taken source) (taken source')) → ¬ (Rose (faults out) (faults out')) → Among result (Done ∷ Memory ∷ [])
   complete_ran read result bytes has ran had is reads writes =
-      let split = told bytes has.input (left source') (sym had ∙ has.took.moved) in
+      let split = told_bytes bytes has.input (left source') (sym had ∙ has.took.moved) in
       served written faults out out' read result has.input split.0 ran (subst (λ (known : Option (List ℕ)). Ended known has.input read) split.1 has.ended) has.within
       (subst (λ (text : List ℕ). IsSessionText text) split.2 is) (λ failed. reads (has.cause failed)) writes
 
@@ -412,23 +340,42 @@ module _ {S K : Type 0} (left : S → Option (List ℕ)) (taken : S → ℕ) (wr
   complete_known read result None has ran had = tt
   complete_known read result (Some bytes) has ran had = complete_ran read result bytes has ran had
 
-  pub complete_clause : (accepted : Type 0) (result : Status) → Called accepted result → accepted → IfSome (left source) (λ bytes. IsSessionText bytes → ¬ (Rose (taken source) (taken source')) → ¬ (Rose (faults out) (faults out')) → Among result (Done ∷ Memory ∷ []))
-  complete_clause accepted result (inl ran) accepts = complete_known ran.1.0 result (left source) ran.1.1 ran.1.2 refl
-  complete_clause accepted result (inr refused) accepts = absurd (refused.0 accepts)
+  never : (read : Result Script Stop) (result status : Status) → stop_of status ≡ None → ((script : Script) → RanScript written faults out out' script status → ⊥) → After written faults out out' read result → result ≡ status → ⊥
+  never (Ok script) result status none unlike ran is = unlike script (subst (λ (s : Status). RanScript written faults out out' script s) is ran)
+  never (Err stop) result status none unlike ran is = no_stop stop result status none ran.0 is
 
--- the run of accepted words, told
-pub Called-ran : {S K : Type 0} (left : S → Option (List ℕ)) (taken : S → ℕ) (written : K → Option (List ℕ)) (faults : K → ℕ) (source source' ran_source : S) (out out' ran_out : K) (accepted : Type 0) (status ran_status result : Status)
-    → accepted → Ran left taken written faults source ran_source out ran_out ran_status → source' ≡ ran_source → out' ≡ ran_out → status ≡ ran_status → Among result (status ∷ Memory ∷ [])
-    → Called left taken written faults source source' out out' accepted result
-Called-ran {S} {K} left taken written faults source source' ran_source out out' ran_out accepted status ran_status result accepts ran source_is out_is status_is told_is =
-    let there : Ran left taken written faults source source' out ran_out ran_status = subst (λ (s : S). Ran left taken written faults source s out ran_out ran_status) (sym source_is) ran in
-    let here : Ran left taken written faults source source' out out' ran_status = subst (λ (k : K). Ran left taken written faults source source' out k ran_status) (sym out_is) there in
-    let stands : Ran left taken written faults source source' out out' status = subst (λ (s : Status). Ran left taken written faults source source' out out' s) (sym status_is) here in
-    inl (accepts, (stands.read, stands.has_read, After-told written faults out out' stands.read status result stands.followed told_is))
+  -- the run, and the status that was told of it
+  pub serial_did : (status result : Status) → Ran left taken written faults source source' out out' status → Among result (status ∷ Memory ∷ []) → DidSerial left taken written faults source source' out out' result
+  serial_did status result ran tells =
+      let read : Result Script Stop = ran.read in
+      let has : HasRead left taken source source' read = ran.has_read in
+      let after : After written faults out out' read result = After-told written faults out out' read status result ran.followed tells in
+      record {
+        taken = record { bytes = has.input; took = has.took; within = has.within };
+        prompt = λ input rest had now. subst (λ (bytes : List ℕ). IsPrompt bytes) (Took-is left taken source source' has.input input rest has.took had now) has.prompt;
+        header = λ input rest had now line reason. header_exactly written faults out out' read result input rest line reason after (ended_at read input rest has had now);
+        cut = λ input rest had now. cut_exactly written faults out out' read result input rest after (ended_at read input rest has had now);
+        too_much = λ input rest had now. much_exactly written faults out out' read result input rest after (ended_at read input rest has had now);
+        read_fault = λ is. has.cause (stopped written faults out out' read result stops.ReadFault (λ same. cc) after is);
+        read_before = λ is input rest had now.
+            let before : Stopped (Some rest) input stops.ReadFault = stop_only written faults out out' read result stops.ReadFault (Some rest) input (λ same. cc) after (ended_at read input rest has had now) is in
+            (before.1, before.2);
+        done = λ is input rest had now. done_whole written faults out out' read result input rest after (ended_at read input rest has had now) is;
+        write_fault = λ is. fault_rose written faults out out' read result after is;
+        part = λ is input rest had now. fault_part written faults out out' read result input rest after (ended_at read input rest has had now) is;
+        memory = λ is input rest had now. memory_part written faults out out' read result input rest after (ended_at read input rest has had now) is;
+        nothing = λ none. wrote_nothing written faults out out' read result after none;
+        no_verdict = λ is. never read result Differs no_differs (λ script ran_so. ran_so) after is;
+        complete = complete_known read result (left source) has after refl;
+      }
 
--- other words, told
-pub Called-refused : {S K : Type 0} (left : S → Option (List ℕ)) (taken : S → ℕ) (written : K → Option (List ℕ)) (faults : K → ℕ) (source source' : S) (out out' : K) (accepted : Type 0) (status result : Status)
-    → ¬ accepted → source' ≡ source → out' ≡ out → status ≡ Usage → Among result (status ∷ Memory ∷ [])
-    → Called left taken written faults source source' out out' accepted result
-Called-refused left taken written faults source source' out out' accepted status result refuses source_is out_is status_is told_is =
-    inr (refuses, source_is, out_is, subst (λ (s : Status). Among result (s ∷ Memory ∷ [])) status_is told_is)
+  -- a run is no refusal of the words
+  pub serial_accepts : (status : Status) → Ran left taken written faults source source' out out' status → status ≡ Usage → ⊥
+  serial_accepts status ran is =
+      never ran.read status Usage no_usage (λ script ran_so. ran_so) (After-told written faults out out' ran.read status status ran.followed (inl refl)) is
+
+-- the refusal of words, told
+pub told_usage : (status result : Status) {other : Type 0} → Among result (status ∷ Memory ∷ []) → (status ≡ Usage → other) → (other → status ≡ Usage) → EndsExactly result Usage [] other
+told_usage status result (inl same) only always = record { only = λ is. only (sym same ∙ is); always = λ cause. inl (same ∙ always cause) }
+told_usage status result (inr (inl memory)) only always = record { only = λ is. let no : Usage ≡ Memory = sym is ∙ memory in absurd cc; always = λ cause. inr (inl memory) }
+told_usage status result (inr (inr none)) only always = absurd none

@@ -7,4 +7,7 @@ pub mod Intake
 pub mod Reading
 pub mod Headline
 pub mod Run
+pub mod Check
 pub mod TopCall
+pub mod SerialCall
+pub mod CheckCall

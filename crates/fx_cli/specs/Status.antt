@@ -6,7 +6,7 @@ use Rattle.session_head.specs.Reason.{reason_code}
 use Rattle.fx_cli.specs.declared.reading.Stop.{Stop}
 use Rattle.fx_cli.specs.declared.reading.Stop.TheVariants as stops
 use Rattle.fx_cli.specs.declared.status.Status.{Status}
-use Rattle.fx_cli.specs.declared.status.Status.TheVariants.{Done, Usage, Header, Cut, ReadFault, WriteFault, Memory, TooMuch}
+use Rattle.fx_cli.specs.declared.status.Status.TheVariants.{Done, Usage, Header, Cut, ReadFault, WriteFault, Memory, TooMuch, Differs}
 
 -- what the program ends with where the reading stopped
 abbrev pub status_of : Stop → Status
@@ -25,6 +25,7 @@ code_of ReadFault = 4
 code_of WriteFault = 5
 code_of Memory = 6
 code_of TooMuch = 7
+code_of Differs = 8
 
 -- the line of a header's fault
 unfoldable pub fault_text : ℕ → HeadReason → List ℕ
@@ -40,3 +41,4 @@ err_text ReadFault = codes "read failed\n"
 err_text WriteFault = codes "write failed\n"
 err_text Memory = codes "out of memory\n"
 err_text TooMuch = codes "too much input\n"
+err_text Differs = codes "output differs\n"

@@ -13,7 +13,7 @@ use Rattle.fx_cli.specs.Reading.{IsEnded}
 use Rattle.fx_cli.specs.Script.{HasSession, HasEnd, EndsWithEnd, sent_in, strays_of}
 use Rattle.fx_cli.specs.Status.{err_text}
 use Rattle.fx_cli.specs.declared.status.Status.{Status}
-use Rattle.fx_cli.specs.declared.status.Status.TheVariants.{Done, WriteFault, Memory}
+use Rattle.fx_cli.specs.declared.status.Status.TheVariants.{Done, Usage, Differs, WriteFault, Memory}
 
 -- The run ended with this status exactly where the cause stands, unless it ended with one of `earlier`, whose causes
 -- come first, or for want of memory.
@@ -47,6 +47,7 @@ GotNothing written faults before now = Appended written faults before now []
 -- the statuses at which nothing is written on standard output
 abbrev pub WritesNothing : Status → Type 0
 WritesNothing Done = ⊥
+WritesNothing Differs = ⊥
 WritesNothing WriteFault = ⊥
 WritesNothing Memory = ⊥
 WritesNothing _ = Unit {0}
@@ -57,6 +58,12 @@ pub record IsSessionText (bytes : List ℕ) : Type 0 where
   pub session : Header
   pub header : HasSession bytes session
   pub ended : HasEnd (take input_limit bytes) ⊎ ((length bytes < input_limit) × EndsWithEnd bytes)
+
+-- the words were refused: nothing was read or written
+pub record Refused {S K : Type 0} (source source' : S) (out out' : K) (status : Status) : Type 0 where
+  pub usage : status ≡ Usage
+  pub unread : source' ≡ source
+  pub unwritten : out' ≡ out
 
 -- Standard error got the text of the status, or where its count of faults rose a prefix of it. At want of memory it got
 -- a prefix of the text of some status.

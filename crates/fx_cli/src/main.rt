@@ -1,6 +1,7 @@
 //! The program: sessions of the market from bytes to bytes.
 #![tactic(auto)]
 
+mod check;
 mod intake;
 mod reading;
 mod run;

@@ -27,8 +27,10 @@ pub enum Status {
     WriteFault,
     /// A growth of memory was refused.
     Memory,
-    /// The END line did not come within the input that is taken.
+    /// The input's end did not come within what is taken of it: for a session its END line, for an output the source's end.
     TooMuch,
+    /// The input is not the output of a legal history.
+    Differs,
 }
 
 impl Status {
@@ -45,6 +47,7 @@ impl Status {
             Status::WriteFault => 5,
             Status::Memory => 6,
             Status::TooMuch => 7,
+            Status::Differs => 8,
         }
     }
 
@@ -65,6 +68,7 @@ impl Status {
             Status::WriteFault => write_all(err, b"write failed\n"),
             Status::Memory => write_all(err, b"out of memory\n"),
             Status::TooMuch => write_all(err, b"too much input\n"),
+            Status::Differs => write_all(err, b"output differs\n"),
         }
     }
 }

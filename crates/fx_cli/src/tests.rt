@@ -1,4 +1,4 @@
-ghost use Rattle.std.specs.Prelude.{◌≤◌};
+ghost use Rattle.std.specs.Prelude.{◌≤◌, ◌<◌, length};
 
 use crate::fx_main;
 use fx_edges::{MemorySink, MemorySource};
@@ -221,8 +221,9 @@ fn other_words(rt: HostRuntime) -> Result<(), Fail> {
     let input = samples::NO_COMMANDS.input;
     expect(&rt, &[], input, 64, &NONE, &usage)?;
     expect(&rt, &["serial", "now"], input, 64, &NONE, &usage)?;
+    expect(&rt, &["check", "now"], input, 64, &NONE, &usage)?;
     for word in [
-        "", "Serial", "seria", "serials", "serial ", "run", "check", "--help",
+        "", "Serial", "seria", "serials", "serial ", "run", "checks", "--help",
     ] {
         expect(&rt, &[word], input, 64, &NONE, &usage)?;
     }
@@ -321,4 +322,87 @@ fn inputs_up_to_the_limit(rt: HostRuntime) -> Result<(), Fail> {
     let input = long_input(rt.alloc(), 191)?;
     let too_much = refusal(7, b"too much input\n");
     expect(&rt, &["serial"], &input, 4096, &NONE, &too_much)
+}
+
+// What the check of a text ends with.
+fn expect_verdict<R: Abort + AllocGlobal + Threads + Wait + Sync>(
+    rt: &R,
+    text: &[u8],
+    verdict: &[u8],
+) -> Result<(), Fail> {
+    let ending = match verdict {
+        b"YES\n" => done(verdict),
+        _ => Ending {
+            code: 8,
+            out: verdict,
+            err: b"output differs\n",
+        },
+    };
+    for most in [7, 4096] {
+        expect(rt, &["check"], text, most, &NONE, &ending)?;
+    }
+    Ok(())
+}
+
+// The text with another byte at a place.
+fn changed(alloc: Global, text: &[u8], at: usize, byte: u8) -> Result<Vec<u8>, Fail>
+    requires { at < length text.now }
+{
+    let mut changed = text.to_vec(alloc)?;
+    changed[at] = byte;
+    Ok(changed)
+}
+
+#[test]
+fn verdicts_on_an_output_and_on_others(rt: HostRuntime) -> Result<(), Fail> {
+    let whole = samples::NO_COMMANDS.output;
+    expect_verdict(&rt, whole, b"YES\n")?;
+    expect_verdict(&rt, b"", b"NO 0\n")?;
+    expect_verdict(&rt, &whole[..300], b"NO 300\n")?;
+    let count = changed(rt.alloc(), whole, 92, b'1')?;
+    expect_verdict(&rt, &count, b"NO 92\n")?;
+    let mut longer = whole.to_vec(rt.alloc())?;
+    longer.push(b'\n')?;
+    expect_verdict(&rt, &longer, b"NO 392\n")
+}
+
+#[test]
+fn the_check_of_each_sample(rt: HostRuntime) -> Result<(), Fail> {
+    for sample in samples::ORDERS {
+        expect_verdict(&rt, sample.output, b"YES\n")?;
+    }
+    for sample in samples::CHANGES {
+        expect_verdict(&rt, sample.output, b"YES\n")?;
+    }
+    for sample in samples::BOOKS {
+        expect_verdict(&rt, sample.output, b"YES\n")?;
+    }
+    Ok(())
+}
+
+#[test]
+fn a_check_whose_streams_fail(rt: HostRuntime) -> Result<(), Fail> {
+    let text = samples::NO_COMMANDS.output;
+    let read_fault = refusal(4, b"read failed\n");
+    // Seven pieces of 64 bytes, and the read that meets the end.
+    for call in 1..9 {
+        let fails = Fails {
+            source: &[call],
+            ..NONE
+        };
+        expect(&rt, &["check"], text, 64, &fails, &read_fault)?;
+    }
+    for written in 0..4 {
+        let write_fault = Ending {
+            code: 5,
+            out: &b"YES\n"[..written],
+            err: b"write failed\n",
+        };
+        let fails = Fails {
+            out: &[written as u64 + 1],
+            ..NONE
+        };
+        expect(&rt, &["check"], text, 64, &fails, &write_fault)?;
+    }
+    Ok(())
 }

@@ -1,17 +1,16 @@
-ghost use Rattle.std.specs.Prelude.{◌≡◌, ◌⊎◌, ℕ, [], ◌∷◌, IfSome, Some};
-ghost use Rattle.fx_edges.specs.Faults.{Rose};
+ghost use Rattle.std.specs.Prelude.{◌≡◌, [], ◌∷◌};
 ghost use Rattle.fx_rules.specs.Lists.{Among};
-ghost use Rattle.session_head.specs.declared.reason.HeadReason.{HeadReason};
-ghost use Rattle.fx_cli.specs.Input.{input_limit, TookAtMost, OfTaken};
-ghost use Rattle.fx_cli.specs.Reading.{HasNoFault, IsPrompt, Stopped};
-ghost use Rattle.fx_cli.specs.Script.{HasFault, HasEnd};
-ghost use Rattle.fx_cli.specs.Words.{AreSerial};
-ghost use Rattle.fx_cli.specs.TopCall.{EndsExactly, GotOutput, GotPart, GotNothing, WritesNothing, IsSessionText, ToldErr};
-ghost use Rattle.fx_cli.specs.declared.reading.Stop.TheVariants as stops;
+ghost use Rattle.fx_cli.specs.Words.{AreSerial, AreCheck, AreOther};
+ghost use Rattle.fx_cli.specs.Check.{Checked};
+ghost use Rattle.fx_cli.specs.Run.{Ran};
+ghost use Rattle.fx_cli.specs.TopCall.{EndsExactly, Refused, ToldErr};
+ghost use Rattle.fx_cli.specs.SerialCall.{DidSerial};
+ghost use Rattle.fx_cli.specs.CheckCall.{DidCheck};
 
+use crate::check::check;
 use crate::serial::serial;
 use crate::status::Status;
-use crate::words::are_serial;
+use crate::words::{Task, task_of};
 use fx_edges::{Sink, SinkFault, Source};
 use fx_rules::Gate;
 use std::alloc::Global;
@@ -20,8 +19,10 @@ use std::thread::Threads;
 
 /// Does what the words ask for, over the streams that it is handed, and answers how it ended.
 ///
-/// The word `serial` runs the session of the source's bytes, of which at most 2^26 are taken. Refusals come in the order
-/// `Usage`; `Header`; the first of `ReadFault`, `Cut` and `TooMuch` that the reading meets; `WriteFault`. `Memory`
+/// The word `serial` runs the session of the source's bytes, of which at most 2^26 are taken. The word `check` takes the
+/// source's bytes to its end, of which there have to be fewer than 2^28, and writes `YES` where they are the output of a
+/// legal history, else `NO` and the offset at which they are not. Refusals come in the order `Usage`; `Header`; the first
+/// of `ReadFault`, `Cut` and `TooMuch` that the reading meets; `WriteFault`, in the place of `Done` or `Differs`. `Memory`
 /// takes the place of any.
 pub fn fx_main<R: AllocGlobal + Threads + Wait + Sync, S: Source, K: Sink, E: Sink, G: Gate + Sync>(
     rt: &R,
@@ -32,46 +33,37 @@ pub fn fx_main<R: AllocGlobal + Threads + Wait + Sync, S: Source, K: Sink, E: Si
     _gate: &G,
 ) -> Status
     // Other words are refused before anything is read or written.
-    ensures usage { EndsExactly result Status.Usage [] (¬ (AreSerial words.now)) }
-    ensures untouched { ¬ (AreSerial words.now) → (source.new ≡ source.old) × (out.new ≡ out.old) }
+    ensures usage { EndsExactly result Status.Usage [] (AreOther words.now) }
+    ensures untouched { AreOther words.now → (source.new ≡ source.old) × (out.new ≡ out.old) }
 
-    // The source: how much is taken of it, by reads that stop where the text ends, and why they stop before that.
-    ensures taken { TookAtMost input_limit S.left S.faults source.old source.new }
-    ensures prompt { OfTaken S.left source.old source.new (λ input _. IsPrompt input) }
-    ensures header { OfTaken S.left source.old source.new (λ input _. (line : ℕ) (reason : HeadReason) →
-        EndsExactly result (Status.Header line reason) (Status.Usage ∷ []) (HasFault input line reason)) }
-    ensures cut { OfTaken S.left source.old source.new (λ input rest.
-        EndsExactly result Status.Cut (Status.Usage ∷ Status.ReadFault ∷ []) (Stopped (Some rest) input stops.Cut)) }
-    ensures too_much { OfTaken S.left source.old source.new (λ input rest.
-        EndsExactly result Status.TooMuch (Status.Usage ∷ []) (Stopped (Some rest) input stops.TooMuch)) }
-    ensures read_fault { result ≡ Status.ReadFault → Rose (S.faults source.old) (S.faults source.new) }
-    ensures read_before { result ≡ Status.ReadFault → OfTaken S.left source.old source.new (λ input _.
-        HasNoFault input × ¬ (HasEnd input)) }
-
-    // Standard output: the whole output of the input's session and commands, a prefix of it, or nothing.
-    ensures done { result ≡ Status.Done → OfTaken S.left source.old source.new (λ input rest.
-        GotOutput K.written K.faults out.old out.new input rest) }
-    ensures write_fault { result ≡ Status.WriteFault → Rose (K.faults out.old) (K.faults out.new) }
-    ensures part { result ≡ Status.WriteFault → OfTaken S.left source.old source.new (λ input rest.
-        GotPart K.written K.faults out.old out.new input rest) }
-    ensures memory { result ≡ Status.Memory → OfTaken S.left source.old source.new (λ input rest.
-        GotNothing K.written K.faults out.old out.new ⊎ GotPart K.written K.faults out.old out.new input rest) }
-    ensures nothing { WritesNothing result → GotNothing K.written K.faults out.old out.new }
+    // What came of a session, and of the check of an output: what was read and written, and the cause of each status.
+    ensures serial { AreSerial words.now → DidSerial S.left S.faults K.written K.faults source.old source.new out.old out.new result }
+    ensures check { AreCheck words.now → DidCheck S.left S.faults K.written K.faults source.old source.new out.old out.new result }
 
     // Standard error: the line of the status.
     ensures err { ToldErr E.written E.faults err.old err.new result }
-
-    // Completeness: the text of a session, over ends without faults, is served.
-    ensures complete { AreSerial words.now → IfSome (S.left source.old) (λ bytes. IsSessionText bytes
-        → ¬ (Rose (S.faults source.old) (S.faults source.new)) → ¬ (Rose (K.faults out.old) (K.faults out.new))
-        → Among result (Status.Done ∷ Status.Memory ∷ [])) }
 {
-    let status = if are_serial(words) {
-        serial(rt.alloc(), source, out)
-    } else {
-        Status::Usage
-    };
+    let status = follow(rt.alloc(), words, source, out);
     tell(rt.alloc(), status, err)
+}
+
+/// Does what the words ask for, but for standard error.
+fn follow<S: Source, K: Sink>(
+    alloc: Global,
+    words: &[String],
+    source: &mut S,
+    out: &mut K,
+) -> Status
+    ensures serial { AreSerial words.now → Ran S.left S.faults K.written K.faults source.old source.new out.old out.new result }
+    ensures check { AreCheck words.now → Checked S.left S.faults K.written K.faults source.old source.new out.old out.new result }
+    ensures other { AreOther words.now → Refused source.old source.new out.old out.new result }
+    ensures usage { result ≡ Status.Usage → AreOther words.now }
+{
+    match task_of(words) {
+        Some(Task::Serial) => serial(alloc, source, out),
+        Some(Task::Check) => check(alloc, source, out),
+        None => Status::Usage,
+    }
 }
 
 /// Writes the status' line on standard error. Want of memory for it takes the status' place; a write that fails doesn't.

@@ -1,0 +1,33 @@
+-- What the top call does with the word `serial`.
+use Rattle.std.specs.Prelude.{ℕ, ◌≡◌, ◌⊎◌, List, [], ◌∷◌, Option, Some, IfSome}
+use Rattle.fx_edges.specs.Faults.{Rose}
+use Rattle.fx_rules.specs.Lists.{Among}
+use Rattle.session_head.specs.declared.reason.HeadReason.{HeadReason}
+use Rattle.fx_cli.specs.Input.{input_limit, TookAtMost, OfTaken}
+use Rattle.fx_cli.specs.Reading.{HasNoFault, IsPrompt, Stopped}
+use Rattle.fx_cli.specs.Script.{HasFault, HasEnd}
+use Rattle.fx_cli.specs.TopCall.{EndsExactly, GotOutput, GotPart, GotNothing, WritesNothing, IsSessionText}
+use Rattle.fx_cli.specs.declared.reading.Stop.TheVariants as stops
+use Rattle.fx_cli.specs.declared.status.Status.{Status}
+use Rattle.fx_cli.specs.declared.status.Status.TheVariants.{Done, Header, Cut, ReadFault, WriteFault, Memory, TooMuch, Differs}
+
+pub record DidSerial {S K : Type 0} (left : S → Option (List ℕ)) (failed : S → ℕ) (written : K → Option (List ℕ)) (faults : K → ℕ)
+    (source source' : S) (out out' : K) (status : Status) : Type 0 where
+  -- the source: how much is taken of it, by reads that stop where the text ends, and why they stop before that
+  pub taken : TookAtMost input_limit left failed source source'
+  pub prompt : OfTaken left source source' (λ input _. IsPrompt input)
+  pub header : OfTaken left source source' (λ input _. (line : ℕ) (reason : HeadReason) → EndsExactly status (Header line reason) [] (HasFault input line reason))
+  pub cut : OfTaken left source source' (λ input rest. EndsExactly status Cut (ReadFault ∷ []) (Stopped (Some rest) input stops.Cut))
+  pub too_much : OfTaken left source source' (λ input rest. EndsExactly status TooMuch [] (Stopped (Some rest) input stops.TooMuch))
+  pub read_fault : status ≡ ReadFault → Rose (failed source) (failed source')
+  pub read_before : status ≡ ReadFault → OfTaken left source source' (λ input _. HasNoFault input × ¬ (HasEnd input))
+  -- standard output: the whole output of the input's session and commands, which is the headline; a prefix of it; or nothing
+  pub done : status ≡ Done → OfTaken left source source' (λ input rest. GotOutput written faults out out' input rest)
+  pub write_fault : status ≡ WriteFault → Rose (faults out) (faults out')
+  pub part : status ≡ WriteFault → OfTaken left source source' (λ input rest. GotPart written faults out out' input rest)
+  pub memory : status ≡ Memory → OfTaken left source source' (λ input rest. GotNothing written faults out out' ⊎ GotPart written faults out out' input rest)
+  pub nothing : WritesNothing status → GotNothing written faults out out'
+  pub no_verdict : status ≡ Differs → ⊥
+  -- completeness: the text of a session, over ends without faults, is served
+  pub complete : IfSome (left source) (λ bytes. IsSessionText bytes
+      → ¬ (Rose (failed source) (failed source')) → ¬ (Rose (faults out) (faults out')) → Among status (Done ∷ Memory ∷ []))

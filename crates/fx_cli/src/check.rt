@@ -1,0 +1,125 @@
+ghost use Rattle.std.specs.Prelude.{◌≡◌, IfOk};
+ghost use Rattle.fx_cli.specs.Check.{HasTaken, Checked, ToldVerdict, verdict_text, status_for};
+ghost use Rattle.fx_cli.specs.declared.check.Halt.TheVariants.{Memory as WantOfMemory};
+
+use crate::status::Status;
+use fx_amounts::Memory;
+use fx_edges::{Sink, SinkFault, Source, write_all};
+use fx_text::push_number;
+use journal_check::{Verdict, check_output};
+use std::alloc::{AllocError, Global};
+
+/// The bytes of an output that can be checked are fewer than these.
+const OUTPUT_LIMIT: usize = 1 << 28;
+
+/// The bytes that one read asks for.
+const PIECE: usize = 4096;
+
+/// Why the source was not read to its end.
+#[derive(Clone, Copy, Debug, PartialEq, Eq)]
+pub enum Halt {
+    /// The source failed.
+    ReadFault,
+    /// 2^28 bytes were taken.
+    TooMuch,
+    /// A growth of memory was refused.
+    Memory,
+}
+
+impl From<AllocError> for Halt {
+    ghost from_gives = { λ _ halt. halt ≡ WantOfMemory };
+
+    fn from(_: AllocError) -> Self {
+        Halt::Memory
+    }
+}
+
+impl From<Halt> for Status {
+    ghost use Rattle.fx_cli.specs.Check.{halted};
+
+    ghost from_gives = { λ halt status. status ≡ halted halt };
+
+    fn from(halt: Halt) -> Self {
+        match halt {
+            Halt::ReadFault => Status::ReadFault,
+            Halt::TooMuch => Status::TooMuch,
+            Halt::Memory => Status::Memory,
+        }
+    }
+}
+
+/// Checks the source's bytes, and writes the verdict.
+pub fn check<S: Source, K: Sink>(alloc: Global, source: &mut S, out: &mut K) -> Status
+    ensures checked { Checked S.left S.faults K.written K.faults source.old source.new out.old out.new result }
+{
+    match read_all(alloc, source) {
+        Ok(bytes) => check_bytes(alloc, &bytes, out),
+        Err(halt) => Status::from(halt),
+    }
+}
+
+/// Checks some bytes, and writes the verdict.
+fn check_bytes<K: Sink>(alloc: Global, bytes: &[u8], out: &mut K) -> Status
+    ensures told { ToldVerdict K.written K.faults out.old out.new bytes.now result }
+{
+    let Ok(verdict) = check_output(alloc, bytes) else {
+        return Status::Memory;
+    };
+    let Ok(text) = verdict_line(alloc, verdict) else {
+        return Status::Memory;
+    };
+    match write_all(out, &text) {
+        Ok(()) => status_for(verdict),
+        Err(SinkFault::Failed) => Status::WriteFault,
+        Err(SinkFault::Memory) => Status::Memory,
+    }
+}
+
+/// The status that a verdict ends with.
+fn status_for(verdict: Verdict) -> Status
+    ensures { result ≡ status_for verdict }
+{
+    match verdict {
+        Verdict::Yes => Status::Done,
+        Verdict::No { .. } => Status::Differs,
+    }
+}
+
+/// The line of a verdict.
+#[tactic(auto, unfolding(crate::specs::Check::verdict_text))]
+fn verdict_line(alloc: Global, verdict: Verdict) -> Result<Vec<u8>, Memory>
+    ensures value { IfOk result (λ text. text.items ≡ verdict_text verdict) }
+{
+    match verdict {
+        Verdict::Yes => {
+            let text = b"YES\n".to_vec(alloc)?;
+            Ok(text)
+        }
+        Verdict::No { offset } => {
+            let mut text = b"NO ".to_vec(alloc)?;
+            push_number(u128::from(offset), &mut text)?;
+            text.push(b'\n')?;
+            Ok(text)
+        }
+    }
+}
+
+/// Reads a source to its end, in pieces of 4,096 bytes at most. It stops at a read that fails, and where 2^28 bytes were
+/// taken.
+fn read_all<S: Source>(alloc: Global, source: &mut S) -> Result<Vec<u8>, Halt>
+    ensures taken { HasTaken S.left S.faults source.old source.new result }
+{
+    let mut bytes = Vec::new(alloc);
+    let mut piece = [0; PIECE];
+    while bytes.len() < OUTPUT_LIMIT {
+        let room = PIECE.min(OUTPUT_LIMIT - bytes.len());
+        let Ok(count) = source.read(&mut piece[..room]) else {
+            return Err(Halt::ReadFault);
+        };
+        if count == 0 {
+            return Ok(bytes);
+        }
+        bytes.extend_from_slice(&piece[..count])?;
+    }
+    Err(Halt::TooMuch)
+}
