@@ -10,6 +10,7 @@ import re
 import subprocess
 import sys
 from concurrent.futures import ThreadPoolExecutor
+from itertools import islice
 
 PROGRAM = "crates/fx_cli/out/fx_cli"
 NUMBER = rb"0|[1-9][0-9]*"
@@ -213,12 +214,15 @@ def main():
     step = int(sys.argv[2]) if len(sys.argv) > 2 else 1
     output = outputs()
     tried = differ = 0
+    texts = changes(text, step)
     with ThreadPoolExecutor(8) as pool:
-        for changed, (want, got) in zip(changes(text, step), pool.map(lambda t: (wanted(t, output), run("check", t)), changes(text, step))):
-            tried += 1
-            if want != got:
-                differ += 1
-                print(f"{changed!r}: wanted {want!r}, got {got!r}")
+        while batch := list(islice(texts, 4096)):
+            tried += len(batch)
+            for changed, got in zip(batch, pool.map(lambda one: run("check", one), batch)):
+                want = wanted(changed, output)
+                if want != got:
+                    differ += 1
+                    print(f"{changed!r}: wanted {want!r}, got {got!r}")
     print(f"{tried} texts tried, {differ} differ")
     sys.exit(1 if differ else 0)
 
