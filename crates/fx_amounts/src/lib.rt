@@ -17,6 +17,3 @@ pub use price_text::{PriceFault, price_from};
 pub use quantity::{Lots, Units};
 pub use seat::{BankId, PairId};
 pub use side::Side;
-
-#[cfg(test)]
-mod tests;

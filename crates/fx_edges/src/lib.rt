@@ -22,6 +22,3 @@ pub use std_sink::StdSink;
 pub use std_source::StdSource;
 pub use steady_sink::SteadySink;
 pub use steady_source::SteadySource;
-
-#[cfg(test)]
-mod tests;

@@ -15,6 +15,3 @@ pub use line::{Bytes, Line};
 pub use numeral::number;
 pub use push::{push_number, push_price, push_signed};
 pub use split::fields;
-
-#[cfg(test)]
-mod tests;

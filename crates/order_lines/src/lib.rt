@@ -9,6 +9,3 @@ mod writing;
 
 pub use spoken::{Spoken, command_from, journal_from};
 pub use writing::command_text;
-
-#[cfg(test)]
-mod tests;

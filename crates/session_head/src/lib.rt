@@ -11,6 +11,3 @@ mod text;
 pub use reader::HeadReader;
 pub use reason::{HeadReason, HeadStep, HeadStop};
 pub use text::head_text;
-
-#[cfg(test)]
-mod tests;

@@ -1,40 +1,15 @@
-use crate::{Spoken, command_from, command_text, journal_from};
+use crate::fixture::{SESSION, cut, filled, session, whole};
 use fx_amounts::{BankId, Lots, PairId, Price, Side, Units};
-use fx_rules::{Code, Command, Life, Name, PairRule, Reject, Session};
-use fx_text::{Bytes, Line, LineCutter};
+use fx_rules::{Command, Life, Reject, Session};
+use fx_text::Line;
+use order_lines::{Spoken, command_from, command_text, journal_from};
 use std::alloc::Global;
 use std::process::Abort;
 use std::test::Fail;
 
-fn rule(base: &[u8], quote: &[u8], decimals: u8, lot: u32, weight: u32) -> Result<PairRule, Fail> {
-    Ok(PairRule {
-        base: Code::from_bytes(base).ok_or("a code was refused")?,
-        quote: Code::from_bytes(quote).ok_or("a code was refused")?,
-        decimals,
-        lot,
-        weight,
-    })
-}
-
-/// Banks ALFA, BETA and GAMA, pairs EUR/USD with 5 decimals and AAA/BBB with none, no limits.
+/// The session whose banks are ALFA, BETA and GAMA, and whose pairs are EUR/USD and AAA/BBB.
 fn market(alloc: Global) -> Result<Session, Fail> {
-    let mut banks = Vec::new(alloc);
-    for name in [b"ALFA".as_slice(), b"BETA", b"GAMA"] {
-        banks.push(Name::from_bytes(name).ok_or("a name was refused")?)?;
-    }
-    let pairs = [
-        rule(b"EUR", b"USD", 5, 1_000_000, 100)?,
-        rule(b"AAA", b"BBB", 0, 1, 1)?,
-    ];
-    let mut limits = Vec::new(alloc);
-    for _ in 0..9 {
-        limits.push(Units::new(0).ok_or("a limit was refused")?)?;
-    }
-    Ok(Session::build(banks, pairs.to_vec(alloc)?, limits).ok_or("the session was refused")?)
-}
-
-fn whole(alloc: Global, text: &[u8]) -> Result<Line, Fail> {
-    Ok(Line::Whole(Bytes::from_vec(text.to_vec(alloc)?)))
+    session(alloc, SESSION)
 }
 
 fn bank(number: u8) -> Result<BankId, Fail> {
@@ -165,21 +140,9 @@ fn first_faults(rt: HostRuntime) -> Result<(), Fail> {
     Ok(())
 }
 
-/// The only line of a text, as the cutter gives it.
-fn cut(alloc: Global, text: &[u8]) -> Result<Line, Fail> {
-    let mut lines = Vec::new(alloc);
-    LineCutter::new().feed(text, &mut lines)?;
-    Ok(lines.pop().ok_or("no line was cut")?)
-}
-
 /// A line of a bank that ends in so many letters.
 fn lettered(alloc: Global, start: &[u8], letters: usize) -> Result<Line, Fail> {
-    let mut text = start.to_vec(alloc)?;
-    for _ in 0..letters {
-        text.push(b'x')?;
-    }
-    text.push(b'\n')?;
-    cut(alloc, text.as_slice())
+    cut(alloc, &filled(alloc, start, b'x', letters, b"\n")?)
 }
 
 #[test]

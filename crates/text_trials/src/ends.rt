@@ -1,6 +1,6 @@
 ghost use Rattle.std.specs.Prelude.{◌≡◌, IfErr};
 
-use crate::{
+use fx_edges::{
     MemorySink, MemorySource, ReadFailed, Sink, SinkFault, Source, StdSink, StdSource, SteadySink,
     SteadySource, write_all,
 };

@@ -1,40 +1,10 @@
-use super::*;
+use crate::fixture::{filled, read, session};
 use fx_amounts::{BankId, Memory};
-use fx_rules::Session;
-use fx_text::{LineCutter, push_number};
+use fx_text::push_number;
+use session_head::{HeadReader, HeadStep, HeadStop, head_text};
 use std::alloc::Global;
 use std::process::Abort;
 use std::test::Fail;
-
-/// A reader and what it answered to the last line that it read.
-#[derive(Drop)]
-struct Reading {
-    reader: HeadReader,
-    answer: Result<HeadStep, HeadStop>,
-}
-
-/// Reads a text's lines up to the first that does not go on.
-fn read(alloc: Global, text: &[u8]) -> Result<Reading, Memory> {
-    let mut lines = Vec::new(alloc);
-    LineCutter::new().feed(text, &mut lines)?;
-    let mut reader = HeadReader::new(alloc);
-    for line in &lines {
-        let answer = reader.line(line);
-        if answer != Ok(HeadStep::More) {
-            return Ok(Reading { reader, answer });
-        }
-    }
-    Ok(Reading {
-        reader,
-        answer: Ok(HeadStep::More),
-    })
-}
-
-/// The session of a whole header.
-fn session(alloc: Global, text: &[u8]) -> Result<Session, Fail> {
-    let session = read(alloc, text)?.reader.into_session();
-    Ok(session.ok_or("no START")?)
-}
 
 /// Asserts that a text has a fault, by its line and the number of its reason.
 fn assert_fault(
@@ -110,11 +80,7 @@ fn each_reason(rt: HostRuntime) -> Result<(), Fail> {
         assert_fault(&rt, alloc, text, 2, *code)?;
     }
     assert_fourth(&rt, alloc, b"LINE ALFA BETA 05", 10)?;
-    let mut long = b"FXBOOK 1\n".to_vec(alloc)?;
-    for _ in 0..257 {
-        long.push(b'x')?;
-    }
-    long.push(b'\n')?;
+    let long = filled(alloc, b"FXBOOK 1\n", b'x', 257, b"\n")?;
     assert_fault(&rt, alloc, &long, 2, 13)?;
     assert_fault(&rt, alloc, &many_banks(alloc, 65)?, 66, 12)?;
     let mut pairs = many_banks(alloc, 0)?;
@@ -186,11 +152,13 @@ fn first_of_two_faults(rt: HostRuntime) -> Result<(), Fail> {
 fn passed_over_lines_count(rt: HostRuntime) -> Result<(), Fail> {
     let alloc = rt.alloc();
     assert_fault(&rt, alloc, b"# morning\n\n \t\nFXBOOK 2\n", 4, 1)?;
-    let mut text = b"# morning\r\n\r\nFXBOOK 1\r\n#".to_vec(alloc)?;
-    for _ in 0..300 {
-        text.push(b'x')?;
-    }
-    text.extend_from_slice(b"\n\tBANK  ALFA \r\n # BANK BETA\nBANK ALFA\n")?;
+    let text = filled(
+        alloc,
+        b"# morning\r\n\r\nFXBOOK 1\r\n#",
+        b'x',
+        300,
+        b"\n\tBANK  ALFA \r\n # BANK BETA\nBANK ALFA\n",
+    )?;
     assert_fault(&rt, alloc, &text, 7, 4)?;
     Ok(())
 }

@@ -1,4 +1,4 @@
-use crate::{
+use fx_amounts::{
     BankId, Lots, Memory, PairId, Price, PriceFault, Side, Units, base_amount, price_from,
     quote_amount,
 };

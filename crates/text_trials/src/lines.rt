@@ -1,12 +1,10 @@
 ghost use Rattle.std.specs.Prelude.{◌<◌};
 
-use crate::{Bytes, Line, LineCutter, fields, number, push_number, push_price, push_signed};
+use crate::fixture::{SESSION, filled};
 use fx_amounts::{Memory, Price, PriceFault, price_from};
+use fx_text::{Bytes, Line, LineCutter, fields, number, push_number, push_price, push_signed};
 use std::alloc::Global;
 use std::test::Fail;
-
-const SESSION: &[u8] =
-    b"FXBOOK 1\nBANK ALFA\nBANK BETA\nBANK GAMA\nPAIR EUR/USD 5 1000000 100\nLINE ALFA BETA 1000\nLINE BETA ALFA 1000\nSTART\nBETA SELL EUR/USD 1.08420 2 DAY\nALFA BUY EUR/USD 1.08425 3 DAY\nEND\n";
 
 // What a line should be: whole or long, with these bytes.
 type Want<'a> = (bool, &'a [u8]);
@@ -42,7 +40,7 @@ fn cuts_into(
 }
 
 fn cuts_alike(alloc: Global, text: &[u8], lines: &[Want], end: bool) -> Result<bool, Memory> {
-    for size in [1, 2, 3, 7, 179, 4096] {
+    for size in [1, 2, 3, 7, 198, 4096] {
         if !cuts_into(alloc, text, size, lines, end)? {
             return Ok(false);
         }
@@ -52,12 +50,13 @@ fn cuts_alike(alloc: Global, text: &[u8], lines: &[Want], end: bool) -> Result<b
 
 #[test]
 fn a_session_is_cut_alike(rt: HostRuntime) -> Result<(), Fail> {
-    let lines: [Want; 11] = [
+    let lines: [Want; 12] = [
         (false, b"FXBOOK 1"),
         (false, b"BANK ALFA"),
         (false, b"BANK BETA"),
         (false, b"BANK GAMA"),
         (false, b"PAIR EUR/USD 5 1000000 100"),
+        (false, b"PAIR AAA/BBB 0 1 1"),
         (false, b"LINE ALFA BETA 1000"),
         (false, b"LINE BETA ALFA 1000"),
         (false, b"START"),
@@ -65,7 +64,7 @@ fn a_session_is_cut_alike(rt: HostRuntime) -> Result<(), Fail> {
         (false, b"ALFA BUY EUR/USD 1.08425 3 DAY"),
         (false, b"END"),
     ];
-    assert_eq!(rt; SESSION.len(), 179);
+    assert_eq!(rt; SESSION.len(), 198);
     assert!(rt; cuts_alike(rt.alloc(), SESSION, &lines, false)?);
     Ok(())
 }
@@ -94,22 +93,6 @@ fn line_ends_and_rests_are_cut_alike(rt: HostRuntime) -> Result<(), Fail> {
 
 fn cuts_into_one(alloc: Global, text: &[u8], long: bool, want: &[u8]) -> Result<bool, Memory> {
     cuts_alike(alloc, text, &[(long, want)], false)
-}
-
-// A text of one byte, so many times, between two others.
-fn filled(
-    alloc: Global,
-    front: &[u8],
-    byte: u8,
-    count: usize,
-    end: &[u8],
-) -> Result<Vec<u8>, Memory> {
-    let mut text = Vec::from_slice(alloc, front)?;
-    for _ in 0..count {
-        text.push(byte)?;
-    }
-    text.extend_from_slice(end)?;
-    Ok(text)
 }
 
 #[test]
