@@ -8,6 +8,3 @@ mod walk;
 
 pub use laws::{limits_set_others_apart, raises_go_on, two_banks_turn};
 pub use raise::plan_raise;
-
-#[cfg(test)]
-mod tests;

@@ -6,6 +6,3 @@ mod search;
 mod sides;
 
 pub use book::PairBook;
-
-#[cfg(test)]
-mod tests;

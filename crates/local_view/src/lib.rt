@@ -5,6 +5,3 @@ mod levels;
 mod shown;
 
 pub use shown::depth;
-
-#[cfg(test)]
-mod tests;

@@ -4,6 +4,3 @@
 mod store;
 
 pub use store::{OrderKey, OrderStore};
-
-#[cfg(test)]
-mod tests;

@@ -8,6 +8,3 @@ mod steps;
 pub use levels::Levels;
 pub use place::Place;
 pub use steps::Steps;
-
-#[cfg(test)]
-mod tests;

@@ -1,0 +1,18 @@
+//! Trials of the crates that make the market, by their public calls alone: a file for each crate, over markets that
+//! stand once, in `fixture`.
+#![tactic(auto)]
+
+#[cfg(test)]
+mod books;
+#[cfg(test)]
+mod fixture;
+#[cfg(test)]
+mod levels;
+#[cfg(test)]
+mod raises;
+#[cfg(test)]
+mod side_by_side;
+#[cfg(test)]
+mod store;
+#[cfg(test)]
+mod views;
