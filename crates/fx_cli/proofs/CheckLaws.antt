@@ -5,7 +5,7 @@ use Rattle.std.specs.declared.vec.Vec.{Vec}
 use Rattle.std.specs.Io.KnownBytes.{IsAtEnd}
 use Rattle.fx_edges.specs.Faults.{Rose}
 use Rattle.fx_edges.specs.Writing.{Appended, AppendedPart}
-use Rattle.fx_edges.proofs.Writing.{Appended-nil, IsPrefixOf-refl}
+use Rattle.fx_edges.proofs.Writing.{Appended-nil, AppendedPart-whole}
 use Rattle.fx_rules.specs.Lists.{Among}
 use Rattle.journal_check.specs.Verdict.{IsVerdict, IsSomeOutput}
 use Rattle.journal_check.specs.declared.check.Verdict.{Verdict}
@@ -33,7 +33,7 @@ module _ {K : Type 0} (written : K → Option (List ℕ)) (faults : K → ℕ) (
   whole bytes verdict wrote = record {
     verdict = verdict;
     is_verdict = wrote.is_verdict;
-    part = record { part = verdict_text verdict; prefix = IsPrefixOf-refl (verdict_text verdict); appended = wrote.all };
+    part = AppendedPart-whole wrote.all;
   }
 
   for_memory : (bytes : List ℕ) (status : Status) → ToldVerdict written faults out out' bytes status → ToldVerdict written faults out out' bytes Memory

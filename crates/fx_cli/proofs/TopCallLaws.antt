@@ -10,7 +10,7 @@ use Rattle.fx_edges.specs.Faults.{Rose}
 use Rattle.fx_edges.specs.Reading.{Took}
 use Rattle.fx_edges.specs.Writing.{Appended, AppendedPart}
 use Rattle.fx_edges.proofs.Reading.{Took-nil}
-use Rattle.fx_edges.proofs.Writing.{Appended-nil, IsPrefixOf-refl}
+use Rattle.fx_edges.proofs.Writing.{Appended-nil, AppendedPart-whole}
 use Rattle.reply_lines.specs.Output.{IsOutput}
 use Rattle.reply_lines.specs.declared.output.Ending.TheVariants as endings
 use Rattle.session_head.specs.Head as heads
@@ -184,7 +184,7 @@ module _ {K : Type 0} (written : K → Option (List ℕ)) (faults : K → ℕ) (
     serial = all.serial;
     text = all.text;
     is_output = all.is_output;
-    part = record { part = all.text; prefix = IsPrefixOf-refl all.text; appended = all.all };
+    part = AppendedPart-whole all.all;
   }
 
   script_memory : (script : Script) (status : Status) → RanScript written faults out out' script status → RanScript written faults out out' script Memory

@@ -6,7 +6,7 @@ use Rattle.std.proofs.lemmas.List.{take_more, flat_map_more}
 use Rattle.std.proofs.lemmas.Grind.{flat_map-append}
 use Rattle.std.specs.Io.KnownBytes.{append_known}
 use Rattle.fx_edges.specs.declared.sink.SinkFault.{SinkFault}
-use Rattle.fx_edges.specs.declared.sink.SinkFault.TheVariants.{Failed}
+use Rattle.fx_edges.specs.declared.sink.SinkFault.TheVariants.{Failed, Memory}
 use Rattle.fx_edges.specs.Faults.{Rose}
 use Rattle.fx_edges.specs.Writing.{IsPrefixOf, Appended, AppendedPart, Wrote}
 use Rattle.fx_edges.proofs.FaultCounts.{Rose-from_later}
@@ -67,28 +67,34 @@ Appended-append {K} {written} {faults} {a} {b} {c} {s} {t} first second = record
 
 -- a part of a text, and then a part of a piece of the rest
 pub AppendedPart-cut : {K : Type 0} {written : K → Option (List ℕ)} {faults : K → ℕ} {a b c : K} {part piece text : List ℕ} → Appended written faults a b part → AppendedPart written faults b c piece → IsPrefixOf (part ++ piece) text → AppendedPart written faults a c text
-AppendedPart-cut {part = part} first second within = record {
+AppendedPart-cut {written = written} {a = a} {part = part} first second within = record {
   part = part ++ second.part;
   prefix = IsPrefixOf-trans (IsPrefixOf-after part second.prefix) within;
-  appended = Appended-append first second.appended;
+  holds = second.holds ∙ ap (λ known. append_known known second.part) first.holds ∙ append_known-append_known (written a) part second.part;
+  count = omega arith;
 }
+
+-- a text that was appended whole
+pub AppendedPart-whole : {K : Type 0} {written : K → Option (List ℕ)} {faults : K → ℕ} {a b : K} {text : List ℕ} → Appended written faults a b text → AppendedPart written faults a b text
+AppendedPart-whole {text = text} all = record { part = text; prefix = IsPrefixOf-refl text; holds = all.holds; count = omega arith }
 
 -- a part of a text is a part of a longer one
 pub AppendedPart-longer : {K : Type 0} {written : K → Option (List ℕ)} {faults : K → ℕ} {a b : K} {piece text : List ℕ} → AppendedPart written faults a b piece → IsPrefixOf piece text → AppendedPart written faults a b text
-AppendedPart-longer wrote within = record { part = wrote.part; prefix = IsPrefixOf-trans wrote.prefix within; appended = wrote.appended }
+AppendedPart-longer wrote within = record { part = wrote.part; prefix = IsPrefixOf-trans wrote.prefix within; holds = wrote.holds; count = wrote.count }
 
 -- Calls that write
 
 -- a text that was appended was written: what a function that ends with `Ok` says
 pub Wrote-from_Appended : {K T : Type 0} {written : K → Option (List ℕ)} {faults : K → ℕ} {a b : K} {text : List ℕ} (value : T) → Appended written faults a b text → Wrote written faults a b text (Ok value)
-Wrote-from_Appended value appended = record { ok = appended; fault = tt; cause = tt }
+Wrote-from_Appended value appended = record { ok = appended; fault = tt; cause = tt; memory = tt }
 
 -- a fault while the rest of a text was written: part of it stands, then came a call that met the fault at a piece of the rest
 pub Wrote-cut : {K T U : Type 0} {written : K → Option (List ℕ)} {faults : K → ℕ} {a b c : K} {part piece text : List ℕ} {e : SinkFault} → Appended written faults a b part → Wrote {T = T} written faults b c piece (Err e) → IsPrefixOf (part ++ piece) text → Wrote {T = U} written faults a c text (Err e)
 Wrote-cut {faults = faults} {a = a} {b = b} {c = c} first second within = record {
   ok = tt;
   fault = AppendedPart-cut first second.fault within;
-  cause = λ failed. Rose-from_later (faults a) (faults b) (faults c) first.count (second.cause failed);
+  cause = λ failed. Rose-from_later (faults a) (faults b) (faults c) (omega (arith, first.count)) (second.cause failed);
+  memory = λ wanted. second.memory wanted ∙ first.count;
 }
 
 -- a call after a text, whatever it answers
@@ -102,16 +108,18 @@ Wrote-then result first second = Wrote-after result first.ok second
 
 -- a call that met a fault, as one that had more to write
 pub Wrote-of_longer : {K T U : Type 0} {written : K → Option (List ℕ)} {faults : K → ℕ} {a b : K} {piece text : List ℕ} {e : SinkFault} → Wrote {T = T} written faults a b piece (Err e) → IsPrefixOf piece text → Wrote {T = U} written faults a b text (Err e)
-Wrote-of_longer wrote within = record { ok = tt; fault = AppendedPart-longer wrote.fault within; cause = wrote.cause }
+Wrote-of_longer wrote within = record { ok = tt; fault = AppendedPart-longer wrote.fault within; cause = wrote.cause; memory = wrote.memory }
 
 -- a fault of one write, which took nothing, while the rest of a text was written
-pub Wrote-stopped : {K U : Type 0} {written : K → Option (List ℕ)} {faults : K → ℕ} {a b c : K} {part text : List ℕ} {e : SinkFault} → Appended written faults a b part → IsPrefixOf part text → written c ≡ written b → faults b ≤ faults c → (e ≡ Failed → Rose (faults b) (faults c)) → Wrote {T = U} written faults a c text (Err e)
-Wrote-stopped {written = written} {faults = faults} {a = a} {b = b} {c = c} {part = part} first within same count cause = record {
+pub Wrote-stopped : {K U : Type 0} {written : K → Option (List ℕ)} {faults : K → ℕ} {a b c : K} {part text : List ℕ} {e : SinkFault} → Appended written faults a b part → IsPrefixOf part text → written c ≡ written b → faults b ≤ faults c → (e ≡ Failed → Rose (faults b) (faults c)) → (e ≡ Memory → faults c ≡ faults b) → Wrote {T = U} written faults a c text (Err e)
+Wrote-stopped {written = written} {faults = faults} {a = a} {b = b} {c = c} {part = part} first within same count cause memory = record {
   ok = tt;
   fault = record {
     part = part;
     prefix = within;
-    appended = record { holds = same ∙ first.holds; count = omega arith };
+    holds = same ∙ first.holds;
+    count = omega arith;
   };
-  cause = λ failed. Rose-from_later (faults a) (faults b) (faults c) first.count (cause failed);
+  cause = λ failed. Rose-from_later (faults a) (faults b) (faults c) (omega (arith, first.count)) (cause failed);
+  memory = λ wanted. memory wanted ∙ first.count;
 }

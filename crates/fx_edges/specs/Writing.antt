@@ -3,7 +3,7 @@ use Rattle.std.specs.Prelude.{◌≡◌, ℕ, ◌≤◌, List, ◌++◌, Option,
 use Rattle.std.specs.Io.KnownBytes.{append_known}
 use Rattle.fx_edges.specs.Faults.{Rose}
 use Rattle.fx_edges.specs.declared.sink.SinkFault.{SinkFault}
-use Rattle.fx_edges.specs.declared.sink.SinkFault.TheVariants.{Failed}
+use Rattle.fx_edges.specs.declared.sink.SinkFault.TheVariants.{Failed, Memory}
 
 -- the text begins with this part
 pub record IsPrefixOf (part text : List ℕ) : Type 0 where
@@ -11,23 +11,25 @@ pub record IsPrefixOf (part text : List ℕ) : Type 0 where
   pub joined : text ≡ part ++ rest
 
 -- The sink holds what it held before, and then the text. Where it doesn't tell what it holds, this
--- says that it goes on not telling. The count never falls.
+-- says that it goes on not telling. No fault was met: the count stays.
 pub record Appended {K : Type 0} (written : K → Option (List ℕ)) (faults : K → ℕ)
     (before now : K) (text : List ℕ) : Type 0 where
   pub holds : written now ≡ append_known (written before) text
-  pub count : faults before ≤ faults now
+  pub count : faults now ≡ faults before
 
--- the sink got a prefix of the text
+-- the sink got a prefix of the text, and the count didn't fall
 pub record AppendedPart {K : Type 0} (written : K → Option (List ℕ)) (faults : K → ℕ)
     (before now : K) (text : List ℕ) : Type 0 where
   pub part : List ℕ
   pub prefix : IsPrefixOf part text
-  pub appended : Appended written faults before now part
+  pub holds : written now ≡ append_known (written before) part
+  pub count : faults before ≤ faults now
 
--- A call wrote the text: the sink got it whole at `Ok`, and a prefix of it at a fault. The fault was
--- `Failed` only where the count rose.
+-- A call wrote the text: the sink got it whole at `Ok`, and a prefix of it at a fault. The count rose
+-- where the fault was `Failed`, and stayed at `Memory`, as it does at `Ok`.
 pub record Wrote {K T : Type 0} (written : K → Option (List ℕ)) (faults : K → ℕ)
     (before now : K) (text : List ℕ) (result : Result T SinkFault) : Type 0 where
   pub ok : OnOk result (Appended written faults before now text)
   pub fault : OnErr result (AppendedPart written faults before now text)
   pub cause : IfErr result (λ fault. fault ≡ Failed → Rose (faults before) (faults now))
+  pub memory : IfErr result (λ fault. fault ≡ Memory → faults now ≡ faults before)

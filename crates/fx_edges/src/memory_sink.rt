@@ -69,8 +69,8 @@ impl Sink for MemorySink {
     ghost faults = { λ s. s.faults };
 
     /// Fails exactly at the calls numbered in `fails`. The others take the lesser of `most` and the
-    /// piece's length, unless there is no memory for it: then the call was counted, and nothing else
-    /// of the sink has changed.
+    /// piece's length, unless there is no memory for it: then the sink is as it was, and the call isn't
+    /// counted.
     fn write(&mut self, piece: &[u8]) -> Result<usize, SinkFault>
         ensures fails { IsErrOf result SinkFault.Failed ↔ Contains self.old.fails (one_more self.old.calls) }
         ensures takes { IfOk result (λ count. count ≡ min self.old.most (length piece.now)) }
@@ -82,9 +82,7 @@ impl Sink for MemorySink {
           calls = one_more self.old.calls;
           faults = one_more self.old.faults;
         } }
-        ensures memory { IsErrOf result SinkFault.Memory → self.new ≡ record self.old {
-          calls = one_more self.old.calls;
-        } }
+        ensures memory { IsErrOf result SinkFault.Memory → self.new ≡ self.old }
 
         // What every sink says, and the clauses above don't: a call takes at least a byte where there
         // is one, and the count never falls.
@@ -92,14 +90,17 @@ impl Sink for MemorySink {
         ensures count { self.old.faults ≤ self.new.faults }
     {
         let call = self.calls.saturating_add(1);
-        self.calls = call;
         if self.fails.contains(&call) {
+            self.calls = call;
             self.faults = self.faults.saturating_add(1);
             return Err(SinkFault::Failed);
         }
         let count = self.most.min(piece.len());
         match self.bytes.extend_from_slice(&piece[..count]) {
-            Ok(()) => Ok(count),
+            Ok(()) => {
+                self.calls = call;
+                Ok(count)
+            }
             Err(_) => Err(SinkFault::Memory),
         }
     }

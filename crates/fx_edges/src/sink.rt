@@ -7,14 +7,14 @@ ghost use Rattle.fx_edges.specs.Writing.{Appended, Wrote};
 pub enum SinkFault {
     /// The sink failed, and its count of faults rose.
     Failed,
-    /// The sink wanted memory.
+    /// The sink wanted memory. Its count of faults is as it was.
     Memory,
 }
 
 /// Where bytes go.
 ///
 /// Contracts see a sink by `written`, the bytes that it holds where it tells them, and by `faults`,
-/// a count that never falls and stands still at `u64::MAX`.
+/// a count that rises at `Failed` alone and stands still at `u64::MAX`.
 pub trait Sink {
     ghost written: { Self → Option (List ℕ) };
 
@@ -31,13 +31,15 @@ pub trait Sink {
         ensures fault { OnErr result (written self.new ≡ written self.old) }
         ensures cause { IfErr result (λ fault.
             fault ≡ SinkFault.Failed → Rose (faults self.old) (faults self.new)) }
+        ensures memory { IfErr result (λ fault.
+            fault ≡ SinkFault.Memory → faults self.new ≡ faults self.old) }
         ensures count { faults self.old ≤ faults self.new };
 }
 
 /// Writes the whole `piece`, in as many writes as the sink asks for.
 ///
-/// After a fault a prefix of `piece` was appended. It is `Failed` only where the sink's count of
-/// faults rose in this call.
+/// After a fault a prefix of `piece` was appended. In this call the sink's count of faults rose where
+/// the fault is `Failed`, and stayed as it was at `Memory` and at `Ok`.
 pub fn write_all<K: Sink>(sink: &mut K, piece: &[u8]) -> Result<(), SinkFault>
     ensures wrote { Wrote K.written K.faults sink.old sink.new piece.now result }
 {

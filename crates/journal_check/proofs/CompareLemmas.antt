@@ -125,7 +125,7 @@ compared_part h entries text before c new valid wrote =
     record {
       day = wrote.text;
       is_day = wrote.is_text;
-      compared = compared wrote.text text wrote.fault.part wrote.fault.prefix.rest c valid (tells text wrote.fault.part before c new wrote.fault.appended.holds) wrote.fault.prefix.joined
+      compared = compared wrote.text text wrote.fault.part wrote.fault.prefix.rest c valid (tells text wrote.fault.part before c new wrote.fault.holds) wrote.fault.prefix.joined
           (λ none. let unfailed : c.faults ≡ 0 = valid.unfailed none in absurd (omega arith));
     }
 

@@ -18,5 +18,5 @@ pub returns-in-Err : goal.returns-in-Err
 returns-in-Err g c = record {
   wrote = Wrote-stopped c.loop-at.invariant.so_far
       (record { rest = drop c.loop-at.at c.args.piece.now; joined = sym (take-append-drop c.loop-at.at c.args.piece.now) })
-      c.in-Err.ensures.fault c.in-Err.ensures.count c.in-Err.ensures.cause;
+      c.in-Err.ensures.fault c.in-Err.ensures.count c.in-Err.ensures.cause c.in-Err.ensures.memory;
 }

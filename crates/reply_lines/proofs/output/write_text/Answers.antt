@@ -27,5 +27,5 @@ returns-in-Ok g c = record {
 pub returns-in-Err : goal.returns-in-Err
 returns-in-Err g c = record {
   wrote = λ books are. Wrote-stopped (Appended-nil g.K.Sink.written g.K.Sink.faults c.args.out.now)
-      (IsPrefixOf-nil (day_text c.args.session.now c.args.entries.now books)) refl (omega arith) (λ failed. absurd cc);
+      (IsPrefixOf-nil (day_text c.args.session.now c.args.entries.now books)) refl (omega arith) (λ failed. absurd cc) (λ wanted. refl);
 }
