@@ -11,7 +11,7 @@ use Rattle.fx_rules.specs.declared.orders.Fill.{Fill}
 use Rattle.fx_rules.specs.Lists.{Each, total}
 use Rattle.fx_rules.specs.Session.{Header, bank_count}
 use Rattle.fx_rules.specs.State.{State}
-use Rattle.fx_rules.specs.View.{below}
+use Rattle.fx_rules.specs.Lists.{below}
 use Rattle.fx_rules.proofs.ListLemmas.{filter_cons_true, filter_cons_false}
 use Rattle.day_report.specs.declared.rows.Net.{Net}
 use Rattle.day_report.specs.Report.{base_of, quote_of, base_code, quote_code, currencies, by_side, buyer, seller, share, received, paid, net_of, nets_of, sum_of, balance}

@@ -60,7 +60,7 @@ pull_keeps S bank pair outcome = refl
 same-stands : (h : Header) (S T : State) (credit : Credit) → T.limits ≡ S.limits → T.fills ≡ S.fills → StandsFor h S credit → StandsFor h T credit
 same-stands h S T credit limits fills stands = StandsFor-same h S T credit (λ i j. ap (λ (l : ℕ → ℕ → ℕ). l i j) limits) fills stands
 
-line-stands : (h : Header) (S : State) (bank other asked : ℕ) (outcome : Outcome) (credit : Credit) → bank < bank_count h → IsCommand (bank_count h) (pair_count h) bank (Line other asked) → IsOutcome h S bank (Line other asked) outcome → IsCredit credit → StandsFor h S credit
+line-stands : (h : Header) (S : State) (bank other asked : ℕ) (outcome : Outcome) (credit : Credit) → bank < bank_count h → IsCommand h bank (Line other asked) → IsOutcome h S bank (Line other asked) outcome → IsCredit credit → StandsFor h S credit
     → StandsFor h (with_own (after S bank (Line other asked) outcome) S.fills) (line_set credit bank (Line other asked))
 line-stands h S bank other asked (LineSet limit fills) credit sender valid is credit_is stands =
     let used_is : used_in credit bank other ≡ used h S bank other = stands.uses bank other sender valid.0 (λ same. valid.1 (sym same)) in
@@ -71,7 +71,7 @@ line-stands h S bank other asked (LineSet limit fills) credit sender valid is cr
     (StandsFor-limited h S credit bank other limit credit_is stands sender valid.0))
 line-stands h S bank other asked outcome credit sender valid is credit_is stands = absurd is
 
-set-stands : (h : Header) (S : State) (bank : ℕ) (command : Command) (outcome : Outcome) (credit : Credit) → bank < bank_count h → IsCommand (bank_count h) (pair_count h) bank command → IsOutcome h S bank command outcome → IsCredit credit → StandsFor h S credit
+set-stands : (h : Header) (S : State) (bank : ℕ) (command : Command) (outcome : Outcome) (credit : Credit) → bank < bank_count h → IsCommand h bank command → IsOutcome h S bank command outcome → IsCredit credit → StandsFor h S credit
     → StandsFor h (with_own (after S bank command outcome) S.fills) (line_set credit bank command)
 set-stands h S bank (Order side pair price lots life) outcome credit sender valid is credit_is stands =
     same-stands h S (with_own (after S bank (Order side pair price lots life) outcome) S.fills) credit (order_keeps S bank side pair price lots life outcome) refl stands
@@ -200,7 +200,7 @@ pub record CanSet (day : Day) (bank other : ℕ) : Type 0 where
 pub can-set : (h : Header) (day : Day) (e : Entry) (other asked : ℕ) → CanFollow h day e → e.command ≡ Line other asked → CanSet day e.bank other
 can-set h day e other asked can is =
     let step : IsStep h (state h can.0) e = (legal-last h can.0 e can.1).1 in
-    let valid : IsCommand (bank_count h) (pair_count h) e.bank (Line other asked) = subst (IsCommand (bank_count h) (pair_count h) e.bank) is step.command in
+    let valid : IsCommand h e.bank (Line other asked) = subst (IsCommand h e.bank) is step.command in
     record {
       setter = omega (arith, step.sender, can.2.lines_are.banks);
       other_in = omega (arith, valid.0, can.2.lines_are.banks);

@@ -9,7 +9,7 @@ use Rattle.fx_rules.specs.declared.orders.Fill.{Fill}
 use Rattle.fx_rules.specs.Lists.{Each}
 use Rattle.fx_rules.specs.Session.{Header, bank_count, pair_count}
 use Rattle.fx_rules.specs.State.{State}
-use Rattle.fx_rules.specs.View.{below}
+use Rattle.fx_rules.specs.Lists.{below}
 use Rattle.fx_rules.proofs.ListLemmas.{filter_cons_true, filter_cons_false, Each-append}
 use Rattle.credit_lines.specs.Credit.{Credit, limit_in, used_in, line_in}
 use Rattle.credit_lines.specs.Market.{StandsFor}

@@ -7,7 +7,7 @@ use Rattle.fx_rules.specs.Lists.{Each, total}
 use Rattle.fx_rules.specs.Session.{Header, IsSession, bank_count, weight_of}
 use Rattle.fx_rules.specs.State.{State, is_between, cost, cost_between}
 use Rattle.fx_rules.specs.Sound.{IsSound}
-use Rattle.fx_rules.specs.View.{below}
+use Rattle.fx_rules.specs.Lists.{below}
 use Rattle.fx_rules.proofs.ListLemmas.{Each-weaker}
 use Rattle.fx_rules.proofs.SweepSound.{weight_of-least}
 use Rattle.day_report.specs.Trades.{IsTrade, AreTrades, lots_in}

@@ -4,7 +4,7 @@ use Rattle.std.proofs.lemmas.Bool.{cases_Bool, cases_eq, eq-eqb, ne_eqb}
 use Rattle.std.proofs.lemmas.List.{length_push}
 use Rattle.std.specs.List.{filter}
 use Rattle.fx_rules.specs.Lists.{Each, total}
-use Rattle.fx_rules.specs.View.{below}
+use Rattle.fx_rules.specs.Lists.{below}
 use Rattle.fx_rules.proofs.ListLemmas.{total-append, filter_cons_true, filter_cons_false}
 
 -- a number where a test holds

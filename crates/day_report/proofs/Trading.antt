@@ -103,7 +103,7 @@ ordered-trades h S t Fok (Ordered done rests fills) sound bank pair some is = sw
 ordered-trades h S t Fok Killed sound bank pair some is = tt
 ordered-trades h S t life outcome sound bank pair some is = absurd is
 
-raised-trades : (h : Header) (S : State) (bank other asked : ℕ) (outcome : Outcome) → IsSession h → IsSound h S → bank < bank_count h → IsCommand (bank_count h) (pair_count h) bank (Line other asked) → IsOutcome h S bank (Line other asked) outcome → Each (IsTrade h) (fills_of outcome)
+raised-trades : (h : Header) (S : State) (bank other asked : ℕ) (outcome : Outcome) → IsSession h → IsSound h S → bank < bank_count h → IsCommand h bank (Line other asked) → IsOutcome h S bank (Line other asked) outcome → Each (IsTrade h) (fills_of outcome)
 raised-trades h S bank other asked (LineSet limit fills) session sound sender valid is =
     pairs-trades h (pair_count h) 0 (limited bank other limit S) fills session (omega arith) (limited-sound h S bank other asked limit sound sender valid.0 valid.1 valid.2 is.0) is.1
 raised-trades h S bank other asked outcome session sound sender valid is = absurd is
@@ -112,7 +112,7 @@ book-trades : (h : Header) (S : State) (bank pair : ℕ) (outcome : Outcome) →
 book-trades h S bank pair (Depth bids asks) is = tt
 book-trades h S bank pair outcome is = absurd is
 
-outcome-trades : (h : Header) (S : State) (bank : ℕ) (command : Command) (outcome : Outcome) → IsSession h → IsSound h S → bank < bank_count h → IsCommand (bank_count h) (pair_count h) bank command → IsOutcome h S bank command outcome → Each (IsTrade h) (fills_of outcome)
+outcome-trades : (h : Header) (S : State) (bank : ℕ) (command : Command) (outcome : Outcome) → IsSession h → IsSound h S → bank < bank_count h → IsCommand h bank command → IsOutcome h S bank command outcome → Each (IsTrade h) (fills_of outcome)
 outcome-trades h S bank (Order side pair price lots life) outcome session sound sender valid is =
     ordered-trades h S (taker_of S bank side pair price lots) life outcome sound sender valid.0 (weight_of-least h pair session valid.0) is
 outcome-trades h S bank (Cancel pair number) outcome session sound sender valid is =

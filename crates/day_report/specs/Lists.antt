@@ -1,7 +1,7 @@
 -- The lists of a report, as they are read off the tables.
 use Rattle.std.specs.Prelude.{ℕ, nat_lt, List, map, filter, length, pos, ◌-ℤ◌}
 use Rattle.std.specs.List.{flat_map}
-use Rattle.fx_rules.specs.View.{below}
+use Rattle.fx_rules.specs.Lists.{below}
 use Rattle.credit_lines.specs.Credit.{Credit, limit_in, used_in, line_in}
 use Rattle.day_report.specs.Table.{sum_at, IsSmall}
 use Rattle.day_report.specs.Parts.{code_at}

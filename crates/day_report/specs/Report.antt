@@ -11,7 +11,7 @@ use Rattle.fx_rules.specs.Lists.{total}
 use Rattle.fx_rules.specs.Session.{Header, bank_count, pair_count, lot_of, decimals_of}
 use Rattle.fx_rules.specs.State.{State, used, line}
 use Rattle.fx_rules.specs.History.{IsLegal, state}
-use Rattle.fx_rules.specs.View.{below}
+use Rattle.fx_rules.specs.Lists.{below}
 use Rattle.day_report.specs.declared.rows.Volume.{Volume}
 use Rattle.day_report.specs.declared.rows.Use.{Use}
 use Rattle.day_report.specs.declared.rows.Net.{Net}

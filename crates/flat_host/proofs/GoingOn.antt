@@ -8,12 +8,13 @@ use Rattle.fx_rules.specs.declared.outcome.Entry.{Entry}
 use Rattle.fx_rules.specs.declared.session.PairRule.{PairRule}
 use Rattle.fx_rules.specs.Session.{Header, IsSession, bank_count, pair_count}
 use Rattle.fx_rules.specs.State.{State, opening}
-use Rattle.fx_rules.specs.Step.{IsCommand, after}
+use Rattle.fx_rules.specs.Step.{after}
 use Rattle.fx_rules.specs.History.{IsStep, Steps, IsLegal, after_entry, after_all, state}
 use Rattle.fx_rules.specs.Sound.{IsSound}
 use Rattle.fx_rules.proofs.Soundness.{legal-sound, legal-push, after_all-push}
 use Rattle.flat_host.specs.Ledger.{Ledger, StandsFor}
-use Rattle.flat_host.specs.Steps.{IsCommandOf, StepsEach, FollowsEach, GoesOn, FollowsOn, IsNextOf, entry_of}
+use Rattle.flat_host.proofs.Among.{command-from, command-among}
+use Rattle.flat_host.specs.Steps.{IsCommandAmong, IsCommandOf, StepsEach, FollowsEach, GoesOn, FollowsOn, IsNextOf, entry_of}
 
 -- What is a step of each sound state goes on each legal history.
 pub goes-on : (old new : Ledger) (bank : ℕ) (command : Command) (outcome : Outcome) → bank < length old.counts → get_or old.counts bank 0 < 2 ^ 32 - 1 → IsCommandOf old bank command → StepsEach old new bank command outcome → GoesOn old new bank command outcome
@@ -26,7 +27,7 @@ goes-on old new bank command outcome sender count command_in steps h H legal sta
     let pairs : length old.weights ≡ pair_count h = ap length stands.weights ∙ length-map h.pairs (λ (rule : PairRule). rule.weight) in
     let step : IsStep h S e = record {
       sender = omega (arith, banks, sender);
-      command = subst (λ n. IsCommand n (pair_count h) bank command) banks (subst (λ n. IsCommand (length old.counts) n bank command) pairs command_in);
+      command = command-from h bank command (subst (λ n. IsCommandAmong n (pair_count h) bank command) banks (subst (λ n. IsCommandAmong (length old.counts) n bank command) pairs command_in));
       number = ap (λ (cs : List ℕ). get_or cs bank 0 + 1) stands.counts;
       number_most = omega (arith, count);
       outcome = both.0;
@@ -69,7 +70,7 @@ due l e next =
     record {
       sender = omega (arith, banks, step.sender);
       count = omega (arith, same, step.number, step.number_most);
-      command = subst (λ n. IsCommand n (length l.weights) e.bank e.command) (sym banks) (subst (λ n. IsCommand (bank_count h) n e.bank e.command) (sym pairs) step.command);
+      command = subst (λ n. IsCommandAmong n (length l.weights) e.bank e.command) (sym banks) (subst (λ n. IsCommandAmong (bank_count h) n e.bank e.command) (sym pairs) (command-among h e.bank e.command step.command));
       number = omega (arith, same, step.number);
     }
 

@@ -11,6 +11,7 @@ pub mod OpeningLemmas
 pub mod Levelling
 pub mod Probing
 pub mod Pulling
+pub mod Among
 pub mod Stepping
 pub mod GoingOn
 pub mod Viewing

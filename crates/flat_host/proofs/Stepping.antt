@@ -32,7 +32,8 @@ use Rattle.flat_host.specs.Ledger.{Ledger, IsLedger, IsWithin, TablesFor, Stands
 use Rattle.flat_host.specs.Parts.{PlannedOver, PlannedIn, OrderedIn, taker_from, both_lowered, uses_after, with_rest, resting_from, rests_of, is_done, order_carried, filled_in, limits_with, counted_in, cancelled_in, reduced_in, shown_in}
 use Rattle.flat_host.specs.Turns.{in_pair, RaisedIn, LineSetIn, limited_in, raised_in}
 use Rattle.flat_host.specs.Levels.{ProbedIn}
-use Rattle.flat_host.specs.Steps.{IsCommandOf, AnswersEach, ChangesEach, FollowsEach, StepsEach, ShowsEach}
+use Rattle.flat_host.proofs.Among.{command-from}
+use Rattle.flat_host.specs.Steps.{IsCommandAmong, IsCommandOf, AnswersEach, ChangesEach, FollowsEach, StepsEach, ShowsEach}
 use Rattle.flat_host.proofs.Carrying.{places_same}
 use Rattle.flat_host.proofs.Tables.{tables_of, line-same, tables-swept, tables-pairs}
 use Rattle.flat_host.proofs.Market.{swept-planned, raised-market}
@@ -249,7 +250,7 @@ tables-limited h S weights limits uses bank other limit banks full bank_in other
   spent = tables.spent;
 }
 
-line-answered : (h : Header) (S : State) (l : Ledger) (bank other asked : ℕ) (outcome : Outcome) → IsSession h → IsSound h S → StandsFor h S l → length l.limits ≡ 4096 → length l.uses ≡ 4096 → bank < bank_count h → IsCommand (bank_count h) (pair_count h) bank (Line other asked) → LineSetIn l bank other asked outcome → IsOutcome h S bank (Line other asked) outcome
+line-answered : (h : Header) (S : State) (l : Ledger) (bank other asked : ℕ) (outcome : Outcome) → IsSession h → IsSound h S → StandsFor h S l → length l.limits ≡ 4096 → length l.uses ≡ 4096 → bank < bank_count h → IsCommand h bank (Line other asked) → LineSetIn l bank other asked outcome → IsOutcome h S bank (Line other asked) outcome
 line-answered h S l bank other asked (LineSet limit fills) session sound stands limits_full uses_full bank_in valid is =
     let limit_is : limit ≡ limit_set h S bank other asked = is.0 ∙ ap (max asked) (stands.uses bank other bank_in valid.0 (λ same. valid.1 (sym same))) in
     let T : State = limited bank other limit S in
@@ -263,19 +264,19 @@ line-answered h S l bank other asked (LineSet limit fills) session sound stands 
     )
 line-answered h S l bank other asked outcome session sound stands limits_full uses_full bank_in valid is = absurd is
 
-command_of : (h : Header) (S : State) (l : Ledger) (bank : ℕ) (command : Command) → IsSound h S → StandsFor h S l → IsCommandOf l bank command → IsCommand (bank_count h) (pair_count h) bank command
+command_of : (h : Header) (S : State) (l : Ledger) (bank : ℕ) (command : Command) → IsSound h S → StandsFor h S l → IsCommandOf l bank command → IsCommand h bank command
 command_of h S l bank command sound stands valid =
     let banks : length l.counts ≡ bank_count h = ap length stands.counts ∙ sound.counts in
     let pairs : length l.weights ≡ pair_count h = ap length stands.weights ∙ length-map h.pairs (λ (rule : PairRule). rule.weight) in
-    subst (λ n. IsCommand n (pair_count h) bank command) banks (subst (λ n. IsCommand (length l.counts) n bank command) pairs valid)
+    command-from h bank command (subst (λ n. IsCommandAmong n (pair_count h) bank command) banks (subst (λ n. IsCommandAmong (length l.counts) n bank command) pairs valid))
 
 pub line-answers : (l : Ledger) (bank other asked : ℕ) (command : Command) (outcome : Outcome) → IsLedger l → command ≡ Line other asked → bank < length l.counts → IsCommandOf l bank command → LineSetIn l bank other asked outcome → AnswersEach l bank command outcome
 line-answers l bank other asked command outcome ledger command_is sender valid is h S session sound stands =
     subst (λ (c : Command). IsOutcome h S bank c outcome) (sym command_is)
     (line-answered h S l bank other asked outcome session sound stands ledger.limits_full ledger.uses_full (bank_within h S l bank sound stands sender)
-    (subst (IsCommand (bank_count h) (pair_count h) bank) command_is (command_of h S l bank command sound stands valid)) is)
+    (subst (IsCommand h bank) command_is (command_of h S l bank command sound stands valid)) is)
 
-line-changed : (h : Header) (S : State) (old : Ledger) (bank other asked : ℕ) (outcome : Outcome) → IsSession h → IsSound h S → StandsFor h S old → length old.limits ≡ 4096 → length old.uses ≡ 4096 → bank < bank_count h → IsCommand (bank_count h) (pair_count h) bank (Line other asked) → IsOutcome h S bank (Line other asked) outcome → StandsFor h (changed S bank (Line other asked) outcome) (raised_in old bank other asked (fills_of outcome))
+line-changed : (h : Header) (S : State) (old : Ledger) (bank other asked : ℕ) (outcome : Outcome) → IsSession h → IsSound h S → StandsFor h S old → length old.limits ≡ 4096 → length old.uses ≡ 4096 → bank < bank_count h → IsCommand h bank (Line other asked) → IsOutcome h S bank (Line other asked) outcome → StandsFor h (changed S bank (Line other asked) outcome) (raised_in old bank other asked (fills_of outcome))
 line-changed h S old bank other asked (LineSet limit fills) session sound stands limits_full uses_full bank_in valid is =
     let T : State = limited bank other limit S in
     let U : State = filled_all T fills in
@@ -302,7 +303,7 @@ line-changes old new bank other asked command outcome ledger command_is sender v
     subst (λ (c : Command). StandsFor h (changed S bank c outcome) new) (sym command_is)
     (subst (StandsFor h (changed S bank (Line other asked) outcome)) (sym made)
     (line-changed h S old bank other asked outcome session sound stands ledger.limits_full ledger.uses_full (bank_within h S old bank sound stands sender)
-    (subst (IsCommand (bank_count h) (pair_count h) bank) command_is (command_of h S old bank command sound stands valid))
+    (subst (IsCommand h bank) command_is (command_of h S old bank command sound stands valid))
     (subst (λ (c : Command). IsOutcome h S bank c outcome) command_is is)))
 
 -- Shows, local books, and lines that could not be read.
@@ -313,8 +314,8 @@ shown_same a b c a' b' c' p q r = cc
 pub show-answers : (l : Ledger) (bank other : ℕ) (command : Command) (outcome : Outcome) → command ≡ Show other → bank < length l.counts → IsCommandOf l bank command → outcome ≡ shown_in l bank other → AnswersEach l bank command outcome
 show-answers l bank other command outcome command_is sender valid is h S session sound stands =
     let bank_in : bank < bank_count h = bank_within h S l bank sound stands sender in
-    let asked : IsCommand (bank_count h) (pair_count h) bank (Show other) =
-    subst (IsCommand (bank_count h) (pair_count h) bank) command_is (command_of h S l bank command sound stands valid) in
+    let asked : IsCommand h bank (Show other) =
+    subst (IsCommand h bank) command_is (command_of h S l bank command sound stands valid) in
     let differ : bank ≢ other = λ same. asked.1 (sym same) in
     subst (λ (c : Command). IsOutcome h S bank c outcome) (sym command_is)
     (is ∙ shown_same (limit_in l.limits bank other) (use_in l.uses bank other) (line_in l.limits l.uses bank other) (S.limits bank other) (used h S bank other) (line h S bank other)

@@ -14,7 +14,8 @@ use Rattle.fx_rules.proofs.ViewCommands.{views-told, books-alike}
 use Rattle.fx_rules.proofs.ViewRaise.{views-fill}
 use Rattle.fx_rules.proofs.Truth.{books-truthful}
 use Rattle.flat_host.specs.Ledger.{Ledger, StandsFor}
-use Rattle.flat_host.specs.Steps.{IsCommandOf, AnswersEach, ShowsEach}
+use Rattle.flat_host.proofs.Among.{command-from}
+use Rattle.flat_host.specs.Steps.{IsCommandAmong, IsCommandOf, AnswersEach, ShowsEach}
 use Rattle.flat_host.specs.Views.{TellsByView, FillsByView, ShowsByView, ShowsTruly}
 
 -- the host's banks and pairs are its session's
@@ -24,10 +25,11 @@ banks_of h S l sound stands = ap length stands.counts ∙ sound.counts
 pairs_of : (h : Header) (S : State) (l : Ledger) → StandsFor h S l → length l.weights ≡ pair_count h
 pairs_of h S l stands = ap length stands.weights ∙ length-map h.pairs (λ (rule : PairRule). rule.weight)
 
-command_of : (h : Header) (S : State) (l : Ledger) (bank : ℕ) (command : Command) → IsSound h S → StandsFor h S l → IsCommandOf l bank command → IsCommand (bank_count h) (pair_count h) bank command
+command_of : (h : Header) (S : State) (l : Ledger) (bank : ℕ) (command : Command) → IsSound h S → StandsFor h S l → IsCommandOf l bank command → IsCommand h bank command
 command_of h S l bank command sound stands valid =
-    subst (λ (pairs : ℕ). IsCommand (bank_count h) pairs bank command) (pairs_of h S l stands)
-    (subst (λ (banks : ℕ). IsCommand banks (length l.weights) bank command) (banks_of h S l sound stands) valid)
+    command-from h bank command
+    (subst (λ (pairs : ℕ). IsCommandAmong (bank_count h) pairs bank command) (pairs_of h S l stands)
+    (subst (λ (banks : ℕ). IsCommandAmong banks (length l.weights) bank command) (banks_of h S l sound stands) valid))
 
 pub tells-by_view : (l : Ledger) (bank : ℕ) (command : Command) (outcome : Outcome) → bank < length l.counts → IsCommandOf l bank command → AnswersEach l bank command outcome → TellsByView l bank command outcome
 tells-by_view l bank command outcome sender valid answers h S T other session sound sound' stands alike is =

@@ -1,20 +1,34 @@
 -- What a call of the plain host does to each state that the host stands for.
-use Rattle.std.specs.Prelude.{ℕ, ◌+◌, List, [], ◌∷◌, ◌++◌, length, slice_index}
+use Rattle.std.specs.Prelude.{ℕ, ◌≢◌, ◌<◌, ◌+◌, List, [], ◌∷◌, ◌++◌, length, slice_index}
+use Rattle.fx_amounts.specs.Price.{IsPrice}
+use Rattle.fx_amounts.specs.Quantity.{IsLots, IsUnits}
 use Rattle.fx_rules.specs.declared.command.Command.{Command}
+use Rattle.fx_rules.specs.declared.command.Command.TheVariants.{Order, Cancel, Reduce, Pull, Line, Show, Book, Bad}
 use Rattle.fx_rules.specs.declared.outcome.Outcome.{Outcome}
 use Rattle.fx_rules.specs.declared.outcome.Outcome.TheVariants.{Depth}
 use Rattle.fx_rules.specs.declared.outcome.Entry.{Entry}
 use Rattle.fx_rules.specs.Session.{Header, IsSession}
 use Rattle.fx_rules.specs.State.{State}
 use Rattle.fx_rules.specs.Depth.{IsDepth}
-use Rattle.fx_rules.specs.Step.{IsCommand, IsOutcome, changed, after}
+use Rattle.fx_rules.specs.Step.{IsNumber, IsOutcome, changed, after}
 use Rattle.fx_rules.specs.History.{IsLegal, state}
 use Rattle.fx_rules.specs.Sound.{IsSound}
 use Rattle.flat_host.specs.Ledger.{Ledger, StandsFor}
 
+-- a command that a bank may send where there are so many banks and pairs
+abbrev pub IsCommandAmong : ℕ → ℕ → ℕ → Command → Type 0
+IsCommandAmong banks pairs bank (Order side pair price lots life) = (pair < pairs) × IsPrice price × IsLots lots
+IsCommandAmong banks pairs bank (Cancel pair number) = (pair < pairs) × IsNumber number
+IsCommandAmong banks pairs bank (Reduce pair number lots) = (pair < pairs) × IsNumber number × IsLots lots
+IsCommandAmong banks pairs bank (Pull pair) = pair < pairs
+IsCommandAmong banks pairs bank (Line other limit) = (other < banks) × (other ≢ bank) × IsUnits limit
+IsCommandAmong banks pairs bank (Show other) = (other < banks) × (other ≢ bank)
+IsCommandAmong banks pairs bank (Book pair) = pair < pairs
+IsCommandAmong banks pairs bank (Bad reason) = Unit {0}
+
 -- the command is one that a bank of the host's session may send
 abbrev pub IsCommandOf : Ledger → ℕ → Command → Type 0
-IsCommandOf l bank command = IsCommand (length l.counts) (length l.weights) bank command
+IsCommandOf l bank command = IsCommandAmong (length l.counts) (length l.weights) bank command
 
 -- the outcome is one of each sound state that the host stands for
 abbrev pub AnswersEach : Ledger → ℕ → Command → Outcome → Type 0

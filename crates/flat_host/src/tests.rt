@@ -1,7 +1,6 @@
 ghost use Rattle.std.specs.Prelude.{ℕ, ◌≡◌, ◌≢◌, ◌<◌, ◌≤◌, ◌+◌, ◌-◌, ◌^◌, IfOk, OnOk, [], ◌∷◌, length, slice_index};
 ghost use Rattle.fx_rules.specs.Session.{IsSession};
-ghost use Rattle.fx_rules.specs.Step.{IsCommand};
-ghost use Rattle.flat_host.specs.Steps.{EntriesGoOn};
+ghost use Rattle.flat_host.specs.Steps.{EntriesGoOn, IsCommandAmong};
 
 use crate::{FlatHost, replay};
 use fx_amounts::{BankId, Lots, PairId, Price, Side, Units};
@@ -240,7 +239,7 @@ fn number_from(number: u32) -> Result<u32, Fail>
 
 /// An order that is sent.
 fn order_from(side: Side, pair: u8, ticks: u32, lots: u32, life: Life) -> Result<Command, Fail>
-    ensures valid { IfOk result (λ command. (bank : ℕ) → IsCommand 3 2 bank command) }
+    ensures valid { IfOk result (λ command. (bank : ℕ) → IsCommandAmong 3 2 bank command) }
 {
     Ok(Command::Order {
         side,
@@ -253,7 +252,7 @@ fn order_from(side: Side, pair: u8, ticks: u32, lots: u32, life: Life) -> Result
 
 /// The command that a bank sends.
 fn command(bank: BankId, sent: Sent) -> Result<Command, Fail>
-    ensures valid { IfOk result (IsCommand 3 2 bank) }
+    ensures valid { IfOk result (IsCommandAmong 3 2 bank) }
 {
     match sent {
         Sent::Order {

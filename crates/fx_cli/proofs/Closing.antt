@@ -10,7 +10,7 @@ use Rattle.fx_cli.specs.Script.{spoken_of, spoken_in, up_to_end, has_end, strays
 use Rattle.fx_cli.specs.Reading.{HasNoFault, GoesOn, Says}
 use Rattle.fx_cli.specs.Stage.{Tells, goes_on, most_strays}
 use Rattle.fx_cli.specs.Intake.{IsSettled}
-use Rattle.fx_cli.specs.declared.script.Sent.{Sent}
+use Rattle.fx_rules.specs.declared.command.Sent.{Sent}
 use Rattle.fx_cli.specs.declared.script.Script.{Script}
 use Rattle.fx_cli.proofs.ScriptLaws.{HasSession-one, HasSession-no_fault, length-lines_of, length-spoken_of, length-commands_in, strays_in-few}
 

@@ -9,7 +9,7 @@ use Rattle.fx_rules.specs.History.{IsStep, Steps, IsLegal, after_entry, after_al
 use Rattle.fx_rules.proofs.Soundness.{legal-sound}
 use Rattle.fx_rules.proofs.Falling.{lines-fall}
 use Rattle.fx_rules.proofs.Uncrossed.{legal-uncrossed}
-use Rattle.fx_cli.specs.declared.script.Sent.{Sent}
+use Rattle.fx_rules.specs.declared.command.Sent.{Sent}
 use Rattle.fx_cli.specs.Headline.{stream_of, sent_by, state_before, IsHeadline, IsSerial}
 
 -- Prefixes

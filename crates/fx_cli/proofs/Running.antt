@@ -10,7 +10,7 @@ use Rattle.fx_rules.specs.Session.{Header, bank_count, pair_count}
 use Rattle.fx_rules.specs.History.{IsLegal, state}
 use Rattle.flat_host.specs.Ledger.{Ledger, StandsFor}
 use Rattle.flat_host.specs.Steps.{GoesOn}
-use Rattle.fx_cli.specs.declared.script.Sent.{Sent}
+use Rattle.fx_rules.specs.declared.command.Sent.{Sent}
 use Rattle.fx_rules.specs.Lists.{Each}
 use Rattle.fx_cli.specs.Script.{IsSentOf}
 use Rattle.fx_cli.specs.Headline.{sent_by, IsSerial}

@@ -15,7 +15,7 @@ use Rattle.order_lines.specs.Grammar.{command_line}
 use Rattle.order_lines.specs.declared.spoken.Spoken.{Spoken}
 use Rattle.order_lines.specs.declared.spoken.Spoken.TheVariants.{Of, Stray, End, Passed}
 use Rattle.fx_cli.specs.Script.{is_started, lines_behind, up_to_end, has_end, commands_in, strays_in, spoken_of, spoken_in, HasSession, HasFault, HasEnd, sent_in, strays_of}
-use Rattle.fx_cli.specs.declared.script.Sent.{Sent}
+use Rattle.fx_rules.specs.declared.command.Sent.{Sent}
 
 -- A header that has started or has a fault stays as it is.
 

@@ -25,7 +25,7 @@ use Rattle.fx_cli.specs.Status.{status_of}
 use Rattle.fx_cli.specs.TopCall.{EndsExactly, IsOutputOf, GotOutput, GotPart, GotNothing, WritesNothing, IsSessionText}
 use Rattle.fx_cli.specs.declared.reading.Stop.{Stop}
 use Rattle.fx_cli.specs.declared.reading.Stop.TheVariants as stops
-use Rattle.fx_cli.specs.declared.script.Sent.{Sent}
+use Rattle.fx_rules.specs.declared.command.Sent.{Sent}
 use Rattle.fx_cli.specs.declared.script.Script.{Script}
 use Rattle.fx_cli.specs.declared.status.Status.{Status}
 use Rattle.fx_cli.specs.declared.status.Status.TheVariants.{Done, Usage, Header as HeadFault, Cut, ReadFault, WriteFault, Memory, TooMuch, Differs}

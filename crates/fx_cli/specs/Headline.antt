@@ -6,7 +6,7 @@ use Rattle.fx_rules.specs.Session.{Header}
 use Rattle.fx_rules.specs.State.{State, Within}
 use Rattle.fx_rules.specs.NoCross.{NoCross}
 use Rattle.fx_rules.specs.History.{IsLegal, state, own, Falls}
-use Rattle.fx_cli.specs.declared.script.Sent.{Sent}
+use Rattle.fx_rules.specs.declared.command.Sent.{Sent}
 
 -- the commands of one bank, in order
 abbrev pub stream_of : ℕ → List Sent → List Command

@@ -11,7 +11,7 @@ use Rattle.session_head.specs.declared.reason.HeadReason.{HeadReason}
 use Rattle.order_lines.specs.Grammar.{command_line}
 use Rattle.order_lines.specs.declared.spoken.Spoken.{Spoken}
 use Rattle.order_lines.specs.declared.spoken.Spoken.TheVariants.{Of, Stray, End, Passed}
-use Rattle.fx_cli.specs.declared.script.Sent.{Sent}
+use Rattle.fx_rules.specs.declared.command.Sent.{Sent}
 
 -- Lines
 
@@ -95,4 +95,4 @@ EndsWithEnd text = (h : Header) × HasSession text h × IsTrue (is_end_rest (res
 -- a command that a bank of the session may send
 pub record IsSentOf (h : Header) (sent : Sent) : Type 0 where
   pub sender : sent.bank < bank_count h
-  pub command : IsCommand (bank_count h) (pair_count h) sent.bank sent.command
+  pub command : IsCommand h sent.bank sent.command

@@ -8,7 +8,7 @@ use Rattle.session_head.specs.Head.{Head, read_head, session_of}
 use Rattle.order_lines.specs.declared.spoken.Spoken.{Spoken}
 use Rattle.order_lines.specs.declared.spoken.Spoken.TheVariants.{Of, Stray, End, Passed}
 use Rattle.fx_cli.specs.Script.{spoken_of, up_to_end, has_end, commands_in, strays_in, IsSentOf}
-use Rattle.fx_cli.specs.declared.script.Sent.{Sent}
+use Rattle.fx_rules.specs.declared.command.Sent.{Sent}
 use Rattle.fx_cli.specs.declared.script.Script.{Script}
 use Rattle.fx_cli.specs.declared.intake.stage.Stage.{Stage}
 use Rattle.fx_cli.specs.declared.intake.stage.Stage.TheVariants.{Heading, Commanding, Faulted}

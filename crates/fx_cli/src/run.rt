@@ -3,10 +3,9 @@ ghost use Rattle.fx_rules.specs.Lists.{Each};
 ghost use Rattle.fx_cli.specs.Headline.{IsSerial};
 ghost use Rattle.fx_cli.specs.Script.{IsSentOf};
 
-use crate::script::Sent;
 use flat_host::FlatHost;
 use fx_amounts::Memory;
-use fx_rules::{Entry, Session};
+use fx_rules::{Entry, Sent, Session};
 use std::alloc::Global;
 
 /// The history of a session's commands, carried out one after another by one host.

@@ -1,17 +1,10 @@
 ghost use Rattle.std.specs.Prelude.{IfOk};
 ghost use Rattle.order_lines.specs.Grammar.{command_line};
 
-use fx_amounts::{BankId, Memory};
-use fx_rules::{Command, Session};
+use fx_amounts::Memory;
+use fx_rules::{Sent, Session};
 use fx_text::Line;
 use order_lines::{Spoken, command_from};
-
-/// A command, and the bank that sent it.
-#[derive(Clone, Copy, Debug, PartialEq, Eq)]
-pub struct Sent {
-    pub bank: BankId,
-    pub command: Command,
-}
 
 /// What the text of a session says: the session of its header, the commands behind START in the order of their lines,
 /// and how many of the lines there were strays.

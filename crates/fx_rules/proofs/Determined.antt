@@ -145,7 +145,7 @@ raised_same h S bank other limit limit' fs gs session sound same one two =
     let fills : fs ≡ gs = pairs_turned-same h (pair_count h) 0 (limited bank other limit S) fs gs session (omega arith) sound one
     (subst (λ l. Raised h (limited bank other l S) gs) (sym same) two) in cc
 
-line_same : (h : Header) (S : State) (bank other asked : ℕ) (one two : Outcome) → IsSession h → IsSound h S → bank < bank_count h → IsCommand (bank_count h) (pair_count h) bank (Line other asked) → IsOutcome h S bank (Line other asked) one → IsOutcome h S bank (Line other asked) two → one ≡ two
+line_same : (h : Header) (S : State) (bank other asked : ℕ) (one two : Outcome) → IsSession h → IsSound h S → bank < bank_count h → IsCommand h bank (Line other asked) → IsOutcome h S bank (Line other asked) one → IsOutcome h S bank (Line other asked) two → one ≡ two
 line_same h S bank other asked (LineSet limit fs) (LineSet limit' gs) session sound sender valid a b =
     raised_same h S bank other limit limit' fs gs session
     (limited-sound h S bank other asked limit sound sender valid.0 valid.1 valid.2 a.0) (a.0 ∙ sym b.0) a.1 b.1
@@ -170,7 +170,7 @@ book_same h S bank pair (Depth bids asks) two sound sender some a b = absurd b
 book_same h S bank pair one two sound sender some a b = absurd a
 
 -- state and command determine the outcome
-pub outcome-same : (h : Header) (S : State) (bank : ℕ) (command : Command) (one other : Outcome) → IsSession h → IsSound h S → bank < bank_count h → IsCommand (bank_count h) (pair_count h) bank command → IsOutcome h S bank command one → IsOutcome h S bank command other → one ≡ other
+pub outcome-same : (h : Header) (S : State) (bank : ℕ) (command : Command) (one other : Outcome) → IsSession h → IsSound h S → bank < bank_count h → IsCommand h bank command → IsOutcome h S bank command one → IsOutcome h S bank command other → one ≡ other
 outcome-same h S bank (Order side pair price lots life) one other session sound sender valid a b =
     ordered-same h S (taker_of S bank side pair price lots) life one other sound sender (weight_of-least h pair session valid.0) a b
 outcome-same h S bank (Line to asked) one other session sound sender valid a b = line_same h S bank to asked one other session sound sender valid a b

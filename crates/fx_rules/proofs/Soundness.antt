@@ -131,7 +131,7 @@ swept_rested h S t fills left rests sound next some most swept within =
     (next_same h S (filled_all S fills) t (counts-filled_all S fills) next) (omega arith)
 
 -- the next order command of a bank
-pub taker_of-next : (h : Header) (S : State) (bank : ℕ) (side : Side) (pair price lots : ℕ) (life : Life) → bank < bank_count h → IsCommand (bank_count h) (pair_count h) bank (Order side pair price lots life) → IsNext h S (taker_of S bank side pair price lots)
+pub taker_of-next : (h : Header) (S : State) (bank : ℕ) (side : Side) (pair price lots : ℕ) (life : Life) → bank < bank_count h → IsCommand h bank (Order side pair price lots life) → IsNext h S (taker_of S bank side pair price lots)
 taker_of-next h S bank side pair price lots life sender command = record {
   bank = sender;
   pair = command.0;
@@ -140,7 +140,7 @@ taker_of-next h S bank side pair price lots life sender command = record {
   price = command.1;
 }
 
-pub ordered-sound : (h : Header) (S : State) (bank : ℕ) (side : Side) (pair price lots : ℕ) (life : Life) (outcome : Outcome) → IsSession h → IsSound h S → bank < bank_count h → IsCommand (bank_count h) (pair_count h) bank (Order side pair price lots life) → IsOrdered h S (taker_of S bank side pair price lots) life outcome → IsSound h (after S bank (Order side pair price lots life) outcome)
+pub ordered-sound : (h : Header) (S : State) (bank : ℕ) (side : Side) (pair price lots : ℕ) (life : Life) (outcome : Outcome) → IsSession h → IsSound h S → bank < bank_count h → IsCommand h bank (Order side pair price lots life) → IsOrdered h S (taker_of S bank side pair price lots) life outcome → IsSound h (after S bank (Order side pair price lots life) outcome)
 ordered-sound h S bank side pair price lots Day (Ordered done rests fills) session sound sender command ordered =
     swept_rested h S (taker_of S bank side pair price lots) fills rests rests sound (taker_of-next h S bank side pair price lots Day sender command)
     (weight_of-least h pair session command.0) command.2.1 ordered.0 ordered.2
@@ -154,7 +154,7 @@ ordered-sound h S bank side pair price lots Fok Killed session sound sender comm
 ordered-sound h S bank side pair price lots life outcome session sound sender command ordered = absurd ordered
 
 -- a line command leaves a sound state
-line-sound : (h : Header) (S : State) (bank other asked : ℕ) (outcome : Outcome) → IsSession h → IsSound h S → bank < bank_count h → IsCommand (bank_count h) (pair_count h) bank (Line other asked) → IsOutcome h S bank (Line other asked) outcome → IsSound h (changed S bank (Line other asked) outcome)
+line-sound : (h : Header) (S : State) (bank other asked : ℕ) (outcome : Outcome) → IsSession h → IsSound h S → bank < bank_count h → IsCommand h bank (Line other asked) → IsOutcome h S bank (Line other asked) outcome → IsSound h (changed S bank (Line other asked) outcome)
 line-sound h S bank other asked (LineSet limit fills) session sound sender command is =
     raised-sound h (limited bank other limit S) fills session
     (limited-sound h S bank other asked limit sound sender command.0 command.1 command.2 is.0) is.1
@@ -174,7 +174,7 @@ pull-sound h S bank pair (Pulled count) sound = fewer-sound h S (λ active. not 
 pull-sound h S bank pair outcome sound = sound
 
 -- each command leaves a sound state
-pub after-sound : (h : Header) (S : State) (bank : ℕ) (command : Command) (outcome : Outcome) → IsSession h → IsSound h S → bank < bank_count h → IsCommand (bank_count h) (pair_count h) bank command → IsOutcome h S bank command outcome → IsSound h (after S bank command outcome)
+pub after-sound : (h : Header) (S : State) (bank : ℕ) (command : Command) (outcome : Outcome) → IsSession h → IsSound h S → bank < bank_count h → IsCommand h bank command → IsOutcome h S bank command outcome → IsSound h (after S bank command outcome)
 after-sound h S bank (Order side pair price lots life) outcome session sound sender valid is =
     ordered-sound h S bank side pair price lots life outcome session sound sender valid is
 after-sound h S bank (Cancel pair number) outcome session sound sender valid is =

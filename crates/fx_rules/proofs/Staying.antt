@@ -235,7 +235,7 @@ pull-stays S bank its_pair (Pulled count) pair differ =
 pull-stays S bank its_pair outcome pair differ = refl
 
 -- a step leaves the orders of each pair in which it may change nothing
-other_stays : (h : Header) (S : State) (bank : ℕ) (command : Command) (outcome : Outcome) (pair : ℕ) → IsSession h → IsSound h S → bank < bank_count h → IsCommand (bank_count h) (pair_count h) bank command → IsOutcome h S bank command outcome → may_change pair command ≡ false → orders_in pair (changed S bank command outcome).orders ≡ orders_in pair S.orders
+other_stays : (h : Header) (S : State) (bank : ℕ) (command : Command) (outcome : Outcome) (pair : ℕ) → IsSession h → IsSound h S → bank < bank_count h → IsCommand h bank command → IsOutcome h S bank command outcome → may_change pair command ≡ false → orders_in pair (changed S bank command outcome).orders ≡ orders_in pair S.orders
 other_stays h S bank (Order side its_pair price lots life) outcome pair session sound sender valid is other =
     order-stays h S bank side its_pair price lots life outcome pair session sound sender valid.0 (eqb-false its_pair pair other) is
 other_stays h S bank (Cancel its_pair number) outcome pair session sound sender valid is other =

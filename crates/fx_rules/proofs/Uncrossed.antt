@@ -16,7 +16,7 @@ use Rattle.fx_rules.specs.declared.outcome.Outcome.{Outcome}
 use Rattle.fx_rules.specs.declared.outcome.Outcome.TheVariants.{Ordered, Killed, Cancelled, Reduced, Pulled, LineSet}
 use Rattle.fx_rules.specs.declared.outcome.Entry.{Entry}
 use Rattle.fx_rules.specs.Lists.{Among}
-use Rattle.fx_rules.specs.Session.{Header, IsSession, bank_count, pair_count, weight_of}
+use Rattle.fx_rules.specs.Session.{Header, IsSession, bank_count, weight_of}
 use Rattle.fx_rules.specs.State.{State, opening, reach, orders_in}
 use Rattle.fx_rules.specs.Sweep.{Taker, Swept, filled_all, is_order, is_opposite, open_orders, with_left}
 use Rattle.fx_rules.specs.Raise.{limited}
@@ -148,7 +148,7 @@ uncrossed-swept h S t fills left rests session sound next swept is_left uncrosse
     ])
     (uncrossed-follows h S later session sound (filled_all-follows h S fills) uncrossed)
 
-uncrossed-ordered : (h : Header) (S : State) (bank : ℕ) (side : Side) (pair price lots : ℕ) (life : Life) (outcome : Outcome) → IsSession h → IsSound h S → bank < bank_count h → IsCommand (bank_count h) (pair_count h) bank (Order side pair price lots life) → IsOrdered h S (taker_of S bank side pair price lots) life outcome → NoCross h S → NoCross h (after S bank (Order side pair price lots life) outcome)
+uncrossed-ordered : (h : Header) (S : State) (bank : ℕ) (side : Side) (pair price lots : ℕ) (life : Life) (outcome : Outcome) → IsSession h → IsSound h S → bank < bank_count h → IsCommand h bank (Order side pair price lots life) → IsOrdered h S (taker_of S bank side pair price lots) life outcome → NoCross h S → NoCross h (after S bank (Order side pair price lots life) outcome)
 uncrossed-ordered h S bank side pair price lots Day (Ordered done rests fills) session sound sender command ordered uncrossed =
     uncrossed-swept h S (taker_of S bank side pair price lots) fills rests rests session sound (taker_of-next h S bank side pair price lots Day sender command) ordered.0 (λ _. refl) uncrossed
 uncrossed-ordered h S bank side pair price lots Ioc (Ordered done rests fills) session sound sender command ordered uncrossed =
@@ -175,14 +175,14 @@ uncrossed-pull h S bank pair (Pulled count) session sound uncrossed =
     uncrossed-follows h S (record S { orders = filter stays S.orders }) session sound (fewer-follows h S stays) uncrossed
 uncrossed-pull h S bank pair outcome session sound uncrossed = uncrossed
 
-uncrossed-line : (h : Header) (S : State) (bank other asked : ℕ) (outcome : Outcome) → IsSession h → IsSound h S → bank < bank_count h → IsCommand (bank_count h) (pair_count h) bank (Line other asked) → IsOutcome h S bank (Line other asked) outcome → NoCross h (changed S bank (Line other asked) outcome)
+uncrossed-line : (h : Header) (S : State) (bank other asked : ℕ) (outcome : Outcome) → IsSession h → IsSound h S → bank < bank_count h → IsCommand h bank (Line other asked) → IsOutcome h S bank (Line other asked) outcome → NoCross h (changed S bank (Line other asked) outcome)
 uncrossed-line h S bank other asked (LineSet limit fills) session sound sender command is =
     let T : State = limited bank other limit S in
     let set_sound : IsSound h T = limited-sound h S bank other asked limit sound sender command.0 command.1 command.2 is.0 in
     raised-uncrossed h T fills session set_sound (raised-sound h T fills session set_sound is.1) is.1
 uncrossed-line h S bank other asked outcome session sound sender command is = absurd is
 
-uncrossed-after : (h : Header) (S : State) (bank : ℕ) (command : Command) (outcome : Outcome) → IsSession h → IsSound h S → bank < bank_count h → IsCommand (bank_count h) (pair_count h) bank command → IsOutcome h S bank command outcome → NoCross h S → NoCross h (after S bank command outcome)
+uncrossed-after : (h : Header) (S : State) (bank : ℕ) (command : Command) (outcome : Outcome) → IsSession h → IsSound h S → bank < bank_count h → IsCommand h bank command → IsOutcome h S bank command outcome → NoCross h S → NoCross h (after S bank command outcome)
 uncrossed-after h S bank (Order side pair price lots life) outcome session sound sender valid is uncrossed = uncrossed-ordered h S bank side pair price lots life outcome session sound sender valid is uncrossed
 uncrossed-after h S bank (Cancel pair number) outcome session sound sender valid is uncrossed = uncrossed-cancel h S bank pair number outcome session sound uncrossed
 uncrossed-after h S bank (Reduce pair number lots) outcome session sound sender valid is uncrossed = uncrossed-reduce h S bank pair number lots outcome session sound uncrossed

@@ -208,7 +208,7 @@ line-told h S T b k asked one other same within differ a c = absurd a
 
 -- ---- all commands
 
-pub views-told : (h : Header) (S T : State) (b : ℕ) (command : Command) (one other : Outcome) → IsSession h → IsSound h S → IsSound h T → b < bank_count h → IsCommand (bank_count h) (pair_count h) b command → view h S b ≡ view h T b → IsOutcome h S b command one → IsOutcome h T b command other → told one ≡ told other
+pub views-told : (h : Header) (S T : State) (b : ℕ) (command : Command) (one other : Outcome) → IsSession h → IsSound h S → IsSound h T → b < bank_count h → IsCommand h b command → view h S b ≡ view h T b → IsOutcome h S b command one → IsOutcome h T b command other → told one ≡ told other
 views-told h S T b (Order side pair price lots life) one other session sound sound_other sender valid same a c =
     order-told h S T b side pair price lots life one other session sound sound_other sender valid.0 same a c
 views-told h S T b (Cancel pair number) one other session sound sound_other sender valid same a c =

@@ -5,11 +5,11 @@ use Rattle.std.specs.Prelude.{nat_lt}
 use Rattle.std.proofs.lemmas.Bool.{cases_Bool, cond_both, cond-true, cond-false, eq-eqb, le-ltb, lt-ltb, false_from_ne_true, cases_eq}
 use Rattle.fx_rules.specs.declared.orders.ActiveOrder.{ActiveOrder}
 use Rattle.fx_rules.specs.declared.orders.Resting.{Resting}
-use Rattle.fx_rules.specs.Lists.{Among, EachPair}
+use Rattle.fx_rules.specs.Lists.{Among, EachPair, below}
 use Rattle.fx_rules.specs.State.{orders_in}
 use Rattle.fx_rules.specs.Sweep.{is_order, lowered, with_left}
 use Rattle.fx_rules.specs.Sound.{ArrivesBefore}
-use Rattle.fx_rules.specs.View.{seen_as, below}
+use Rattle.fx_rules.specs.View.{seen_as}
 use Rattle.fx_rules.proofs.ListLemmas.{Each-among, filter_cons_true, filter_cons_false}
 use Rattle.fx_rules.proofs.Lowering.{is_order-says, is_order-from}
 use Rattle.fx_rules.proofs.Planning.{orders_in-here, orders_in-there}

@@ -227,7 +227,7 @@ raises-alike h S T b k limit fs gs session sound sound_other uncrossed uncrossed
     (pair_count h) 0 L M fs gs (omega arith) (views-alike h L M b sound sound_other same) one two in
     fills-seen b fs gs turns.fills
 
-pub views-fill : (h : Header) (S T : State) (b k asked limit : ℕ) (fs gs : List Fill) → IsSession h → IsSound h S → IsSound h T → NoCross h S → NoCross h T → b < bank_count h → IsCommand (bank_count h) (pair_count h) b (Line k asked) → view h (limited b k limit S) b ≡ view h (limited b k limit T) b → IsOutcome h S b (Line k asked) (LineSet limit fs) → IsOutcome h T b (Line k asked) (LineSet limit gs) → map (fill_seen b) fs ≡ map (fill_seen b) gs
+pub views-fill : (h : Header) (S T : State) (b k asked limit : ℕ) (fs gs : List Fill) → IsSession h → IsSound h S → IsSound h T → NoCross h S → NoCross h T → b < bank_count h → IsCommand h b (Line k asked) → view h (limited b k limit S) b ≡ view h (limited b k limit T) b → IsOutcome h S b (Line k asked) (LineSet limit fs) → IsOutcome h T b (Line k asked) (LineSet limit gs) → map (fill_seen b) fs ≡ map (fill_seen b) gs
 views-fill h S T b k asked limit fs gs session sound sound_other uncrossed uncrossed_other sender valid same one two =
     raises-alike h S T b k limit fs gs session
     (limited-sound h S b k asked limit sound sender valid.0 valid.1 valid.2 one.0)

@@ -6,13 +6,13 @@ use Rattle.fx_amounts.specs.declared.side.Side.{Side}
 use Rattle.fx_rules.specs.declared.orders.Resting.{Resting}
 use Rattle.fx_rules.specs.declared.orders.Fill.{Fill}
 use Rattle.fx_rules.specs.declared.outcome.Outcome.TheVariants.{Ordered}
-use Rattle.fx_rules.specs.Lists.{Among, Each}
+use Rattle.fx_rules.specs.Lists.{Among, Each, below}
 use Rattle.fx_rules.specs.Session.{Header, IsSession, bank_count, pair_count, weight_of}
 use Rattle.fx_rules.specs.State.{State, orders_in, count_of, arrivals, line, reach}
 use Rattle.fx_rules.specs.Sweep.{Taker, Swept, is_order, less, filled}
 use Rattle.fx_rules.specs.Depth.{lots_against}
 use Rattle.fx_rules.specs.Sound.{IsSound, IsKept}
-use Rattle.fx_rules.specs.View.{sees, seen_as, orders_seen, CreditSeen, credit_seen, below, View, view, told_fill, told}
+use Rattle.fx_rules.specs.View.{sees, seen_as, orders_seen, CreditSeen, credit_seen, View, view, told_fill, told}
 use Rattle.fx_rules.proofs.ListLemmas.{Each-among, among_filter, filter_agree_on}
 use Rattle.fx_rules.proofs.Opens.{orders_in-among, IsMaker, maker_of}
 use Rattle.fx_rules.proofs.SweepSound.{weight_of-least}

@@ -1,8 +1,8 @@
 -- Histories: the entries of a day in order, and which of them are legal.
 use Rattle.std.specs.Prelude.{ℕ, ◌≡◌, ◌≢◌, ◌<◌, ◌+◌, ◌-◌, ◌^◌, ◌==◌, min, List, [], ◌∷◌, filter}
 use Rattle.fx_rules.specs.declared.outcome.Entry.{Entry}
-use Rattle.fx_rules.specs.Session.{Header, IsSession, bank_count, pair_count}
-use Rattle.fx_rules.specs.State.{State, opening, count_of, cost_between, used, line}
+use Rattle.fx_rules.specs.Session.{Header, IsSession, bank_count, sender_count}
+use Rattle.fx_rules.specs.State.{State, opening, count_of, cost_between, used, left_of_limits}
 use Rattle.fx_rules.specs.Step.{IsCommand, IsOutcome, after, fills_of}
 
 -- the state after an entry
@@ -18,11 +18,11 @@ after_all S (e ∷ es) = after_all (after_entry S e) es
 abbrev pub state : Header → List Entry → State
 state h entries = after_all (opening h) entries
 
--- an entry is a step of the market: a bank of the session sends a command that it may send, as its next one, and gets
+-- an entry is a step of the market: a sender of the session sends a command that it may send, as its next one, and gets
 -- an outcome of this state
 pub record IsStep (h : Header) (S : State) (e : Entry) : Type 0 where
-  pub sender : e.bank < bank_count h
-  pub command : IsCommand (bank_count h) (pair_count h) e.bank e.command
+  pub sender : e.bank < sender_count h
+  pub command : IsCommand h e.bank e.command
   pub number : e.number ≡ count_of S e.bank + 1
   pub number_most : e.number < 2 ^ 32
   pub outcome : IsOutcome h S e.bank e.command e.outcome
@@ -41,10 +41,10 @@ pub record IsLegal (h : Header) (entries : List Entry) : Type 0 where
 abbrev pub own : ℕ → List Entry → List Entry
 own bank entries = filter (λ e. e.bank == bank) entries
 
--- By an entry each line falls by the cost of the entry's fills between its two banks, from what the limits leave of it as
--- they stand behind the entry. (A line command sets a limit first, and its fills use the line of the new limits.)
+-- By an entry what the limits of two banks leave falls by the cost of the entry's fills between them, from what those limits
+-- leave as they stand behind the entry. (A line command sets a limit first, and its fills use what the new limits leave.)
 abbrev pub Falls : Header → State → Entry → Type 0
 Falls h S e =
     (i j : ℕ) → i < bank_count h → j < bank_count h → i ≢ j →
-    line h (after_entry S e) i j + cost_between h i j (fills_of e.outcome)
+    left_of_limits h (after_entry S e) i j + cost_between h i j (fills_of e.outcome)
     ≡ min ((after_entry S e).limits i j) ((after_entry S e).limits j i) - used h S i j

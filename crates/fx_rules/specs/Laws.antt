@@ -31,7 +31,7 @@ SweepsAgree =
 abbrev pub OutcomesAgree : Type 0
 OutcomesAgree =
     (h : Header) (S : State) (bank : ℕ) (command : Command) (one other : Outcome) →
-    IsSession h → IsSound h S → bank < bank_count h → IsCommand (bank_count h) (pair_count h) bank command →
+    IsSession h → IsSound h S → bank < bank_count h → IsCommand h bank command →
     IsOutcome h S bank command one → IsOutcome h S bank command other → one ≡ other
 
 -- Two legal histories that went the same way so far and go on by the same command of the same bank go on by the same
@@ -81,7 +81,7 @@ LocalBooksAreTruthful =
 abbrev pub ViewsTellAll : Type 0
 ViewsTellAll =
     (h : Header) (S T : State) (bank : ℕ) (command : Command) (one other : Outcome) → IsSession h → IsSound h S → IsSound h T →
-    bank < bank_count h → IsCommand (bank_count h) (pair_count h) bank command → view h S bank ≡ view h T bank →
+    bank < bank_count h → IsCommand h bank command → view h S bank ≡ view h T bank →
     IsOutcome h S bank command one → IsOutcome h T bank command other → told one ≡ told other
 
 -- Two sound states that a bank sees alike have the same local books of it.
@@ -96,7 +96,7 @@ ViewsShowAll =
 abbrev pub ViewsFillAll : Type 0
 ViewsFillAll =
     (h : Header) (S T : State) (bank other asked limit : ℕ) (fills others : List Fill) → IsSession h → IsSound h S → IsSound h T →
-    NoCross h S → NoCross h T → bank < bank_count h → IsCommand (bank_count h) (pair_count h) bank (Line other asked) →
+    NoCross h S → NoCross h T → bank < bank_count h → IsCommand h bank (Line other asked) →
     view h (limited bank other limit S) bank ≡ view h (limited bank other limit T) bank →
     IsOutcome h S bank (Line other asked) (LineSet limit fills) → IsOutcome h T bank (Line other asked) (LineSet limit others) →
     map (fill_seen bank) fills ≡ map (fill_seen bank) others

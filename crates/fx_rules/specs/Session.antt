@@ -34,6 +34,10 @@ bank_count h = length h.banks
 abbrev pub pair_count : Header → ℕ
 pair_count h = length h.pairs
 
+-- how many send commands, each with a stream and a count of its own: the banks, in header order
+abbrev pub sender_count : Header → ℕ
+sender_count h = bank_count h
+
 -- the limit that bank i opens with on bank j
 abbrev pub opening_limit : Header → ℕ → ℕ → ℕ
 opening_limit h i j = slice_index h.limits (i * bank_count h + j)

@@ -4,10 +4,10 @@ use Rattle.fx_rules.specs.declared.orders.ActiveOrder.{ActiveOrder}
 use Rattle.fx_rules.specs.declared.orders.Resting.{Resting}
 use Rattle.fx_rules.specs.declared.orders.Fill.{Fill}
 use Rattle.fx_rules.specs.Lists.{total}
-use Rattle.fx_rules.specs.Session.{Header, bank_count, opening_limit, weight_of}
+use Rattle.fx_rules.specs.Session.{Header, bank_count, sender_count, opening_limit, weight_of}
 
 -- the orders that rest, in arrival order; the limit that the first bank sets on the second; all fills so far, in order;
--- the number of commands that each bank has sent
+-- the number of commands that each sender has sent
 pub record State : Type 0 where
   pub orders : List ActiveOrder
   pub limits : ℕ → ℕ → ℕ
@@ -16,13 +16,13 @@ pub record State : Type 0 where
 
 -- the state in which the day opens
 abbrev pub opening : Header → State
-opening h = record { orders = []; limits = opening_limit h; fills = []; counts = replicate (bank_count h) 0 }
+opening h = record { orders = []; limits = opening_limit h; fills = []; counts = replicate (sender_count h) 0 }
 
 -- the orders that rest in a pair, in arrival order
 abbrev pub orders_in : ℕ → List ActiveOrder → List Resting
 orders_in pair orders = map (λ active. active.order) (filter (λ active. active.pair == pair) orders)
 
--- how many commands a bank has sent
+-- how many commands a sender has sent
 abbrev pub count_of : State → ℕ → ℕ
 count_of S bank = slice_index S.counts bank
 
@@ -46,9 +46,13 @@ cost_between h i j fills = total (cost h) (filter (is_between i j) fills)
 abbrev pub used : Header → State → ℕ → ℕ → ℕ
 used h S i j = cost_between h i j S.fills
 
--- the line between two banks: what the lesser of their two limits leaves
+-- what the lesser of the limits that two banks set on each other leaves of what they have used
+abbrev pub left_of_limits : Header → State → ℕ → ℕ → ℕ
+left_of_limits h S i j = min (S.limits i j) (S.limits j i) - used h S i j
+
+-- the line between two banks, the credit on which they can trade: what their limits leave
 abbrev pub line : Header → State → ℕ → ℕ → ℕ
-line h S i j = min (S.limits i j) (S.limits j i) - used h S i j
+line h S i j = left_of_limits h S i j
 
 -- the lots of a pair that the line between two banks allows
 abbrev pub reach : Header → State → ℕ → ℕ → ℕ → ℕ

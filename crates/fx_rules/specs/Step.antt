@@ -10,7 +10,7 @@ use Rattle.fx_rules.specs.declared.command.Life.{Life}
 use Rattle.fx_rules.specs.declared.command.Life.TheVariants.{Day, Ioc, Fok}
 use Rattle.fx_rules.specs.declared.outcome.Outcome.{Outcome}
 use Rattle.fx_rules.specs.declared.outcome.Outcome.TheVariants.{Ordered, Killed, Cancelled, Reduced, NotLess, Nothing, Pulled, LineSet, Shown, Depth, Rejected}
-use Rattle.fx_rules.specs.Session.{Header}
+use Rattle.fx_rules.specs.Session.{Header, bank_count, pair_count}
 use Rattle.fx_rules.specs.declared.orders.ActiveOrder.{ActiveOrder}
 use Rattle.fx_rules.specs.declared.orders.Resting.{Resting}
 use Rattle.fx_rules.specs.State.{State, orders_in, count_of, arrivals, used, line}
@@ -22,17 +22,17 @@ use Rattle.fx_rules.specs.Depth.{IsDepth}
 abbrev pub IsNumber : ℕ → Type 0
 IsNumber number = (1 ≤ number) × (number < 2 ^ 32)
 
--- a command that a bank may send where there are so many banks and pairs: its pair and its other bank are among them, the
--- other bank is not the sender, and its values are in their ranges
-abbrev pub IsCommand : ℕ → ℕ → ℕ → Command → Type 0
-IsCommand banks pairs bank (Order side pair price lots life) = (pair < pairs) × IsPrice price × IsLots lots
-IsCommand banks pairs bank (Cancel pair number) = (pair < pairs) × IsNumber number
-IsCommand banks pairs bank (Reduce pair number lots) = (pair < pairs) × IsNumber number × IsLots lots
-IsCommand banks pairs bank (Pull pair) = pair < pairs
-IsCommand banks pairs bank (Line other limit) = (other < banks) × (other ≢ bank) × IsUnits limit
-IsCommand banks pairs bank (Show other) = (other < banks) × (other ≢ bank)
-IsCommand banks pairs bank (Book pair) = pair < pairs
-IsCommand banks pairs bank (Bad reason) = Unit {0}
+-- a command that a bank of the session may send: its pair and its other bank are the session's, the other bank is not the
+-- sender, and its values are in their ranges
+abbrev pub IsCommand : Header → ℕ → Command → Type 0
+IsCommand h bank (Order side pair price lots life) = (pair < pair_count h) × IsPrice price × IsLots lots
+IsCommand h bank (Cancel pair number) = (pair < pair_count h) × IsNumber number
+IsCommand h bank (Reduce pair number lots) = (pair < pair_count h) × IsNumber number × IsLots lots
+IsCommand h bank (Pull pair) = pair < pair_count h
+IsCommand h bank (Line other limit) = (other < bank_count h) × (other ≢ bank) × IsUnits limit
+IsCommand h bank (Show other) = (other < bank_count h) × (other ≢ bank)
+IsCommand h bank (Book pair) = pair < pair_count h
+IsCommand h bank (Bad reason) = Unit {0}
 
 -- an order command as it is swept: its number is the sender's next, and it arrives after all commands so far
 abbrev pub taker_of : State → ℕ → Side → ℕ → ℕ → ℕ → Taker

@@ -8,7 +8,7 @@ use Rattle.fx_rules.specs.declared.command.Command.TheVariants.{Order}
 use Rattle.fx_rules.specs.declared.command.Life.TheVariants.{Ioc}
 use Rattle.fx_rules.specs.declared.outcome.Outcome.TheVariants.{Ordered}
 use Rattle.fx_rules.specs.Lists.{total}
-use Rattle.fx_rules.specs.Session.{Header, bank_count, pair_count}
+use Rattle.fx_rules.specs.Session.{Header}
 use Rattle.fx_rules.specs.State.{State}
 use Rattle.fx_rules.specs.Depth.{levels_of}
 use Rattle.fx_rules.specs.Step.{IsCommand, IsOutcome}
@@ -33,5 +33,5 @@ order_for pair side levels = Order side pair (last_price levels) (lots_shown lev
 abbrev pub IsTruthful : Header → State → ℕ → ℕ → Side → List Level → Type 0
 IsTruthful h S bank pair side levels =
     levels ≢ [] → lots_shown levels ≤ 10 ^ 6 →
-    IsCommand (bank_count h) (pair_count h) bank (order_for pair side levels)
+    IsCommand h bank (order_for pair side levels)
     × ((fills : List Fill) × IsOutcome h S bank (order_for pair side levels) (Ordered (lots_shown levels) 0 fills) × (levels_of fills ≡ levels))

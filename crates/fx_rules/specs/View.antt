@@ -1,9 +1,10 @@
 -- What a bank sees of the market, and what it is told of an outcome.
-use Rattle.std.specs.Prelude.{ℕ, zero, suc, Bool, not, ◌||◌, ◌==◌, nat_le, if◌then◌else◌, List, [], ◌∷◌, ◌++◌, map, filter}
+use Rattle.std.specs.Prelude.{ℕ, Bool, not, ◌||◌, ◌==◌, nat_le, if◌then◌else◌, List, [], map, filter}
 use Rattle.fx_rules.specs.declared.orders.Resting.{Resting}
 use Rattle.fx_rules.specs.declared.orders.Fill.{Fill}
 use Rattle.fx_rules.specs.declared.outcome.Outcome.{Outcome}
 use Rattle.fx_rules.specs.declared.outcome.Outcome.TheVariants.{Ordered, LineSet}
+use Rattle.fx_rules.specs.Lists.{below}
 use Rattle.fx_rules.specs.Session.{Header, bank_count, pair_count}
 use Rattle.fx_rules.specs.State.{State, orders_in, count_of, used, line, reach}
 
@@ -28,11 +29,6 @@ pub record CreditSeen : Type 0 where
 
 abbrev pub credit_seen : Header → State → ℕ → ℕ → CreditSeen
 credit_seen h S bank other = record { other = other; limit = S.limits bank other; used = used h S bank other; line = line h S bank other }
-
--- the numbers below one, in order
-abbrev pub below : ℕ → List ℕ
-below zero = []
-below (suc n) = below n ++ n ∷ []
 
 -- a bank's view: the orders that it sees, pair by pair; its credit with each other bank; the number of its commands
 pub record View : Type 0 where

@@ -108,3 +108,11 @@ pub enum Command {
         reason: Reject,
     },
 }
+
+/// A command, and who sent it.
+#[derive(Clone, Copy, Debug, PartialEq, Eq)]
+pub struct Sent {
+    /// Its sender.
+    pub bank: BankId,
+    pub command: Command,
+}

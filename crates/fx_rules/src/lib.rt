@@ -14,7 +14,7 @@ mod orders;
 mod outcome;
 mod session;
 
-pub use command::{Command, Life, Reject};
+pub use command::{Command, Life, Reject, Sent};
 pub use gates::{Gate, OpenGate};
 pub use keyed::Keyed;
 pub use laws::{

@@ -1,8 +1,9 @@
 ghost use Rattle.std.specs.Prelude.{◌≡◌, IfOk};
+ghost use Rattle.fx_rules.specs.Step.{fills_of};
 
 use crate::command::{Command, Reject};
 use crate::lists::ListOf;
-use crate::orders::{FillList, LevelList};
+use crate::orders::{Fill, FillList, LevelList};
 use fx_amounts::{BankId, Memory, Units};
 
 /// What came of a command. What is filled, rests or is left is in lots, a limit, a use and a line in credit units.
@@ -57,6 +58,17 @@ pub enum Outcome {
 }
 
 impl Outcome {
+    /// The fills that it tells, in order; none but of an order that was swept and of a line that was set. It takes no memory.
+    pub fn fills(&self) -> &[Fill]
+        ensures fills { result.now ≡ fills_of self.now }
+    {
+        match self {
+            Outcome::Ordered { fills, .. } => fills.as_slice(),
+            Outcome::LineSet { fills, .. } => fills.as_slice(),
+            _ => &[],
+        }
+    }
+
     /// An equal outcome, in memory of its own. At `Memory` there is no new outcome, and this one is as it was.
     pub fn copy(&self) -> Result<Outcome, Memory>
         ensures equal { IfOk result (λ outcome. outcome ≡ self.now) }

@@ -1,6 +1,6 @@
 ghost use Rattle.std.specs.Prelude.{◌≡◌, ◌≢◌, ◌↔◌, ◌≤◌, ◌<◌, ◌+◌, ◌*◌, ◌&&◌, ℕ, IsTrue, SomeIff, All, AllPairs, length, position, slice_index, slice_get, bytes_eq, Contains, IfSome, IfNone, option_map};
 ghost use Rattle.fx_rules.specs.Names.{is_name};
-ghost use Rattle.fx_rules.specs.Session.{Header, IsSession, IsPairRule, AreSamePair, bank_count, pair_count, opening_limit, weight_of, bank_of, pair_of, pair_text};
+ghost use Rattle.fx_rules.specs.Session.{Header, IsSession, IsPairRule, AreSamePair, bank_count, pair_count, opening_limit, weight_of, decimals_of, lot_of, bank_of, pair_of, pair_text, pair_name};
 
 use crate::names::{Code, Name};
 use fx_amounts::{BankId, PairId, Units};
@@ -108,6 +108,19 @@ impl Session {
         ensures most { result ≤ 1000000 }
     {
         self.pairs[pair.index()].weight
+    }
+
+    /// The terms of a pair. It takes no memory.
+    pub fn rule(&self, pair: PairId) -> &PairRule
+        requires { pair < pair_count self.now }
+        ensures value { slice_get self.now.pairs pair ≡ Some result.now }
+        ensures text { pair_text result.now ≡ pair_name self.now pair }
+        ensures decimals { result.now.decimals ≡ decimals_of self.now pair }
+        ensures lot { result.now.lot ≡ lot_of self.now pair }
+        ensures weight { result.now.weight ≡ weight_of self.now pair }
+        ensures valid { IsPairRule result.now }
+    {
+        &self.pairs[pair.index()]
     }
 
     /// The bank of that name; `None` exactly where no bank has it. It takes no memory.

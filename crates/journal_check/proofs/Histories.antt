@@ -64,7 +64,7 @@ histories_agree h es fs a b same = steps_same h (opening h) es fs a.session (ope
 -- each entry is of a bank of the session, with a command that it may send
 pub record IsSentOf (h : Header) (entry : Entry) : Type 0 where
   pub sender : entry.bank < bank_count h
-  pub command : IsCommand (bank_count h) (pair_count h) entry.bank entry.command
+  pub command : IsCommand h entry.bank entry.command
 
 abbrev pub AreSentOf : Header → List Entry → Type 0
 AreSentOf h [] = Unit {0}

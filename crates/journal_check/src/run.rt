@@ -1,5 +1,5 @@
 ghost use Rattle.std.specs.Prelude.{◌≡◌, ◌<◌, ◌++◌, ◌∷◌, [], ◌^◌, IfOk, OnOk, map, length};
-ghost use Rattle.fx_rules.specs.Session.{bank_count, pair_count};
+ghost use Rattle.fx_rules.specs.Session.{bank_count};
 ghost use Rattle.fx_rules.specs.Step.{IsCommand};
 ghost use Rattle.fx_rules.specs.declared.outcome.Entry.{Entry as HistoryEntry};
 ghost use Rattle.journal_check.specs.Run.{HasRun};
@@ -41,7 +41,7 @@ impl Run {
         requires run { HasRun session.now self.old }
         requires few { length self.old.entries.items < 2 ^ 28 }
         requires sender { bank < bank_count session.now }
-        requires command { IsCommand (bank_count session.now) (pair_count session.now) bank command }
+        requires command { IsCommand session.now bank command }
         ensures run { OnOk result (HasRun session.now self.new) }
         ensures sent { OnOk result (map sent_by self.new.entries.items ≡ map sent_by self.old.entries.items ++ (bank, command) ∷ []) }
     {

@@ -35,7 +35,7 @@ first_of (Long first) = first
 pub record IsSent (h : Header) (line : Line) (bank : ℕ) (said : Command) : Type 0 where
   pub within : bank < bank_count h
   pub name : first_of line ≡ bank_name h bank
-  pub in_range : IsCommand (bank_count h) (pair_count h) bank said
+  pub in_range : IsCommand h bank said
   pub spelled : is_bad said ≡ false → IsSpelled h line bank said
 
 sent_by-ok : (found : Option ℕ) (commands : ℕ → Command) (bank : ℕ) (said : Command) → sent_by found commands ≡ Of bank said → (found ≡ Some bank) × (commands bank ≡ said)
@@ -107,7 +107,7 @@ command_line-fields h text bank said session within is =
     let parts : Parts h bank said = parts_of h bank said in
     sent_line h text bank parts.second parts.more session within (is ∙ parts.is) ∙ ap (λ (fields : List (List ℕ)). Of bank (or_bad (command_said h bank fields))) (sym parts.is)
 
-pub command_line-spelled : (h : Header) (line : Line) (bank : ℕ) (said : Command) → IsSession h → bank < bank_count h → IsCommand (bank_count h) (pair_count h) bank said → is_bad said ≡ false → IsSpelled h line bank said
+pub command_line-spelled : (h : Header) (line : Line) (bank : ℕ) (said : Command) → IsSession h → bank < bank_count h → IsCommand h bank said → is_bad said ≡ false → IsSpelled h line bank said
     → command_line h line ≡ Of bank said
 command_line-spelled h (Whole text) bank said session within in_range good is =
     command_line-fields h text bank said session within is ∙ ap (λ (read : Result Command Reject). Of bank (or_bad read)) (command_said-fields h bank said session in_range good)
@@ -157,7 +157,7 @@ fault_in-ok h bank fields fault name is =
 -- a journal's line says a command of a bank
 pub record IsRecorded (h : Header) (line : Line) (bank : ℕ) (said : Command) : Type 0 where
   pub within : bank < bank_count h
-  pub in_range : IsCommand (bank_count h) (pair_count h) bank said
+  pub in_range : IsCommand h bank said
   pub spelled : IsSpelled h line bank said
 
 recorded_fault : (h : Header) (line : Line) (bank : ℕ) (said : Command) → IsSent h line bank said → (fault : Reject) → bad_said line ≡ Some fault → IsRecorded h line bank (command.Bad fault)
@@ -190,7 +190,7 @@ unfolding journal_line
 IsRecorded-journal_line h line bank said is = recorded_of h line (command_line h line) refl bank said is
 
 -- what is spelled so is read so, a bad command too
-spelled_good : (h : Header) (line : Line) (bank : ℕ) (said : Command) → IsSession h → bank < bank_count h → IsCommand (bank_count h) (pair_count h) bank said → IsSpelled h line bank said → is_bad said ≡ false
+spelled_good : (h : Header) (line : Line) (bank : ℕ) (said : Command) → IsSession h → bank < bank_count h → IsCommand h bank said → IsSpelled h line bank said → is_bad said ≡ false
     → journal_line h line ≡ Some (bank, said)
 unfolding journal_line
 spelled_good h line bank said session within in_range is good =
@@ -203,7 +203,7 @@ spelled_bad h (Whole text) bank fault session within is =
     ∙ ap (option_map (λ reason. (bank, command.Bad reason))) (ap fault_in is ∙ fault_in-fields h bank fault)
 spelled_bad h (Long first) bank fault session within is = absurd is
 
-pub journal_line-spelled : (h : Header) (line : Line) (bank : ℕ) (said : Command) → IsSession h → bank < bank_count h → IsCommand (bank_count h) (pair_count h) bank said → IsSpelled h line bank said
+pub journal_line-spelled : (h : Header) (line : Line) (bank : ℕ) (said : Command) → IsSession h → bank < bank_count h → IsCommand h bank said → IsSpelled h line bank said
     → journal_line h line ≡ Some (bank, said)
 journal_line-spelled h line bank (command.Order side pair price lots life) session within in_range is = spelled_good h line bank _ session within in_range is refl
 journal_line-spelled h line bank (command.Cancel pair number) session within in_range is = spelled_good h line bank _ session within in_range is refl

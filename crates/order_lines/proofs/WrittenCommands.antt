@@ -24,7 +24,7 @@ IsField-price h pair price session within most =
     let few : decimals_of h pair ≤ 6 = omega (arith, (session.rules pair no_rule within).decimals) in
     IsField-price_text (decimals_of h pair) price few (omega arith)
 
-are_fields : (h : Header) (bank : ℕ) (said : Command) → IsSession h → bank < bank_count h → IsCommand (bank_count h) (pair_count h) bank said → AllByRecursion IsField (command_fields h bank said)
+are_fields : (h : Header) (bank : ℕ) (said : Command) → IsSession h → bank < bank_count h → IsCommand h bank said → AllByRecursion IsField (command_fields h bank said)
 are_fields h bank (command.Order side pair price lots life) session within is =
     (IsField-bank h bank session within, (IsField-word (side_word side), (IsField-pair h pair session is.0, (IsField-price h pair price session is.0 is.1.1, (IsField-numeral lots (omega (arith, is.2.1)), (IsField-life life, tt))))))
 are_fields h bank (command.Cancel pair number) session within is =
@@ -55,7 +55,7 @@ pub record IsWritten (h : Header) (bank : ℕ) (said : Command) : Type 0 where
   pub whole : line_of (command_text_of h bank said) ≡ Whole (command_text_of h bank said)
   pub read_back : journal_line h (line_of (command_text_of h bank said)) ≡ Some (bank, said)
 
-pub IsWritten-command : (h : Header) (bank : ℕ) (said : Command) → IsSession h → bank < bank_count h → IsCommand (bank_count h) (pair_count h) bank said → IsWritten h bank said
+pub IsWritten-command : (h : Header) (bank : ℕ) (said : Command) → IsSession h → bank < bank_count h → IsCommand h bank said → IsWritten h bank said
 unfolding command_text_of
 IsWritten-command h bank said session within is =
     let all : AllByRecursion IsField (command_fields h bank said) = are_fields h bank said session within is in

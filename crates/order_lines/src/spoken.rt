@@ -1,5 +1,5 @@
 ghost use Rattle.std.specs.Prelude.{◌≡◌, ◌<◌, ℕ, IsFalse, IfSome};
-ghost use Rattle.fx_rules.specs.Session.{bank_count, pair_count};
+ghost use Rattle.fx_rules.specs.Session.{bank_count};
 ghost use Rattle.fx_rules.specs.Step.{IsCommand};
 ghost use Rattle.fx_rules.specs.declared.command.Command.{Command};
 ghost use Rattle.order_lines.specs.Grammar.{command_line, journal_line, bad_said, or_bad, is_bad, IfSent};
@@ -33,13 +33,13 @@ pub fn command_from(session: &Session, line: &Line) -> Spoken
     // What is read is a bank's of the session and in range.
     ensures bank { IfSent result (λ bank command. bank < bank_count session.now) }
     ensures range { IfSent result
-        (λ bank command. IsCommand (bank_count session.now) (pair_count session.now) bank command) }
+        (λ bank command. IsCommand session.now bank command) }
 
     // What is read and is not bad is spelled so, and what is spelled so is read.
     ensures spelling { IfSent result
         (λ bank command. IsFalse (is_bad command) → IsSpelled session.now line.now bank command) }
     ensures spelled { (bank : ℕ) (command : Command) → bank < bank_count session.now
-        → IsCommand (bank_count session.now) (pair_count session.now) bank command → IsFalse (is_bad command)
+        → IsCommand session.now bank command → IsFalse (is_bad command)
         → IsSpelled session.now line.now bank command → result ≡ Spoken.Of bank command }
 {
     // The clauses on spelling rest on a valid session, as each is.
@@ -95,12 +95,12 @@ pub fn journal_from(session: &Session, line: &Line) -> Option<(BankId, Command)>
     // What is read is a bank's of the session and in range.
     ensures bank { IfSome result (λ entry. entry.0 < bank_count session.now) }
     ensures range { IfSome result
-        (λ entry. IsCommand (bank_count session.now) (pair_count session.now) entry.0 entry.1) }
+        (λ entry. IsCommand session.now entry.0 entry.1) }
 
     // What is read is spelled so, and what is spelled so is read, a bad command too.
     ensures spelling { IfSome result (λ entry. IsSpelled session.now line.now entry.0 entry.1) }
     ensures spelled { (bank : ℕ) (command : Command) → bank < bank_count session.now
-        → IsCommand (bank_count session.now) (pair_count session.now) bank command
+        → IsCommand session.now bank command
         → IsSpelled session.now line.now bank command → result ≡ Some (bank, command) }
 {
     // The clauses on spelling rest on a valid session, as each is.

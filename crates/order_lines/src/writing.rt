@@ -1,5 +1,5 @@
 ghost use Rattle.std.specs.Prelude.{◌≡◌, ◌<◌, ◌≤◌, ◌++◌, take, vec_len, All, OnOk, OnErr};
-ghost use Rattle.fx_rules.specs.Session.{bank_count, pair_count};
+ghost use Rattle.fx_rules.specs.Session.{bank_count};
 ghost use Rattle.fx_rules.specs.Step.{IsCommand};
 ghost use Rattle.order_lines.specs.Printing.{field_text, fields_text, second_field, IsFieldOf, AreFieldsOf};
 ghost use Rattle.fx_text.specs.Fields.{fields_of};
@@ -21,7 +21,7 @@ pub fn command_text(
     out: &mut Vec<u8>,
 ) -> Result<(), Memory>
     requires bank { bank < bank_count session.now }
-    requires command { IsCommand (bank_count session.now) (pair_count session.now) bank command.now }
+    requires command { IsCommand session.now bank command.now }
     ensures ok { OnOk result (out.new.items ≡ out.old.items ++ command_text_of session.now bank command.now) }
     ensures err { OnErr result (out.new.items ≡ out.old.items) }
 
@@ -43,7 +43,7 @@ fn append_command(
     out: &mut Vec<u8>,
 ) -> Result<(), Memory>
     requires bank { bank < bank_count session.now }
-    requires command { IsCommand (bank_count session.now) (pair_count session.now) bank command.now }
+    requires command { IsCommand session.now bank command.now }
     ensures ok { OnOk result (out.new.items ≡ out.old.items ++ command_text_of session.now bank command.now) }
     ensures err { OnErr result (out.new.items ≡ out.old.items) }
 {
@@ -77,7 +77,7 @@ fn push_command(
     out: &mut Vec<u8>,
 ) -> Result<(), Memory>
     requires bank { bank < bank_count session.now }
-    requires command { IsCommand (bank_count session.now) (pair_count session.now) bank command.now }
+    requires command { IsCommand session.now bank command.now }
     ensures ok { OnOk result (out.new.items ≡ out.old.items ++ command_text_of session.now bank command.now) }
     ensures err { OnErr result (take (vec_len out.old) out.new.items ≡ out.old.items) }
 {

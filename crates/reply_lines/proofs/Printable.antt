@@ -91,7 +91,7 @@ ordered-prints h S t Fok command (Ordered done rests fills) sound bank pair some
 ordered-prints h S t Fok command Killed sound bank pair some is = record { answer = tt; fills = tt }
 ordered-prints h S t life command outcome sound bank pair some is = absurd is
 
-raised-prints : (h : Header) (S : State) (bank other asked : ℕ) (outcome : Outcome) → IsSession h → IsSound h S → bank < bank_count h → IsCommand (bank_count h) (pair_count h) bank (Line other asked) → IsOutcome h S bank (Line other asked) outcome → Prints h (Line other asked) outcome
+raised-prints : (h : Header) (S : State) (bank other asked : ℕ) (outcome : Outcome) → IsSession h → IsSound h S → bank < bank_count h → IsCommand h bank (Line other asked) → IsOutcome h S bank (Line other asked) outcome → Prints h (Line other asked) outcome
 raised-prints h S bank other asked (LineSet limit fills) session sound sender valid is = record {
   answer = tt;
   fills = pairs_turned-fills h (pair_count h) 0 (limited bank other limit S) fills session (omega arith)
@@ -103,7 +103,7 @@ book-prints : (h : Header) (S : State) (bank pair : ℕ) (outcome : Outcome) →
 book-prints h S bank pair (Depth bids asks) within is = record { answer = within; fills = tt }
 book-prints h S bank pair outcome within is = absurd is
 
-outcome-prints : (h : Header) (S : State) (bank : ℕ) (command : Command) (outcome : Outcome) → IsSession h → IsSound h S → bank < bank_count h → IsCommand (bank_count h) (pair_count h) bank command → IsOutcome h S bank command outcome → Prints h command outcome
+outcome-prints : (h : Header) (S : State) (bank : ℕ) (command : Command) (outcome : Outcome) → IsSession h → IsSound h S → bank < bank_count h → IsCommand h bank command → IsOutcome h S bank command outcome → Prints h command outcome
 outcome-prints h S bank (Order side pair price lots life) outcome session sound sender valid is =
     ordered-prints h S (taker_of S bank side pair price lots) life (Order side pair price lots life) outcome sound sender valid.0 (weight_of-least h pair session valid.0) is
 outcome-prints h S bank (Cancel pair number) outcome session sound sender valid is =

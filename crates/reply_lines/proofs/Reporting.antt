@@ -4,7 +4,7 @@ use Rattle.std.specs.List.{flat_map, filter}
 use Rattle.fx_rules.specs.Lists.{Each}
 use Rattle.fx_rules.specs.Session.{Header, bank_count, pair_count}
 use Rattle.fx_rules.specs.State.{State}
-use Rattle.fx_rules.specs.View.{below}
+use Rattle.fx_rules.specs.Lists.{below}
 use Rattle.fx_rules.proofs.ListLemmas.{Each-append, Each-filter, Each-map, Each-of, Each-weaker}
 use Rattle.day_report.specs.Report.{volume_of, volumes_of, use_of, uses_of, banks_behind, net_of, nets_of, currencies}
 use Rattle.day_report.specs.declared.rows.Volume.{Volume}

@@ -24,6 +24,6 @@ pub record IsFillOf (h : Header) (fill : Fill) : Type 0 where
 -- an entry that can be printed for the session
 pub record IsEntryOf (h : Header) (entry : Entry) : Type 0 where
   pub sender : entry.bank < bank_count h
-  pub command : IsCommand (bank_count h) (pair_count h) entry.bank entry.command
+  pub command : IsCommand h entry.bank entry.command
   pub answer : IsAnswerOf h entry.command entry.outcome
   pub fills : Each (IsFillOf h) (fills_of entry.outcome)

@@ -1,10 +1,10 @@
 ghost use Rattle.std.specs.Prelude.{◌≤◌};
 
 use crate::reading::{Stop, read_script};
-use crate::script::{Script, Sent};
+use crate::script::Script;
 use fx_amounts::{BankId, Lots, Memory, PairId, Price, Side};
 use fx_edges::MemorySource;
-use fx_rules::{Command, Life, Reject};
+use fx_rules::{Command, Life, Reject, Sent};
 use session_head::HeadReason;
 use std::alloc::Global;
 use std::process::Abort;

@@ -1,6 +1,6 @@
 use Rattle.std.proofs.Common.{◌≡◌, ◌++◌, map, nat_lt}
 use Rattle.std.specs.List.{filter}
-use Rattle.fx_rules.specs.View.{below}
+use Rattle.fx_rules.specs.Lists.{below}
 use Rattle.day_report.specs.Lists.{use_in}
 use Rattle.day_report.proofs.uses.push_uses.Given as goal
 

@@ -1,6 +1,6 @@
 use Rattle.std.proofs.Common.{◌≡◌}
 use Rattle.std.specs.List.{flat_map}
-use Rattle.fx_rules.specs.View.{below}
+use Rattle.fx_rules.specs.Lists.{below}
 use Rattle.day_report.specs.Lists.{nets_at}
 use Rattle.day_report.proofs.flows.Flows.nets.Given as goal
 

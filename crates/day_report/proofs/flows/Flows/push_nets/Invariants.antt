@@ -1,5 +1,5 @@
 use Rattle.std.proofs.Common.{◌≡◌, ◌++◌, map}
-use Rattle.fx_rules.specs.View.{below}
+use Rattle.fx_rules.specs.Lists.{below}
 use Rattle.day_report.specs.Lists.{net_in}
 use Rattle.day_report.proofs.flows.Flows.push_nets.Given as goal
 
