@@ -3,7 +3,7 @@
 # program first where needed. The best of five runs counts.
 set -eu
 cd "$(dirname "$0")/.."
-./fx serial < examples/first.fx > /dev/null
+./fx build
 program=crates/fx_cli/out/fx_cli
 folder=$(mktemp -d)
 trap 'rm -rf "$folder"' EXIT

@@ -1,9 +1,9 @@
 #!/usr/bin/env bash
-# Times `serial` on made sessions: bench/serial.sh [BANKS PAIRS COMMANDS KIND]. It builds the program first where needed.
+# Times `serial` on made sessions: bench/serial.sh [BANKS PAIRS COMMANDS KIND]. It builds the program first where that is needed.
 # The best of five runs counts. What reading alone costs is the run of the same text with its commands as comments.
 set -eu
 cd "$(dirname "$0")/.."
-./fx serial < examples/first.fx > /dev/null
+./fx build
 program=crates/fx_cli/out/fx_cli
 folder=$(mktemp -d)
 trap 'rm -rf "$folder"' EXIT
