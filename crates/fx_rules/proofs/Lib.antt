@@ -21,6 +21,7 @@ pub mod Following
 pub mod Settling
 pub mod Uncrossed
 pub mod Levels
+pub mod Levelling
 pub mod ViewLists
 pub mod ViewOpen
 pub mod ViewFill

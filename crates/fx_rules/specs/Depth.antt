@@ -42,6 +42,14 @@ abbrev pub levels_of : List Fill → List Level
 levels_of [] = []
 levels_of (fill ∷ fills) = with_fill fill (levels_of fills)
 
+-- a fill behind levels: more lots at the last one's price, or one more level
+abbrev pub fill_added : List Level → Fill → List Level
+fill_added [] fill = record { price = fill.price; lots = fill.lots } ∷ []
+fill_added (level ∷ []) fill =
+    if level.price == fill.price then record { price = level.price; lots = level.lots + fill.lots } ∷ []
+    else level ∷ record { price = fill.price; lots = fill.lots } ∷ []
+fill_added (level ∷ next ∷ levels) fill = level ∷ fill_added (next ∷ levels) fill
+
 -- the first ten levels of what an unlimited order of a bank would take now
 abbrev pub Shows : Header → State → ℕ → ℕ → Side → List Level → Type 0
 Shows h S bank pair side levels =

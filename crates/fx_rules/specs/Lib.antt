@@ -13,5 +13,6 @@ pub mod Sound
 pub mod Plan
 pub mod NoCross
 pub mod View
+pub mod Market
 pub mod Laws
 pub mod Keyed

@@ -14,7 +14,7 @@ use Rattle.fx_rules.specs.Session.{Header, bank_count, pair_count}
 use Rattle.fx_rules.specs.declared.orders.ActiveOrder.{ActiveOrder}
 use Rattle.fx_rules.specs.declared.orders.Resting.{Resting}
 use Rattle.fx_rules.specs.State.{State, orders_in, count_of, arrivals, used, line}
-use Rattle.fx_rules.specs.Sweep.{Taker, Swept, filled_all, is_order, with_left}
+use Rattle.fx_rules.specs.Sweep.{Taker, Swept, filled_all, is_order, at_rest, with_left}
 use Rattle.fx_rules.specs.Raise.{limit_set, limited, order_of, Raised}
 use Rattle.fx_rules.specs.Depth.{IsDepth}
 
@@ -87,12 +87,7 @@ IsOutcome _ _ _ _ _ = ⊥
 abbrev pub rested : Taker → ℕ → State → State
 rested t rests S =
     if nat_lt 0 rests
-    then record S {
-      orders = S.orders ++ (record {
-        pair = t.pair;
-        order = record { bank = t.bank; number = t.number; side = t.side; price = t.price; left = rests; arrival = t.arrival };
-      }) ∷ [];
-    }
+    then record S { orders = S.orders ++ at_rest t rests ∷ [] }
     else S
 
 -- the orders without the one of this bank and number

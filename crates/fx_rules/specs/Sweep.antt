@@ -6,19 +6,14 @@ use Rattle.fx_amounts.specs.declared.side.Side.TheVariants.{Buy, Sell}
 use Rattle.fx_rules.specs.declared.orders.ActiveOrder.{ActiveOrder}
 use Rattle.fx_rules.specs.declared.orders.Resting.{Resting}
 use Rattle.fx_rules.specs.declared.orders.Fill.{Fill}
+use Rattle.fx_rules.specs.declared.taker.SweptOrder.{SweptOrder}
 use Rattle.fx_rules.specs.Lists.{Among, Each}
 use Rattle.fx_rules.specs.Session.{Header}
 use Rattle.fx_rules.specs.State.{State, orders_in, reach}
 
 -- an order as it is swept: `left` is what it still wants
-pub record Taker : Type 0 where
-  pub bank : ℕ
-  pub number : ℕ
-  pub pair : ℕ
-  pub side : Side
-  pub price : ℕ
-  pub left : ℕ
-  pub arrival : ℕ
+abbrev pub Taker : Type 0
+Taker = SweptOrder
 
 abbrev pub is_opposite : Side → Side → Bool
 is_opposite Buy Sell = true
@@ -70,6 +65,13 @@ fill_with t order lots = record {
   maker_number = order.number;
   price = order.price;
   lots = lots;
+}
+
+-- a taker as it comes to rest, with so many lots left
+abbrev pub at_rest : Taker → ℕ → ActiveOrder
+at_rest t left = record {
+  pair = t.pair;
+  order = record { bank = t.bank; number = t.number; side = t.side; price = t.price; left = left; arrival = t.arrival };
 }
 
 -- the order with so many lots left

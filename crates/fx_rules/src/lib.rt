@@ -5,16 +5,20 @@
 #![tactic(auto)]
 
 mod command;
+mod depth;
 mod gates;
 mod keyed;
 mod laws;
 mod lists;
+mod market;
 mod names;
 mod orders;
 mod outcome;
 mod session;
+mod taker;
 
 pub use command::{Command, Life, Reject, Sent};
+pub use depth::{add_fill, any_price, levels_of};
 pub use gates::{Gate, OpenGate};
 pub use keyed::Keyed;
 pub use laws::{
@@ -23,7 +27,9 @@ pub use laws::{
     views_fill_all, views_show_all, views_tell_all,
 };
 pub use lists::ListOf;
+pub use market::Market;
 pub use names::{Code, Name};
 pub use orders::{ActiveOrder, Fill, FillList, Level, LevelList, Plan, Resting};
 pub use outcome::{CommandList, Entry, EntryList, Outcome};
 pub use session::{PairRule, Session};
+pub use taker::SweptOrder;
