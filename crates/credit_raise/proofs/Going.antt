@@ -1,23 +1,28 @@
 -- From one pair to the next: what a host that plans a credit change pair by pair may rest on.
-use Rattle.std.proofs.Common.{ℕ, ◌≡◌, ◌≢◌, ◌-◌, ◌*◌, ◌/◌, ◌^◌, ◌≤◌, ◌<◌, false, ◌&&◌, eqb, List, [], ◌∷◌, ◌++◌, min, inl, inr, refl, ap, sym, subst, ◌∙◌, arith}
+use Rattle.std.proofs.Common.{ℕ, ◌≡◌, ◌≢◌, ◌-◌, ◌*◌, ◌/◌, ◌≤◌, ◌<◌, false, ◌&&◌, eqb, List, [], ◌∷◌, ◌++◌, min, inl, inr, refl, ap, sym, subst, ◌∙◌, arith}
 use Rattle.std.proofs.Math.Nat.{add-mul}
 use Rattle.std.proofs.lemmas.Bool.{cond-false, and_left, and_right, and_from, or_left, or_right, ne_eqb, eq-eqb, cases_eq, both_ways}
+use Rattle.fx_amounts.specs.Quantity.{IsUnits}
 use Rattle.fx_rules.specs.declared.orders.ActiveOrder.{ActiveOrder}
 use Rattle.fx_rules.specs.declared.orders.Resting.{Resting}
 use Rattle.fx_rules.specs.declared.orders.Fill.{Fill}
-use Rattle.fx_rules.specs.Lists.{Among, Each, total}
+use Rattle.fx_rules.specs.declared.outcome.Entry.{Entry}
+use Rattle.fx_rules.specs.Lists.{Among, Each}
 use Rattle.fx_rules.specs.Session.{Header, bank_count, weight_of}
 use Rattle.fx_rules.specs.State.{State, orders_in, line, used, reach}
 use Rattle.fx_rules.specs.Sweep.{Taker, Swept, filled, filled_all, lowered, less}
-use Rattle.fx_rules.specs.Raise.{limited, order_of, taker_of_resting, Turned}
+use Rattle.fx_rules.specs.Raise.{limit_set, limited, order_of, taker_of_resting, Turned}
+use Rattle.fx_rules.specs.History.{IsLegal, state}
 use Rattle.fx_rules.specs.Sound.{IsSound}
 use Rattle.fx_rules.specs.NoCross.{NoCross}
 use Rattle.fx_rules.proofs.Credit.{IsAllowed}
 use Rattle.fx_rules.proofs.Opens.{IsMaker, maker_of, allowed-open}
 use Rattle.fx_rules.proofs.Following.{filled_all-follows, lowered_from}
-use Rattle.fx_rules.proofs.Staying.{Elsewhere, active_same, filled_elsewhere}
-use Rattle.fx_rules.proofs.SweepSound.{filled-sound, swept-sound, filled_all-append, counts-filled_all}
-use Rattle.fx_rules.proofs.RaiseSound.{IsTurn, match_cases, turn_of, turn-sender, turned-sound}
+use Rattle.fx_rules.proofs.Staying.{Elsewhere, elsewhere_of, swept_elsewhere}
+use Rattle.fx_rules.proofs.SweepSound.{filled-sound, swept-sound, filled_all-append}
+use Rattle.fx_rules.proofs.RaiseSound.{IsTurn, match_cases, turn_of, turn-sender, turned-sound, limited-sound}
+use Rattle.fx_rules.proofs.Soundness.{legal-sound}
+use Rattle.fx_rules.proofs.Uncrossed.{legal-uncrossed}
 use Rattle.global_book.specs.Book.{Book}
 use Rattle.credit_raise.specs.Two.{are_the_two, NoCrossBut, IsRaised, IsFillOf, lots_of}
 use Rattle.credit_raise.proofs.Apart.{apart-follows}
@@ -60,36 +65,6 @@ line-fills h S pair weight i j (f ∷ fills) weight_is all =
 
 -- ---- the orders of other pairs
 
--- one order of a command tells the pair of all
-elsewhere : (h : Header) (S : State) (a : ActiveOrder) (pair : ℕ) → IsSound h S → Among a S.orders → a.pair ≢ pair → Elsewhere S.orders a.order.bank a.order.number pair
-elsewhere h S a pair sound there differ b b_there bank number is =
-    differ (ap (λ (q : ActiveOrder). q.pair) (active_same S.orders a b sound.rising there b_there (sym bank) (sym number)) ∙ is)
-
-elsewhere-lowered : (bank number lots : ℕ) (orders : List ActiveOrder) (b n pair : ℕ) → Elsewhere orders b n pair → Elsewhere (lowered bank number lots orders) b n pair
-elsewhere-lowered bank number lots orders b n pair away a there owner command is =
-    let was = lowered_from bank number lots orders a there in
-    away was.0 was.1 (sym (ap (λ (q : ActiveOrder). q.order.bank) was.2) ∙ owner) (sym (ap (λ (q : ActiveOrder). q.order.number) was.2) ∙ command)
-    (sym (ap (λ (q : ActiveOrder). q.pair) was.2) ∙ is)
-
-swept-elsewhere : (h : Header) (S : State) (t : Taker) (fills : List Fill) (left pair : ℕ) → IsSound h S → t.bank < bank_count h → 0 < weight_of h t.pair → t.pair ≢ pair → Elsewhere S.orders t.bank t.number pair → Swept h S t fills left → orders_in pair (filled_all S fills).orders ≡ orders_in pair S.orders
-swept-elsewhere h S t [] left pair sound sender some differ away swept = refl
-swept-elsewhere h S t (f ∷ fills) left pair sound sender some differ away swept =
-    let best : Resting = swept.0 in
-    let m : IsMaker h S t best = maker_of h S t best sound swept.2.there in
-    let allowed : IsAllowed h S f = subst (IsAllowed h S) (sym swept.3) (allowed-open h S t best sound sender some swept.1 swept.2.there) in
-    let owner : m.active.order.bank ≡ f.maker = sym (ap (λ (o : Resting). o.bank) m.order) ∙ sym (ap (λ (g : Fill). g.maker) swept.3) in
-    let command : m.active.order.number ≡ f.maker_number = sym (ap (λ (o : Resting). o.number) m.order) ∙ sym (ap (λ (g : Fill). g.maker_number) swept.3) in
-    let maker : Elsewhere S.orders f.maker f.maker_number pair =
-    subst (λ n. Elsewhere S.orders f.maker n pair) command (subst (λ b. Elsewhere S.orders b m.active.order.number pair) owner
-    (elsewhere h S m.active pair sound m.among (λ is. differ (sym m.pair ∙ is)))) in
-    let taker : Elsewhere S.orders f.taker f.taker_number pair =
-    subst (λ n. Elsewhere S.orders f.taker n pair) (sym (ap (λ (g : Fill). g.taker_number) swept.3))
-    (subst (λ b. Elsewhere S.orders b t.number pair) (sym (ap (λ (g : Fill). g.taker) swept.3)) away) in
-    swept-elsewhere h (filled S f) (less t f.lots) fills left pair (filled-sound h S f sound allowed) sender some differ
-    (elsewhere-lowered f.taker f.taker_number f.lots (lowered f.maker f.maker_number f.lots S.orders) t.bank t.number pair
-    (elsewhere-lowered f.maker f.maker_number f.lots S.orders t.bank t.number pair away)) swept.4
-    ∙ filled_elsewhere S f pair maker taker
-
 -- The turns of a pair leave the orders of every other.
 pub turned-elsewhere : (h : Header) (pair : ℕ) (S : State) (orders : List Resting) (fills : List Fill) (other : ℕ) → pair ≢ other → 0 < weight_of h pair → IsSound h S → Turned h pair S orders fills → orders_in other (filled_all S fills).orders ≡ orders_in other S.orders
 turned-elsewhere h pair S [] fills other differ some sound turned = ap (λ (fs : List Fill). orders_in other (filled_all S fs).orders) turned
@@ -107,12 +82,29 @@ turned-elsewhere h pair S (order ∷ orders) fills other differ some sound turne
           let later : IsSound h (filled_all S own) = (swept-sound h S (taker_of_resting pair now) own here.2.2 sound sender some here.2.3).0 in
           let away : Elsewhere S.orders now.bank now.number other =
           subst (λ (o : Resting). Elsewhere S.orders o.bank o.number other) (sym turn.order)
-          (elsewhere h S turn.active other sound turn.rests (λ is. differ (sym turn.of_pair ∙ is))) in
+          (elsewhere_of S.orders turn.active other sound.rising turn.rests (λ is. differ (sym turn.of_pair ∙ is))) in
           ap (λ (fs : List Fill). orders_in other (filled_all S fs).orders) here.2.4
           ∙ ap (λ (T : State). orders_in other T.orders) (filled_all-append S own more)
           ∙ turned-elsewhere h pair (filled_all S own) orders more other differ some later here.2.5
-          ∙ swept-elsewhere h S (taker_of_resting pair now) own here.2.2 other sound sender some differ away here.2.3
+          ∙ swept_elsewhere h S (taker_of_resting pair now) own here.2.2 other sound sender some differ away here.2.3
     ]
+
+-- ---- the first pair
+
+-- The limit is set, in the state of a legal history.
+pub raised-first : (h : Header) (entries : List Entry) (book : Book) (weight i j asked eff : ℕ) → IsLegal h entries → i < bank_count h → j < bank_count h → j ≢ i → IsUnits asked
+    → orders_in book.pair (state h entries).orders ≡ book.orders → weight_of h book.pair ≡ weight → line h (limited i j (limit_set h (state h entries) i j asked) (state h entries)) i j ≡ eff
+    → IsRaised h (limited i j (limit_set h (state h entries) i j asked) (state h entries)) book weight i j eff
+raised-first h entries book weight i j asked eff legal i_in j_in differ units orders weight_is line_is =
+    let S : State = state h entries in
+    let limit : ℕ = limit_set h S i j asked in
+    record {
+      sound = limited-sound h S i j asked limit (legal-sound h entries legal) i_in j_in differ units refl;
+      orders = orders;
+      weight_is = weight_is;
+      line_is = line_is;
+      apart = limited-apart h S book.pair i j limit (legal-uncrossed h entries legal);
+    }
 
 -- ---- the next pair
 
@@ -128,6 +120,5 @@ raised-next h S book next weight next_weight i j eff fills differ some next_some
       orders = turned-elsewhere h book.pair S book.orders fills next.pair differ heavy raised.sound turned ∙ next_orders;
       weight_is = next_weight_is;
       line_is = line-fills h S book.pair weight i j fills raised.weight_is parties ∙ ap (λ n. n - lots_of fills * weight) raised.line_is;
-      arrivals_most = subst (λ (counts : List ℕ). total (λ count. count) counts ≤ 2 ^ 64) (sym (counts-filled_all S fills)) raised.arrivals_most;
       apart = apart-follows h S (filled_all S fills) next.pair i j (omega (arith, next_some, next_weight_is)) (filled_all-follows h S fills) apart;
     }

@@ -6,12 +6,10 @@ use Rattle.fx_rules.specs.declared.orders.Resting.{Resting}
 use Rattle.fx_rules.specs.declared.orders.Fill.{Fill}
 use Rattle.fx_rules.specs.Lists.{Among, Each}
 use Rattle.fx_rules.specs.Session.{Header}
-use Rattle.fx_rules.specs.State.{State, orders_in, arrivals}
+use Rattle.fx_rules.specs.State.{State}
 use Rattle.fx_rules.specs.Raise.{Turned}
-use Rattle.fx_rules.specs.Sound.{IsSound, IsKept}
 use Rattle.fx_rules.proofs.ListLemmas.{Each-among, Each-of, Among-filter, filter_agree_on}
-use Rattle.fx_rules.proofs.Opens.{orders_in-among}
-use Rattle.global_book.specs.Book.{Book}
+use Rattle.global_book.specs.Book.{Book, IsHeld, IsBook}
 use Rattle.credit_raise.specs.Two.{is_of_two, is_of_two_from, turns, IsRaised}
 use Rattle.credit_raise.specs.Playing.{Played}
 use Rattle.credit_raise.proofs.Apart.{two-owner}
@@ -36,18 +34,12 @@ turns-owners i j orders =
     let from = and_parts (ltb o.arrival (2 ^ 64)) (is_of_two_from i j 0 o) found.1 in
     two-owner i j o (and_parts (is_of_two i j o) (leb 0 o.arrival) from.1).0)
 
-in_range : (h : Header) (S : State) (pair : ℕ) (o : Resting) → IsSound h S → arrivals S ≤ 2 ^ 64 → Among o (orders_in pair S.orders) → o.arrival < 2 ^ 64
-in_range h S pair o sound most there =
-    let stands = orders_in-among pair S.orders o there in
-    let kept = Each-among (IsKept h S.counts) S.orders stands.0 sound.kept stands.1 in
-    omega (arith, kept.arrival, most, ap (λ (q : Resting). q.arrival) stands.3)
-
 -- Where nothing rests crossed but between two banks, the play of their orders makes the fills of the full sweep.
-pub raised-turned : (h : Header) (S : State) (book : Book) (weight i j eff : ℕ) (fills : List Fill) → i ≢ j → 1 ≤ weight → IsRaised h S book weight i j eff
+pub raised-turned : (h : Header) (S : State) (book : Book) (weight i j eff : ℕ) (fills : List Fill) → i ≢ j → 1 ≤ weight → IsBook book → IsRaised h S book weight i j eff
     → Played book.pair weight i j eff [] (turns i j 0 book.orders) fills → Turned h book.pair S book.orders fills
-raised-turned h S book weight i j eff fills differ some raised played =
+raised-turned h S book weight i j eff fills differ some valid raised played =
     let two : turns i j 0 book.orders ≡ filter (is_of_two i j) book.orders =
-    turns-all i j book.orders (λ o there. in_range h S book.pair o raised.sound raised.arrivals_most (subst (Among o) (sym raised.orders) there)) in
+    turns-all i j book.orders (λ o there. (Each-among (IsHeld book.banks) book.orders o valid.held there).arrival_most) in
     let meets : Meets h S book.pair weight i j eff [] (filter (is_of_two i j) book.orders) = record {
       sound = raised.sound;
       weight_is = raised.weight_is;

@@ -5,7 +5,7 @@ use Rattle.fx_rules.specs.declared.orders.Resting.{Resting}
 use Rattle.fx_rules.specs.declared.orders.Fill.{Fill}
 use Rattle.fx_rules.specs.Lists.{Among, total}
 use Rattle.fx_rules.specs.Session.{Header, weight_of}
-use Rattle.fx_rules.specs.State.{State, orders_in, line, reach, arrivals, is_between}
+use Rattle.fx_rules.specs.State.{State, orders_in, line, reach, is_between}
 use Rattle.fx_rules.specs.Sound.{IsSound}
 use Rattle.global_book.specs.Book.{Book}
 
@@ -39,7 +39,6 @@ pub record IsRaised (h : Header) (S : State) (book : Book) (weight i j eff : ℕ
   pub orders : orders_in book.pair S.orders ≡ book.orders
   pub weight_is : weight_of h book.pair ≡ weight
   pub line_is : line h S i j ≡ eff
-  pub arrivals_most : arrivals S ≤ 2 ^ 64
   pub apart : NoCrossBut h S book.pair i j
 
 -- a fill of a pair between two banks

@@ -6,5 +6,5 @@ mod raise;
 mod replay;
 mod walk;
 
-pub use laws::{limits_set_others_apart, raises_go_on, two_banks_turn};
+pub use laws::{limits_set_others_apart, raises_begin, raises_go_on, two_banks_turn};
 pub use raise::plan_raise;

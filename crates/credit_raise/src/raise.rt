@@ -5,6 +5,7 @@ ghost use Rattle.fx_rules.specs.Lists.{Each};
 ghost use Rattle.fx_rules.specs.Session.{Header};
 ghost use Rattle.fx_rules.specs.State.{State};
 ghost use Rattle.fx_rules.specs.Raise.{Turned};
+ghost use Rattle.global_book.specs.Book.{IsBook};
 ghost use Rattle.credit_raise.specs.Two.{IsFillOf, IsRaised, lots_of, turns};
 ghost use Rattle.credit_raise.specs.Playing.{Played, other_of};
 
@@ -62,6 +63,7 @@ fn play<L: Ledger>(
     requires weight { IsWeight weight }
     requires differ { i ≢ j }
     ensures played { IfOk result (λ replay. Played book.now.pair weight i j eff [] (turns i j 0 book.now.orders) replay.fills.items) }
+    ensures valid { IsBook book.now }
 {
     let banks = i.index().max(j.index()) + 1;
     let mut replay = Replay::new(alloc, book.pair(), banks, weight, eff.get())?;

@@ -97,7 +97,7 @@ active_same (o ∷ orders) a b rising (inr here) (inl b_is) bank number =
 active_same (o ∷ orders) a b rising (inr here) (inr there) bank number = active_same orders a b rising.1 here there bank number
 
 -- where one order of the bank and number is of another pair, so is each
-elsewhere_of : (orders : List ActiveOrder) (a : ActiveOrder) (pair : ℕ) → EachPair Rises orders → Among a orders → a.pair ≢ pair → Elsewhere orders a.order.bank a.order.number pair
+pub elsewhere_of : (orders : List ActiveOrder) (a : ActiveOrder) (pair : ℕ) → EachPair Rises orders → Among a orders → a.pair ≢ pair → Elsewhere orders a.order.bank a.order.number pair
 elsewhere_of orders a pair rising there differ b b_there bank number is =
     differ (ap (λ (q : ActiveOrder). q.pair) (active_same orders a b rising there b_there (sym bank) (sym number)) ∙ is)
 
@@ -120,7 +120,7 @@ elsewhere_filled S f b n pair elsewhere =
     (elsewhere_lowered f.maker f.maker_number f.lots S.orders b n pair elsewhere)
 
 -- the sweep of an order of another pair leaves this one's orders
-swept_elsewhere : (h : Header) (S : State) (t : Taker) (fills : List Fill) (left pair : ℕ) → IsSound h S → t.bank < bank_count h → 0 < weight_of h t.pair → t.pair ≢ pair → Elsewhere S.orders t.bank t.number pair → Swept h S t fills left → orders_in pair (filled_all S fills).orders ≡ orders_in pair S.orders
+pub swept_elsewhere : (h : Header) (S : State) (t : Taker) (fills : List Fill) (left pair : ℕ) → IsSound h S → t.bank < bank_count h → 0 < weight_of h t.pair → t.pair ≢ pair → Elsewhere S.orders t.bank t.number pair → Swept h S t fills left → orders_in pair (filled_all S fills).orders ≡ orders_in pair S.orders
 swept_elsewhere h S t [] left pair sound sender some differ elsewhere swept = refl
 swept_elsewhere h S t (f ∷ fills) left pair sound sender some differ elsewhere swept =
     let best : Resting = swept.0 in

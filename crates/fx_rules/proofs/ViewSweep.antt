@@ -33,7 +33,7 @@ use Rattle.fx_rules.proofs.ViewFill.{are_of_filled, taken_of, IsTaken, same_fill
 against : Side → Resting → ℕ
 against side o = cond (is_opposite side o.side) o.left 0
 
-lots_on : Side → List Resting → ℕ
+unfoldable pub lots_on : Side → List Resting → ℕ
 lots_on side orders = total (λ (o : Resting). o.left) (filter (λ (o : Resting). is_opposite side o.side) orders)
 
 none_more : (n : ℕ) → n ≡ 0 + n
@@ -76,7 +76,7 @@ against-is : (side : Side) (o : Resting) → is_opposite side o.side ≡ true �
 unfolding against
 against-is side o is = cond-true (is_opposite side o.side) o.left 0 is
 
-among_lots : (side : Side) (orders : List Resting) (a : Resting) → Among a orders → is_opposite side a.side ≡ true → a.left ≤ lots_on side orders
+pub among_lots : (side : Side) (orders : List Resting) (a : Resting) → Among a orders → is_opposite side a.side ≡ true → a.left ≤ lots_on side orders
 among_lots side [] a there is = absurd there
 among_lots side (o ∷ orders) a (inl same) is =
     let here : against side a ≡ a.left = against-is side a is in
@@ -89,7 +89,7 @@ not_head o orders a (inl is) isnt = absurd (both_ways (is_order a.bank a.number 
 not_head o orders a (inr later) isnt = later
 
 -- a fill takes its lots of the other side
-lots_on-taken : (side : Side) (lots : ℕ) (orders : List Resting) (a : Resting) → EachPair ArrivesBefore orders → Among a orders → is_opposite side a.side ≡ true → lots ≤ a.left → lots_on side (lower_order a.bank a.number lots orders) + lots ≤ lots_on side orders
+pub lots_on-taken : (side : Side) (lots : ℕ) (orders : List Resting) (a : Resting) → EachPair ArrivesBefore orders → Among a orders → is_opposite side a.side ≡ true → lots ≤ a.left → lots_on side (lower_order a.bank a.number lots orders) + lots ≤ lots_on side orders
 unfolding lower_order
 lots_on-taken side lots [] a rising there opposite most = absurd there
 lots_on-taken side lots (o ∷ orders) a rising there opposite most =

@@ -1,5 +1,5 @@
 -- What a book keeps, as an order comes, is lowered or goes, and as room is made.
-use Rattle.std.proofs.Common.{ℕ, ◌≡◌, ◌≢◌, ◌≤◌, ◌<◌, List, Some, None, inl, inr, refl, ap, sym, subst, ◌∙◌, arith, length, get_or}
+use Rattle.std.proofs.Common.{ℕ, ◌≡◌, ◌≢◌, ◌≤◌, ◌<◌, ◌^◌, List, Some, None, inl, inr, refl, ap, sym, subst, ◌∙◌, arith, length, get_or}
 use Rattle.std.proofs.Math.ListN.{set, length-set}
 use Rattle.std.proofs.lemmas.Bool.{cases_eq, eq-eqb, ne_eqb}
 use Rattle.std.proofs.lemmas.List.{get_or-set_same, get_or-set_other, get_or_default}
@@ -99,15 +99,15 @@ owners_lost banks old new owners row row' key order rows resting within read was
 -- a book whose order came to rest
 pub kept_rested : (banks : ℕ) (old new : Orders) (sides sides' : Sides) (owners : List Ladder) (row row' : Ladder) (key : ℕ) (order : Resting)
     → IsKept banks old sides.bids sides.asks owners → order_at old key ≡ None → Changes old new key (Some order) → AreOrders new
-    → ((k : ℕ) (o : Resting) → order_at old k ≡ Some o → o.arrival ≢ order.arrival) → order.bank < length owners → 1 ≤ order.number
+    → ((k : ℕ) (o : Resting) → order_at old k ≡ Some o → o.arrival ≢ order.arrival) → order.bank < length owners → 1 ≤ order.number → order.arrival < 2 ^ 64
     → RowGains (row_of sides order.side) (row_of sides' order.side) (place_in its_price key order) → row_of sides' (opposite order.side) ≡ row_of sides (opposite order.side)
     → row ≡ get_or owners order.bank row → RowGains row row' (place_in no_price key order)
     → IsKept banks new sides'.bids sides'.asks (set owners order.bank row')
-kept_rested banks old new sides sides' owners row row' key order kept vacant change valid fresh within number gains other read owner_gains =
+kept_rested banks old new sides sides' owners row row' key order kept vacant change valid fresh within number most gains other read owner_gains =
     let count : length (set owners order.bank row') ≡ length owners = length-set owners order.bank row' in
     let rows : SideRows new sides' = sides_gained order.side old new sides sides' key order (kept.bids_are, kept.asks_are) refl vacant change gains other in
     record {
-      resting = subst (λ n. AreResting n new) (sym count) (resting_added (length owners) old new key order kept.resting vacant change valid fresh within number);
+      resting = subst (λ n. AreResting n new) (sym count) (resting_added (length owners) old new key order kept.resting vacant change valid fresh within number most);
       banks_are = count ∙ kept.banks_are;
       bids_are = rows.0;
       asks_are = rows.1;
@@ -175,13 +175,13 @@ grown_set owners at row row' within read grows bank none below =
 -- the same as code says it: the places are made beside the order, and the row is at an index
 pub kept_rested_at : (banks : ℕ) (old new : Orders) (sides sides' : Sides) (owners : List Ladder) (row row' : Ladder) (key at : ℕ) (order : Resting) (by_price by_arrival : Place)
     → IsKept banks old sides.bids sides.asks owners → order_at old key ≡ None → Changes old new key (Some order) → AreOrders new
-    → ((k : ℕ) (o : Resting) → order_at old k ≡ Some o → o.arrival ≢ order.arrival) → order.bank < length owners → 1 ≤ order.number
+    → ((k : ℕ) (o : Resting) → order_at old k ≡ Some o → o.arrival ≢ order.arrival) → order.bank < length owners → 1 ≤ order.number → order.arrival < 2 ^ 64
     → by_price ≡ place_in its_price key order → by_arrival ≡ place_in no_price key order → at ≡ order.bank
     → RowGains (row_of sides order.side) (row_of sides' order.side) by_price → row_of sides' (opposite order.side) ≡ row_of sides (opposite order.side)
     → row ≡ get_or owners at row → RowGains row row' by_arrival → IsKept banks new sides'.bids sides'.asks (set owners at row')
-kept_rested_at banks old new sides sides' owners row row' key at order by_price by_arrival kept vacant change valid fresh within number price_is arrival_is at_is gains other read owner_gains =
+kept_rested_at banks old new sides sides' owners row row' key at order by_price by_arrival kept vacant change valid fresh within number most price_is arrival_is at_is gains other read owner_gains =
     subst (λ n. IsKept banks new sides'.bids sides'.asks (set owners n row')) (sym at_is)
-    (kept_rested banks old new sides sides' owners row row' key order kept vacant change valid fresh within number
+    (kept_rested banks old new sides sides' owners row row' key order kept vacant change valid fresh within number most
     (subst (RowGains (row_of sides order.side) (row_of sides' order.side)) price_is gains) other
     (subst (λ n. row ≡ get_or owners n row) at_is read) (subst (RowGains row row') arrival_is owner_gains))
 

@@ -33,7 +33,7 @@ IsBook-resting count banks orders book most resting seen banks_is = record {
       let it = flat_among orders.slots o there in
       let held = resting.held it.0 o it.1 in
       let range = resting.valid.numbered it.0 o it.1 in
-      record { bank = omega (arith, held.0); number_least = held.1; number_most = range.1 }));
+      record { bank = omega (arith, held.0); number_least = held.1; number_most = range.1; arrival_most = held.2 }));
 }
 
 -- an order that came to rest stands last

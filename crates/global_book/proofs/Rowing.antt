@@ -1,5 +1,5 @@
 -- The rows of a book as an order comes, is lowered or goes.
-use Rattle.std.proofs.Common.{ℕ, ◌≡◌, ◌≢◌, ◌≤◌, ◌<◌, Bool, true, false, List, Option, Some, None, inl, inr, refl, ap, sym, subst, ◌∙◌, arith}
+use Rattle.std.proofs.Common.{ℕ, ◌≡◌, ◌≢◌, ◌≤◌, ◌<◌, ◌^◌, Bool, true, false, List, Option, Some, None, inl, inr, refl, ap, sym, subst, ◌∙◌, arith}
 use Rattle.std.proofs.lemmas.Bool.{cases_eq, both_ways}
 use Rattle.std.specs.List.{Contains}
 use Rattle.fx_amounts.specs.declared.side.Side.{Side}
@@ -143,8 +143,8 @@ module _ (picks : Resting → Bool) (price_of : Resting → ℕ) where
       new place.key it.0 it.1 (sym (ap (λ (p : Place). p.arrival) it.3) ∙ same)
 
 pub resting_added : (banks : ℕ) (old new : Orders) (key : ℕ) (order : Resting) → AreResting banks old → order_at old key ≡ None → Changes old new key (Some order) → AreOrders new
-    → ((k : ℕ) (o : Resting) → order_at old k ≡ Some o → o.arrival ≢ order.arrival) → order.bank < banks → 1 ≤ order.number → AreResting banks new
-resting_added banks old new key order resting vacant change valid fresh bank number = record {
+    → ((k : ℕ) (o : Resting) → order_at old k ≡ Some o → o.arrival ≢ order.arrival) → order.bank < banks → 1 ≤ order.number → order.arrival < 2 ^ 64 → AreResting banks new
+resting_added banks old new key order resting vacant change valid fresh bank number most = record {
   valid = valid;
   arrivals = λ k l a b here there same. elim (cases_eq k key) [
     | inl k_is ↦
@@ -163,7 +163,7 @@ resting_added banks old new key order resting vacant change valid fresh bank num
         ]
   ];
   held = λ k o at. elim (cases_eq k key) [
-    | inl k_is ↦ subst (λ (r : Resting). (r.bank < banks) × (1 ≤ r.number)) (sym (changed_is old new key k order o change k_is at)) (bank, number)
+    | inl k_is ↦ subst (λ (r : Resting). (r.bank < banks) × (1 ≤ r.number) × (r.arrival < 2 ^ 64)) (sym (changed_is old new key k order o change k_is at)) (bank, number, most)
     | inr differ ↦ resting.held k o (sym (change.others k differ) ∙ at)
   ];
 }
@@ -193,7 +193,7 @@ resting_lowered banks old new key order lower resting is change valid arrival ba
       held = λ k o at.
           let was = before k o at in
           let it = resting.held k was.0 was.1 in
-          (omega (arith, it.0, was.3), omega (arith, it.1, was.4));
+          (omega (arith, it.0, was.3), omega (arith, it.1, was.4), omega (arith, it.2, was.2));
     }
 
 pub resting_removed : (banks : ℕ) (old new : Orders) (key : ℕ) → AreResting banks old → Changes old new key None → AreOrders new → AreResting banks new

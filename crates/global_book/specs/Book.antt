@@ -35,11 +35,12 @@ pub record KeepsRoom (old new : Book) : Type 0 where
 pub record TakesRoom (old new : Book) : Type 0 where
   pub room : (bank : ℕ) (side : Side) → room_for old bank side ≤ room_for new bank side + 1
 
--- an order of the book's banks, with a number of its bank's stream
+-- an order of the book's banks, with a number of its bank's stream and an arrival of 64 bits
 pub record IsHeld (banks : ℕ) (order : Resting) : Type 0 where
   pub bank : order.bank < banks
   pub number_least : 1 ≤ order.number
   pub number_most : order.number < 2 ^ 32
+  pub arrival_most : order.arrival < 2 ^ 64
 
 -- the orders stand by arrival, no two have one arrival or are of one command, and each is one of the book's banks
 pub record IsBook (book : Book) : Type 0 where

@@ -1,5 +1,5 @@
 -- How a book keeps its orders: under keys, and in sorted rows of their places.
-use Rattle.std.specs.Prelude.{ℕ, ◌≡◌, ◌≤◌, ◌<◌, min, Bool, true, nat_lt, if◌then◌else◌, List, [], ◌∷◌, length, Option, Some, None, slice_index_or}
+use Rattle.std.specs.Prelude.{ℕ, ◌≡◌, ◌≤◌, ◌<◌, ◌^◌, min, Bool, true, nat_lt, if◌then◌else◌, List, [], ◌∷◌, length, Option, Some, None, slice_index_or}
 use Rattle.std.specs.List.{Contains}
 use Rattle.fx_amounts.specs.Side.{opposite}
 use Rattle.fx_amounts.specs.declared.side.Side.{Side}
@@ -44,12 +44,12 @@ pub record IsRow (picks : Resting → Bool) (price_of : Resting → ℕ) (side :
   pub holds : (place : Place) → Contains row.places place → IsPlaced picks price_of orders place
   pub all : (key : ℕ) (order : Resting) → order_at orders key ≡ Some order → picks order ≡ true → Contains row.places (place_in price_of key order)
 
--- no two orders have one arrival, and each is one of the first so many banks, with a number from 1
+-- no two orders have one arrival, and each is one of the first so many banks, with a number from 1 and an arrival of 64 bits
 pub record AreResting (banks : ℕ) (orders : Orders) : Type 0 where
   pub valid : AreOrders orders
   pub arrivals : (key other : ℕ) (order same : Resting) → order_at orders key ≡ Some order → order_at orders other ≡ Some same
       → order.arrival ≡ same.arrival → key ≡ other
-  pub held : (key : ℕ) (order : Resting) → order_at orders key ≡ Some order → (order.bank < banks) × (1 ≤ order.number)
+  pub held : (key : ℕ) (order : Resting) → order_at orders key ≡ Some order → (order.bank < banks) × (1 ≤ order.number) × (order.arrival < 2 ^ 64)
 
 -- the row of a side, and the row of a bank
 abbrev pub IsSideRow : Side → Orders → Ladder → Type 0

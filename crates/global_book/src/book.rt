@@ -1,4 +1,4 @@
-ghost use Rattle.std.specs.Prelude.{◌≡◌, ◌+◌, ◌≤◌, ◌<◌, ◌↔◌, [], ◌∷◌, ◌++◌, None, not, map, filter, length, false, OnOk, IfOk, IfSome};
+ghost use Rattle.std.specs.Prelude.{◌≡◌, ◌+◌, ◌≤◌, ◌<◌, ◌^◌, ◌↔◌, [], ◌∷◌, ◌++◌, None, not, map, filter, length, false, OnOk, IfOk, IfSome};
 ghost use Rattle.std.specs.List.{All};
 ghost use Rattle.std.specs.Option.{option_copied};
 ghost use Rattle.fx_amounts.specs.Side.{opposite};
@@ -253,7 +253,8 @@ fn by_price(order: &Resting, key: usize) -> Place
 
 /// The place of an order in its bank's row, where all prices are one.
 fn by_arrival(arrival: u64, key: usize) -> Place
-    ensures { result ≡ record { price = 1; arrival = arrival; key = key } }
+    ensures most { arrival < 2 ^ 64 }
+    ensures place { result ≡ record { price = 1; arrival = arrival; key = key } }
 {
     Place {
         price: Price::new(Price::LEAST).unwrap(),

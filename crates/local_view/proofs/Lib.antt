@@ -1,3 +1,2 @@
 pub mod Levelling
-pub mod Enough
 pub mod Probing

@@ -11,7 +11,7 @@ use Rattle.credit_raise.proofs.raise.plan_raise.Goals as goal
 pub returns-clause-fills : goal.returns-clause-fills
 returns-clause-fills g c h S raised =
     subst (Turned h c.args.book.now.pair S c.args.book.now.orders) (sym c.from_vec.ensures.items)
-    (raised-turned h S c.args.book.now c.args.weight c.args.i c.args.j c.args.eff c.in_ok-replay.replay.fills.items c.requires.differ c.requires.weight.0 raised c.in_ok-replay.ensures.played)
+    (raised-turned h S c.args.book.now c.args.weight c.args.i c.args.j c.args.eff c.in_ok-replay.replay.fills.items c.requires.differ c.requires.weight.0 c.play.ensures.valid raised c.in_ok-replay.ensures.played)
 
 pub returns-clause-parties : goal.returns-clause-parties
 returns-clause-parties g c =

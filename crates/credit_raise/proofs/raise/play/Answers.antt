@@ -122,6 +122,7 @@ returns g c = elim c.match-next_of_two.branch [
             w.other_of.result c.loop-order.replay.weight c.loop-order.replay.book.pair w.turn.new.self.line w.turn.new.self.book.orders
             was.weight was.pair w.other_of.ensures w.in_ok-turn.ensures.turn.2 w.in_ok-turn.ensures.turn.4 w.in_ok-turn.ensures.turn.5
             (subst (λ (ts : List Resting). Played pair weight i j w.turn.new.self.line w.turn.new.self.book.orders ts []) (sym last) refl)))));
+        valid = c.next_of_two.ensures.valid;
       }
   | in_default w ↦
       let i : ℕ = c.args.i in
@@ -133,5 +134,6 @@ returns g c = elim c.match-next_of_two.branch [
             (append-nil c.loop-order.replay.fills.items ∙ ap (λ (r : Replay). r.fills.items) (sym w.replay-is))
             (c.loop-order.invariant.goes_on []
             (subst (λ (ts : List Resting). Played c.args.book.now.pair c.args.weight i j c.loop-order.replay.line c.loop-order.replay.book.orders ts []) (sym none) refl));
+        valid = c.next_of_two.ensures.valid;
       }
 ]

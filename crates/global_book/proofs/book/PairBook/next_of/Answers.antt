@@ -18,7 +18,7 @@ returns-in_err-place-clause-order g c =
     let within : c.index-2.result < length c.self.inside.owners.items = omega (arith, c.if-index-len.false, c.len.ensures, c.index.ensures.value, c.index-2.ensures.value) in
     let row = bank_row c.self.inside.orders c.self.inside.owners.items c.index-row.result.now c.index-2.result c.args.bank c.self.invariant.owners_are within c.index-row.ensures c.index-2.ensures.value in
     c.from_residual.ensures ∙ next_none c.self.inside.orders c.args.self.now.orders c.index-row.result.now c.args.bank c.args.after c.from.result row
-    (tells_turn c.index-row.result.now c.args.after c.by_arrival.result c.from.result c.by_arrival.ensures c.from.ensures.first) c.in_err-place.was (ap (λ (b : Book). b.orders) c.self.view_is)
+    (tells_turn c.index-row.result.now c.args.after c.by_arrival.result c.from.result c.by_arrival.ensures.place c.from.ensures.first) c.in_err-place.was (ap (λ (b : Book). b.orders) c.self.view_is)
 
 pub returns-in_err-place-clause-valid : goal.returns-in_err-place-clause-valid
 returns-in_err-place-clause-valid g c =
@@ -31,7 +31,7 @@ get-requires g c =
     let row = bank_row c.self.inside.orders c.self.inside.owners.items c.index-row.result.now c.index-2.result c.args.bank c.self.invariant.owners_are within c.index-row.ensures c.index-2.ensures.value in
     record {
       live = turn_live c.args.bank c.self.inside.orders c.index-row.result.now c.args.after c.from.result c.in_ok-place.place row c.from.ensures.sorted
-          (tells_turn c.index-row.result.now c.args.after c.by_arrival.result c.from.result c.by_arrival.ensures c.from.ensures.first) c.in_ok-place.was;
+          (tells_turn c.index-row.result.now c.args.after c.by_arrival.result c.from.result c.by_arrival.ensures.place c.from.ensures.first) c.in_ok-place.was;
     }
 
 pub returns-clause-order : goal.returns-clause-order
@@ -40,7 +40,7 @@ returns-clause-order g c =
     let row = bank_row c.self.inside.orders c.self.inside.owners.items c.index-row.result.now c.index-2.result c.args.bank c.self.invariant.owners_are within c.index-row.ensures c.index-2.ensures.value in
     next_found (length c.self.inside.owners.items) c.self.inside.orders c.args.self.now.orders c.index-row.result.now c.args.bank c.args.after c.from.result c.in_ok-place.place c.get.result
     c.self.invariant.resting row c.from.ensures.sorted
-    (tells_turn c.index-row.result.now c.args.after c.by_arrival.result c.from.result c.by_arrival.ensures c.from.ensures.first) c.in_ok-place.was c.get.ensures.value (ap (λ (b : Book). b.orders) c.self.view_is)
+    (tells_turn c.index-row.result.now c.args.after c.by_arrival.result c.from.result c.by_arrival.ensures.place c.from.ensures.first) c.in_ok-place.was c.get.ensures.value (ap (λ (b : Book). b.orders) c.self.view_is)
 
 pub returns-clause-valid : goal.returns-clause-valid
 returns-clause-valid g c =

@@ -31,7 +31,7 @@ invariant_of-self c =
     let bank_is : c.index.result ≡ c.remove-order.result.bank = c.index.ensures.value ∙ sym it.1.is_it.bank ∙ ap (λ (r : Resting). r.bank) (sym same) in
     kept_removed_at c.self.inside.banks c.self.inside.orders c.remove-order.new.self c.self.inside.sides c.remove.new.self c.self.inside.owners.items c.index_mut-row.result.now c.remove-2.new.self
     c.unwrap-key.result.0 c.index.result c.remove-order.result c.by_price.result c.by_arrival.result c.self.invariant c.remove-order.ensures.value c.remove-order.ensures.changes c.remove-order.ensures.valid
-    c.by_price.ensures c.by_arrival.ensures bank_is c.remove.ensures.loses c.remove.ensures.other c.index_mut-row.ensures.value
+    c.by_price.ensures c.by_arrival.ensures.place bank_is c.remove.ensures.loses c.remove.ensures.other c.index_mut-row.ensures.value
     (record { side = c.remove-2.ensures.side; loses = c.remove-2.ensures.loses; room = c.remove-2.ensures.room })
 
 pub returns-clause-orders : goal.returns-clause-orders

@@ -34,7 +34,7 @@ insert-requires-clause-absent c =
 
 pub insert-requires-2-clause-absent : goal.insert-requires-2-clause-absent
 insert-requires-2-clause-absent c =
-    let arrival_is : c.by_arrival.result.arrival ≡ c.args.order.arrival = ap (λ (p : Place). p.arrival) c.by_arrival.ensures in
+    let arrival_is : c.by_arrival.result.arrival ≡ c.args.order.arrival = ap (λ (p : Place). p.arrival) c.by_arrival.ensures.place in
     let rooms = has_rooms c.args.self.now c.self.inside.orders c.self.inside.sides c.self.inside.owners.items c.args.order.bank c.args.order.side (ap (λ (b : Book). b.room) c.self.view_is) c.requires.room in
     let within : c.index.result < length c.self.inside.owners.items = omega (arith, rooms.bank_is, c.index.ensures.value) in
     subst (λ (a : ℕ). IsNewArrival a c.index_mut-row.result.now.places) (sym arrival_is)
@@ -46,8 +46,8 @@ invariant_of-self c =
     let rooms = has_rooms c.args.self.now c.self.inside.orders c.self.inside.sides c.self.inside.owners.items c.args.order.bank c.args.order.side (ap (λ (b : Book). b.room) c.self.view_is) c.requires.room in
     kept_rested_at c.self.inside.banks c.self.inside.orders c.add-key.new.self c.self.inside.sides c.insert.new.self c.self.inside.owners.items c.index_mut-row.result.now c.insert-2.new.self
     c.add-key.result.0 c.index.result c.args.order c.by_price.result c.by_arrival.result c.self.invariant c.add-key.ensures.vacant c.add-key.ensures.changes c.add-key.ensures.valid
-    (all_before c.self.inside.orders c.args.self.now.orders c.args.order.arrival (ap (λ (b : Book). b.orders) c.self.view_is) c.requires.last) rooms.bank_is c.requires.number
-    c.by_price.ensures c.by_arrival.ensures c.index.ensures.value c.insert.ensures.gains c.insert.ensures.other c.index_mut-row.ensures.value
+    (all_before c.self.inside.orders c.args.self.now.orders c.args.order.arrival (ap (λ (b : Book). b.orders) c.self.view_is) c.requires.last) rooms.bank_is c.requires.number c.by_arrival.ensures.most
+    c.by_price.ensures c.by_arrival.ensures.place c.index.ensures.value c.insert.ensures.gains c.insert.ensures.other c.index_mut-row.ensures.value
     (record { side = c.insert-2.ensures.side; gains = c.insert-2.ensures.gains; room = c.insert-2.ensures.room })
 
 pub returns-clause-orders : goal.returns-clause-orders
