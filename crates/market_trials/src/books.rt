@@ -3,6 +3,7 @@ ghost use Rattle.std.specs.Prelude.{◌≡◌, ◌<◌};
 
 use crate::fixture::{BETA, bank, deep_book, pair, price};
 use fx_amounts::{Memory, Price, Side};
+use fx_rules::Resting;
 use global_book::PairBook;
 use price_levels::Steps;
 use std::alloc::Global;
@@ -43,6 +44,14 @@ fn arrivals<L: Ledger>(
     Ok(found)
 }
 
+/// The number of an order, where there is one.
+fn number_of(order: Option<Resting>) -> Option<u32> {
+    match order {
+        Some(order) => Some(order.number),
+        None => None,
+    }
+}
+
 /// The numbers of the orders that four calls answer.
 fn answers<L: Ledger>(book: &PairBook, blank: Blank) -> [Option<u32>; 4]
     requires name { blank.name ≡ L.name }
@@ -52,10 +61,10 @@ fn answers<L: Ledger>(book: &PairBook, blank: Blank) -> [Option<u32>; 4]
     let mut steps = Steps::<L>::new(blank);
     let beta = bank(BETA);
     [
-        book.find(beta, 1, &mut steps).map(|order| order.number),
-        book.find(beta, 2, &mut steps).map(|order| order.number),
-        book.next_of(beta, 1, &mut steps).map(|order| order.number),
-        book.next_of(beta, 3, &mut steps).map(|order| order.number),
+        number_of(book.find(beta, 1, &mut steps)),
+        number_of(book.find(beta, 2, &mut steps)),
+        number_of(book.next_of(beta, 1, &mut steps)),
+        number_of(book.next_of(beta, 3, &mut steps)),
     ]
 }
 

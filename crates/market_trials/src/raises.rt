@@ -4,7 +4,7 @@ ghost use Rattle.std.specs.Prelude.{◌≡◌, ◌<◌, length};
 use crate::fixture::{ALFA, BETA, EURUSD_WEIGHT, GAMA, Given, bank, book_of, buy, sell, units};
 use credit_raise::plan_raise;
 use fx_amounts::{Memory, Units};
-use fx_rules::{Fill, Plan};
+use fx_rules::{Fill, Plan, Resting};
 use global_book::PairBook;
 use price_levels::Steps;
 use std::alloc::Global;
@@ -121,8 +121,16 @@ fn orders_of_other_banks_are_left_alone(rt: HostRuntime) -> Result<(), Fail> {
     Ok(())
 }
 
+/// The lots that an order has left; 0 where there is none.
+fn left_of(order: Option<Resting>) -> u32 {
+    match order {
+        Some(order) => order.left.count(),
+        None => 0,
+    }
+}
+
 /// What BETA's order 1 and ALFA's order 2 have left in a book.
-fn left_in<L: Ledger>(book: &PairBook, blank: Blank) -> [Option<u32>; 2]
+fn left_in<L: Ledger>(book: &PairBook, blank: Blank) -> (u32, u32)
     requires name { blank.name ≡ L.name }
     requires parts { blank.parts ≡ L.parts }
     requires some { 0 < blank.parts }
@@ -130,16 +138,16 @@ fn left_in<L: Ledger>(book: &PairBook, blank: Blank) -> [Option<u32>; 2]
     let mut steps = Steps::<L>::new(blank);
     let sell = book.find(bank(BETA), 1, &mut steps);
     let buy = book.find(bank(ALFA), 2, &mut steps);
-    [sell, buy].map(|order| order.map(|order| order.left.count()))
+    (left_of(sell), left_of(buy))
 }
 
 #[test]
 fn the_book_stays_as_it_is(rt: HostRuntime) -> Result<(), Fail> {
     let book = book_of(rt.alloc(), &crossed())?;
     let before = left_in::<Brand>(&book, Blank::new(1));
-    assert_eq!(rt; before, [Some(1), Some(2)]);
+    assert_eq!(rt; before, (1, 2));
     let _plan = raised::<Brand>(rt.alloc(), &book, units(1000), Blank::new(1))?;
     let behind = left_in::<Brand>(&book, Blank::new(1));
-    assert_eq!(rt; behind, [Some(1), Some(2)]);
+    assert_eq!(rt; behind, (1, 2));
     Ok(())
 }
