@@ -1,6 +1,7 @@
 ghost use Rattle.std.specs.Prelude.{◌≡◌, ◌≢◌, ℕ, ◌++◌, ◌∷◌, [], List, Ok, Err, OnErr, IsTrue};
 ghost use Rattle.fx_text.specs.declared.line.Line.{Line as TextLine};
-ghost use Rattle.session_head.specs.Head.{read_head, with_line, answer_to, UnlessMemory, IsStarted, session_of, next};
+ghost use Rattle.session_head.specs.Head.{read_head, with_line, answer_to, UnlessMemory, IsStarted, session_of, next, Faulted};
+ghost use Rattle.session_head.specs.declared.reason.HeadReason.{HeadReason};
 
 use crate::draft::Draft;
 use crate::reason::{HeadReason, HeadStep, HeadStop};
@@ -54,13 +55,18 @@ impl HeadReader {
         }
     }
 
-    /// Reads one line more. After `Memory` the reader is as it was; after a fault each further call answers that fault.
+    /// Reads one line more. After `Memory` the reader is as it was; after a fault each further call answers that same
+    /// fault, and never `Memory`.
     pub fn line(&mut self, line: &Line) -> Result<HeadStep, HeadStop>
         requires open { ¬ (IsStarted self.old) }
         ensures read { UnlessMemory result (self.new ≡ with_line self.old line.now) }
         ensures answer { UnlessMemory result (result ≡ answer_to self.new) }
         ensures memory { result ≡ Err HeadStop.Memory → self.new ≡ self.old }
         ensures goes_on { result ≢ Ok HeadStep.Start → ¬ (IsStarted self.new) }
+
+        // A fault stays: the reader keeps the one that it answers, and answers the one that it keeps.
+        ensures fault { (number : ℕ) (reason : HeadReason) → result ≡ Err (HeadStop.Fault number reason) → self.new ≡ Faulted number reason }
+        ensures again { (number : ℕ) (reason : HeadReason) → self.old ≡ Faulted number reason → result ≡ Err (HeadStop.Fault number reason) }
 
         // What the reader stands at is what all its lines are.
         ensures whole { (lines : List TextLine) → self.old ≡ read_head lines → with_line self.old line.now ≡ read_head (lines ++ line.now ∷ []) }
@@ -91,12 +97,10 @@ impl Stage {
         ensures read { (lines : ℕ) → number ≡ next lines → UnlessMemory result (head_of number self.new ≡ with_line (head_of lines self.old) line.now) }
         ensures answer { UnlessMemory result (result ≡ answer_to (head_of number self.new)) }
         ensures memory { result ≡ Err HeadStop.Memory → self.new ≡ self.old }
+        ensures again { (at : ℕ) (reason : HeadReason) → head_of number self.old ≡ Faulted at reason → result ≡ Err (HeadStop.Fault at reason) }
     {
-        if let Stage::Faulted { line, reason } = self {
-            return Err(HeadStop::Fault {
-                line: *line,
-                reason: *reason,
-            });
+        if let Stage::Faulted { line, reason } = *self {
+            return Err(HeadStop::Fault { line, reason });
         }
         if line.is_passed_over() {
             return Ok(HeadStep::More);
