@@ -1,7 +1,7 @@
 ghost use Rattle.std.specs.Prelude.{◌≡◌, ◌<◌, ◌≤◌, ◌++◌, take, vec_len, All, OnOk, OnErr};
 ghost use Rattle.fx_rules.specs.Session.{bank_count};
 ghost use Rattle.fx_rules.specs.Step.{IsCommand};
-ghost use Rattle.order_lines.specs.Printing.{field_text, fields_text, second_field, IsFieldOf, AreFieldsOf};
+ghost use Rattle.order_lines.specs.Printing.{field_text, fields_text, second_field, third_field, details, IsFieldOf, AreFieldsOf};
 ghost use Rattle.fx_text.specs.Fields.{fields_of};
 ghost use Rattle.fx_text.specs.Lines.{line_of};
 ghost use Rattle.order_lines.specs.Grammar.{journal_line};
@@ -69,7 +69,6 @@ enum Field {
 }
 
 // After `Err` a part of the line may be appended.
-#[tactic(auto, unfolding(crate::specs::Spelling::command_text_of))]
 fn push_command(
     session: &Session,
     bank: BankId,
@@ -81,54 +80,12 @@ fn push_command(
     ensures ok { OnOk result (out.new.items ≡ out.old.items ++ command_text_of session.now bank command.now) }
     ensures err { OnErr result (take (vec_len out.old) out.new.items ≡ out.old.items) }
 {
-    let sender = Field::Bank(bank);
-    let word = second_field(command);
-    match *command {
-        Command::Order {
-            pair,
-            price,
-            lots,
-            life,
-            ..
-        } => {
-            let price = Field::Price(pair, price);
-            let lots = Field::Number(u64::from(lots.count()));
-            let life = Field::Life(life);
-            push_fields(
-                session,
-                &[sender, word, Field::Pair(pair), price, lots, life],
-                out,
-            )
-        }
-        Command::Cancel { pair, number } => {
-            let number = Field::Number(u64::from(number));
-            push_fields(session, &[sender, word, Field::Pair(pair), number], out)
-        }
-        Command::Reduce { pair, number, lots } => {
-            let number = Field::Number(u64::from(number));
-            let lots = Field::Number(u64::from(lots.count()));
-            push_fields(
-                session,
-                &[sender, word, Field::Pair(pair), number, lots],
-                out,
-            )
-        }
-        Command::Pull { pair } | Command::Book { pair } => {
-            push_fields(session, &[sender, word, Field::Pair(pair)], out)
-        }
-        Command::Line { bank, limit } => {
-            let limit = Field::Number(limit.get());
-            push_fields(session, &[sender, word, Field::Bank(bank), limit], out)
-        }
-        Command::Show { bank } => push_fields(session, &[sender, word, Field::Bank(bank)], out),
-        Command::Bad { reason } => {
-            let number = Field::Number(u64::from(reason.code()));
-            push_fields(session, &[sender, word, number], out)
-        }
-    }
+    push_field(session, Field::Bank(bank), out)?;
+    push_fields(session, &[second_field(command), third_field(command)], out)?;
+    push_details(session, command, out)
 }
 
-// The field behind the sender's name.
+// The field behind the sender's name: the command's word.
 fn second_field(command: &Command) -> Field
     ensures { result ≡ second_field command.now }
 {
@@ -144,16 +101,60 @@ fn second_field(command: &Command) -> Field
     }
 }
 
-// Appends fields with one space between each two. After `Err` a part of them may be appended.
+// The field behind the word: the pair, the bank or the fault that the command is about.
+fn third_field(command: &Command) -> Field
+    ensures { result ≡ third_field command.now }
+{
+    match *command {
+        Command::Order { pair, .. } => Field::Pair(pair),
+        Command::Cancel { pair, .. } => Field::Pair(pair),
+        Command::Reduce { pair, .. } => Field::Pair(pair),
+        Command::Pull { pair } | Command::Book { pair } => Field::Pair(pair),
+        Command::Line { bank, .. } | Command::Show { bank } => Field::Bank(bank),
+        Command::Bad { reason } => Field::Number(u64::from(reason.code())),
+    }
+}
+
+// Appends the fields behind the third. After `Err` a part of them may be appended.
+fn push_details(session: &Session, command: &Command, out: &mut Vec<u8>) -> Result<(), Memory>
+    requires { AreFieldsOf session.now (details command.now) }
+    ensures ok { OnOk result (out.new.items ≡ out.old.items ++ fields_text session.now (details command.now)) }
+    ensures err { OnErr result (take (vec_len out.old) out.new.items ≡ out.old.items) }
+{
+    match *command {
+        Command::Order {
+            pair,
+            price,
+            lots,
+            life,
+            ..
+        } => {
+            let price = Field::Price(pair, price);
+            let lots = Field::Number(u64::from(lots.count()));
+            push_fields(session, &[price, lots, Field::Life(life)], out)
+        }
+        Command::Cancel { number, .. } => {
+            push_fields(session, &[Field::Number(u64::from(number))], out)
+        }
+        Command::Reduce { number, lots, .. } => {
+            let number = Field::Number(u64::from(number));
+            let lots = Field::Number(u64::from(lots.count()));
+            push_fields(session, &[number, lots], out)
+        }
+        Command::Line { limit, .. } => push_fields(session, &[Field::Number(limit.get())], out),
+        Command::Pull { .. } | Command::Show { .. } | Command::Book { .. } | Command::Bad { .. } =>
+            Ok(()),
+    }
+}
+
+// Appends fields, a space before each. After `Err` a part of them may be appended.
 fn push_fields(session: &Session, fields: &[Field], out: &mut Vec<u8>) -> Result<(), Memory>
     requires { AreFieldsOf session.now fields.now }
     ensures ok { OnOk result (out.new.items ≡ out.old.items ++ fields_text session.now fields.now) }
     ensures err { OnErr result (take (vec_len out.old) out.new.items ≡ out.old.items) }
 {
-    for (at, field) in fields.iter().enumerate() {
-        if at > 0 {
-            out.push(b' ')?;
-        }
+    for field in fields {
+        out.push(b' ')?;
         push_field(session, *field, out)?;
     }
     Ok(())

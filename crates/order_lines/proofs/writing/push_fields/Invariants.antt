@@ -3,5 +3,5 @@ use Rattle.order_lines.specs.Printing.{fields_text}
 use Rattle.order_lines.proofs.writing.push_fields.Given as goal
 
 -- the fields so far are appended
-abbrev pub invariant-loop-at : goal.invariant-loop-at
-invariant-loop-at l = l.out.items ≡ l.fn.out.items ++ fields_text l.session (take l.at l.fields)
+abbrev pub invariant-loop-field : goal.invariant-loop-field
+invariant-loop-field l = l.out.items ≡ l.fn.out.items ++ fields_text l.session (take l.field-index l.fields)
