@@ -11,7 +11,7 @@ use fx_text::{Fields, number};
 
 /// The command of a line of a bank, or the first fault: the word, then the number of fields, then the fields from
 /// left to right.
-#[tactic(auto, unfolding(crate::specs::Reading::command_said))]
+#[tactic(auto, unfolding(crate::specs::Reading::command_said, crate::specs::Reading::pull_said, crate::specs::Reading::book_said))]
 pub(crate) fn read_command(
     session: &Session,
     sender: BankId,
@@ -28,10 +28,14 @@ pub(crate) fn read_command(
         Word::Sell => read_order(session, Side::Sell, fields),
         Word::Cancel => read_cancel(session, fields),
         Word::Reduce => read_reduce(session, fields),
-        Word::Pull => read_pull(session, fields),
+        Word::Pull => Ok(Command::Pull {
+            pair: read_pair(session, fields.field(2))?,
+        }),
         Word::Line => read_line(session, sender, fields),
         Word::Show => read_show(session, sender, fields),
-        Word::Book => read_book(session, fields),
+        Word::Book => Ok(Command::Book {
+            pair: read_pair(session, fields.field(2))?,
+        }),
     }
 }
 
@@ -84,15 +88,6 @@ fn read_reduce(session: &Session, fields: &Fields<'_>) -> Result<Command, Reject
     Ok(Command::Reduce { pair, number, lots })
 }
 
-#[tactic(auto, unfolding(crate::specs::Reading::pull_said))]
-fn read_pull(session: &Session, fields: &Fields<'_>) -> Result<Command, Reject>
-    requires { length fields.now ≡ 3 }
-    ensures { result ≡ pull_said session.now fields.now }
-{
-    let pair = read_pair(session, fields.field(2))?;
-    Ok(Command::Pull { pair })
-}
-
 #[tactic(auto, unfolding(crate::specs::Reading::line_said))]
 fn read_line(session: &Session, sender: BankId, fields: &Fields<'_>) -> Result<Command, Reject>
     requires { length fields.now ≡ 4 }
@@ -110,15 +105,6 @@ fn read_show(session: &Session, sender: BankId, fields: &Fields<'_>) -> Result<C
 {
     let bank = read_other(session, sender, fields.field(2))?;
     Ok(Command::Show { bank })
-}
-
-#[tactic(auto, unfolding(crate::specs::Reading::book_said))]
-fn read_book(session: &Session, fields: &Fields<'_>) -> Result<Command, Reject>
-    requires { length fields.now ≡ 3 }
-    ensures { result ≡ book_said session.now fields.now }
-{
-    let pair = read_pair(session, fields.field(2))?;
-    Ok(Command::Book { pair })
 }
 
 #[tactic(auto, unfolding(crate::specs::Reading::pair_said))]
