@@ -32,15 +32,13 @@ pub fn command_from(session: &Session, line: &Line) -> Spoken
 
     // What is read is a bank's of the session and in range.
     ensures bank { IfSent result (λ bank command. bank < bank_count session.now) }
-    ensures range { IfSent result
-        (λ bank command. IsCommand session.now bank command) }
+    ensures range { IfSent result (IsCommand session.now) }
 
     // What is read and is not bad is spelled so, and what is spelled so is read.
     ensures spelling { IfSent result
         (λ bank command. IsFalse (is_bad command) → IsSpelled session.now line.now bank command) }
-    ensures spelled { (bank : ℕ) (command : Command) → bank < bank_count session.now
-        → IsCommand session.now bank command → IsFalse (is_bad command)
-        → IsSpelled session.now line.now bank command → result ≡ Spoken.Of bank command }
+    ensures spelled { (bank : ℕ) (command : Command) → bank < bank_count session.now → IsCommand session.now bank command
+        → IsFalse (is_bad command) → IsSpelled session.now line.now bank command → result ≡ Spoken.Of bank command }
 {
     // The clauses on spelling rest on a valid session, as each is.
     let _banks = session.banks();
@@ -94,13 +92,11 @@ pub fn journal_from(session: &Session, line: &Line) -> Option<(BankId, Command)>
 
     // What is read is a bank's of the session and in range.
     ensures bank { IfSome result (λ entry. entry.0 < bank_count session.now) }
-    ensures range { IfSome result
-        (λ entry. IsCommand session.now entry.0 entry.1) }
+    ensures range { IfSome result (λ entry. IsCommand session.now entry.0 entry.1) }
 
     // What is read is spelled so, and what is spelled so is read, a bad command too.
     ensures spelling { IfSome result (λ entry. IsSpelled session.now line.now entry.0 entry.1) }
-    ensures spelled { (bank : ℕ) (command : Command) → bank < bank_count session.now
-        → IsCommand session.now bank command
+    ensures spelled { (bank : ℕ) (command : Command) → bank < bank_count session.now → IsCommand session.now bank command
         → IsSpelled session.now line.now bank command → result ≡ Some (bank, command) }
 {
     // The clauses on spelling rest on a valid session, as each is.
