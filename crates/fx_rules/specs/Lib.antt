@@ -14,5 +14,6 @@ pub mod Plan
 pub mod NoCross
 pub mod View
 pub mod Market
+pub mod Sending
 pub mod Laws
 pub mod Keyed
