@@ -4,10 +4,11 @@ ghost use Rattle.fx_rules.specs.declared.orders.Fill.{Fill};
 ghost use Rattle.fx_rules.specs.Lists.{Among, Each};
 ghost use Rattle.fx_rules.specs.Sweep.{fill_with, is_order, open_in};
 ghost use Rattle.fx_rules.specs.Raise.{taker_of_resting};
+ghost use Rattle.global_book.specs.Book.{IsBook};
 ghost use Rattle.credit_raise.specs.Playing.{IsBestOf, SweptAmong, joined, lessened, lessened_all, only, paid};
 
 use fx_amounts::{BankId, Lots, Memory, PairId};
-use fx_rules::{Fill, Resting};
+use fx_rules::{Fill, Resting, SweptOrder};
 use global_book::PairBook;
 use price_levels::Steps;
 use std::alloc::Global;
@@ -109,11 +110,23 @@ impl Replay {
             let Some(maker) = self.best_open(order, other, steps) else {
                 break;
             };
-            let lots = amount(left, &maker, self.line / u64::from(self.weight));
-            self.trade(order, &maker, lots)?;
+            let taker = self.swept(order, left);
+            let lots = taker.amount(&maker, self.line / u64::from(self.weight));
+            self.trade(&taker, &maker, lots)?;
             left -= lots.count();
         }
         Ok(left)
+    }
+
+    /// An order as it is swept in the pair, with so many lots left.
+    fn swept(&self, order: &Resting, left: u32) -> SweptOrder
+        ensures value { result ≡ taker_of_resting self.now.book.pair (record order.now { left = left }) }
+        ensures valid { IsBook self.now.book }
+    {
+        SweptOrder {
+            left: u128::from(left),
+            ..SweptOrder::of_resting(self.book.pair(), order)
+        }
     }
 
     /// The best of the waiting orders that are open to an order; `None` where there is none.
@@ -142,20 +155,20 @@ impl Replay {
     }
 
     /// Trades lots of a waiting order, at its price, which the line pays for.
-    fn trade(&mut self, taker: &Resting, maker: &Resting, lots: Lots) -> Result<(), Memory>
+    fn trade(&mut self, taker: &SweptOrder, maker: &Resting, lots: Lots) -> Result<(), Memory>
         requires weight { IsWeight self.old.weight }
+        requires valid { IsBook self.old.book }
         requires waits { Among maker.now self.old.book.orders }
         requires lots { lots ≤ maker.now.left }
         requires line { lots * self.old.weight ≤ self.old.line }
         ensures weight { self.new.weight ≡ self.old.weight }
         ensures banks { self.new.book.banks ≡ self.old.book.banks }
         ensures pair { self.new.book.pair ≡ self.old.book.pair }
-        ensures fills { OnOk result (self.new.fills.items ≡ self.old.fills.items ++ fill_with (taker_of_resting self.old.book.pair taker.now) maker.now lots ∷ []) }
+        ensures fills { OnOk result (self.new.fills.items ≡ self.old.fills.items ++ fill_with taker.now maker.now lots ∷ []) }
         ensures line { OnOk result (self.new.line ≡ self.old.line - lots * self.old.weight) }
         ensures orders { OnOk result (self.new.book.orders ≡ lessened maker.now.bank maker.now.number lots self.old.book.orders) }
     {
-        let pair = self.book.pair();
-        self.fills.push(fill_of(pair, taker, maker, lots))?;
+        self.fills.push(taker.fill_with(maker, lots))?;
         self.line -= lots.cost(self.weight).get();
         match Lots::new(maker.left.count() - lots.count()) {
             Some(left) => self.book.lower(maker.bank, maker.number, left),
@@ -173,30 +186,4 @@ fn reach_of(other: BankId, lots: u64) -> [u64; 64]
     let mut reach = [0; 64];
     reach[other.index()] = lots;
     reach
-}
-
-/// What an order with so much left takes of another one, of which `reach` lots are in reach.
-fn amount(left: u32, maker: &Resting, reach: u64) -> Lots
-    requires left { 1 ≤ left }
-    requires reach { 1 ≤ reach }
-    ensures value { result ≡ min left (min maker.now.left reach) }
-{
-    let most = reach.min(u64::from(maker.left.count()));
-    Lots::new(most.min(u64::from(left)) as u32).unwrap()
-}
-
-/// The fill of an order with an earlier one, at the earlier one's price.
-fn fill_of(pair: PairId, taker: &Resting, maker: &Resting, lots: Lots) -> Fill
-    ensures value { result ≡ fill_with (taker_of_resting pair taker.now) maker.now lots }
-{
-    Fill {
-        pair,
-        taker: taker.bank,
-        taker_number: taker.number,
-        taker_side: taker.side,
-        maker: maker.bank,
-        maker_number: maker.number,
-        price: maker.price,
-        lots,
-    }
 }

@@ -1,2 +1,1 @@
-pub mod Levelling
 pub mod Probing

@@ -1,7 +1,6 @@
 //! The local book of a bank in one pair: what it could take now, by price.
 #![tactic(auto)]
 
-mod levels;
 mod shown;
 
 pub use shown::depth;

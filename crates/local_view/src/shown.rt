@@ -1,12 +1,10 @@
 ghost use Rattle.std.specs.Prelude.{◌≡◌, ◌<◌, IfOk};
 ghost use Rattle.fx_amounts.specs.Quantity.{IsWeight};
-ghost use Rattle.fx_rules.specs.Depth.{any_price};
 ghost use Rattle.local_view.specs.LocalBook.{IsLocalBook, IsShown, unlimited_order};
 
-use crate::levels::levels_of;
 use credit_lines::CreditLines;
-use fx_amounts::{BankId, Memory, Price, Side};
-use fx_rules::{LevelList, Outcome};
+use fx_amounts::{BankId, Memory, Side};
+use fx_rules::{LevelList, Outcome, any_price, levels_of};
 use global_book::PairBook;
 use match_sweep::{Incoming, sweep};
 use price_levels::Steps;
@@ -87,15 +85,5 @@ fn unlimited_order(viewer: BankId, side: Side) -> Incoming
         price: any_price(side),
         left: u64::MAX,
         arrival: u64::MAX,
-    }
-}
-
-/// The price at which an order of a side takes any price.
-fn any_price(side: Side) -> Price
-    ensures value { result ≡ any_price side }
-{
-    match side {
-        Side::Buy => Price::new(Price::MOST).unwrap(),
-        Side::Sell => Price::new(Price::LEAST).unwrap(),
     }
 }

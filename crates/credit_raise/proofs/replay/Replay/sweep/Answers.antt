@@ -14,6 +14,9 @@ amount-lots-requires-clause-reach g c =
     let maker = maker-of (line / c.loop-left.self.weight) c.args.other (taker_of_resting c.loop-left.self.book.pair c.args.order.now) c.loop-left.self.book.orders c.in-Some.maker c.in-Some.ensures.best.there in
     subst (λ n. 1 ≤ line / n) (sym c.from.ensures) maker.reached
 
+pub amount-lots-requires-clause-left : goal.amount-lots-requires-clause-left
+amount-lots-requires-clause-left g c = omega (arith, c.loop-left-test.true, ap (λ (t : Taker). t.left) c.swept-taker.ensures.value)
+
 pub trade-requires-clause-waits : goal.trade-requires-clause-waits
 trade-requires-clause-waits g c =
     (maker-of (c.loop-left.self.line / c.loop-left.self.weight) c.args.other (taker_of_resting c.loop-left.self.book.pair c.args.order.now) c.loop-left.self.book.orders c.in-Some.maker c.in-Some.ensures.best.there).waits
@@ -31,11 +34,13 @@ loop-left-preserved g c =
     let f : Fill = fill_with t maker lots in
     let own : List Fill = was.own ++ f ∷ [] in
     let lots_is : lots ≡ min c.loop-left.left (min maker.left (line / weight)) =
-    c.amount-lots.ensures.value ∙ ap (λ n. min c.loop-left.left (min maker.left (line / n))) c.from.ensures in
+    c.amount-lots.ensures.value ∙ ap (λ (k : Taker). min k.left (min maker.left (line / c.from.result))) c.swept-taker.ensures.value
+    ∙ ap (λ n. min c.loop-left.left (min maker.left (line / n))) c.from.ensures in
     record {
       most = omega (arith, was.most);
       own = own;
-      fills = c.in_ok-trade.ensures.fills ∙ ap (λ (fs : List Fill). fs ++ f ∷ []) was.fills ∙ append_assoc c.args.self.now.fills.items was.own (f ∷ []);
+      fills = c.in_ok-trade.ensures.fills ∙ ap (λ (k : Taker). c.loop-left.self.fills.items ++ fill_with k maker lots ∷ []) c.swept-taker.ensures.value
+          ∙ ap (λ (fs : List Fill). fs ++ f ∷ []) was.fills ∙ append_assoc c.args.self.now.fills.items was.own (f ∷ []);
       line = c.in_ok-trade.ensures.line
           ∙ ap (λ n. line - lots * n) was.weight
           ∙ ap (λ n. n - lots * c.args.self.now.weight) was.line
