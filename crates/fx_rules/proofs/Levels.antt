@@ -1,6 +1,6 @@
 -- Fills by price.
-use Rattle.std.proofs.Common.{ℕ, zero, suc, ◌≡◌, ◌+◌, true, false, eqb, List, [], ◌∷◌, ◌++◌, take, ◌⊎◌, inl, inr, refl, ap, sym, subst, ◌∙◌, arith}
-use Rattle.std.proofs.lemmas.Bool.{cases_Bool, cond_both}
+use Rattle.std.proofs.Common.{ℕ, zero, suc, ◌≡◌, ◌+◌, ◌<◌, true, false, eqb, List, [], ◌∷◌, ◌++◌, take, length, ◌⊎◌, inl, inr, refl, ap, sym, subst, ◌∙◌, arith}
+use Rattle.std.proofs.lemmas.Bool.{cases_Bool, cond_both, eqb-true}
 use Rattle.fx_rules.specs.declared.orders.Fill.{Fill}
 use Rattle.fx_rules.specs.declared.orders.Level.{Level}
 use Rattle.fx_rules.specs.Lists.{Among, total}
@@ -112,3 +112,58 @@ last_price-among f [] = (f, inl refl, refl)
 last_price-among f (g ∷ fills) =
     let later = last_price-among g fills in
     (later.0, inr later.1, last_price-more f g fills ∙ later.2)
+
+-- levels of fills that begin with one: the first of them has its price
+record Begins (f : Fill) (levels : List Level) : Type 0 where
+  first : Level
+  rest : List Level
+  parts : levels ≡ first ∷ rest
+  price : first.price ≡ f.price
+
+begins : (f : Fill) (levels : List Level) → Begins f (with_fill f levels)
+unfolding joined alone
+begins f [] = record { first = alone f; rest = []; parts = refl; price = refl }
+begins f (level ∷ levels) = elim (cases_Bool (eqb f.price level.price)) [
+  | inl same ↦ record { first = joined f level; rest = levels; parts = with_same f level levels same; price = sym (eqb-true f.price level.price same) }
+  | inr other ↦ record { first = alone f; rest = level ∷ levels; parts = with_other f level levels other; price = refl }
+]
+
+with_joined : Fill → List Level → List Level
+with_joined f [] = []
+with_joined f (level ∷ levels) = joined f level ∷ levels
+
+-- a fill in front of two lists of levels with one first price, whose first levels are the same
+with_first : (f : Fill) (n : ℕ) (level level' : Level) (levels levels' : List Level) → level.price ≡ level'.price →
+    suc n < length (with_fill f (level ∷ levels)) →
+    ((m : ℕ) → m < length (level ∷ levels) → take m (level' ∷ levels') ≡ take m (level ∷ levels)) →
+    take (suc n) (with_fill f (level' ∷ levels')) ≡ take (suc n) (with_fill f (level ∷ levels))
+unfolding with_joined joined alone
+with_first f n level level' levels levels' price few firsts = elim (cases_Bool (eqb f.price level.price)) [
+  | inl same ↦
+      let same' : eqb f.price level'.price ≡ true = subst (λ p. eqb f.price p ≡ true) price same in
+      let within : suc n < length (level ∷ levels) = subst (λ (ls : List Level). suc n < length ls) (with_same f level levels same) few in
+      ap (take (suc n)) (with_same f level' levels' same') ∙ ap (with_joined f) (firsts (suc n) within)
+      ∙ sym (ap (take (suc n)) (with_same f level levels same))
+  | inr other ↦
+      let other' : eqb f.price level'.price ≡ false = subst (λ p. eqb f.price p ≡ false) price other in
+      let within : suc n < suc (length (level ∷ levels)) = subst (λ (ls : List Level). suc n < length ls) (with_other f level levels other) few in
+      ap (take (suc n)) (with_other f level' levels' other') ∙ ap (λ ls. alone f ∷ ls) (firsts n (omega (arith, within)))
+      ∙ sym (ap (take (suc n)) (with_other f level levels other))
+]
+
+-- fills that make more than so many levels have the first of them however the fills go on
+pub first_levels-stay : (n : ℕ) (fills more : List Fill) → n < length (levels_of fills) → take n (levels_of (fills ++ more)) ≡ take n (levels_of fills)
+first_levels-stay zero fills more few = refl
+first_levels-stay (suc n) [] more few = absurd (omega (arith, few))
+first_levels-stay (suc n) (f ∷ []) more few = absurd (omega (arith, few))
+first_levels-stay (suc n) (f ∷ g ∷ fills) more few =
+    let one = begins g (levels_of fills) in
+    let other = begins g (levels_of (fills ++ more)) in
+    let firsts : (m : ℕ) → m < length (one.first ∷ one.rest) → take m (other.first ∷ other.rest) ≡ take m (one.first ∷ one.rest) = λ m within.
+    subst (λ (ls : List Level). take m ls ≡ take m (one.first ∷ one.rest)) other.parts
+    (subst (λ (ls : List Level). take m (levels_of ((g ∷ fills) ++ more)) ≡ take m ls) one.parts
+    (first_levels-stay m (g ∷ fills) more (subst (λ (ls : List Level). m < length ls) (sym one.parts) within))) in
+    subst (λ (ls : List Level). take (suc n) (with_fill f ls) ≡ take (suc n) (with_fill f (levels_of (g ∷ fills)))) (sym other.parts)
+    (subst (λ (ls : List Level). take (suc n) (with_fill f (other.first ∷ other.rest)) ≡ take (suc n) (with_fill f ls)) (sym one.parts)
+    (with_first f n one.first other.first one.rest other.rest (one.price ∙ sym other.price)
+    (subst (λ (ls : List Level). suc n < length (with_fill f ls)) one.parts few) firsts))

@@ -1,5 +1,5 @@
 -- Laws that hold of the definitions themselves.
-use Rattle.std.specs.Prelude.{ℕ, ◌≡◌, ◌≢◌, ◌<◌, false, List, [], ◌∷◌, ◌++◌, map}
+use Rattle.std.specs.Prelude.{ℕ, ◌≡◌, ◌≢◌, ◌<◌, false, List, [], ◌∷◌, ◌++◌, map, length, take}
 use Rattle.fx_rules.specs.declared.command.Command.{Command}
 use Rattle.fx_amounts.specs.declared.side.Side.TheVariants.{Buy, Sell}
 use Rattle.fx_rules.specs.declared.command.Command.TheVariants.{Line}
@@ -12,7 +12,7 @@ use Rattle.fx_rules.specs.Session.{Header, IsSession, bank_count, pair_count}
 use Rattle.fx_rules.specs.State.{State, Within, orders_in, count_of}
 use Rattle.fx_rules.specs.Sweep.{Taker, Swept}
 use Rattle.fx_rules.specs.Raise.{limited}
-use Rattle.fx_rules.specs.Depth.{IsDepth}
+use Rattle.fx_rules.specs.Depth.{IsDepth, levels_of}
 use Rattle.fx_rules.specs.Step.{IsCommand, IsOutcome, may_change}
 use Rattle.fx_rules.specs.History.{IsStep, IsLegal, after_entry, state, Falls}
 use Rattle.fx_rules.specs.Truthful.{IsTruthful}
@@ -76,6 +76,11 @@ LocalBooksAreTruthful =
     (h : Header) (S : State) (bank pair : ℕ) (bids asks : List Level) → IsSession h → IsSound h S →
     bank < bank_count h → pair < pair_count h → IsDepth h S bank pair bids asks →
     IsTruthful h S bank pair Sell bids × IsTruthful h S bank pair Buy asks
+
+-- Fills that make more levels than a local book shows have the levels that it shows, however they go on.
+abbrev pub FullBooksStay : Type 0
+FullBooksStay =
+    (fills more : List Fill) → 10 < length (levels_of fills) → take 10 (levels_of (fills ++ more)) ≡ take 10 (levels_of fills)
 
 -- Two sound states that a bank sees alike tell it the same of each of its commands.
 abbrev pub ViewsTellAll : Type 0

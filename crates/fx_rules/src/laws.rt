@@ -1,4 +1,4 @@
-ghost use Rattle.fx_rules.specs.Laws.{SweepsAgree, OutcomesAgree, NextEntriesAgree, LegalIsSound, LegalIsUncrossed, LegalGoesOn, LinesFall, OtherPairsStay, OtherCountsStay, LocalBooksAreTruthful, ViewsTellAll, ViewsShowAll, ViewsFillAll};
+ghost use Rattle.fx_rules.specs.Laws.{SweepsAgree, OutcomesAgree, NextEntriesAgree, LegalIsSound, LegalIsUncrossed, LegalGoesOn, LinesFall, OtherPairsStay, OtherCountsStay, LocalBooksAreTruthful, FullBooksStay, ViewsTellAll, ViewsShowAll, ViewsFillAll};
 
 /// State and taker determine a sweep: two sweeps of one taker in one sound state have the same fills in the same order,
 /// and leave the taker the same lots.
@@ -55,6 +55,12 @@ pub fn other_counts_stay()
 /// is filled whole, and its fills by price are the levels shown.
 pub fn local_books_are_truthful()
     ensures truthful { LocalBooksAreTruthful }
+{}
+
+/// Fills that make more than ten levels make the ten best of them for good: however a sweep goes on behind its first fill of an
+/// eleventh price, the local book shows the same.
+pub fn full_books_stay()
+    ensures stay { FullBooksStay }
 {}
 
 /// What a bank is told of a command depends on what it sees alone: two sound states with one view of a bank tell it the
