@@ -1,4 +1,5 @@
 pub mod CreditLemmas
 pub mod OpeningLemmas
 pub mod MarketLemmas
+pub mod Paying
 mod Steps

@@ -9,9 +9,10 @@ use Rattle.fx_rules.specs.Lists.{Each}
 use Rattle.fx_rules.specs.Session.{Header, bank_count, weight_of}
 use Rattle.fx_rules.specs.State.{State, opening, is_between, cost, cost_between, used, line, reach, Within}
 use Rattle.fx_rules.specs.Sweep.{filled, filled_all}
+use Rattle.fx_rules.specs.Raise as raise
 use Rattle.fx_rules.proofs.Credit.{used-filled, cost_between-one, cost_between-other, between_cases, is_between-swap}
 use Rattle.credit_lines.specs.Credit.{Credit, shared_place, limit_in, used_in, line_in, reach_in, opened, taken, limited, IsCredit}
-use Rattle.credit_lines.specs.Market.{StandsFor, with_limit, IsBetweenBanks, taken_by, taken_by_all}
+use Rattle.credit_lines.specs.Market.{StandsFor, IsBetweenBanks, taken_by, taken_by_all}
 use Rattle.credit_lines.proofs.CreditLemmas.{same_two, same_banks, shared_place-swap, used_in-swap, used_in-taken_same, used_in-taken_back, used_in-taken_other, limit_in-limited_same, limit_in-limited_other}
 use Rattle.credit_lines.proofs.OpeningLemmas.{used_in-opened}
 
@@ -114,12 +115,12 @@ StandsFor-take h S c new f i j units full between is is_cost is_new stands =
     subst (StandsFor h (filled S f)) (same ∙ ap (taken c i j) (sym is_cost) ∙ sym is_new) by_fill
 
 -- the limit as it was set, and another as it was
-with_limit-same : (S : State) (i j limit : ℕ) → (with_limit S i j limit).limits i j ≡ limit
-with_limit-same S i j limit =
+limit_set-same : (S : State) (i j limit : ℕ) → (raise.limited i j limit S).limits i j ≡ limit
+limit_set-same S i j limit =
     let both : (eqb i i && eqb j j) ≡ true = grind (arith, nat_tests) in ap (λ b. cond b limit (S.limits i j)) both
 
-with_limit-other : (S : State) (i j limit a b : ℕ) → (a ≡ i → b ≡ j → ⊥) → (with_limit S i j limit).limits a b ≡ S.limits a b
-with_limit-other S i j limit a b differ =
+limit_set-other : (S : State) (i j limit a b : ℕ) → (a ≡ i → b ≡ j → ⊥) → (raise.limited i j limit S).limits a b ≡ S.limits a b
+limit_set-other S i j limit a b differ =
     elim (cases_Bool (eqb a i && eqb b j)) [
       | inl same ↦ let parts = and_parts (eqb a i) (eqb b j) same in absurd (differ (eqb-true a i parts.0) (eqb-true b j parts.1))
       | inr other ↦ ap (λ t. cond t limit (S.limits a b)) other
@@ -144,6 +145,6 @@ StandsFor-limited_as h S T c i j limit valid stands first second here others fil
       uses = λ a b p q differ. stands.uses a b p q differ ∙ ap (cost_between h a b) (sym fills);
     }
 
-pub StandsFor-limited : (h : Header) (S : State) (c : Credit) (i j limit : ℕ) → IsCredit c → StandsFor h S c → i < bank_count h → j < bank_count h → StandsFor h (with_limit S i j limit) (limited c i j limit)
+pub StandsFor-limited : (h : Header) (S : State) (c : Credit) (i j limit : ℕ) → IsCredit c → StandsFor h S c → i < bank_count h → j < bank_count h → StandsFor h (raise.limited i j limit S) (limited c i j limit)
 StandsFor-limited h S c i j limit valid stands first second =
-    StandsFor-limited_as h S (with_limit S i j limit) c i j limit valid stands first second (with_limit-same S i j limit) (with_limit-other S i j limit) refl
+    StandsFor-limited_as h S (raise.limited i j limit S) c i j limit valid stands first second (limit_set-same S i j limit) (limit_set-other S i j limit) refl

@@ -5,10 +5,10 @@
 #![tactic(auto)]
 
 mod amounts;
+mod following;
+mod laws;
 mod lines;
 mod places;
 
+pub use laws::{steps_are_paid, sweeps_are_paid, turns_are_paid};
 pub use lines::CreditLines;
-
-#[cfg(test)]
-mod tests;

@@ -1,11 +1,13 @@
 ghost use Rattle.std.specs.Prelude.{◌≡◌, ◌≢◌, ◌≤◌, ◌<◌, ◌^◌, IfOk, max};
 ghost use Rattle.fx_amounts.specs.Quantity.{IsWeight};
 ghost use Rattle.credit_lines.specs.Credit.{IsCredit, AreLines, limit_in, used_in, line_in, reach_in, opened, taken, limited};
+ghost use Rattle.credit_lines.specs.Market.{followed, IsNextOf, FollowsOn};
 
 use crate::amounts::{difference, greater, lesser, sum};
+use crate::following::{set_asked, take_all};
 use crate::places::{banks_at, place, shared_place};
 use fx_amounts::{BankId, Memory, Units};
-use fx_rules::Session;
+use fx_rules::{Entry, Session};
 use std::alloc::Global;
 use std::marker::Model;
 
@@ -127,6 +129,20 @@ impl CreditLines {
         self.limits[place(self.banks, i, j)] = set;
         self.lines[at] = difference(lesser(set, back), used);
         set
+    }
+
+    /// Follows an entry of a history of the session: sets the limit that its command asks for, and then takes what each of
+    /// its fills uses. The entry is the next step of a state that the lines stand for; then they stand for the state
+    /// after it. It takes no memory.
+    pub fn follow(&mut self, session: &Session, entry: &Entry)
+        requires next { IsNextOf session.now self.old entry.now }
+        ensures value { self.new ≡ followed session.now self.old entry.now }
+        ensures follows { FollowsOn session.now self.old self.new entry.now }
+        ensures valid { IsCredit self.new }
+    {
+        let _valid = self.banks;
+        set_asked(self, entry.bank, &entry.command);
+        take_all(self, session, entry.outcome.fills());
     }
 }
 

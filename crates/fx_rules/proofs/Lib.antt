@@ -14,6 +14,7 @@ pub mod NamesLemmas
 pub mod SessionLemmas
 pub mod Continuing
 pub mod Falling
+pub mod Made
 pub mod Staying
 mod Examples
 mod RaiseExamples

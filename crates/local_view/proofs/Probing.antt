@@ -30,7 +30,7 @@ use Rattle.fx_rules.proofs.ViewFill.{are_of_one, cost_same, line-filled}
 use Rattle.fx_rules.proofs.ViewSweep.{lots_on, among_lots, lots_on-taken}
 use Rattle.global_book.specs.Book.{Book}
 use Rattle.credit_lines.specs.Credit.{Credit}
-use Rattle.match_sweep.specs.Sweeps.{IsSweep, Fits, order_in}
+use Rattle.match_sweep.specs.Sweeps.{IsSweep, Fits}
 use Rattle.local_view.specs.LocalBook.{IsShown, unlimited_order}
 
 -- ---- orders of no command that rests
@@ -234,10 +234,10 @@ still_wants : (lots left : ℕ) → lots + left ≡ 2 ^ 64 - 1 → lots ≤ 64 *
 still_wants lots left sum most = omega arith
 
 -- the sweep of such an order shows the local book of each state
-pub shown-swept : (book : Book) (credit : Credit) (weight bank : ℕ) (side : Side) (fills : List Fill) (left : ℕ) (levels : List Level) → bank < credit.banks → 0 < weight → total (λ (f : Fill). f.lots) fills ≤ 64 * 10 ^ 15 → IsSweep book credit weight (order_in book.pair (unlimited_order bank side)) fills left → levels ≡ take 10 (levels_of fills) → IsShown book credit weight bank side levels
+pub shown-swept : (book : Book) (credit : Credit) (weight bank : ℕ) (side : Side) (fills : List Fill) (left : ℕ) (levels : List Level) → bank < credit.banks → 0 < weight → total (λ (f : Fill). f.lots) fills ≤ 64 * 10 ^ 15 → IsSweep book credit weight (unlimited_order book.pair bank side) fills left → levels ≡ take 10 (levels_of fills) → IsShown book credit weight bank side levels
 unfolding IsFresh lots_of
 shown-swept book credit weight bank side fills left levels bank_in some most sweep levels_are h S sound fits few =
-    let t : Taker = order_in book.pair (unlimited_order bank side) in
+    let t : Taker = unlimited_order book.pair bank side in
     let number : ℕ = count_of S bank + 1 in
     let n : ℕ = lots_against S book.pair side in
     let swept : Swept h S t fills left = sweep h S sound fits in

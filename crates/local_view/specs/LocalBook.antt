@@ -2,6 +2,7 @@
 use Rattle.std.specs.Prelude.{ℕ, ◌<◌, ◌-◌, ◌^◌, List}
 use Rattle.fx_amounts.specs.declared.side.Side.{Side}
 use Rattle.fx_rules.specs.declared.orders.Level.{Level}
+use Rattle.fx_rules.specs.declared.taker.SweptOrder.{SweptOrder}
 use Rattle.fx_rules.specs.declared.outcome.Outcome.{Outcome}
 use Rattle.fx_rules.specs.declared.outcome.Outcome.TheVariants.{Depth}
 use Rattle.fx_rules.specs.Session.{Header}
@@ -10,14 +11,14 @@ use Rattle.fx_rules.specs.Sound.{IsSound}
 use Rattle.fx_rules.specs.Depth.{any_price, Shows, IsDepth}
 use Rattle.global_book.specs.Book.{Book}
 use Rattle.credit_lines.specs.Credit.{Credit}
-use Rattle.match_sweep.specs.declared.taker.Incoming.{Incoming}
 use Rattle.match_sweep.specs.Sweeps.{Fits}
 
--- an order of a bank that takes any price, wants more than its lines allow, and comes after all others
-abbrev pub unlimited_order : ℕ → Side → Incoming
-unlimited_order bank side = record {
+-- an order of a bank in a pair that takes any price, wants more than its lines allow, and comes after all others
+abbrev pub unlimited_order : ℕ → ℕ → Side → SweptOrder
+unlimited_order pair bank side = record {
   bank = bank;
   number = 0;
+  pair = pair;
   side = side;
   price = any_price side;
   left = 2 ^ 64 - 1;

@@ -3,10 +3,10 @@ ghost use Rattle.fx_amounts.specs.Quantity.{IsWeight};
 ghost use Rattle.local_view.specs.LocalBook.{IsLocalBook, IsShown, unlimited_order};
 
 use credit_lines::CreditLines;
-use fx_amounts::{BankId, Memory, Side};
-use fx_rules::{LevelList, Outcome, any_price, levels_of};
+use fx_amounts::{BankId, Memory, PairId, Side};
+use fx_rules::{LevelList, Outcome, SweptOrder, any_price, levels_of};
 use global_book::PairBook;
-use match_sweep::{Incoming, sweep};
+use match_sweep::sweep;
 use price_levels::Steps;
 use std::alloc::Global;
 use std::marker::Brand;
@@ -69,21 +69,22 @@ fn shown<L: Ledger>(
     requires weight { IsWeight weight }
     ensures shown { IfOk result (IsShown book.now lines.now weight viewer side) }
 {
-    let order = unlimited_order(viewer, side);
+    let order = unlimited_order(book.pair(), viewer, side);
     let sweep = sweep(alloc, book, lines, weight, &order, steps)?;
     levels_of(alloc, sweep.fills.as_slice())
 }
 
-/// An order of a bank that takes any price, wants more than its lines allow, and comes after all others.
-fn unlimited_order(viewer: BankId, side: Side) -> Incoming
-    ensures value { result ≡ unlimited_order viewer side }
+/// An order of a bank in a pair that takes any price, wants more than its lines allow, and comes after all others.
+fn unlimited_order(pair: PairId, viewer: BankId, side: Side) -> SweptOrder
+    ensures value { result ≡ unlimited_order pair viewer side }
 {
-    Incoming {
+    SweptOrder {
         bank: viewer,
         number: 0,
+        pair,
         side,
         price: any_price(side),
-        left: u64::MAX,
+        left: u128::from(u64::MAX),
         arrival: u64::MAX,
     }
 }

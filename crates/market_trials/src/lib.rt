@@ -5,6 +5,8 @@
 #[cfg(test)]
 mod books;
 #[cfg(test)]
+mod credit;
+#[cfg(test)]
 mod fixture;
 #[cfg(test)]
 mod levels;
@@ -14,5 +16,7 @@ mod raises;
 mod side_by_side;
 #[cfg(test)]
 mod store;
+#[cfg(test)]
+mod sweeps;
 #[cfg(test)]
 mod views;

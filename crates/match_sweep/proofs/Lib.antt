@@ -3,4 +3,3 @@ pub mod Finding
 pub mod Planning
 pub mod Lowering
 pub mod OfBook
-pub mod Paying

@@ -1,6 +1,6 @@
 -- A sweep planned by reaches in lots, over a book whose orders are found by their places, is one planned by lines in
 -- credit units; and that is the sweep of each state that book and lines are of.
-use Rattle.std.proofs.Common.{ℕ, ◌≡◌, ◌≢◌, ◌+◌, ◌-◌, ◌*◌, ◌/◌, ◌%◌, ◌≤◌, ◌<◌, Bool, true, false, ◌&&◌, eqb, List, [], ◌∷◌, inl, inr, refl, ap, sym, subst, ◌∙◌, arith, length, get_or, Option, Some, None, get_or-set_same, get_or-set_other}
+use Rattle.std.proofs.Common.{ℕ, ◌≡◌, ◌≢◌, ◌+◌, ◌-◌, ◌*◌, ◌/◌, ◌%◌, ◌≤◌, ◌<◌, min, Bool, true, false, ◌&&◌, eqb, List, [], ◌∷◌, inl, inr, refl, ap, sym, subst, ◌∙◌, arith, length, get_or, Option, Some, None, get_or-set_same, get_or-set_other}
 use Rattle.std.proofs.Math.ListN.{set}
 use Rattle.std.proofs.Math.Path.{fun_ext}
 use Rattle.std.proofs.Math.Nat.{mul-le-mul_left}
@@ -10,7 +10,7 @@ use Rattle.std.proofs.lemmas.List.Elements.{filter_agree}
 use Rattle.std.specs.List.{filter}
 use Rattle.fx_rules.specs.declared.orders.Resting.{Resting}
 use Rattle.fx_rules.specs.declared.orders.Fill.{Fill}
-use Rattle.fx_rules.specs.Lists.{Among}
+use Rattle.fx_rules.specs.Lists.{Among, total}
 use Rattle.fx_rules.specs.Session.{Header, bank_count, weight_of}
 use Rattle.fx_rules.specs.State.{State, orders_in, line, reach}
 use Rattle.fx_rules.specs.Sweep.{Taker, is_open, open_orders, IsBest, amount, fill_with, less}
@@ -118,6 +118,22 @@ pub best-reach : (reach : List ℕ) (book : List Resting) (t : Taker) (past : Op
 best-reach reach book t past best is =
     let found = Among-filter (λ (o : Resting). is_open t (get_or reach o.bank 0) o && is_behind t.side past o) book best is.there in
     (is_open-says t (get_or reach best.bank 0) best (and_parts (is_open t (get_or reach best.bank 0) best) (is_behind t.side past best) found.1).0).reach
+
+-- What a planned sweep fills and leaves is what its order wants.
+
+least_first : (a b r : ℕ) → min a (min b r) ≤ a
+least_first a b r = omega arith
+
+fill_most : (t : Taker) (best : Resting) (r : ℕ) (f : Fill) → f ≡ fill_with t best (amount t best r) → f.lots ≤ t.left
+fill_most t best r f is = subst (λ (g : Fill). g.lots ≤ t.left) (sym is) (least_first t.left best.left r)
+
+pub planned-sum : (weight : ℕ) (lines : ℕ → ℕ) (book : List Resting) (t : Taker) (last : Option Resting) (fills : List Fill) (left : ℕ) → Planned weight lines book t last fills left → total (λ (f : Fill). f.lots) fills + left ≡ t.left
+planned-sum weight lines book t last [] left planned = omega (arith, planned.0)
+planned-sum weight lines book t last (f ∷ fills) left planned =
+    let best : Resting = planned.0 in
+    let rest : total (λ (g : Fill). g.lots) fills + left ≡ t.left - f.lots =
+    planned-sum weight (spend lines best.bank (f.lots * weight)) book (less t f.lots) (Some best) fills left planned.4 in
+    omega (arith, rest, fill_most t best (lines best.bank / weight) f planned.3)
 
 -- Reaches in lots, and lines in credit units: of each bank but the taker's own they tell the same of the orders.
 

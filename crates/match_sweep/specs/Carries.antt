@@ -1,15 +1,11 @@
--- What fills do to the orders of one pair's book, and to the credit between its banks.
-use Rattle.std.specs.Prelude.{ℕ, ◌≡◌, ◌≢◌, ◌≤◌, ◌<◌, true, List, [], ◌∷◌, map}
+-- What fills do to the orders of one pair's book.
+use Rattle.std.specs.Prelude.{ℕ, ◌≡◌, ◌≤◌, true, List, [], ◌∷◌, map}
 use Rattle.fx_rules.specs.declared.orders.ActiveOrder.{ActiveOrder}
 use Rattle.fx_rules.specs.declared.orders.Resting.{Resting}
 use Rattle.fx_rules.specs.declared.orders.Fill.{Fill}
 use Rattle.fx_rules.specs.Lists.{Each}
-use Rattle.fx_rules.specs.Session.{Header}
-use Rattle.fx_rules.specs.State.{cost}
 use Rattle.fx_rules.specs.Sweep.{lowered, is_order}
 use Rattle.global_book.specs.Book.{Rests}
-use Rattle.credit_lines.specs.Credit.{Credit, line_in}
-use Rattle.credit_lines.specs.Market.{taken_by}
 
 -- the orders of a book as orders of the market, whatever their pair
 abbrev pub in_market : List Resting → List ActiveOrder
@@ -43,15 +39,3 @@ pub record IsOfBook (orders : List Resting) (fill : Fill) : Type 0 where
 abbrev pub AreOfBook : List Resting → List Fill → Type 0
 AreOfBook orders [] = Unit {0}
 AreOfBook orders (fill ∷ fills) = IsOfBook orders fill × AreOfBook (filled_in orders fill) fills
-
--- the line between a fill's two banks pays for it
-pub record IsPaid (h : Header) (credit : Credit) (fill : Fill) : Type 0 where
-  pub taker : fill.taker < credit.banks
-  pub maker : fill.maker < credit.banks
-  pub differ : fill.taker ≢ fill.maker
-  pub pays : cost h fill ≤ line_in credit fill.taker fill.maker
-
--- so it does for each of some fills, as those before it leave it
-abbrev pub ArePaid : Header → Credit → List Fill → Type 0
-ArePaid h credit [] = Unit {0}
-ArePaid h credit (fill ∷ fills) = IsPaid h credit fill × ArePaid h (taken_by h credit fill) fills

@@ -1,3 +1,4 @@
+pub mod Takers
 pub mod Sweeps
 pub mod Carries
 pub mod Laws

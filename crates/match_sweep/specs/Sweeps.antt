@@ -5,43 +5,13 @@ use Rattle.fx_rules.specs.declared.orders.Resting.{Resting}
 use Rattle.fx_rules.specs.declared.orders.Fill.{Fill}
 use Rattle.fx_rules.specs.Session.{Header, weight_of}
 use Rattle.fx_rules.specs.State.{State, orders_in}
-use Rattle.fx_rules.specs.Sweep.{Swept, IsBest}
-use Rattle.fx_rules.specs.Sweep.{Taker as Swept_order}
+use Rattle.fx_rules.specs.Sweep.{Taker, Swept, IsBest}
 use Rattle.fx_rules.specs.Sound.{IsSound}
 use Rattle.fx_rules.specs.Plan.{Planned}
 use Rattle.price_levels.specs.declared.place.Place.{Place}
 use Rattle.global_book.specs.Book.{Book, IsPlaceOf}
 use Rattle.credit_lines.specs.Credit.{Credit, line_in}
 use Rattle.credit_lines.specs.Market.{StandsFor}
-use Rattle.match_sweep.specs.declared.taker.Taker.{Taker}
-use Rattle.match_sweep.specs.declared.taker.Incoming.{Incoming}
-
--- an order as it is swept in a pair
-abbrev pub order_in : ℕ → Incoming → Swept_order
-order_in pair order = record {
-  bank = order.bank;
-  number = order.number;
-  pair = pair;
-  side = order.side;
-  price = order.price;
-  left = order.left;
-  arrival = order.arrival;
-}
-
--- a bank's order as it is swept, before its first fill
-abbrev pub incoming_of : Taker → Incoming
-incoming_of taker = record {
-  bank = taker.bank;
-  number = taker.number;
-  side = taker.side;
-  price = taker.price;
-  left = taker.lots;
-  arrival = taker.arrival;
-}
-
--- and in a pair
-abbrev pub taker_in : ℕ → Taker → Swept_order
-taker_in pair taker = order_in pair (incoming_of taker)
 
 -- The book and the credit are those of a state: the book has the orders of its pair, the credit its limits and uses, and
 -- a lot of the pair costs this weight.
@@ -51,16 +21,18 @@ pub record Fits (h : Header) (S : State) (book : Book) (credit : Credit) (weight
   pub weighs : weight ≡ weight_of h book.pair
 
 -- the fills are the sweep of an order in every sound state that the book and the credit are of
-abbrev pub IsSweep : Book → Credit → ℕ → Swept_order → List Fill → ℕ → Type 0
+abbrev pub IsSweep : Book → Credit → ℕ → Taker → List Fill → ℕ → Type 0
 IsSweep book credit weight order fills left =
     (h : Header) (S : State) → IsSound h S → Fits h S book credit weight → Swept h S order fills left
 
+-- The rest is for this crate's own functions, which plan.
+
 -- the fills are planned over the book as it stands, by these lines with each bank
-abbrev pub IsPlannedBy : ℕ → (ℕ → ℕ) → Book → Swept_order → List Fill → ℕ → Type 0
+abbrev pub IsPlannedBy : ℕ → (ℕ → ℕ) → Book → Taker → List Fill → ℕ → Type 0
 IsPlannedBy weight lines book order fills left = Planned weight lines book.orders order None fills left
 
 -- the fills are planned over the book as it stands, by the lines of the order's bank
-abbrev pub IsPlanned : Book → Credit → ℕ → Swept_order → List Fill → ℕ → Type 0
+abbrev pub IsPlanned : Book → Credit → ℕ → Taker → List Fill → ℕ → Type 0
 IsPlanned book credit weight order fills left = IsPlannedBy weight (line_in credit order.bank) book order fills left
 
 -- of some orders the best is found, with its place, or there is none

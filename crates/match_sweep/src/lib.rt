@@ -8,11 +8,6 @@ mod sweeping;
 mod taker;
 
 pub use carrying::carry;
-pub use laws::{
-    plans_are_sweeps, sweeps_are_carried, sweeps_are_paid, turns_are_carried, turns_are_paid,
-};
+pub use laws::{sweeps_are_carried, turns_are_carried};
 pub use sweeping::{SweepPlan, plan, sweep};
-pub use taker::{Incoming, Taker};
-
-#[cfg(test)]
-mod tests;
+pub use taker::Taker;

@@ -1,17 +1,17 @@
-ghost use Rattle.std.specs.Prelude.{ℕ, ◌≡◌, ◌≢◌, ◌≤◌, ◌<◌, ◌*◌, ◌^◌, min, slice_index, IfOk};
+ghost use Rattle.std.specs.Prelude.{ℕ, ◌≡◌, ◌≢◌, ◌≤◌, ◌<◌, ◌+◌, ◌*◌, ◌^◌, slice_index, IfOk};
 ghost use Rattle.std.specs.Option.{option_map};
 ghost use Rattle.fx_amounts.specs.Quantity.{IsWeight};
 ghost use Rattle.fx_rules.specs.Lists.{total};
-ghost use Rattle.fx_rules.specs.Sweep.{fill_with};
 ghost use Rattle.fx_rules.specs.Plan.{open_behind};
 ghost use Rattle.global_book.specs.Book.{IsBook, standing_at};
 ghost use Rattle.credit_lines.specs.Credit.{reach_in};
-ghost use Rattle.match_sweep.specs.Sweeps.{order_in, taker_in, IsFound, IsPlanned, IsPlannedBy, IsSweep};
+ghost use Rattle.match_sweep.specs.Takers.{swept_in};
+ghost use Rattle.match_sweep.specs.Sweeps.{IsFound, IsPlannedBy, IsSweep};
 
-use crate::taker::{Incoming, Taker};
+use crate::taker::Taker;
 use credit_lines::CreditLines;
-use fx_amounts::{BankId, Lots, Memory, PairId};
-use fx_rules::{Fill, FillList, Plan, Resting};
+use fx_amounts::{BankId, Memory};
+use fx_rules::{FillList, Plan, Resting, SweptOrder};
 use global_book::PairBook;
 use price_levels::{Place, Steps};
 use std::alloc::Global;
@@ -23,7 +23,7 @@ pub struct SweepPlan {
     /// What it would fill, in order.
     pub fills: FillList,
     /// The lots that it would have left.
-    pub left: u64,
+    pub left: u128,
 }
 
 /// The sweep of a taker over a pair's book, by the lines of its bank, where a lot costs `weight` credit units, 1 to 10^6.
@@ -41,34 +41,34 @@ pub fn plan<L: Ledger>(
     requires banks { book.now.banks ≡ lines.now.banks }
     requires bank { taker.now.bank < lines.now.banks }
     requires weight { IsWeight weight }
-    ensures sweep { IfOk result (λ plan. IsSweep book.now lines.now weight (taker_in book.now.pair taker.now) plan.fills plan.left) }
-    ensures planned { IfOk result (λ plan. IsPlanned book.now lines.now weight (taker_in book.now.pair taker.now) plan.fills plan.left) }
-    ensures left { IfOk result (λ plan. plan.left ≤ taker.now.lots) }
+    ensures sweep { IfOk result (λ plan. IsSweep book.now lines.now weight (swept_in book.now.pair taker.now) plan.fills plan.left) }
+    ensures sum { IfOk result (λ plan. total (λ fill. fill.lots) plan.fills + plan.left ≡ taker.now.lots) }
 {
-    let sweep = sweep(alloc, book, lines, weight, &taker.incoming(), steps)?;
+    let order = taker.in_pair(book.pair());
+    let sweep = sweep(alloc, book, lines, weight, &order, steps)?;
     Ok(Plan {
         fills: sweep.fills,
         left: sweep.left as u32,
     })
 }
 
-/// The same of an order that may want more than an order can have. The lots of its fills are at most all that the lines
+/// The same of an order of the book's pair that may want more than an order can have. The lots of its fills are at most all that the lines
 /// of its bank allow.
 pub fn sweep<L: Ledger>(
     alloc: Global,
     book: &PairBook,
     lines: &CreditLines,
     weight: u32,
-    order: &Incoming,
+    order: &SweptOrder,
     steps: &mut Steps<L>,
 ) -> Result<SweepPlan, Memory>
     requires banks { book.now.banks ≡ lines.now.banks }
     requires bank { order.now.bank < lines.now.banks }
+    requires pair { order.now.pair ≡ book.now.pair }
     requires weight { IsWeight weight }
-    ensures sweep { IfOk result (λ sweep. IsSweep book.now lines.now weight (order_in book.now.pair order.now) sweep.fills sweep.left) }
-    ensures planned { IfOk result (λ sweep. IsPlanned book.now lines.now weight (order_in book.now.pair order.now) sweep.fills sweep.left) }
+    ensures sweep { IfOk result (λ sweep. IsSweep book.now lines.now weight order.now sweep.fills sweep.left) }
+    ensures sum { IfOk result (λ sweep. total (λ fill. fill.lots) sweep.fills + sweep.left ≡ order.now.left) }
     ensures lots { IfOk result (λ sweep. total (λ fill. fill.lots) sweep.fills ≤ 64 * 10 ^ 15) }
-    ensures left { IfOk result (λ sweep. sweep.left ≤ order.now.left) }
     ensures valid { IsBook book.now }
 {
     let reach = reaches(book.banks(), lines, weight, order.bank);
@@ -102,15 +102,14 @@ fn walk<L: Ledger>(
     alloc: Global,
     book: &PairBook,
     mut reach: [u64; 64],
-    order: &Incoming,
+    order: &SweptOrder,
     steps: &mut Steps<L>,
 ) -> Result<SweepPlan, Memory>
     requires banks { book.now.banks ≤ 64 }
     requires bank { order.now.bank < book.now.banks }
     requires own { slice_index reach order.now.bank ≡ 0 }
-    ensures planned { IfOk result (λ sweep. IsPlannedBy 1 (slice_index reach) book.now (order_in book.now.pair order.now) sweep.fills sweep.left) }
+    ensures planned { IfOk result (λ sweep. IsPlannedBy 1 (slice_index reach) book.now order.now sweep.fills sweep.left) }
     ensures lots { IfOk result (λ sweep. total (λ fill. fill.lots) sweep.fills ≤ total (λ lots. lots) reach) }
-    ensures left { IfOk result (λ sweep. sweep.left ≤ order.now.left) }
 {
     let mut order = *order;
     let mut past = None;
@@ -119,10 +118,10 @@ fn walk<L: Ledger>(
         let Some((maker, place)) = best_behind(book, &order, &reach, &past, steps) else {
             break;
         };
-        let lots = amount(order.left, &maker, reach[maker.bank.index()]);
-        fills.push(fill_with(book.pair(), &order, &maker, lots))?;
+        let lots = order.amount(&maker, reach[maker.bank.index()]);
+        fills.push(order.fill_with(&maker, lots))?;
         reach[maker.bank.index()] -= u64::from(lots.count());
-        order.left -= u64::from(lots.count());
+        order.left -= u128::from(lots.count());
         past = Some(place);
     }
     Ok(SweepPlan {
@@ -134,7 +133,7 @@ fn walk<L: Ledger>(
 /// The best order that is open to a taker and stands behind the place `past`, where there is one; with its place.
 fn best_behind<L: Ledger>(
     book: &PairBook,
-    order: &Incoming,
+    order: &SweptOrder,
     reach: &[u64; 64],
     past: &Option<Place>,
     steps: &mut Steps<L>,
@@ -142,7 +141,7 @@ fn best_behind<L: Ledger>(
     requires banks { book.now.banks ≤ 64 }
     requires bank { order.now.bank < book.now.banks }
     requires own { slice_index reach.now order.now.bank ≡ 0 }
-    ensures found { IsFound order.now.side (open_behind (slice_index reach.now) (order_in book.now.pair order.now) (option_map standing_at past.now) book.now.orders) result }
+    ensures found { IsFound order.now.side (open_behind (slice_index reach.now) order.now (option_map standing_at past.now) book.now.orders) result }
 {
     let side = order.side.opposite();
     let reach = &reach[..book.banks()];
@@ -154,30 +153,4 @@ fn best_behind<L: Ledger>(
         past.as_ref(),
         steps,
     )
-}
-
-/// What a taker with so many lots left takes of an order of whose owner `reach` lots can be reached.
-fn amount(left: u64, maker: &Resting, reach: u64) -> Lots
-    requires left { 1 ≤ left }
-    requires reach { 1 ≤ reach }
-    ensures value { result ≡ min left (min maker.now.left reach) }
-{
-    let lots = left.min(u64::from(maker.left.count()).min(reach));
-    Lots::new(lots as u32).unwrap()
-}
-
-/// The fill of a taker with a resting order, at the resting order's price.
-fn fill_with(pair: PairId, order: &Incoming, maker: &Resting, lots: Lots) -> Fill
-    ensures value { result ≡ fill_with (order_in pair order.now) maker.now lots }
-{
-    Fill {
-        pair,
-        taker: order.bank,
-        taker_number: order.number,
-        taker_side: order.side,
-        maker: maker.bank,
-        maker_number: maker.number,
-        price: maker.price,
-        lots,
-    }
 }

@@ -1,7 +1,8 @@
 ghost use Rattle.std.specs.Prelude.{◌≡◌, ◌≤◌, ◌^◌};
-ghost use Rattle.match_sweep.specs.Sweeps.{incoming_of};
+ghost use Rattle.match_sweep.specs.Takers.{swept_in};
 
-use fx_amounts::{BankId, Lots, Price, Side};
+use fx_amounts::{BankId, Lots, PairId, Price, Side};
+use fx_rules::SweptOrder;
 
 /// A bank's order as it comes to a pair's book.
 #[derive(Clone, Copy, Debug, PartialEq, Eq)]
@@ -21,35 +22,19 @@ pub struct Taker {
 }
 
 impl Taker {
-    /// The order as it is swept, before its first fill.
-    pub(crate) fn incoming(&self) -> Incoming
-        ensures value { result ≡ incoming_of self.now }
+    /// The order as it is swept in a pair, before its first fill.
+    pub(crate) fn in_pair(&self, pair: PairId) -> SweptOrder
+        ensures value { result ≡ swept_in pair self.now }
         ensures most { result.left ≤ 10 ^ 6 }
     {
-        Incoming {
+        SweptOrder {
             bank: self.bank,
             number: self.number,
+            pair,
             side: self.side,
             price: self.price,
-            left: u64::from(self.lots.count()),
+            left: u128::from(self.lots.count()),
             arrival: self.arrival,
         }
     }
-}
-
-/// An order as it is swept.
-#[derive(Clone, Copy, Debug, PartialEq, Eq)]
-pub struct Incoming {
-    /// Its owner.
-    pub bank: BankId,
-    /// The number of its command in the owner's stream.
-    pub number: u32,
-    /// Whether it buys or sells.
-    pub side: Side,
-    /// The price that it takes or better, in ticks, 1 to 10^9.
-    pub price: Price,
-    /// The lots that it still wants; of an order that takes all there is they may be more than an order can have.
-    pub left: u64,
-    /// It takes orders that arrived before this.
-    pub arrival: u64,
 }

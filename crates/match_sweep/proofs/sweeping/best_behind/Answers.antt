@@ -3,13 +3,13 @@ use Rattle.std.proofs.Common.{ℕ, ap, subst, take, slice_index}
 use Rattle.std.specs.Option.{option_map, option_copied}
 use Rattle.fx_rules.specs.Plan.{open_behind}
 use Rattle.global_book.specs.Book.{standing_at}
-use Rattle.match_sweep.specs.Sweeps.{order_in, IsFound}
+use Rattle.match_sweep.specs.Sweeps.{IsFound}
 use Rattle.match_sweep.proofs.Finding.{found-best}
 use Rattle.match_sweep.proofs.sweeping.best_behind.Goals as goal
 
 pub returns : goal.returns
 returns g c =
-    let t = order_in c.args.book.now.pair c.args.order.now in
+    let t = c.args.order.now in
     record {
       found = subst (λ past. IsFound t.side (open_behind (λ bank. slice_index c.args.reach.now bank) t (option_map standing_at past) c.args.book.now.orders) c.best.result)
           c.as_ref.ensures.value

@@ -9,7 +9,6 @@ use Rattle.fx_rules.proofs.ListLemmas.{total-append}
 use Rattle.fx_rules.specs.Sweep.{Taker, fill_with, less}
 use Rattle.fx_rules.specs.Plan.{Planned}
 use Rattle.global_book.specs.Book.{standing_at}
-use Rattle.match_sweep.specs.Sweeps.{order_in}
 use Rattle.match_sweep.proofs.Tables.{none-kept, paid-step}
 use Rattle.match_sweep.proofs.Planning.{walk-step, walk-end, best-reach}
 use Rattle.match_sweep.proofs.sweeping.walk.Goals as goal
@@ -34,11 +33,11 @@ lots_push fills new f lots push is =
 pub amount-lots-requires-clause-reach : goal.amount-lots-requires-clause-reach
 amount-lots-requires-clause-reach g c =
     subst (λ b. 1 ≤ get_or c.loop-order.reach b 0) (sym c.index.ensures.value)
-    (best-reach c.loop-order.reach c.args.book.now.orders (order_in c.args.book.now.pair c.loop-order.order) (option_map standing_at c.loop-order.past) c.in-Some.maker c.in-Some.ensures.found.0)
+    (best-reach c.loop-order.reach c.args.book.now.orders c.loop-order.order (option_map standing_at c.loop-order.past) c.in-Some.maker c.in-Some.ensures.found.0)
 
 pub loop-order-preserved : goal.loop-order-preserved
 loop-order-preserved g c =
-    let t : Taker = order_in c.args.book.now.pair c.loop-order.order in
+    let t : Taker = c.loop-order.order in
     let maker : Resting = c.in-Some.maker in
     let reach : List ℕ = c.loop-order.reach in
     let lots : ℕ = c.amount-lots.result in
@@ -49,7 +48,7 @@ loop-order-preserved g c =
     let next : set reach c.index-in-loop-order.result (get_or reach c.index-in-loop-order.result 0 - c.from.result) ≡ set reach maker.bank (get_or reach maker.bank 0 - lots) =
     table_same reach maker.bank c.index-in-loop-order.result c.index-in-loop-order.result lots c.from.result
     c.index-in-loop-order.ensures.value c.index-in-loop-order.ensures.value (c.from.ensures ∙ c.count.ensures.value) in
-    let fill_is : c.fill_with.result ≡ fill_with t maker lots = c.fill_with.ensures.value ∙ ap (λ p. fill_with (order_in p c.loop-order.order) maker lots) c.pair.ensures.value in
+    let fill_is : c.fill_with.result ≡ fill_with t maker lots = c.fill_with.ensures.value in
     record {
       goes_on = λ more left planned.
           let Next : List ℕ → ℕ → Type 0 = λ (l : List ℕ) n.
@@ -57,7 +56,7 @@ loop-order-preserved g c =
           let here : Next (set reach maker.bank (get_or reach maker.bank 0 - lots)) lots =
           subst (Next (set reach maker.bank (get_or reach maker.bank 0 - lots))) (c.from-in-loop-order.ensures ∙ c.count-in-loop-order.ensures.value)
           (subst (λ l. Next l c.from-in-loop-order.result) next planned) in
-          subst (λ (fills : List Fill). Planned 1 (slice_index c.args.reach) c.args.book.now.orders (order_in c.args.book.now.pair c.args.order.now) None fills left)
+          subst (λ (fills : List Fill). Planned 1 (slice_index c.args.reach) c.args.book.now.orders c.args.order.now None fills left)
           (fills_same c.push.new.self.items c.loop-order.fills.items more c.fill_with.result (fill_with t maker lots) c.in_ok-push.ensures.items fill_is)
           (c.loop-order.invariant.goes_on (fill_with t maker lots ∷ more) left
           (walk-step reach c.args.book.now.orders t past maker c.in-Some.place lots more left
@@ -76,16 +75,15 @@ loop-order-preserved g c =
             paid-step (total (λ (f : Fill). f.lots) c.loop-order.fills.items) (total (λ (n : ℕ). n) c.args.reach) lots reach maker.bank within c.loop-order.invariant.paid
                 (subst (λ n. n ≤ get_or reach maker.bank 0) (sym lots_are) (least_le t.left maker.left (get_or reach maker.bank 0))),
           ));
-      less = omega (arith, c.loop-order.invariant.less);
     }
 
 pub returns-clause-planned : goal.returns-clause-planned
 returns-clause-planned g c =
-    subst (λ (fills : List Fill). Planned 1 (slice_index c.args.reach) c.args.book.now.orders (order_in c.args.book.now.pair c.args.order.now) None fills c.loop-order.order.left)
+    subst (λ (fills : List Fill). Planned 1 (slice_index c.args.reach) c.args.book.now.orders c.args.order.now None fills c.loop-order.order.left)
     (append-nil c.loop-order.fills.items ∙ sym c.from_vec.ensures.items)
     (c.loop-order.invariant.goes_on [] c.loop-order.order.left
     (elim c.loop-order-test.branch [
       | else-loop-order-test w ↦ (refl, inl (omega (arith, w.loop-order-test.false)))
       | then-loop-order-test+in_default w ↦
-          walk-end c.loop-order.reach c.args.book.now.orders (order_in c.args.book.now.pair c.loop-order.order) (option_map standing_at c.loop-order.past) w.in_default.ensures.found
+          walk-end c.loop-order.reach c.args.book.now.orders c.loop-order.order (option_map standing_at c.loop-order.past) w.in_default.ensures.found
     ]))

@@ -1,0 +1,130 @@
+-- The lines pay for the fills of a sweep, of a credit change, and of each step.
+use Rattle.std.proofs.Common.{ℕ, ◌≡◌, ◌+◌, ◌*◌, ◌≤◌, ◌<◌, max, List, [], ◌∷◌, ◌++◌, refl, ap, sym, subst, ◌∙◌, length}
+use Rattle.std.proofs.lemmas.List.{length-set}
+use Rattle.fx_rules.specs.declared.command.Command.{Command}
+use Rattle.fx_rules.specs.declared.command.Command.TheVariants.{Order, Cancel, Reduce, Pull, Line, Show, Book, Bad}
+use Rattle.fx_rules.specs.declared.orders.Fill.{Fill}
+use Rattle.fx_rules.specs.declared.outcome.Outcome.{Outcome}
+use Rattle.fx_rules.specs.declared.outcome.Outcome.TheVariants.{LineSet}
+use Rattle.fx_rules.specs.declared.outcome.Entry.{Entry}
+use Rattle.fx_rules.specs.Session.{Header, bank_count}
+use Rattle.fx_rules.specs.State.{State, cost, used, line}
+use Rattle.fx_rules.specs.Sweep.{filled, filled_all}
+use Rattle.fx_rules.specs.Raise as raise
+use Rattle.fx_rules.specs.Step.{IsCommand, IsOutcome, fills_of}
+use Rattle.fx_rules.specs.History.{IsLegal, after_entry, state}
+use Rattle.fx_rules.proofs.Continuing.{legal-last}
+use Rattle.fx_rules.proofs.Falling.{changed-fills, fills-filled_all}
+use Rattle.fx_rules.proofs.Made.{AreMade, limit_made, swept-made, turned-made, outcome-made, changed-limits}
+use Rattle.fx_rules.proofs.Soundness.{legal-sound}
+use Rattle.fx_rules.proofs.SweepSound.{limits-filled_all}
+use Rattle.credit_lines.specs.Credit.{Credit, line_in, used_in, shared_place, limited, IsCredit}
+use Rattle.credit_lines.specs.Market.{StandsFor, IsBetweenBanks, taken_by, taken_by_all, ArePaid, line_set, followed, IsNextOf, FollowsOn}
+use Rattle.credit_lines.specs.Laws.{SweepsArePaid, TurnsArePaid, StepsArePaid}
+use Rattle.credit_lines.proofs.MarketLemmas.{line_in-line, StandsFor-same, StandsFor-taken_by, StandsFor-limited}
+
+made-paid : (h : Header) (S : State) (credit : Credit) (fills : List Fill) → length credit.uses ≡ credit.banks * credit.banks → StandsFor h S credit → AreMade h S fills → ArePaid h credit fills × StandsFor h (filled_all S fills) (taken_by_all h credit fills)
+made-paid h S credit [] full stands made = (tt, stands)
+made-paid h S credit (f ∷ fills) full stands made =
+    let a = made.0.allowed in
+    let same : line_in credit f.taker f.maker ≡ line h S f.taker f.maker = line_in-line h S credit f.taker f.maker stands a.taker a.maker a.differ in
+    let between : IsBetweenBanks h f = record { taker = a.taker; maker = a.maker; differ = a.differ } in
+    let banks : credit.banks ≡ bank_count h = stands.banks in
+    let rest = made-paid h (filled S f) (taken_by h credit f) fills
+    (length-set credit.uses (shared_place credit.banks f.taker f.maker) (used_in credit f.taker f.maker + cost h f) ∙ full)
+    (StandsFor-taken_by h S credit f full between stands) made.1 in (
+      (
+        record {
+          pair = made.0.pair;
+          taker = subst (λ n. f.taker < n) (sym banks) a.taker;
+          maker = subst (λ n. f.maker < n) (sym banks) a.maker;
+          differ = a.differ;
+          pays = subst (λ n. cost h f ≤ n) (sym same) a.credit;
+        },
+        rest.0,
+      ),
+      rest.1,
+    )
+
+pub sweeps_paid : SweepsArePaid
+sweeps_paid h S credit t fills left sound valid stands bank some swept =
+    made-paid h S credit fills valid.uses_full stands (swept-made h S t fills left sound bank some swept)
+
+pub turns_paid : TurnsArePaid
+turns_paid h pair S credit orders fills sound valid stands some turned =
+    made-paid h S credit fills valid.uses_full stands (turned-made h pair S orders fills sound some turned)
+
+-- The credit with the limit set is that of the state in which a command's fills are made.
+
+line-stands : (h : Header) (S : State) (bank other asked : ℕ) (outcome : Outcome) (credit : Credit) → bank < bank_count h → IsCommand h bank (Line other asked) → IsOutcome h S bank (Line other asked) outcome → IsCredit credit → StandsFor h S credit
+    → StandsFor h (limit_made S bank (Line other asked) outcome) (line_set credit bank (Line other asked))
+line-stands h S bank other asked (LineSet limit fills) credit sender valid is credit_is stands =
+    let used_is : used_in credit bank other ≡ used h S bank other = stands.uses bank other sender valid.0 (λ same. valid.1 (sym same)) in
+    let limit_is : limit ≡ max asked (used_in credit bank other) = is.0 ∙ ap (max asked) (sym used_is) in
+    subst (λ l. StandsFor h (raise.limited bank other limit S) (limited credit bank other l)) limit_is
+    (StandsFor-limited h S credit bank other limit credit_is stands sender valid.0)
+line-stands h S bank other asked outcome credit sender valid is credit_is stands = absurd is
+
+set-stands : (h : Header) (S : State) (bank : ℕ) (command : Command) (outcome : Outcome) (credit : Credit) → bank < bank_count h → IsCommand h bank command → IsOutcome h S bank command outcome → IsCredit credit → StandsFor h S credit
+    → StandsFor h (limit_made S bank command outcome) (line_set credit bank command)
+set-stands h S bank (Order side pair price lots life) outcome credit sender valid is credit_is stands = stands
+set-stands h S bank (Cancel pair number) outcome credit sender valid is credit_is stands = stands
+set-stands h S bank (Reduce pair number lots) outcome credit sender valid is credit_is stands = stands
+set-stands h S bank (Pull pair) outcome credit sender valid is credit_is stands = stands
+set-stands h S bank (Line other asked) outcome credit sender valid is credit_is stands = line-stands h S bank other asked outcome credit sender valid is credit_is stands
+set-stands h S bank (Show other) outcome credit sender valid is credit_is stands = stands
+set-stands h S bank (Book pair) outcome credit sender valid is credit_is stands = stands
+set-stands h S bank (Bad reason) outcome credit sender valid is credit_is stands = stands
+
+-- the state with the limit set has the same fills
+fills-limit_made : (S : State) (bank : ℕ) (command : Command) (outcome : Outcome) → (limit_made S bank command outcome).fills ≡ S.fills
+fills-limit_made S bank (Line other asked) (LineSet limit fills) = refl
+fills-limit_made S bank command outcome = refl
+
+-- and its limits are full
+uses-line_set : (credit : Credit) (bank : ℕ) (command : Command) → (line_set credit bank command).uses ≡ credit.uses
+uses-line_set credit bank (Line other asked) = refl
+uses-line_set credit bank command = refl
+
+banks-line_set : (credit : Credit) (bank : ℕ) (command : Command) → (line_set credit bank command).banks ≡ credit.banks
+banks-line_set credit bank (Line other asked) = refl
+banks-line_set credit bank command = refl
+
+pub steps_paid : StepsArePaid
+steps_paid h S credit e session sound valid stands step =
+    let set : Credit = line_set credit e.bank e.command in
+    let T : State = limit_made S e.bank e.command e.outcome in
+    let fills : List Fill = fills_of e.outcome in
+    let banks : set.banks ≡ credit.banks = banks-line_set credit e.bank e.command in
+    let full : length set.uses ≡ set.banks * set.banks =
+    ap length (uses-line_set credit e.bank e.command) ∙ valid.uses_full ∙ ap (λ n. n * n) (sym banks) in
+    let paid = made-paid h T set fills full
+    (set-stands h S e.bank e.command e.outcome credit step.sender step.command step.outcome valid stands)
+    (outcome-made h S e.bank e.command e.outcome session sound step.sender step.command step.outcome) in
+    let limits : (after_entry S e).limits ≡ (filled_all T fills).limits =
+    changed-limits S e.bank e.command e.outcome ∙ sym (limits-filled_all T fills) in
+    let made : (after_entry S e).fills ≡ (filled_all T fills).fills =
+    changed-fills h S e.bank e.command e.outcome step.outcome
+    ∙ ap (λ fs. fs ++ fills) (sym (fills-limit_made S e.bank e.command e.outcome)) ∙ sym (fills-filled_all T fills) in (
+      paid.0,
+      StandsFor-same h (filled_all T fills) (after_entry S e) (followed h credit e) (λ i j. ap (λ (l : ℕ → ℕ → ℕ). l i j) limits) made paid.1,
+    )
+
+-- One step followed: the limit set, and then the fills taken.
+
+pub follow_paid : (h : Header) (c set : Credit) (e : Entry) (fills : List Fill) → IsCredit c → IsNextOf h c e → set ≡ line_set c e.bank e.command → fills ≡ fills_of e.outcome → ArePaid h set fills
+follow_paid h c set e fills valid next set_is fills_are =
+    subst (λ (now : Credit). ArePaid h now fills) (sym set_is)
+    (subst (ArePaid h (line_set c e.bank e.command)) (sym fills_are) (steps_paid h next.before c e next.session next.sound valid next.stands next.step).0)
+
+pub follow_on : (h : Header) (c set new : Credit) (e : Entry) (fills : List Fill) → IsCredit c → IsNextOf h c e → set ≡ line_set c e.bank e.command → fills ≡ fills_of e.outcome → new ≡ taken_by_all h set fills → FollowsOn h c new e
+follow_on h c set new e fills valid next set_is fills_are new_is S sound stands step =
+    let made : followed h c e ≡ new =
+    sym (ap (λ (now : Credit). taken_by_all h now (fills_of e.outcome)) set_is) ∙ sym (ap (taken_by_all h set) fills_are) ∙ sym new_is in
+    subst (StandsFor h (after_entry S e)) made (steps_paid h S c e next.session sound valid stands step).1
+
+-- the entry by which a legal history goes on
+pub next_of-legal : (h : Header) (entries : List Entry) (e : Entry) (credit : Credit) → IsLegal h (entries ++ e ∷ []) → StandsFor h (state h entries) credit → IsNextOf h credit e
+next_of-legal h entries e credit legal stands =
+    let last = legal-last h entries e legal in
+    record { session = legal.session; before = state h entries; sound = legal-sound h entries last.0; stands = stands; step = last.1 }

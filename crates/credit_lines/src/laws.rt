@@ -1,0 +1,17 @@
+ghost use Rattle.credit_lines.specs.Laws.{SweepsArePaid, TurnsArePaid, StepsArePaid};
+
+/// The lines pay for a sweep's fills in order. One take for each of them leaves the lines of the swept state.
+pub fn sweeps_are_paid()
+    ensures paid { SweepsArePaid }
+{}
+
+/// The same of the fills that a credit change makes in a pair.
+pub fn turns_are_paid()
+    ensures paid { TurnsArePaid }
+{}
+
+/// The same of the fills of each step of the market, once the limit is set that its command asks for: it leaves the lines
+/// of the state after the step.
+pub fn steps_are_paid()
+    ensures paid { StepsArePaid }
+{}

@@ -1,0 +1,187 @@
+-- The fills of a step as they are made: each between two banks of the session, in one of its pairs, at a price in range, and
+-- within the line that the fills before it leave.
+use Rattle.std.proofs.Common.{ℕ, zero, suc, ◌<◌, ◌≤◌, ◌+◌, ◌-◌, ◌≡◌, List, [], ◌∷◌, ◌++◌, refl, inl, inr, ap, sym, subst, ◌∙◌, arith, length, get_or, map, Option, Some, None}
+use Rattle.std.proofs.lemmas.Bool.{cond_both}
+use Rattle.std.proofs.lemmas.List.{length-map}
+use Rattle.std.specs.Prelude.{nat_lt}
+use Rattle.fx_amounts.specs.declared.side.Side.{Side}
+use Rattle.fx_rules.specs.declared.session.PairRule.{PairRule}
+use Rattle.fx_rules.specs.declared.command.Command.{Command}
+use Rattle.fx_rules.specs.declared.command.Command.TheVariants.{Order, Cancel, Reduce, Pull, Line, Show, Book, Bad}
+use Rattle.fx_rules.specs.declared.command.Life.{Life}
+use Rattle.fx_rules.specs.declared.command.Life.TheVariants.{Day, Ioc, Fok}
+use Rattle.fx_rules.specs.declared.outcome.Outcome.{Outcome}
+use Rattle.fx_rules.specs.declared.outcome.Outcome.TheVariants.{Ordered, Killed, Cancelled, Reduced, NotLess, Pulled, LineSet, Depth}
+use Rattle.fx_rules.specs.declared.orders.Fill.{Fill}
+use Rattle.fx_rules.specs.declared.orders.Resting.{Resting}
+use Rattle.fx_rules.specs.Session.{Header, IsSession, bank_count, pair_count, weight_of}
+use Rattle.fx_rules.specs.State.{State, reach, orders_in}
+use Rattle.fx_rules.specs.Sweep.{Taker, Swept, filled, filled_all, less, fill_with, amount}
+use Rattle.fx_rules.specs.Raise.{order_of, taker_of_resting, limited, Turned, PairsTurned}
+use Rattle.fx_rules.specs.Step.{IsCommand, IsOrdered, IsOutcome, taker_of, fills_of, cancel_answer, reduce_answer, rested, changed}
+use Rattle.fx_rules.specs.Sound.{IsSound}
+use Rattle.fx_rules.proofs.Credit.{IsAllowed}
+use Rattle.fx_rules.proofs.Opens.{IsMaker, maker_of, allowed-open}
+use Rattle.fx_rules.proofs.SweepSound.{filled-sound, swept-sound, limits-filled_all, weight_of-least}
+use Rattle.fx_rules.proofs.RaiseSound.{match_cases, turn_of, turn-sender, turned-sound, limited-sound}
+use Rattle.fx_rules.proofs.Soundness.{resting_of}
+
+pub record IsMade (h : Header) (S : State) (f : Fill) : Type 0 where
+  pub allowed : IsAllowed h S f
+  pub pair : f.pair < pair_count h
+  pub price : f.price ≤ 1000000000
+
+-- each of some fills is, in the state as those before it leave it
+abbrev pub AreMade : Header → State → List Fill → Type 0
+AreMade h S [] = Unit {0}
+AreMade h S (f ∷ fills) = IsMade h S f × AreMade h (filled S f) fills
+
+made-append : (h : Header) (S : State) (xs ys : List Fill) → AreMade h S xs → AreMade h (filled_all S xs) ys → AreMade h S (xs ++ ys)
+made-append h S [] ys first later = later
+made-append h S (f ∷ xs) ys first later = (first.0, made-append h (filled S f) xs ys first.1 later)
+
+-- only a pair of the session has a weight
+weighed : (weights : List ℕ) (pair : ℕ) → 0 < get_or weights pair 0 → pair < length weights
+weighed [] pair some = absurd (omega arith)
+weighed (w ∷ weights) zero some = omega arith
+weighed (w ∷ weights) (suc pair) some = omega (arith, weighed weights pair some)
+
+weighed_pair : (h : Header) (pair : ℕ) → 0 < weight_of h pair → pair < pair_count h
+weighed_pair h pair some =
+    omega (arith, weighed (map (λ (rule : PairRule). rule.weight) h.pairs) pair some, length-map h.pairs (λ (rule : PairRule). rule.weight))
+
+-- the fill of a taker with its best order
+fill-made : (h : Header) (S : State) (t : Taker) (best : Resting) (f : Fill) → 0 < weight_of h t.pair → f ≡ fill_with t best (amount t best (reach h S t.bank best.bank t.pair)) → IsMaker h S t best → IsAllowed h S f → IsMade h S f
+fill-made h S t best f some is m allowed =
+    let priced : f.price ≡ best.price = ap (λ (g : Fill). g.price) is in
+    let kept : best.price ≡ m.active.order.price = ap (λ (o : Resting). o.price) m.order in
+    record {
+      allowed = allowed;
+      pair = omega (arith, weighed_pair h t.pair some, ap (λ (g : Fill). g.pair) is);
+      price = omega (arith, m.kept.price.1);
+    }
+
+-- those of a sweep
+pub swept-made : (h : Header) (S : State) (t : Taker) (fills : List Fill) (left : ℕ) → IsSound h S → t.bank < bank_count h → 0 < weight_of h t.pair → Swept h S t fills left → AreMade h S fills
+swept-made h S t [] left sound bank some swept = tt
+swept-made h S t (f ∷ fills) left sound bank some swept =
+    let best : Resting = swept.0 in
+    let allowed : IsAllowed h S f = subst (IsAllowed h S) (sym swept.3) (allowed-open h S t best sound bank some swept.1 swept.2.there) in (
+      fill-made h S t best f some swept.3 (maker_of h S t best sound swept.2.there) allowed,
+      swept-made h (filled S f) (less t f.lots) fills left (filled-sound h S f sound allowed) bank some swept.4,
+    )
+
+-- of orders that are swept in turn
+pub turned-made : (h : Header) (pair : ℕ) (S : State) (orders : List Resting) (fills : List Fill) → IsSound h S → 0 < weight_of h pair → Turned h pair S orders fills → AreMade h S fills
+turned-made h pair S [] fills sound some turned = subst (AreMade h S) (sym turned) tt
+turned-made h pair S (order ∷ orders) fills sound some turned =
+    elim (match_cases (order_of S pair order.bank order.number) (Turned h pair S orders fills)
+    (λ now. (own more : List Fill) × (left : ℕ) × Swept h S (taker_of_resting pair now) own left × (fills ≡ own ++ more) × Turned h pair (filled_all S own) orders more)
+    turned) [
+      | inl gone ↦ turned-made h pair S orders fills sound some gone.1
+      | inr here ↦
+          let now : Resting = here.0 in
+          let own : List Fill = here.2.0 in
+          let more : List Fill = here.2.1 in
+          let sender = turn-sender h S pair order.bank order.number now (turn_of h S pair order.bank order.number now sound here.1) in
+          let next : IsSound h (filled_all S own) = (swept-sound h S (taker_of_resting pair now) own here.2.2 sound sender some here.2.3).0 in
+          subst (AreMade h S) (sym here.2.4)
+          (made-append h S own more (swept-made h S (taker_of_resting pair now) own here.2.2 sound sender some here.2.3)
+          (turned-made h pair (filled_all S own) orders more next some here.2.5))
+    ]
+
+-- and of pairs that are gone through
+pairs-made : (h : Header) (pairs pair : ℕ) (S : State) (fills : List Fill) → IsSession h → pair + pairs ≤ pair_count h → IsSound h S → PairsTurned h pairs pair S fills → AreMade h S fills
+pairs-made h zero pair S fills session within sound turned = subst (AreMade h S) (sym turned) tt
+pairs-made h (suc pairs) pair S fills session within sound turned =
+    let own : List Fill = turned.0 in
+    let more : List Fill = turned.1 in
+    let some : 0 < weight_of h pair = weight_of-least h pair session (omega arith) in
+    let next : IsSound h (filled_all S own) = turned-sound h pair S (orders_in pair S.orders) own some sound turned.2 in
+    subst (AreMade h S) (sym turned.3)
+    (made-append h S own more (turned-made h pair S (orders_in pair S.orders) own sound some turned.2)
+    (pairs-made h pairs (pair + 1) (filled_all S own) more session (omega arith) next turned.4))
+
+-- The state in which a command's fills are made: a line command has set its limit.
+abbrev pub limit_made : State → ℕ → Command → Outcome → State
+limit_made S bank (Line other asked) (LineSet limit fills) = limited bank other limit S
+limit_made S _ _ _ = S
+
+-- an outcome without fills
+none_made : (h : Header) (S : State) (outcome told : Outcome) → outcome ≡ told → fills_of told ≡ [] → AreMade h S (fills_of outcome)
+none_made h S outcome told is none = subst (AreMade h S) (sym (ap fills_of is ∙ none)) tt
+
+cancel_fills : (o : Option Resting) → fills_of (cancel_answer o) ≡ []
+cancel_fills None = refl
+cancel_fills (Some order) = refl
+
+reduce_fills : (lots : ℕ) (o : Option Resting) → fills_of (reduce_answer lots o) ≡ []
+reduce_fills lots None = refl
+reduce_fills lots (Some order) =
+    cond_both (nat_lt lots order.left) (Reduced lots) (NotLess order.left) (λ (answer : Outcome). fills_of answer ≡ []) (λ _. refl) (λ _. refl)
+
+ordered-made : (h : Header) (S : State) (t : Taker) (life : Life) (outcome : Outcome) → IsSound h S → t.bank < bank_count h → 0 < weight_of h t.pair → IsOrdered h S t life outcome → AreMade h S (fills_of outcome)
+ordered-made h S t Day (Ordered done rests fills) sound bank some is = swept-made h S t fills rests sound bank some is.0
+ordered-made h S t Ioc (Ordered done rests fills) sound bank some is = swept-made h S t fills (t.left - done) sound bank some is.0
+ordered-made h S t Fok (Ordered done rests fills) sound bank some is = swept-made h S t fills 0 sound bank some is.0
+ordered-made h S t Fok Killed sound bank some is = tt
+ordered-made h S t life outcome sound bank some is = absurd is
+
+raised-made : (h : Header) (S : State) (bank other asked : ℕ) (outcome : Outcome) → IsSession h → IsSound h S → bank < bank_count h → IsCommand h bank (Line other asked) → IsOutcome h S bank (Line other asked) outcome → AreMade h (limit_made S bank (Line other asked) outcome) (fills_of outcome)
+raised-made h S bank other asked (LineSet limit fills) session sound sender valid is =
+    pairs-made h (pair_count h) 0 (limited bank other limit S) fills session (omega arith) (limited-sound h S bank other asked limit sound sender valid.0 valid.1 valid.2 is.0) is.1
+raised-made h S bank other asked outcome session sound sender valid is = absurd is
+
+book_made : (h : Header) (S : State) (bank pair : ℕ) (outcome : Outcome) → IsOutcome h S bank (Book pair) outcome → AreMade h S (fills_of outcome)
+book_made h S bank pair (Depth bids asks) is = tt
+book_made h S bank pair outcome is = absurd is
+
+-- the fills of a command's outcome
+pub outcome-made : (h : Header) (S : State) (bank : ℕ) (command : Command) (outcome : Outcome) → IsSession h → IsSound h S → bank < bank_count h → IsCommand h bank command → IsOutcome h S bank command outcome → AreMade h (limit_made S bank command outcome) (fills_of outcome)
+outcome-made h S bank (Order side pair price lots life) outcome session sound sender valid is =
+    ordered-made h S (taker_of S bank side pair price lots) life outcome sound sender (weight_of-least h pair session valid.0) is
+outcome-made h S bank (Cancel pair number) outcome session sound sender valid is =
+    none_made h S outcome (cancel_answer (order_of S pair bank number)) is (cancel_fills (order_of S pair bank number))
+outcome-made h S bank (Reduce pair number lots) outcome session sound sender valid is =
+    none_made h S outcome (reduce_answer lots (order_of S pair bank number)) is (reduce_fills lots (order_of S pair bank number))
+outcome-made h S bank (Pull pair) outcome session sound sender valid is = none_made h S outcome _ is refl
+outcome-made h S bank (Line other asked) outcome session sound sender valid is = raised-made h S bank other asked outcome session sound sender valid is
+outcome-made h S bank (Show other) outcome session sound sender valid is = none_made h S outcome _ is refl
+outcome-made h S bank (Book pair) outcome session sound sender valid is = book_made h S bank pair outcome is
+outcome-made h S bank (Bad reason) outcome session sound sender valid is = none_made h S outcome _ is refl
+
+-- The limits after a command are those in which its fills are made.
+
+limits_rested : (t : Taker) (rests : ℕ) (S : State) → (rested t rests S).limits ≡ S.limits
+unfolding resting_of
+limits_rested t rests S = cond_both (nat_lt 0 rests) (record S { orders = S.orders ++ resting_of t rests ∷ [] }) S (λ (T : State). T.limits ≡ S.limits) (λ _. refl) (λ _. refl)
+
+order_limits : (S : State) (bank : ℕ) (side : Side) (pair price lots : ℕ) (life : Life) (outcome : Outcome) → (changed S bank (Order side pair price lots life) outcome).limits ≡ S.limits
+order_limits S bank side pair price lots life (Ordered done rests fills) = limits_rested (taker_of S bank side pair price lots) rests (filled_all S fills) ∙ limits-filled_all S fills
+order_limits S bank side pair price lots life outcome = refl
+
+cancel_limits : (S : State) (bank pair number : ℕ) (outcome : Outcome) → (changed S bank (Cancel pair number) outcome).limits ≡ S.limits
+cancel_limits S bank pair number (Cancelled left) = refl
+cancel_limits S bank pair number outcome = refl
+
+reduce_limits : (S : State) (bank pair number lots : ℕ) (outcome : Outcome) → (changed S bank (Reduce pair number lots) outcome).limits ≡ S.limits
+reduce_limits S bank pair number lots (Reduced left) = refl
+reduce_limits S bank pair number lots outcome = refl
+
+pull_limits : (S : State) (bank pair : ℕ) (outcome : Outcome) → (changed S bank (Pull pair) outcome).limits ≡ S.limits
+pull_limits S bank pair (Pulled count) = refl
+pull_limits S bank pair outcome = refl
+
+line_limits : (S : State) (bank other asked : ℕ) (outcome : Outcome) → (changed S bank (Line other asked) outcome).limits ≡ (limit_made S bank (Line other asked) outcome).limits
+line_limits S bank other asked (LineSet limit fills) = limits-filled_all (limited bank other limit S) fills
+line_limits S bank other asked outcome = refl
+
+pub changed-limits : (S : State) (bank : ℕ) (command : Command) (outcome : Outcome) → (changed S bank command outcome).limits ≡ (limit_made S bank command outcome).limits
+changed-limits S bank (Order side pair price lots life) outcome = order_limits S bank side pair price lots life outcome
+changed-limits S bank (Cancel pair number) outcome = cancel_limits S bank pair number outcome
+changed-limits S bank (Reduce pair number lots) outcome = reduce_limits S bank pair number lots outcome
+changed-limits S bank (Pull pair) outcome = pull_limits S bank pair outcome
+changed-limits S bank (Line other asked) outcome = line_limits S bank other asked outcome
+changed-limits S bank (Show other) outcome = refl
+changed-limits S bank (Book pair) outcome = refl
+changed-limits S bank (Bad reason) outcome = refl
