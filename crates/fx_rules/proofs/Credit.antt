@@ -6,7 +6,7 @@ use Rattle.std.specs.List.{filter}
 use Rattle.fx_rules.specs.declared.orders.Fill.{Fill}
 use Rattle.fx_rules.specs.Lists.{total}
 use Rattle.fx_rules.specs.Session.{Header, bank_count}
-use Rattle.fx_rules.specs.State.{State, is_between, cost, cost_between, used, line, Within}
+use Rattle.fx_rules.specs.State.{State, is_between, cost, cost_between, used, left_of_limits, line, Within}
 use Rattle.fx_rules.specs.Sweep.{filled}
 use Rattle.fx_rules.proofs.ListLemmas.{total-append, filter_cons_true, filter_cons_false}
 
@@ -51,6 +51,18 @@ pub record IsAllowed (h : Header) (S : State) (f : Fill) : Type 0 where
 pub used-filled : (h : Header) (S : State) (f : Fill) (i j : ℕ) → used h (filled S f) i j ≡ used h S i j + cost_between h i j (f ∷ [])
 used-filled h S f i j = cost_between-append h i j S.fills (f ∷ [])
 
+-- What is used of a line: it is at most what the limits leave, no fill raises one, and a fill lowers its own by its cost at
+-- least. A line may have further bounds: the laws of soundness, of what is crossed and of what falls use no more of it.
+
+pub line-within : (h : Header) (S : State) (i j : ℕ) → line h S i j ≤ left_of_limits h S i j
+line-within h S i j = omega arith
+
+pub line-falls : (h : Header) (S : State) (f : Fill) (i j : ℕ) → line h (filled S f) i j ≤ line h S i j
+line-falls h S f i j = omega (arith, used-filled h S f i j)
+
+pub line-pays : (h : Header) (S : State) (f : Fill) (i j : ℕ) → is_between i j f ≡ true → line h (filled S f) i j ≤ line h S i j - cost h f
+line-pays h S f i j is = omega (arith, used-filled h S f i j, cost_between-one h i j f is)
+
 within_numbers : (u v a b c : ℕ) → u ≤ a → v ≤ b → u ≡ v → c ≤ min a b - u → u + c ≤ min a b
 within_numbers u v a b c there back same credit = omega arith
 
@@ -59,7 +71,7 @@ within_one h S f within allowed =
     within_numbers (used h S f.taker f.maker) (used h S f.maker f.taker) (S.limits f.taker f.maker) (S.limits f.maker f.taker) (cost h f)
     (within f.taker f.maker allowed.taker allowed.maker allowed.differ)
     (within f.maker f.taker allowed.maker allowed.taker (λ e. allowed.differ (sym e)))
-    (cost_between-swap h f.taker f.maker S.fills) allowed.credit
+    (cost_between-swap h f.taker f.maker S.fills) (omega (arith, allowed.credit, line-within h S f.taker f.maker))
 
 within_filled_of : (h : Header) (S : State) (f : Fill) (i j : ℕ) → is_between i j f ≡ true → used h S i j + cost h f ≤ S.limits i j → used h (filled S f) i j ≤ S.limits i j
 within_filled_of h S f i j is fits =

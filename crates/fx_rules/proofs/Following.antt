@@ -13,7 +13,7 @@ use Rattle.fx_rules.specs.Sweep.{Taker, Swept, filled, filled_all, lowered, is_o
 use Rattle.fx_rules.specs.Step.{reduced}
 use Rattle.fx_rules.specs.Sound.{IsSound, IsKept}
 use Rattle.fx_rules.proofs.ListLemmas.{Each-among, Among-filter, Among-map, among_filter}
-use Rattle.fx_rules.proofs.Credit.{used-filled, cost_between-swap}
+use Rattle.fx_rules.proofs.Credit.{line-falls, cost_between-swap}
 use Rattle.fx_rules.proofs.Planning.{div_mono, open_parts}
 use Rattle.fx_rules.proofs.SweepSound.{weight_of-least}
 
@@ -55,7 +55,7 @@ filled-follows h S f = record {
       let once = lowered_from f.taker f.taker_number f.lots (lowered f.maker f.maker_number f.lots S.orders) a there in
       let twice = lowered_from f.maker f.maker_number f.lots S.orders once.0 once.1 in
       (twice.0, twice.1, less_trans a once.0 twice.0 once.2 twice.2);
-  lines = λ i j. omega (arith, used-filled h S f i j);
+  lines = line-falls h S f;
 }
 
 pub follows-then : (h : Header) (S T U : State) → Follows h S T → Follows h T U → Follows h S U

@@ -34,3 +34,5 @@ pub mod ViewRaise
 pub mod Truth
 mod KeyedExamples
 pub mod KeyedLemmas
+pub mod Counting
+pub mod Trading

@@ -1,6 +1,6 @@
 -- A sweep planned over an unchanged book is the sweep: the open orders after a fill are those behind it.
 use Rattle.std.proofs.Common.{ℕ, ◌≡◌, ◌≢◌, ◌-◌, ◌*◌, ◌/◌, ◌≤◌, ◌<◌, min, Bool, true, false, not, ◌&&◌, eqb, List, [], ◌∷◌, inl, inr, refl, ap, sym, subst, ◌∙◌, arith, map, Option, Some, None}
-use Rattle.std.proofs.lemmas.Bool.{cases_Bool, cond-true, cond-false, and_parts, and_from, not_from_false, not-true, eqb-true, eqb-false, eq-eqb, false_from_ne_true, both_ways, cases_lt}
+use Rattle.std.proofs.lemmas.Bool.{cases_Bool, cond-true, cond-false, and_parts, and_from, not_from_false, not-true, eqb-true, eq-eqb, false_from_ne_true, both_ways, cases_lt}
 use Rattle.std.specs.List.{filter}
 use Rattle.fx_amounts.specs.declared.side.Side.{Side}
 use Rattle.fx_rules.specs.declared.orders.ActiveOrder.{ActiveOrder}
@@ -13,11 +13,11 @@ use Rattle.fx_rules.specs.Sweep.{Taker, Swept, is_open, is_order, is_preferred, 
 use Rattle.fx_rules.specs.Sound.{IsSound, ArrivesBefore, Rises}
 use Rattle.fx_rules.specs.Plan.{Planned, is_behind, open_behind, spend}
 use Rattle.fx_rules.proofs.ListLemmas.{Each-among, Among-filter, among_filter, filter_agree_on, filter_filter, EachPair-map}
-use Rattle.fx_rules.proofs.Credit.{IsAllowed}
+use Rattle.fx_rules.proofs.Credit.{IsAllowed, line-falls, line-pays}
 use Rattle.fx_rules.proofs.Opens.{is_open-says, allowed-open, maker_of, IsMaker}
 use Rattle.fx_rules.proofs.Soundness.{filled-sound}
 use Rattle.fx_rules.proofs.Preference.{preferred_self, preferred_trans, preferred_either, rising_same, command_same}
-use Rattle.fx_rules.proofs.Planning.{open_more, open_none, open_own, closed_lowered, lowered_closes, div_mono, reach_used, line-filled_maker, line-filled_other, Agrees, agrees-filled}
+use Rattle.fx_rules.proofs.Planning.{open_more, open_none, open_own, closed_lowered, lowered_closes, div_mono, reach_used, between_taker, Agrees, agrees-filled}
 
 bool_ext : (a b : Bool) → (a ≡ true → b ≡ true) → (b ≡ true → a ≡ true) → a ≡ b
 bool_ext true b there back = sym (there refl)
@@ -53,37 +53,26 @@ pub record Stands (h : Header) (S : State) (t : Taker) (lines : ℕ → ℕ) (bo
   pub owners : (o : Resting) → Among o book → o.bank < bank_count h
   pub opens : 1 ≤ t.left → open_behind (λ bank. lines bank / weight_of h t.pair) t last book ≡ open_orders h S t
 
-minus_le : (new old cost : ℕ) → new ≡ old - cost → new ≤ old
-minus_le new old cost fell = omega arith
-
-same_le : (new old : ℕ) → new ≡ old → new ≤ old
-same_le new old same = omega arith
-
 least_is : (a b r : ℕ) → min a (min b r) < a → min a (min b r) < b → min a (min b r) ≡ r
 least_is a b r f g = omega arith
 
--- the reach after a fill, at each bank
-fallen : (h : Header) (S : State) (t : Taker) (best : Resting) (lots : ℕ) (bank : ℕ) → bank ≢ t.bank → best.bank ≢ t.bank → 0 < weight_of h t.pair → reach h (filled S (fill_with t best lots)) t.bank bank t.pair ≤ reach h S t.bank bank t.pair
-fallen h S t best lots bank not_own differ some =
+-- no reach is more after a fill
+fallen : (h : Header) (S : State) (t : Taker) (best : Resting) (lots : ℕ) (bank : ℕ) → 0 < weight_of h t.pair → reach h (filled S (fill_with t best lots)) t.bank bank t.pair ≤ reach h S t.bank bank t.pair
+fallen h S t best lots bank some =
     div_mono (line h (filled S (fill_with t best lots)) t.bank bank) (line h S t.bank bank) (weight_of h t.pair) some
-    (elim (cases_Bool (eqb bank best.bank)) [
-      | inl is ↦
-          let same : bank ≡ best.bank = eqb-true bank best.bank is in
-          subst (λ b. line h (filled S (fill_with t best lots)) t.bank b ≤ line h S t.bank b) (sym same)
-          (let fell : line h (filled S (fill_with t best lots)) t.bank best.bank ≡ line h S t.bank best.bank - lots * weight_of h t.pair = line-filled_maker h S t best lots differ in
-          minus_le (line h (filled S (fill_with t best lots)) t.bank best.bank) (line h S t.bank best.bank) (lots * weight_of h t.pair) fell)
-      | inr is_not ↦ same_le (line h (filled S (fill_with t best lots)) t.bank bank) (line h S t.bank bank)
-          (line-filled_other h S t best lots bank (eqb-false bank best.bank is_not) not_own)
-    ])
+    (line-falls h S (fill_with t best lots) t.bank bank)
+
+closed : (line now w : ℕ) → 0 < w → now ≤ line - line / w * w → now / w ≡ 0
+closed line now w some most = omega (arith, reach_used line w some, div_mono now (line - line / w * w) w some most)
 
 -- a maker that is left with something, by a taker that is too, is out of reach
-maker_closes : (h : Header) (S : State) (t : Taker) (best : Resting) → best.bank ≢ t.bank → 0 < weight_of h t.pair → amount t best (reach h S t.bank best.bank t.pair) < best.left → amount t best (reach h S t.bank best.bank t.pair) < t.left → reach h (filled S (fill_with t best (amount t best (reach h S t.bank best.bank t.pair)))) t.bank best.bank t.pair ≡ 0
-maker_closes h S t best differ some maker taker =
-    let all : amount t best (reach h S t.bank best.bank t.pair) ≡ reach h S t.bank best.bank t.pair = least_is t.left best.left (reach h S t.bank best.bank t.pair) taker maker in
-    ap (λ n. n / weight_of h t.pair)
-    (line-filled_maker h S t best (amount t best (reach h S t.bank best.bank t.pair)) differ
-    ∙ ap (λ n. line h S t.bank best.bank - n * weight_of h t.pair) all)
-    ∙ reach_used (line h S t.bank best.bank) (weight_of h t.pair) some
+maker_closes : (h : Header) (S : State) (t : Taker) (best : Resting) → 0 < weight_of h t.pair → amount t best (reach h S t.bank best.bank t.pair) < best.left → amount t best (reach h S t.bank best.bank t.pair) < t.left → reach h (filled S (fill_with t best (amount t best (reach h S t.bank best.bank t.pair)))) t.bank best.bank t.pair ≡ 0
+maker_closes h S t best some maker taker =
+    let lots : ℕ = amount t best (reach h S t.bank best.bank t.pair) in
+    let all : lots ≡ reach h S t.bank best.bank t.pair = least_is t.left best.left (reach h S t.bank best.bank t.pair) taker maker in
+    closed (line h S t.bank best.bank) (line h (filled S (fill_with t best lots)) t.bank best.bank) (weight_of h t.pair) some
+    (subst (λ n. line h (filled S (fill_with t best lots)) t.bank best.bank ≤ line h S t.bank best.bank - n * weight_of h t.pair) all
+    (line-pays h S (fill_with t best lots) t.bank best.bank (between_taker t best lots)))
 
 -- The orders that are open after the fill with the best one: those that were open, but for the maker.
 still_open : (h : Header) (S : State) (t : Taker) (best : Resting) (lots : ℕ) → IsSound h S → 0 < weight_of h t.pair → Among best (open_orders h S t) → lots ≡ amount t best (reach h S t.bank best.bank t.pair) → lots < t.left → open_orders h (filled S (fill_with t best lots)) (less t lots) ≡ filter (λ o. (is_open t (reach h (filled S (fill_with t best lots)) t.bank o.bank t.pair) o) && not (is_order best.bank best.number o)) (orders_in t.pair S.orders)
@@ -104,7 +93,7 @@ still_open h S t best lots sound some there lots_are taker =
       | inl more ↦ inr (open_none t (reach h S' t.bank a.order.bank t.pair) (with_left a (a.order.left - lots)).order
           (subst (λ b. reach h S' t.bank b t.pair ≡ 0) (sym same.0)
           (subst (λ n. reach h (filled S (fill_with t best n)) t.bank best.bank t.pair ≡ 0) (sym lots_are)
-          (maker_closes h S t best maker.is_open.other some
+          (maker_closes h S t best some
           (subst (λ n. n < best.left) lots_are (subst (λ (q : Resting). lots < q.left) a_is more))
           (subst (λ n. n < t.left) lots_are taker)))))
       | inr gone ↦ inl gone
@@ -139,6 +128,12 @@ behind_next t last book best o spent had now o_there best_there rising behind fi
     (subst (λ r. is_order best.bank best.number r ≡ true) (sym (rising_same book o best rising o_there best_there arrival)) (is_order-self best)))
     (first p.1)))
 
+minus_le : (new old cost : ℕ) → new ≡ old - cost → new ≤ old
+minus_le new old cost fell = omega arith
+
+same_le : (new old : ℕ) → new ≡ old → new ≤ old
+same_le new old same = omega arith
+
 spend_le : (lines : ℕ → ℕ) (bank units other : ℕ) → spend lines bank units other ≤ lines other
 spend_le lines bank units other =
     elim (cases_Bool (eqb other bank)) [
@@ -168,7 +163,7 @@ opens_next h S t lines book last best lots stands best_is lots_are taker =
     let p = and_parts (is_open t (reach h S' t.bank o.bank t.pair) o) (not (is_order best.bank best.number o)) is in
     and_from (kept o) (was o) is
     (open_more t (reach h S' t.bank o.bank t.pair) (reach h S t.bank o.bank t.pair) o
-    (fallen h S t best lots o.bank (is_open-says t (reach h S' t.bank o.bank t.pair) o p.0).other differ stands.weight) p.0)) in
+    (fallen h S t best lots o.bank stands.weight) p.0)) in
     let pointwise : (o : Resting) → Among o book → next o ≡ (kept o && behind o) = λ o o_there.
     behind_next t last book best o (spend lines best.bank (lots * w) o.bank / w) (lines o.bank / w) (reach h S' t.bank o.bank t.pair)
     o_there best_book.0 stands.rising (and_parts (is_open t (lines best.bank / w) best) (is_behind t.side last best) best_book.1).1

@@ -161,13 +161,17 @@ minus_none n = omega arith
 or_from_false : (a b : Bool) → a ≡ false → b ≡ false → (a || b) ≡ false
 or_from_false a b none nor = or_from a b none nor
 
+-- a taker's fill is between its bank and the maker's
+pub between_taker : (t : Taker) (o : Resting) (lots : ℕ) → is_between t.bank o.bank (fill_with t o lots) ≡ true
+between_taker t o lots =
+    or_left (eqb t.bank t.bank && eqb o.bank o.bank) (eqb t.bank o.bank && eqb o.bank t.bank)
+    (and_from (eqb t.bank t.bank) (eqb o.bank o.bank) (eq-eqb t.bank t.bank refl) (eq-eqb o.bank o.bank refl))
+
 -- a fill lowers the line of its two banks by its cost
 pub line-filled_maker : (h : Header) (S : State) (t : Taker) (o : Resting) (lots : ℕ) → o.bank ≢ t.bank → line h (filled S (fill_with t o lots)) t.bank o.bank ≡ line h S t.bank o.bank - lots * weight_of h t.pair
 line-filled_maker h S t o lots differ =
     let f : Fill = fill_with t o lots in
-    let both : is_between t.bank o.bank f ≡ true =
-    or_left (eqb t.bank t.bank && eqb o.bank o.bank) (eqb t.bank o.bank && eqb o.bank t.bank)
-    (and_from (eqb t.bank t.bank) (eqb o.bank o.bank) (eq-eqb t.bank t.bank refl) (eq-eqb o.bank o.bank refl)) in
+    let both : is_between t.bank o.bank f ≡ true = between_taker t o lots in
     let sum : used h (filled S f) t.bank o.bank ≡ used h S t.bank o.bank + cost_between h t.bank o.bank (f ∷ []) = used-filled h S f t.bank o.bank in
     let one : cost_between h t.bank o.bank (f ∷ []) ≡ lots * weight_of h t.pair = cost_between-one h t.bank o.bank f both in
     less_used (min (S.limits t.bank o.bank) (S.limits o.bank t.bank)) (used h (filled S f) t.bank o.bank) (used h S t.bank o.bank) (cost_between h t.bank o.bank (f ∷ [])) (lots * weight_of h t.pair) sum one

@@ -1,5 +1,5 @@
 -- Laws that hold of the definitions themselves.
-use Rattle.std.specs.Prelude.{ℕ, ◌≡◌, ◌≢◌, ◌<◌, false, List, [], ◌∷◌, ◌++◌, map, length, take}
+use Rattle.std.specs.Prelude.{ℕ, ◌≡◌, ◌≢◌, ◌<◌, ◌^◌, false, List, [], ◌∷◌, ◌++◌, map, length, take}
 use Rattle.fx_rules.specs.declared.command.Command.{Command}
 use Rattle.fx_amounts.specs.declared.side.Side.TheVariants.{Buy, Sell}
 use Rattle.fx_rules.specs.declared.command.Command.TheVariants.{Line}
@@ -9,12 +9,12 @@ use Rattle.fx_rules.specs.declared.orders.Level.{Level}
 use Rattle.fx_rules.specs.declared.outcome.Outcome.{Outcome}
 use Rattle.fx_rules.specs.declared.outcome.Entry.{Entry}
 use Rattle.fx_rules.specs.Session.{Header, IsSession, bank_count, pair_count}
-use Rattle.fx_rules.specs.State.{State, Within, orders_in, count_of}
+use Rattle.fx_rules.specs.State.{State, Within, orders_in, count_of, arrivals}
 use Rattle.fx_rules.specs.Sweep.{Taker, Swept}
 use Rattle.fx_rules.specs.Raise.{limited}
 use Rattle.fx_rules.specs.Depth.{IsDepth, levels_of}
 use Rattle.fx_rules.specs.Step.{IsCommand, IsOutcome, may_change}
-use Rattle.fx_rules.specs.History.{IsStep, IsLegal, after_entry, state, Falls}
+use Rattle.fx_rules.specs.History.{IsStep, IsLegal, after_entry, state, own, Falls}
 use Rattle.fx_rules.specs.Truthful.{IsTruthful}
 use Rattle.fx_rules.specs.Sound.{IsSound}
 use Rattle.fx_rules.specs.NoCross.{NoCross}
@@ -56,7 +56,7 @@ LegalGoesOn =
 abbrev pub LegalIsUncrossed : Type 0
 LegalIsUncrossed = (h : Header) (entries : List Entry) → IsLegal h entries → NoCross h (state h entries)
 
--- A step of a sound state lets each line fall by its fills, from the limits behind it.
+-- A step of a sound state lets what the limits of two banks leave fall by their fills, from the limits behind it.
 abbrev pub LinesFall : Type 0
 LinesFall = (h : Header) (S : State) (e : Entry) → IsSession h → IsSound h S → IsStep h S e → Falls h S e
 
@@ -69,6 +69,14 @@ OtherPairsStay =
 -- An entry of one bank leaves the counts of all others.
 abbrev pub OtherCountsStay : Type 0
 OtherCountsStay = (S : State) (e : Entry) (bank : ℕ) → e.bank ≢ bank → count_of (after_entry S e) bank ≡ count_of S bank
+
+-- In the state of a legal history each sender's count is the number of its entries.
+abbrev pub CountsAreOwn : Type 0
+CountsAreOwn = (h : Header) (entries : List Entry) (bank : ℕ) → IsLegal h entries → count_of (state h entries) bank ≡ length (own bank entries)
+
+-- The next arrival in the state of a legal history fits 64 bits.
+abbrev pub ArrivalsFit : Type 0
+ArrivalsFit = (h : Header) (entries : List Entry) → IsLegal h entries → arrivals (state h entries) < 2 ^ 64
 
 -- A bank's local book of a pair in a sound state is truthful on both sides.
 abbrev pub LocalBooksAreTruthful : Type 0

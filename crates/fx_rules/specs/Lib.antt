@@ -10,6 +10,7 @@ pub mod Step
 pub mod Truthful
 pub mod History
 pub mod Sound
+pub mod Trade
 pub mod Plan
 pub mod NoCross
 pub mod View

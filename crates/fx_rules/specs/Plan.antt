@@ -1,5 +1,6 @@
 -- A sweep that is planned over a book which stays as it is: the lines that its own fills use up are kept beside, and
--- each next order is sought behind the last.
+-- each next order is sought behind the last. It is how two crates find a sweep, and no promise to anybody: it holds as long as
+-- a fill leaves the lines of the taker's bank with all others as they are, and no public contract cites it.
 use Rattle.std.specs.Prelude.{ℕ, ◌≡◌, ◌≤◌, ◌-◌, ◌*◌, ◌/◌, Bool, true, ◌&&◌, ◌==◌, if◌then◌else◌, List, [], ◌∷◌, filter, ◌⊎◌, Option, Some, None}
 use Rattle.fx_amounts.specs.declared.side.Side.{Side}
 use Rattle.fx_rules.specs.declared.orders.Resting.{Resting}

@@ -1,4 +1,4 @@
-ghost use Rattle.fx_rules.specs.Laws.{SweepsAgree, OutcomesAgree, NextEntriesAgree, LegalIsSound, LegalIsUncrossed, LegalGoesOn, LinesFall, OtherPairsStay, OtherCountsStay, LocalBooksAreTruthful, FullBooksStay, ViewsTellAll, ViewsShowAll, ViewsFillAll};
+ghost use Rattle.fx_rules.specs.Laws.{SweepsAgree, OutcomesAgree, NextEntriesAgree, LegalIsSound, LegalIsUncrossed, LegalGoesOn, LinesFall, OtherPairsStay, OtherCountsStay, CountsAreOwn, ArrivalsFit, LocalBooksAreTruthful, FullBooksStay, ViewsTellAll, ViewsShowAll, ViewsFillAll};
 
 /// State and taker determine a sweep: two sweeps of one taker in one sound state have the same fills in the same order,
 /// and leave the taker the same lots.
@@ -33,8 +33,8 @@ pub fn legal_goes_on()
     ensures legal { LegalGoesOn }
 {}
 
-/// Each step from a sound state lets the line of two banks fall by the cost of its fills between them, from what their
-/// limits, as they stand behind the step, leave of what they had used.
+/// Each step from a sound state lets what the limits of two banks leave fall by the cost of its fills between them, from
+/// what those limits, as they stand behind the step, leave of what they had used.
 pub fn lines_fall()
     ensures fall { LinesFall }
 {}
@@ -48,6 +48,16 @@ pub fn other_pairs_stay()
 /// An entry raises its own bank's count and no other's.
 pub fn other_counts_stay()
     ensures stay { OtherCountsStay }
+{}
+
+/// In the state of every legal history each sender's count is the number of its entries.
+pub fn counts_are_own()
+    ensures own { CountsAreOwn }
+{}
+
+/// The next arrival in the state of every legal history is below 2^64.
+pub fn arrivals_fit()
+    ensures fit { ArrivalsFit }
 {}
 
 /// A local book in a sound state is truthful: where a side is not empty and its lots are no more than 10^6, an

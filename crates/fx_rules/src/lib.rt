@@ -22,9 +22,10 @@ pub use depth::{add_fill, any_price, levels_of};
 pub use gates::{Gate, OpenGate};
 pub use keyed::Keyed;
 pub use laws::{
-    full_books_stay, legal_goes_on, legal_is_sound, legal_is_uncrossed, lines_fall,
-    local_books_are_truthful, next_entries_agree, other_counts_stay, other_pairs_stay,
-    outcomes_agree, sweeps_agree, views_fill_all, views_show_all, views_tell_all,
+    arrivals_fit, counts_are_own, full_books_stay, legal_goes_on, legal_is_sound,
+    legal_is_uncrossed, lines_fall, local_books_are_truthful, next_entries_agree,
+    other_counts_stay, other_pairs_stay, outcomes_agree, sweeps_agree, views_fill_all,
+    views_show_all, views_tell_all,
 };
 pub use lists::ListOf;
 pub use market::Market;
