@@ -3,7 +3,7 @@ use Rattle.std.proofs.Common.{ℕ, ◌≡◌, ◌≢◌, ◌+◌, ◌-◌, ◌*�
 use Rattle.std.proofs.Math.ListN.{set, length-set}
 use Rattle.std.proofs.lemmas.Bool.{cases_eq, cond-true, cond-false, cond_both, leb-true}
 use Rattle.fx_rules.specs.declared.orders.Fill.{Fill}
-use Rattle.flat_host.specs.Ledger.{use_place, limit_in, use_in, line_in, IsWithin}
+use Rattle.flat_host.specs.FlatState.{use_place, limit_in, use_in, line_in, IsWithin}
 use Rattle.flat_host.specs.Parts.{use_added, uses_after}
 
 -- one place for each two banks, in either order

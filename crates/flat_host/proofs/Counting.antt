@@ -2,7 +2,7 @@
 use Rattle.std.proofs.Common.{ℕ, zero, suc, ◌≡◌, ◌+◌, ◌-◌, ◌*◌, ◌≤◌, ◌<◌, ◌^◌, List, [], ◌∷◌, arith, length, get_or}
 use Rattle.std.proofs.Math.ListN.{set, length-set}
 use Rattle.fx_rules.specs.Lists.{Each, total}
-use Rattle.flat_host.specs.Ledger.{Ledger, IsLedger}
+use Rattle.flat_host.specs.FlatState.{FlatState, IsFlatState}
 
 pub total-bounded : (counts : List ℕ) → Each (λ c. c < 2 ^ 32) counts → total (λ c. c) counts ≤ length counts * 2 ^ 32
 total-bounded [] all = omega arith
@@ -14,12 +14,14 @@ each-set (c ∷ counts) zero n below all = (below, all.1)
 each-set (c ∷ counts) (suc i) n below all = (all.0, each-set counts i n below all.1)
 
 -- one more command counted
-pub counted-ledger : (l : Ledger) (bank : ℕ) → IsLedger l → get_or l.counts bank 0 < 2 ^ 32 - 1 → IsLedger (record l { counts = set l.counts bank (get_or l.counts bank 0 + 1) })
-counted-ledger l bank is below = record {
+pub counted-state : (l : FlatState) (bank : ℕ) → IsFlatState l → get_or l.counts bank 0 < 2 ^ 32 - 1 → IsFlatState (record l { counts = set l.counts bank (get_or l.counts bank 0 + 1) })
+counted-state l bank is below = record {
   limits_full = is.limits_full;
   uses_full = is.uses_full;
   within = is.within;
-  banks = omega (arith, is.banks, length-set l.counts bank (get_or l.counts bank 0 + 1));
+  banks = is.banks;
+  senders = omega (arith, is.senders, length-set l.counts bank (get_or l.counts bank 0 + 1));
+  counted = omega (arith, is.counted, length-set l.counts bank (get_or l.counts bank 0 + 1));
   counts = each-set l.counts bank (get_or l.counts bank 0 + 1) (omega (arith, below)) is.counts;
   pairs = is.pairs;
   weights = is.weights;

@@ -8,10 +8,9 @@ pub mod Market
 pub mod Counting
 pub mod Reading
 pub mod OpeningLemmas
-pub mod Levelling
 pub mod Probing
 pub mod Pulling
-pub mod Among
+pub mod Sendable
 pub mod Stepping
 pub mod GoingOn
 pub mod Viewing

@@ -1,4 +1,4 @@
--- The ledger as a day opens.
+-- The flat state as a day opens.
 use Rattle.std.proofs.Common.{ℕ, zero, suc, ◌≡◌, ◌+◌, ◌*◌, ◌/◌, ◌%◌, ◌≤◌, ◌<◌, ◌^◌, min, max, List, [], ◌∷◌, ◌&&◌, ltb, refl, ap, sym, subst, ◌∙◌, arith, length, get_or, map, replicate}
 use Rattle.std.proofs.lemmas.Bool.{and_from, lt-ltb, cond-true}
 use Rattle.std.proofs.lemmas.List.{length-map, length-replicate}
@@ -7,7 +7,7 @@ use Rattle.fx_rules.specs.declared.session.PairRule.{PairRule}
 use Rattle.fx_rules.specs.Lists.{Each, total}
 use Rattle.fx_rules.specs.Session.{Header, IsSession, IsPairRule, bank_count, opening_limit}
 use Rattle.fx_rules.specs.State.{opening}
-use Rattle.flat_host.specs.Ledger.{Ledger, IsLedger, StandsFor, limit_place}
+use Rattle.flat_host.specs.FlatState.{FlatState, IsFlatState, StandsFor, limit_place}
 use Rattle.flat_host.specs.Opening.{limit_at, OpensWith}
 
 each_zero : (n : ℕ) → Each (λ count. count < 2 ^ 32) (replicate n 0)
@@ -22,9 +22,10 @@ weights_in : (rules : List PairRule) → Each IsPairRule rules → Each (λ weig
 weights_in [] all = tt
 weights_in (rule ∷ rules) all = ((all.0.weight_least, all.0.weight_most), weights_in rules all.1)
 
--- a ledger as it opens
-pub record IsOpening (h : Header) (l : Ledger) : Type 0 where
+-- a flat state as it opens
+pub record IsOpening (h : Header) (l : FlatState) : Type 0 where
   pub session : IsSession h
+  pub banks : l.banks ≡ bank_count h
   pub orders : l.orders ≡ []
   pub limits_full : length l.limits ≡ 4096
   pub limits : OpensWith h l.limits
@@ -33,12 +34,14 @@ pub record IsOpening (h : Header) (l : Ledger) : Type 0 where
   pub counts : l.counts ≡ replicate (bank_count h) 0
   pub weights : l.weights ≡ map (λ rule. rule.weight) h.pairs
 
-pub opening-ledger : (h : Header) (l : Ledger) → IsOpening h l → IsLedger l
-opening-ledger h l is = record {
+pub opening-state : (h : Header) (l : FlatState) → IsOpening h l → IsFlatState l
+opening-state h l is = record {
   limits_full = is.limits_full;
   uses_full = is.uses_full;
   within = λ i j _ _ _. omega (arith, is.uses (64 * min i j + max i j));
-  banks = omega (arith, ap length is.counts, length-replicate {A = ℕ} (bank_count h) 0, is.session.banks_most);
+  banks = omega (arith, is.banks, is.session.banks_most);
+  senders = omega (arith, ap length is.counts, length-replicate {A = ℕ} (bank_count h) 0, is.session.banks_most);
+  counted = omega (arith, is.banks, ap length is.counts, length-replicate {A = ℕ} (bank_count h) 0);
   counts = subst (Each (λ count. count < 2 ^ 32)) (sym is.counts) (each_zero (bank_count h));
   pairs = omega (arith, ap length is.weights, length-map h.pairs (λ (rule : PairRule). rule.weight), is.session.pairs_most);
   weights = subst (Each (λ weight. (1 ≤ weight) × (weight ≤ 10 ^ 6))) (sym is.weights)
@@ -54,8 +57,9 @@ limit_at-place h i j i_in j_in most =
     (lt-ltb (limit_place i j / 64) (bank_count h) (omega (arith, row))) (lt-ltb (limit_place i j % 64) (bank_count h) (omega (arith, column))))
     ∙ ap (λ r. opening_limit h r (limit_place i j % 64)) row ∙ ap (opening_limit h i) column
 
-pub opening-stands : (h : Header) (l : Ledger) → IsOpening h l → StandsFor h (opening h) l
+pub opening-stands : (h : Header) (l : FlatState) → IsOpening h l → StandsFor h (opening h) l
 opening-stands h l is = record {
+  banks = is.banks;
   orders = is.orders;
   counts = is.counts;
   weights = is.weights;

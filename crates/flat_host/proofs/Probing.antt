@@ -13,7 +13,7 @@ use Rattle.fx_rules.specs.Sweep.{Taker, less, is_opposite}
 use Rattle.fx_rules.specs.Plan.{Planned, spend}
 use Rattle.fx_rules.specs.Depth.{any_price, unlimited, with_fill, levels_of, Shows}
 use Rattle.fx_rules.specs.Sound.{IsSound}
-use Rattle.flat_host.specs.Ledger.{Ledger, StandsFor}
+use Rattle.flat_host.specs.FlatState.{FlatState, StandsFor}
 use Rattle.flat_host.specs.Parts.{PlannedOver}
 use Rattle.flat_host.specs.Levels.{unlimited_in, ProbedIn}
 use Rattle.flat_host.proofs.Tables.{tables_of}
@@ -54,8 +54,8 @@ over bank pair side orders counts = record {
   arrival = total (λ count. count) counts;
 }
 
--- what is shown over the ledger is shown of each state that it stands for
-pub shows-probed : (h : Header) (S : State) (l : Ledger) (bank pair : ℕ) (side : Side) (levels : List Level) → IsSession h → IsSound h S → StandsFor h S l → bank < bank_count h → pair < pair_count h → ProbedIn l bank pair side levels → Shows h S bank pair side levels
+-- what is shown over the flat state is shown of each state that it stands for
+pub shows-probed : (h : Header) (S : State) (l : FlatState) (bank pair : ℕ) (side : Side) (levels : List Level) → IsSession h → IsSound h S → StandsFor h S l → bank < bank_count h → pair < pair_count h → ProbedIn l bank pair side levels → Shows h S bank pair side levels
 shows-probed h S l bank pair side levels session sound stands bank_in pair_in probed =
     let number : ℕ = count_of S bank + 1 in
     let fills : List Fill = probed.0 in

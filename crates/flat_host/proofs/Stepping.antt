@@ -22,29 +22,29 @@ use Rattle.fx_rules.specs.declared.session.PairRule.{PairRule}
 use Rattle.fx_rules.specs.Lists.{total}
 use Rattle.fx_rules.specs.Session.{Header, IsSession, bank_count, pair_count, weight_of}
 use Rattle.fx_rules.specs.State.{State, orders_in, line, used, cost_between}
-use Rattle.fx_rules.specs.Sweep.{Taker, Swept, is_order, filled, filled_all}
+use Rattle.fx_rules.specs.Sweep.{Taker, Swept, is_order, at_rest, filled, filled_all}
 use Rattle.fx_rules.specs.Raise.{limit_set, limited, order_of, Raised, PairsTurned}
 use Rattle.fx_rules.specs.Step.{IsCommand, IsOrdered, IsOutcome, cancel_answer, reduce_answer, orders_by, taker_of, rested, counted, changed, after, fills_of, without_order, without_orders, reduced}
 use Rattle.fx_rules.specs.Sound.{IsSound}
 use Rattle.fx_rules.proofs.SweepSound.{weight_of-least, counts-filled_all, limits-filled_all}
 use Rattle.fx_rules.proofs.RaiseSound.{limited-sound}
-use Rattle.flat_host.specs.Ledger.{Ledger, IsLedger, IsWithin, TablesFor, StandsFor, limit_place, limit_in, use_in, line_in}
-use Rattle.flat_host.specs.Parts.{PlannedOver, PlannedIn, OrderedIn, taker_from, both_lowered, uses_after, with_rest, resting_from, rests_of, is_done, order_carried, filled_in, limits_with, counted_in, cancelled_in, reduced_in, shown_in}
+use Rattle.flat_host.specs.FlatState.{FlatState, IsFlatState, IsWithin, TablesFor, StandsFor, limit_place, limit_in, use_in, line_in}
+use Rattle.flat_host.specs.Parts.{PlannedOver, PlannedIn, OrderedIn, taker_from, both_lowered, uses_after, with_rest, rests_of, is_done, order_carried, filled_in, limits_with, counted_in, cancelled_in, reduced_in, shown_in}
 use Rattle.flat_host.specs.Turns.{in_pair, RaisedIn, LineSetIn, limited_in, raised_in}
 use Rattle.flat_host.specs.Levels.{ProbedIn}
-use Rattle.flat_host.proofs.Among.{command-from}
-use Rattle.flat_host.specs.Steps.{IsCommandAmong, IsCommandOf, AnswersEach, ChangesEach, FollowsEach, StepsEach, ShowsEach}
+use Rattle.flat_host.specs.Steps.{IsCommandOf, AnswersEach, ChangesEach, FollowsEach, StepsEach, ShowsEach}
 use Rattle.flat_host.proofs.Carrying.{places_same}
 use Rattle.flat_host.proofs.Tables.{tables_of, line-same, tables-swept, tables-pairs}
 use Rattle.flat_host.proofs.Market.{swept-planned, raised-market}
 use Rattle.flat_host.proofs.Probing.{shows-probed}
 use Rattle.flat_host.proofs.Pulling.{pulled-most}
+use Rattle.flat_host.proofs.Sendable.{sendable, pairs_of}
 
-pub bank_within : (h : Header) (S : State) (l : Ledger) (bank : ℕ) → IsSound h S → StandsFor h S l → bank < length l.counts → bank < bank_count h
-bank_within h S l bank sound stands sender = omega (arith, ap length stands.counts, sound.counts, sender)
+pub bank_within : (h : Header) (S : State) (l : FlatState) (bank : ℕ) → StandsFor h S l → bank < l.banks → bank < bank_count h
+bank_within h S l bank stands within = omega (arith, stands.banks, within)
 
-pub pair_within : (h : Header) (S : State) (l : Ledger) (pair : ℕ) → StandsFor h S l → pair < length l.weights → pair < pair_count h
-pair_within h S l pair stands within = omega (arith, ap length stands.weights, length-map h.pairs (λ (rule : PairRule). rule.weight), within)
+pub pair_within : (h : Header) (S : State) (l : FlatState) (pair : ℕ) → StandsFor h S l → pair < length l.weights → pair < pair_count h
+pair_within h S l pair stands within = omega (arith, pairs_of h l stands.weights, within)
 
 orders-filled_all : (S : State) (fills : List Fill) → (filled_all S fills).orders ≡ both_lowered S.orders fills
 orders-filled_all S [] = refl
@@ -56,10 +56,10 @@ orders-filled_all S (f ∷ fills) = orders-filled_all (filled S f) fills
 rested-orders : (t : Taker) (rests : ℕ) (S : State) → (rested t rests S).orders ≡ with_rest t rests S.orders
 rested-orders t rests S =
     elim (cases_Bool (ltb 0 rests)) [
-      | inl some ↦ ap (λ (T : State). T.orders) (cond-true (ltb 0 rests) (record S { orders = S.orders ++ resting_from t rests ∷ [] }) S some)
-          ∙ sym (cond-true (ltb 0 rests) (S.orders ++ resting_from t rests ∷ []) S.orders some)
-      | inr none ↦ ap (λ (T : State). T.orders) (cond-false (ltb 0 rests) (record S { orders = S.orders ++ resting_from t rests ∷ [] }) S none)
-          ∙ sym (cond-false (ltb 0 rests) (S.orders ++ resting_from t rests ∷ []) S.orders none)
+      | inl some ↦ ap (λ (T : State). T.orders) (cond-true (ltb 0 rests) (record S { orders = S.orders ++ at_rest t rests ∷ [] }) S some)
+          ∙ sym (cond-true (ltb 0 rests) (S.orders ++ at_rest t rests ∷ []) S.orders some)
+      | inr none ↦ ap (λ (T : State). T.orders) (cond-false (ltb 0 rests) (record S { orders = S.orders ++ at_rest t rests ∷ [] }) S none)
+          ∙ sym (cond-false (ltb 0 rests) (S.orders ++ at_rest t rests ∷ []) S.orders none)
     ]
 
 -- and what it leaves
@@ -70,11 +70,11 @@ record SameBut (S T : State) : Type 0 where
 
 rested-same : (t : Taker) (rests : ℕ) (S : State) → SameBut S (rested t rests S)
 rested-same t rests S =
-    cond_both (ltb 0 rests) (record S { orders = S.orders ++ resting_from t rests ∷ [] }) S (SameBut S)
+    cond_both (ltb 0 rests) (record S { orders = S.orders ++ at_rest t rests ∷ [] }) S (SameBut S)
     (λ _. record { limits = refl; fills = refl; counts = refl }) (λ _. record { limits = refl; fills = refl; counts = refl })
 
--- the taker as the ledger and as the state tell it
-taker-same : (S : State) (l : Ledger) (bank : ℕ) (side : Side) (pair price lots : ℕ) → l.counts ≡ S.counts → taker_from l bank side pair price lots ≡ taker_of S bank side pair price lots
+-- the taker as the flat state and as the state tell it
+taker-same : (S : State) (l : FlatState) (bank : ℕ) (side : Side) (pair price lots : ℕ) → l.counts ≡ S.counts → taker_from l bank side pair price lots ≡ taker_of S bank side pair price lots
 taker-same S l bank side pair price lots same =
     let made : List ℕ → Taker = λ (counts : List ℕ). record {
       bank = bank;
@@ -88,13 +88,14 @@ taker-same S l bank side pair price lots same =
     ap made same
 
 -- a sweep carried out stands for the state with its fills and its rest
-stands-ordered : (h : Header) (S : State) (old : Ledger) (t : Taker) (rests : ℕ) (fills : List Fill) (left : ℕ) → IsSession h → IsSound h S → StandsFor h S old → length old.uses ≡ 4096 → t.bank < bank_count h → t.pair < pair_count h → Swept h S t fills left → StandsFor h (rested t rests (filled_all S fills)) (order_carried old t rests fills)
+stands-ordered : (h : Header) (S : State) (old : FlatState) (t : Taker) (rests : ℕ) (fills : List Fill) (left : ℕ) → IsSession h → IsSound h S → StandsFor h S old → length old.uses ≡ 4096 → t.bank < bank_count h → t.pair < pair_count h → Swept h S t fills left → StandsFor h (rested t rests (filled_all S fills)) (order_carried old t rests fills)
 stands-ordered h S old t rests fills left session sound stands full bank pair swept =
     let T : State = filled_all S fills in
     let rest : SameBut T (rested t rests T) = rested-same t rests T in
     let tables : TablesFor h T old.weights old.limits (uses_after old.weights old.limits old.uses fills) =
     tables-swept h S old.weights old.limits old.uses t fills left session.banks_most full sound bank (weight_of-least h t.pair session pair) (tables_of h S old stands) swept in
     record {
+      banks = stands.banks;
       orders =
           ap (λ (os : List ActiveOrder). with_rest t rests (both_lowered os fills)) stands.orders
           ∙ ap (with_rest t rests) (sym (orders-filled_all S fills))
@@ -105,12 +106,12 @@ stands-ordered h S old t rests fills left session sound stands full bank pair sw
       uses = λ i j i_in j_in differ. tables.spent i j i_in j_in differ ∙ ap (λ (past : List Fill). cost_between h i j past) (sym rest.fills);
     }
 
-planned-market : (h : Header) (S : State) (l : Ledger) (t : Taker) (fills : List Fill) (left : ℕ) → IsSession h → IsSound h S → StandsFor h S l → t.bank < bank_count h → t.pair < pair_count h → PlannedIn l t fills left → Swept h S t fills left
+planned-market : (h : Header) (S : State) (l : FlatState) (t : Taker) (fills : List Fill) (left : ℕ) → IsSession h → IsSound h S → StandsFor h S l → t.bank < bank_count h → t.pair < pair_count h → PlannedIn l t fills left → Swept h S t fills left
 planned-market h S l t fills left session sound stands bank pair planned =
     swept-planned h S l.weights l.limits l.uses t fills left session sound (tables_of h S l stands) bank pair
     (subst (λ (os : List ActiveOrder). PlannedOver l.weights l.limits l.uses (orders_in t.pair os) t fills left) stands.orders planned)
 
-ordered-market : (h : Header) (S : State) (l : Ledger) (t : Taker) (life : Life) (outcome : Outcome) → IsSession h → IsSound h S → StandsFor h S l → t.bank < bank_count h → t.pair < pair_count h → OrderedIn l t life outcome → IsOrdered h S t life outcome
+ordered-market : (h : Header) (S : State) (l : FlatState) (t : Taker) (life : Life) (outcome : Outcome) → IsSession h → IsSound h S → StandsFor h S l → t.bank < bank_count h → t.pair < pair_count h → OrderedIn l t life outcome → IsOrdered h S t life outcome
 ordered-market h S l t Day (Ordered done rests fills) session sound stands bank pair is =
     (planned-market h S l t fills rests session sound stands bank pair is.0, is.1, is.2)
 ordered-market h S l t Ioc (Ordered done rests fills) session sound stands bank pair is =
@@ -121,15 +122,15 @@ ordered-market h S l t Fok Killed session sound stands bank pair is =
     (is.0, is.1, planned-market h S l t is.0 is.1 session sound stands bank pair is.2, is.3)
 ordered-market h S l t life outcome session sound stands bank pair is = absurd is
 
-pub order-answers : (l : Ledger) (bank : ℕ) (side : Side) (pair price lots : ℕ) (life : Life) (command : Command) (t : Taker) (outcome : Outcome) → command ≡ Order side pair price lots life → t ≡ taker_from l bank side pair price lots → bank < length l.counts → IsCommandOf l bank command → OrderedIn l t life outcome → AnswersEach l bank command outcome
+pub order-answers : (l : FlatState) (bank : ℕ) (side : Side) (pair price lots : ℕ) (life : Life) (command : Command) (t : Taker) (outcome : Outcome) → command ≡ Order side pair price lots life → t ≡ taker_from l bank side pair price lots → bank < l.banks → IsCommandOf l bank command → OrderedIn l t life outcome → AnswersEach l bank command outcome
 order-answers l bank side pair price lots life command t outcome command_is taker_is sender valid is h S session sound stands =
-    let in_range : IsCommandOf l bank (Order side pair price lots life) = subst (IsCommandOf l bank) command_is valid in
+    let asked : IsCommand h bank (Order side pair price lots life) = subst (IsCommand h bank) command_is (sendable h S l bank command stands valid) in
     subst (λ (c : Command). IsOutcome h S bank c outcome) (sym command_is)
     (ordered-market h S l (taker_of S bank side pair price lots) life outcome session sound stands
-    (bank_within h S l bank sound stands sender) (pair_within h S l pair stands in_range.0)
+    (bank_within h S l bank stands sender) asked.0
     (subst (λ (u : Taker). OrderedIn l u life outcome) (taker_is ∙ taker-same S l bank side pair price lots stands.counts) is))
 
-order-changed : (h : Header) (S : State) (old : Ledger) (bank : ℕ) (side : Side) (pair price lots : ℕ) (life : Life) (outcome : Outcome) → IsSession h → IsSound h S → StandsFor h S old → length old.uses ≡ 4096 → bank < bank_count h → pair < pair_count h → lots ≤ 10 ^ 6 → IsOrdered h S (taker_of S bank side pair price lots) life outcome → (rests_of outcome ≤ 10 ^ 6) × StandsFor h (changed S bank (Order side pair price lots life) outcome) (order_carried old (taker_of S bank side pair price lots) (rests_of outcome) (fills_of outcome))
+order-changed : (h : Header) (S : State) (old : FlatState) (bank : ℕ) (side : Side) (pair price lots : ℕ) (life : Life) (outcome : Outcome) → IsSession h → IsSound h S → StandsFor h S old → length old.uses ≡ 4096 → bank < bank_count h → pair < pair_count h → lots ≤ 10 ^ 6 → IsOrdered h S (taker_of S bank side pair price lots) life outcome → (rests_of outcome ≤ 10 ^ 6) × StandsFor h (changed S bank (Order side pair price lots life) outcome) (order_carried old (taker_of S bank side pair price lots) (rests_of outcome) (fills_of outcome))
 order-changed h S old bank side pair price lots Day (Ordered done rests fills) session sound stands full bank_in pair_in most is =
     (omega (arith, is.2), stands-ordered h S old (taker_of S bank side pair price lots) rests fills rests session sound stands full bank_in pair_in is.0)
 order-changed h S old bank side pair price lots Ioc (Ordered done rests fills) session sound stands full bank_in pair_in most is =
@@ -139,12 +140,12 @@ order-changed h S old bank side pair price lots Fok (Ordered done rests fills) s
 order-changed h S old bank side pair price lots Fok Killed session sound stands full bank_in pair_in most is = (omega arith, stands)
 order-changed h S old bank side pair price lots life outcome session sound stands full bank_in pair_in most is = absurd is
 
-pub order-changes : (old new : Ledger) (bank : ℕ) (side : Side) (pair price lots : ℕ) (life : Life) (command : Command) (t : Taker) (outcome : Outcome) → length old.uses ≡ 4096 → command ≡ Order side pair price lots life → t ≡ taker_from old bank side pair price lots → bank < length old.counts → IsCommandOf old bank command → (rests_of outcome ≤ 10 ^ 6 → new ≡ order_carried old t (rests_of outcome) (fills_of outcome)) → ChangesEach old new bank command outcome
+pub order-changes : (old new : FlatState) (bank : ℕ) (side : Side) (pair price lots : ℕ) (life : Life) (command : Command) (t : Taker) (outcome : Outcome) → length old.uses ≡ 4096 → command ≡ Order side pair price lots life → t ≡ taker_from old bank side pair price lots → bank < old.banks → IsCommandOf old bank command → (rests_of outcome ≤ 10 ^ 6 → new ≡ order_carried old t (rests_of outcome) (fills_of outcome)) → ChangesEach old new bank command outcome
 order-changes old new bank side pair price lots life command t outcome full command_is taker_is sender valid made h S session sound stands is =
-    let in_range : IsCommandOf old bank (Order side pair price lots life) = subst (IsCommandOf old bank) command_is valid in
+    let asked : IsCommand h bank (Order side pair price lots life) = subst (IsCommand h bank) command_is (sendable h S old bank command stands valid) in
     let T : Taker = taker_of S bank side pair price lots in
     let done = order-changed h S old bank side pair price lots life outcome session sound stands full
-    (bank_within h S old bank sound stands sender) (pair_within h S old pair stands in_range.0) (in_range.2.1)
+    (bank_within h S old bank stands sender) asked.0 asked.2.1
     (subst (λ (c : Command). IsOutcome h S bank c outcome) command_is is) in
     subst (λ (c : Command). StandsFor h (changed S bank c outcome) new) (sym command_is)
     (subst (StandsFor h (changed S bank (Order side pair price lots life) outcome))
@@ -153,8 +154,9 @@ order-changes old new bank side pair price lots life command t outcome full comm
 
 -- Cancels, reductions and pulls.
 
-stands-orders : (h : Header) (S : State) (l : Ledger) (f : List ActiveOrder → List ActiveOrder) → StandsFor h S l → StandsFor h (record S { orders = f S.orders }) (record l { orders = f l.orders })
+stands-orders : (h : Header) (S : State) (l : FlatState) (f : List ActiveOrder → List ActiveOrder) → StandsFor h S l → StandsFor h (record S { orders = f S.orders }) (record l { orders = f l.orders })
 stands-orders h S l f stands = record {
+  banks = stands.banks;
   orders = ap f stands.orders;
   counts = stands.counts;
   weights = stands.weights;
@@ -162,16 +164,16 @@ stands-orders h S l f stands = record {
   uses = stands.uses;
 }
 
-pub cancel-answers : (l : Ledger) (bank pair number : ℕ) (command : Command) (outcome : Outcome) → command ≡ Cancel pair number → outcome ≡ cancel_answer (find (λ o. is_order bank number o) (orders_in pair l.orders)) → AnswersEach l bank command outcome
+pub cancel-answers : (l : FlatState) (bank pair number : ℕ) (command : Command) (outcome : Outcome) → command ≡ Cancel pair number → outcome ≡ cancel_answer (find (λ o. is_order bank number o) (orders_in pair l.orders)) → AnswersEach l bank command outcome
 cancel-answers l bank pair number command outcome command_is is h S session sound stands =
     subst (λ (c : Command). IsOutcome h S bank c outcome) (sym command_is)
     (is ∙ ap (λ (os : List ActiveOrder). cancel_answer (find (λ o. is_order bank number o) (orders_in pair os))) stands.orders)
 
-cancel-changed : (h : Header) (S : State) (old : Ledger) (bank pair number : ℕ) (found : Option Resting) → StandsFor h S old → StandsFor h (changed S bank (Cancel pair number) (cancel_answer found)) (cancelled_in old bank number (is_done (cancel_answer found)))
+cancel-changed : (h : Header) (S : State) (old : FlatState) (bank pair number : ℕ) (found : Option Resting) → StandsFor h S old → StandsFor h (changed S bank (Cancel pair number) (cancel_answer found)) (cancelled_in old bank number (is_done (cancel_answer found)))
 cancel-changed h S old bank pair number None stands = stands
 cancel-changed h S old bank pair number (Some order) stands = stands-orders h S old (without_order bank number) stands
 
-pub cancel-changes : (old new : Ledger) (bank pair number : ℕ) (command : Command) (outcome : Outcome) → command ≡ Cancel pair number → new ≡ cancelled_in old bank number (is_done outcome) → ChangesEach old new bank command outcome
+pub cancel-changes : (old new : FlatState) (bank pair number : ℕ) (command : Command) (outcome : Outcome) → command ≡ Cancel pair number → new ≡ cancelled_in old bank number (is_done outcome) → ChangesEach old new bank command outcome
 cancel-changes old new bank pair number command outcome command_is made h S session sound stands is =
     let answer : outcome ≡ cancel_answer (order_of S pair bank number) = subst (λ (c : Command). IsOutcome h S bank c outcome) command_is is in
     subst (λ (c : Command). StandsFor h (changed S bank c outcome) new) (sym command_is)
@@ -179,19 +181,19 @@ cancel-changes old new bank pair number command outcome command_is made h S sess
     (subst (λ (o : Outcome). StandsFor h (changed S bank (Cancel pair number) o) (cancelled_in old bank number (is_done o))) (sym answer)
     (cancel-changed h S old bank pair number (order_of S pair bank number) stands)))
 
-pub reduce-answers : (l : Ledger) (bank pair number lots : ℕ) (command : Command) (outcome : Outcome) → command ≡ Reduce pair number lots → outcome ≡ reduce_answer lots (find (λ o. is_order bank number o) (orders_in pair l.orders)) → AnswersEach l bank command outcome
+pub reduce-answers : (l : FlatState) (bank pair number lots : ℕ) (command : Command) (outcome : Outcome) → command ≡ Reduce pair number lots → outcome ≡ reduce_answer lots (find (λ o. is_order bank number o) (orders_in pair l.orders)) → AnswersEach l bank command outcome
 reduce-answers l bank pair number lots command outcome command_is is h S session sound stands =
     subst (λ (c : Command). IsOutcome h S bank c outcome) (sym command_is)
     (is ∙ ap (λ (os : List ActiveOrder). reduce_answer lots (find (λ o. is_order bank number o) (orders_in pair os))) stands.orders)
 
-reduce-changed : (h : Header) (S : State) (old : Ledger) (bank pair number lots : ℕ) (found : Option Resting) → StandsFor h S old → StandsFor h (changed S bank (Reduce pair number lots) (reduce_answer lots found)) (reduced_in old bank number lots (is_done (reduce_answer lots found)))
+reduce-changed : (h : Header) (S : State) (old : FlatState) (bank pair number lots : ℕ) (found : Option Resting) → StandsFor h S old → StandsFor h (changed S bank (Reduce pair number lots) (reduce_answer lots found)) (reduced_in old bank number lots (is_done (reduce_answer lots found)))
 reduce-changed h S old bank pair number lots None stands = stands
 reduce-changed h S old bank pair number lots (Some order) stands =
     cond_both (nat_lt lots order.left) (Reduced lots) (NotLess order.left)
     (λ (o : Outcome). StandsFor h (changed S bank (Reduce pair number lots) o) (reduced_in old bank number lots (is_done o)))
     (λ _. stands-orders h S old (reduced bank number lots) stands) (λ _. stands)
 
-pub reduce-changes : (old new : Ledger) (bank pair number lots : ℕ) (command : Command) (outcome : Outcome) → command ≡ Reduce pair number lots → new ≡ reduced_in old bank number lots (is_done outcome) → ChangesEach old new bank command outcome
+pub reduce-changes : (old new : FlatState) (bank pair number lots : ℕ) (command : Command) (outcome : Outcome) → command ≡ Reduce pair number lots → new ≡ reduced_in old bank number lots (is_done outcome) → ChangesEach old new bank command outcome
 reduce-changes old new bank pair number lots command outcome command_is made h S session sound stands is =
     let answer : outcome ≡ reduce_answer lots (order_of S pair bank number) = subst (λ (c : Command). IsOutcome h S bank c outcome) command_is is in
     subst (λ (c : Command). StandsFor h (changed S bank c outcome) new) (sym command_is)
@@ -202,7 +204,7 @@ reduce-changes old new bank pair number lots command outcome command_is made h S
 least_of : (n most : ℕ) → n ≤ most → min n most ≡ n
 least_of n most within = omega arith
 
-pub pull-answers : (l : Ledger) (bank pair count : ℕ) (command : Command) → command ≡ Pull pair → get_or l.counts bank 0 < 2 ^ 32 - 1 → count ≡ min (length (filter (λ order. eqb order.bank bank) (orders_in pair l.orders))) (2 ^ 32 - 1) → AnswersEach l bank command (Pulled count)
+pub pull-answers : (l : FlatState) (bank pair count : ℕ) (command : Command) → command ≡ Pull pair → get_or l.counts bank 0 < 2 ^ 32 - 1 → count ≡ min (length (filter (λ order. eqb order.bank bank) (orders_in pair l.orders))) (2 ^ 32 - 1) → AnswersEach l bank command (Pulled count)
 pull-answers l bank pair count command command_is below is h S session sound stands =
     let most : length (orders_by S pair bank) ≤ 2 ^ 32 - 1 =
     omega (arith, pulled-most h S pair bank sound, ap (λ (cs : List ℕ). get_or cs bank 0) stands.counts) in
@@ -211,7 +213,7 @@ pull-answers l bank pair count command command_is below is h S session sound sta
     ∙ ap (λ (os : List ActiveOrder). min (length (filter (λ order. eqb order.bank bank) (orders_in pair os))) (2 ^ 32 - 1)) stands.orders
     ∙ least_of (length (orders_by S pair bank)) (2 ^ 32 - 1) most))
 
-pub pull-changes : (old new : Ledger) (bank pair : ℕ) (command : Command) (outcome : Outcome) → command ≡ Pull pair → new ≡ record old { orders = without_orders pair bank old.orders } → ChangesEach old new bank command outcome
+pub pull-changes : (old new : FlatState) (bank pair : ℕ) (command : Command) (outcome : Outcome) → command ≡ Pull pair → new ≡ record old { orders = without_orders pair bank old.orders } → ChangesEach old new bank command outcome
 pull-changes old new bank pair command outcome command_is made h S session sound stands is =
     let answer : outcome ≡ Pulled (length (orders_by S pair bank)) = subst (λ (c : Command). IsOutcome h S bank c outcome) command_is is in
     subst (λ (c : Command). StandsFor h (changed S bank c outcome) new) (sym command_is)
@@ -250,7 +252,7 @@ tables-limited h S weights limits uses bank other limit banks full bank_in other
   spent = tables.spent;
 }
 
-line-answered : (h : Header) (S : State) (l : Ledger) (bank other asked : ℕ) (outcome : Outcome) → IsSession h → IsSound h S → StandsFor h S l → length l.limits ≡ 4096 → length l.uses ≡ 4096 → bank < bank_count h → IsCommand h bank (Line other asked) → LineSetIn l bank other asked outcome → IsOutcome h S bank (Line other asked) outcome
+line-answered : (h : Header) (S : State) (l : FlatState) (bank other asked : ℕ) (outcome : Outcome) → IsSession h → IsSound h S → StandsFor h S l → length l.limits ≡ 4096 → length l.uses ≡ 4096 → bank < bank_count h → IsCommand h bank (Line other asked) → LineSetIn l bank other asked outcome → IsOutcome h S bank (Line other asked) outcome
 line-answered h S l bank other asked (LineSet limit fills) session sound stands limits_full uses_full bank_in valid is =
     let limit_is : limit ≡ limit_set h S bank other asked = is.0 ∙ ap (max asked) (stands.uses bank other bank_in valid.0 (λ same. valid.1 (sym same))) in
     let T : State = limited bank other limit S in
@@ -264,19 +266,13 @@ line-answered h S l bank other asked (LineSet limit fills) session sound stands 
     )
 line-answered h S l bank other asked outcome session sound stands limits_full uses_full bank_in valid is = absurd is
 
-command_of : (h : Header) (S : State) (l : Ledger) (bank : ℕ) (command : Command) → IsSound h S → StandsFor h S l → IsCommandOf l bank command → IsCommand h bank command
-command_of h S l bank command sound stands valid =
-    let banks : length l.counts ≡ bank_count h = ap length stands.counts ∙ sound.counts in
-    let pairs : length l.weights ≡ pair_count h = ap length stands.weights ∙ length-map h.pairs (λ (rule : PairRule). rule.weight) in
-    command-from h bank command (subst (λ n. IsCommandAmong n (pair_count h) bank command) banks (subst (λ n. IsCommandAmong (length l.counts) n bank command) pairs valid))
-
-pub line-answers : (l : Ledger) (bank other asked : ℕ) (command : Command) (outcome : Outcome) → IsLedger l → command ≡ Line other asked → bank < length l.counts → IsCommandOf l bank command → LineSetIn l bank other asked outcome → AnswersEach l bank command outcome
-line-answers l bank other asked command outcome ledger command_is sender valid is h S session sound stands =
+pub line-answers : (l : FlatState) (bank other asked : ℕ) (command : Command) (outcome : Outcome) → IsFlatState l → command ≡ Line other asked → bank < l.banks → IsCommandOf l bank command → LineSetIn l bank other asked outcome → AnswersEach l bank command outcome
+line-answers l bank other asked command outcome state_ok command_is sender valid is h S session sound stands =
     subst (λ (c : Command). IsOutcome h S bank c outcome) (sym command_is)
-    (line-answered h S l bank other asked outcome session sound stands ledger.limits_full ledger.uses_full (bank_within h S l bank sound stands sender)
-    (subst (IsCommand h bank) command_is (command_of h S l bank command sound stands valid)) is)
+    (line-answered h S l bank other asked outcome session sound stands state_ok.limits_full state_ok.uses_full (bank_within h S l bank stands sender)
+    (subst (IsCommand h bank) command_is (sendable h S l bank command stands valid)) is)
 
-line-changed : (h : Header) (S : State) (old : Ledger) (bank other asked : ℕ) (outcome : Outcome) → IsSession h → IsSound h S → StandsFor h S old → length old.limits ≡ 4096 → length old.uses ≡ 4096 → bank < bank_count h → IsCommand h bank (Line other asked) → IsOutcome h S bank (Line other asked) outcome → StandsFor h (changed S bank (Line other asked) outcome) (raised_in old bank other asked (fills_of outcome))
+line-changed : (h : Header) (S : State) (old : FlatState) (bank other asked : ℕ) (outcome : Outcome) → IsSession h → IsSound h S → StandsFor h S old → length old.limits ≡ 4096 → length old.uses ≡ 4096 → bank < bank_count h → IsCommand h bank (Line other asked) → IsOutcome h S bank (Line other asked) outcome → StandsFor h (changed S bank (Line other asked) outcome) (raised_in old bank other asked (fills_of outcome))
 line-changed h S old bank other asked (LineSet limit fills) session sound stands limits_full uses_full bank_in valid is =
     let T : State = limited bank other limit S in
     let U : State = filled_all T fills in
@@ -289,6 +285,7 @@ line-changed h S old bank other asked (LineSet limit fills) session sound stands
     tables-pairs h (pair_count h) 0 T old.weights limits old.uses fills session (omega arith) uses_full sound'
     (tables-limited h S old.weights old.limits old.uses bank other limit session.banks_most limits_full bank_in valid.0 (tables_of h S old stands)) is.1 in
     let at_limit : StandsFor h U (record old { orders = both_lowered old.orders fills; limits = limits; uses = uses_after old.weights limits old.uses fills }) = record {
+      banks = stands.banks;
       orders = ap (λ (os : List ActiveOrder). both_lowered os fills) stands.orders ∙ sym (orders-filled_all T fills);
       counts = stands.counts ∙ sym (counts-filled_all T fills);
       weights = stands.weights;
@@ -298,12 +295,12 @@ line-changed h S old bank other asked (LineSet limit fills) session sound stands
     subst (λ (ls : List ℕ). StandsFor h U (record old { orders = both_lowered old.orders fills; limits = ls; uses = uses_after old.weights ls old.uses fills })) (sym same) at_limit
 line-changed h S old bank other asked outcome session sound stands limits_full uses_full bank_in valid is = absurd is
 
-pub line-changes : (old new : Ledger) (bank other asked : ℕ) (command : Command) (outcome : Outcome) → IsLedger old → command ≡ Line other asked → bank < length old.counts → IsCommandOf old bank command → new ≡ raised_in old bank other asked (fills_of outcome) → ChangesEach old new bank command outcome
-line-changes old new bank other asked command outcome ledger command_is sender valid made h S session sound stands is =
+pub line-changes : (old new : FlatState) (bank other asked : ℕ) (command : Command) (outcome : Outcome) → IsFlatState old → command ≡ Line other asked → bank < old.banks → IsCommandOf old bank command → new ≡ raised_in old bank other asked (fills_of outcome) → ChangesEach old new bank command outcome
+line-changes old new bank other asked command outcome state_ok command_is sender valid made h S session sound stands is =
     subst (λ (c : Command). StandsFor h (changed S bank c outcome) new) (sym command_is)
     (subst (StandsFor h (changed S bank (Line other asked) outcome)) (sym made)
-    (line-changed h S old bank other asked outcome session sound stands ledger.limits_full ledger.uses_full (bank_within h S old bank sound stands sender)
-    (subst (IsCommand h bank) command_is (command_of h S old bank command sound stands valid))
+    (line-changed h S old bank other asked outcome session sound stands state_ok.limits_full state_ok.uses_full (bank_within h S old bank stands sender)
+    (subst (IsCommand h bank) command_is (sendable h S old bank command stands valid))
     (subst (λ (c : Command). IsOutcome h S bank c outcome) command_is is)))
 
 -- Shows, local books, and lines that could not be read.
@@ -311,55 +308,56 @@ line-changes old new bank other asked command outcome ledger command_is sender v
 shown_same : (a b c a' b' c' : ℕ) → a ≡ a' → b ≡ b' → c ≡ c' → Shown a b c ≡ Shown a' b' c'
 shown_same a b c a' b' c' p q r = cc
 
-pub show-answers : (l : Ledger) (bank other : ℕ) (command : Command) (outcome : Outcome) → command ≡ Show other → bank < length l.counts → IsCommandOf l bank command → outcome ≡ shown_in l bank other → AnswersEach l bank command outcome
+pub show-answers : (l : FlatState) (bank other : ℕ) (command : Command) (outcome : Outcome) → command ≡ Show other → bank < l.banks → IsCommandOf l bank command → outcome ≡ shown_in l bank other → AnswersEach l bank command outcome
 show-answers l bank other command outcome command_is sender valid is h S session sound stands =
-    let bank_in : bank < bank_count h = bank_within h S l bank sound stands sender in
+    let bank_in : bank < bank_count h = bank_within h S l bank stands sender in
     let asked : IsCommand h bank (Show other) =
-    subst (IsCommand h bank) command_is (command_of h S l bank command sound stands valid) in
+    subst (IsCommand h bank) command_is (sendable h S l bank command stands valid) in
     let differ : bank ≢ other = λ same. asked.1 (sym same) in
     subst (λ (c : Command). IsOutcome h S bank c outcome) (sym command_is)
     (is ∙ shown_same (limit_in l.limits bank other) (use_in l.uses bank other) (line_in l.limits l.uses bank other) (S.limits bank other) (used h S bank other) (line h S bank other)
     (stands.limits bank other bank_in asked.0 differ) (stands.uses bank other bank_in asked.0 differ)
     (line-same h S l.weights l.limits l.uses bank other (tables_of h S l stands) bank_in asked.0 differ))
 
-pub shows : (l : Ledger) (bank pair : ℕ) (bids asks : List Level) → bank < length l.counts → pair < length l.weights → ProbedIn l bank pair Sell bids → ProbedIn l bank pair Buy asks → ShowsEach l bank pair (Depth bids asks)
+pub shows : (l : FlatState) (bank pair : ℕ) (bids asks : List Level) → bank < l.banks → pair < length l.weights → ProbedIn l bank pair Sell bids → ProbedIn l bank pair Buy asks → ShowsEach l bank pair (Depth bids asks)
 shows l bank pair bids asks sender pair_in sells buys h S session sound stands =
-    let bank_within' = bank_within h S l bank sound stands sender in
+    let bank_within' : bank < bank_count h = bank_within h S l bank stands sender in
     let pair_within' = pair_within h S l pair stands pair_in in record {
       sells = shows-probed h S l bank pair Sell bids session sound stands bank_within' pair_within' sells;
       buys = shows-probed h S l bank pair Buy asks session sound stands bank_within' pair_within' buys;
     }
 
-book-answered : (l : Ledger) (bank pair : ℕ) (outcome : Outcome) → ShowsEach l bank pair outcome → AnswersEach l bank (Book pair) outcome
+book-answered : (l : FlatState) (bank pair : ℕ) (outcome : Outcome) → ShowsEach l bank pair outcome → AnswersEach l bank (Book pair) outcome
 book-answered l bank pair (Depth bids asks) is h S session sound stands = is h S session sound stands
 book-answered l bank pair outcome is h S session sound stands = absurd is
 
-pub book-answers : (l : Ledger) (bank pair : ℕ) (command : Command) (outcome : Outcome) → command ≡ Book pair → ShowsEach l bank pair outcome → AnswersEach l bank command outcome
+pub book-answers : (l : FlatState) (bank pair : ℕ) (command : Command) (outcome : Outcome) → command ≡ Book pair → ShowsEach l bank pair outcome → AnswersEach l bank command outcome
 book-answers l bank pair command outcome command_is is =
     subst (λ (c : Command). AnswersEach l bank c outcome) (sym command_is) (book-answered l bank pair outcome is)
 
-pub bad-answers : (l : Ledger) (bank : ℕ) (reason : Reject) (command : Command) → command ≡ Bad reason → AnswersEach l bank command (Rejected reason)
+pub bad-answers : (l : FlatState) (bank : ℕ) (reason : Reject) (command : Command) → command ≡ Bad reason → AnswersEach l bank command (Rejected reason)
 bad-answers l bank reason command command_is h S session sound stands =
     subst (λ (c : Command). IsOutcome h S bank c (Rejected reason)) (sym command_is) refl
 
-pub show-changes : (l : Ledger) (bank other : ℕ) (command : Command) (outcome : Outcome) → command ≡ Show other → ChangesEach l l bank command outcome
+pub show-changes : (l : FlatState) (bank other : ℕ) (command : Command) (outcome : Outcome) → command ≡ Show other → ChangesEach l l bank command outcome
 show-changes l bank other command outcome command_is h S session sound stands is =
     subst (λ (c : Command). StandsFor h (changed S bank c outcome) l) (sym command_is) stands
 
-pub book-changes : (l : Ledger) (bank pair : ℕ) (command : Command) (outcome : Outcome) → command ≡ Book pair → ChangesEach l l bank command outcome
+pub book-changes : (l : FlatState) (bank pair : ℕ) (command : Command) (outcome : Outcome) → command ≡ Book pair → ChangesEach l l bank command outcome
 book-changes l bank pair command outcome command_is h S session sound stands is =
     subst (λ (c : Command). StandsFor h (changed S bank c outcome) l) (sym command_is) stands
 
-pub bad-changes : (l : Ledger) (bank : ℕ) (reason : Reject) (command : Command) (outcome : Outcome) → command ≡ Bad reason → ChangesEach l l bank command outcome
+pub bad-changes : (l : FlatState) (bank : ℕ) (reason : Reject) (command : Command) (outcome : Outcome) → command ≡ Bad reason → ChangesEach l l bank command outcome
 bad-changes l bank reason command outcome command_is h S session sound stands is =
     subst (λ (c : Command). StandsFor h (changed S bank c outcome) l) (sym command_is) stands
 
 -- The count, and both together.
 
-pub follows-counted : (old mid new : Ledger) (bank : ℕ) (command : Command) (outcome : Outcome) → ChangesEach old mid bank command outcome → new ≡ counted_in mid bank → FollowsEach old new bank command outcome
+pub follows-counted : (old mid new : FlatState) (bank : ℕ) (command : Command) (outcome : Outcome) → ChangesEach old mid bank command outcome → new ≡ counted_in mid bank → FollowsEach old new bank command outcome
 follows-counted old mid new bank command outcome changes counted_is h S session sound stands is =
     let made : StandsFor h (changed S bank command outcome) mid = changes h S session sound stands is in
     subst (StandsFor h (after S bank command outcome)) (sym counted_is) (record {
+      banks = made.banks;
       orders = made.orders;
       counts = ap (λ (cs : List ℕ). set cs bank (get_or cs bank 0 + 1)) made.counts;
       weights = made.weights;
@@ -367,7 +365,7 @@ follows-counted old mid new bank command outcome changes counted_is h S session 
       uses = made.uses;
     })
 
-pub steps-each : (old new : Ledger) (bank : ℕ) (command : Command) (outcome : Outcome) → AnswersEach old bank command outcome → FollowsEach old new bank command outcome → StepsEach old new bank command outcome
+pub steps-each : (old new : FlatState) (bank : ℕ) (command : Command) (outcome : Outcome) → AnswersEach old bank command outcome → FollowsEach old new bank command outcome → StepsEach old new bank command outcome
 steps-each old new bank command outcome answers follows h S session sound stands =
     let is : IsOutcome h S bank command outcome = answers h S session sound stands in
     (is, follows h S session sound stands is)

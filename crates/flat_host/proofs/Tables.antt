@@ -13,11 +13,11 @@ use Rattle.fx_rules.proofs.Credit.{IsAllowed, used-filled, cost_between-one, cos
 use Rattle.fx_rules.proofs.Opens.{allowed-open}
 use Rattle.fx_rules.proofs.SweepSound.{filled-sound, swept-sound, filled_all-append, weight_of-least}
 use Rattle.fx_rules.proofs.RaiseSound.{match_cases, turn_of, turn-sender, turned-sound}
-use Rattle.flat_host.specs.Ledger.{use_place, limit_in, use_in, line_in, TablesFor, StandsFor, Ledger}
+use Rattle.flat_host.specs.FlatState.{use_place, limit_in, use_in, line_in, TablesFor, StandsFor, FlatState}
 use Rattle.flat_host.specs.Parts.{use_added, uses_after}
 use Rattle.flat_host.proofs.Carrying.{use_place-swap, places_same, use_place-same, raised, raised_here, raised_there, length-added, length-uses_after, uses_after-append}
 
-pub tables_of : (h : Header) (S : State) (l : Ledger) → StandsFor h S l → TablesFor h S l.weights l.limits l.uses
+pub tables_of : (h : Header) (S : State) (l : FlatState) → StandsFor h S l → TablesFor h S l.weights l.limits l.uses
 tables_of h S l stands = record { weighs = stands.weights; limit = stands.limits; spent = stands.uses }
 
 lines_of_two : (a b u a' b' u' : ℕ) → a ≡ a' → b ≡ b' → u ≡ u' → min a b - u ≡ min a' b' - u'

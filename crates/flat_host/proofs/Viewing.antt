@@ -13,43 +13,30 @@ use Rattle.fx_rules.specs.Sound.{IsSound}
 use Rattle.fx_rules.proofs.ViewCommands.{views-told, books-alike}
 use Rattle.fx_rules.proofs.ViewRaise.{views-fill}
 use Rattle.fx_rules.proofs.Truth.{books-truthful}
-use Rattle.flat_host.specs.Ledger.{Ledger, StandsFor}
-use Rattle.flat_host.proofs.Among.{command-from}
-use Rattle.flat_host.specs.Steps.{IsCommandAmong, IsCommandOf, AnswersEach, ShowsEach}
+use Rattle.flat_host.specs.FlatState.{FlatState, StandsFor}
+use Rattle.flat_host.specs.Steps.{IsCommandOf, AnswersEach, ShowsEach}
+use Rattle.flat_host.proofs.Sendable.{sendable, pairs_of}
 use Rattle.flat_host.specs.Views.{TellsByView, FillsByView, ShowsByView, ShowsTruly}
 
--- the host's banks and pairs are its session's
-banks_of : (h : Header) (S : State) (l : Ledger) → IsSound h S → StandsFor h S l → length l.counts ≡ bank_count h
-banks_of h S l sound stands = ap length stands.counts ∙ sound.counts
-
-pairs_of : (h : Header) (S : State) (l : Ledger) → StandsFor h S l → length l.weights ≡ pair_count h
-pairs_of h S l stands = ap length stands.weights ∙ length-map h.pairs (λ (rule : PairRule). rule.weight)
-
-command_of : (h : Header) (S : State) (l : Ledger) (bank : ℕ) (command : Command) → IsSound h S → StandsFor h S l → IsCommandOf l bank command → IsCommand h bank command
-command_of h S l bank command sound stands valid =
-    command-from h bank command
-    (subst (λ (pairs : ℕ). IsCommandAmong (bank_count h) pairs bank command) (pairs_of h S l stands)
-    (subst (λ (banks : ℕ). IsCommandAmong banks (length l.weights) bank command) (banks_of h S l sound stands) valid))
-
-pub tells-by_view : (l : Ledger) (bank : ℕ) (command : Command) (outcome : Outcome) → bank < length l.counts → IsCommandOf l bank command → AnswersEach l bank command outcome → TellsByView l bank command outcome
+pub tells-by_view : (l : FlatState) (bank : ℕ) (command : Command) (outcome : Outcome) → bank < l.banks → IsCommandOf l bank command → AnswersEach l bank command outcome → TellsByView l bank command outcome
 tells-by_view l bank command outcome sender valid answers h S T other session sound sound' stands alike is =
-    views-told h S T bank command outcome other session sound sound' (omega (arith, sender, banks_of h S l sound stands))
-    (command_of h S l bank command sound stands valid) alike (answers h S session sound stands) is
+    views-told h S T bank command outcome other session sound sound' (omega (arith, sender, stands.banks))
+    (sendable h S l bank command stands valid) alike (answers h S session sound stands) is
 
-pub fills-by_view : (l : Ledger) (bank : ℕ) (command : Command) (outcome : Outcome) → bank < length l.counts → IsCommandOf l bank command → AnswersEach l bank command outcome → FillsByView l bank command outcome
+pub fills-by_view : (l : FlatState) (bank : ℕ) (command : Command) (outcome : Outcome) → bank < l.banks → IsCommandOf l bank command → AnswersEach l bank command outcome → FillsByView l bank command outcome
 fills-by_view l bank (Line other asked) (LineSet limit fills) sender valid answers = λ h S T others session sound sound' quiet quiet' stands alike is.
-    views-fill h S T bank other asked limit fills others session sound sound' quiet quiet' (omega (arith, sender, banks_of h S l sound stands))
-    (command_of h S l bank (Line other asked) sound stands valid) alike (answers h S session sound stands) is
+    views-fill h S T bank other asked limit fills others session sound sound' quiet quiet' (omega (arith, sender, stands.banks))
+    (sendable h S l bank (Line other asked) stands valid) alike (answers h S session sound stands) is
 fills-by_view l bank command outcome sender valid answers = tt
 
-pub shows-by_view : (l : Ledger) (bank pair : ℕ) (outcome : Outcome) → bank < length l.counts → pair < length l.weights → ShowsEach l bank pair outcome → ShowsByView l bank pair outcome
+pub shows-by_view : (l : FlatState) (bank pair : ℕ) (outcome : Outcome) → bank < l.banks → pair < length l.weights → ShowsEach l bank pair outcome → ShowsByView l bank pair outcome
 shows-by_view l bank pair (Depth bids asks) sender within shows = λ h S T others offers session sound sound' stands alike is.
-    books-alike h S T bank pair bids asks others offers session sound sound' (omega (arith, sender, banks_of h S l sound stands))
-    (omega (arith, within, pairs_of h S l stands)) alike (shows h S session sound stands) is
+    books-alike h S T bank pair bids asks others offers session sound sound' (omega (arith, sender, stands.banks))
+    (omega (arith, within, pairs_of h l stands.weights)) alike (shows h S session sound stands) is
 shows-by_view l bank pair outcome sender within shows = tt
 
-pub shows-truly : (l : Ledger) (bank pair : ℕ) (outcome : Outcome) → bank < length l.counts → pair < length l.weights → ShowsEach l bank pair outcome → ShowsTruly l bank pair outcome
+pub shows-truly : (l : FlatState) (bank pair : ℕ) (outcome : Outcome) → bank < l.banks → pair < length l.weights → ShowsEach l bank pair outcome → ShowsTruly l bank pair outcome
 shows-truly l bank pair (Depth bids asks) sender within shows = λ h S session sound stands.
-    books-truthful h S bank pair bids asks session sound (omega (arith, sender, banks_of h S l sound stands))
-    (omega (arith, within, pairs_of h S l stands)) (shows h S session sound stands)
+    books-truthful h S bank pair bids asks session sound (omega (arith, sender, stands.banks))
+    (omega (arith, within, pairs_of h l stands.weights)) (shows h S session sound stands)
 shows-truly l bank pair outcome sender within shows = tt

@@ -1,11 +1,12 @@
 -- What contracts see of the plain host.
 use Rattle.std.specs.Prelude.{◌≡◌}
 use Rattle.fx_rules.specs.Lists.{total}
-use Rattle.flat_host.specs.Ledger.{Ledger, IsLedger}
+use Rattle.flat_host.specs.FlatState.{FlatState, IsFlatState}
 use Rattle.flat_host.specs.declared.host.FlatHost.TheInside.{Inside}
 
-abbrev pub ledger_of : Inside → Ledger
-ledger_of a = record {
+abbrev pub flat_state_of : Inside → FlatState
+flat_state_of a = record {
+  banks = a.banks;
   orders = a.orders.items;
   limits = a.limits.items;
   uses = a.uses.items;
@@ -13,7 +14,7 @@ ledger_of a = record {
   weights = a.weights.items;
 }
 
--- the ledger is one, and the arrivals are the commands counted
+-- the flat state is one, and the arrivals are the commands counted
 pub record IsHost (a : Inside) : Type 0 where
-  pub ledger : IsLedger (ledger_of a)
+  pub state : IsFlatState (flat_state_of a)
   pub arrivals : a.arrivals ≡ total (λ count. count) a.counts.items

@@ -1,4 +1,4 @@
-pub mod Ledger
+pub mod FlatState
 pub mod Steps
 pub mod Parts
 pub mod Turns

@@ -10,23 +10,10 @@ use Rattle.fx_rules.specs.declared.orders.Resting.{Resting}
 use Rattle.fx_rules.specs.declared.orders.Fill.{Fill}
 use Rattle.fx_rules.specs.Lists.{total}
 use Rattle.fx_rules.specs.State.{orders_in}
-use Rattle.fx_rules.specs.Sweep.{Taker, lowered, is_order}
+use Rattle.fx_rules.specs.Sweep.{Taker, lowered, is_order, at_rest}
 use Rattle.fx_rules.specs.Step.{without_order, reduced}
 use Rattle.fx_rules.specs.Plan.{Planned}
-use Rattle.flat_host.specs.Ledger.{Ledger, limit_place, use_place, limit_in, use_in, line_in}
-use Rattle.flat_host.specs.declared.sweep.Incoming.{Incoming}
-
--- an order as it comes in is the taker of its sweep
-abbrev pub taker_in : Incoming → Taker
-taker_in i = record {
-  bank = i.bank;
-  number = i.number;
-  pair = i.pair;
-  side = i.side;
-  price = i.price;
-  left = i.left;
-  arrival = i.arrival;
-}
+use Rattle.flat_host.specs.FlatState.{FlatState, limit_place, use_place, limit_in, use_in, line_in}
 
 -- both orders of each of these fills are lowered, in order, where they rest
 abbrev pub both_lowered : List ActiveOrder → List Fill → List ActiveOrder
@@ -53,7 +40,7 @@ pub record StandsAt (bank number : ℕ) (orders : List ActiveOrder) (i : ℕ) (a
   pub first : (k : ℕ) → k < i → is_order bank number (slice_index_or orders k a).order ≡ false
 
 -- a command's order as it is swept: its number is the sender's next, and it arrives after all commands so far
-abbrev pub taker_from : Ledger → ℕ → Side → ℕ → ℕ → ℕ → Taker
+abbrev pub taker_from : FlatState → ℕ → Side → ℕ → ℕ → ℕ → Taker
 taker_from l bank side pair price lots = record {
   bank = bank;
   number = slice_index l.counts bank + 1;
@@ -70,46 +57,39 @@ pub record PlannedOver (weights limits uses : List ℕ) (book : List Resting) (t
   pub lines_are : (bank : ℕ) → bank < 64 → lines bank ≡ line_in limits uses t.bank bank
   pub planned : Planned (slice_index weights t.pair) lines book t None fills left
 
--- a sweep planned over a ledger
-abbrev pub PlannedIn : Ledger → Taker → List Fill → ℕ → Type 0
+-- a sweep planned over a flat state
+abbrev pub PlannedIn : FlatState → Taker → List Fill → ℕ → Type 0
 PlannedIn l t fills left = PlannedOver l.weights l.limits l.uses (orders_in t.pair l.orders) t fills left
 
--- an order's outcome by its life, of the sweep that was planned in the ledger
-abbrev pub OrderedIn : Ledger → Taker → Life → Outcome → Type 0
+-- an order's outcome by its life, of the sweep that was planned in the flat state
+abbrev pub OrderedIn : FlatState → Taker → Life → Outcome → Type 0
 OrderedIn l t Day (Ordered done rests fills) = PlannedIn l t fills rests × (done ≡ t.left - rests) × (rests ≤ t.left)
 OrderedIn l t Ioc (Ordered done rests fills) = PlannedIn l t fills (t.left - done) × (done ≤ t.left) × (rests ≡ 0)
 OrderedIn l t Fok (Ordered done rests fills) = PlannedIn l t fills 0 × (done ≡ t.left) × (rests ≡ 0)
 OrderedIn l t Fok Killed = (fills : List Fill) × (left : ℕ) × PlannedIn l t fills left × (1 ≤ left)
 OrderedIn _ _ _ _ = ⊥
 
--- an order as it comes to rest
-abbrev pub resting_from : Taker → ℕ → ActiveOrder
-resting_from t rests = record {
-  pair = t.pair;
-  order = record { bank = t.bank; number = t.number; side = t.side; price = t.price; left = rests; arrival = t.arrival };
-}
-
 -- the orders with what is left of a taker at their end, where anything is
 abbrev pub with_rest : Taker → ℕ → List ActiveOrder → List ActiveOrder
-with_rest t rests orders = if nat_lt 0 rests then orders ++ resting_from t rests ∷ [] else orders
+with_rest t rests orders = if nat_lt 0 rests then orders ++ at_rest t rests ∷ [] else orders
 
--- the ledger with these fills made: their orders are lowered, and their cost is used
-abbrev pub filled_in : Ledger → List Fill → Ledger
+-- the flat state with these fills made: their orders are lowered, and their cost is used
+abbrev pub filled_in : FlatState → List Fill → FlatState
 filled_in l fills = record l {
   orders = both_lowered l.orders fills;
   uses = uses_after l.weights l.limits l.uses fills;
 }
 
--- the ledger after an order: its fills are made, and its rest stands
-abbrev pub order_carried : Ledger → Taker → ℕ → List Fill → Ledger
+-- the flat state after an order: its fills are made, and its rest stands
+abbrev pub order_carried : FlatState → Taker → ℕ → List Fill → FlatState
 order_carried l t rests fills = record (filled_in l fills) { orders = with_rest t rests (both_lowered l.orders fills) }
 
 -- the limits with one set
 abbrev pub limits_with : List ℕ → ℕ → ℕ → ℕ → List ℕ
 limits_with limits bank other limit = slice_set limits (limit_place bank other) limit
 
--- the ledger with one more command of a bank
-abbrev pub counted_in : Ledger → ℕ → Ledger
+-- the flat state with one more command of a bank
+abbrev pub counted_in : FlatState → ℕ → FlatState
 counted_in l bank = record l { counts = slice_set l.counts bank (slice_index l.counts bank + 1) }
 
 -- the lots of an order that rest by its outcome
@@ -123,14 +103,14 @@ is_done (Cancelled left) = true
 is_done (Reduced left) = true
 is_done _ = false
 
--- the ledger without an order, where its cancel was done
-abbrev pub cancelled_in : Ledger → ℕ → ℕ → Bool → Ledger
+-- the flat state without an order, where its cancel was done
+abbrev pub cancelled_in : FlatState → ℕ → ℕ → Bool → FlatState
 cancelled_in l bank number done = record l { orders = if done then without_order bank number l.orders else l.orders }
 
--- the ledger with an order lowered to so many lots, where that was done
-abbrev pub reduced_in : Ledger → ℕ → ℕ → ℕ → Bool → Ledger
+-- the flat state with an order lowered to so many lots, where that was done
+abbrev pub reduced_in : FlatState → ℕ → ℕ → ℕ → Bool → FlatState
 reduced_in l bank number left done = record l { orders = if done then reduced bank number left l.orders else l.orders }
 
 -- the line of a bank with another
-abbrev pub shown_in : Ledger → ℕ → ℕ → Outcome
+abbrev pub shown_in : FlatState → ℕ → ℕ → Outcome
 shown_in l bank other = Shown (limit_in l.limits bank other) (use_in l.uses bank other) (line_in l.limits l.uses bank other)

@@ -8,7 +8,7 @@ use Rattle.fx_rules.specs.Sweep.{is_order}
 use Rattle.fx_rules.specs.Raise.{taker_of_resting}
 use Rattle.fx_rules.specs.declared.outcome.Outcome.{Outcome}
 use Rattle.fx_rules.specs.declared.outcome.Outcome.TheVariants.{LineSet}
-use Rattle.flat_host.specs.Ledger.{Ledger, use_in}
+use Rattle.flat_host.specs.FlatState.{FlatState, use_in}
 use Rattle.flat_host.specs.Parts.{PlannedOver, both_lowered, uses_after, limits_with, filled_in}
 
 -- the orders of a pair
@@ -42,16 +42,16 @@ TurnOf weights limits pair book uses order own =
 
 -- what a bank's asking for a limit on another answers: the greater of what it asks and what they have used, and the fills
 -- that the new limit makes
-abbrev pub LineSetIn : Ledger → ℕ → ℕ → ℕ → Outcome → Type 0
+abbrev pub LineSetIn : FlatState → ℕ → ℕ → ℕ → Outcome → Type 0
 LineSetIn l bank other asked (LineSet limit fills) =
     (limit ≡ max asked (use_in l.uses bank other))
     × RaisedIn l.weights (limits_with l.limits bank other limit) l.orders (length l.weights) 0 l.uses fills
 LineSetIn _ _ _ _ _ = ⊥
 
--- the ledger with that limit set
-abbrev pub limited_in : Ledger → ℕ → ℕ → ℕ → Ledger
+-- the flat state with that limit set
+abbrev pub limited_in : FlatState → ℕ → ℕ → ℕ → FlatState
 limited_in l bank other asked = record l { limits = limits_with l.limits bank other (max asked (use_in l.uses bank other)) }
 
--- the ledger with that limit set and fills made
-abbrev pub raised_in : Ledger → ℕ → ℕ → ℕ → List Fill → Ledger
+-- the flat state with that limit set and fills made
+abbrev pub raised_in : FlatState → ℕ → ℕ → ℕ → List Fill → FlatState
 raised_in l bank other asked fills = filled_in (limited_in l bank other asked) fills

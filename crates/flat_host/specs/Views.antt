@@ -16,18 +16,18 @@ use Rattle.fx_rules.specs.Sound.{IsSound}
 use Rattle.fx_rules.specs.NoCross.{NoCross}
 use Rattle.fx_rules.specs.View.{view, told, fill_seen}
 use Rattle.fx_rules.specs.Truthful.{IsTruthful}
-use Rattle.flat_host.specs.Ledger.{Ledger, StandsFor}
+use Rattle.flat_host.specs.FlatState.{FlatState, StandsFor}
 
 -- Each sound state that looks to the bank as one does that the host stands for: of the command the bank is told there what
 -- the host tells it.
-abbrev pub TellsByView : Ledger → ℕ → Command → Outcome → Type 0
+abbrev pub TellsByView : FlatState → ℕ → Command → Outcome → Type 0
 TellsByView l bank command outcome =
     (h : Header) (S T : State) (other : Outcome) → IsSession h → IsSound h S → IsSound h T → StandsFor h S l →
     view h S bank ≡ view h T bank → IsOutcome h T bank command other → told outcome ≡ told other
 
 -- The same of the fills of a credit change, where the two states look alike once its limit is set: but for the numbers of
 -- the other bank's orders they are the same.
-abbrev pub FillsByView : Ledger → ℕ → Command → Outcome → Type 0
+abbrev pub FillsByView : FlatState → ℕ → Command → Outcome → Type 0
 FillsByView l bank (Line other asked) (LineSet limit fills) =
     (h : Header) (S T : State) (others : List Fill) → IsSession h → IsSound h S → IsSound h T → NoCross h S → NoCross h T →
     StandsFor h S l → view h (limited bank other limit S) bank ≡ view h (limited bank other limit T) bank →
@@ -35,14 +35,14 @@ FillsByView l bank (Line other asked) (LineSet limit fills) =
 FillsByView _ _ _ _ = Unit {0}
 
 -- And of a local book: it is the one that the bank has there.
-abbrev pub ShowsByView : Ledger → ℕ → ℕ → Outcome → Type 0
+abbrev pub ShowsByView : FlatState → ℕ → ℕ → Outcome → Type 0
 ShowsByView l bank pair (Depth bids asks) =
     (h : Header) (S T : State) (others offers : List Level) → IsSession h → IsSound h S → IsSound h T → StandsFor h S l →
     view h S bank ≡ view h T bank → IsDepth h T bank pair others offers → (bids ≡ others) × (asks ≡ offers)
 ShowsByView _ _ _ _ = Unit {0}
 
 -- Both sides of a local book are truthful in each sound state that the host stands for.
-abbrev pub ShowsTruly : Ledger → ℕ → ℕ → Outcome → Type 0
+abbrev pub ShowsTruly : FlatState → ℕ → ℕ → Outcome → Type 0
 ShowsTruly l bank pair (Depth bids asks) =
     (h : Header) (S : State) → IsSession h → IsSound h S → StandsFor h S l →
     IsTruthful h S bank pair Sell bids × IsTruthful h S bank pair Buy asks

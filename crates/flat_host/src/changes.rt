@@ -1,11 +1,11 @@
 ghost use Rattle.std.specs.Prelude.{◌≡◌, ◌^◌, ◌-◌, ◌&&◌, ◌==◌, min, find, length, filter, vec_len};
 ghost use Rattle.fx_rules.specs.State.{orders_in};
 ghost use Rattle.fx_rules.specs.Sweep.{is_order};
-ghost use Rattle.fx_rules.specs.Step.{cancel_answer, reduce_answer, without_order, reduced, without_orders, fills_of};
+ghost use Rattle.fx_rules.specs.Step.{cancel_answer, reduce_answer, without_order, reduced, without_orders};
 ghost use Rattle.flat_host.specs.Parts.{rests_of, is_done};
 
 use fx_amounts::{BankId, Lots, PairId};
-use fx_rules::{ActiveOrder, Fill, Outcome, Resting};
+use fx_rules::{ActiveOrder, Outcome, Resting};
 
 /// Whether an order is the one of this bank and number.
 fn is_order(order: &Resting, bank: BankId, number: u32) -> bool
@@ -79,7 +79,7 @@ pub fn take_out(orders: &mut Vec<ActiveOrder>, bank: BankId, number: u32)
 }
 
 /// Leaves the order of this bank and number so many lots; it keeps its place.
-pub fn reduce(orders: &mut [ActiveOrder], bank: BankId, number: u32, left: Lots)
+pub fn leave_lots(orders: &mut [ActiveOrder], bank: BankId, number: u32, left: Lots)
     ensures orders { orders.new ≡ reduced bank number left orders.old }
 {
     for active in orders.iter_mut() {
@@ -92,21 +92,10 @@ pub fn reduce(orders: &mut [ActiveOrder], bank: BankId, number: u32, left: Lots)
 }
 
 /// Takes all orders of a bank in the pair out.
-pub fn pull(orders: &mut Vec<ActiveOrder>, pair: PairId, bank: BankId)
+pub fn take_out_all(orders: &mut Vec<ActiveOrder>, pair: PairId, bank: BankId)
     ensures orders { orders.new.items ≡ without_orders pair bank orders.old.items }
 {
     orders.retain(|active| !is_of(active, pair, bank));
-}
-
-/// The fills that an outcome tells.
-pub fn fills_of(outcome: &Outcome) -> &[Fill]
-    ensures fills { result.now ≡ fills_of outcome.now }
-{
-    match outcome {
-        Outcome::Ordered { fills, .. } => fills.as_slice(),
-        Outcome::LineSet { fills, .. } => fills.as_slice(),
-        _ => &[],
-    }
 }
 
 /// The lots of an order that rest by its outcome.

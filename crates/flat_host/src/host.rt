@@ -5,40 +5,43 @@ ghost use Rattle.fx_rules.specs.State.{opening, orders_in};
 ghost use Rattle.fx_rules.specs.Depth.{levels_of};
 ghost use Rattle.fx_rules.specs.Step.{without_orders};
 ghost use Rattle.fx_rules.specs.History.{IsLegal, state};
-ghost use Rattle.flat_host.specs.Ledger.{Ledger, IsLedger, IsWithin, StandsFor, limit_in, use_in, line_in};
-ghost use Rattle.flat_host.specs.Parts.{taker_in, taker_from, PlannedIn, OrderedIn, order_carried, filled_in, counted_in, cancelled_in, reduced_in, shown_in};
+ghost use Rattle.fx_rules.specs.Market.{GoesOn};
+ghost use Rattle.flat_host.specs.FlatState.{FlatState, IsFlatState, IsWithin, StandsFor, limit_in, use_in, line_in};
+ghost use Rattle.flat_host.specs.Parts.{taker_from, PlannedIn, OrderedIn, order_carried, filled_in, counted_in, cancelled_in, reduced_in, shown_in};
 ghost use Rattle.flat_host.specs.Turns.{LineSetIn, limited_in, raised_in};
 ghost use Rattle.flat_host.specs.Levels.{ProbedIn};
 ghost use Rattle.flat_host.specs.Opening.{OpensWith, limit_at};
-ghost use Rattle.flat_host.specs.Steps.{IsCommandOf, AnswersEach, ChangesEach, FollowsEach, StepsEach, GoesOn, ShowsEach, IsNextOf, FollowsOn};
+ghost use Rattle.flat_host.specs.Steps.{IsCommandOf, AnswersEach, ChangesEach, FollowsEach, StepsEach, KeepsLines, StaysUncrossed, ShowsEach, IsNextOf, FollowsOn, stands};
 ghost use Rattle.flat_host.specs.Views.{TellsByView, FillsByView, ShowsByView, ShowsTruly};
 
 use crate::changes::{
-    cancel_answer, count_of, fills_of, is_done, order_of, pull, reduce, reduce_answer, rests_of,
-    take_out,
+    cancel_answer, count_of, is_done, leave_lots, order_of, reduce_answer, rests_of, take_out,
+    take_out_all,
 };
-use crate::depth::{any_price, levels_of, lots_against};
-use crate::ledger::{carry, limit_place, line, lines_of, use_place};
-use crate::raise::{Terms, raise};
-use crate::sweep::{Incoming, Sweep, plan};
+use crate::credit::{limit_place, line, lines_of, make_fills, use_place};
+use crate::depth::lots_against;
+use crate::raise::{Terms, raised_fills};
+use crate::sweep::{Sweep, plan_sweep};
 use fx_amounts::{BankId, Lots, Memory, PairId, Price, Side, Units};
 use fx_rules::{
     ActiveOrder, Command, Entry, Fill, LevelList, Life, Outcome, PairRule, Plan, Session,
+    SweptOrder, any_price, levels_of,
 };
 use std::alloc::Global;
 use std::marker::Model;
 
-/// The market on one thread, over one flat list of resting orders. Contracts see it as its ledger: it stands for each
+/// The market on one thread, over one flat list of resting orders. Contracts see it as its flat state: it stands for each
 /// state of the market that has these orders, limits, uses and counts.
 #[derive(Drop)]
 pub struct FlatHost {
+    banks: usize,
     /// In arrival order.
     orders: Vec<ActiveOrder>,
     /// By two banks, in rows of 64.
     limits: Vec<Units>,
     /// By two banks, the lesser number first, in rows of 64.
     uses: Vec<Units>,
-    /// The commands that each bank has sent.
+    /// The commands of each sender.
     counts: Vec<u32>,
     /// All of them: the arrival of the next.
     arrivals: u64,
@@ -47,13 +50,13 @@ pub struct FlatHost {
 }
 
 impl Model for FlatHost {
-    ghost use Rattle.flat_host.specs.Ledger.{Ledger};
+    ghost use Rattle.flat_host.specs.FlatState.{FlatState};
 
-    ghost Value = { Ledger };
+    ghost Value = { FlatState };
 
-    ghost use Rattle.flat_host.specs.Host.{ledger_of, IsHost};
+    ghost use Rattle.flat_host.specs.Host.{flat_state_of, IsHost};
 
-    ghost view = { ledger_of };
+    ghost view = { flat_state_of };
 
     ghost invariant = { IsHost };
 }
@@ -110,11 +113,13 @@ impl FlatHost {
     /// The host as a session's day opens: no orders rest, nothing is used, and the limits are the opening ones.
     pub fn open(alloc: Global, session: &Session) -> Result<FlatHost, Memory>
         ensures opens { IfOk result (StandsFor session.now (opening session.now)) }
+        ensures banks { IfOk result (λ host. host.banks ≡ bank_count session.now) }
         ensures counts { IfOk result (λ host. host.counts ≡ replicate (bank_count session.now) 0) }
         ensures weights { IfOk result (λ host. host.weights ≡ map (λ rule. rule.weight) session.now.pairs) }
     {
         let banks = session.banks().len();
         Ok(FlatHost {
+            banks,
             orders: Vec::new(alloc),
             limits: opening_limits(alloc, session)?,
             uses: no_uses(alloc)?,
@@ -128,17 +133,22 @@ impl FlatHost {
     ///
     /// The answer is the market's, in each state that the host stands for. After `Memory` the host is as it was.
     pub fn apply(&mut self, bank: BankId, command: &Command) -> Result<Outcome, Memory>
-        requires sender { bank < length self.old.counts }
+        requires sender { bank < self.old.banks }
         requires count { slice_index self.old.counts bank < 2 ^ 32 - 1 }
         requires command { IsCommandOf self.old bank command.now }
         ensures steps { IfOk result (StepsEach self.old self.new bank command.now) }
-        ensures goes_on { IfOk result (GoesOn self.old self.new bank command.now) }
+        ensures goes_on { IfOk result (GoesOn (stands self.old) (stands self.new) bank command.now) }
+
+        // In no state of a legal history is a line exceeded, nor does an order rest crossed with one that it can reach.
+        ensures lines { IfOk result (KeepsLines self.old bank command.now) }
+        ensures uncrossed { IfOk result (StaysUncrossed self.old bank command.now) }
 
         // What the bank is told rests on what it sees alone.
         ensures tells { IfOk result (TellsByView self.old bank command.now) }
         ensures fills { IfOk result (FillsByView self.old bank command.now) }
 
         ensures counts { OnOk result (self.new.counts ≡ slice_set self.old.counts bank (slice_index self.old.counts bank + 1)) }
+        ensures banks { OnOk result (self.new.banks ≡ self.old.banks) }
         ensures weights { OnOk result (self.new.weights ≡ self.old.weights) }
         ensures memory { OnErr result (self.new ≡ self.old) }
     {
@@ -149,7 +159,7 @@ impl FlatHost {
 
     /// What `apply` would answer to a bank's next command; nothing changes.
     pub fn answer(&self, bank: BankId, command: &Command) -> Result<Outcome, Memory>
-        requires sender { bank < length self.now.counts }
+        requires sender { bank < self.now.banks }
         requires count { slice_index self.now.counts bank < 2 ^ 32 - 1 }
         requires command { IsCommandOf self.now bank command.now }
         ensures answers { IfOk result (AnswersEach self.now bank command.now) }
@@ -162,7 +172,7 @@ impl FlatHost {
 
     /// The market's answer to a bank's next command.
     fn find_answer(&self, bank: BankId, command: &Command) -> Result<Outcome, Memory>
-        requires sender { bank < length self.now.counts }
+        requires sender { bank < self.now.banks }
         requires count { slice_index self.now.counts bank < 2 ^ 32 - 1 }
         requires command { IsCommandOf self.now bank command.now }
         ensures answers { IfOk result (AnswersEach self.now bank command.now) }
@@ -198,7 +208,7 @@ impl FlatHost {
     /// The bank's local book of the pair: what it could take now, by price. It is truthful, and rests on what the bank sees
     /// alone.
     pub fn depth(&self, bank: BankId, pair: PairId) -> Result<Outcome, Memory>
-        requires bank { bank < length self.now.counts }
+        requires bank { bank < self.now.banks }
         requires pair { pair < length self.now.weights }
         ensures shows { IfOk result (ShowsEach self.now bank pair) }
         ensures view { IfOk result (ShowsByView self.now bank pair) }
@@ -214,7 +224,7 @@ impl FlatHost {
         requires pair { pair < length self.now.weights }
         ensures levels { IfOk result (ProbedIn self.now bank pair side) }
     {
-        let unlimited = Incoming {
+        let unlimited = SweptOrder {
             bank,
             number: 0,
             pair,
@@ -228,12 +238,19 @@ impl FlatHost {
     }
 
     /// An order command as it comes in.
-    fn incoming(&self, bank: BankId, side: Side, pair: PairId, price: Price, lots: Lots) -> Incoming
-        requires sender { bank < length self.now.counts }
+    fn incoming(
+        &self,
+        bank: BankId,
+        side: Side,
+        pair: PairId,
+        price: Price,
+        lots: Lots,
+    ) -> SweptOrder
+        requires sender { bank < self.now.banks }
         requires count { slice_index self.now.counts bank < 2 ^ 32 - 1 }
-        ensures taker { taker_in result ≡ taker_from self.now bank side pair price lots }
+        ensures taker { result ≡ taker_from self.now bank side pair price lots }
     {
-        Incoming {
+        SweptOrder {
             bank,
             number: self.counts[bank.index()] + 1,
             pair,
@@ -245,10 +262,10 @@ impl FlatHost {
     }
 
     /// What an order answers by its life.
-    fn ordered(&self, incoming: &Incoming, life: Life) -> Result<Outcome, Memory>
+    fn ordered(&self, incoming: &SweptOrder, life: Life) -> Result<Outcome, Memory>
         requires pair { incoming.now.pair < length self.now.weights }
         requires left { incoming.now.left ≤ 10 ^ 6 }
-        ensures ordered { IfOk result (OrderedIn self.now (taker_in incoming.now) life) }
+        ensures ordered { IfOk result (OrderedIn self.now incoming.now life) }
     {
         let plan = self.plan(incoming)?;
         let rests = match life {
@@ -265,10 +282,10 @@ impl FlatHost {
     }
 
     /// The sweep of an order that wants at most what an order can.
-    fn plan(&self, incoming: &Incoming) -> Result<Plan, Memory>
+    fn plan(&self, incoming: &SweptOrder) -> Result<Plan, Memory>
         requires pair { incoming.now.pair < length self.now.weights }
         requires left { incoming.now.left ≤ 10 ^ 6 }
-        ensures planned { IfOk result (λ plan. PlannedIn self.now (taker_in incoming.now) plan.fills plan.left) }
+        ensures planned { IfOk result (λ plan. PlannedIn self.now incoming.now plan.fills plan.left) }
         ensures left { IfOk result (λ plan. plan.left ≤ incoming.now.left) }
     {
         let sweep = self.sweep(incoming)?;
@@ -279,15 +296,15 @@ impl FlatHost {
     }
 
     /// The sweep of an order as the book stands; nothing changes.
-    fn sweep(&self, incoming: &Incoming) -> Result<Sweep, Memory>
+    fn sweep(&self, incoming: &SweptOrder) -> Result<Sweep, Memory>
         requires pair { incoming.now.pair < length self.now.weights }
-        ensures planned { IfOk result (λ sweep. PlannedIn self.now (taker_in incoming.now) sweep.fills sweep.left) }
+        ensures planned { IfOk result (λ sweep. PlannedIn self.now incoming.now sweep.fills sweep.left) }
         ensures lots { IfOk result (λ sweep. total (λ fill. fill.lots) sweep.fills ≤ 64 * 10 ^ 15) }
         ensures left { IfOk result (λ sweep. sweep.left ≤ incoming.now.left) }
     {
         let weight = self.weights[incoming.pair.index()];
         let lines = lines_of(&self.limits, &self.uses, incoming.bank);
-        plan(
+        plan_sweep(
             *self.orders.allocator(),
             &self.orders,
             incoming,
@@ -317,7 +334,7 @@ impl FlatHost {
             limits: &limits,
             weights: &self.weights,
         };
-        let fills = raise(alloc, &self.orders, terms, &self.uses)?;
+        let fills = raised_fills(alloc, &self.orders, terms, &self.uses)?;
         Ok(Outcome::LineSet { limit, fills })
     }
 
@@ -340,18 +357,21 @@ impl FlatHost {
         requires next { IsNextOf self.old entry.now }
         ensures follows { OnOk result (FollowsOn self.old self.new entry.now) }
         ensures counts { OnOk result (self.new.counts ≡ slice_set self.old.counts entry.now.bank entry.now.number) }
+        ensures banks { OnOk result (self.new.banks ≡ self.old.banks) }
         ensures weights { OnOk result (self.new.weights ≡ self.old.weights) }
         ensures memory { OnErr result (self.new ≡ self.old) }
     {
         self.carry_out(entry.bank, &entry.command, &entry.outcome)
     }
 
-    /// How many commands a bank of the session has sent.
+    /// How many commands a sender of the session has sent; 0 for any other bank.
     pub fn count(&self, bank: BankId) -> u32
-        requires sender { bank < length self.now.counts }
         ensures value { result ≡ slice_index self.now.counts bank }
     {
-        self.counts[bank.index()]
+        match self.counts.get(bank.index()) {
+            Some(count) => *count,
+            None => 0,
+        }
     }
 
     /// How many orders rest.
@@ -368,11 +388,12 @@ impl FlatHost {
         command: &Command,
         outcome: &Outcome,
     ) -> Result<(), Memory>
-        requires sender { bank < length self.old.counts }
+        requires sender { bank < self.old.banks }
         requires count { slice_index self.old.counts bank < 2 ^ 32 - 1 }
         requires command { IsCommandOf self.old bank command.now }
         ensures follows { OnOk result (FollowsEach self.old self.new bank command.now outcome.now) }
         ensures counts { OnOk result (self.new.counts ≡ slice_set self.old.counts bank (slice_index self.old.counts bank + 1)) }
+        ensures banks { OnOk result (self.new.banks ≡ self.old.banks) }
         ensures weights { OnOk result (self.new.weights ≡ self.old.weights) }
         ensures memory { OnErr result (self.new ≡ self.old) }
     {
@@ -383,11 +404,12 @@ impl FlatHost {
 
     /// Makes what came of a command, which is not counted yet.
     fn change(&mut self, bank: BankId, command: &Command, outcome: &Outcome) -> Result<(), Memory>
-        requires sender { bank < length self.old.counts }
+        requires sender { bank < self.old.banks }
         requires count { slice_index self.old.counts bank < 2 ^ 32 - 1 }
         requires command { IsCommandOf self.old bank command.now }
         ensures changes { OnOk result (ChangesEach self.old self.new bank command.now outcome.now) }
         ensures counts { self.new.counts ≡ self.old.counts }
+        ensures banks { self.new.banks ≡ self.old.banks }
         ensures weights { self.new.weights ≡ self.old.weights }
         ensures memory { OnErr result (self.new ≡ self.old) }
     {
@@ -400,7 +422,7 @@ impl FlatHost {
                 ..
             } => {
                 let incoming = self.incoming(bank, side, pair, price, lots);
-                return self.carry(&incoming, fills_of(outcome), rests_of(outcome));
+                return self.carry(&incoming, outcome.fills(), rests_of(outcome));
             }
             Command::Cancel { number, .. } => self.cancel(bank, number, is_done(outcome)),
             Command::Reduce { number, lots, .. } => {
@@ -408,7 +430,7 @@ impl FlatHost {
             }
             Command::Pull { pair } => self.pull(bank, pair),
             Command::Line { bank: other, limit } => {
-                self.raise(bank, other, limit, fills_of(outcome))
+                self.raise(bank, other, limit, outcome.fills())
             }
             Command::Show { .. } | Command::Book { .. } | Command::Bad { .. } => {}
         }
@@ -416,15 +438,16 @@ impl FlatHost {
     }
 
     /// Makes the fills of a sweep, and lets `rests` lots of its taker rest.
-    fn carry(&mut self, incoming: &Incoming, fills: &[Fill], rests: u32) -> Result<(), Memory>
-        ensures ledger { IsLedger self.old }
-        ensures carried { rests ≤ 10 ^ 6 → OnOk result (self.new ≡ order_carried self.old (taker_in incoming.now) rests fills.now) }
+    fn carry(&mut self, incoming: &SweptOrder, fills: &[Fill], rests: u32) -> Result<(), Memory>
+        ensures kept { IsFlatState self.old }
+        ensures carried { rests ≤ 10 ^ 6 → OnOk result (self.new ≡ order_carried self.old incoming.now rests fills.now) }
         ensures counts { self.new.counts ≡ self.old.counts }
+        ensures banks { self.new.banks ≡ self.old.banks }
         ensures weights { self.new.weights ≡ self.old.weights }
         ensures memory { OnErr result (self.new ≡ self.old) }
     {
         self.orders.reserve(1)?;
-        carry(
+        make_fills(
             &mut self.orders,
             &self.limits,
             &mut self.uses,
@@ -432,7 +455,7 @@ impl FlatHost {
             fills,
         );
         if let Some(left) = Lots::new(rests) {
-            self.orders.push_reserved(incoming.resting(left));
+            self.orders.push_reserved(incoming.at_rest(left));
         }
         Ok(())
     }
@@ -451,7 +474,7 @@ impl FlatHost {
         ensures reduced { self.new ≡ reduced_in self.old bank number left is_done }
     {
         if is_done {
-            reduce(&mut self.orders, bank, number, left);
+            leave_lots(&mut self.orders, bank, number, left);
         }
     }
 
@@ -459,12 +482,12 @@ impl FlatHost {
     fn pull(&mut self, bank: BankId, pair: PairId)
         ensures pulled { self.new ≡ record self.old { orders = without_orders pair bank self.old.orders } }
     {
-        pull(&mut self.orders, pair, bank);
+        take_out_all(&mut self.orders, pair, bank);
     }
 
     /// Sets the limit that a bank asks for on another, and makes the fills of that credit change.
     fn raise(&mut self, bank: BankId, other: BankId, asked: Units, fills: &[Fill])
-        ensures ledger { IsLedger self.old }
+        ensures kept { IsFlatState self.old }
         ensures raised { self.new ≡ raised_in self.old bank other asked fills.now }
     {
         self.set_limit(bank, other, asked);
@@ -473,7 +496,7 @@ impl FlatHost {
 
     /// Sets the limit that a bank asks for on another.
     fn set_limit(&mut self, bank: BankId, other: BankId, asked: Units)
-        ensures ledger { IsLedger self.old }
+        ensures kept { IsFlatState self.old }
         ensures limited { self.new ≡ limited_in self.old bank other asked }
     {
         self.limits[limit_place(bank, other)] = self.limit_for(bank, other, asked);
@@ -483,7 +506,7 @@ impl FlatHost {
     fn fill(&mut self, fills: &[Fill])
         ensures filled { self.new ≡ filled_in self.old fills.now }
     {
-        carry(
+        make_fills(
             &mut self.orders,
             &self.limits,
             &mut self.uses,
@@ -494,7 +517,7 @@ impl FlatHost {
 
     /// Counts a command of a bank.
     fn count_command(&mut self, bank: BankId)
-        requires sender { bank < length self.old.counts }
+        requires sender { bank < self.old.banks }
         requires count { slice_index self.old.counts bank < 2 ^ 32 - 1 }
         ensures counts { self.new ≡ counted_in self.old bank }
     {

@@ -4,16 +4,14 @@
 //! orders, limits, uses and counts, and its contracts speak of each of these.
 #![tactic(auto)]
 
+mod as_market;
 mod changes;
+mod credit;
 mod depth;
 mod host;
-mod ledger;
 mod raise;
 mod recorded;
 mod sweep;
 
 pub use host::FlatHost;
 pub use recorded::replay;
-
-#[cfg(test)]
-mod tests;

@@ -1,15 +1,15 @@
 ghost use Rattle.std.specs.Prelude.{◌≡◌, ◌≤◌, ◌<◌, ◌^◌, [], length, slice_index, IfOk, OnOk, MatchOption, find};
 ghost use Rattle.fx_rules.specs.State.{orders_in};
 ghost use Rattle.fx_rules.specs.Sweep.{is_order};
-ghost use Rattle.flat_host.specs.Ledger.{AreWeights};
+ghost use Rattle.flat_host.specs.FlatState.{AreWeights};
 ghost use Rattle.flat_host.specs.Parts.{both_lowered, uses_after};
 ghost use Rattle.flat_host.specs.Turns.{in_pair, TurnedIn, RaisedIn, TurnOf};
 
 use crate::changes::order_of;
-use crate::ledger::{carry, lines_of, weight_of};
-use crate::sweep::{Incoming, plan};
+use crate::credit::{lines_of, make_fills, weight_of};
+use crate::sweep::plan_sweep;
 use fx_amounts::{Memory, PairId, Units};
-use fx_rules::{ActiveOrder, Fill, FillList, Resting};
+use fx_rules::{ActiveOrder, Fill, FillList, Resting, SweptOrder};
 use std::alloc::Global;
 
 /// The tables that the sweeps of a credit change go by: the limits with the new one, in credit units, and each pair's
@@ -23,7 +23,7 @@ pub struct Terms<'a> {
 /// The fills that a credit change makes, over the orders and the uses as they stand before it: pair by pair in order, each
 /// order that rests when its turn comes is swept against those that came before it. In each pair it looks at most twice,
 /// and once more for each fill, at each order for each order.
-pub fn raise(
+pub fn raised_fills(
     alloc: Global,
     orders: &[ActiveOrder],
     terms: Terms,
@@ -107,11 +107,11 @@ fn turn(
     let Some(now) = order_of(book, pair, order.bank, order.number) else {
         return Ok(FillList::from_vec(Vec::new(alloc)));
     };
-    let taker = Incoming::of_resting(pair, &now);
+    let taker = SweptOrder::of_resting(pair, &now);
     let lines = lines_of(terms.limits, uses, now.bank);
     let weight = weight_of(terms.weights, pair);
-    let sweep = plan(alloc, book, &taker, lines, weight)?;
-    carry(
+    let sweep = plan_sweep(alloc, book, &taker, lines, weight)?;
+    make_fills(
         book,
         terms.limits,
         uses,

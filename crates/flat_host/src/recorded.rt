@@ -1,6 +1,6 @@
 ghost use Rattle.std.specs.Prelude.{◌≡◌, IfOk};
 ghost use Rattle.fx_rules.specs.History.{IsLegal, state};
-ghost use Rattle.flat_host.specs.Ledger.{StandsFor};
+ghost use Rattle.flat_host.specs.FlatState.{StandsFor};
 
 use crate::host::FlatHost;
 use fx_amounts::Memory;

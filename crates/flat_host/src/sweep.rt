@@ -1,30 +1,13 @@
 ghost use Rattle.std.specs.Prelude.{◌≡◌, ◌<◌, ◌≤◌, ◌/◌, ◌^◌, Some, None, length, slice_index, min, MatchOption, IfOk};
 ghost use Rattle.fx_rules.specs.Lists.{total};
 ghost use Rattle.fx_rules.specs.State.{orders_in};
-ghost use Rattle.fx_rules.specs.Sweep.{fill_with, is_open, is_preferred};
+ghost use Rattle.fx_rules.specs.Sweep.{is_open, is_preferred};
 ghost use Rattle.fx_rules.specs.Plan.{Planned, is_behind};
-ghost use Rattle.fx_rules.specs.Raise.{taker_of_resting};
-ghost use Rattle.flat_host.specs.Parts.{taker_in, resting_from};
 ghost use Rattle.flat_host.specs.Search.{is_candidate, candidates, preferred_of, IsBestOf};
 
-use fx_amounts::{BankId, Lots, Memory, PairId, Price, Side};
-use fx_rules::{ActiveOrder, Fill, FillList, Resting};
+use fx_amounts::{Memory, Side};
+use fx_rules::{ActiveOrder, FillList, Resting, SweptOrder};
 use std::alloc::Global;
-
-/// An order as it is swept: one that comes in, or one that rests when its turn comes.
-#[derive(Clone, Copy)]
-pub struct Incoming {
-    pub bank: BankId,
-    /// The number of its command.
-    pub number: u32,
-    pub pair: PairId,
-    pub side: Side,
-    /// In ticks.
-    pub price: Price,
-    /// The lots that it still wants; of an order that takes all there is they may be more than an order can have.
-    pub left: u128,
-    pub arrival: u64,
-}
 
 /// A sweep that was found and is not yet carried out.
 #[derive(Drop)]
@@ -33,40 +16,6 @@ pub struct Sweep {
     pub fills: FillList,
     /// The lots that the taker has left.
     pub left: u128,
-}
-
-impl Incoming {
-    /// A resting order of a pair as it is swept: as it stands, with its own arrival.
-    pub fn of_resting(pair: PairId, order: &Resting) -> Incoming
-        ensures taker { taker_in result ≡ taker_of_resting pair order.now }
-    {
-        Incoming {
-            bank: order.bank,
-            number: order.number,
-            pair,
-            side: order.side,
-            price: order.price,
-            left: u128::from(order.left.count()),
-            arrival: order.arrival,
-        }
-    }
-
-    /// The order as it comes to rest, with so many lots left.
-    pub fn resting(&self, left: Lots) -> ActiveOrder
-        ensures value { result ≡ resting_from (taker_in self.now) left }
-    {
-        ActiveOrder {
-            pair: self.pair,
-            order: Resting {
-                bank: self.bank,
-                number: self.number,
-                side: self.side,
-                price: self.price,
-                left,
-                arrival: self.arrival,
-            },
-        }
-    }
 }
 
 /// Whether a taker of `side` prefers the first order: its price is better, or the same and it arrived earlier.
@@ -81,8 +30,8 @@ fn is_preferred(side: Side, order: &Resting, other: &Resting) -> bool
 }
 
 /// Whether a resting order of the taker's pair is open to it, where `reach` lots are in reach of the order's owner.
-fn is_open(taker: &Incoming, reach: u64, order: &Resting) -> bool
-    ensures value { result ≡ is_open (taker_in taker.now) reach order.now }
+fn is_open(taker: &SweptOrder, reach: u64, order: &Resting) -> bool
+    ensures value { result ≡ is_open taker.now reach order.now }
 {
     order.side == taker.side.opposite()
         && order.bank != taker.bank
@@ -104,14 +53,14 @@ fn is_behind(side: Side, last: &Option<Resting>, order: &Resting) -> bool
 /// Whether an order of the book is open to the taker, by the lines in credit units that it has left with each bank, and
 /// comes behind the last one taken.
 fn is_candidate(
-    taker: &Incoming,
+    taker: &SweptOrder,
     lines: &[u64; 64],
     weight: u32,
     last: &Option<Resting>,
     active: &ActiveOrder,
 ) -> bool
     requires { 1 ≤ weight }
-    ensures value { result ≡ is_candidate weight lines.now (taker_in taker.now) last.now active.now }
+    ensures value { result ≡ is_candidate weight lines.now taker.now last.now active.now }
 {
     let order = &active.order;
     let reach = lines[order.bank.index()] / u64::from(weight);
@@ -122,13 +71,13 @@ fn is_candidate(
 /// there is none. It looks at each order once.
 fn best_behind(
     orders: &[ActiveOrder],
-    taker: &Incoming,
+    taker: &SweptOrder,
     lines: &[u64; 64],
     weight: u32,
     last: &Option<Resting>,
 ) -> Option<Resting>
     requires { 1 ≤ weight }
-    ensures best { IsBestOf (taker_in taker.now).side (candidates weight lines.now (taker_in taker.now) last.now orders.now) result }
+    ensures best { IsBestOf taker.now.side (candidates weight lines.now taker.now last.now orders.now) result }
 {
     let mut best: Option<Resting> = None;
     for active in orders {
@@ -149,34 +98,18 @@ fn preferred(side: Side, best: Option<Resting>, next: Resting) -> Resting
     }
 }
 
-/// The fill of a taker with a resting order, at the resting order's price.
-fn fill_with(taker: &Incoming, maker: &Resting, lots: Lots) -> Fill
-    ensures value { result ≡ fill_with (taker_in taker.now) maker.now lots }
-{
-    Fill {
-        pair: taker.pair,
-        taker: taker.bank,
-        taker_number: taker.number,
-        taker_side: taker.side,
-        maker: maker.bank,
-        maker_number: maker.number,
-        price: maker.price,
-        lots,
-    }
-}
-
 /// The sweep of a taker over the orders as they rest, where `lines` are its lines with each bank, in credit units, and
 /// a lot costs `weight` of them. It finds the fills and changes nothing; only their list takes memory.
-pub fn plan(
+pub fn plan_sweep(
     alloc: Global,
     orders: &[ActiveOrder],
-    taker: &Incoming,
+    taker: &SweptOrder,
     mut lines: [u64; 64],
     weight: u32,
 ) -> Result<Sweep, Memory>
     requires weight { 1 ≤ weight }
     ensures planned { IfOk result (λ sweep.
-        Planned weight (slice_index lines) (orders_in taker.now.pair orders.now) (taker_in taker.now) None sweep.fills sweep.left) }
+        Planned weight (slice_index lines) (orders_in taker.now.pair orders.now) taker.now None sweep.fills sweep.left) }
     ensures lots { IfOk result (λ sweep. total (λ fill. fill.lots) sweep.fills ≤ total (λ line. line) lines) }
     ensures left { IfOk result (λ sweep. sweep.left ≤ taker.now.left) }
 {
@@ -188,8 +121,8 @@ pub fn plan(
             break;
         };
         let line = lines[maker.bank.index()];
-        let lots = amount(taker.left, &maker, line / u64::from(weight));
-        fills.push(fill_with(&taker, &maker, lots))?;
+        let lots = taker.amount(&maker, line / u64::from(weight));
+        fills.push(taker.fill_with(&maker, lots))?;
         lines[maker.bank.index()] = line - u64::from(lots.count()) * u64::from(weight);
         taker.left -= u128::from(lots.count());
         last = Some(maker);
@@ -198,15 +131,4 @@ pub fn plan(
         fills: FillList::from_vec(fills),
         left: taker.left,
     })
-}
-
-/// What a taker with so much left takes of an order of which `reach` lots are in reach.
-fn amount(left: u128, maker: &Resting, reach: u64) -> Lots
-    requires left { 1 ≤ left }
-    requires reach { 1 ≤ reach }
-    ensures value { result ≡ min left (min maker.now.left reach) }
-{
-    let within = reach.min(u64::from(maker.left.count()));
-    let lots = left.min(u128::from(within));
-    Lots::new(lots as u32).unwrap()
 }

@@ -8,7 +8,7 @@ use Rattle.fx_rules.specs.declared.outcome.Outcome.{Outcome}
 use Rattle.fx_rules.specs.declared.outcome.Entry.{Entry}
 use Rattle.fx_rules.specs.Session.{Header, bank_count, pair_count}
 use Rattle.fx_rules.specs.History.{IsLegal, state}
-use Rattle.flat_host.specs.Ledger.{Ledger, StandsFor}
+use Rattle.flat_host.specs.FlatState.{FlatState, StandsFor}
 use Rattle.flat_host.specs.Steps.{GoesOn}
 use Rattle.fx_rules.specs.declared.command.Sent.{Sent}
 use Rattle.fx_rules.specs.Lists.{Each}
@@ -17,7 +17,7 @@ use Rattle.fx_cli.specs.Headline.{sent_by, IsSerial}
 use Rattle.fx_cli.proofs.HeadlineLaws.{serial_of}
 
 -- a host has carried out these commands, and these entries came of it
-pub record HasRun (h : Header) (sent : List Sent) (entries : List Entry) (host : Ledger) : Type 0 where
+pub record HasRun (h : Header) (sent : List Sent) (entries : List Entry) (host : FlatState) : Type 0 where
   pub legal : IsLegal h entries
   pub stands : StandsFor h (state h entries) host
   pub in_order : map sent_by entries ≡ sent
@@ -25,7 +25,7 @@ pub record HasRun (h : Header) (sent : List Sent) (entries : List Entry) (host :
   pub pairs : length host.weights ≡ pair_count h
   pub few : (bank : ℕ) → get_or host.counts bank 0 ≤ length entries
 
-pub serial_run : (h : Header) (sent : List Sent) (entries : List Entry) (host : Ledger) → HasRun h sent entries host → IsSerial h sent entries
+pub serial_run : (h : Header) (sent : List Sent) (entries : List Entry) (host : FlatState) → HasRun h sent entries host → IsSerial h sent entries
 serial_run h sent entries host run = serial_of h sent entries run.legal run.in_order
 
 -- a count that is raised rises by one at most
@@ -42,7 +42,7 @@ sent_at h (x ∷ xs) zero s valid within at = subst (IsSentOf h) (sym at) valid.
 sent_at h (x ∷ xs) (suc n) s valid within at = sent_at h xs n s valid.1 (omega arith) at
 
 -- one command more
-pub HasRun-more : (h : Header) (all : List Sent) (n : ℕ) (entries more : List Entry) (old new : Ledger) (s : Sent) (outcome : Outcome) (number : ℕ) → HasRun h (take n all) entries old → length entries ≡ n → Each (IsSentOf h) all → n < length all → s ≡ get_or all n s
+pub HasRun-more : (h : Header) (all : List Sent) (n : ℕ) (entries more : List Entry) (old new : FlatState) (s : Sent) (outcome : Outcome) (number : ℕ) → HasRun h (take n all) entries old → length entries ≡ n → Each (IsSentOf h) all → n < length all → s ≡ get_or all n s
     → GoesOn old new s.bank s.command outcome → new.counts ≡ set old.counts s.bank (get_or old.counts s.bank 0 + 1) → new.weights ≡ old.weights → number ≡ get_or old.counts s.bank 0 + 1
     → more ≡ entries ++ (record { bank = s.bank; number = number; command = s.command; outcome = outcome }) ∷ [] → HasRun h (take (n + 1) all) more new
 HasRun-more h all n entries more old new s outcome number run size valid within at goes_on counts weights number_is more_is =

@@ -2,7 +2,7 @@
 use Rattle.std.specs.Prelude.{ℕ, ◌≡◌, ◌≤◌, length, slice_index}
 use Rattle.fx_rules.specs.Session.{Header, bank_count, pair_count}
 use Rattle.fx_rules.specs.History.{IsLegal, state}
-use Rattle.flat_host.specs.Ledger.{StandsFor}
+use Rattle.flat_host.specs.FlatState.{StandsFor}
 use Rattle.journal_check.specs.declared.run.Run.{Run}
 
 -- the entries are a legal history, and the host stands for the state behind it

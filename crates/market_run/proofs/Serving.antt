@@ -70,7 +70,7 @@ runs-on stands was now s count outcome count_is on entries_are h ran =
 
 -- Commands one after another.
 
-length-served : {M : Type 0} (was now : Ran M) (sent : List Sent) → Served was now sent → length now.entries ≡ length was.entries + length sent
+pub length-served : {M : Type 0} (was now : Ran M) (sent : List Sent) → Served was now sent → length now.entries ≡ length was.entries + length sent
 length-served was now sent served =
     sym (length-map now.entries sent_by) ∙ ap length served ∙ length-append (map sent_by was.entries) sent ∙ ap (λ n. n + length sent) (length-map was.entries sent_by)
 

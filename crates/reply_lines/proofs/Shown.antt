@@ -10,14 +10,14 @@ use Rattle.fx_rules.specs.Depth.{IsDepth}
 use Rattle.fx_rules.specs.Sound.{IsSound}
 use Rattle.fx_rules.proofs.Determined.{shows-same}
 use Rattle.fx_rules.proofs.SweepSound.{weight_of-least}
-use Rattle.flat_host.specs.Ledger.{Ledger, StandsFor}
+use Rattle.flat_host.specs.FlatState.{FlatState, StandsFor}
 use Rattle.flat_host.specs.Steps.{ShowsEach}
 use Rattle.reply_lines.specs.Books.{LocalBook, IsHostOf, AreBooksOf, book_line}
 use Rattle.reply_lines.specs.Notices.{book_fields}
 use Rattle.reply_lines.specs.Rows.{fields_text}
 
 -- what the host shows is what the books have
-pub shown : (h : Header) (host : Ledger) (books : ℕ → ℕ → LocalBook) (bank pair : ℕ) (bids asks : List Level) → AreBooksOf h host books → bank < bank_count h → pair < pair_count h → ShowsEach host bank pair (Depth bids asks) → (bids ≡ (books bank pair).bids) × (asks ≡ (books bank pair).asks)
+pub shown : (h : Header) (host : FlatState) (books : ℕ → ℕ → LocalBook) (bank pair : ℕ) (bids asks : List Level) → AreBooksOf h host books → bank < bank_count h → pair < pair_count h → ShowsEach host bank pair (Depth bids asks) → (bids ≡ (books bank pair).bids) × (asks ≡ (books bank pair).asks)
 shown h host books bank pair bids asks are bank_in pair_in shows =
     let own : IsDepth h are.state bank pair bids asks = shows h are.state are.session are.sound are.stands in
     let has : IsDepth h are.state bank pair (books bank pair).bids (books bank pair).asks = are.are_books bank pair bank_in pair_in in
@@ -27,14 +27,14 @@ shown h host books bank pair bids asks are bank_in pair_in shows =
     )
 
 -- a host that stands for a state of the session has its banks and pairs
-pub host-of : (h : Header) (S : State) (host : Ledger) → IsSound h S → StandsFor h S host → IsHostOf h host
+pub host-of : (h : Header) (S : State) (host : FlatState) → IsSound h S → StandsFor h S host → IsHostOf h host
 host-of h S host sound stands = record {
-  banks = ap length stands.counts ∙ sound.counts;
+  banks = stands.banks;
   pairs = ap length stands.weights ∙ length-map h.pairs (λ rule. rule.weight);
 }
 
 -- the line that is made of what the host shows
-pub line_of : (h : Header) (host : Ledger) (books : ℕ → ℕ → LocalBook) (bank pair : ℕ) (bids asks bid_items ask_items : List Level) (name begun pushed ended : List ℕ) → AreBooksOf h host books → bank < bank_count h → pair < pair_count h → ShowsEach host bank pair (Depth bids asks)
+pub line_of : (h : Header) (host : FlatState) (books : ℕ → ℕ → LocalBook) (bank pair : ℕ) (bids asks bid_items ask_items : List Level) (name begun pushed ended : List ℕ) → AreBooksOf h host books → bank < bank_count h → pair < pair_count h → ShowsEach host bank pair (Depth bids asks)
     → bid_items ≡ bids → ask_items ≡ asks → name ≡ bank_name h bank → begun ≡ name → pushed ≡ begun ++ fields_text (book_fields h pair bid_items ask_items) → ended ≡ pushed ++ 10 ∷ [] → ended ≡ book_line h books bank pair
 line_of h host books bank pair bids asks bid_items ask_items name begun pushed ended are bank_in pair_in shows bids_are asks_are named began put end =
     let both = shown h host books bank pair bids asks are bank_in pair_in shows in

@@ -5,7 +5,7 @@ use Rattle.fx_rules.specs.Depth.{IsDepth}
 use Rattle.fx_rules.specs.Session.{Header, IsSession, bank_count, pair_count, bank_name}
 use Rattle.fx_rules.specs.State.{State}
 use Rattle.fx_rules.specs.Sound.{IsSound}
-use Rattle.flat_host.specs.Ledger.{Ledger, StandsFor}
+use Rattle.flat_host.specs.FlatState.{FlatState, StandsFor}
 use Rattle.reply_lines.specs.Rows.{row}
 use Rattle.reply_lines.specs.Notices.{book_fields}
 
@@ -37,12 +37,12 @@ unfoldable pub books_text : Header → (ℕ → ℕ → LocalBook) → List ℕ
 books_text h books = codes "BOOKS\n" ++ books_below h books (bank_count h)
 
 -- a host has the session's banks and pairs
-pub record IsHostOf (h : Header) (host : Ledger) : Type 0 where
-  pub banks : length host.counts ≡ bank_count h
+pub record IsHostOf (h : Header) (host : FlatState) : Type 0 where
+  pub banks : host.banks ≡ bank_count h
   pub pairs : length host.weights ≡ pair_count h
 
 -- `books` has the local books of a state that the host stands for
-pub record AreBooksOf (h : Header) (host : Ledger) (books : ℕ → ℕ → LocalBook) : Type 0 where
+pub record AreBooksOf (h : Header) (host : FlatState) (books : ℕ → ℕ → LocalBook) : Type 0 where
   pub state : State
   pub session : IsSession h
   pub sound : IsSound h state

@@ -4,7 +4,7 @@ use Rattle.std.specs.Prelude.{◌≡◌, List}
 use Rattle.fx_rules.specs.Session.{Header, bank_count}
 use Rattle.fx_rules.specs.History.{state}
 use Rattle.day_report.specs.Report.{volumes_of, uses_of, nets_of}
-use Rattle.flat_host.specs.Ledger.{StandsFor}
+use Rattle.flat_host.specs.FlatState.{StandsFor}
 use Rattle.reply_lines.specs.Books.{IsHostOf}
 use Rattle.reply_lines.specs.Index.{IsIndex}
 use Rattle.reply_lines.specs.Report.{IsReportOf}

@@ -4,7 +4,7 @@ use Rattle.std.proofs.lemmas.List.{take_more}
 use Rattle.fx_rules.specs.declared.outcome.Entry.{Entry}
 use Rattle.fx_rules.specs.Session.{Header}
 use Rattle.fx_rules.specs.History.{IsLegal, state}
-use Rattle.flat_host.specs.Ledger.{StandsFor}
+use Rattle.flat_host.specs.FlatState.{StandsFor}
 use Rattle.flat_host.proofs.GoingOn.{legal_taken}
 use Rattle.flat_host.proofs.recorded.replay.Goals as goal
 

@@ -1,6 +1,6 @@
 use Rattle.std.proofs.Common.{take}
 use Rattle.fx_rules.specs.History.{state}
-use Rattle.flat_host.specs.Ledger.{StandsFor}
+use Rattle.flat_host.specs.FlatState.{StandsFor}
 use Rattle.flat_host.proofs.recorded.replay.Given as goal
 
 -- the host stands for the state after the entries that were passed

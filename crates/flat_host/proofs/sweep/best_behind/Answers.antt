@@ -1,6 +1,5 @@
 -- The best so far stays the best, or the next order takes its place.
 use Rattle.std.proofs.Common.{◌+◌, Some, sym, ap, ◌∙◌, subst, take}
-use Rattle.flat_host.specs.Parts.{taker_in}
 use Rattle.flat_host.specs.Search.{is_candidate, candidates, IsBestOf}
 use Rattle.flat_host.proofs.Searching.{best-yes, best-no}
 use Rattle.flat_host.proofs.sweep.best_behind.Goals as goal
@@ -8,7 +7,7 @@ use Rattle.flat_host.proofs.sweep.best_behind.Goals.{then-is_candidate, else-is_
 
 pub loop-active-preserved : goal.loop-active-preserved
 loop-active-preserved c =
-    let t = taker_in c.args.taker.now in
+    let t = c.args.taker.now in
     let test = is_candidate c.args.weight c.args.lines.now t c.args.last.now in
     elim c.if-is_candidate.branch [
       | then-is_candidate w ↦

@@ -1,9 +1,8 @@
 use Rattle.std.proofs.Common.{take}
-use Rattle.flat_host.specs.Parts.{taker_in}
 use Rattle.flat_host.specs.Search.{candidates, IsBestOf}
 use Rattle.flat_host.proofs.sweep.best_behind.Given as goal
 
 -- the best so far is the best of the orders that were passed
 abbrev pub invariant-loop-active : goal.invariant-loop-active
 invariant-loop-active l =
-    IsBestOf (taker_in l.taker).side (candidates l.weight l.lines (taker_in l.taker) l.last (take l.active-index l.orders)) l.best
+    IsBestOf l.taker.side (candidates l.weight l.lines l.taker l.last (take l.active-index l.orders)) l.best

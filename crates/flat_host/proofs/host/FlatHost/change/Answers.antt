@@ -4,8 +4,8 @@ use Rattle.fx_amounts.specs.declared.memory.Memory.{Memory}
 use Rattle.fx_rules.specs.declared.orders.Fill.{Fill}
 use Rattle.fx_rules.specs.declared.outcome.Outcome.{Outcome}
 use Rattle.fx_rules.specs.Step.{fills_of}
-use Rattle.flat_host.specs.Ledger.{Ledger}
-use Rattle.flat_host.specs.Parts.{taker_in, rests_of, order_carried}
+use Rattle.flat_host.specs.FlatState.{FlatState}
+use Rattle.flat_host.specs.Parts.{rests_of, order_carried}
 use Rattle.flat_host.specs.Turns.{raised_in}
 use Rattle.flat_host.specs.Steps.{ChangesEach}
 use Rattle.flat_host.proofs.Stepping.{order-changes, line-changes}
@@ -17,16 +17,16 @@ on_ok (Err e) P Q R step h = tt
 
 pub returns-in-Order-clause-changes : goal.returns-in-Order-clause-changes
 returns-in-Order-clause-changes c =
-    on_ok c.carry.result (c.rests_of.result ≤ 10 ^ 6) (c.carry.new.self ≡ order_carried c.args.self.now (taker_in c.incoming-incoming.result) c.rests_of.result c.fills_of.result.now)
+    on_ok c.carry.result (c.rests_of.result ≤ 10 ^ 6) (c.carry.new.self ≡ order_carried c.args.self.now c.incoming-incoming.result c.rests_of.result c.fills.result.now)
     (ChangesEach c.args.self.now c.carry.new.self c.args.bank c.args.command.now c.args.outcome.now)
     (λ made. order-changes c.args.self.now c.carry.new.self c.args.bank c.in-Order.side c.in-Order.pair c.in-Order.price c.in-Order.lots c.in-Order.life c.args.command.now
-    (taker_in c.incoming-incoming.result) c.args.outcome.now c.carry.ensures.ledger.uses_full c.in-Order.is c.incoming-incoming.ensures.taker c.requires.sender c.requires.command
+    c.incoming-incoming.result c.args.outcome.now c.carry.ensures.kept.uses_full c.in-Order.is c.incoming-incoming.ensures.taker c.requires.sender c.requires.command
     (λ most. made (subst (λ n. n ≤ 10 ^ 6) (sym c.rests_of.ensures.rests) most)
-    ∙ ap (λ n. order_carried c.args.self.now (taker_in c.incoming-incoming.result) n c.fills_of.result.now) c.rests_of.ensures.rests
-    ∙ ap (order_carried c.args.self.now (taker_in c.incoming-incoming.result) (rests_of c.args.outcome.now)) c.fills_of.ensures.fills))
+    ∙ ap (λ n. order_carried c.args.self.now c.incoming-incoming.result n c.fills.result.now) c.rests_of.ensures.rests
+    ∙ ap (order_carried c.args.self.now c.incoming-incoming.result (rests_of c.args.outcome.now)) c.fills.ensures.fills))
     c.carry.ensures.carried
 
 pub returns-in-Line-clause-changes : goal.returns-in-Line-clause-changes
 returns-in-Line-clause-changes c =
-    line-changes c.args.self.now c.raise.new.self c.args.bank c.in-Line.other c.in-Line.limit c.args.command.now c.args.outcome.now c.raise.ensures.ledger c.in-Line.is c.requires.sender c.requires.command
-    (c.raise.ensures.raised ∙ ap (raised_in c.args.self.now c.args.bank c.in-Line.other c.in-Line.limit) c.fills_of-in-Line.ensures.fills)
+    line-changes c.args.self.now c.raise.new.self c.args.bank c.in-Line.other c.in-Line.limit c.args.command.now c.args.outcome.now c.raise.ensures.kept c.in-Line.is c.requires.sender c.requires.command
+    (c.raise.ensures.raised ∙ ap (raised_in c.args.self.now c.args.bank c.in-Line.other c.in-Line.limit) c.fills-in-Line.ensures.fills)

@@ -1,28 +1,44 @@
 -- Each command's answer is the market's.
-use Rattle.std.proofs.Common.{ℕ, ◌≡◌, ◌-◌, ◌^◌, min, eqb, List, Result, Ok, Err, IfOk, sym, ap, subst, ◌∙◌, find, length}
+use Rattle.std.proofs.Common.{ℕ, ◌≡◌, ◌<◌, ◌≤◌, ◌-◌, ◌^◌, min, arith, eqb, List, Result, Ok, Err, IfOk, sym, ap, subst, ◌∙◌, find, length}
 use Rattle.std.specs.List.{filter}
 use Rattle.fx_amounts.specs.declared.memory.Memory.{Memory}
 use Rattle.fx_rules.specs.declared.orders.ActiveOrder.{ActiveOrder}
 use Rattle.fx_rules.specs.declared.outcome.Outcome.{Outcome}
 use Rattle.fx_rules.specs.State.{orders_in}
-use Rattle.fx_rules.specs.Sweep.{is_order}
+use Rattle.fx_rules.specs.Sweep.{Taker, is_order}
 use Rattle.fx_rules.specs.Step.{cancel_answer, reduce_answer}
-use Rattle.flat_host.specs.Ledger.{Ledger, IsLedger}
-use Rattle.flat_host.specs.Parts.{taker_in, OrderedIn}
+use Rattle.flat_host.specs.FlatState.{FlatState, IsFlatState}
+use Rattle.flat_host.specs.Parts.{OrderedIn}
 use Rattle.flat_host.specs.Turns.{LineSetIn}
 use Rattle.flat_host.specs.Steps.{AnswersEach, ShowsEach}
 use Rattle.flat_host.proofs.Stepping.{order-answers, cancel-answers, reduce-answers, pull-answers, line-answers, show-answers, book-answers, bad-answers}
+use Rattle.flat_host.proofs.Sendable.{order-pair, line-other, book-pair}
 use Rattle.flat_host.proofs.host.FlatHost.find_answer.Goals as goal
 
 if_ok : (r : Result Outcome Memory) (P Q : Outcome → Type 0) → ((outcome : Outcome) → P outcome → Q outcome) → IfOk r P → IfOk r Q
 if_ok (Ok outcome) P Q step h = step outcome h
 if_ok (Err e) P Q step h = tt
 
+pub ordered-requires-clause-pair : goal.ordered-requires-clause-pair
+ordered-requires-clause-pair c =
+    subst (λ n. n < length c.args.self.now.weights) (sym (ap (λ (t : Taker). t.pair) c.incoming-incoming.ensures.taker))
+    (order-pair c.args.self.now c.args.bank c.args.command.now c.in-Order.side c.in-Order.pair c.in-Order.price c.in-Order.lots c.in-Order.life c.requires.command c.in-Order.is)
+
+pub line_set-requires-clause-bank : goal.line_set-requires-clause-bank
+line_set-requires-clause-bank c = omega (arith, c.requires.sender, subst (λ (l : FlatState). l.banks ≤ 64) c.self.view_is c.self.invariant.state.banks)
+
+pub line_set-requires-clause-other : goal.line_set-requires-clause-other
+line_set-requires-clause-other c =
+    omega (arith, line-other c.args.self.now c.args.bank c.args.command.now c.in-Line.other c.in-Line.limit c.requires.command c.in-Line.is, subst (λ (l : FlatState). l.banks ≤ 64) c.self.view_is c.self.invariant.state.banks)
+
+pub depth-requires-clause-pair : goal.depth-requires-clause-pair
+depth-requires-clause-pair c = book-pair c.args.self.now c.args.bank c.args.command.now c.in-Book.pair c.requires.command c.in-Book.is
+
 pub returns-in-Order : goal.returns-in-Order
 returns-in-Order c = record {
-  answers = if_ok c.ordered.result (OrderedIn c.args.self.now (taker_in c.incoming-incoming.result) c.in-Order.life) (AnswersEach c.args.self.now c.args.bank c.args.command.now)
+  answers = if_ok c.ordered.result (OrderedIn c.args.self.now c.incoming-incoming.result c.in-Order.life) (AnswersEach c.args.self.now c.args.bank c.args.command.now)
       (λ outcome is. order-answers c.args.self.now c.args.bank c.in-Order.side c.in-Order.pair c.in-Order.price c.in-Order.lots c.in-Order.life c.args.command.now
-      (taker_in c.incoming-incoming.result) outcome c.in-Order.is c.incoming-incoming.ensures.taker c.requires.sender c.requires.command is)
+      c.incoming-incoming.result outcome c.in-Order.is c.incoming-incoming.ensures.taker c.requires.sender c.requires.command is)
       c.ordered.ensures.ordered;
 }
 
@@ -31,7 +47,7 @@ returns-in-Cancel c = record {
   answers = cancel-answers c.args.self.now c.args.bank c.in-Cancel.pair c.in-Cancel.number c.args.command.now c.cancel_answer.result c.in-Cancel.is
       (c.cancel_answer.ensures.value ∙ ap cancel_answer c.order_of.ensures.found
       ∙ ap (λ (os : List ActiveOrder). cancel_answer (find (λ o. is_order c.args.bank c.in-Cancel.number o) (orders_in c.in-Cancel.pair os)))
-      (c.deref.ensures.value ∙ ap (λ (l : Ledger). l.orders) c.self.view_is));
+      (c.deref.ensures.value ∙ ap (λ (l : FlatState). l.orders) c.self.view_is));
 }
 
 pub returns-in-Reduce : goal.returns-in-Reduce
@@ -39,7 +55,7 @@ returns-in-Reduce c = record {
   answers = reduce-answers c.args.self.now c.args.bank c.in-Reduce.pair c.in-Reduce.number c.in-Reduce.lots c.args.command.now c.reduce_answer.result c.in-Reduce.is
       (c.reduce_answer.ensures.value ∙ ap (reduce_answer c.in-Reduce.lots) c.order_of-in-Reduce.ensures.found
       ∙ ap (λ (os : List ActiveOrder). reduce_answer c.in-Reduce.lots (find (λ o. is_order c.args.bank c.in-Reduce.number o) (orders_in c.in-Reduce.pair os)))
-      (c.deref-in-Reduce.ensures.value ∙ ap (λ (l : Ledger). l.orders) c.self.view_is));
+      (c.deref-in-Reduce.ensures.value ∙ ap (λ (l : FlatState). l.orders) c.self.view_is));
 }
 
 pub returns-in-Pull : goal.returns-in-Pull
@@ -47,14 +63,14 @@ returns-in-Pull c = record {
   answers = pull-answers c.args.self.now c.args.bank c.in-Pull.pair c.count_of.result c.args.command.now c.in-Pull.is c.requires.count
       (c.count_of.ensures.value
       ∙ ap (λ (os : List ActiveOrder). min (length (filter (λ order. eqb order.bank c.args.bank) (orders_in c.in-Pull.pair os))) (2 ^ 32 - 1))
-      (c.deref-in-Pull.ensures.value ∙ ap (λ (l : Ledger). l.orders) c.self.view_is));
+      (c.deref-in-Pull.ensures.value ∙ ap (λ (l : FlatState). l.orders) c.self.view_is));
 }
 
 pub returns-in-Line : goal.returns-in-Line
 returns-in-Line c = record {
   answers = if_ok c.line_set.result (LineSetIn c.args.self.now c.args.bank c.in-Line.other c.in-Line.limit) (AnswersEach c.args.self.now c.args.bank c.args.command.now)
       (λ outcome is. line-answers c.args.self.now c.args.bank c.in-Line.other c.in-Line.limit c.args.command.now outcome
-      (subst IsLedger c.self.view_is c.self.invariant.ledger) c.in-Line.is c.requires.sender c.requires.command is)
+      (subst IsFlatState c.self.view_is c.self.invariant.state) c.in-Line.is c.requires.sender c.requires.command is)
       c.line_set.ensures.set;
 }
 

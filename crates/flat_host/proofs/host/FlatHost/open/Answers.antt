@@ -1,15 +1,16 @@
--- What was made is the ledger as the day opens.
+-- What was made is the flat state as the day opens.
 use Rattle.std.proofs.Common.{ℕ, List, ◌≡◌, sym, ap, subst, ◌∙◌, length, arith, replicate, map}
 use Rattle.fx_rules.specs.declared.session.PairRule.{PairRule}
 use Rattle.fx_rules.specs.Lists.{total}
-use Rattle.flat_host.specs.Host.{ledger_of}
-use Rattle.flat_host.proofs.OpeningLemmas.{IsOpening, opening-ledger, opening-stands, total_zero}
+use Rattle.flat_host.specs.Host.{flat_state_of}
+use Rattle.flat_host.proofs.OpeningLemmas.{IsOpening, opening-state, opening-stands, total_zero}
 use Rattle.flat_host.proofs.host.FlatHost.open.Goals as goal
 
 zeros_same : (counts : List ℕ) (read banks : ℕ) → read ≡ banks → counts ≡ replicate read 0 → counts ≡ replicate banks 0
 zeros_same counts read banks same are = subst (λ n. counts ≡ replicate n 0) same are
 
-opened : (c : goal.In_ok-weights_of) → IsOpening c.args.session.now (ledger_of (record {
+opened : (c : goal.In_ok-weights_of) → IsOpening c.args.session.now (flat_state_of (record {
+  banks = length c.banks-banks.result.now;
   orders = c.new.result;
   limits = c.in_ok-opening_limits.field-0;
   uses = c.in_ok-no_uses.field-0;
@@ -19,6 +20,7 @@ opened : (c : goal.In_ok-weights_of) → IsOpening c.args.session.now (ledger_of
 }))
 opened c = record {
   session = c.banks-banks.ensures.valid;
+  banks = ap length c.banks-banks.ensures.value;
   orders = c.new.ensures.items;
   limits_full = omega (arith, c.in_ok-opening_limits.ensures.full);
   limits = c.in_ok-opening_limits.ensures.limits;
@@ -31,12 +33,13 @@ opened c = record {
 
 pub invariant_of-result : goal.invariant_of-result
 invariant_of-result c = record {
-  ledger = opening-ledger c.args.session.now _ (opened c);
+  state = opening-state c.args.session.now _ (opened c);
   arrivals = sym (ap (total (λ n. n)) (opened c).counts ∙ total_zero (length c.args.session.now.banks));
 }
 
 pub returns : goal.returns
 returns c = record {
+  banks = (opened c).banks;
   opens = opening-stands c.args.session.now _ (opened c);
   counts = (opened c).counts;
   weights = (opened c).weights;

@@ -1,7 +1,0 @@
--- What is kept is every other order.
-use Rattle.std.proofs.Common.{rules}
-use Rattle.std.proofs.lemmas.Fn.{filter_same}
-use Rattle.flat_host.proofs.changes.pull.Goals as goal
-
-pub returns : goal.returns
-returns c = record { orders = filter_same _ _ _ (λ x b f' k. search rules) _ _ c.retain.ensures.filtered }

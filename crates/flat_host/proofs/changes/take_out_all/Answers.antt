@@ -1,0 +1,7 @@
+-- What is kept is every other order.
+use Rattle.std.proofs.Common.{rules}
+use Rattle.std.proofs.lemmas.Fn.{filter_same}
+use Rattle.flat_host.proofs.changes.take_out_all.Goals as goal
+
+pub returns : goal.returns
+returns c = record { orders = filter_same _ _ _ (λ x b f' k. search rules) _ _ c.retain.ensures.filtered }
