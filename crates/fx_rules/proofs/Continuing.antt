@@ -29,13 +29,13 @@ make bank number command outcome = record { bank = bank; number = number; comman
 make_same : (bank bank' number number' : ℕ) (command command' : Command) (outcome outcome' : Outcome) → bank ≡ bank' → number ≡ number' → command ≡ command' → outcome ≡ outcome' → make bank number command outcome ≡ make bank' number' command' outcome'
 make_same bank bank' number number' command command' outcome outcome' a b c d = cc
 
-entry_same : (a b : Entry) → a.bank ≡ b.bank → a.number ≡ b.number → a.command ≡ b.command → a.outcome ≡ b.outcome → a ≡ b
+pub entry_same : (a b : Entry) → a.bank ≡ b.bank → a.number ≡ b.number → a.command ≡ b.command → a.outcome ≡ b.outcome → a ≡ b
 unfolding make
 entry_same a b bank number command outcome =
     make_same a.bank b.bank a.number b.number a.command b.command a.outcome b.outcome bank number command outcome
 
 -- two steps of one state by the same command of the same bank
-step_same : (h : Header) (S : State) (one other : Entry) → IsSession h → IsSound h S → IsStep h S one → IsStep h S other → one.bank ≡ other.bank → one.command ≡ other.command → one ≡ other
+pub step_same : (h : Header) (S : State) (one other : Entry) → IsSession h → IsSound h S → IsStep h S one → IsStep h S other → one.bank ≡ other.bank → one.command ≡ other.command → one ≡ other
 step_same h S one other session sound a b bank command =
     let moved : IsOutcome h S one.bank one.command other.outcome =
     subst (λ (k : ℕ). IsOutcome h S k one.command other.outcome) (sym bank)

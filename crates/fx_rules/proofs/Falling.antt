@@ -34,11 +34,11 @@ fills-rested t rests S = cond_both (nat_lt 0 rests) (record S { orders = S.order
 no_more : (fills : List Fill) (outcome : Outcome) → fills_of outcome ≡ [] → fills ≡ fills ++ fills_of outcome
 no_more fills outcome none = sym (append-nil fills) ∙ ap (λ more. fills ++ more) (sym none)
 
-cancel_fills : (o : Option Resting) → fills_of (cancel_answer o) ≡ []
+pub cancel_fills : (o : Option Resting) → fills_of (cancel_answer o) ≡ []
 cancel_fills None = refl
 cancel_fills (Some order) = refl
 
-reduce_fills : (lots : ℕ) (o : Option Resting) → fills_of (reduce_answer lots o) ≡ []
+pub reduce_fills : (lots : ℕ) (o : Option Resting) → fills_of (reduce_answer lots o) ≡ []
 reduce_fills lots None = refl
 reduce_fills lots (Some order) =
     cond_both (nat_lt lots order.left) (Reduced lots) (NotLess order.left) (λ (answer : Outcome). fills_of answer ≡ []) (λ _. refl) (λ _. refl)

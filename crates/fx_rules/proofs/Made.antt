@@ -1,6 +1,6 @@
 -- The fills of a step as they are made: each between two banks of the session, in one of its pairs, at a price in range, and
 -- within the line that the fills before it leave.
-use Rattle.std.proofs.Common.{ℕ, zero, suc, ◌<◌, ◌≤◌, ◌+◌, ◌-◌, ◌≡◌, List, [], ◌∷◌, ◌++◌, refl, inl, inr, ap, sym, subst, ◌∙◌, arith, length, get_or, map, Option, Some, None}
+use Rattle.std.proofs.Common.{ℕ, zero, suc, ◌<◌, ◌≤◌, ◌+◌, ◌-◌, ◌≡◌, List, [], ◌∷◌, ◌++◌, refl, inl, inr, ap, sym, subst, ◌∙◌, arith, length, get_or, map}
 use Rattle.std.proofs.lemmas.Bool.{cond_both}
 use Rattle.std.proofs.lemmas.List.{length-map}
 use Rattle.std.specs.Prelude.{nat_lt}
@@ -11,7 +11,7 @@ use Rattle.fx_rules.specs.declared.command.Command.TheVariants.{Order, Cancel, R
 use Rattle.fx_rules.specs.declared.command.Life.{Life}
 use Rattle.fx_rules.specs.declared.command.Life.TheVariants.{Day, Ioc, Fok}
 use Rattle.fx_rules.specs.declared.outcome.Outcome.{Outcome}
-use Rattle.fx_rules.specs.declared.outcome.Outcome.TheVariants.{Ordered, Killed, Cancelled, Reduced, NotLess, Pulled, LineSet, Depth}
+use Rattle.fx_rules.specs.declared.outcome.Outcome.TheVariants.{Ordered, Killed, Cancelled, Reduced, Pulled, LineSet, Depth}
 use Rattle.fx_rules.specs.declared.orders.Fill.{Fill}
 use Rattle.fx_rules.specs.declared.orders.Resting.{Resting}
 use Rattle.fx_rules.specs.Session.{Header, IsSession, bank_count, pair_count, weight_of}
@@ -25,6 +25,7 @@ use Rattle.fx_rules.proofs.Opens.{IsMaker, maker_of, allowed-open}
 use Rattle.fx_rules.proofs.SweepSound.{filled-sound, swept-sound, limits-filled_all, weight_of-least}
 use Rattle.fx_rules.proofs.RaiseSound.{match_cases, turn_of, turn-sender, turned-sound, limited-sound}
 use Rattle.fx_rules.proofs.Soundness.{resting_of}
+use Rattle.fx_rules.proofs.Falling.{cancel_fills, reduce_fills}
 
 pub record IsMade (h : Header) (S : State) (f : Fill) : Type 0 where
   pub allowed : IsAllowed h S f
@@ -110,15 +111,6 @@ limit_made S _ _ _ = S
 -- an outcome without fills
 none_made : (h : Header) (S : State) (outcome told : Outcome) → outcome ≡ told → fills_of told ≡ [] → AreMade h S (fills_of outcome)
 none_made h S outcome told is none = subst (AreMade h S) (sym (ap fills_of is ∙ none)) tt
-
-cancel_fills : (o : Option Resting) → fills_of (cancel_answer o) ≡ []
-cancel_fills None = refl
-cancel_fills (Some order) = refl
-
-reduce_fills : (lots : ℕ) (o : Option Resting) → fills_of (reduce_answer lots o) ≡ []
-reduce_fills lots None = refl
-reduce_fills lots (Some order) =
-    cond_both (nat_lt lots order.left) (Reduced lots) (NotLess order.left) (λ (answer : Outcome). fills_of answer ≡ []) (λ _. refl) (λ _. refl)
 
 ordered-made : (h : Header) (S : State) (t : Taker) (life : Life) (outcome : Outcome) → IsSound h S → t.bank < bank_count h → 0 < weight_of h t.pair → IsOrdered h S t life outcome → AreMade h S (fills_of outcome)
 ordered-made h S t Day (Ordered done rests fills) sound bank some is = swept-made h S t fills rests sound bank some is.0
