@@ -11,6 +11,7 @@ pub mod Planning
 pub mod PlanSwept
 pub mod Determined
 pub mod NamesLemmas
+pub mod NameTexts
 pub mod SessionLemmas
 pub mod Continuing
 pub mod Falling

@@ -1,4 +1,6 @@
 pub mod FieldLemmas
+pub mod FieldTexts
+pub mod JoinedFields
 pub mod LinesLemmas
 pub mod NumberLemmas
 pub mod PartsLemmas

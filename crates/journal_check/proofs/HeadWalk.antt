@@ -1,6 +1,6 @@
 -- The text of a session's header is read as that session.
 use Rattle.std.proofs.Common.{◌≡◌, ◌≢◌, ℕ, zero, suc, ◌+◌, ◌*◌, ◌^◌, ◌<◌, ◌≤◌, Bool, true, false, ◌||◌, List, [], ◌∷◌, ◌++◌, length, map, drop, get_or, slice_index, slice_index_or, codes, Option, Some, None, Result, Ok, Err, refl, sym, ap, ◌∙◌, subst, arith, IsTrue, ◌⊎◌, inl, inr, eqb, leb, nat_lt, if◌then◌else◌, append_assoc, length-append}
-use Rattle.std.specs.List.{All, AllByRecursion, join_with_byte, flat_map, list_all}
+use Rattle.std.specs.List.{All, AllByRecursion, join_with_byte, flat_map}
 use Rattle.std.proofs.lemmas.Bool.{cases_Bool, cond-true, cond-false, ltb-true}
 use Rattle.std.proofs.lemmas.List.{map-append, get_or_default}
 use Rattle.std.proofs.lemmas.List.Elements.{All-head, All-tail, All-weaker, All-get_or}
@@ -12,19 +12,19 @@ use Rattle.fx_text.specs.Lines.{parts_of, all_but_last, lines_of, line_of}
 use Rattle.fx_text.specs.Number.{number_of}
 use Rattle.fx_text.specs.declared.line.Line.{Line}
 use Rattle.fx_text.specs.declared.line.Line.TheVariants.{Whole}
-use Rattle.fx_rules.specs.Names.{is_name_byte}
 use Rattle.fx_rules.specs.Session.{Header, IsSession, IsPairRule, bank_count, opening_limit, pair_text}
 use Rattle.fx_rules.specs.declared.session.PairRule.{PairRule}
 use Rattle.fx_rules.specs.Lists.{Each}
 use Rattle.fx_rules.proofs.ListLemmas.{Each-append}
-use Rattle.order_lines.proofs.FieldTexts.{IsField-bank, IsField-numeral, IsField-pair_text}
-use Rattle.order_lines.proofs.JoinedFields.{IsField, fields_of-join, join-visible, length-join}
+use Rattle.fx_text.proofs.FieldTexts.{IsField-tested, IsField-numeral}
+use Rattle.fx_text.proofs.JoinedFields.{IsField, fields_of-join, join-visible, length-join}
+use Rattle.order_lines.proofs.FieldTexts.{IsField-bank, IsField-pair_text}
 use Rattle.session_head.specs.Draft.{Draft, empty_draft}
 use Rattle.session_head.specs.Statement.{field_at, bank_in, new_name, new_pair, lot_of, bank_statement, pair_statement, line_statement, statement_of, spelling}
 use Rattle.session_head.specs.Head.{Head, Begun, Drafting, Started, Faulted, next, judged, with_line, with_lines, read_head, session_of}
 use Rattle.session_head.specs.HeadText.{each_below, limit_statement, limits_of, statements_of, line_text, lines_text, head_text_of}
 use Rattle.session_head.specs.declared.reason.HeadReason.{HeadReason}
-use Rattle.session_head.proofs.SpellingLemmas.{word_field}
+use Rattle.session_head.proofs.LineTexts.{line_text-joined}
 use Rattle.session_head.proofs.RoundLemmas.{head_text-read}
 use Rattle.journal_check.specs.Lines.{LineAt, behind, lines_from}
 use Rattle.journal_check.specs.Listed.{headed, header_in}
@@ -39,14 +39,6 @@ pub record IsRow (row : List (List ℕ)) : Type 0 where
   pub some : 0 < length row
   pub few : length row ≤ 6
   pub fields : AllByRecursion IsField row
-
--- a word of letters and digits
-pub IsField-word : (word : List ℕ) → 0 < length word → length word ≤ 40 → list_all is_name_byte word ≡ true → IsField word
-IsField-word word some short letters = record {
-  some = some;
-  short = short;
-  visible = All-weaker (λ byte. 33 ≤ byte) (λ byte. 32 < byte) (λ byte above. omega arith) word (word_field word some letters).bytes;
-}
 
 abbrev pub row_text : List (List ℕ) → List ℕ
 row_text row = join_with_byte 32 row
@@ -63,14 +55,8 @@ row-fields row is = fields_of-join row is.some is.fields
 pub row-line : (row : List (List ℕ)) → IsRow row → line_of (row_text row) ≡ Whole (row_text row)
 row-line row is = line_of-plain (row_text row) (row-plain row is) (row-short row is)
 
-line_text-row : (row : List (List ℕ)) → line_text row ≡ row_text row ++ 10 ∷ []
-line_text-row [] = refl
-line_text-row (field ∷ []) = refl
-line_text-row (field ∷ second ∷ more) =
-    ap (λ (rest : List ℕ). field ++ 32 ∷ rest) (line_text-row (second ∷ more)) ∙ sym (append_assoc field (32 ∷ row_text (second ∷ more)) (10 ∷ []))
-
 row_in_front : (row : List (List ℕ)) (rest : List ℕ) → line_text row ++ rest ≡ row_text row ++ 10 ∷ rest
-row_in_front row rest = ap (λ (t : List ℕ). t ++ rest) (line_text-row row) ∙ ended (row_text row) rest
+row_in_front row rest = ap (λ (t : List ℕ). t ++ rest) (line_text-joined row) ∙ ended (row_text row) rest
 
 abbrev lines : List (List (List ℕ)) → List Line
 lines rows = map (λ row. Whole (row_text row)) rows
@@ -205,7 +191,7 @@ goes n d row is told on = rw (row-fields row is, told) on
 
 bank_front : (name : List ℕ) → IsField name → IsFront (bank_row name)
 bank_front name is =
-    let row : IsRow (bank_row name) = record { some = omega arith; few = omega arith; fields = (IsField-word (codes "BANK") (omega arith) (omega arith) refl, (is, tt)) } in
+    let row : IsRow (bank_row name) = record { some = omega arith; few = omega arith; fields = (IsField-tested (codes "BANK") refl, (is, tt)) } in
     record { is_row = row; goes_on = λ n d. goes n d (bank_row name) row refl (bank_goes (next n) d name) }
 
 pair_front : (rule : PairRule) → IsPairRule rule → IsFront (pair_row rule)
@@ -213,7 +199,7 @@ pair_front rule is =
     let row : IsRow (pair_row rule) = record {
       some = omega arith;
       few = omega arith;
-      fields = (IsField-word (codes "PAIR") (omega arith) (omega arith) refl, (IsField-pair_text rule is, (IsField-numeral rule.decimals (omega (arith, is.decimals)), (IsField-numeral rule.lot (omega (arith, is.lot_most)), (IsField-numeral rule.weight (omega (arith, is.weight_most)), tt)))));
+      fields = (IsField-tested (codes "PAIR") refl, (IsField-pair_text rule is, (IsField-numeral rule.decimals (omega (arith, is.decimals)), (IsField-numeral rule.lot (omega (arith, is.lot_most)), (IsField-numeral rule.weight (omega (arith, is.weight_most)), tt)))));
     } in
     record { is_row = row; goes_on = λ n d. goes n d (pair_row rule) row refl (pair_goes (next n) d rule) }
 
@@ -224,12 +210,12 @@ limit_front h from to session first second =
     let row : IsRow (limit_row h from to) = record {
       some = omega arith;
       few = omega arith;
-      fields = (IsField-word (codes "LINE") (omega arith) (omega arith) refl, (IsField-bank h from session first, (IsField-bank h to session second, (IsField-numeral (opening_limit h from to) (omega (arith, most)), tt))));
+      fields = (IsField-tested (codes "LINE") refl, (IsField-bank h from session first, (IsField-bank h to session second, (IsField-numeral (opening_limit h from to) (omega (arith, most)), tt))));
     } in
     record { is_row = row; goes_on = λ n d. goes n d (limit_row h from to) row refl (line_goes (next n) d (field_at h.banks from) (field_at h.banks to) (numeral (opening_limit h from to))) }
 
 start_is_row : IsRow start_row
-start_is_row = record { some = omega arith; few = omega arith; fields = (IsField-word (codes "START") (omega arith) (omega arith) refl, tt) }
+start_is_row = record { some = omega arith; few = omega arith; fields = (IsField-tested (codes "START") refl, tt) }
 
 each_map : {X Y : Type 0} (P : Y → Type 0) (f : X → Y) (Q : X → Type 0) (xs : List X) → ((x : X) → Q x → P (f x)) → All Q xs → Each P (map f xs)
 each_map P f Q [] holds all = tt
@@ -322,7 +308,7 @@ abbrev version_row : List (List ℕ)
 version_row = codes "FXBOOK" ∷ codes "1" ∷ []
 
 version_is_row : IsRow version_row
-version_is_row = record { some = omega arith; few = omega arith; fields = (IsField-word (codes "FXBOOK") (omega arith) (omega arith) refl, (IsField-word (codes "1") (omega arith) (omega arith) refl, tt)) }
+version_is_row = record { some = omega arith; few = omega arith; fields = (IsField-tested (codes "FXBOOK") refl, (IsField-tested (codes "1") refl, tt)) }
 
 version_read : with_line (Begun 0) (Whole (row_text version_row)) ≡ Drafting 1 empty_draft
 version_read = rw (row-fields version_row version_is_row) refl

@@ -13,8 +13,8 @@ use Rattle.fx_rules.specs.Session.{Header, IsSession}
 use Rattle.fx_rules.specs.declared.outcome.Entry.{Entry}
 use Rattle.order_lines.specs.Grammar.{journal_line}
 use Rattle.order_lines.specs.Spelling.{command_text_of}
-use Rattle.order_lines.proofs.FieldTexts.{IsField-numeral}
-use Rattle.order_lines.proofs.JoinedFields.{fields_of-join, join-visible, length-join, IsField}
+use Rattle.fx_text.proofs.FieldTexts.{IsField-tested, IsField-numeral}
+use Rattle.fx_text.proofs.JoinedFields.{fields_of-join, join-visible, length-join, IsField}
 use Rattle.order_lines.proofs.WrittenCommands.{IsWritten, IsWritten-command}
 use Rattle.reply_lines.specs.Output as output
 use Rattle.reply_lines.specs.Output.{entry_line, journal_text}
@@ -24,7 +24,6 @@ use Rattle.journal_check.specs.Listed.{Sent, most_entries, counted, count_in, co
 use Rattle.journal_check.specs.Verdict.{sent_by}
 use Rattle.journal_check.proofs.JournalLemmas.{count_of-short, commands_in-short, commands_in-all}
 use Rattle.journal_check.proofs.Walking.{IsPlain, IsAt, IsAt-plain, short_line, line_of-plain, ended}
-use Rattle.journal_check.proofs.HeadWalk.{IsField-word}
 use Rattle.journal_check.proofs.Histories.{IsSentOf, AreSentOf}
 
 -- The line that tells how many entries there are
@@ -36,7 +35,7 @@ count_part : ℕ → List ℕ
 count_part n = join_with_byte 32 (count_fields n)
 
 journal_word : IsField (codes "JOURNAL")
-journal_word = IsField-word (codes "JOURNAL") (omega arith) (omega arith) refl
+journal_word = IsField-tested (codes "JOURNAL") refl
 
 are_fields : (n : ℕ) → n < 10 ^ 20 → AllByRecursion IsField (count_fields n)
 unfolding count_fields

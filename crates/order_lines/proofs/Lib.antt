@@ -1,5 +1,4 @@
 pub mod FieldTexts
-pub mod JoinedFields
 pub mod Printed
 pub mod SaidCommands
 pub mod SaidFields

@@ -29,7 +29,8 @@ use Rattle.order_lines.specs.Reading.{pair_said, price_said, price_or_fault, lot
 use Rattle.order_lines.specs.Spelling.{price_spelled}
 use Rattle.order_lines.specs.declared.word.Word.{Word}
 use Rattle.order_lines.specs.declared.word.Word.TheVariants.{Buy, Sell, Cancel, Reduce, Pull, Line, Show, Book}
-use Rattle.order_lines.proofs.FieldTexts.{IsLetters-code, no_rule, pair_name-is}
+use Rattle.fx_rules.proofs.NameTexts.{HasCodeBytes-code}
+use Rattle.order_lines.proofs.FieldTexts.{no_rule, pair_name-is}
 
 -- a fault or a value
 pub ok_or-ok : {A : Type 0} (option : Option A) (fault : Reject) (x : A) → ok_or option fault ≡ Ok x → option ≡ Some x
@@ -75,8 +76,8 @@ pair_of-ok h text pair found =
 
 same_pair : (a b : PairRule) → IsPairRule a → IsPairRule b → pair_text a ≡ pair_text b → AreSamePair a b
 same_pair a b left right same =
-    let base : length a.base ≡ 3 = (IsLetters-code a.base left.base).size in
-    let base' : length b.base ≡ 3 = (IsLetters-code b.base right.base).size in (
+    let base : length a.base ≡ 3 = (HasCodeBytes-code a.base left.base).size in
+    let base' : length b.base ≡ 3 = (HasCodeBytes-code b.base right.base).size in (
       sym (take_at a.base (47 ∷ a.quote) 3 base) ∙ ap (take 3) same ∙ take_at b.base (47 ∷ b.quote) 3 base',
       ap (drop 1) (sym (drop_at a.base (47 ∷ a.quote) 3 base) ∙ ap (drop 3) same ∙ drop_at b.base (47 ∷ b.quote) 3 base'),
     )

@@ -14,8 +14,9 @@ use Rattle.order_lines.specs.Grammar.{journal_line}
 use Rattle.order_lines.specs.Spelling.{price_spelled, command_fields, command_text_of}
 use Rattle.order_lines.specs.Words.{side_word}
 use Rattle.order_lines.specs.declared.word.Word.TheVariants as word
-use Rattle.order_lines.proofs.FieldTexts.{IsField-bank, IsField-pair, IsField-word, IsField-life, IsField-bad, IsField-numeral, IsField-price_text, no_rule}
-use Rattle.order_lines.proofs.JoinedFields.{IsField, fields_of-join, join-visible, line_of-join}
+use Rattle.fx_text.proofs.FieldTexts.{IsField-numeral, IsField-price_text}
+use Rattle.fx_text.proofs.JoinedFields.{IsField, fields_of-join, join-visible, line_of-join}
+use Rattle.order_lines.proofs.FieldTexts.{IsField-bank, IsField-pair, IsField-word, IsField-life, IsField-bad, no_rule}
 use Rattle.order_lines.proofs.SaidLines.{journal_line-spelled, code_range}
 
 IsField-price : (h : Header) (pair price : ℕ) → IsSession h → pair < pair_count h → price ≤ 10 ^ 9 → IsField (price_spelled h pair price)

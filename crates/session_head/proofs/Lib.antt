@@ -3,6 +3,6 @@ pub mod HeadLemmas
 pub mod StatementLemmas
 pub mod TextLemmas
 pub mod AgainLemmas
-pub mod SpacedLemmas
+pub mod LineTexts
 pub mod SpellingLemmas
 pub mod RoundLemmas

@@ -1,6 +1,6 @@
 -- A session's header is read back from its lines.
 use Rattle.std.proofs.Common.{◌≡◌, ◌≢◌, ℕ, zero, suc, ◌+◌, ◌*◌, ◌/◌, ◌%◌, ◌<◌, ◌≤◌, List, [], ◌∷◌, ◌++◌, length, map, replicate, get_or, slice_index, slice_set, codes, Some, Ok, refl, sym, ap, ◌∙◌, subst, arith, IsTrue, inl, inr, nat_lt, append_assoc, append-nil, length-append}
-use Rattle.std.specs.List.{All, AllPairs}
+use Rattle.std.specs.List.{All, AllPairs, join_with_byte}
 use Rattle.std.proofs.lemmas.Bool.{cases_eq, cases_Bool, cond-true, cond-false}
 use Rattle.std.proofs.lemmas.Bool.Decides.{nat_tests}
 use Rattle.std.proofs.lemmas.List.{ext_get_or, get_or_append_left, get_or-set_same, get_or-set_other, map-append, get_or-replicate}
@@ -11,6 +11,8 @@ use Rattle.fx_text.specs.Fields.{fields_of}
 use Rattle.fx_text.specs.Lines.{lines_of, rest_of}
 use Rattle.fx_text.specs.declared.line.Line.{Line}
 use Rattle.fx_text.specs.declared.line.Line.TheVariants.{Whole}
+use Rattle.fx_text.proofs.FieldTexts.{IsField-tested}
+use Rattle.fx_text.proofs.JoinedFields.{fields_of-join}
 use Rattle.fx_rules.specs.Names.{is_name}
 use Rattle.fx_rules.specs.Session.{Header, IsSession, IsPairRule, AreSamePair, bank_count, opening_limit}
 use Rattle.fx_rules.specs.declared.session.PairRule.{PairRule}
@@ -24,13 +26,13 @@ use Rattle.session_head.specs.declared.statement.Statement.{Statement}
 use Rattle.session_head.specs.declared.statement.Statement.TheVariants as statements
 use Rattle.session_head.proofs.DraftLemmas.{IsDraft-empty, IsDraft-bank, IsDraft-pair, IsDraft-limit, length-table, get_or-table}
 use Rattle.session_head.proofs.AgainLemmas.{statement_again}
-use Rattle.session_head.proofs.SpacedLemmas.{spaced, IsLine, fields_of-spaced, lines_of-line, rest_of-line}
-use Rattle.session_head.proofs.SpellingLemmas.{word_field, spelling_line, spelling_taken}
+use Rattle.session_head.proofs.LineTexts.{IsLine, lines_of-line_text, rest_of-line_text}
+use Rattle.session_head.proofs.SpellingLemmas.{spelling_line, spelling_taken}
 use Rattle.session_head.proofs.HeadLemmas.{with_lines-append}
 
 -- the line of a statement, where these banks are declared, and the lines of some
 abbrev pub line_for : List (List ℕ) → Statement → Line
-line_for banks statement = Whole (spaced (spelling banks statement))
+line_for banks statement = Whole (join_with_byte 32 (spelling banks statement))
 
 abbrev pub lines_for : List (List ℕ) → List Statement → List Line
 lines_for banks made = map (line_for banks) made
@@ -39,9 +41,9 @@ lines_for banks made = map (line_for banks) made
 pub line_read : (n : ℕ) (d : Draft) (statement : Statement) → IsDraft d → CanState d statement → with_line (Drafting n d) (line_for d.banks statement) ≡ stated (next n) d statement
 line_read n d statement valid can =
     let is = spelling_line d statement valid can in
-    let read : statement_of d (fields_of (spaced (spelling d.banks statement))) ≡ Ok statement =
-    ap (statement_of d) (fields_of-spaced (spelling d.banks statement) is.fields_are) ∙ statement_again d statement valid can in
-    rw (spelling_taken d.banks statement is.fields_are, read) refl
+    let read : statement_of d (fields_of (join_with_byte 32 (spelling d.banks statement))) ≡ Ok statement =
+    ap (statement_of d) (fields_of-join (spelling d.banks statement) is.some is.fields_are) ∙ statement_again d statement valid can in
+    rw (spelling_taken d.banks statement is, read) refl
 
 -- the elements before one, and that one
 at_seam : {X : Type 0} (P : X → Type 0) (done rest : List X) (x : X) → All P (done ++ x ∷ rest) → P x
@@ -326,34 +328,34 @@ lines_of-statements : (banks : List (List ℕ)) (made : List Statement) → Each
 unfolding lines_of
 lines_of-statements banks [] are = refl
 lines_of-statements banks (statement ∷ rest) are =
-    lines_of-line (spelling banks statement) (lines_text banks rest) are.0
+    lines_of-line_text (spelling banks statement) (lines_text banks rest) are.0
     ∙ ap (λ (lines : List Line). line_for banks statement ∷ lines) (lines_of-statements banks rest are.1)
 
 rest_of-statements : (banks : List (List ℕ)) (made : List Statement) → Each (λ statement. IsLine (spelling banks statement)) made → rest_of (lines_text banks made) ≡ []
 unfolding rest_of
 rest_of-statements banks [] are = refl
-rest_of-statements banks (statement ∷ rest) are = rest_of-line (spelling banks statement) (lines_text banks rest) are.0 ∙ rest_of-statements banks rest are.1
+rest_of-statements banks (statement ∷ rest) are = rest_of-line_text (spelling banks statement) (lines_text banks rest) are.0 ∙ rest_of-statements banks rest are.1
 
 -- the first line
 abbrev version_fields : List (List ℕ)
 version_fields = codes "FXBOOK" ∷ codes "1" ∷ []
 
 version_line : IsLine version_fields
-version_line = record { fields_are = (word_field (codes "FXBOOK") (omega arith) refl, (word_field (codes "1") (omega arith) refl, tt)); short = omega arith }
+version_line = record { some = omega arith; few = omega arith; fields_are = (IsField-tested (codes "FXBOOK") refl, (IsField-tested (codes "1") refl, tt)) }
 
-version_read : with_line (Begun 0) (Whole (spaced version_fields)) ≡ Drafting 1 empty_draft
-version_read = rw (fields_of-spaced version_fields version_line.fields_are) refl
+version_read : with_line (Begun 0) (Whole (join_with_byte 32 version_fields)) ≡ Drafting 1 empty_draft
+version_read = rw (fields_of-join version_fields version_line.some version_line.fields_are) refl
 
 -- the text of a session's header is whole lines, and their reading starts that session
 pub head_text-read : (h : Header) → IsSession h → session_of (read_head (lines_of (head_text_of h))) ≡ Some h
 head_text-read h session =
     let it = starts 1 h session in
-    ap (λ (lines : List Line). session_of (read_head lines)) (lines_of-line version_fields (lines_text h.banks (statements_of h)) version_line)
-    ∙ ap (λ (lines : List Line). session_of (with_lines (with_line (Begun 0) (Whole (spaced version_fields))) lines)) (lines_of-statements h.banks (statements_of h) it.lines)
+    ap (λ (lines : List Line). session_of (read_head lines)) (lines_of-line_text version_fields (lines_text h.banks (statements_of h)) version_line)
+    ∙ ap (λ (lines : List Line). session_of (with_lines (with_line (Begun 0) (Whole (join_with_byte 32 version_fields))) lines)) (lines_of-statements h.banks (statements_of h) it.lines)
     ∙ ap (λ (head : Head). session_of (with_lines head (lines_for h.banks (statements_of h)))) version_read
     ∙ ap session_of it.starts
 
 pub head_text-whole : (h : Header) → IsSession h → rest_of (head_text_of h) ≡ []
 head_text-whole h session =
     let it = starts 1 h session in
-    rest_of-line version_fields (lines_text h.banks (statements_of h)) version_line ∙ rest_of-statements h.banks (statements_of h) it.lines
+    rest_of-line_text version_fields (lines_text h.banks (statements_of h)) version_line ∙ rest_of-statements h.banks (statements_of h) it.lines

@@ -1,12 +1,13 @@
 -- The fields of a line that is written with one space between each two.
-use Rattle.std.proofs.Common.{◌≡◌, ℕ, ◌*◌, ◌-◌, ◌<◌, ◌≤◌, false, List, [], ◌∷◌, length, filter, get_or, refl, ap, ◌∙◌, arith, length-append, All}
+use Rattle.std.proofs.Common.{◌≡◌, ℕ, ◌*◌, ◌-◌, ◌<◌, ◌≤◌, false, List, [], ◌∷◌, ◌++◌, length, map, filter, get_or, refl, ap, ◌∙◌, arith, eqb, length-append, All}
 use Rattle.std.proofs.lemmas.Bool.{lt-ltb, le-leb, ne_eqb, cond-false}
 use Rattle.std.proofs.lemmas.List.Elements.{All-nil, All-cons, All-append, All-weaker}
-use Rattle.std.proofs.lemmas.List.Splits.{slice_split_none, slice_split_at}
+use Rattle.std.proofs.lemmas.List.Splits.{slice_split_none, slice_split_at, length-slice_split}
 use Rattle.std.specs.List.{slice_split, join_with_byte, AllByRecursion}
 use Rattle.std.specs.Str.Lines.{strip_carriage_return}
 use Rattle.fx_text.specs.Fields.{is_blank, has_bytes, fields_of}
-use Rattle.fx_text.specs.Lines.{line_of}
+use Rattle.fx_text.specs.Lines.{parts_of, all_but_last, last_of, line_of, lines_of, rest_of}
+use Rattle.fx_text.specs.declared.line.Line.{Line}
 use Rattle.fx_text.specs.declared.line.Line.TheVariants.{Whole}
 
 -- a text that can stand as a field: some bytes, each above the space, and at most 40
@@ -63,3 +64,29 @@ line_of-join fields few all =
     let text : List ℕ = join_with_byte 32 fields in
     let same : strip_carriage_return text ≡ text = no_carriage_return text (join-visible fields all) in
     rw (same, le-leb (length text) 256 (omega (arith, length-join fields all))) refl
+
+-- a line in front of others
+keeps_first : (part : List ℕ) (parts : List (List ℕ)) → 0 < length parts → all_but_last (part ∷ parts) ≡ part ∷ all_but_last parts
+keeps_first part [] some = absurd (omega arith)
+keeps_first part (second ∷ more) some = refl
+
+keeps_last : (part : List ℕ) (parts : List (List ℕ)) → 0 < length parts → last_of (part ∷ parts) ≡ last_of parts
+keeps_last part [] some = absurd (omega arith)
+keeps_last part (second ∷ more) some = refl
+
+parts_of-line : (text more : List ℕ) → All (λ byte. 32 ≤ byte) text → parts_of (text ++ 10 ∷ more) ≡ text ∷ parts_of more
+parts_of-line text more visible =
+    slice_split_at (λ byte. eqb byte 10) text 10 more (All-weaker (λ byte. 32 ≤ byte) (λ byte. eqb byte 10 ≡ false) (λ byte least. ne_eqb byte 10 (λ e. omega arith)) text visible) refl
+
+some_parts : (text : List ℕ) → 0 < length (parts_of text)
+some_parts text = omega (arith, length-slice_split (λ byte. eqb byte 10) text)
+
+pub lines_of-line : (text more : List ℕ) → All (λ byte. 32 ≤ byte) text → lines_of (text ++ 10 ∷ more) ≡ line_of text ∷ lines_of more
+unfolding lines_of
+lines_of-line text more visible =
+    ap (λ (parts : List (List ℕ)). map line_of (all_but_last parts)) (parts_of-line text more visible)
+    ∙ ap (map line_of) (keeps_first text (parts_of more) (some_parts more))
+
+pub rest_of-line : (text more : List ℕ) → All (λ byte. 32 ≤ byte) text → rest_of (text ++ 10 ∷ more) ≡ rest_of more
+unfolding rest_of
+rest_of-line text more visible = ap last_of (parts_of-line text more visible) ∙ keeps_last text (parts_of more) (some_parts more)
