@@ -1,9 +1,9 @@
 -- A line's fields say a command just where they are its spelling.
-use Rattle.std.proofs.Common.{◌≡◌, ℕ, true, false, cond, List, [], ◌∷◌, length, refl, sym, ap, ◌∙◌, arith, eqb, subst, ⊎_elim, Result, Ok, Err}
+use Rattle.std.proofs.Common.{◌≡◌, ℕ, ◌<◌, true, false, cond, List, [], ◌∷◌, length, refl, sym, ap, ◌∙◌, arith, eqb, subst, ⊎_elim, Result, Ok, Err}
 use Rattle.std.proofs.lemmas.Bool.{cases_Bool, cond-true, cond-false, eqb-true}
 use Rattle.fx_amounts.specs.declared.side.Side.{Side}
 use Rattle.fx_amounts.specs.declared.side.Side.TheVariants as side
-use Rattle.fx_rules.specs.Session.{Header, IsSession, bank_count, pair_count, bank_name}
+use Rattle.fx_rules.specs.Session.{Header, IsSession, pair_count, bank_name, pair_name}
 use Rattle.fx_rules.specs.Step.{IsCommand}
 use Rattle.fx_rules.specs.declared.command.Command.{Command}
 use Rattle.fx_rules.specs.declared.command.Command.TheVariants as command
@@ -11,7 +11,7 @@ use Rattle.fx_rules.specs.declared.command.Life.{Life}
 use Rattle.fx_rules.specs.declared.command.Reject.{Reject}
 use Rattle.fx_rules.specs.declared.command.Reject.TheVariants as reject
 use Rattle.order_lines.specs.Grammar.{is_bad}
-use Rattle.order_lines.specs.Reading.{◌>>=◌, field, order_said, cancel_said, reduce_said, pull_said, line_said, show_said, book_said, said_by, word_said, command_said}
+use Rattle.order_lines.specs.Reading.{◌>>=◌, field, pair_said, order_said, cancel_said, reduce_said, pull_said, line_said, show_said, book_said, said_by, word_said, command_said}
 use Rattle.order_lines.specs.Spelling.{command_fields}
 use Rattle.order_lines.specs.Words.{word_text, word_of, field_count, side_word}
 use Rattle.order_lines.specs.declared.word.Word.{Word}
@@ -101,17 +101,19 @@ reduce-ok h bank fields said begins is =
       spelled = fields_5 fields _ _ _ _ _ begins.count begins.name begins.is_word named.1 numbered.1 sized.1;
     })
 
+-- a command of a pair alone
+pair-ok : (h : Header) (bank : ℕ) (fields : List (List ℕ)) (said : Command) (made : ℕ → Command) → (pair_said h (field fields 2) >>= (λ pair. Ok (made pair))) ≡ Ok said
+    → ((pair : ℕ) → pair < pair_count h → field fields 2 ≡ pair_name h pair → SaysCommand h bank fields (made pair)) → SaysCommand h bank fields said
+pair-ok h bank fields said made is says =
+    let (pair, pair_is, last) = step-ok _ _ _ is in
+    let named = pair_said-ok h (field fields 2) pair pair_is in
+    let same : made pair ≡ said = cc in
+    subst (SaysCommand h bank fields) same (says pair named.0 named.1)
+
 pull-ok : (h : Header) (bank : ℕ) (fields : List (List ℕ)) (said : Command) → Begins h bank Pull fields → pull_said h fields ≡ Ok said → SaysCommand h bank fields said
 unfolding pull_said
 pull-ok h bank fields said begins is =
-    let (pair, pair_is, last) = step-ok _ _ _ is in
-    let named = pair_said-ok h (field fields 2) pair pair_is in
-    let same : command.Pull pair ≡ said = cc in
-    subst (SaysCommand h bank fields) same (record {
-      in_range = named.0;
-      good = refl;
-      spelled = fields_3 fields _ _ _ begins.count begins.name begins.is_word named.1;
-    })
+    pair-ok h bank fields said command.Pull is (λ pair within name. record { in_range = within; good = refl; spelled = fields_3 fields _ _ _ begins.count begins.name begins.is_word name })
 
 line-ok : (h : Header) (bank : ℕ) (fields : List (List ℕ)) (said : Command) → Begins h bank Line fields → line_said h bank fields ≡ Ok said → SaysCommand h bank fields said
 unfolding line_said
@@ -142,14 +144,7 @@ show-ok h bank fields said begins is =
 book-ok : (h : Header) (bank : ℕ) (fields : List (List ℕ)) (said : Command) → Begins h bank Book fields → book_said h fields ≡ Ok said → SaysCommand h bank fields said
 unfolding book_said
 book-ok h bank fields said begins is =
-    let (pair, pair_is, last) = step-ok _ _ _ is in
-    let named = pair_said-ok h (field fields 2) pair pair_is in
-    let same : command.Book pair ≡ said = cc in
-    subst (SaysCommand h bank fields) same (record {
-      in_range = named.0;
-      good = refl;
-      spelled = fields_3 fields _ _ _ begins.count begins.name begins.is_word named.1;
-    })
+    pair-ok h bank fields said command.Book is (λ pair within name. record { in_range = within; good = refl; spelled = fields_3 fields _ _ _ begins.count begins.name begins.is_word name })
 
 said_by-ok : (h : Header) (bank : ℕ) (word : Word) (fields : List (List ℕ)) (said : Command) → Begins h bank word fields → said_by h bank word fields ≡ Ok said → SaysCommand h bank fields said
 said_by-ok h bank Buy fields said begins is = order-ok h bank side.Buy fields said begins.count begins is
