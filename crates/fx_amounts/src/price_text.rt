@@ -3,7 +3,6 @@ ghost use Rattle.std.specs.Char.{is_ascii_digit};
 ghost use Rattle.std.specs.List.{list_all};
 ghost use Rattle.fx_amounts.specs.Numeral.{is_numeral};
 ghost use Rattle.fx_amounts.specs.Price.{IsPrice};
-ghost use Rattle.fx_amounts.specs.Quantity.{IsDecimals};
 ghost use Rattle.fx_amounts.specs.PriceText.{fault_code, price_text, is_price_text, ticks_of, price_of_ticks, price_of, IsPriceText};
 
 use crate::price::Price;
@@ -29,9 +28,8 @@ impl PriceFault {
 /// The price that a text says, where a tick is the last of `decimals` decimal places.
 ///
 /// The form is digits without a leading zero, other than `0` itself, and, where there are decimals, a point
-/// and exactly that many digits. The text may be of any length.
+/// and exactly that many digits. The text may be of any length, and `decimals` any number.
 pub fn price_from(text: &[u8], decimals: u8) -> Result<Price, PriceFault>
-    requires { IsDecimals decimals }
     ensures reads { result ≡ price_of decimals text.now }
     ensures value { IfOk result (λ price. text.now ≡ price_text decimals price) }
     ensures spelled { (ticks : ℕ) → text.now ≡ price_text decimals ticks → result ≡ price_of_ticks ticks }
@@ -44,10 +42,9 @@ pub fn price_from(text: &[u8], decimals: u8) -> Result<Price, PriceFault>
 
 #[tactic(auto, unfolding(crate::specs::PriceText::price_of))]
 fn said_price(text: &[u8], decimals: u8) -> Result<Price, PriceFault>
-    requires { IsDecimals decimals }
     ensures { result ≡ price_of decimals text.now }
 {
-    if !is_price(text, usize::from(decimals)) {
+    if !is_price(text, decimals) {
         return Err(PriceFault::Form);
     }
     u32::try_from(value_of(text))
@@ -57,14 +54,14 @@ fn said_price(text: &[u8], decimals: u8) -> Result<Price, PriceFault>
 }
 
 // Whether the text is in the form of a price.
-fn is_price(text: &[u8], decimals: usize) -> bool
-    requires { IsDecimals decimals }
+fn is_price(text: &[u8], decimals: u8) -> bool
     ensures { result ≡ is_price_text decimals text.now }
 {
     if decimals == 0 {
         return is_numeral(text);
     }
-    let (whole, rest) = text.split_at(text.len().saturating_sub(decimals + 1));
+    let places = usize::from(decimals);
+    let (whole, rest) = text.split_at(text.len().saturating_sub(places + 1));
     match rest {
         [b'.', fraction @ ..] => is_numeral(whole) && are_digits(fraction),
         _ => false,

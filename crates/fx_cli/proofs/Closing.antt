@@ -3,6 +3,7 @@ use Rattle.std.proofs.Common.{◌≡◌, ℕ, ◌^◌, ◌<◌, ◌≤◌, min, 
 use Rattle.std.specs.Bool.{MatchBool}
 use Rattle.fx_rules.specs.Session.{Header}
 use Rattle.fx_text.specs.Lines.{lines_of, rest_of, is_end_rest}
+use Rattle.fx_text.proofs.LinesLemmas.{length-lines_of}
 use Rattle.session_head.specs.Head as heads
 use Rattle.session_head.specs.Head.{Head, read_head, session_of}
 use Rattle.session_head.specs.declared.reason.HeadReason.{HeadReason}
@@ -12,7 +13,7 @@ use Rattle.fx_cli.specs.Stage.{Tells, goes_on, most_strays}
 use Rattle.fx_cli.specs.Intake.{IsSettled}
 use Rattle.fx_rules.specs.declared.command.Sent.{Sent}
 use Rattle.fx_cli.specs.declared.script.Script.{Script}
-use Rattle.fx_cli.proofs.ScriptLaws.{HasSession-one, HasSession-no_fault, length-lines_of, length-spoken_of, length-commands_in, strays_in-few}
+use Rattle.fx_cli.proofs.ScriptLaws.{HasSession-one, HasSession-no_fault, length-spoken_of, length-commands_in, strays_in-few}
 
 -- a header that goes on
 

@@ -1,11 +1,9 @@
 -- A session's text as it goes on: its session, its first fault, its END line and what stands before that stay.
-use Rattle.std.proofs.Common.{◌≡◌, ℕ, ◌+◌, ◌<◌, ◌≤◌, eqb, count_by, Bool, true, false, cond, List, [], ◌∷◌, ◌++◌, length, map, None, Some, refl, sym, ap, ◌∙◌, subst, arith}
+use Rattle.std.proofs.Common.{◌≡◌, ℕ, ◌+◌, ◌<◌, ◌≤◌, Bool, true, false, cond, List, [], ◌∷◌, ◌++◌, length, map, None, Some, refl, sym, ap, ◌∙◌, subst, arith}
 use Rattle.std.proofs.lemmas.List.{map-append, length-map}
-use Rattle.std.proofs.lemmas.List.Splits.{length-slice_split}
-use Rattle.std.proofs.lemmas.List.Sums.{count_by-le-length}
 use Rattle.fx_rules.specs.Session.{Header}
 use Rattle.fx_text.specs.declared.line.Line.{Line}
-use Rattle.fx_text.specs.Lines.{parts_of, all_but_last, line_of, lines_of, rest_of}
+use Rattle.fx_text.specs.Lines.{lines_of, rest_of}
 use Rattle.fx_text.proofs.LinesLemmas.{lines_of-append}
 use Rattle.session_head.specs.Head as heads
 use Rattle.session_head.specs.Head.{Head, read_head, with_line, with_lines, session_of}
@@ -172,18 +170,6 @@ spoken_of-start h lines line before = ap (map (command_line h)) (lines_behind-st
 
 pub length-spoken_of : (h : Header) (lines : List Line) → length (spoken_of h lines) ≤ length lines
 length-spoken_of h lines = omega (arith, length-map (lines_behind (heads.Begun 0) lines) (command_line h), length-lines_behind (heads.Begun 0) lines)
-
--- a text has fewer lines than bytes
-length-all_but_last : (parts : List (List ℕ)) → 0 < length parts → length (all_but_last parts) + 1 ≡ length parts
-length-all_but_last [] some = absurd (omega arith)
-length-all_but_last (part ∷ []) some = omega arith
-length-all_but_last (part ∷ second ∷ more) some = omega (arith, length-all_but_last (second ∷ more) (omega arith))
-
-pub length-lines_of : (text : List ℕ) → length (lines_of text) ≤ length text
-unfolding lines_of
-length-lines_of text =
-    let parts : length (parts_of text) ≡ count_by (λ byte. eqb byte 10) text + 1 = length-slice_split (λ byte. eqb byte 10) text in
-    omega (arith, parts, length-map (all_but_last (parts_of text)) line_of, length-all_but_last (parts_of text) (omega arith), count_by-le-length (λ byte. eqb byte 10) text)
 
 -- Texts.
 

@@ -1,19 +1,29 @@
 -- The lines of a text that is given piece by piece.
-use Rattle.std.proofs.Common.{◌≡◌, ◌≢◌, ap₂, ℕ, zero, suc, ◌+◌, ◌-◌, ◌<◌, ◌≤◌, Bool, true, false, List, [], ◌∷◌, ◌++◌, length, map, take, set, get_or, refl, sym, ap, ◌∙◌, arith, eqb, ⊎_elim, inl, inr, ◌⊎◌, append_assoc, append-nil}
+use Rattle.std.proofs.Common.{◌≡◌, ◌≢◌, ap₂, ℕ, zero, suc, ◌+◌, ◌-◌, ◌<◌, ◌≤◌, Bool, true, false, List, [], ◌∷◌, ◌++◌, length, map, take, set, get_or, refl, sym, ap, ◌∙◌, arith, eqb, count_by, length-append, ⊎_elim, inl, inr, ◌⊎◌, append_assoc, append-nil}
 use Rattle.std.proofs.lemmas.Bool.{cases_Bool, cases_lt, lt-leb, cond-true, cond-false, ne_eqb}
-use Rattle.std.proofs.lemmas.List.{take_more_set, length_push, take-append-le, take_more, map-append, take_all, take-take, length-take}
+use Rattle.std.proofs.lemmas.List.{take_more_set, length_push, take-append-le, take_more, map-append, length-map, take_all, take-take, length-take}
 use Rattle.std.proofs.lemmas.List.Elements.{All-take}
-use Rattle.std.proofs.lemmas.List.Splits.{slice_split_none}
+use Rattle.std.proofs.lemmas.List.Splits.{slice_split_none, length-slice_split}
+use Rattle.std.proofs.lemmas.List.Sums.{count_by-le-length}
 use Rattle.std.specs.Str.Lines.{strip_carriage_return}
 use Rattle.fx_text.specs.Fields.{first_field}
 use Rattle.fx_text.specs.Lines.{parts_of, all_but_last, last_of, line_of, lines_of, rest_of, held_of, is_end_rest}
 use Rattle.fx_text.specs.Held.{IsHeld}
 use Rattle.fx_text.specs.declared.line.Line.{Line}
 use Rattle.fx_text.specs.declared.line.Line.TheVariants.{Long}
-use Rattle.fx_text.proofs.PartsLemmas.{Unbroken, Unbroken-last, all_but_last-split_append, last_of-split_append, slice_split-last_passes, slice_split-last_fails, slice_split-onto_front, onto_front}
+use Rattle.fx_text.proofs.PartsLemmas.{Unbroken, Unbroken-last, all_but_last-split_append, last_of-split_append, slice_split-last_passes, slice_split-last_fails, slice_split-onto_front, slice_split-put_back, onto_front}
 
 abbrev is_line_feed : ℕ → Bool
 is_line_feed byte = eqb byte 10
+
+-- a text has at most as many lines as bytes
+pub length-lines_of : (text : List ℕ) → length (lines_of text) ≤ length text
+unfolding lines_of
+length-lines_of text =
+    let front : List (List ℕ) = all_but_last (parts_of text) in
+    let parts : length (parts_of text) ≡ count_by is_line_feed text + 1 = length-slice_split is_line_feed text in
+    let one_more : length (parts_of text) ≡ length front + 1 = ap length (slice_split-put_back is_line_feed text) ∙ length-append front (last_of (parts_of text) ∷ []) in
+    omega (arith, parts, one_more, length-map front line_of, count_by-le-length is_line_feed text)
 
 -- the lines of two texts, one after the other: only the rest of the first goes on
 pub lines_of-append : (text more : List ℕ) → lines_of (text ++ more) ≡ lines_of text ++ lines_of (rest_of text ++ more)

@@ -1,7 +1,10 @@
 -- The digits behind a price's point.
-use Rattle.std.proofs.Common.{◌≡◌, ℕ, zero, suc, ◌+◌, ◌*◌, ◌/◌, ◌%◌, ◌^◌, ◌<◌, ◌≤◌, List, [], ◌∷◌, ◌++◌, refl, sym, ap, ap₂, ◌∙◌, arith, div-add-mod', Ok, length, drop, decimal, append_assoc}
+use Rattle.std.proofs.Common.{◌≡◌, ℕ, zero, suc, ◌+◌, ◌-◌, ◌*◌, ◌/◌, ◌%◌, ◌^◌, ◌<◌, ◌≤◌, min, List, [], ◌∷◌, ◌++◌, refl, sym, ap, ap₂, ◌∙◌, arith, div-add-mod', Ok, length, take, drop, decimal, append_assoc, append-nil, add-zero, add-one, replicate, inl, inr}
+use Rattle.std.proofs.lemmas.Bool.{cases_lt}
+use Rattle.std.proofs.lemmas.List.{replicate_more, take_all}
 use Rattle.std.proofs.lemmas.Nat.{div-mul-add, mod-mul-add, mod_below}
-use native.Mathlib.Nat.{pow-succ', one-le-pow}
+use native.Mathlib.Nat.{pow-succ', one-le-pow, pow-le-pow_right}
+use Rattle.std.proofs.Math.Nat.{div-eq_of_lt}
 use Rattle.fx_amounts.specs.Numeral.{numeral}
 use Rattle.fx_amounts.specs.Price.{IsPrice}
 use Rattle.fx_amounts.specs.PriceText.{last_digits, price_text, price_of}
@@ -55,7 +58,7 @@ pub record BehindOne (decimals ticks : ℕ) (text : List ℕ) : Type 0 where
 behind_one : (decimals ticks : ℕ) (text : List ℕ) → text ≡ 49 ∷ last_digits decimals ticks → BehindOne decimals ticks text
 behind_one decimals ticks text is = record { some = rw is (omega arith); places = ap (λ (t : List ℕ). drop 1 t) is }
 
-pub BehindOne-decimal : (decimals ticks unit : ℕ) (text : List ℕ) → unit ≡ 10 ^ decimals → 0 < unit → unit ≤ 10 ^ 6 → text ≡ decimal (unit + ticks % unit) → BehindOne decimals ticks text
+pub BehindOne-decimal : (decimals ticks unit : ℕ) (text : List ℕ) → unit ≡ 10 ^ decimals → 0 < unit → unit ≤ 10 ^ 10 → text ≡ decimal (unit + ticks % unit) → BehindOne decimals ticks text
 BehindOne-decimal decimals ticks unit text is some most written =
     let rest : ticks % unit < unit = mod_below ticks unit some in
     behind_one decimals ticks text (written ∙ decimal-numeral (unit + ticks % unit) (omega arith) ∙ ap (λ (u : ℕ). numeral (u + ticks % u)) is ∙ numeral-leading_one decimals ticks)
@@ -66,12 +69,66 @@ unfolding price_text
 price_text-places zero ticks some whole places is digits = absurd (omega arith)
 price_text-places (suc more) ticks some whole places is digits = sym (ap₂ (λ (front last : List ℕ). front ++ 46 ∷ last) is digits)
 
+-- a number of at most `count` digits has zeros in front of its last `count`
+last_digits-zero : (count : ℕ) → last_digits count 0 ≡ replicate count 48
+last_digits-zero zero = refl
+last_digits-zero (suc count) =
+    ap (λ (front : List ℕ). front ++ 48 ∷ []) (last_digits-zero count) ∙ replicate_more count 48 ∙ ap (λ (n : ℕ). replicate n 48) (add-one count)
+
+pub last_digits-more : (more count t : ℕ) → t < 10 ^ count → last_digits (more + count) t ≡ replicate more 48 ++ last_digits count t
+last_digits-more more zero t few =
+    let none : t ≡ 0 = omega arith in
+    ap₂ last_digits (add-zero more) none ∙ last_digits-zero more ∙ sym (append-nil (replicate more 48))
+last_digits-more more (suc count) t few =
+    let power : 10 ^ suc count ≡ 10 * 10 ^ count = pow-succ' 10 count in
+    let front : last_digits (more + count) (t / 10) ≡ replicate more 48 ++ last_digits count (t / 10) = last_digits-more more count (t / 10) (omega arith) in
+    let next : more + suc count ≡ suc (more + count) = omega arith in
+    ap (λ (n : ℕ). last_digits n t) next
+    ∙ ap (λ (digits : List ℕ). digits ++ (48 + t % 10) ∷ []) front
+    ∙ append_assoc (replicate more 48) (last_digits count (t / 10)) ((48 + t % 10) ∷ [])
+
+-- a list that was filled up with zeros
+pub filled : (was now : List ℕ) (n size more : ℕ) → now ≡ take n was ++ replicate (n - size) 48 → size ≡ length was → n ≡ size + more → now ≡ was ++ replicate more 48
+filled was now n size more is all sum =
+    let rest : n - size ≡ more = omega arith in
+    is ∙ ap₂ (λ (front : List ℕ) (count : ℕ). front ++ replicate count 48) (take_all n was (omega arith)) rest
+
+-- the places of a price, of which only the last ten can be other than zero
+pub pushed_places : (decimals kept ticks : ℕ) (start one two places : List ℕ) → kept ≡ min decimals 10 → ticks < 10 ^ 10
+    → one ≡ start ++ replicate (decimals - kept) 48 → two ≡ one ++ places → places ≡ last_digits kept ticks
+    → two ≡ start ++ last_digits decimals ticks
+pushed_places decimals kept ticks start one two places is fits zeros last digits = elim (cases_lt decimals 10) [
+  | inl few ↦
+      let none : decimals - kept ≡ 0 = omega arith in
+      let all : kept ≡ decimals = omega arith in
+      last ∙ ap₂ (λ (front rest : List ℕ). front ++ rest) (zeros ∙ ap (λ (n : ℕ). start ++ replicate n 48) none ∙ append-nil start) (digits ∙ ap (λ (n : ℕ). last_digits n ticks) all)
+  | inr many ↦
+      let ten : kept ≡ 10 = omega arith in
+      let sum : decimals - kept + 10 ≡ decimals = omega arith in
+      last ∙ ap₂ (λ (front rest : List ℕ). front ++ rest) zeros (digits ∙ ap (λ (n : ℕ). last_digits n ticks) ten)
+      ∙ append_assoc start (replicate (decimals - kept) 48) (last_digits 10 ticks)
+      ∙ ap (λ (t : List ℕ). start ++ t) (sym (last_digits-more (decimals - kept) 10 ticks (omega arith)) ∙ ap (λ (n : ℕ). last_digits n ticks) sum)
+]
+
+-- the ticks of a price of 1, of which more than ten places tell no more
+quotient : (decimals ticks : ℕ) → ticks < 10 ^ 10 → ticks / 10 ^ min decimals 10 ≡ ticks / 10 ^ decimals
+quotient decimals ticks fits = elim (cases_lt decimals 10) [
+  | inl few ↦ let all : min decimals 10 ≡ decimals = omega arith in ap (λ (n : ℕ). ticks / 10 ^ n) all
+  | inr many ↦
+      let ten : min decimals 10 ≡ 10 = omega arith in
+      let large : 10 ^ 10 ≤ 10 ^ decimals = pow-le-pow_right (omega arith) many in
+      ap (λ (n : ℕ). ticks / 10 ^ n) ten ∙ div-eq_of_lt (omega arith) ∙ sym (div-eq_of_lt (omega arith))
+]
+
 -- three pieces, one after the other
-pub pushed_price : (decimals ticks unit : ℕ) (start one two three whole places : List ℕ) → 0 < decimals → unit ≡ 10 ^ decimals
-    → one ≡ start ++ whole → whole ≡ numeral (ticks / unit) → two ≡ one ++ 46 ∷ [] → three ≡ two ++ places → places ≡ last_digits decimals ticks
+pub pushed_price : (decimals ticks unit : ℕ) (start one two three : List ℕ) → 0 < decimals → ticks < 10 ^ 10 → unit ≡ 10 ^ min decimals 10
+    → one ≡ start ++ numeral (ticks / unit) → two ≡ one ++ 46 ∷ [] → three ≡ two ++ last_digits decimals ticks
     → three ≡ start ++ price_text decimals ticks
-pushed_price decimals ticks unit start one two three whole places some is first digits point last fraction =
-    let text : price_text decimals ticks ≡ whole ++ 46 ∷ places = price_text-places decimals ticks some whole places (digits ∙ ap (λ (u : ℕ). numeral (ticks / u)) is) fraction in
+pushed_price decimals ticks unit start one two three some fits is first point last =
+    let whole : List ℕ = numeral (ticks / unit) in
+    let places : List ℕ = last_digits decimals ticks in
+    let front : ticks / unit ≡ ticks / 10 ^ decimals = ap (λ (u : ℕ). ticks / u) is ∙ quotient decimals ticks fits in
+    let text : price_text decimals ticks ≡ whole ++ 46 ∷ places = price_text-places decimals ticks some whole places (ap numeral front) refl in
     last ∙ ap (λ (t : List ℕ). t ++ places) point ∙ append_assoc one (46 ∷ []) places ∙ ap (λ (t : List ℕ). t ++ 46 ∷ places) first ∙ append_assoc start whole (46 ∷ places)
     ∙ ap (λ (t : List ℕ). start ++ t) (sym text)
 

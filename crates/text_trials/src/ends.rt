@@ -45,6 +45,37 @@ impl Write for Full {
     }
 }
 
+// A reader that gives three bytes at a time, and a writer that takes three.
+#[derive(Drop)]
+struct ByThrees<'a> {
+    left: &'a [u8],
+    kept: Vec<u8>,
+}
+
+impl<'a> Read for ByThrees<'a> {
+    fn read(&mut self, buf: &mut [u8]) -> io::Result<usize> {
+        let count = buf.len().min(self.left.len()).min(3);
+        let (front, rest) = self.left.split_at(count);
+        buf[..count].copy_from_slice(front);
+        self.left = rest;
+        Ok(count)
+    }
+}
+
+impl<'a> Write for ByThrees<'a> {
+    fn write(&mut self, buf: &[u8]) -> io::Result<usize> {
+        let count = buf.len().min(3);
+        match self.kept.extend_from_slice(&buf[..count]) {
+            Ok(()) => Ok(count),
+            Err(_) => Err(io::Error::from(io::ErrorKind::OutOfMemory)),
+        }
+    }
+
+    fn flush(&mut self) -> io::Result<()> {
+        Ok(())
+    }
+}
+
 // What one read with room for eight bytes gives. The rest of the room has to stay.
 fn read_eight<S: Source>(rt: &(impl Abort + AllocGlobal), source: &mut S) -> Result<Vec<u8>, Fail> {
     let mut into = [b'.'; 8];
@@ -154,5 +185,34 @@ fn std_ends_pass_bytes_on_and_answer_faults(rt: HostRuntime) -> Result<(), Fail>
     assert_eq!(rt; StdSink::new(Broken).write(b"text"), Err(SinkFault::Failed));
     assert_eq!(rt; StdSink::new(Full).write(b"text"), Err(SinkFault::Failed));
     assert_eq!(rt; StdSink::new(Full).write(b""), Ok(0));
+    Ok(())
+}
+
+#[test]
+fn std_ends_pass_each_byte_of_streams_that_go_by_threes(rt: HostRuntime) -> Result<(), Fail> {
+    let mut reader = ByThrees {
+        left: TEXT,
+        kept: Vec::new(rt.alloc()),
+    };
+    let mut source = StdSource::new(&mut reader);
+    let mut all = Vec::new(rt.alloc());
+    for _ in 0..9 {
+        let piece = read_eight(&rt, &mut source)?;
+        assert_eq!(rt; piece.len(), 3);
+        all.extend_from_slice(&piece)?;
+    }
+    all.extend_from_slice(&read_eight(&rt, &mut source)?)?;
+    assert_eq!(rt; all.as_slice(), TEXT);
+    assert_eq!(rt; read_eight(&rt, &mut source)?.len(), 0);
+
+    let mut writer = ByThrees {
+        left: b"",
+        kept: Vec::new(rt.alloc()),
+    };
+    let mut sink = StdSink::new(&mut writer);
+    assert_eq!(rt; sink.write(b"FXBOOK 1\n"), Ok(3));
+    assert_eq!(rt; write_all(&mut sink, b"OOK 1\n"), Ok(()));
+    assert_eq!(rt; write_all(&mut sink, b"BANK ALFA\nBANK BETA\n"), Ok(()));
+    assert_eq!(rt; writer.kept.as_slice(), TEXT);
     Ok(())
 }

@@ -212,24 +212,23 @@ fn what_is_pushed_is_the_one_spelling(rt: HostRuntime) -> Result<(), Fail> {
             == b"0 340282366920938463463374607431768211455 -170141183460469231731687303715884105728 7".as_slice()
     );
 
-    let cases: [(u32, u8, &[u8]); 6] = [
+    let cases: [(u32, u8, &[u8]); 9] = [
         (108_420, 5, b"1.08420"),
         (149_250, 3, b"149.250"),
         (1, 5, b"0.00001"),
         (1_000_000_000, 5, b"10000.00000"),
         (1_000_000, 6, b"1.000000"),
         (7, 0, b"7"),
+        (1_000_000_000, 9, b"1.000000000"),
+        (1_000_000_000, 10, b"0.1000000000"),
+        (108_420, 13, b"0.0000000108420"),
     ];
     for (at, (ticks, decimals, want)) in cases.iter().enumerate() {
         let mut text = Vec::new(rt.alloc());
         let price = Price::new(*ticks).ok_or("ticks")?;
-        push_price(price, (*decimals).min(6), &mut text)?;
+        push_price(price, *decimals, &mut text)?;
         assert!(rt; text.as_slice() == *want, "case {at}");
-        assert_eq!(rt;
-            price_from(&text, (*decimals).min(6)),
-            Ok(price),
-            "case {at}"
-        );
+        assert_eq!(rt; price_from(&text, *decimals), Ok(price), "case {at}");
     }
     assert_eq!(rt; price_from(b"1.0842", 5), Err(PriceFault::Form));
     Ok(())
