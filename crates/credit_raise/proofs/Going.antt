@@ -3,23 +3,20 @@ use Rattle.std.proofs.Common.{ℕ, ◌≡◌, ◌≢◌, ◌-◌, ◌*◌, ◌/�
 use Rattle.std.proofs.Math.Nat.{add-mul}
 use Rattle.std.proofs.lemmas.Bool.{cond-false, and_left, and_right, and_from, or_left, or_right, ne_eqb, eq-eqb, cases_eq, both_ways}
 use Rattle.fx_amounts.specs.Quantity.{IsUnits}
-use Rattle.fx_rules.specs.declared.orders.ActiveOrder.{ActiveOrder}
 use Rattle.fx_rules.specs.declared.orders.Resting.{Resting}
 use Rattle.fx_rules.specs.declared.orders.Fill.{Fill}
 use Rattle.fx_rules.specs.declared.outcome.Entry.{Entry}
-use Rattle.fx_rules.specs.Lists.{Among, Each}
+use Rattle.fx_rules.specs.Lists.{Each}
 use Rattle.fx_rules.specs.Session.{Header, bank_count, weight_of}
 use Rattle.fx_rules.specs.State.{State, orders_in, line, used, reach}
-use Rattle.fx_rules.specs.Sweep.{Taker, Swept, filled, filled_all, lowered, less}
+use Rattle.fx_rules.specs.Sweep.{Swept, filled, filled_all}
 use Rattle.fx_rules.specs.Raise.{limit_set, limited, order_of, taker_of_resting, Turned}
 use Rattle.fx_rules.specs.History.{IsLegal, state}
 use Rattle.fx_rules.specs.Sound.{IsSound}
 use Rattle.fx_rules.specs.NoCross.{NoCross}
-use Rattle.fx_rules.proofs.Credit.{IsAllowed}
-use Rattle.fx_rules.proofs.Opens.{IsMaker, maker_of, allowed-open}
-use Rattle.fx_rules.proofs.Following.{filled_all-follows, lowered_from}
+use Rattle.fx_rules.proofs.Following.{filled_all-follows}
 use Rattle.fx_rules.proofs.Staying.{Elsewhere, elsewhere_of, swept_elsewhere}
-use Rattle.fx_rules.proofs.SweepSound.{filled-sound, swept-sound, filled_all-append}
+use Rattle.fx_rules.proofs.SweepSound.{swept-sound, filled_all-append}
 use Rattle.fx_rules.proofs.RaiseSound.{IsTurn, match_cases, turn_of, turn-sender, turned-sound, limited-sound}
 use Rattle.fx_rules.proofs.Soundness.{legal-sound}
 use Rattle.fx_rules.proofs.Uncrossed.{legal-uncrossed}

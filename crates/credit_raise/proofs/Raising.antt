@@ -1,5 +1,5 @@
 -- A play of two banks' orders in a state in which their line was raised.
-use Rattle.std.proofs.Common.{ℕ, ◌≡◌, ◌≢◌, ◌^◌, ◌≤◌, ◌<◌, Bool, true, false, ◌&&◌, leb, ltb, List, [], ◌⊎◌, refl, ap, sym, subst, arith}
+use Rattle.std.proofs.Common.{ℕ, ◌≡◌, ◌≢◌, ◌^◌, ◌≤◌, ◌<◌, Bool, true, false, ◌&&◌, leb, ltb, List, [], ◌⊎◌, refl, ap, subst, arith}
 use Rattle.std.proofs.lemmas.Bool.{and_parts, lt-ltb, le-leb}
 use Rattle.std.specs.List.{filter}
 use Rattle.fx_rules.specs.declared.orders.Resting.{Resting}
