@@ -1,6 +1,6 @@
 ghost use Rattle.std.specs.Prelude.{◌≡◌, ◌<◌, IfOk};
 ghost use Rattle.fx_amounts.specs.Quantity.{IsWeight};
-ghost use Rattle.local_view.specs.LocalBook.{IsLocalBook, IsShown, unlimited_order};
+ghost use Rattle.local_view.specs.LocalBook.{IsLegalLocalBook, IsLocalBook, IsShown, unlimited_order};
 
 use credit_lines::CreditLines;
 use fx_amounts::{BankId, Memory, PairId, Side};
@@ -14,8 +14,11 @@ use std::sync::ledger::{Blank, Ledger};
 
 /// The local book of a bank in a pair: `Depth` with, for bids, what an order of it would sell now at any price and, for
 /// asks, what one would buy, each capped by the bank's lines, summed by price and cut to ten levels. Both sides are of
-/// the book and the lines as they stand. A lot costs `weight` credit units, 1 to 10^6; the book was made for as many
-/// banks as the lines have, and the viewer is one of them. At `Memory` there was none for the levels.
+/// the book and the lines as they stand: they are the market's in the state of every legal history that the two are of
+/// (`depth`), and in every other sound state before the 2^64th command (`sound`), as those in the midst of a command are.
+///
+/// A lot costs `weight` credit units, 1 to 10^6; the book was made for as many banks as the lines have, and the viewer is
+/// one of them. At `Memory` there was none for the levels.
 pub fn depth(
     alloc: Global,
     book: &PairBook,
@@ -26,7 +29,8 @@ pub fn depth(
     requires banks { book.now.banks ≡ lines.now.banks }
     requires bank { viewer < lines.now.banks }
     requires weight { IsWeight weight }
-    ensures depth { IfOk result (IsLocalBook book.now lines.now weight viewer) }
+    ensures depth { IfOk result (IsLegalLocalBook book.now lines.now weight viewer) }
+    ensures sound { IfOk result (IsLocalBook book.now lines.now weight viewer) }
 {
     both_sides::<Brand>(alloc, book, lines, weight, viewer, Blank::new(1))
 }
