@@ -11,8 +11,8 @@ use Rattle.credit_lines.specs.Credit.{Credit}
 use Rattle.local_view.specs.LocalBook.{IsLocalBook, IsLegalLocalBook}
 
 in_histories : (book : Book) (credit : Credit) (weight bank : ℕ) (outcome : Outcome) → IsLocalBook book credit weight bank outcome → IsLegalLocalBook book credit weight bank outcome
-in_histories book credit weight bank (Depth bids asks) is h entries legal fits =
-    is h (state h entries) (legal-sound h entries legal) fits (arrivals-few h entries legal)
+in_histories book credit weight bank (Depth bids asks) is =
+    λ h entries legal fits. is h (state h entries) (legal-sound h entries legal) fits (arrivals-few h entries legal)
 in_histories book credit weight bank outcome is = absurd is
 
 pub shown-in_histories : (book : Book) (credit : Credit) (weight bank : ℕ) (r : Result Outcome Memory) → IfOk r (IsLocalBook book credit weight bank) → IfOk r (IsLegalLocalBook book credit weight bank)
