@@ -1,6 +1,6 @@
 -- The fills of a step as they are made: each between two banks of the session, in one of its pairs, at a price in range, and
 -- within the line that the fills before it leave.
-use Rattle.std.proofs.Common.{ℕ, zero, suc, ◌<◌, ◌≤◌, ◌+◌, ◌-◌, ◌≡◌, List, [], ◌∷◌, ◌++◌, refl, inl, inr, ap, sym, subst, ◌∙◌, arith, length, get_or, map}
+use Rattle.std.proofs.Common.{ℕ, zero, suc, ◌<◌, ◌≤◌, ◌+◌, ◌-◌, ◌≡◌, List, [], ◌∷◌, ◌++◌, refl, ap, sym, subst, ◌∙◌, arith, length, get_or, map}
 use Rattle.std.proofs.lemmas.Bool.{cond_both}
 use Rattle.std.proofs.lemmas.List.{length-map}
 use Rattle.std.specs.Prelude.{nat_lt}
@@ -15,15 +15,15 @@ use Rattle.fx_rules.specs.declared.outcome.Outcome.TheVariants.{Ordered, Killed,
 use Rattle.fx_rules.specs.declared.orders.Fill.{Fill}
 use Rattle.fx_rules.specs.declared.orders.Resting.{Resting}
 use Rattle.fx_rules.specs.Session.{Header, IsSession, bank_count, pair_count, weight_of}
-use Rattle.fx_rules.specs.State.{State, reach, orders_in}
+use Rattle.fx_rules.specs.State.{State, reach}
 use Rattle.fx_rules.specs.Sweep.{Taker, Swept, filled, filled_all, less, fill_with, amount}
-use Rattle.fx_rules.specs.Raise.{order_of, taker_of_resting, limited, Turned, PairsTurned}
+use Rattle.fx_rules.specs.Raise.{order_of, limited, Turned, PairsTurned}
 use Rattle.fx_rules.specs.Step.{IsCommand, IsOrdered, IsOutcome, taker_of, fills_of, cancel_answer, reduce_answer, rested, changed}
 use Rattle.fx_rules.specs.Sound.{IsSound}
 use Rattle.fx_rules.proofs.Credit.{IsAllowed}
 use Rattle.fx_rules.proofs.Opens.{IsMaker, maker_of, allowed-open}
-use Rattle.fx_rules.proofs.SweepSound.{filled-sound, swept-sound, limits-filled_all, weight_of-least}
-use Rattle.fx_rules.proofs.RaiseSound.{match_cases, turn_of, turn-sender, turned-sound, limited-sound}
+use Rattle.fx_rules.proofs.SweepSound.{filled-sound, limits-filled_all, weight_of-least}
+use Rattle.fx_rules.proofs.RaiseSound.{turned-walk, pairs-walk, limited-sound}
 use Rattle.fx_rules.proofs.Soundness.{resting_of}
 use Rattle.fx_rules.proofs.Falling.{cancel_fills, reduce_fills}
 
@@ -74,34 +74,12 @@ swept-made h S t (f ∷ fills) left sound bank some swept =
 
 -- of orders that are swept in turn
 pub turned-made : (h : Header) (pair : ℕ) (S : State) (orders : List Resting) (fills : List Fill) → IsSound h S → 0 < weight_of h pair → Turned h pair S orders fills → AreMade h S fills
-turned-made h pair S [] fills sound some turned = subst (AreMade h S) (sym turned) tt
-turned-made h pair S (order ∷ orders) fills sound some turned =
-    elim (match_cases (order_of S pair order.bank order.number) (Turned h pair S orders fills)
-    (λ now. (own more : List Fill) × (left : ℕ) × Swept h S (taker_of_resting pair now) own left × (fills ≡ own ++ more) × Turned h pair (filled_all S own) orders more)
-    turned) [
-      | inl gone ↦ turned-made h pair S orders fills sound some gone.1
-      | inr here ↦
-          let now : Resting = here.0 in
-          let own : List Fill = here.2.0 in
-          let more : List Fill = here.2.1 in
-          let sender = turn-sender h S pair order.bank order.number now (turn_of h S pair order.bank order.number now sound here.1) in
-          let next : IsSound h (filled_all S own) = (swept-sound h S (taker_of_resting pair now) own here.2.2 sound sender some here.2.3).0 in
-          subst (AreMade h S) (sym here.2.4)
-          (made-append h S own more (swept-made h S (taker_of_resting pair now) own here.2.2 sound sender some here.2.3)
-          (turned-made h pair (filled_all S own) orders more next some here.2.5))
-    ]
+turned-made h pair S orders fills sound some =
+    turned-walk h (AreMade h) (λ _ _. tt) (made-append h) (swept-made h) pair S orders fills some sound
 
 -- and of pairs that are gone through
 pairs-made : (h : Header) (pairs pair : ℕ) (S : State) (fills : List Fill) → IsSession h → pair + pairs ≤ pair_count h → IsSound h S → PairsTurned h pairs pair S fills → AreMade h S fills
-pairs-made h zero pair S fills session within sound turned = subst (AreMade h S) (sym turned) tt
-pairs-made h (suc pairs) pair S fills session within sound turned =
-    let own : List Fill = turned.0 in
-    let more : List Fill = turned.1 in
-    let some : 0 < weight_of h pair = weight_of-least h pair session (omega arith) in
-    let next : IsSound h (filled_all S own) = turned-sound h pair S (orders_in pair S.orders) own some sound turned.2 in
-    subst (AreMade h S) (sym turned.3)
-    (made-append h S own more (turned-made h pair S (orders_in pair S.orders) own sound some turned.2)
-    (pairs-made h pairs (pair + 1) (filled_all S own) more session (omega arith) next turned.4))
+pairs-made h = pairs-walk h (AreMade h) (λ _ _. tt) (made-append h) (swept-made h)
 
 -- The state in which a command's fills are made: a line command has set its limit.
 abbrev pub limit_made : State → ℕ → Command → Outcome → State

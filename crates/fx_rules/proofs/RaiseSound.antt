@@ -8,7 +8,7 @@ use Rattle.fx_rules.specs.declared.orders.Fill.{Fill}
 use Rattle.fx_rules.specs.Lists.{Among}
 use Rattle.fx_rules.specs.Session.{Header, IsSession, bank_count, pair_count, weight_of}
 use Rattle.fx_rules.specs.State.{State, used, orders_in}
-use Rattle.fx_rules.specs.Sweep.{Swept, is_order, filled_all}
+use Rattle.fx_rules.specs.Sweep.{Taker, Swept, is_order, filled_all}
 use Rattle.fx_rules.specs.Raise.{limit_set, limited, order_of, taker_of_resting, Turned, PairsTurned, Raised}
 use Rattle.fx_rules.specs.Sound.{IsSound, IsKept}
 use Rattle.fx_rules.proofs.ListLemmas.{Each-among}
@@ -60,32 +60,52 @@ turn-sender h S pair bank number now turn =
     let owner : now.bank ≡ turn.active.order.bank = ap (λ (o : Resting). o.bank) turn.order in
     omega (arith, turn.kept.bank)
 
+-- What holds of no fills and of the fills of each sweep, and of two lists of fills together where it holds of each, the second
+-- in the state that the first leaves, holds of the fills of orders that are swept in turn.
+module _ (h : Header) (P : State → List Fill → Type 0) (none : (S : State) → IsSound h S → P S []) (join : (S : State) (own more : List Fill) → P S own → P (filled_all S own) more → P S (own ++ more)) (one : (S : State) (t : Taker) (fills : List Fill) (left : ℕ) → IsSound h S → t.bank < bank_count h → 0 < weight_of h t.pair → Swept h S t fills left → P S fills) where
+  pub turned-walk : (pair : ℕ) (S : State) (orders : List Resting) (fills : List Fill) → 0 < weight_of h pair → IsSound h S → Turned h pair S orders fills → P S fills
+  turned-walk pair S [] fills some sound turned = subst (P S) (sym turned) (none S sound)
+  turned-walk pair S (order ∷ orders) fills some sound turned =
+      elim (match_cases (order_of S pair order.bank order.number) (Turned h pair S orders fills)
+      (λ now. (own more : List Fill) × (left : ℕ) × Swept h S (taker_of_resting pair now) own left × (fills ≡ own ++ more) × Turned h pair (filled_all S own) orders more)
+      turned) [
+        | inl gone ↦ turned-walk pair S orders fills some sound gone.1
+        | inr here ↦
+            let now : Resting = here.0 in
+            let own : List Fill = here.2.0 in
+            let more : List Fill = here.2.1 in
+            let sender = turn-sender h S pair order.bank order.number now (turn_of h S pair order.bank order.number now sound here.1) in
+            let next : IsSound h (filled_all S own) = (swept-sound h S (taker_of_resting pair now) own here.2.2 sound sender some here.2.3).0 in
+            subst (P S) (sym here.2.4)
+            (join S own more (one S (taker_of_resting pair now) own here.2.2 sound sender some here.2.3)
+            (turned-walk pair (filled_all S own) orders more some next here.2.5))
+      ]
+
+sound_joined : (h : Header) (S : State) (own more : List Fill) → IsSound h (filled_all (filled_all S own) more) → IsSound h (filled_all S (own ++ more))
+sound_joined h S own more sound = subst (IsSound h) (sym (filled_all-append S own more)) sound
+
 pub turned-sound : (h : Header) (pair : ℕ) (S : State) (orders : List Resting) (fills : List Fill) → 0 < weight_of h pair → IsSound h S → Turned h pair S orders fills → IsSound h (filled_all S fills)
-turned-sound h pair S [] fills some sound turned = subst (λ (fs : List Fill). IsSound h (filled_all S fs)) (sym turned) sound
-turned-sound h pair S (order ∷ orders) fills some sound turned =
-    elim (match_cases (order_of S pair order.bank order.number) (Turned h pair S orders fills)
-    (λ now. (own more : List Fill) × (left : ℕ) × Swept h S (taker_of_resting pair now) own left × (fills ≡ own ++ more) × Turned h pair (filled_all S own) orders more)
-    turned) [
-      | inl gone ↦ turned-sound h pair S orders fills some sound gone.1
-      | inr here ↦
-          let now : Resting = here.0 in
-          let own : List Fill = here.2.0 in
-          let more : List Fill = here.2.1 in
-          let sender = turn-sender h S pair order.bank order.number now (turn_of h S pair order.bank order.number now sound here.1) in
-          let next : IsSound h (filled_all S own) = (swept-sound h S (taker_of_resting pair now) own here.2.2 sound sender some here.2.3).0 in
-          subst (IsSound h) (sym (ap (filled_all S) here.2.4 ∙ filled_all-append S own more))
-          (turned-sound h pair (filled_all S own) orders more some next here.2.5)
-    ]
+turned-sound h =
+    turned-walk h (λ S fills. IsSound h (filled_all S fills)) (λ S sound. sound) (λ S own more _. sound_joined h S own more)
+    (λ S t fills left sound sender some swept. (swept-sound h S t fills left sound sender some swept).0)
+
+-- the same of the fills of pairs that are gone through
+module _ (h : Header) (P : State → List Fill → Type 0) (none : (S : State) → IsSound h S → P S []) (join : (S : State) (own more : List Fill) → P S own → P (filled_all S own) more → P S (own ++ more)) (one : (S : State) (t : Taker) (fills : List Fill) (left : ℕ) → IsSound h S → t.bank < bank_count h → 0 < weight_of h t.pair → Swept h S t fills left → P S fills) where
+  pub pairs-walk : (pairs pair : ℕ) (S : State) (fills : List Fill) → IsSession h → pair + pairs ≤ pair_count h → IsSound h S → PairsTurned h pairs pair S fills → P S fills
+  pairs-walk zero pair S fills session within sound turned = subst (P S) (sym turned) (none S sound)
+  pairs-walk (suc pairs) pair S fills session within sound turned =
+      let own : List Fill = turned.0 in
+      let more : List Fill = turned.1 in
+      let some : 0 < weight_of h pair = weight_of-least h pair session (omega arith) in
+      let next : IsSound h (filled_all S own) = turned-sound h pair S (orders_in pair S.orders) own some sound turned.2 in
+      subst (P S) (sym turned.3)
+      (join S own more (turned-walk h P none join one pair S (orders_in pair S.orders) own some sound turned.2)
+      (pairs-walk pairs (pair + 1) (filled_all S own) more session (omega arith) next turned.4))
 
 pub pairs_turned-sound : (h : Header) (pairs pair : ℕ) (S : State) (fills : List Fill) → IsSession h → pair + pairs ≤ pair_count h → IsSound h S → PairsTurned h pairs pair S fills → IsSound h (filled_all S fills)
-pairs_turned-sound h zero pair S fills session within sound turned = subst (λ (fs : List Fill). IsSound h (filled_all S fs)) (sym turned) sound
-pairs_turned-sound h (suc pairs) pair S fills session within sound turned =
-    let own : List Fill = turned.0 in
-    let more : List Fill = turned.1 in
-    let some : 0 < weight_of h pair = weight_of-least h pair session (omega arith) in
-    let next : IsSound h (filled_all S own) = turned-sound h pair S (orders_in pair S.orders) own some sound turned.2 in
-    subst (IsSound h) (sym (ap (filled_all S) turned.3 ∙ filled_all-append S own more))
-    (pairs_turned-sound h pairs (pair + 1) (filled_all S own) more session (omega arith) next turned.4)
+pairs_turned-sound h =
+    pairs-walk h (λ S fills. IsSound h (filled_all S fills)) (λ S sound. sound) (λ S own more _. sound_joined h S own more)
+    (λ S t fills left sound sender some swept. (swept-sound h S t fills left sound sender some swept).0)
 
 -- what is used is in range
 used_most : (h : Header) (S : State) (i j : ℕ) → IsSound h S → i < bank_count h → j < bank_count h → i ≢ j → IsUnits (used h S i j)
