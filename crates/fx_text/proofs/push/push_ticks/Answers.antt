@@ -1,4 +1,4 @@
-use Rattle.std.proofs.Common.{◌≡◌, ◌∙◌, ap, sym, ℕ, ◌+◌, ◌-◌, ◌^◌, List, ◌++◌, length, replicate, vec_len, min, arith}
+use Rattle.std.proofs.Common.{◌≡◌, ◌∙◌, ap, sym, ℕ, ◌+◌, ◌-◌, ◌^◌, ◌++◌, length, replicate, vec_len, min, arith}
 use Rattle.fx_amounts.specs.Numeral.{numeral}
 use Rattle.fx_amounts.specs.PriceText.{last_digits, price_text}
 use Rattle.fx_text.proofs.PlacesLemmas.{BehindOne-decimal, filled, pushed_places, pushed_price, price_text-whole}
