@@ -7,7 +7,6 @@ use Rattle.std.specs.List.{slice_split, join_with_byte, AllByRecursion}
 use Rattle.std.specs.Str.Lines.{strip_carriage_return}
 use Rattle.fx_text.specs.Fields.{is_blank, has_bytes, fields_of}
 use Rattle.fx_text.specs.Lines.{parts_of, all_but_last, last_of, line_of, lines_of, rest_of}
-use Rattle.fx_text.specs.declared.line.Line.{Line}
 use Rattle.fx_text.specs.declared.line.Line.TheVariants.{Whole}
 
 -- a text that can stand as a field: some bytes, each above the space, and at most 40

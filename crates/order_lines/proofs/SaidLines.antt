@@ -11,7 +11,7 @@ use Rattle.fx_text.specs.declared.line.Line.{Line}
 use Rattle.fx_text.specs.declared.line.Line.TheVariants.{Whole, Long}
 use Rattle.fx_text.proofs.NumberLemmas.{Reads, Reads-number_of, number_of-numeral}
 use Rattle.fx_rules.specs.Reject.{code_of}
-use Rattle.fx_rules.specs.Session.{Header, IsSession, bank_count, pair_count, bank_of, bank_name}
+use Rattle.fx_rules.specs.Session.{Header, IsSession, bank_count, bank_of, bank_name}
 use Rattle.fx_rules.specs.Step.{IsCommand}
 use Rattle.fx_rules.specs.declared.command.Command.{Command}
 use Rattle.fx_rules.specs.declared.command.Command.TheVariants as command
