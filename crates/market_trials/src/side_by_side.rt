@@ -1,15 +1,15 @@
 //! Of `global_book`, `credit_lines`, `match_sweep` and `local_view` together: orders from a number, sent to the plain host
 //! and worked on the book of their pair and the lines.
-ghost use Rattle.std.specs.Prelude.{◌≡◌, ◌+◌, ◌-◌, ◌<◌, ◌≤◌, ◌^◌, IfOk, IfSome, OnOk, length, slice_index};
+ghost use Rattle.std.specs.Prelude.{[], ◌≡◌, ◌+◌, ◌-◌, ◌<◌, ◌≤◌, ◌^◌, IfOk, IfSome, OnOk, length, map, slice_index};
 ghost use Rattle.fx_amounts.specs.Price.{IsPrice};
 ghost use Rattle.fx_amounts.specs.Quantity.{IsLots};
 ghost use Rattle.fx_rules.specs.Lists.{Each};
 
-use crate::fixture::{EURUSD, EURUSD_WEIGHT, bank, lines_of_alfa, pair, session};
+use crate::fixture::{EURUSD, EURUSD_WEIGHT, bank, lines_of_alfa, lots, pair, session};
 use credit_lines::CreditLines;
 use flat_host::FlatHost;
 use fx_amounts::{BankId, Lots, Memory, Price, Side};
-use fx_rules::{Command, Fill, Life, Outcome, Plan, Resting};
+use fx_rules::{Command, Fill, Life, Outcome, Plan, Resting, Session};
 use global_book::PairBook;
 use local_view::depth;
 use match_sweep::{Taker, carry, plan};
@@ -136,22 +136,25 @@ fn rest<L: Ledger>(
 /// leave the same rest.
 fn trade<L: Ledger>(
     alloc: Global,
+    session: &Session,
     host: &mut FlatHost,
     book: &mut PairBook,
     lines: &mut CreditLines,
     drawn: &Taker,
     steps: &mut Steps<L>,
 ) -> Result<bool, Memory>
-    requires counts { length host.old.counts ≡ 3 }
-    requires weights { length host.old.weights ≡ 2 }
+    requires three { length session.now.banks ≡ 3 }
+    requires two { length session.now.pairs ≡ 2 }
+    requires host_banks { host.old.banks ≡ 3 }
+    requires weights { host.old.weights ≡ map (λ rule. rule.weight) session.now.pairs }
     requires banks { book.old.banks ≡ 3 }
     requires lines { lines.old.banks ≡ 3 }
     requires bank { drawn.now.bank < 3 }
     requires price { IsPrice drawn.now.price }
     requires lots { IsLots drawn.now.lots }
     requires before { Each (λ other. other.arrival < drawn.now.arrival) book.old.orders }
-    ensures counts { OnOk result (length host.new.counts ≡ 3) }
-    ensures weights { OnOk result (length host.new.weights ≡ 2) }
+    ensures host_banks { OnOk result (host.new.banks ≡ 3) }
+    ensures weights { OnOk result (host.new.weights ≡ host.old.weights) }
     ensures banks { OnOk result (book.new.banks ≡ 3) }
     ensures lines { OnOk result (lines.new.banks ≡ 3) }
     ensures before { OnOk result (Each (λ other. other.arrival < drawn.now.arrival + 1) book.new.orders) }
@@ -182,12 +185,15 @@ fn trade<L: Ledger>(
 /// Whether each bank's local book is the same in the plain host and beside it.
 fn show_alike(
     alloc: Global,
+    session: &Session,
     host: &FlatHost,
     book: &PairBook,
     lines: &CreditLines,
 ) -> Result<bool, Memory>
-    requires counts { length host.now.counts ≡ 3 }
-    requires weights { length host.now.weights ≡ 2 }
+    requires three { length session.now.banks ≡ 3 }
+    requires two { length session.now.pairs ≡ 2 }
+    requires host_banks { host.now.banks ≡ 3 }
+    requires weights { host.now.weights ≡ map (λ rule. rule.weight) session.now.pairs }
     requires banks { book.now.banks ≡ 3 }
     requires lines { lines.now.banks ≡ 3 }
 {
@@ -203,30 +209,59 @@ fn show_alike(
 
 /// Whether the same orders rest in the plain host and beside it, with the same lots left.
 fn rest_alike<L: Ledger>(
+    session: &Session,
     host: &FlatHost,
     book: &PairBook,
     steps: &mut Steps<L>,
 ) -> Result<bool, Memory>
-    requires counts { length host.now.counts ≡ 3 }
-    requires weights { length host.now.weights ≡ 2 }
+    requires three { length session.now.banks ≡ 3 }
+    requires two { length session.now.pairs ≡ 2 }
+    requires host_banks { host.now.banks ≡ 3 }
+    requires weights { host.now.weights ≡ map (λ rule. rule.weight) session.now.pairs }
 {
     for number in 0..3u8 {
-        if !orders_alike(host, book, bank(number), steps)? {
+        if !orders_alike(session, host, book, bank(number), steps)? {
             return Ok(false);
         }
     }
     Ok(true)
 }
 
-/// The same of one bank's orders. A reduction to more lots than an order has tells what it has left.
+/// What an order of a bank has left in the plain host; 0 where it does not rest. A reduction to more lots than an order
+/// has tells what it has left.
+fn left_in(session: &Session, host: &FlatHost, owner: BankId, number: u32) -> Result<u32, Memory>
+    requires three { length session.now.banks ≡ 3 }
+    requires two { length session.now.pairs ≡ 2 }
+    requires host_banks { host.now.banks ≡ 3 }
+    requires weights { host.now.weights ≡ map (λ rule. rule.weight) session.now.pairs }
+    requires owner { owner < 3 }
+    requires count { slice_index host.now.counts owner < 2 ^ 32 - 1 }
+    requires least { 1 ≤ number }
+    requires most { number < 2 ^ 32 }
+{
+    let asked = Command::Reduce {
+        pair: pair(EURUSD),
+        number,
+        lots: lots(1_000_000),
+    };
+    match host.answer(owner, &asked)? {
+        Outcome::NotLess { left } => Ok(left),
+        _ => Ok(0),
+    }
+}
+
+/// The same of one bank's orders.
 fn orders_alike<L: Ledger>(
+    session: &Session,
     host: &FlatHost,
     book: &PairBook,
     owner: BankId,
     steps: &mut Steps<L>,
 ) -> Result<bool, Memory>
-    requires counts { length host.now.counts ≡ 3 }
-    requires weights { length host.now.weights ≡ 2 }
+    requires three { length session.now.banks ≡ 3 }
+    requires two { length session.now.pairs ≡ 2 }
+    requires host_banks { host.now.banks ≡ 3 }
+    requires weights { host.now.weights ≡ map (λ rule. rule.weight) session.now.pairs }
     requires owner { owner < 3 }
 {
     let sent = host.count(owner);
@@ -234,15 +269,7 @@ fn orders_alike<L: Ledger>(
         return Ok(false);
     }
     for before in 0..sent {
-        let asked = Command::Reduce {
-            pair: pair(EURUSD),
-            number: before + 1,
-            lots: Lots::new(1_000_000).unwrap(),
-        };
-        let told = match host.answer(owner, &asked)? {
-            Outcome::NotLess { left } => left,
-            _ => 0,
-        };
+        let told = left_in(session, host, owner, before + 1)?;
         let found = match book.find(owner, before + 1, steps) {
             Some(order) => order.left.count(),
             None => 0,
@@ -254,7 +281,42 @@ fn orders_alike<L: Ledger>(
     Ok(true)
 }
 
-/// Whether so many orders from this number are worked alike.
+/// Whether so many orders from this number are worked alike, by a host and beside it where nothing rests yet.
+fn trade_all<L: Ledger>(
+    alloc: Global,
+    session: &Session,
+    host: &mut FlatHost,
+    book: &mut PairBook,
+    lines: &mut CreditLines,
+    mut seed: u64,
+    orders: u64,
+    steps: &mut Steps<L>,
+) -> Result<bool, Memory>
+    requires three { length session.now.banks ≡ 3 }
+    requires two { length session.now.pairs ≡ 2 }
+    requires host_banks { host.old.banks ≡ 3 }
+    requires weights { host.old.weights ≡ map (λ rule. rule.weight) session.now.pairs }
+    requires banks { book.old.banks ≡ 3 }
+    requires lines { lines.old.banks ≡ 3 }
+    requires empty { book.old.orders ≡ [] }
+    requires orders { orders < 2 ^ 32 }
+{
+    for arrival in 0..orders {
+        seed = next(seed);
+        let order = order_from(seed, arrival);
+        if !trade(alloc, session, host, book, lines, &order, steps)? {
+            return Ok(false);
+        }
+        if !rest_alike(session, host, book, steps)?
+            || !show_alike(alloc, session, host, book, lines)?
+        {
+            return Ok(false);
+        }
+    }
+    Ok(host.resting() > 0)
+}
+
+/// Whether a session of so many orders from this number is worked alike.
 fn trade_alike<L: Ledger>(alloc: Global, seed: u64, orders: u64, blank: Blank) -> Result<bool, Fail>
     requires orders { orders < 2 ^ 32 }
     requires name { blank.name ≡ L.name }
@@ -266,18 +328,10 @@ fn trade_alike<L: Ledger>(alloc: Global, seed: u64, orders: u64, blank: Blank) -
     let mut lines = CreditLines::open(alloc, &session)?;
     let mut book = PairBook::new(alloc, pair(EURUSD), 3)?;
     let mut steps = Steps::<L>::new(blank);
-    let mut seed = seed;
-    for arrival in 0..orders {
-        seed = next(seed);
-        let order = order_from(seed, arrival);
-        if !trade(alloc, &mut host, &mut book, &mut lines, &order, &mut steps)? {
-            return Ok(false);
-        }
-        if !rest_alike(&host, &book, &mut steps)? || !show_alike(alloc, &host, &book, &lines)? {
-            return Ok(false);
-        }
-    }
-    Ok(host.resting() > 0)
+    let alike = trade_all(
+        alloc, &session, &mut host, &mut book, &mut lines, seed, orders, &mut steps,
+    )?;
+    Ok(alike)
 }
 
 /// A hundred sessions of forty orders, after each of which the fills, the orders that rest and the local books are compared.

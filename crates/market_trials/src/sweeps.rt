@@ -124,7 +124,10 @@ fn a_line_cuts_a_fill_and_the_next_order_is_taken(rt: HostRuntime) -> Result<(),
     );
     assert_eq!(rt; plan.left, 0);
     carry(&mut book, &plan);
-    assert_eq!(rt; left_of::<Brand>(&book, bank(BETA), 1, Blank::new(1)), Some(1));
+    assert_eq!(rt;
+        left_of::<Brand>(&book, bank(BETA), 1, Blank::new(1)),
+        Some(1)
+    );
     assert_eq!(rt; left_of::<Brand>(&book, bank(GAMA), 2, Blank::new(1)), None);
     Ok(())
 }
@@ -181,7 +184,13 @@ fn a_taker_that_rests_is_lowered_too(rt: HostRuntime) -> Result<(), Fail> {
     assert_eq!(rt; fills.as_slice(), [(1, 108_430, 1)].as_slice());
     carry(&mut book, &plan);
     assert_eq!(rt; left_of::<Brand>(&book, bank(BETA), 1, Blank::new(1)), None);
-    assert_eq!(rt; left_of::<Brand>(&book, bank(ALFA), 2, Blank::new(1)), Some(1));
-    assert_eq!(rt; left_of::<Brand>(&book, bank(BETA), 3, Blank::new(1)), Some(1));
+    assert_eq!(rt;
+        left_of::<Brand>(&book, bank(ALFA), 2, Blank::new(1)),
+        Some(1)
+    );
+    assert_eq!(rt;
+        left_of::<Brand>(&book, bank(BETA), 3, Blank::new(1)),
+        Some(1)
+    );
     Ok(())
 }

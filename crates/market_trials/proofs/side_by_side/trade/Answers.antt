@@ -27,7 +27,15 @@ before_carried arrival orders (f ∷ fills) before =
     (before_lowered arrival f.maker f.maker_number f.lots orders before))
 
 pub apply-requires-clause-command : goal.apply-requires-clause-command
-apply-requires-clause-command g c = (omega (arith, c.pair.ensures, c.requires.weights), c.requires.price, c.requires.lots)
+apply-requires-clause-command g c = record {
+  session = c.args.session.now;
+  banks = omega (arith, c.requires.host_banks, c.requires.three);
+  weights = c.requires.weights;
+  may_send = (omega (arith, c.pair.ensures, c.requires.two), c.requires.price, c.requires.lots);
+}
+
+pub apply-requires-clause-sender : goal.apply-requires-clause-sender
+apply-requires-clause-sender g c = omega (arith, c.requires.bank, c.requires.host_banks)
 
 pub rest-requires-clause-before : goal.rest-requires-clause-before
 rest-requires-clause-before g c =
