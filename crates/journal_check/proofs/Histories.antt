@@ -12,10 +12,9 @@ use Rattle.fx_rules.specs.History.{IsStep, Steps, IsLegal, after_entry, state}
 use Rattle.fx_rules.specs.Sound.{IsSound}
 use Rattle.fx_rules.proofs.Soundness.{after-sound, opening-sound, legal-sound, weight_of-least}
 use Rattle.fx_rules.proofs.Determined.{outcome-same, shows-same}
-use Rattle.reply_lines.specs.Rows.{row}
-use Rattle.reply_lines.specs.Notices.{book_fields}
-use Rattle.reply_lines.specs.Books.{LocalBook, AreBooks, book_line, book_lines_below, books_below, books_text}
-use Rattle.reply_lines.specs.Output.{desks_below, close_text, desks_text, journal_text, history_text, day_text, IsDayText}
+use Rattle.reply_lines.specs.Books.{books_text}
+use Rattle.reply_lines.specs.Report.{report_text}
+use Rattle.reply_lines.specs.Output.{journal_text, desks_text, day_text, IsDayText}
 use Rattle.session_head.specs.HeadText.{head_text_of}
 use Rattle.journal_check.specs.Listed.{Sent}
 use Rattle.journal_check.specs.Verdict.{sent_by}
@@ -76,51 +75,7 @@ steps_sent h S (e ∷ es) steps = (record { sender = steps.0.sender; command = s
 
 -- The day
 
-abbrev AreSame : LocalBook → LocalBook → Type 0
-AreSame one other = (one.bids ≡ other.bids) × (one.asks ≡ other.asks)
-
-book_same : (h : Header) (S : State) (books others : ℕ → ℕ → LocalBook) (bank pair : ℕ) → IsSession h → IsSound h S → AreBooks h S books → AreBooks h S others → bank < bank_count h → pair < pair_count h → AreSame (books bank pair) (others bank pair)
-book_same h S books others bank pair session sound are they first second =
-    let some = weight_of-least h pair session second in
-    let one = are bank pair first second in
-    let other = they bank pair first second in (
-      shows-same h S bank pair Sell (books bank pair).bids (others bank pair).bids sound first some one.sells other.sells,
-      shows-same h S bank pair Buy (books bank pair).asks (others bank pair).asks sound first some one.buys other.buys,
-    )
-
-line_same : (h : Header) (books others : ℕ → ℕ → LocalBook) (bank pair : ℕ) → AreSame (books bank pair) (others bank pair) → book_line h books bank pair ≡ book_line h others bank pair
-line_same h books others bank pair same = ap₂ (λ (bids asks : List Level). row (bank_name h bank) (book_fields h pair bids asks)) same.0 same.1
-
-lines_same : (h : Header) (books others : ℕ → ℕ → LocalBook) (bank pairs : ℕ) → ((pair : ℕ) → pair < pairs → AreSame (books bank pair) (others bank pair)) → book_lines_below h books bank pairs ≡ book_lines_below h others bank pairs
-lines_same h books others bank zero same = refl
-lines_same h books others bank (suc pairs) same =
-    ap₂ (λ (front line : List ℕ). front ++ line) (lines_same h books others bank pairs (λ pair less. same pair (omega arith))) (line_same h books others bank pairs (same pairs (omega arith)))
-
-books_same : (h : Header) (books others : ℕ → ℕ → LocalBook) (banks : ℕ) → ((bank pair : ℕ) → bank < banks → pair < pair_count h → AreSame (books bank pair) (others bank pair)) → books_below h books banks ≡ books_below h others banks
-books_same h books others zero same = refl
-books_same h books others (suc banks) same =
-    ap₂ (λ (front lines : List ℕ). front ++ lines) (books_same h books others banks (λ bank pair less within. same bank pair (omega arith) within))
-    (lines_same h books others banks (pair_count h) (λ pair within. same banks pair (omega arith) within))
-
--- what stands behind the desks speaks of nothing but the history
-close_same : (h : Header) (entries : List Entry) (books others : ℕ → ℕ → LocalBook) → IsLegal h entries → AreBooks h (state h entries) books → AreBooks h (state h entries) others → close_text h entries books ≡ close_text h entries others
-unfolding close_text books_text
-close_same h entries books others legal are they =
-    let same : books_below h books (bank_count h) ≡ books_below h others (bank_count h) =
-    books_same h books others (bank_count h) (λ bank pair first second. book_same h (state h entries) books others bank pair legal.session (legal-sound h entries legal) are they first second) in
-    rw same refl
-
-day_same : (h : Header) (entries : List Entry) (books others : ℕ → ℕ → LocalBook) → close_text h entries books ≡ close_text h entries others → day_text h entries books ≡ day_text h entries others
-unfolding day_text history_text desks_text
-day_same h entries books others same =
-    ap (λ (close : List ℕ). head_text_of h ++ (journal_text h entries ++ (desks_below h entries (bank_count h) ++ close))) same
-
--- a legal history has one text of its day
-pub days_agree : (h : Header) (entries : List Entry) (day other : List ℕ) → IsLegal h entries → IsDayText h entries day → IsDayText h entries other → day ≡ other
-days_agree h entries day other legal is they =
-    is.exactly ∙ day_same h entries is.books they.books (close_same h entries is.books they.books legal is.at_the_end they.at_the_end) ∙ sym they.exactly
-
 -- the text of a day begins with the header and the journal
 pub day_begins : (h : Header) (entries : List Entry) (day : List ℕ) → IsDayText h entries day → (rest : List ℕ) × (day ≡ head_text_of h ++ (journal_text h entries ++ rest))
-unfolding day_text history_text
-day_begins h entries day is = (desks_text h entries is.books, is.exactly)
+unfolding day_text
+day_begins h entries day is = (desks_text h entries ++ books_text h is.books ++ report_text h (state h entries), is.exactly)

@@ -2,6 +2,7 @@ pub mod Numbering
 pub mod Parts
 pub mod Printable
 pub mod Existing
+pub mod Singly
 mod Reporting
 mod Shown
 mod Outputs

@@ -7,3 +7,4 @@ pub mod Output
 pub mod Day
 pub mod Prints
 pub mod Faults
+pub mod Laws

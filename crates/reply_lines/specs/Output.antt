@@ -31,21 +31,14 @@ abbrev pub desks_below : Header → List Entry → ℕ → List ℕ
 desks_below h entries zero = []
 desks_below h entries (suc bank) = desks_below h entries bank ++ desk_text h entries bank
 
--- the local books at the end, and the report
-unfoldable pub close_text : Header → List Entry → (ℕ → ℕ → LocalBook) → List ℕ
-close_text h entries books = books_text h books ++ report_text h (state h entries)
+-- the desks of all banks
+unfoldable pub desks_text : Header → List Entry → List ℕ
+desks_text h entries = desks_below h entries (bank_count h)
 
--- the desks, and what follows them
-unfoldable pub desks_text : Header → List Entry → (ℕ → ℕ → LocalBook) → List ℕ
-desks_text h entries books = desks_below h entries (bank_count h) ++ close_text h entries books
-
--- the journal, and what follows it
-unfoldable pub history_text : Header → List Entry → (ℕ → ℕ → LocalBook) → List ℕ
-history_text h entries books = journal_text h entries ++ desks_text h entries books
-
--- all but the last lines, which a history has no part in
+-- all but the last lines, which a history has no part in: header, journal, desks, the local books at the end, and the report
 unfoldable pub day_text : Header → List Entry → (ℕ → ℕ → LocalBook) → List ℕ
-day_text h entries books = head_text_of h ++ history_text h entries books
+day_text h entries books =
+    head_text_of h ++ journal_text h entries ++ desks_text h entries ++ books_text h books ++ report_text h (state h entries)
 
 unfoldable pub strays_line : ℕ → List ℕ
 strays_line strays = row (codes "STRAYS") (numeral strays ∷ [])

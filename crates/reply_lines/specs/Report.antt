@@ -29,15 +29,10 @@ use_line h credit =
 abbrev pub net_line : Header → Net → List ℕ
 net_line h net = row (codes "NET") (bank_name h net.bank ∷ net.currency ∷ signed_numeral net.amount ∷ [])
 
--- the rows of a report: the volumes of the pairs, the credit between each two banks, and the nets of the banks
-unfoldable pub credit_rows : Header → List Use → List Net → List ℕ
-credit_rows h uses nets = flat_map (use_line h) uses ++ flat_map (net_line h) nets
-
-unfoldable pub report_rows : Header → List Volume → List Use → List Net → List ℕ
-report_rows h volumes uses nets = flat_map (volume_line h) volumes ++ credit_rows h uses nets
-
+-- a report: the volumes of the pairs, the credit between each two banks, and the nets of the banks
 unfoldable pub report_of : Header → List Volume → List Use → List Net → List ℕ
-report_of h volumes uses nets = codes "REPORT\n" ++ report_rows h volumes uses nets
+report_of h volumes uses nets =
+    codes "REPORT\n" ++ flat_map (volume_line h) volumes ++ flat_map (use_line h) uses ++ flat_map (net_line h) nets
 
 -- the report as it stands in a state
 abbrev pub report_text : Header → State → List ℕ

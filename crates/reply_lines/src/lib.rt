@@ -4,11 +4,13 @@
 mod books;
 mod desk;
 mod index;
+mod laws;
 mod notices;
 mod output;
 mod report;
 mod row;
 
+pub use laws::one_output;
 pub use output::{Ending, OutFault, write_day, write_output};
 
 #[cfg(test)]

@@ -11,7 +11,7 @@ ghost use Rattle.reply_lines.specs.Day.{IsDayOf};
 ghost use Rattle.reply_lines.specs.Faults.{WroteOutput};
 ghost use Rattle.reply_lines.specs.Index.{IsIndex};
 ghost use Rattle.reply_lines.specs.Prints.{IsEntryOf};
-ghost use Rattle.reply_lines.specs.Output.{entry_line, journal_line, journal_text, desks_below, close_text, desks_text, history_text, day_text, strays_line, ending_line, last_text, IsDayText, IsOutput};
+ghost use Rattle.reply_lines.specs.Output.{entry_line, journal_line, journal_text, desks_text, day_text, strays_line, ending_line, last_text, IsDayText, IsOutput};
 
 use crate::books::write_books;
 use crate::desk::{write_desk, write_made};
@@ -179,7 +179,7 @@ impl Day {
     }
 }
 
-/// Writes the header and what follows it, but for the last lines.
+/// Writes header, journal, desks, local books and report.
 #[tactic(auto, unfolding(crate::specs::Output::day_text))]
 fn write_day_text<K: Sink>(
     session: &Session,
@@ -193,69 +193,11 @@ fn write_day_text<K: Sink>(
     ensures wrote { (books : ℕ → ℕ → LocalBook) → AreBooksOf session.now day.now.host books →
         Wrote K.written K.faults out.old out.new (day_text session.now entries.now books) result }
 {
-    match write_head(session, line, out) {
-        Ok(()) => write_history(session, entries, day, line, out),
-        Err(fault) => Err(fault),
-    }
-}
-
-/// Writes the journal and what follows it.
-#[tactic(auto, unfolding(crate::specs::Output::history_text))]
-fn write_history<K: Sink>(
-    session: &Session,
-    entries: &[Entry],
-    day: &Day,
-    line: &mut Vec<u8>,
-    out: &mut K,
-) -> Result<(), SinkFault>
-    requires entries { Each (IsEntryOf session.now) entries.now }
-    requires day { IsDayOf session.now entries.now day.now }
-    ensures wrote { (books : ℕ → ℕ → LocalBook) → AreBooksOf session.now day.now.host books →
-        Wrote K.written K.faults out.old out.new (history_text session.now entries.now books) result }
-{
-    match write_journal(session, entries, line, out) {
-        Ok(()) => write_desks_on(session, entries, day, line, out),
-        Err(fault) => Err(fault),
-    }
-}
-
-/// Writes the desks and what follows them.
-#[tactic(auto, unfolding(crate::specs::Output::desks_text))]
-fn write_desks_on<K: Sink>(
-    session: &Session,
-    entries: &[Entry],
-    day: &Day,
-    line: &mut Vec<u8>,
-    out: &mut K,
-) -> Result<(), SinkFault>
-    requires entries { Each (IsEntryOf session.now) entries.now }
-    requires day { IsDayOf session.now entries.now day.now }
-    ensures wrote { (books : ℕ → ℕ → LocalBook) → AreBooksOf session.now day.now.host books →
-        Wrote K.written K.faults out.old out.new (desks_text session.now entries.now books) result }
-{
-    match write_desks(session, entries, &day.index, line, out) {
-        Ok(()) => write_close(session, entries, day, line, out),
-        Err(fault) => Err(fault),
-    }
-}
-
-/// Writes the local books and the report.
-#[tactic(auto, unfolding(crate::specs::Output::close_text))]
-fn write_close<K: Sink>(
-    session: &Session,
-    entries: &[Entry],
-    day: &Day,
-    line: &mut Vec<u8>,
-    out: &mut K,
-) -> Result<(), SinkFault>
-    requires day { IsDayOf session.now entries.now day.now }
-    ensures wrote { (books : ℕ → ℕ → LocalBook) → AreBooksOf session.now day.now.host books →
-        Wrote K.written K.faults out.old out.new (close_text session.now entries.now books) result }
-{
-    match write_books(session, &day.host, line, out) {
-        Ok(()) => write_report(session, &day.report, line, out),
-        Err(fault) => Err(fault),
-    }
+    write_head(session, line, out)?;
+    write_journal(session, entries, line, out)?;
+    write_desks(session, entries, &day.index, line, out)?;
+    write_books(session, &day.host, line, out)?;
+    write_report(session, &day.report, line, out)
 }
 
 /// Writes the last lines.
@@ -363,6 +305,7 @@ fn make_entry(session: &Session, entry: &Entry, line: &mut Vec<u8>) -> Result<()
 }
 
 /// Writes the desks of all banks.
+#[tactic(auto, unfolding(crate::specs::Output::desks_text))]
 fn write_desks<K: Sink>(
     session: &Session,
     entries: &[Entry],
@@ -372,7 +315,7 @@ fn write_desks<K: Sink>(
 ) -> Result<(), SinkFault>
     requires entries { Each (IsEntryOf session.now) entries.now }
     requires index { IsIndex (bank_count session.now) entries.now index.now }
-    ensures wrote { Wrote K.written K.faults out.old out.new (desks_below session.now entries.now (bank_count session.now)) result }
+    ensures wrote { Wrote K.written K.faults out.old out.new (desks_text session.now entries.now) result }
 {
     for place in 0..session.banks().len() {
         let bank = BankId::new(place as u8).unwrap();

@@ -3,7 +3,7 @@ ghost use Rattle.std.specs.List.{flat_map};
 ghost use Rattle.fx_edges.specs.Writing.{Wrote};
 ghost use Rattle.fx_rules.specs.Lists.{Each};
 ghost use Rattle.fx_rules.specs.Session.{bank_count, pair_count};
-ghost use Rattle.reply_lines.specs.Report.{AreUsesOf, IsReportOf, volume_line, use_line, net_line, credit_rows, report_rows, report_of};
+ghost use Rattle.reply_lines.specs.Report.{AreUsesOf, IsReportOf, volume_line, use_line, net_line, report_of};
 
 use crate::desk::write_made;
 use crate::notices::{name_of, rule_of};
@@ -24,44 +24,10 @@ pub(crate) fn write_report<K: Sink>(
     requires report { IsReportOf session.now report.now }
     ensures wrote { Wrote K.written K.faults out.old out.new (report_of session.now report.now.volumes report.now.uses report.now.nets) result }
 {
-    match write_all(out, b"REPORT\n") {
-        Ok(()) => write_rows(session, report, line, out),
-        Err(fault) => Err(fault),
-    }
-}
-
-/// Writes the rows of a report.
-#[tactic(auto, unfolding(crate::specs::Report::report_rows))]
-fn write_rows<K: Sink>(
-    session: &Session,
-    report: &Report,
-    line: &mut Vec<u8>,
-    out: &mut K,
-) -> Result<(), SinkFault>
-    requires report { IsReportOf session.now report.now }
-    ensures wrote { Wrote K.written K.faults out.old out.new (report_rows session.now report.now.volumes report.now.uses report.now.nets) result }
-{
-    match write_volumes(session, report.volumes.as_slice(), line, out) {
-        Ok(()) => write_credit(session, report, line, out),
-        Err(fault) => Err(fault),
-    }
-}
-
-/// Writes what each two banks have used, and the nets of the banks.
-#[tactic(auto, unfolding(crate::specs::Report::credit_rows))]
-fn write_credit<K: Sink>(
-    session: &Session,
-    report: &Report,
-    line: &mut Vec<u8>,
-    out: &mut K,
-) -> Result<(), SinkFault>
-    requires report { IsReportOf session.now report.now }
-    ensures wrote { Wrote K.written K.faults out.old out.new (credit_rows session.now report.now.uses report.now.nets) result }
-{
-    match write_uses(session, report.uses.as_slice(), line, out) {
-        Ok(()) => write_nets(session, report.nets.as_slice(), line, out),
-        Err(fault) => Err(fault),
-    }
+    write_all(out, b"REPORT\n")?;
+    write_volumes(session, report.volumes.as_slice(), line, out)?;
+    write_uses(session, report.uses.as_slice(), line, out)?;
+    write_nets(session, report.nets.as_slice(), line, out)
 }
 
 /// Writes the volumes of the pairs.

@@ -3,11 +3,12 @@ use Rattle.std.proofs.Common.{◌≡◌, arith, ap, subst, length, Err}
 use Rattle.fx_edges.specs.Writing.{Wrote}
 use Rattle.fx_edges.proofs.Writing.{Wrote-cut}
 use Rattle.reply_lines.specs.Notices.{desk_text}
-use Rattle.reply_lines.specs.Output.{desks_below}
+use Rattle.reply_lines.specs.Output.{desks_below, desks_text}
 use Rattle.reply_lines.proofs.Parts.{desks-prefix, same_place}
 use Rattle.reply_lines.proofs.output.write_desks.Goals as goal
 
 pub returns-in-Err : goal.returns-in-Err
+unfolding desks_text
 returns-in-Err g c =
     let bank : c.unwrap-bank.result ≡ c.loop-place.place = same_place c.new.result c.unwrap-bank.result c.loop-place.place c.unwrap-bank.ensures c.new.ensures.value in
     record {

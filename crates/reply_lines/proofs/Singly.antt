@@ -1,0 +1,65 @@
+-- A legal history has one output.
+use Rattle.std.proofs.Common.{ℕ, zero, suc, ◌≡◌, ◌<◌, List, ◌++◌, refl, ap, ap₂, sym, ◌∙◌, arith}
+use Rattle.fx_amounts.specs.declared.side.Side.TheVariants.{Buy, Sell}
+use Rattle.fx_rules.specs.declared.orders.Level.{Level}
+use Rattle.fx_rules.specs.declared.outcome.Entry.{Entry}
+use Rattle.fx_rules.specs.Session.{Header, IsSession, bank_count, pair_count, bank_name}
+use Rattle.fx_rules.specs.State.{State}
+use Rattle.fx_rules.specs.History.{IsLegal, state}
+use Rattle.fx_rules.specs.Sound.{IsSound}
+use Rattle.fx_rules.proofs.Soundness.{legal-sound, weight_of-least}
+use Rattle.fx_rules.proofs.Determined.{shows-same}
+use Rattle.session_head.specs.HeadText.{head_text_of}
+use Rattle.reply_lines.specs.Rows.{row}
+use Rattle.reply_lines.specs.Notices.{book_fields}
+use Rattle.reply_lines.specs.Books.{LocalBook, AreBooks, book_line, book_lines_below, books_below, books_text}
+use Rattle.reply_lines.specs.Report.{report_text}
+use Rattle.reply_lines.specs.Output.{journal_text, desks_text, day_text, last_text, IsDayText, IsOutput}
+use Rattle.reply_lines.specs.Laws.{OneOutput}
+
+abbrev AreSame : LocalBook → LocalBook → Type 0
+AreSame one other = (one.bids ≡ other.bids) × (one.asks ≡ other.asks)
+
+book_same : (h : Header) (S : State) (books others : ℕ → ℕ → LocalBook) (bank pair : ℕ) → IsSession h → IsSound h S → AreBooks h S books → AreBooks h S others → bank < bank_count h → pair < pair_count h → AreSame (books bank pair) (others bank pair)
+book_same h S books others bank pair session sound are they first second =
+    let some = weight_of-least h pair session second in
+    let one = are bank pair first second in
+    let other = they bank pair first second in (
+      shows-same h S bank pair Sell (books bank pair).bids (others bank pair).bids sound first some one.sells other.sells,
+      shows-same h S bank pair Buy (books bank pair).asks (others bank pair).asks sound first some one.buys other.buys,
+    )
+
+line_same : (h : Header) (books others : ℕ → ℕ → LocalBook) (bank pair : ℕ) → AreSame (books bank pair) (others bank pair) → book_line h books bank pair ≡ book_line h others bank pair
+line_same h books others bank pair same = ap₂ (λ (bids asks : List Level). row (bank_name h bank) (book_fields h pair bids asks)) same.0 same.1
+
+lines_same : (h : Header) (books others : ℕ → ℕ → LocalBook) (bank pairs : ℕ) → ((pair : ℕ) → pair < pairs → AreSame (books bank pair) (others bank pair)) → book_lines_below h books bank pairs ≡ book_lines_below h others bank pairs
+lines_same h books others bank zero same = refl
+lines_same h books others bank (suc pairs) same =
+    ap₂ (λ (front line : List ℕ). front ++ line) (lines_same h books others bank pairs (λ pair less. same pair (omega arith))) (line_same h books others bank pairs (same pairs (omega arith)))
+
+books_same : (h : Header) (books others : ℕ → ℕ → LocalBook) (banks : ℕ) → ((bank pair : ℕ) → bank < banks → pair < pair_count h → AreSame (books bank pair) (others bank pair)) → books_below h books banks ≡ books_below h others banks
+books_same h books others zero same = refl
+books_same h books others (suc banks) same =
+    ap₂ (λ (front lines : List ℕ). front ++ lines) (books_same h books others banks (λ bank pair less within. same bank pair (omega arith) within))
+    (lines_same h books others banks (pair_count h) (λ pair within. same banks pair (omega arith) within))
+
+-- the local books of a state are one
+books_text-same : (h : Header) (S : State) (books others : ℕ → ℕ → LocalBook) → IsSession h → IsSound h S → AreBooks h S books → AreBooks h S others → books_text h books ≡ books_text h others
+unfolding books_text
+books_text-same h S books others session sound are they =
+    let same : books_below h books (bank_count h) ≡ books_below h others (bank_count h) =
+    books_same h books others (bank_count h) (λ bank pair first second. book_same h S books others bank pair session sound are they first second) in
+    rw same refl
+
+-- a legal history has one text of its day
+pub days_agree : (h : Header) (entries : List Entry) (day other : List ℕ) → IsLegal h entries → IsDayText h entries day → IsDayText h entries other → day ≡ other
+unfolding day_text
+days_agree h entries day other legal is they =
+    is.exactly
+    ∙ ap (λ (books : List ℕ). head_text_of h ++ journal_text h entries ++ desks_text h entries ++ books ++ report_text h (state h entries))
+    (books_text-same h (state h entries) is.books they.books legal.session (legal-sound h entries legal) is.at_the_end they.at_the_end)
+    ∙ sym they.exactly
+
+pub one_output : OneOutput
+one_output h entries strays ending one other legal is they =
+    is.whole ∙ ap (λ (day : List ℕ). day ++ last_text strays ending) (days_agree h entries is.day they.day legal is.is_day they.is_day) ∙ sym they.whole
