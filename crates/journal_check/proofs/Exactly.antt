@@ -22,6 +22,7 @@ use Rattle.reply_lines.specs.declared.output.Ending.{Ending}
 use Rattle.journal_check.specs.Lines.{LineAt, behind, is_long, lines_from}
 use Rattle.journal_check.specs.Listed.{Sent, Listed, ◌>>=◌, header_in, count_in, count_told, counted, count_of, sent_in, commands_in, with_session, listed_behind, journal_behind, listed, most_entries}
 use Rattle.journal_check.specs.Compared.{beginning}
+use Rattle.journal_check.specs.Laws.{OutputsList}
 use Rattle.journal_check.specs.Verdict.{last_in, last_behind, day_verdict, sent_by, IsJudged, IsVerdict, IsVerdictOn, IsSomeOutput}
 use Rattle.journal_check.specs.declared.check.Verdict.{Verdict}
 use Rattle.journal_check.specs.declared.check.Verdict.TheVariants.{Yes, No}
@@ -31,7 +32,8 @@ use Rattle.journal_check.proofs.JudgeLemmas.{listed_commands}
 use Rattle.journal_check.proofs.CompareLemmas.{beginning-shared, beginning-ends}
 use Rattle.journal_check.proofs.HeadWalk.{header_in-head_text}
 use Rattle.journal_check.proofs.JournalWalk.{CountsAt, counts_at, entries_at}
-use Rattle.journal_check.proofs.Histories.{AreSentOf, steps_sent, histories_agree, days_agree, day_begins}
+use Rattle.journal_check.proofs.Histories.{AreSentOf, steps_sent, histories_agree, day_begins}
+use Rattle.reply_lines.proofs.Singly.{days_agree}
 use Rattle.journal_check.proofs.LastLines.{IsLast, last_taken, last_only, last_agrees}
 
 -- How many commands are listed
@@ -173,6 +175,14 @@ listed_output h entries text more legal few is =
     listed_commands text (record { session = h; next = at }) (record { entries = length entries; next = count.behind }) (Ok (map sent_by entries)) header count.count
     (entries_at h (length text) text more entries count.behind [] legal.session (steps_sent h (opening h) entries legal.steps) count.rest)
 
+pub outputs_list : OutputsList
+outputs_list h entries strays ending text legal few is =
+    let begins_so = day_begins h entries is.day is.is_day in
+    listed_output h entries text (begins_so.0 ++ last_text strays ending) legal few
+    (is.whole ∙ ap (λ (day : List ℕ). day ++ last_text strays ending) begins_so.1
+    ∙ append_assoc (head_text_of h) (journal_text h entries ++ begins_so.0) (last_text strays ending)
+    ∙ ap (λ (t : List ℕ). head_text_of h ++ t) (append_assoc (journal_text h entries) begins_so.0 (last_text strays ending)))
+
 -- what is said of the output of a legal history
 yes_of : (text day : List ℕ) (strays : ℕ) (ending : Ending) → strays < 2 ^ 64 → text ≡ day ++ last_text strays ending → day_verdict text day ≡ Yes
 unfolding day_verdict
@@ -192,11 +202,5 @@ complete_by text is verdict judged =
 
 pub complete : (text : List ℕ) (verdict : Verdict) → IsVerdict text verdict → IsSomeOutput text → verdict ≡ Yes
 complete text verdict holds is =
-    let begins_so = day_begins is.session is.entries is.output.day is.output.is_day in
-    let text_is : text ≡ head_text_of is.session ++ (journal_text is.session is.entries ++ (begins_so.0 ++ last_text is.strays is.ending)) =
-    is.output.whole ∙ ap (λ (day : List ℕ). day ++ last_text is.strays is.ending) begins_so.1
-    ∙ append_assoc (head_text_of is.session) (journal_text is.session is.entries ++ begins_so.0) (last_text is.strays is.ending)
-    ∙ ap (λ (t : List ℕ). head_text_of is.session ++ t) (append_assoc (journal_text is.session is.entries) begins_so.0 (last_text is.strays is.ending)) in
-    let found : listed text ≡ Ok (record { session = is.session; commands = map sent_by is.entries }) =
-    listed_output is.session is.entries text (begins_so.0 ++ last_text is.strays is.ending) is.legal is.few text_is in
+    let found = outputs_list is.session is.entries is.strays is.ending text is.legal is.few is.output in
     complete_by text is verdict (subst (λ (read : Result Listed ℕ). IsVerdictOn text read verdict) found holds)

@@ -12,7 +12,7 @@ mod run;
 mod stop;
 
 pub use check::{Verdict, check_output};
-pub use laws::{outputs_agree, verdicts_agree};
+pub use laws::{outputs_agree, outputs_list, verdicts_agree};
 
 #[cfg(test)]
 mod tests;

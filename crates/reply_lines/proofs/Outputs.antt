@@ -46,9 +46,13 @@ failed_from : (fault : SinkFault) → fault_of fault ≡ Write → fault ≡ sin
 failed_from sinks.Failed is = refl
 failed_from sinks.Memory is = absurd cc
 
+wanted_from : (fault : SinkFault) → fault_of fault ≡ Memory → fault ≡ sinks.Memory
+wanted_from sinks.Failed is = absurd cc
+wanted_from sinks.Memory is = refl
+
 module _ {K : Type 0} {written : K → Option (List ℕ)} {faults : K → ℕ} {before now : K} (is_output : List ℕ → Type 0) (text : List ℕ) where
   pub wrote_whole : is_output text → Wrote {T = Unit {0}} written faults before now text (Ok tt) → WroteOutput {T = Unit {0}} written faults before now is_output (Ok tt)
-  wrote_whole is wrote = record { text = text; is_text = is; ok = wrote.ok; fault = tt; cause = tt }
+  wrote_whole is wrote = record { text = text; is_text = is; ok = wrote.ok; fault = tt; cause = tt; memory = tt }
 
   pub wrote_part : (fault : SinkFault) (told : OutFault) → told ≡ fault_of fault → is_output text → Wrote {T = Unit {0}} written faults before now text (Err fault) → WroteOutput {T = Unit {0}} written faults before now is_output (Err told)
   wrote_part fault told tells is wrote = record {
@@ -57,4 +61,5 @@ module _ {K : Type 0} {written : K → Option (List ℕ)} {faults : K → ℕ} {
     ok = tt;
     fault = wrote.fault;
     cause = λ failed. wrote.cause (failed_from fault (sym tells ∙ failed));
+    memory = λ wanted. wrote.memory (wanted_from fault (sym tells ∙ wanted));
   }

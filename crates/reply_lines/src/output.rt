@@ -80,8 +80,8 @@ impl From<SinkFault> for OutFault {
 }
 
 /// Writes the output of a legal history: header, journal, desks, local books, report and the last lines, which tell of the
-/// strays and of how the reading ended. After a fault a prefix of it was appended, and the fault is `Write` only where the
-/// sink's count of faults rose. Beside one line at a time it keeps the places of each bank's entries and the market at the
+/// strays and of how the reading ended. After a fault a prefix of it was appended; the fault is `Write` only where the
+/// sink's count of faults rose, and `Memory` only where it stayed. Beside one line at a time it keeps the places of each bank's entries and the market at the
 /// end; all that is found before the first byte is written.
 pub fn write_output<K: Sink>(
     alloc: Global,
