@@ -5,6 +5,7 @@ mod books;
 mod desk;
 mod index;
 mod laws;
+mod lines;
 mod notices;
 mod output;
 mod report;

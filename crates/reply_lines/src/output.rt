@@ -16,6 +16,7 @@ ghost use Rattle.reply_lines.specs.Output.{entry_line, journal_line, journal_tex
 use crate::books::write_books;
 use crate::desk::{write_desk, write_made};
 use crate::index::{Places, index_of};
+use crate::lines::{Print, write_lines};
 use crate::notices::make_count;
 use crate::report::write_report;
 use day_report::{Report, report};
@@ -244,7 +245,7 @@ fn write_journal<K: Sink>(
     ensures wrote { Wrote K.written K.faults out.old out.new (journal_text session.now entries.now) result }
 {
     write_journal_line(entries, line, out)?;
-    write_entries(session, entries, line, out)
+    write_lines(session, entries, line, out)
 }
 
 /// Writes the line that begins the journal.
@@ -260,48 +261,17 @@ fn write_journal_line<K: Sink>(
     write_made(made, line, out)
 }
 
-/// Writes the commands of the entries.
-fn write_entries<K: Sink>(
-    session: &Session,
-    entries: &[Entry],
-    line: &mut Vec<u8>,
-    out: &mut K,
-) -> Result<(), SinkFault>
-    requires entries { Each (IsEntryOf session.now) entries.now }
-    ensures wrote { Wrote K.written K.faults out.old out.new (flat_map (entry_line session.now) entries.now) result }
-{
-    for entry in entries {
-        match write_entry(session, entry, line, out) {
-            Ok(()) => {}
-            Err(fault) => return Err(fault),
-        }
+impl Print for Entry {
+    ghost fits = { IsEntryOf };
+
+    ghost text = { entry_line };
+
+    fn make_line(&self, session: &Session, line: &mut Vec<u8>) -> Result<(), Memory> {
+        line.clear();
+        command_text(session, self.bank, &self.command, line)?;
+        line.push(b'\n')?;
+        Ok(())
     }
-    Ok(())
-}
-
-/// Writes an entry's command.
-fn write_entry<K: Sink>(
-    session: &Session,
-    entry: &Entry,
-    line: &mut Vec<u8>,
-    out: &mut K,
-) -> Result<(), SinkFault>
-    requires entry { IsEntryOf session.now entry.now }
-    ensures wrote { Wrote K.written K.faults out.old out.new (entry_line session.now entry.now) result }
-{
-    let made = make_entry(session, entry, line);
-    write_made(made, line, out)
-}
-
-/// Makes the line of an entry's command.
-fn make_entry(session: &Session, entry: &Entry, line: &mut Vec<u8>) -> Result<(), Memory>
-    requires entry { IsEntryOf session.now entry.now }
-    ensures ok { OnOk result (line.new.items ≡ entry_line session.now entry.now) }
-{
-    line.clear();
-    command_text(session, entry.bank, &entry.command, line)?;
-    line.push(b'\n')?;
-    Ok(())
 }
 
 /// Writes the desks of all banks.
