@@ -3,7 +3,6 @@ ghost use Rattle.std.specs.List.{flat_map};
 ghost use Rattle.fx_rules.specs.Lists.{Each};
 ghost use Rattle.fx_edges.specs.Writing.{Wrote};
 ghost use Rattle.fx_rules.specs.Session.{bank_count};
-ghost use Rattle.fx_rules.specs.Step.{fills_of};
 ghost use Rattle.reply_lines.specs.Notices.{notice_lines, reply_notices, taken_notices, given_notices, fill_notices, notices_in, desk_line, desk_text};
 ghost use Rattle.reply_lines.specs.Index.{IsIndexed, noticed};
 ghost use Rattle.reply_lines.specs.Prints.{IsAnswerOf, IsFillOf, IsEntryOf};
@@ -11,7 +10,7 @@ ghost use Rattle.reply_lines.specs.Prints.{IsAnswerOf, IsFillOf, IsEntryOf};
 use crate::notices::{make_desk, make_fill, make_reply};
 use fx_amounts::{BankId, Memory};
 use fx_edges::{Sink, SinkFault, write_all};
-use fx_rules::{Entry, Fill, Outcome, Session};
+use fx_rules::{Entry, Fill, Session};
 
 /// Writes a line that was made, where there was memory for it.
 pub fn write_made<K: Sink>(
@@ -184,19 +183,8 @@ fn write_notices<K: Sink>(
     ensures most { IfOk result (λ after. after ≤ before + 2 ^ 64) }
 {
     match write_reply(session, bank, entry, before, line, out) {
-        Ok(replied) => write_fills(session, bank, fills_of(&entry.outcome), replied, line, out),
+        Ok(replied) => write_fills(session, bank, entry.outcome.fills(), replied, line, out),
         Err(fault) => Err(fault),
-    }
-}
-
-/// The fills of an outcome.
-pub(crate) fn fills_of(outcome: &Outcome) -> &[Fill]
-    ensures { result.now ≡ fills_of outcome.now }
-{
-    match outcome {
-        Outcome::Ordered { fills, .. } => fills.as_slice(),
-        Outcome::LineSet { fills, .. } => fills.as_slice(),
-        _ => &[],
     }
 }
 
@@ -226,7 +214,7 @@ fn notices_in(bank: BankId, entry: &Entry) -> u128
     ensures most { result ≤ 2 ^ 64 }
 {
     let mut count = u128::from(entry.bank == bank);
-    for fill in fills_of(&entry.outcome) {
+    for fill in entry.outcome.fills() {
         count += u128::from(fill.taker == bank) + u128::from(fill.maker == bank);
     }
     count

@@ -5,7 +5,6 @@ ghost use Rattle.fx_rules.specs.Step.{fills_of};
 ghost use Rattle.reply_lines.specs.Index.{IsIndex, is_place, noted, noted_for, noted_for_all, banks_of};
 ghost use Rattle.reply_lines.specs.Prints.{IsEntryOf, IsFillOf};
 
-use crate::desk::fills_of;
 use fx_amounts::{BankId, Memory};
 use fx_rules::{Entry, Session};
 use std::alloc::Global;
@@ -97,7 +96,7 @@ fn note_entry(index: &mut Vec<Places>, place: usize, entry: &Entry) -> Result<()
     ensures ok { OnOk result (index.new.items ≡ noted_for_all place index.old.items (banks_of entry.now)) }
 {
     note_bank(index, place, entry.bank)?;
-    for fill in fills_of(&entry.outcome) {
+    for fill in entry.outcome.fills() {
         note_bank(index, place, fill.taker)?;
         note_bank(index, place, fill.maker)?;
     }

@@ -3,7 +3,7 @@ ghost use Rattle.std.specs.List.{flat_map};
 ghost use Rattle.fx_amounts.specs.Numeral.{numeral};
 ghost use Rattle.fx_amounts.specs.Quantity.{IsDecimals};
 ghost use Rattle.reply_lines.specs.Rows.{row, fields_text, side_text};
-ghost use Rattle.fx_rules.specs.Session.{IsPairRule, bank_count, pair_count, pair_text, bank_name, decimals_of, lot_of, pair_name};
+ghost use Rattle.fx_rules.specs.Session.{bank_count, pair_count, bank_name};
 ghost use Rattle.reply_lines.specs.Notices.{booked_pair, level_fields, book_fields, reply_fields, fill_fields, trade_fields, amount_fields};
 ghost use Rattle.reply_lines.specs.Prints.{IsAnswerOf};
 
@@ -11,7 +11,7 @@ use crate::row::{
     begin_row, begin_word_row, end_row, push_field, push_number_field, push_price_field,
 };
 use fx_amounts::{BankId, Memory, PairId, Side, base_amount, quote_amount};
-use fx_rules::{Command, Fill, Level, Outcome, PairRule, Session};
+use fx_rules::{Command, Fill, Level, Outcome, Session};
 
 /// Makes the line of the reply to a bank's command `number`, with its number `notice` on the desk.
 pub fn make_reply(
@@ -107,7 +107,7 @@ pub fn push_book(
     requires { pair < pair_count session.now }
     ensures ok { OnOk result (line.new.items ≡ line.old.items ++ fields_text (book_fields session.now pair bids.now asks.now)) }
 {
-    let rule = rule_of(session, pair);
+    let rule = session.rule(pair);
     push_field(&rule.text(), line)?;
     push_field(b"BIDS", line)?;
     push_levels(rule.decimals, bids, line)?;
@@ -164,7 +164,7 @@ fn push_trade(session: &Session, fill: &Fill, line: &mut Vec<u8>) -> Result<(), 
     requires pair { fill.now.pair < pair_count session.now }
     ensures ok { OnOk result (line.new.items ≡ line.old.items ++ fields_text (trade_fields session.now fill.now)) }
 {
-    let rule = rule_of(session, fill.pair);
+    let rule = session.rule(fill.pair);
     push_field(&rule.text(), line)?;
     push_number_field(u128::from(fill.lots.count()), line)?;
     push_price_field(fill.price, rule.decimals, line)
@@ -175,7 +175,7 @@ fn push_amounts(session: &Session, fill: &Fill, line: &mut Vec<u8>) -> Result<()
     requires pair { fill.now.pair < pair_count session.now }
     ensures ok { OnOk result (line.new.items ≡ line.old.items ++ fields_text (amount_fields session.now fill.now)) }
 {
-    let rule = rule_of(session, fill.pair);
+    let rule = session.rule(fill.pair);
     push_number_field(u128::from(base_amount(fill.lots, rule.lot)), line)?;
     push_number_field(
         quote_amount(fill.lots, rule.lot, fill.price, rule.decimals),
@@ -190,17 +190,6 @@ fn side_word(side: Side) -> &'static [u8]
         Side::Buy => b"BUY",
         Side::Sell => b"SELL",
     }
-}
-
-/// A pair's terms.
-pub(crate) fn rule_of(session: &Session, pair: PairId) -> &PairRule
-    requires { pair < pair_count session.now }
-    ensures text { pair_text result.now ≡ pair_name session.now pair }
-    ensures decimals { result.now.decimals ≡ decimals_of session.now pair }
-    ensures lot { result.now.lot ≡ lot_of session.now pair }
-    ensures valid { IsPairRule result.now }
-{
-    &session.pairs()[pair.index()]
 }
 
 /// A bank's name.

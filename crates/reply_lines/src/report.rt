@@ -4,7 +4,7 @@ ghost use Rattle.fx_rules.specs.Session.{bank_count, pair_count};
 ghost use Rattle.reply_lines.specs.Report.{IsReportOf, volume_line, use_line, net_line, report_of};
 
 use crate::lines::{Print, write_lines};
-use crate::notices::{name_of, rule_of};
+use crate::notices::name_of;
 use crate::row::{begin_word_row, end_row, push_field, push_number_field, push_signed_field};
 use day_report::{Net, Report, Use, Volume};
 use fx_amounts::Memory;
@@ -35,7 +35,7 @@ impl Print for Volume {
 
     fn make_line(&self, session: &Session, line: &mut Vec<u8>) -> Result<(), Memory> {
         begin_word_row(b"VOLUME", line)?;
-        push_field(&rule_of(session, self.pair).text(), line)?;
+        push_field(&session.rule(self.pair).text(), line)?;
         push_number_field(u128::from(self.fills), line)?;
         push_number_field(u128::from(self.lots), line)?;
         push_number_field(self.base, line)?;

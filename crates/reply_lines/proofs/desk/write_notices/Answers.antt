@@ -14,7 +14,7 @@ returns-in-Ok-clause-wrote g c =
     c.in-Ok.replied c.write_fills.result c.in-Ok.ensures.count c.in-Ok.ensures.wrote
     (subst (λ (fills : List Fill). Wrote g.K.Sink.written g.K.Sink.faults c.write_reply.new.out c.write_fills.new.out
     (notice_lines c.args.session.now c.in-Ok.replied (flat_map (fill_notices c.args.bank) fills)) c.write_fills.result)
-    c.fills_of.ensures c.write_fills.ensures.wrote)
+    c.fills.ensures.fills c.write_fills.ensures.wrote)
 
 pub returns-in-Err-clause-wrote : goal.returns-in-Err-clause-wrote
 returns-in-Err-clause-wrote g c =
