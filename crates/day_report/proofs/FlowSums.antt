@@ -100,33 +100,31 @@ share-at h code column to amount i j stands within = ap (λ t. when (eqb to i &&
 three : (now before a b : ℕ) → now ≡ before + (a + b) → (before + a) + b ≡ now
 three now before a b is = omega arith
 
+-- sums that grow by what two banks have of two currencies
+two-add : (h : Header) (sums more : ℕ → ℕ → ℕ) (first second : List ℕ) (column other to from amount rest : ℕ) (old middle new : Table) → to < bank_count h → from < bank_count h → StandsAt (currencies h) first column → StandsAt (currencies h) second other
+    → ((i j : ℕ) → more i j ≡ sums i j + (when (eqb to i && bytes_eq first (code_at (currencies h) j)) amount + when (eqb from i && bytes_eq second (code_at (currencies h) j)) rest))
+    → IsTable (bank_count h) (length (currencies h)) sums old → Added old middle to column amount → Added middle new from other rest → IsTable (bank_count h) (length (currencies h)) more new
+two-add h sums more first second column other to from amount rest old middle new to_in from_in here there grows is one two =
+    let added : IsTable (bank_count h) (length (currencies h)) (plus sums to column amount) middle =
+    table-added (bank_count h) (length (currencies h)) sums old middle to column amount to_in here.within is one in
+    let both : IsTable (bank_count h) (length (currencies h)) (plus (plus sums to column amount) from other rest) new =
+    table-added (bank_count h) (length (currencies h)) (plus sums to column amount) middle new from other rest from_in there.within added two in
+    table-agrees (bank_count h) (length (currencies h)) (plus (plus sums to column amount) from other rest) more new
+    (λ i j p q.
+    ap (λ m. (sums i j + m) + when (eqb from i && eqb other j) rest) (share-at h first column to amount i j here q)
+    ∙ ap (λ m. (sums i j + when (eqb to i && bytes_eq first (code_at (currencies h) j)) amount) + m) (share-at h second other from rest i j there q)
+    ∙ three (more i j) (sums i j) (when (eqb to i && bytes_eq first (code_at (currencies h) j)) amount) (when (eqb from i && bytes_eq second (code_at (currencies h) j)) rest) (grows i j))
+    both
+
 pub got-add : (h : Header) (fills : List Fill) (f : Fill) (columns : Columns) (old middle new : Table) → Goes h f columns → IsTable (bank_count h) (length (currencies h)) (got_by h fills) old → Added old middle (buyer f) columns.base (base_of h f) → Added middle new (seller f) columns.quote (quote_of h f) → IsTable (bank_count h) (length (currencies h)) (got_by h (fills ++ f ∷ [])) new
 got-add h fills f columns old middle new at is first second =
-    let one : IsTable (bank_count h) (length (currencies h)) (plus (got_by h fills) (buyer f) columns.base (base_of h f)) middle =
-    table-added (bank_count h) (length (currencies h)) (got_by h fills) old middle (buyer f) columns.base (base_of h f) at.buys at.base.within is first in
-    let two : IsTable (bank_count h) (length (currencies h)) (plus (plus (got_by h fills) (buyer f) columns.base (base_of h f)) (seller f) columns.quote (quote_of h f)) new =
-    table-added (bank_count h) (length (currencies h)) (plus (got_by h fills) (buyer f) columns.base (base_of h f)) middle new (seller f) columns.quote (quote_of h f) at.sells at.quote.within one second in
-    table-agrees (bank_count h) (length (currencies h)) (plus (plus (got_by h fills) (buyer f) columns.base (base_of h f)) (seller f) columns.quote (quote_of h f)) (got_by h (fills ++ f ∷ [])) new
-    (λ i j p q.
-    ap (λ m. (got_by h fills i j + m) + when (eqb (seller f) i && eqb columns.quote j) (quote_of h f)) (share-at h (base_code h f.pair) columns.base (buyer f) (base_of h f) i j at.base q)
-    ∙ ap (λ m. (got_by h fills i j + when (eqb (buyer f) i && bytes_eq (base_code h f.pair) (code_at (currencies h) j)) (base_of h f)) + m) (share-at h (quote_code h f.pair) columns.quote (seller f) (quote_of h f) i j at.quote q)
-    ∙ three (got_by h (fills ++ f ∷ []) i j) (got_by h fills i j) (when (eqb (buyer f) i && bytes_eq (base_code h f.pair) (code_at (currencies h) j)) (base_of h f)) (when (eqb (seller f) i && bytes_eq (quote_code h f.pair) (code_at (currencies h) j)) (quote_of h f))
-    (total_push (received h i (code_at (currencies h) j)) fills f))
-    two
+    two-add h (got_by h fills) (got_by h (fills ++ f ∷ [])) (base_code h f.pair) (quote_code h f.pair) columns.base columns.quote (buyer f) (seller f) (base_of h f) (quote_of h f) old middle new
+    at.buys at.sells at.base at.quote (λ i j. total_push (received h i (code_at (currencies h) j)) fills f) is first second
 
 pub given-add : (h : Header) (fills : List Fill) (f : Fill) (columns : Columns) (old middle new : Table) → Goes h f columns → IsTable (bank_count h) (length (currencies h)) (given_by h fills) old → Added old middle (buyer f) columns.quote (quote_of h f) → Added middle new (seller f) columns.base (base_of h f) → IsTable (bank_count h) (length (currencies h)) (given_by h (fills ++ f ∷ [])) new
 given-add h fills f columns old middle new at is first second =
-    let one : IsTable (bank_count h) (length (currencies h)) (plus (given_by h fills) (buyer f) columns.quote (quote_of h f)) middle =
-    table-added (bank_count h) (length (currencies h)) (given_by h fills) old middle (buyer f) columns.quote (quote_of h f) at.buys at.quote.within is first in
-    let two : IsTable (bank_count h) (length (currencies h)) (plus (plus (given_by h fills) (buyer f) columns.quote (quote_of h f)) (seller f) columns.base (base_of h f)) new =
-    table-added (bank_count h) (length (currencies h)) (plus (given_by h fills) (buyer f) columns.quote (quote_of h f)) middle new (seller f) columns.base (base_of h f) at.sells at.base.within one second in
-    table-agrees (bank_count h) (length (currencies h)) (plus (plus (given_by h fills) (buyer f) columns.quote (quote_of h f)) (seller f) columns.base (base_of h f)) (given_by h (fills ++ f ∷ [])) new
-    (λ i j p q.
-    ap (λ m. (given_by h fills i j + m) + when (eqb (seller f) i && eqb columns.base j) (base_of h f)) (share-at h (quote_code h f.pair) columns.quote (buyer f) (quote_of h f) i j at.quote q)
-    ∙ ap (λ m. (given_by h fills i j + when (eqb (buyer f) i && bytes_eq (quote_code h f.pair) (code_at (currencies h) j)) (quote_of h f)) + m) (share-at h (base_code h f.pair) columns.base (seller f) (base_of h f) i j at.base q)
-    ∙ three (given_by h (fills ++ f ∷ []) i j) (given_by h fills i j) (when (eqb (buyer f) i && bytes_eq (quote_code h f.pair) (code_at (currencies h) j)) (quote_of h f)) (when (eqb (seller f) i && bytes_eq (base_code h f.pair) (code_at (currencies h) j)) (base_of h f))
-    (total_push (paid h i (code_at (currencies h) j)) fills f))
-    two
+    two-add h (given_by h fills) (given_by h (fills ++ f ∷ [])) (quote_code h f.pair) (base_code h f.pair) columns.quote columns.base (buyer f) (seller f) (quote_of h f) (base_of h f) old middle new
+    at.buys at.sells at.quote at.base (λ i j. total_push (paid h i (code_at (currencies h) j)) fills f) is first second
 
 -- Room for what a fill adds.
 

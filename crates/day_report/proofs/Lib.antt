@@ -8,4 +8,3 @@ pub mod FlowSums
 pub mod Listing
 pub mod Trading
 pub mod Following
-pub mod FirstFill

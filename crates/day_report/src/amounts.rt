@@ -3,8 +3,8 @@ ghost use Rattle.std.specs.Prelude.{◌≡◌, ◌<◌, ◌≤◌, ◌*◌, ◌^
 ghost use Rattle.fx_rules.specs.Session.{IsPairRule, pair_count, lot_of, decimals_of, weight_of};
 ghost use Rattle.day_report.specs.Report.{base_of, quote_of, base_code, quote_code, buyer, seller};
 
-use fx_amounts::{BankId, PairId, Side, base_amount, quote_amount};
-use fx_rules::{Fill, PairRule, Session};
+use fx_amounts::{BankId, Side, base_amount, quote_amount};
+use fx_rules::{Fill, Session};
 
 /// What a fill moves, in units of its pair's currencies.
 #[derive(Clone, Copy, Debug)]
@@ -13,26 +13,13 @@ pub(crate) struct Amounts {
     pub quote: u128,
 }
 
-/// The terms of a pair.
-pub(crate) fn rule_of(session: &Session, pair: PairId) -> &PairRule
-    requires { pair < pair_count session.now }
-    ensures lot { result.now.lot ≡ lot_of session.now pair }
-    ensures decimals { result.now.decimals ≡ decimals_of session.now pair }
-    ensures weight { result.now.weight ≡ weight_of session.now pair }
-    ensures base { result.now.base ≡ base_code session.now pair }
-    ensures quote { result.now.quote ≡ quote_code session.now pair }
-    ensures valid { IsPairRule result.now }
-{
-    &session.pairs()[pair.index()]
-}
-
 /// What a fill moves: at most 10^9 units of base and 10^18 of quote a lot.
 pub(crate) fn amounts_of(session: &Session, fill: &Fill) -> Amounts
     requires { fill.now.pair < pair_count session.now }
     ensures base { result.base ≡ base_of session.now fill.now }
     ensures quote { result.quote ≡ quote_of session.now fill.now }
 {
-    let rule = rule_of(session, fill.pair);
+    let rule = session.rule(fill.pair);
     Amounts {
         base: u128::from(base_amount(fill.lots, rule.lot)),
         quote: quote_amount(fill.lots, rule.lot, fill.price, rule.decimals),

@@ -1,6 +1,5 @@
 ghost use Rattle.std.specs.Prelude.{ℕ, List, [], ◌∷◌, ◌≡◌, ◌++◌, pos, IfOk};
 ghost use Rattle.fx_rules.specs.State.{State, opening};
-ghost use Rattle.fx_rules.specs.Step.{fills_of};
 ghost use Rattle.fx_rules.specs.History.{IsLegal, state};
 ghost use Rattle.fx_rules.specs.declared.outcome.Entry.{Entry};
 ghost use Rattle.credit_lines.specs.Credit.{IsCredit};
@@ -8,14 +7,13 @@ ghost use Rattle.day_report.specs.Report.{volumes_of, uses_of, nets_of, balance,
 ghost use Rattle.day_report.specs.Parts.{IsDayOf};
 ghost use Rattle.day_report.specs.Day.{CanFill, filled_with, CanFollow, CanReport, line_set, IsReportOf};
 
-use crate::amounts::rule_of;
 use crate::flows::Flows;
 use crate::rows::{NetList, Report, UseList, Volume, VolumeList};
 use crate::uses::uses;
 use crate::volumes::{add_volume, no_volumes};
 use credit_lines::CreditLines;
 use fx_amounts::Memory;
-use fx_rules::{Command, Entry, Fill, Outcome, Session};
+use fx_rules::{Command, Entry, Fill, Session};
 use std::alloc::Global;
 
 /// The report of a legal history, from one walk along its entries. `Memory` for want of memory; nothing is changed then.
@@ -65,7 +63,7 @@ impl Day {
         ensures follows { (entries : List Entry) → IsLegal session.now (entries ++ entry.now ∷ []) → IsDayOf session.now (state session.now entries) self.old → IsDayOf session.now (state session.now (entries ++ entry.now ∷ [])) self.new }
     {
         self.set_limit(session, entry);
-        for fill in fills_of(&entry.outcome) {
+        for fill in entry.outcome.fills() {
             self.add(session, fill);
         }
     }
@@ -88,7 +86,7 @@ impl Day {
         requires { CanFill session.now self.old fill.now }
         ensures adds { (S : State) → IsDayOf session.now S self.old → IsDayOf session.now (filled_with S fill.now) self.new }
     {
-        let weight = rule_of(session, fill.pair).weight;
+        let weight = session.rule(fill.pair).weight;
         let units = fill.lots.cost(weight);
         self.lines.take(fill.taker, fill.maker, units);
         add_volume(session, fill, &mut self.volumes);
@@ -111,16 +109,5 @@ impl Day {
             uses: UseList::from_vec(uses(alloc, &lines, banks)?),
             nets: NetList::from_vec(flows.nets(alloc, banks)?),
         })
-    }
-}
-
-/// The fills that an outcome tells.
-fn fills_of(outcome: &Outcome) -> &[Fill]
-    ensures fills { result.now ≡ fills_of outcome.now }
-{
-    match outcome {
-        Outcome::Ordered { fills, .. } => fills.as_slice(),
-        Outcome::LineSet { fills, .. } => fills.as_slice(),
-        _ => &[],
     }
 }

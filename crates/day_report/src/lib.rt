@@ -19,6 +19,3 @@ mod volumes;
 
 pub use day::{nets_balance, report};
 pub use rows::{Net, NetList, Report, Use, UseList, Volume, VolumeList};
-
-#[cfg(test)]
-mod tests;

@@ -13,6 +13,3 @@ mod stop;
 
 pub use check::{Verdict, check_output};
 pub use laws::{outputs_agree, outputs_list, verdicts_agree};
-
-#[cfg(test)]
-mod tests;

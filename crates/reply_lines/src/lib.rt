@@ -13,6 +13,3 @@ mod row;
 
 pub use laws::one_output;
 pub use output::{Ending, OutFault, write_day, write_output};
-
-#[cfg(test)]
-mod tests;

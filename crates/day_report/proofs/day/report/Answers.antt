@@ -1,4 +1,4 @@
-use Rattle.std.proofs.Common.{ℕ, List, ◌≡◌, pos, take, ap, subst, ◌∙◌}
+use Rattle.std.proofs.Common.{ℕ, List, ◌≡◌, pos, take, ap, subst, ◌∙◌, IfOk}
 use Rattle.std.proofs.lemmas.Result.{IfOk-weaker}
 use Rattle.fx_rules.specs.State.{State}
 use Rattle.fx_rules.specs.History.{state}
@@ -32,34 +32,17 @@ into_report-requires c = (
   legal-fits c.args.session.now c.args.entries.now c.requires.legal,
 )
 
-pub returns-clause-volumes : goal.returns-clause-volumes
-returns-clause-volumes c =
+pub returns : goal.returns
+returns c =
     let h = c.args.session.now in
-    let S = state h c.args.entries.now in
+    let S : State = state h c.args.entries.now in
     let day = whole-day h c.args.entries.now c.loop-entry.entry-index c.loop-entry.day c.loop-entry-test.false c.loop-entry.invariant in
-    IfOk-weaker c.into_report.result (λ (r : Report). (T : State) → IsDayOf h T c.loop-entry.day → IsReportOf h T r) (λ (r : Report). r.volumes ≡ volumes_of h S)
-    (λ r reports. (reports S day).volumes_are) c.into_report.ensures.reports
-
-pub returns-clause-uses : goal.returns-clause-uses
-returns-clause-uses c =
-    let h = c.args.session.now in
-    let S = state h c.args.entries.now in
-    let day = whole-day h c.args.entries.now c.loop-entry.entry-index c.loop-entry.day c.loop-entry-test.false c.loop-entry.invariant in
-    IfOk-weaker c.into_report.result (λ (r : Report). (T : State) → IsDayOf h T c.loop-entry.day → IsReportOf h T r) (λ (r : Report). r.uses ≡ uses_of h S)
-    (λ r reports. (reports S day).uses_are) c.into_report.ensures.reports
-
-pub returns-clause-nets : goal.returns-clause-nets
-returns-clause-nets c =
-    let h = c.args.session.now in
-    let S = state h c.args.entries.now in
-    let day = whole-day h c.args.entries.now c.loop-entry.entry-index c.loop-entry.day c.loop-entry-test.false c.loop-entry.invariant in
-    IfOk-weaker c.into_report.result (λ (r : Report). (T : State) → IsDayOf h T c.loop-entry.day → IsReportOf h T r) (λ (r : Report). r.nets ≡ nets_of h S)
-    (λ r reports. (reports S day).nets_are) c.into_report.ensures.reports
-
-pub returns-clause-balance : goal.returns-clause-balance
-returns-clause-balance c =
-    let h = c.args.session.now in
-    let S = state h c.args.entries.now in
-    let day = whole-day h c.args.entries.now c.loop-entry.entry-index c.loop-entry.day c.loop-entry-test.false c.loop-entry.invariant in
-    IfOk-weaker c.into_report.result (λ (r : Report). (T : State) → IsDayOf h T c.loop-entry.day → IsReportOf h T r) (λ (r : Report). (currency : List ℕ) → balance currency r.nets ≡ pos 0)
-    (λ r reports currency. ap (balance currency) (reports S day).nets_are ∙ nets-balance h S currency (legal-trades h c.args.entries.now c.requires.legal)) c.into_report.ensures.reports
+    let reports : IfOk c.into_report.result (IsReportOf h S) =
+    IfOk-weaker c.into_report.result (λ (r : Report). (T : State) → IsDayOf h T c.loop-entry.day → IsReportOf h T r) (IsReportOf h S) (λ r all. all S day) c.into_report.ensures.reports in
+    record {
+      volumes = IfOk-weaker c.into_report.result (IsReportOf h S) (λ (r : Report). r.volumes ≡ volumes_of h S) (λ r is. is.volumes_are) reports;
+      uses = IfOk-weaker c.into_report.result (IsReportOf h S) (λ (r : Report). r.uses ≡ uses_of h S) (λ r is. is.uses_are) reports;
+      nets = IfOk-weaker c.into_report.result (IsReportOf h S) (λ (r : Report). r.nets ≡ nets_of h S) (λ r is. is.nets_are) reports;
+      balance = IfOk-weaker c.into_report.result (IsReportOf h S) (λ (r : Report). (currency : List ℕ) → balance currency r.nets ≡ pos 0)
+          (λ r is currency. ap (balance currency) is.nets_are ∙ nets-balance h S currency (legal-trades h c.args.entries.now c.requires.legal)) reports;
+    }

@@ -5,4 +5,4 @@ use Rattle.reply_lines.proofs.output.write_journal.Goals as goal
 
 pub returns : goal.returns
 unfolding journal_text
-returns g c = record { wrote = Wrote-then c.write_entries.result c.in_ok-write_journal_line.ensures.wrote c.write_entries.ensures.wrote }
+returns g c = record { wrote = Wrote-then c.write_lines.result c.in_ok-write_journal_line.ensures.wrote c.write_lines.ensures.wrote }

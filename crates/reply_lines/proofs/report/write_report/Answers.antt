@@ -16,27 +16,27 @@ returns-in_err-write_all g c =
           c.in_err-write_all.ensures.wrote;
     }
 
-pub returns-in_err-write_volumes : goal.returns-in_err-write_volumes
+pub returns-in_err-write_lines : goal.returns-in_err-write_lines
 unfolding report_of
-returns-in_err-write_volumes g c =
+returns-in_err-write_lines g c =
     let h = c.args.session.now in
     let r = c.args.report.now in
     record {
-      wrote = Wrote-then c.from_residual-in_err-write_volumes.result c.in_ok-write_all.ensures.wrote
-          (cut_short c.from_residual-in_err-write_volumes.result (flat_map (use_line h) r.uses ++ flat_map (net_line h) r.nets) c.from_residual-in_err-write_volumes.ensures.1
-          (of_items (volume_line h) _ c.as_slice.ensures.items c.in_err-write_volumes.ensures.wrote));
+      wrote = Wrote-then c.from_residual-in_err-write_lines.result c.in_ok-write_all.ensures.wrote
+          (cut_short c.from_residual-in_err-write_lines.result (flat_map (use_line h) r.uses ++ flat_map (net_line h) r.nets) c.from_residual-in_err-write_lines.ensures.1
+          (of_items (volume_line h) _ c.as_slice.ensures.items c.in_err-write_lines.ensures.wrote));
     }
 
-pub returns-in_err-write_uses : goal.returns-in_err-write_uses
+pub returns-in_err-write_lines-2 : goal.returns-in_err-write_lines-2
 unfolding report_of
-returns-in_err-write_uses g c =
+returns-in_err-write_lines-2 g c =
     let h = c.args.session.now in
     let r = c.args.report.now in
     record {
-      wrote = Wrote-then c.from_residual-in_err-write_uses.result c.in_ok-write_all.ensures.wrote
-          (Wrote-then c.from_residual-in_err-write_uses.result (of_items (volume_line h) (Ok tt) c.as_slice.ensures.items c.in_ok-write_volumes.ensures.wrote)
-          (cut_short c.from_residual-in_err-write_uses.result (flat_map (net_line h) r.nets) c.from_residual-in_err-write_uses.ensures.1
-          (of_items (use_line h) _ c.as_slice-2.ensures.items c.in_err-write_uses.ensures.wrote)));
+      wrote = Wrote-then c.from_residual-in_err-write_lines-2.result c.in_ok-write_all.ensures.wrote
+          (Wrote-then c.from_residual-in_err-write_lines-2.result (of_items (volume_line h) (Ok tt) c.as_slice.ensures.items c.in_ok-write_lines.ensures.wrote)
+          (cut_short c.from_residual-in_err-write_lines-2.result (flat_map (net_line h) r.nets) c.from_residual-in_err-write_lines-2.ensures.1
+          (of_items (use_line h) _ c.as_slice-2.ensures.items c.in_err-write_lines-2.ensures.wrote)));
     }
 
 pub returns : goal.returns
@@ -44,8 +44,8 @@ unfolding report_of
 returns g c =
     let h = c.args.session.now in
     record {
-      wrote = Wrote-then c.write_nets.result c.in_ok-write_all.ensures.wrote
-          (Wrote-then c.write_nets.result (of_items (volume_line h) (Ok tt) c.as_slice.ensures.items c.in_ok-write_volumes.ensures.wrote)
-          (Wrote-then c.write_nets.result (of_items (use_line h) (Ok tt) c.as_slice-2.ensures.items c.in_ok-write_uses.ensures.wrote)
-          (of_items (net_line h) c.write_nets.result c.as_slice-3.ensures.items c.write_nets.ensures.wrote)));
+      wrote = Wrote-then c.write_lines-3.result c.in_ok-write_all.ensures.wrote
+          (Wrote-then c.write_lines-3.result (of_items (volume_line h) (Ok tt) c.as_slice.ensures.items c.in_ok-write_lines.ensures.wrote)
+          (Wrote-then c.write_lines-3.result (of_items (use_line h) (Ok tt) c.as_slice-2.ensures.items c.in_ok-write_lines-2.ensures.wrote)
+          (of_items (net_line h) c.write_lines-3.result c.as_slice-3.ensures.items c.write_lines-3.ensures.wrote)));
     }

@@ -9,6 +9,6 @@ returns c =
     let fill = c.args.fill.now in
     record {
       adds = λ S is. day-filled h S fill c.cost-units.result c.args.self.now _ (last-trade h c.requires.0.fills fill c.requires.2.each) is
-          c.take.ensures.value (c.cost-units.ensures ∙ ap (λ weight. fill.lots * weight) c.rule_of.ensures.weight) c.take.ensures.valid
+          c.take.ensures.value (c.cost-units.ensures ∙ ap (λ weight. fill.lots * weight) c.rule.ensures.weight) c.take.ensures.valid
           (c.add_volume.ensures.adds S.fills is.volumes_are) (c.add.ensures.adds S.fills is.flows_are);
     }

@@ -1,33 +1,19 @@
-ghost use Rattle.std.specs.Prelude.{◌≤◌, ◌^◌};
-
-use crate::header::read_header;
-use crate::journal::{Counted, read_entries};
-use crate::{Verdict, check_output};
+use crate::fixture::{QUIET, TRADES, TRADING, agreeing};
+use crate::outputs::output;
 use fx_amounts::Memory;
-use fx_edges::SteadySink;
-use reply_lines::{Ending, write_output};
+use journal_check::{Verdict, check_output};
+use reply_lines::Ending;
 use std::alloc::Global;
 use std::test::Fail;
 
-const HEADER: &[u8] =
-    b"FXBOOK 1\nBANK ALFA\nBANK BETA\nBANK GAMA\nPAIR EUR/USD 5 1000000 100\nSTART\n";
+/// The output of a day without commands.
+fn quiet_day(alloc: Global) -> Result<Vec<u8>, Fail> {
+    output(alloc, QUIET, b"", 0, Ending::End)
+}
 
-const TRADING_HEADER: &[u8] =
-    b"FXBOOK 1\nBANK ALFA\nBANK BETA\nBANK GAMA\nPAIR EUR/USD 5 1000000 100\nLINE ALFA BETA 1000\nLINE BETA ALFA 1000\nSTART\n";
-
-const TRADES: &[u8] =
-    b"BETA SELL EUR/USD 1.08420 2 DAY\nALFA BUY EUR/USD 1.08425 3 DAY\nGAMA BAD 3\n";
-
-/// The output of a session in which a journal's commands were carried out.
-fn output(alloc: Global, header: &[u8], journal: &[u8], entries: u64) -> Result<Vec<u8>, Fail>
-    requires { entries ≤ 2 ^ 28 }
-{
-    let headed = read_header(alloc, header)?;
-    let counted = Counted { entries, next: 0 };
-    let entries = read_entries(alloc, &headed.session, journal, &counted)?;
-    let mut sink = SteadySink::new(alloc);
-    write_output(alloc, &headed.session, &entries, 0, Ending::End, &mut sink)?;
-    Ok(Vec::from_slice(alloc, sink.written())?)
+/// The output of three commands.
+fn trading_day(alloc: Global) -> Result<Vec<u8>, Fail> {
+    output(alloc, TRADING, TRADES, 0, Ending::End)
 }
 
 /// The text with another piece in the place of so many of its bytes.
@@ -54,30 +40,20 @@ fn is_wrong_at(alloc: Global, text: &[u8], at: usize) -> Result<bool, Memory> {
     Ok(check_output(alloc, text)? == Verdict::No { offset: at as u64 })
 }
 
-/// In how many bytes two texts agree from their front on.
-fn agreeing(text: &[u8], other: &[u8]) -> usize {
-    for (at, byte) in text.iter().enumerate() {
-        if other.get(at) != Some(byte) {
-            return at;
-        }
-    }
-    text.len()
-}
-
 #[test]
 fn outputs_are_right(rt: HostRuntime) -> Result<(), Fail> {
-    let quiet = output(rt.alloc(), HEADER, b"", 0)?;
-    assert!(rt; quiet.as_slice().starts_with(HEADER));
+    let quiet = quiet_day(rt.alloc())?;
+    assert!(rt; quiet.as_slice().starts_with(QUIET));
     assert!(rt; is_right(rt.alloc(), &quiet)?);
-    let busy = output(rt.alloc(), TRADING_HEADER, TRADES, 3)?;
-    assert!(rt; busy.as_slice().starts_with(TRADING_HEADER));
+    let busy = trading_day(rt.alloc())?;
+    assert!(rt; busy.as_slice().starts_with(TRADING));
     assert!(rt; is_right(rt.alloc(), &busy)?);
     Ok(())
 }
 
 #[test]
 fn worked_cases(rt: HostRuntime) -> Result<(), Fail> {
-    let text = output(rt.alloc(), HEADER, b"", 0)?;
+    let text = quiet_day(rt.alloc())?;
     let other_count = spliced(rt.alloc(), &text, 92, 1, b"1")?;
     assert!(rt; is_wrong_at(rt.alloc(), &other_count, 92)?);
     let longer = spliced(rt.alloc(), &text, text.len(), 0, b"\n")?;
@@ -89,7 +65,7 @@ fn worked_cases(rt: HostRuntime) -> Result<(), Fail> {
 /// A text that is cut short is wrong at its end.
 #[test]
 fn cut_texts_are_wrong_at_their_ends(rt: HostRuntime) -> Result<(), Fail> {
-    let text = output(rt.alloc(), TRADING_HEADER, TRADES, 3)?;
+    let text = trading_day(rt.alloc())?;
     for end in 0..text.len() {
         assert!(rt;
             is_wrong_at(rt.alloc(), text.split_at(end).0, end)?,
@@ -102,8 +78,8 @@ fn cut_texts_are_wrong_at_their_ends(rt: HostRuntime) -> Result<(), Fail> {
 /// Behind the journal a text is wrong at the first byte that is another one.
 #[test]
 fn changes_behind_the_journal(rt: HostRuntime) -> Result<(), Fail> {
-    let text = output(rt.alloc(), TRADING_HEADER, TRADES, 3)?;
-    let listed = TRADING_HEADER.len() + b"JOURNAL 3\n".len() + TRADES.len();
+    let text = trading_day(rt.alloc())?;
+    let listed = TRADING.len() + b"JOURNAL 3\n".len() + TRADES.len();
     let last = text.len().saturating_sub(b"STRAYS 0\nEND\n".len());
     for at in listed..last {
         for (count, piece) in [
@@ -122,7 +98,7 @@ fn changes_behind_the_journal(rt: HostRuntime) -> Result<(), Fail> {
 /// In header and journal a line that cannot be read is wrong where it begins, and another spelling of it where that differs.
 #[test]
 fn changes_in_header_and_journal(rt: HostRuntime) -> Result<(), Fail> {
-    let text = output(rt.alloc(), HEADER, b"", 0)?;
+    let text = quiet_day(rt.alloc())?;
     let cases: [(usize, usize, &[u8], usize); 16] = [
         (7, 1, b"2", 0),
         (10, 1, b"U", 9),
@@ -153,8 +129,8 @@ fn changes_in_header_and_journal(rt: HostRuntime) -> Result<(), Fail> {
 
 #[test]
 fn changes_in_entries(rt: HostRuntime) -> Result<(), Fail> {
-    let text = output(rt.alloc(), TRADING_HEADER, TRADES, 3)?;
-    let first = TRADING_HEADER.len() + b"JOURNAL 3\n".len();
+    let text = trading_day(rt.alloc())?;
+    let first = TRADING.len() + b"JOURNAL 3\n".len();
     let second = first + b"BETA SELL EUR/USD 1.08420 2 DAY\n".len();
     let third = second + b"ALFA BUY EUR/USD 1.08425 3 DAY\n".len();
     let cases: [(usize, usize, &[u8], usize); 8] = [
@@ -180,7 +156,7 @@ fn changes_in_entries(rt: HostRuntime) -> Result<(), Fail> {
 /// A line of more than 256 bytes is wrong where it begins, also one that begins with `#`.
 #[test]
 fn long_lines(rt: HostRuntime) -> Result<(), Fail> {
-    let text = output(rt.alloc(), HEADER, b"", 0)?;
+    let text = quiet_day(rt.alloc())?;
     let mut comment = Vec::from_slice(rt.alloc(), b"#")?;
     for _ in 0..255 {
         comment.push(b'x')?;
@@ -201,7 +177,7 @@ fn long_lines(rt: HostRuntime) -> Result<(), Fail> {
 
 #[test]
 fn other_last_lines_are_right(rt: HostRuntime) -> Result<(), Fail> {
-    let text = output(rt.alloc(), HEADER, b"", 0)?;
+    let text = quiet_day(rt.alloc())?;
     let strays = text.len().saturating_sub(b"STRAYS 0\nEND\n".len());
     let cases: [&[u8]; 6] = [
         b"STRAYS 7\nEND\n",
@@ -220,7 +196,7 @@ fn other_last_lines_are_right(rt: HostRuntime) -> Result<(), Fail> {
 
 #[test]
 fn changes_in_the_last_lines(rt: HostRuntime) -> Result<(), Fail> {
-    let text = output(rt.alloc(), HEADER, b"", 0)?;
+    let text = quiet_day(rt.alloc())?;
     let strays = text.len().saturating_sub(b"STRAYS 0\nEND\n".len());
     let cases: [(&[u8], usize); 15] = [
         (b"STRAYS 00\nEND\n", 0),
