@@ -15,8 +15,10 @@ use Rattle.reply_lines.specs.Output as output
 use Rattle.reply_lines.specs.Output.{entry_line, journal_text, last_text, IsDayText, IsOutput}
 use Rattle.reply_lines.specs.declared.output.Ending.{Ending}
 use Rattle.journal_check.specs.Lines.{lines_from}
-use Rattle.journal_check.specs.Listed.{Sent, Listed, header_in, commands_in, listed}
-use Rattle.journal_check.specs.Verdict.{sent_by, day_verdict, IsJudged, IsVerdictOn}
+use Rattle.fx_rules.specs.declared.command.Sent.{Sent}
+use Rattle.journal_check.specs.Listed.{Listed, header_in, commands_in, listed}
+use Rattle.fx_rules.specs.Sending.{sent_by}
+use Rattle.journal_check.specs.Verdict.{day_verdict, IsJudged, IsVerdictOn}
 use Rattle.journal_check.specs.Laws.{OutputsAgree, VerdictsAgree}
 use Rattle.journal_check.specs.declared.check.Verdict.{Verdict}
 use Rattle.journal_check.specs.declared.header.Headed.{Headed}

@@ -12,6 +12,8 @@ use Rattle.fx_text.proofs.NumberLemmas.{Reads, Reads-number_of}
 use Rattle.fx_rules.specs.Session.{Header}
 use Rattle.fx_rules.specs.State.{opening}
 use Rattle.fx_rules.specs.History.{IsLegal}
+use Rattle.fx_rules.specs.declared.command.Command.{Command}
+use Rattle.fx_rules.specs.declared.command.Sent.{Sent}
 use Rattle.fx_rules.specs.declared.outcome.Entry.{Entry}
 use Rattle.session_head.specs.Head.{Begun}
 use Rattle.session_head.specs.HeadText.{head_text_of}
@@ -20,10 +22,11 @@ use Rattle.reply_lines.specs.Output as output
 use Rattle.reply_lines.specs.Output.{entry_line, journal_text, last_text, IsDayText, IsOutput}
 use Rattle.reply_lines.specs.declared.output.Ending.{Ending}
 use Rattle.journal_check.specs.Lines.{LineAt, behind, is_long, lines_from}
-use Rattle.journal_check.specs.Listed.{Sent, Listed, ◌>>=◌, header_in, count_in, count_told, counted, count_of, sent_in, commands_in, with_session, listed_behind, journal_behind, listed, most_entries}
+use Rattle.journal_check.specs.Listed.{Listed, ◌>>=◌, header_in, count_in, count_told, counted, count_of, said_by, sent_in, commands_in, with_session, listed_behind, journal_behind, listed, most_entries}
 use Rattle.journal_check.specs.Compared.{beginning}
 use Rattle.journal_check.specs.Laws.{OutputsList}
-use Rattle.journal_check.specs.Verdict.{last_in, last_behind, day_verdict, sent_by, IsJudged, IsVerdict, IsVerdictOn, IsSomeOutput}
+use Rattle.fx_rules.specs.Sending.{sent_by}
+use Rattle.journal_check.specs.Verdict.{last_in, last_behind, day_verdict, IsJudged, IsVerdict, IsVerdictOn, IsSomeOutput}
 use Rattle.journal_check.specs.declared.check.Verdict.{Verdict}
 use Rattle.journal_check.specs.declared.check.Verdict.TheVariants.{Yes, No}
 use Rattle.journal_check.specs.declared.header.Headed.{Headed}
@@ -68,9 +71,9 @@ count_few end (line ∷ more) count is = elim (cases_Bool (is_long line)) [
   | inr short ↦ counted_few most_entries line (count_told (line_of line.part)) count (told_few (line_of line.part)) (sym (cond-false (is_long line) (Err line.at) _ short) ∙ is)
 ]
 
-sent_ok : (line : LineAt) (said : Option Sent) (on : Sent → Result (List Sent) ℕ) (all : List Sent) → sent_in line said on ≡ Ok all → (one : Sent) × (on one ≡ Ok all)
+sent_ok : (line : LineAt) (said : Option (ℕ × Command)) (on : Sent → Result (List Sent) ℕ) (all : List Sent) → sent_in line said on ≡ Ok all → (one : Sent) × (on one ≡ Ok all)
 sent_ok line None on all is = let wrong : ◌≡◌ {A = Result (List Sent) ℕ} (Err line.at) (Ok all) = is in absurd cc
-sent_ok line (Some one) on all is = (one, is)
+sent_ok line (Some one) on all is = (said_by one, is)
 
 same_ok : (xs ys : List Sent) → ◌≡◌ {A = Result (List Sent) ℕ} (Ok xs) (Ok ys) → xs ≡ ys
 same_ok xs ys is = cc

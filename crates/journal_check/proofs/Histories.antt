@@ -16,8 +16,8 @@ use Rattle.reply_lines.specs.Books.{books_text}
 use Rattle.reply_lines.specs.Report.{report_text}
 use Rattle.reply_lines.specs.Output.{journal_text, desks_text, day_text, IsDayText}
 use Rattle.session_head.specs.HeadText.{head_text_of}
-use Rattle.journal_check.specs.Listed.{Sent}
-use Rattle.journal_check.specs.Verdict.{sent_by}
+use Rattle.fx_rules.specs.declared.command.Sent.{Sent}
+use Rattle.fx_rules.specs.Sending.{sent_by}
 
 -- The history
 
@@ -52,7 +52,7 @@ steps_same h S [] (f ∷ fs) session sound a b same = absurd cc
 steps_same h S (e ∷ es) [] session sound a b same = absurd cc
 steps_same h S (e ∷ es) (f ∷ fs) session sound a b same =
     let parts = apart (sent_by e) (sent_by f) (map sent_by es) (map sent_by fs) same in
-    let one : e ≡ f = step_same h S e f session sound a.0 b.0 (ap (λ (s : Sent). s.0) parts.0) (ap (λ (s : Sent). s.1) parts.0) in
+    let one : e ≡ f = step_same h S e f session sound a.0 b.0 (ap (λ (s : Sent). s.bank) parts.0) (ap (λ (s : Sent). s.command) parts.0) in
     let sound_next : IsSound h (after_entry S e) = after-sound h S e.bank e.command e.outcome session sound a.0.sender a.0.command a.0.outcome in
     joined e f es fs one
     (steps_same h (after_entry S e) es fs session sound_next a.1 (subst (λ (x : Entry). Steps h (after_entry S x) fs) (sym one) b.1) parts.1)

@@ -5,10 +5,12 @@ use Rattle.fx_text.specs.Lines.{line_of}
 use Rattle.std.proofs.lemmas.List.{length-map, length_push}
 use Rattle.fx_rules.specs.Session.{Header}
 use Rattle.fx_rules.specs.declared.outcome.Entry.{Entry}
-use Rattle.journal_check.specs.Verdict.{sent_by}
+use Rattle.fx_rules.specs.Sending.{sent_by}
 use Rattle.order_lines.specs.Grammar.{journal_line}
 use Rattle.journal_check.specs.Lines.{LineAt, behind, is_long, lines_from}
-use Rattle.journal_check.specs.Listed.{Sent, counted, count_told, count_of, sent_in, commands_in}
+use Rattle.fx_rules.specs.declared.command.Command.{Command}
+use Rattle.fx_rules.specs.declared.command.Sent.{Sent}
+use Rattle.journal_check.specs.Listed.{counted, count_told, count_of, said_by, sent_in, commands_in}
 use Rattle.journal_check.specs.Stops.{IsLineAt, IsReadAt, IsStopAt, Missing, TooLong, ReadsLine, Answers, AnswersBy}
 use Rattle.journal_check.specs.declared.journal.Counted.{Counted}
 use Rattle.journal_check.specs.declared.line.ReadLine.{ReadLine}
@@ -80,13 +82,13 @@ commands_stop h text at offset before (suc count) some (TooLong part there long 
     ∙ commands_in-long h (length text) before count (record { at = at; part = part }) (lines_from text (at + length part + 1)) (lt-ltb 256 (length part) long)
     ∙ ap (λ (n : ℕ). Err n) (sym is)
 
-commands_read : (h : Header) (text : List ℕ) (at : ℕ) (before : List Sent) (count : ℕ) (read : ReadLine) (said : Option Sent) (is : IsReadAt text at read) → said ≡ journal_line h read.line
+commands_read : (h : Header) (text : List ℕ) (at : ℕ) (before : List Sent) (count : ℕ) (read : ReadLine) (said : Option (ℕ × Command)) (is : IsReadAt text at read) → said ≡ journal_line h read.line
     → commands_in h (length text) before (suc count) (lines_from text at) ≡ sent_in (record { at = at; part = is.part }) said (λ sent. commands_in h (length text) (before ++ sent ∷ []) count (lines_from text read.next))
 commands_read h text at before count read said is then =
     let line : LineAt = record { at = at; part = is.part } in
     ap (commands_in h (length text) before (suc count)) is.there.lines
     ∙ commands_in-short h (length text) before count line (lines_from text (at + length is.part + 1)) (le-ltb 256 (length is.part) is.short)
-    ∙ ap (λ (o : Option Sent). sent_in line o (λ sent. commands_in h (length text) (before ++ sent ∷ []) count (lines_from text (at + length is.part + 1)))) (ap (journal_line h) (sym is.line_is) ∙ sym then)
+    ∙ ap (λ (o : Option (ℕ × Command)). sent_in line o (λ sent. commands_in h (length text) (before ++ sent ∷ []) count (lines_from text (at + length is.part + 1)))) (ap (journal_line h) (sym is.line_is) ∙ sym then)
     ∙ ap (λ (n : ℕ). sent_in line said (λ sent. commands_in h (length text) (before ++ sent ∷ []) count (lines_from text n))) (sym is.next_is)
 
 pub commands_wrong : (h : Header) (text : List ℕ) (at : ℕ) (before : List Sent) (count : ℕ) (read : ReadLine) → 0 < count → IsReadAt text at read → None ≡ journal_line h read.line
@@ -94,11 +96,11 @@ pub commands_wrong : (h : Header) (text : List ℕ) (at : ℕ) (before : List Se
 commands_wrong h text at before zero read some is then = absurd (omega arith)
 commands_wrong h text at before (suc count) read some is then = commands_read h text at before count read None is then
 
-more_sent : (h : Header) (text : List ℕ) (at : ℕ) (before : List Sent) (count : ℕ) (read : ReadLine) (sent : Sent) → IsReadAt text at read → Some sent ≡ journal_line h read.line
-    → commands_in h (length text) before (suc count) (lines_from text at) ≡ commands_in h (length text) (before ++ sent ∷ []) count (lines_from text read.next)
+more_sent : (h : Header) (text : List ℕ) (at : ℕ) (before : List Sent) (count : ℕ) (read : ReadLine) (sent : ℕ × Command) → IsReadAt text at read → Some sent ≡ journal_line h read.line
+    → commands_in h (length text) before (suc count) (lines_from text at) ≡ commands_in h (length text) (before ++ said_by sent ∷ []) count (lines_from text read.next)
 more_sent h text at before count read sent is then = commands_read h text at before count read (Some sent) is then
 
-pub commands_more : (h : Header) (text : List ℕ) (at : ℕ) (before after : List Sent) (count left : ℕ) (read : ReadLine) (sent : Sent) → IsReadAt text at read → Some sent ≡ journal_line h read.line → count ≡ left + 1 → after ≡ before ++ sent ∷ []
+pub commands_more : (h : Header) (text : List ℕ) (at : ℕ) (before after : List Sent) (count left : ℕ) (read : ReadLine) (sent : ℕ × Command) → IsReadAt text at read → Some sent ≡ journal_line h read.line → count ≡ left + 1 → after ≡ before ++ said_by sent ∷ []
     → commands_in h (length text) before count (lines_from text at) ≡ commands_in h (length text) after left (lines_from text read.next)
 commands_more h text at before after count left read sent is then one after_is =
     let up : count ≡ suc left = omega arith in

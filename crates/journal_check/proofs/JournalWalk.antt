@@ -20,8 +20,10 @@ use Rattle.reply_lines.specs.Output as output
 use Rattle.reply_lines.specs.Output.{entry_line, journal_text}
 use Rattle.std.specs.List.{flat_map, join_with_byte, AllByRecursion}
 use Rattle.journal_check.specs.Lines.{LineAt, lines_from}
-use Rattle.journal_check.specs.Listed.{Sent, most_entries, counted, count_in, count_told, count_of, sent_in, commands_in}
-use Rattle.journal_check.specs.Verdict.{sent_by}
+use Rattle.fx_rules.specs.declared.command.Command.{Command}
+use Rattle.fx_rules.specs.declared.command.Sent.{Sent}
+use Rattle.journal_check.specs.Listed.{most_entries, counted, count_in, count_told, count_of, sent_in, commands_in}
+use Rattle.fx_rules.specs.Sending.{sent_by}
 use Rattle.journal_check.proofs.JournalLemmas.{count_of-short, commands_in-short, commands_in-all}
 use Rattle.journal_check.proofs.Walking.{IsPlain, IsAt, IsAt-plain, short_line, line_of-plain, ended}
 use Rattle.journal_check.proofs.Histories.{IsSentOf, AreSentOf}
@@ -95,9 +97,6 @@ whole_short part whole = elim (cases_Bool (leb (length (strip_carriage_return pa
   | inr long ↦ let same : Long (first_field (take 256 (strip_carriage_return part))) ≡ Whole part = sym (cond-false _ _ _ long) ∙ whole in absurd cc
 ]
 
-abbrev sent : Entry → Sent
-sent entry = sent_by entry
-
 pub entries_at : (h : Header) (end : ℕ) (text more : List ℕ) (entries : List Entry) (at : ℕ) (before : List Sent) → IsSession h → AreSentOf h entries → drop at text ≡ flat_map (entry_line h) entries ++ more
     → commands_in h end before (length entries) (lines_from text at) ≡ Ok (before ++ map sent_by entries)
 entries_at h end text more [] at before session are there = commands_in-all h end before 0 (lines_from text at) refl ∙ ap (λ (s : List Sent). Ok s) (sym (append-nil before))
@@ -110,6 +109,6 @@ entries_at h end text more (e ∷ es) at before session are there =
     let line : LineAt = record { at = at; part = part } in
     ap (commands_in h end before (suc (length es))) on.line
     ∙ commands_in-short h end before (length es) line (lines_from text (at + length part + 1)) (short_line at part (whole_short part written.whole))
-    ∙ ap (λ (said : Option Sent). sent_in line said (λ one. commands_in h end (before ++ one ∷ []) (length es) (lines_from text (at + length part + 1)))) written.read_back
+    ∙ ap (λ (said : Option (ℕ × Command)). sent_in line said (λ one. commands_in h end (before ++ one ∷ []) (length es) (lines_from text (at + length part + 1)))) written.read_back
     ∙ entries_at h end text more es (at + length part + 1) (before ++ sent_by e ∷ []) session are.1 on.rest
     ∙ ap (λ (s : List Sent). Ok s) (append_assoc before (sent_by e ∷ []) (map sent_by es))

@@ -5,9 +5,11 @@ use Rattle.fx_rules.specs.History.{IsLegal}
 use Rattle.fx_rules.specs.declared.outcome.Entry.{Entry}
 use Rattle.session_head.specs.Head.{Begun}
 use Rattle.journal_check.specs.Lines.{lines_from}
-use Rattle.journal_check.specs.Listed.{Sent, Listed, ◌>>=◌, header_in, count_of, commands_in, with_session, listed_behind, journal_behind, listed}
+use Rattle.fx_rules.specs.declared.command.Sent.{Sent}
+use Rattle.journal_check.specs.Listed.{Listed, ◌>>=◌, header_in, count_of, commands_in, with_session, listed_behind, journal_behind, listed}
 use Rattle.journal_check.specs.Compared.{beginning}
-use Rattle.journal_check.specs.Verdict.{last_in, last_behind, day_verdict, sent_by, IsJudged, IsVerdict, IsVerdictOn}
+use Rattle.fx_rules.specs.Sending.{sent_by}
+use Rattle.journal_check.specs.Verdict.{last_in, last_behind, day_verdict, IsJudged, IsVerdict, IsVerdictOn}
 use Rattle.journal_check.specs.Stops.{Answers, AnswersBy, IsComparedWith, Judges}
 use Rattle.journal_check.specs.declared.check.Verdict.{Verdict}
 use Rattle.journal_check.specs.declared.check.Verdict.TheVariants.{No}

@@ -6,7 +6,8 @@ use Rattle.fx_rules.specs.declared.outcome.Entry.{Entry}
 use Rattle.reply_lines.specs.Output.{IsOutput}
 use Rattle.reply_lines.specs.declared.output.Ending.{Ending}
 use Rattle.journal_check.specs.Listed.{listed, most_entries}
-use Rattle.journal_check.specs.Verdict.{IsVerdict, sent_by}
+use Rattle.fx_rules.specs.Sending.{sent_by}
+use Rattle.journal_check.specs.Verdict.{IsVerdict}
 use Rattle.journal_check.specs.declared.check.Verdict.{Verdict}
 
 -- Two legal histories with one output are one, with their sessions, strays and endings.

@@ -9,6 +9,7 @@ use Rattle.fx_text.specs.declared.line.Line.{Line}
 use Rattle.fx_text.specs.declared.line.Line.TheVariants.{Whole, Long}
 use Rattle.fx_rules.specs.Session.{Header}
 use Rattle.fx_rules.specs.declared.command.Command.{Command}
+use Rattle.fx_rules.specs.declared.command.Sent.{Sent}
 use Rattle.session_head.specs.Head.{Head, Begun, Drafting, Started, Faulted, with_line}
 use Rattle.order_lines.specs.Grammar.{journal_line}
 use Rattle.journal_check.specs.Lines.{LineAt, behind, is_long, lines_from}
@@ -62,14 +63,14 @@ unfoldable pub count_of : ℕ → List LineAt → Result Counted ℕ
 count_of end [] = Err end
 count_of end (line ∷ more) = if is_long line then Err line.at else counted line (count_told (line_of line.part))
 
--- a command with the bank that sent it
-abbrev pub Sent : Type 0
-Sent = ℕ × Command
+-- what a line of a journal says: a bank, and its command
+abbrev pub said_by : ℕ × Command → Sent
+said_by said = record { bank = said.0; command = said.1 }
 
 -- a line of a journal, where it is one: its command is sent behind those before it, and the lines behind it follow
-abbrev pub sent_in : LineAt → Option Sent → (Sent → Result (List Sent) ℕ) → Result (List Sent) ℕ
+abbrev pub sent_in : LineAt → Option (ℕ × Command) → (Sent → Result (List Sent) ℕ) → Result (List Sent) ℕ
 sent_in line None on = Err line.at
-sent_in line (Some sent) on = on sent
+sent_in line (Some said) on = on (said_by said)
 
 -- the commands of so many lines, behind those before them
 unfoldable pub commands_in : Header → ℕ → List Sent → ℕ → List LineAt → Result (List Sent) ℕ

@@ -3,11 +3,12 @@ use Rattle.std.specs.Prelude.{ℕ, ◌≡◌, ◌≤◌, ◌<◌, ◌^◌, ◌-�
 use Rattle.fx_text.specs.Number.{number_of}
 use Rattle.fx_rules.specs.Session.{Header}
 use Rattle.fx_rules.specs.History.{IsLegal}
+use Rattle.fx_rules.specs.Sending.{sent_by}
 use Rattle.fx_rules.specs.declared.outcome.Entry.{Entry}
 use Rattle.reply_lines.specs.Output.{IsDayText, IsOutput}
 use Rattle.reply_lines.specs.declared.output.Ending.{Ending}
 use Rattle.journal_check.specs.Lines.{LineAt, behind, lines_from}
-use Rattle.journal_check.specs.Listed.{Sent, Listed, listed, most_entries}
+use Rattle.journal_check.specs.Listed.{Listed, listed, most_entries}
 use Rattle.journal_check.specs.Compared.{beginning}
 use Rattle.journal_check.specs.declared.check.Verdict.{Verdict}
 use Rattle.journal_check.specs.declared.check.Verdict.TheVariants.{Yes, No}
@@ -43,10 +44,6 @@ last_behind text (Err at) = No at
 -- a text whose history has this output, up to its last lines
 unfoldable pub day_verdict : List ℕ → List ℕ → Verdict
 day_verdict text day = last_behind text (beginning 0 day text)
-
--- what an entry's bank sent
-abbrev pub sent_by : Entry → Sent
-sent_by entry = (entry.bank, entry.command)
 
 -- The commands that are listed, applied in order, are those of a legal history, and there is no other. The text is compared
 -- with the output of that history, up to its last lines, and these are read.

@@ -3,7 +3,7 @@ ghost use Rattle.fx_rules.specs.History.{IsLegal};
 ghost use Rattle.journal_check.specs.Lines.{lines_from};
 ghost use Rattle.journal_check.specs.Listed.{count_of, count_told, commands_in, most_entries};
 ghost use Rattle.journal_check.specs.Stops.{Answers, AnswersBy};
-ghost use Rattle.journal_check.specs.Verdict.{sent_by};
+ghost use Rattle.fx_rules.specs.Sending.{sent_by};
 
 use crate::line::read_line;
 use crate::run::Run;

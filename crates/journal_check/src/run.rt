@@ -3,7 +3,7 @@ ghost use Rattle.fx_rules.specs.Session.{bank_count};
 ghost use Rattle.fx_rules.specs.Step.{IsCommand};
 ghost use Rattle.fx_rules.specs.declared.outcome.Entry.{Entry as HistoryEntry};
 ghost use Rattle.journal_check.specs.Run.{HasRun};
-ghost use Rattle.journal_check.specs.Verdict.{sent_by};
+ghost use Rattle.fx_rules.specs.Sending.{sent_by};
 
 use flat_host::FlatHost;
 use fx_amounts::{BankId, Memory};
@@ -43,7 +43,7 @@ impl Run {
         requires sender { bank < bank_count session.now }
         requires command { IsCommand session.now bank command }
         ensures run { OnOk result (HasRun session.now self.new) }
-        ensures sent { OnOk result (map sent_by self.new.entries.items ≡ map sent_by self.old.entries.items ++ (bank, command) ∷ []) }
+        ensures sent { OnOk result (map sent_by self.new.entries.items ≡ map sent_by self.old.entries.items ++ record { bank = bank; command = command } ∷ []) }
     {
         let number = self.host.count(bank) + 1;
         let outcome = self.host.apply(bank, &command)?;

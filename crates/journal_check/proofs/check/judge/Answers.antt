@@ -1,7 +1,7 @@
 use Rattle.std.proofs.Common.{List, map, subst, Result, Ok, Err}
 use Rattle.fx_rules.specs.declared.outcome.Entry.{Entry}
 use Rattle.journal_check.specs.Stops.{IsComparedWith}
-use Rattle.journal_check.specs.Verdict.{sent_by}
+use Rattle.fx_rules.specs.Sending.{sent_by}
 use Rattle.std.proofs.lemmas.Result.{err_from_is_err_and}
 use Rattle.journal_check.proofs.JudgeLemmas.{WasRead, judged_header, judged_count, judged_commands, judged_apart, judged_last}
 use Rattle.journal_check.proofs.check.judge.Goals as goal

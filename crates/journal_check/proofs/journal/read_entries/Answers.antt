@@ -1,6 +1,6 @@
 use Rattle.std.proofs.Common.{◌-◌, ◌+◌, List, map, arith, ◌∙◌, ap, ℕ}
 use Rattle.fx_rules.specs.declared.outcome.Entry.{Entry}
-use Rattle.journal_check.specs.Verdict.{sent_by}
+use Rattle.fx_rules.specs.Sending.{sent_by}
 use Rattle.journal_check.proofs.HeaderLemmas.{read-within}
 use Rattle.journal_check.proofs.JournalLemmas.{commands_stopped, commands_wrong, commands_more, commands_in-all, sent_more}
 use Rattle.journal_check.proofs.journal.read_entries.Goals as goal

@@ -2,7 +2,7 @@ use Rattle.std.proofs.Common.{◌≡◌, ◌≤◌, ◌-◌, [], length, map}
 use Rattle.journal_check.specs.Lines.{lines_from}
 use Rattle.journal_check.specs.Listed.{commands_in}
 use Rattle.journal_check.specs.Run.{HasRun}
-use Rattle.journal_check.specs.Verdict.{sent_by}
+use Rattle.fx_rules.specs.Sending.{sent_by}
 use Rattle.journal_check.proofs.journal.read_entries.Given as goal
 
 abbrev pub invariant-loop-entry : goal.invariant-loop-entry
