@@ -1,7 +1,7 @@
 //! What a fill moves.
-ghost use Rattle.std.specs.Prelude.{◌≡◌, ◌<◌, ◌≤◌, ◌*◌, ◌^◌};
-ghost use Rattle.fx_rules.specs.Session.{IsPairRule, pair_count, lot_of, decimals_of, weight_of};
-ghost use Rattle.day_report.specs.Report.{base_of, quote_of, base_code, quote_code, buyer, seller};
+ghost use Rattle.std.specs.Prelude.{◌≡◌, ◌<◌};
+ghost use Rattle.fx_rules.specs.Session.{pair_count};
+ghost use Rattle.day_report.specs.Report.{base_of, quote_of, buyer, seller};
 
 use fx_amounts::{BankId, Side, base_amount, quote_amount};
 use fx_rules::{Fill, Session};

@@ -36,11 +36,7 @@ pub(crate) fn session(alloc: Global, header: &[u8]) -> Result<Session, Fail> {
 }
 
 /// The history of a journal's commands, carried out one after another.
-pub(crate) fn history(
-    alloc: Global,
-    session: &Session,
-    journal: &[u8],
-) -> Result<Vec<Entry>, Fail>
+pub(crate) fn history(alloc: Global, session: &Session, journal: &[u8]) -> Result<Vec<Entry>, Fail>
     ensures legal { IfOk result (λ entries. IsLegal session.now entries.items) }
 {
     let mut lines = Vec::new(alloc);

@@ -161,7 +161,12 @@ fn the_line_of_a_desk(rt: HostRuntime) -> Result<(), Fail> {
         journal.extend_from_slice(b"BETA SHOW ALFA\n")?;
     }
     let text = output(rt.alloc(), TRADING, &journal, 0, Ending::Read)?;
-    assert!(rt; holds(&text, b"DESK ALFA 0\nDESK BETA 12\n1 REPLY 1 SHOWN 1000 0 1000\n"));
+    assert!(rt;
+        holds(
+            &text,
+            b"DESK ALFA 0\nDESK BETA 12\n1 REPLY 1 SHOWN 1000 0 1000\n"
+        )
+    );
     assert!(rt; holds(&text, b"\n12 REPLY 12 SHOWN 1000 0 1000\nDESK GAMA 0\n"));
     Ok(())
 }

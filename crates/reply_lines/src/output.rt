@@ -1,4 +1,4 @@
-ghost use Rattle.std.specs.Prelude.{◌≡◌, ℕ, ◌∷◌, [], ◌++◌, codes, length, IfOk, OnOk};
+ghost use Rattle.std.specs.Prelude.{◌≡◌, ℕ, ◌++◌, length, IfOk, OnOk};
 ghost use Rattle.std.specs.List.{flat_map};
 ghost use Rattle.fx_amounts.specs.Numeral.{numeral};
 ghost use Rattle.fx_edges.specs.Writing.{Wrote};
@@ -82,8 +82,8 @@ impl From<SinkFault> for OutFault {
 
 /// Writes the output of a legal history: header, journal, desks, local books, report and the last lines, which tell of the
 /// strays and of how the reading ended. After a fault a prefix of it was appended; the fault is `Write` only where the
-/// sink's count of faults rose, and `Memory` only where it stayed. Beside one line at a time it keeps the places of each bank's entries and the market at the
-/// end; all that is found before the first byte is written.
+/// sink's count of faults rose, and `Memory` only where it stayed. Beside one line at a time it keeps the places of each
+/// bank's entries and the market at the end; all that is found before the first byte is written.
 pub fn write_output<K: Sink>(
     alloc: Global,
     session: &Session,
