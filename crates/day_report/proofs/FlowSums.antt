@@ -10,7 +10,8 @@ use Rattle.day_report.specs.declared.flows.Flows.{Flows}
 use Rattle.day_report.specs.declared.currencies.Columns.{Columns}
 use Rattle.day_report.specs.declared.currencies.Currencies.{Currencies}
 use Rattle.day_report.specs.Report.{base_of, quote_of, base_code, quote_code, currencies, buyer, seller, received, paid}
-use Rattle.day_report.specs.Trades.{IsTrade, AreTrades, CanAdd}
+use Rattle.fx_rules.specs.Trade.{IsTrade}
+use Rattle.day_report.specs.Trades.{AreTrades, CanAdd}
 use Rattle.day_report.specs.Table.{place, sum_at, HasShape, IsTable}
 use Rattle.day_report.specs.Parts.{code_at, StandsAt, AreCurrencies, got_by, given_by, AreFlows}
 use Rattle.day_report.proofs.Sums.{when, when_most, total_push}

@@ -27,11 +27,12 @@ use Rattle.credit_lines.specs.Credit.{Credit, IsCredit, used_in, taken, limited 
 use Rattle.credit_lines.specs.Market.{StandsFor, IsBetweenBanks, taken_by}
 use Rattle.credit_lines.proofs.MarketLemmas.{StandsFor-same, StandsFor-taken_by, StandsFor-limited}
 use Rattle.day_report.specs.declared.day.Day.{Day}
-use Rattle.day_report.specs.Trades.{IsTrade, lots_in}
+use Rattle.fx_rules.specs.Trade.{IsTrade}
+use Rattle.day_report.specs.Trades.{lots_in}
 use Rattle.day_report.specs.Parts.{AreVolumes, AreFlows, IsDayOf}
 use Rattle.day_report.specs.Day.{with_own, filled_with, CanFill, CanFollow, line_set}
 use Rattle.day_report.proofs.Bounds.{last-trade}
-use Rattle.day_report.proofs.Trading.{legal-trades, step-fills}
+use Rattle.fx_rules.proofs.Trading.{legal-trades, step-fills}
 use Rattle.day_report.proofs.LotsFit.{lots-fit}
 
 -- The limits after an entry are those before it, but for the one that a line command sets.

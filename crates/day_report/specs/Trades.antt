@@ -1,18 +1,10 @@
 -- Fills of a day, and that their sums fit.
-use Rattle.std.specs.Prelude.{ℕ, ◌≢◌, ◌≤◌, ◌<◌, ◌^◌, List, [], ◌∷◌, ◌++◌}
+use Rattle.std.specs.Prelude.{ℕ, ◌≤◌, List, [], ◌∷◌, ◌++◌}
 use Rattle.fx_rules.specs.declared.orders.Fill.{Fill}
 use Rattle.fx_rules.specs.Lists.{Each, total}
-use Rattle.fx_rules.specs.Session.{Header, IsSession, bank_count, pair_count}
+use Rattle.fx_rules.specs.Session.{Header, IsSession}
 use Rattle.fx_rules.specs.State.{State, opening}
-
--- a fill of one of the session's pairs between two different banks of it, for a lot at least, at a price in range
-pub record IsTrade (h : Header) (fill : Fill) : Type 0 where
-  pub pair : fill.pair < pair_count h
-  pub taker : fill.taker < bank_count h
-  pub maker : fill.maker < bank_count h
-  pub differ : fill.taker ≢ fill.maker
-  pub least : 1 ≤ fill.lots
-  pub price : fill.price ≤ 10 ^ 9
+use Rattle.fx_rules.specs.Trade.{IsTrade}
 
 -- the lots of some fills
 abbrev pub lots_in : List Fill → ℕ

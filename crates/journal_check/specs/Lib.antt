@@ -3,6 +3,5 @@ pub mod Listed
 pub mod Compared
 pub mod Comparing
 pub mod Verdict
-pub mod Run
 pub mod Stops
 pub mod Laws

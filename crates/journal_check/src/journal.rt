@@ -6,10 +6,11 @@ ghost use Rattle.journal_check.specs.Stops.{Answers, AnswersBy};
 ghost use Rattle.fx_rules.specs.Sending.{sent_by};
 
 use crate::line::read_line;
-use crate::run::Run;
 use crate::stop::Stop;
-use fx_rules::{Entry, Session};
+use flat_host::FlatHost;
+use fx_rules::{Entry, Sent, Session};
 use fx_text::{Line, fields, number};
+use market_run::Run;
 use order_lines::journal_from;
 use std::alloc::Global;
 
@@ -73,7 +74,9 @@ pub(crate) fn read_entries(
         (commands_in session.now (length text.now) [] counted.now.entries (lines_from text.now counted.now.next)) }
     ensures legal { IfOk result (λ entries. IsLegal session.now entries.items) }
 {
-    let mut run = Run::open(alloc, session)?;
+    // A legal history rests on a valid session, as each is.
+    let _banks = session.banks();
+    let mut run = Run::new(alloc, FlatHost::open(alloc, session)?);
     let mut at = counted.next;
     for _entry in 0..counted.entries {
         let read = match read_line(alloc, text, at) {
@@ -83,8 +86,9 @@ pub(crate) fn read_entries(
         let Some((bank, command)) = journal_from(session, &read.line) else {
             return Err(Stop::Wrong { offset: at as u64 });
         };
-        run.carry_out(session, bank, command)?;
+        run.serve(Sent { bank, command })?;
         at = read.next;
     }
-    Ok(run.entries)
+    let (_host, entries) = run.into_parts();
+    Ok(entries)
 }

@@ -8,7 +8,6 @@ mod journal;
 mod last;
 mod laws;
 mod line;
-mod run;
 mod stop;
 
 pub use check::{Verdict, check_output};

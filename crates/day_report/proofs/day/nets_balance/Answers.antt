@@ -1,6 +1,6 @@
 use Rattle.fx_rules.specs.History.{state}
 use Rattle.day_report.proofs.Balance.{nets-balance}
-use Rattle.day_report.proofs.Trading.{legal-trades}
+use Rattle.fx_rules.proofs.Trading.{legal-trades}
 use Rattle.day_report.proofs.day.nets_balance.Goals as goal
 
 pub returns : goal.returns

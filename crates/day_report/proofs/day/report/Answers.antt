@@ -7,7 +7,8 @@ use Rattle.day_report.specs.Report.{volumes_of, uses_of, nets_of, balance}
 use Rattle.day_report.specs.Parts.{IsDayOf}
 use Rattle.day_report.specs.Day.{IsReportOf}
 use Rattle.day_report.proofs.Balance.{nets-balance}
-use Rattle.day_report.proofs.Trading.{legal-trades, legal-fits, legal-to, state-to}
+use Rattle.fx_rules.proofs.Trading.{legal-trades}
+use Rattle.day_report.proofs.Trading.{legal-fits, legal-to, state-to}
 use Rattle.day_report.proofs.Following.{whole-day}
 use Rattle.day_report.proofs.day.report.Goals as goal
 
