@@ -3,8 +3,9 @@ ghost use Rattle.std.specs.Prelude.{IfOk};
 ghost use Rattle.fx_rules.specs.History.{IsLegal};
 
 use flat_host::FlatHost;
-use fx_rules::{Entry, Session};
+use fx_rules::{Entry, Sent, Session};
 use fx_text::LineCutter;
+use market_run::Run;
 use order_lines::journal_from;
 use session_head::{HeadReader, HeadStep};
 use std::alloc::Global;
@@ -35,6 +36,9 @@ pub(crate) fn session(alloc: Global, header: &[u8]) -> Result<Session, Fail> {
     Ok(reader.into_session().ok_or("no START")?)
 }
 
+/// The most entries of a trial's history.
+const MOST: usize = 1000;
+
 /// The history of a journal's commands, carried out one after another.
 pub(crate) fn history(alloc: Global, session: &Session, journal: &[u8]) -> Result<Vec<Entry>, Fail>
     ensures legal { IfOk result (λ entries. IsLegal session.now entries.items) }
@@ -43,19 +47,15 @@ pub(crate) fn history(alloc: Global, session: &Session, journal: &[u8]) -> Resul
     LineCutter::new().feed(journal, &mut lines)?;
     // A legal history rests on a valid session, as each is.
     let _banks = session.banks();
-    let mut host = FlatHost::open(alloc, session)?;
-    let mut entries = Vec::new(alloc);
-    for line in lines.iter().take(1000) {
+    let mut run = Run::new(alloc, FlatHost::open(alloc, session)?);
+    for line in &lines {
         let (bank, command) = journal_from(session, line).ok_or("a line is no command")?;
-        let number = host.count(bank) + 1;
-        let outcome = host.apply(bank, &command)?;
-        entries.push(Entry {
-            bank,
-            number,
-            command,
-            outcome,
-        })?;
+        if run.entries().len() >= MOST {
+            return Err(Fail::from("too many lines"));
+        }
+        run.serve(Sent { bank, command })?;
     }
+    let (_host, entries) = run.into_parts();
     Ok(entries)
 }
 
