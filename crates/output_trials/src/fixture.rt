@@ -39,7 +39,7 @@ pub(crate) fn session(alloc: Global, header: &[u8]) -> Result<Session, Fail> {
 /// The most entries of a trial's history.
 const MOST: usize = 1000;
 
-/// The history of a journal's commands, carried out one after another.
+/// The history of a journal's commands, served one after another; of the first thousand where there are more.
 pub(crate) fn history(alloc: Global, session: &Session, journal: &[u8]) -> Result<Vec<Entry>, Fail>
     ensures legal { IfOk result (λ entries. IsLegal session.now entries.items) }
 {
@@ -51,7 +51,7 @@ pub(crate) fn history(alloc: Global, session: &Session, journal: &[u8]) -> Resul
     for line in &lines {
         let (bank, command) = journal_from(session, line).ok_or("a line is no command")?;
         if run.entries().len() >= MOST {
-            return Err(Fail::from("too many lines"));
+            break;
         }
         run.serve(Sent { bank, command })?;
     }
