@@ -56,6 +56,11 @@ pub record AreFlows (h : Header) (fills : List Fill) (flows : Flows) : Type 0 wh
   pub got : IsTable (bank_count h) (length (currencies h)) (got_by h fills) flows.received
   pub gave : IsTable (bank_count h) (length (currencies h)) (given_by h fills) flows.paid
 
+-- volumes and flows of a day are those of some fills
+pub record HasFills (h : Header) (fills : List Fill) (day : Day) : Type 0 where
+  pub volumes_are : AreVolumes h fills day.volumes.items
+  pub flows_are : AreFlows h fills day.flows
+
 -- a day is that of a state
 pub record IsDayOf (h : Header) (S : State) (day : Day) : Type 0 where
   pub credit_is : IsCredit day.lines

@@ -2,10 +2,10 @@ ghost use Rattle.std.specs.Prelude.{ℕ, List, [], ◌∷◌, ◌≡◌, ◌++�
 ghost use Rattle.fx_rules.specs.State.{State, opening};
 ghost use Rattle.fx_rules.specs.History.{IsLegal, state};
 ghost use Rattle.fx_rules.specs.declared.outcome.Entry.{Entry};
-ghost use Rattle.credit_lines.specs.Credit.{IsCredit};
 ghost use Rattle.day_report.specs.Report.{volumes_of, uses_of, nets_of, balance, NetsBalance};
-ghost use Rattle.day_report.specs.Parts.{IsDayOf};
-ghost use Rattle.day_report.specs.Day.{CanFill, filled_with, CanFollow, CanReport, line_set, IsReportOf};
+ghost use Rattle.day_report.specs.Parts.{HasFills, IsDayOf};
+ghost use Rattle.day_report.specs.Trades.{Adds};
+ghost use Rattle.day_report.specs.Day.{CanAddAll, CanFollow, CanReport, IsReportOf};
 
 use crate::flows::Flows;
 use crate::rows::{NetList, Report, UseList, Volume, VolumeList};
@@ -13,7 +13,7 @@ use crate::uses::uses;
 use crate::volumes::{add_volume, no_volumes};
 use credit_lines::CreditLines;
 use fx_amounts::Memory;
-use fx_rules::{Command, Entry, Fill, Session};
+use fx_rules::{Entry, Fill, Session};
 use std::alloc::Global;
 
 /// The report of a legal history, from one walk along its entries. `Memory` for want of memory; nothing is changed then.
@@ -39,7 +39,7 @@ pub fn nets_balance()
 /// What is known of a day so far.
 #[derive(Debug, Drop)]
 pub(crate) struct Day {
-    pub lines: CreditLines,
+    lines: CreditLines,
     /// By pair.
     volumes: Vec<Volume>,
     flows: Flows,
@@ -62,35 +62,20 @@ impl Day {
         requires { CanFollow session.now self.old entry.now }
         ensures follows { (entries : List Entry) → IsLegal session.now (entries ++ entry.now ∷ []) → IsDayOf session.now (state session.now entries) self.old → IsDayOf session.now (state session.now (entries ++ entry.now ∷ [])) self.new }
     {
-        self.set_limit(session, entry);
-        for fill in entry.outcome.fills() {
-            self.add(session, fill);
-        }
+        self.lines.follow(session, entry);
+        self.add_all(session, entry.outcome.fills());
     }
 
-    /// Sets the limit that an entry's command asks for.
-    fn set_limit(&mut self, session: &Session, entry: &Entry)
-        requires { CanFollow session.now self.old entry.now }
-        ensures lines { self.new.lines ≡ line_set self.old.lines entry.now.bank entry.now.command }
-        ensures valid { IsCredit self.new.lines }
-        ensures volumes { self.new.volumes ≡ self.old.volumes }
-        ensures flows { self.new.flows ≡ self.old.flows }
+    /// Adds fills to the volumes and the flows.
+    fn add_all(&mut self, session: &Session, fills: &[Fill])
+        requires { CanAddAll session.now self.old fills.now }
+        ensures lines { self.new.lines ≡ self.old.lines }
+        ensures adds { Adds (λ before. HasFills session.now before self.old) (λ all. HasFills session.now all self.new) fills.now }
     {
-        if let Command::Line { bank, limit } = entry.command {
-            self.lines.set(entry.bank, bank, limit);
+        for fill in fills {
+            add_volume(session, fill, &mut self.volumes);
+            self.flows.add(session, fill);
         }
-    }
-
-    /// Adds a fill.
-    pub(crate) fn add(&mut self, session: &Session, fill: &Fill)
-        requires { CanFill session.now self.old fill.now }
-        ensures adds { (S : State) → IsDayOf session.now S self.old → IsDayOf session.now (filled_with S fill.now) self.new }
-    {
-        let weight = session.rule(fill.pair).weight;
-        let units = fill.lots.cost(weight);
-        self.lines.take(fill.taker, fill.maker, units);
-        add_volume(session, fill, &mut self.volumes);
-        self.flows.add(session, fill);
     }
 
     /// The report of the day.

@@ -1,24 +1,21 @@
-use Rattle.day_report.proofs.Following.{day-set, at-first, at-can, at-next, at-last}
+use Rattle.fx_rules.specs.History.{state}
+use Rattle.credit_lines.proofs.Paying.{next_of-legal}
+use Rattle.day_report.proofs.Following.{entry-fits, day-followed}
 use Rattle.day_report.proofs.day.Day.follow.Goals as goal
 
-pub loop-fill-init : goal.loop-fill-init
-loop-fill-init c = λ entries legal is.
-    at-first c.args.session.now entries c.args.entry.now c.fills-fill-items.result.now c.set_limit.new.self
-    (day-set c.args.session.now entries c.args.entry.now c.args.self.now c.set_limit.new.self legal is c.set_limit.ensures.lines c.set_limit.ensures.valid c.set_limit.ensures.volumes c.set_limit.ensures.flows)
+pub follow-requires : goal.follow-requires
+follow-requires c = record { next = next_of-legal c.args.session.now c.requires.0 c.args.entry.now c.args.self.now.lines c.requires.1 c.requires.2.lines_are }
 
-pub add-requires : goal.add-requires
-add-requires c =
-    at-can c.args.session.now c.requires.0 c.args.entry.now c.fills-fill-items.result.now c.loop-fill.fill-index c.fill-item.result c.loop-fill.self
-    c.requires.1 c.fills-fill-items.ensures.fills c.loop-fill-test.true c.fill-item.is (c.loop-fill.invariant c.requires.0 c.requires.1 c.requires.2)
-
-pub loop-fill-preserved : goal.loop-fill-preserved
-loop-fill-preserved c = λ entries legal is.
-    at-next c.args.session.now entries c.args.entry.now c.fills-fill-items.result.now c.loop-fill.fill-index c.fill-item.result c.add.new.self c.loop-fill-test.true c.fill-item.is
-    (c.add.ensures.adds _ (c.loop-fill.invariant entries legal is))
+pub add_all-requires : goal.add_all-requires
+add_all-requires c = (
+  (state c.args.session.now c.requires.0).fills,
+  record { volumes_are = c.requires.2.volumes_are; flows_are = c.requires.2.flows_are },
+  entry-fits c.args.session.now c.requires.0 c.args.entry.now c.fills.result.now c.requires.1 c.fills.ensures.fills,
+)
 
 pub returns : goal.returns
 returns c = record {
   follows = λ entries legal is.
-      at-last c.args.session.now entries c.args.entry.now c.fills-fill-items.result.now c.loop-fill.fill-index c.loop-fill.self legal c.fills-fill-items.ensures.fills c.loop-fill-test.false
-      (c.loop-fill.invariant entries legal is);
+      day-followed c.args.session.now entries c.args.entry.now c.fills.result.now c.args.self.now c.add_all.new.self _ legal is c.follow.ensures.valid c.follow.ensures.follows c.fills.ensures.fills c.add_all.ensures.lines
+      (c.add_all.ensures.adds (state c.args.session.now entries).fills (record { volumes_are = is.volumes_are; flows_are = is.flows_are }));
 }
