@@ -1,7 +1,7 @@
 use Rattle.std.proofs.Common.{List, [], ◌∷◌, ◌++◌, refl, sym, subst, take, append-nil}
 use Rattle.std.proofs.lemmas.List.{take_all}
 use Rattle.fx_rules.specs.declared.orders.Fill.{Fill}
-use Rattle.day_report.specs.Parts.{HasFills}
+use Rattle.day_report.specs.Parts.{AreVolumes, AreFlows, HasFills}
 use Rattle.day_report.proofs.Following.{trades-at, one-more}
 use Rattle.day_report.proofs.day.Day.add_all.Goals as goal
 
@@ -31,9 +31,11 @@ loop-fill-preserved c = record {
   adds = λ before has.
       let so_far = c.loop-fill.invariant.adds before has in
       let all = before ++ take c.loop-fill.fill-index c.args.fills.now in
-      subst (λ (fs : List Fill). HasFills c.args.session.now fs _)
-      (one-more before c.args.fills.now c.loop-fill.fill-index c.fill-item.result c.loop-fill-test.true c.fill-item.is)
-      (record { volumes_are = c.add_volume.ensures.adds all so_far.volumes_are; flows_are = c.add.ensures.adds all so_far.flows_are });
+      let more = one-more before c.args.fills.now c.loop-fill.fill-index c.fill-item.result c.loop-fill-test.true c.fill-item.is in
+      record {
+        volumes_are = subst (λ (fs : List Fill). AreVolumes c.args.session.now fs c.add_volume.new.volumes.items) more (c.add_volume.ensures.adds all so_far.volumes_are);
+        flows_are = subst (λ (fs : List Fill). AreFlows c.args.session.now fs c.add.new.self) more (c.add.ensures.adds all so_far.flows_are);
+      };
 }
 
 pub returns : goal.returns
