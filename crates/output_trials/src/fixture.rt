@@ -39,7 +39,7 @@ pub(crate) fn session(alloc: Global, header: &[u8]) -> Result<Session, Fail> {
 /// The most entries of a trial's history.
 const MOST: usize = 1000;
 
-/// The history of a journal's commands, served one after another; of the first thousand where there are more.
+/// The history of a journal's commands, served one after another up to the first line that is none; a thousand at most.
 pub(crate) fn history(alloc: Global, session: &Session, journal: &[u8]) -> Result<Vec<Entry>, Fail>
     ensures legal { IfOk result (λ entries. IsLegal session.now entries.items) }
 {
@@ -49,7 +49,9 @@ pub(crate) fn history(alloc: Global, session: &Session, journal: &[u8]) -> Resul
     let _banks = session.banks();
     let mut run = Run::new(alloc, FlatHost::open(alloc, session)?);
     for line in &lines {
-        let (bank, command) = journal_from(session, line).ok_or("a line is no command")?;
+        let Some((bank, command)) = journal_from(session, line) else {
+            break;
+        };
         if run.entries().len() >= MOST {
             break;
         }
