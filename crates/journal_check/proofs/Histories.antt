@@ -78,4 +78,4 @@ steps_sent h S (e ∷ es) steps = (record { sender = steps.0.sender; command = s
 -- the text of a day begins with the header and the journal
 pub day_begins : (h : Header) (entries : List Entry) (day : List ℕ) → IsDayText h entries day → (rest : List ℕ) × (day ≡ head_text_of h ++ (journal_text h entries ++ rest))
 unfolding day_text
-day_begins h entries day is = (desks_text h entries ++ books_text h is.books ++ report_text h (state h entries), is.exactly)
+day_begins h entries day is = (desks_text h entries ++ (books_text h is.books ++ report_text h (state h entries)), is.exactly)

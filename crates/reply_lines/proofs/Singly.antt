@@ -56,7 +56,7 @@ pub days_agree : (h : Header) (entries : List Entry) (day other : List ℕ) → 
 unfolding day_text
 days_agree h entries day other legal is they =
     is.exactly
-    ∙ ap (λ (books : List ℕ). head_text_of h ++ journal_text h entries ++ desks_text h entries ++ books ++ report_text h (state h entries))
+    ∙ ap (λ (books : List ℕ). head_text_of h ++ (journal_text h entries ++ (desks_text h entries ++ (books ++ report_text h (state h entries)))))
     (books_text-same h (state h entries) is.books they.books legal.session (legal-sound h entries legal) is.at_the_end they.at_the_end)
     ∙ sym they.exactly
 

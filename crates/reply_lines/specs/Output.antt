@@ -38,7 +38,7 @@ desks_text h entries = desks_below h entries (bank_count h)
 -- all but the last lines, which a history has no part in: header, journal, desks, the local books at the end, and the report
 unfoldable pub day_text : Header → List Entry → (ℕ → ℕ → LocalBook) → List ℕ
 day_text h entries books =
-    head_text_of h ++ journal_text h entries ++ desks_text h entries ++ books_text h books ++ report_text h (state h entries)
+    head_text_of h ++ (journal_text h entries ++ (desks_text h entries ++ (books_text h books ++ report_text h (state h entries))))
 
 unfoldable pub strays_line : ℕ → List ℕ
 strays_line strays = row (codes "STRAYS") (numeral strays ∷ [])

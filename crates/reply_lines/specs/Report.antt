@@ -32,7 +32,7 @@ net_line h net = row (codes "NET") (bank_name h net.bank ∷ net.currency ∷ si
 -- a report: the volumes of the pairs, the credit between each two banks, and the nets of the banks
 unfoldable pub report_of : Header → List Volume → List Use → List Net → List ℕ
 report_of h volumes uses nets =
-    codes "REPORT\n" ++ flat_map (volume_line h) volumes ++ flat_map (use_line h) uses ++ flat_map (net_line h) nets
+    codes "REPORT\n" ++ (flat_map (volume_line h) volumes ++ (flat_map (use_line h) uses ++ flat_map (net_line h) nets))
 
 -- the report as it stands in a state
 abbrev pub report_text : Header → State → List ℕ

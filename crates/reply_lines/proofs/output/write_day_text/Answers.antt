@@ -16,7 +16,7 @@ returns-in_err-write_head g c =
     let h = c.args.session.now in
     let entries = c.args.entries.now in
     record {
-      wrote = λ books are. cut_short c.from_residual.result (journal_text h entries ++ desks_text h entries ++ books_text h books ++ report_text h (state h entries))
+      wrote = λ books are. cut_short c.from_residual.result (journal_text h entries ++ (desks_text h entries ++ (books_text h books ++ report_text h (state h entries))))
           c.from_residual.ensures.1 c.in_err-write_head.ensures.wrote;
     }
 
@@ -27,7 +27,7 @@ returns-in_err-write_journal g c =
     let entries = c.args.entries.now in
     record {
       wrote = λ books are. Wrote-then c.from_residual-in_err-write_journal.result c.in_ok-write_head.ensures.wrote
-          (cut_short c.from_residual-in_err-write_journal.result (desks_text h entries ++ books_text h books ++ report_text h (state h entries))
+          (cut_short c.from_residual-in_err-write_journal.result (desks_text h entries ++ (books_text h books ++ report_text h (state h entries)))
           c.from_residual-in_err-write_journal.ensures.1 c.in_err-write_journal.ensures.wrote);
     }
 

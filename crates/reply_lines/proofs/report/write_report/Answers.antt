@@ -12,7 +12,7 @@ returns-in_err-write_all g c =
     let h = c.args.session.now in
     let r = c.args.report.now in
     record {
-      wrote = cut_short c.from_residual.result (flat_map (volume_line h) r.volumes ++ flat_map (use_line h) r.uses ++ flat_map (net_line h) r.nets) c.from_residual.ensures.1
+      wrote = cut_short c.from_residual.result (flat_map (volume_line h) r.volumes ++ (flat_map (use_line h) r.uses ++ flat_map (net_line h) r.nets)) c.from_residual.ensures.1
           c.in_err-write_all.ensures.wrote;
     }
 
