@@ -1,4 +1,4 @@
-use Rattle.std.proofs.Common.{◌-◌, ◌+◌, List, map, arith, ◌∙◌, ap, ℕ}
+use Rattle.std.proofs.Common.{◌-◌, ◌+◌, List, map, arith, ◌∙◌, ap, sym, ℕ, Ok}
 use Rattle.fx_rules.specs.declared.outcome.Entry.{Entry}
 use Rattle.fx_rules.specs.Sending.{sent_by}
 use Rattle.journal_check.proofs.HeaderLemmas.{read-within}
@@ -28,6 +28,7 @@ pub returns-clause-answers : goal.returns-clause-answers
 returns-clause-answers c =
     c.loop-entry.invariant.reads
     ∙ commands_in-all c.args.session.now _ (map sent_by c.loop-entry.run.entries) (c.args.counted.now.entries - c.loop-entry._entry) _ (omega arith)
+    ∙ ap (λ (entries : List Entry). Ok (map sent_by entries)) (sym c.into_parts-host.ensures.entries)
 
 pub serve-requires : goal.serve-requires
 serve-requires c = record {
