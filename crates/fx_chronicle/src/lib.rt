@@ -18,6 +18,3 @@ pub use history::{Writer, close};
 pub use names::Naming;
 pub use opening::{Blank, open};
 pub use tokens::{Front, Slip};
-
-#[cfg(test)]
-mod tests;

@@ -149,6 +149,3 @@ impl Code {
         &self.bytes
     }
 }
-
-#[cfg(test)]
-mod tests;

@@ -123,6 +123,3 @@ pub type EntryList = ListOf<Entry>;
 
 /// Commands in the order of a stream.
 pub type CommandList = ListOf<Command>;
-
-#[cfg(test)]
-mod tests;

@@ -240,6 +240,3 @@ fn are_valid_limits(banks: usize, limits: &[Units]) -> bool
     }
     true
 }
-
-#[cfg(test)]
-mod tests;

@@ -1,44 +1,27 @@
 -- A command that is served: its number fits, and the history goes on by its entry.
-use Rattle.std.proofs.Common.{ℕ, zero, suc, ◌≡◌, ◌+◌, ◌-◌, ◌<◌, ◌≤◌, ◌^◌, List, [], ◌∷◌, ◌++◌, refl, ap, sym, subst, ◌∙◌, arith, length, get_or, replicate, map, take, length-append, append_assoc}
-use Rattle.std.proofs.Math.ListN.{set}
+use Rattle.std.proofs.Common.{ℕ, zero, suc, ◌≡◌, ◌+◌, ◌-◌, ◌<◌, ◌≤◌, ◌^◌, List, [], ◌∷◌, ◌++◌, refl, ap, sym, subst, ◌∙◌, arith, length, get_or, eqb, not, map, take, length-append, append_assoc}
 use Rattle.std.proofs.lemmas.List.{length-map, length-take, take_more}
+use Rattle.std.proofs.lemmas.List.Filters.{length-filter_both}
+use Rattle.std.specs.List.{filter}
 use Rattle.fx_rules.specs.declared.command.Sent.{Sent}
 use Rattle.fx_rules.specs.declared.outcome.Outcome.{Outcome}
 use Rattle.fx_rules.specs.declared.outcome.Entry.{Entry}
 use Rattle.fx_rules.specs.Lists.{Each}
-use Rattle.fx_rules.specs.Session.{Header, sender_count}
-use Rattle.fx_rules.specs.State.{State, count_of, opening}
-use Rattle.fx_rules.specs.History.{IsLegal, after_entry, after_all, state}
+use Rattle.fx_rules.specs.Session.{Header}
+use Rattle.fx_rules.specs.State.{State, count_of}
+use Rattle.fx_rules.specs.History.{IsLegal, state, own}
 use Rattle.fx_rules.specs.Market.{InSome, InEach, MaySend, HasSent, GoesOn}
 use Rattle.fx_rules.specs.Sending.{IsSentOf, sent_by}
-use Rattle.fx_rules.proofs.Staying.{changed-counts}
+use Rattle.fx_rules.proofs.Counting.{counts-own}
 use Rattle.market_run.specs.Ran.{Ran}
 use Rattle.market_run.specs.Running.{HasRun, CanServe, RunsOn, Served}
 
-raised : (counts : List ℕ) (i j : ℕ) → get_or (set counts i (get_or counts i 0 + 1)) j 0 ≤ get_or counts j 0 + 1
-raised [] i j = omega arith
-raised (n ∷ counts) zero zero = omega arith
-raised (n ∷ counts) zero (suc j) = omega arith
-raised (n ∷ counts) (suc i) zero = omega arith
-raised (n ∷ counts) (suc i) (suc j) = raised counts i j
-
-entry-raises : (S : State) (e : Entry) (bank : ℕ) → count_of (after_entry S e) bank ≤ count_of S bank + 1
-entry-raises S e bank =
-    subst (λ (cs : List ℕ). get_or (set cs e.bank (get_or cs e.bank 0 + 1)) bank 0 ≤ get_or S.counts bank 0 + 1)
-    (sym (changed-counts S e.bank e.command e.outcome)) (raised S.counts e.bank bank)
-
-counts-from : (S : State) (entries : List Entry) (bank : ℕ) → count_of (after_all S entries) bank ≤ count_of S bank + length entries
-counts-from S [] bank = omega arith
-counts-from S (e ∷ entries) bank = omega (arith, entry-raises S e bank, counts-from (after_entry S e) entries bank)
-
-none-sent : (senders bank : ℕ) → get_or {A = ℕ} (replicate senders 0) bank 0 ≤ 0
-none-sent zero bank = omega arith
-none-sent (suc senders) zero = omega arith
-none-sent (suc senders) (suc bank) = none-sent senders bank
-
 -- no sender has sent more commands than there are entries
-counts-most : (h : Header) (entries : List Entry) (bank : ℕ) → count_of (state h entries) bank ≤ length entries
-counts-most h entries bank = omega (arith, counts-from (opening h) entries bank, none-sent (sender_count h) bank)
+counts-most : (h : Header) (entries : List Entry) (bank : ℕ) → IsLegal h entries → count_of (state h entries) bank ≤ length entries
+counts-most h entries bank legal =
+    let parted : length (own bank entries) + length (filter (λ (e : Entry). not (eqb e.bank bank)) entries) ≡ length entries =
+    length-filter_both (λ (e : Entry). eqb e.bank bank) (λ (e : Entry). not (eqb e.bank bank)) (λ _. refl) entries in
+    omega (arith, counts-own h entries bank legal, parted)
 
 pub may-send : {M : Type 0} (stands : M → Header → State → Type 0) (run : Ran M) (s : Sent) → CanServe stands run (s ∷ []) → InSome (stands run.market) (MaySend s.bank s.command)
 may-send stands run s can = (
@@ -49,13 +32,13 @@ may-send stands run s can = (
   record {
     sender = can.valid.0.sender;
     allowed = can.valid.0.command;
-    number = omega (arith, can.few, counts-most can.session run.entries s.bank);
+    number = omega (arith, can.few, counts-most can.session run.entries s.bank can.has_run.legal);
   },
 )
 
 pub number-fits : {M : Type 0} (stands : M → Header → State → Type 0) (run : Ran M) (s : Sent) (count : ℕ) → CanServe stands run (s ∷ []) → InEach (stands run.market) (HasSent s.bank count) → count + 1 < 2 ^ 32
 number-fits stands run s count can is =
-    omega (arith, can.few, counts-most can.session run.entries s.bank, is can.session run.entries can.has_run.legal can.has_run.market)
+    omega (arith, can.few, counts-most can.session run.entries s.bank can.has_run.legal, is can.session run.entries can.has_run.legal can.has_run.market)
 
 pub runs-on : {M : Type 0} (stands : M → Header → State → Type 0) (was now : Ran M) (s : Sent) (count : ℕ) (outcome : Outcome) → InEach (stands was.market) (HasSent s.bank count) → GoesOn (stands was.market) (stands now.market) s.bank s.command outcome → now.entries ≡ was.entries ++ (record { bank = s.bank; number = count + 1; command = s.command; outcome = outcome }) ∷ [] → RunsOn stands was now
 runs-on stands was now s count outcome count_is on entries_are h ran =

@@ -5,13 +5,25 @@
 #[cfg(test)]
 mod books;
 #[cfg(test)]
+mod chronicle;
+#[cfg(test)]
 mod credit;
 #[cfg(test)]
 mod fixture;
 #[cfg(test)]
+mod hosts;
+#[cfg(test)]
 mod levels;
 #[cfg(test)]
+mod names;
+#[cfg(test)]
+mod outcomes;
+#[cfg(test)]
+mod played;
+#[cfg(test)]
 mod raises;
+#[cfg(test)]
+mod sessions;
 #[cfg(test)]
 mod side_by_side;
 #[cfg(test)]

@@ -1,8 +1,8 @@
 use Rattle.std.proofs.Common.{◌≡◌, ◌≢◌, ℕ, ◌<◌, ◌==◌, ◌||◌, Bool, true, false, List, [], refl, ap, sym, ◌∙◌, arith, eq-eqb, ne_eqb}
-use Rattle.fx_chronicle.specs.declared.tests.Remark.{Remark}
+use Rattle.market_trials.specs.declared.chronicle.Remark.{Remark}
 use Rattle.fx_chronicle.specs.Touching.{touched, pends, without}
 use Rattle.fx_chronicle.proofs.Pending.{pends-touched, pends-without, signed_by_two}
-use Rattle.fx_chronicle.proofs.tests.Book.add.Goals as goal
+use Rattle.market_trials.proofs.chronicle.Book.add.Goals as goal
 
 abbrev touches : Remark → ℕ → Bool
 touches remark key = (key == remark.author) || (key == 2)

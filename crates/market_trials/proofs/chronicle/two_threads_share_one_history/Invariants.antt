@@ -1,5 +1,5 @@
 use Rattle.fx_chronicle.specs.Faces.{no_session}
-use Rattle.fx_chronicle.proofs.tests.two_threads_share_one_history.Given as goal
+use Rattle.market_trials.proofs.chronicle.two_threads_share_one_history.Given as goal
 
 -- the blank that was just made, and no session
 abbrev pub ghosts-kept_by_two : goal.ghosts-kept_by_two

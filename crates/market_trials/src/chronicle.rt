@@ -1,7 +1,8 @@
+//! One history for two threads.
 ghost use Rattle.std.specs.Prelude.{◌≡◌, ◌<◌, []};
 
-use super::*;
 use fx_amounts::Memory;
+use fx_chronicle::{Blank, Front, Naming, Slip, Writer, close, open};
 use fx_rules::Keyed;
 use std::alloc::Global;
 use std::marker::Brand;

@@ -1,4 +1,4 @@
-use super::*;
+use fx_rules::{Code, Name};
 use std::test::Fail;
 
 #[test]

@@ -1,6 +1,5 @@
-use super::*;
-use crate::{Fill, Level, ListOf};
-use fx_amounts::{Lots, PairId, Price, Side};
+use fx_amounts::{BankId, Lots, PairId, Price, Side};
+use fx_rules::{Fill, Level, ListOf, Outcome, Reject};
 use std::test::Fail;
 
 fn fill(ticks: u32, lots: u32) -> Result<Fill, Fail> {

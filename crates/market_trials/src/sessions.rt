@@ -1,4 +1,5 @@
-use super::*;
+use fx_amounts::Units;
+use fx_rules::{Code, Name, PairRule, Session};
 use std::alloc::Global;
 use std::test::Fail;
 
