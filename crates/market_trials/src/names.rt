@@ -41,7 +41,6 @@ fn no_names(rt: HostRuntime) {
 fn codes(rt: HostRuntime) -> Result<(), Fail> {
     let euro = Code::from_bytes(b"EUR").ok_or("a code was refused")?;
     assert_eq!(rt; euro.as_bytes(), b"EUR".as_slice());
-    assert_eq!(rt; euro.letters(), *b"EUR");
     for text in [
         b"".as_slice(),
         b"EU".as_slice(),
