@@ -362,6 +362,24 @@ fn send<R: Abort>(rt: &R, session: &Session, run: &mut Run<FlatHost>, row: &Row)
     Ok(())
 }
 
+/// Sends the rows' commands one after another.
+fn send_all<R: Abort>(
+    rt: &R,
+    session: &Session,
+    run: &mut Run<FlatHost>,
+    rows: &[Row],
+) -> Result<(), Fail>
+    requires run { HasRun stands session.now run.old }
+    requires none { length run.old.entries ≡ 0 }
+    requires few { length rows.now ≤ 100 }
+    ensures run { OnOk result (HasRun stands session.now run.new) }
+{
+    for row in rows {
+        send(rt, session, run, row)?;
+    }
+    Ok(())
+}
+
 /// Plays the rows on a host that opens with these lines of ALFA; then so many orders rest, and as many on another host
 /// that carries what came of the rows.
 pub(crate) fn play<R: Abort + AllocGlobal>(
@@ -375,9 +393,7 @@ pub(crate) fn play<R: Abort + AllocGlobal>(
     let session = session(rt.alloc(), lines_of_alfa(with_beta, with_gama))?;
     let host = FlatHost::open(rt.alloc(), &session)?;
     let mut run = Run::new(rt.alloc(), host);
-    for row in rows {
-        send(rt, &session, &mut run, row)?;
-    }
+    send_all(rt, &session, &mut run, rows)?;
     assert_eq!(rt; run.market().resting(), resting);
     let again = replay(rt.alloc(), &session, run.entries())?;
     assert_eq!(rt; again.resting(), resting);
