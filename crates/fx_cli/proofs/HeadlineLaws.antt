@@ -1,6 +1,6 @@
 -- The headline of a legal history that has the commands in their order.
-use Rattle.std.proofs.Common.{ℕ, zero, suc, ◌≡◌, eqb, cond, Bool, true, false, List, [], ◌∷◌, take, map, refl, ap, subst, ◌∙◌}
-use Rattle.std.specs.Prelude.{Some, None}
+use Rattle.std.proofs.Common.{ℕ, zero, suc, ◌≡◌, ◌≤◌, ◌^◌, eqb, cond, Bool, true, false, List, [], ◌∷◌, take, map, length, refl, ap, sym, subst, ◌∙◌, arith}
+use Rattle.std.specs.Prelude.{Option, Some, None}
 use Rattle.std.specs.List.{filter, slice_get}
 use Rattle.fx_rules.specs.declared.outcome.Entry.{Entry}
 use Rattle.fx_rules.specs.Session.{Header}
@@ -10,7 +10,13 @@ use Rattle.fx_rules.proofs.Soundness.{legal-sound}
 use Rattle.fx_rules.proofs.Falling.{lines-fall}
 use Rattle.fx_rules.proofs.Uncrossed.{legal-uncrossed}
 use Rattle.fx_rules.specs.declared.command.Sent.{Sent}
-use Rattle.fx_cli.specs.Headline.{stream_of, sent_by, state_before, IsHeadline, IsSerial}
+use Rattle.fx_rules.specs.Sending.{sent_by}
+use Rattle.reply_lines.specs.Output.{IsOutput}
+use Rattle.fx_edges.specs.Writing.{Appended, AppendedPart}
+use Rattle.session_script.specs.declared.script.Script.{Script}
+use Rattle.reply_lines.specs.declared.output.Ending.TheVariants.{End}
+use Rattle.fx_cli.specs.Run.{WroteAll, WrotePart}
+use Rattle.fx_cli.specs.Headline.{stream_of, state_before, IsHeadline, IsSerial}
 
 -- Prefixes
 
@@ -59,3 +65,24 @@ headline_of h sent entries legal in_order = record {
 
 pub serial_of : (h : Header) (sent : List Sent) (entries : List Entry) → IsLegal h entries → map sent_by entries ≡ sent → IsSerial h sent entries
 serial_of h sent entries legal in_order = record { headline = headline_of h sent entries legal in_order; in_order = in_order }
+
+-- What a sink got of the output of a history of a script's commands
+
+module _ {K : Type 0} (written : K → Option (List ℕ)) (faults : K → ℕ) (before now : K) (script : Script) (history : List Entry) (serial : IsSerial script.session script.sent.items history) (few : length script.sent.items ≤ 2 ^ 26) where
+  pub wrote_all : (text : List ℕ) → IsOutput script.session history script.strays End text → Appended written faults before now text → WroteAll written faults before now script
+  wrote_all text output all = record {
+    history = history;
+    serial = serial;
+    text = text;
+    is_output = output;
+    all = all;
+  }
+
+  pub wrote_part : (text : List ℕ) → IsOutput script.session history script.strays End text → AppendedPart written faults before now text → WrotePart written faults before now script
+  wrote_part text output part = record {
+    history = history;
+    serial = serial;
+    text = text;
+    is_output = output;
+    part = part;
+  }

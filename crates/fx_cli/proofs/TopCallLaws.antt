@@ -15,22 +15,22 @@ use Rattle.reply_lines.specs.Output.{IsOutput}
 use Rattle.reply_lines.specs.declared.output.Ending.TheVariants as endings
 use Rattle.session_head.specs.Head as heads
 use Rattle.session_head.specs.declared.reason.HeadReason.{HeadReason}
-use Rattle.fx_cli.specs.Input.{input_limit}
+use Rattle.session_script.specs.Input.{input_limit}
 use Rattle.fx_cli.specs.Headline.{IsSerial}
-use Rattle.fx_cli.specs.Reading.{HasNoFault, IsPrompt, Says, MetEnd, IsEnded, Stopped, Ended, HasRead}
+use Rattle.session_script.specs.Reading.{HasNoFault, IsPrompt, Says, MetEnd, IsEnded, Stopped, Ended, HasRead}
 use Rattle.fx_cli.specs.Run.{WroteAll, WrotePart, RanScript, Followed, Ran}
-use Rattle.fx_cli.specs.Script.{HasSession, HasFault, HasEnd, EndsWithEnd, sent_in, strays_of}
+use Rattle.session_script.specs.Script.{HasSession, HasFault, HasEnd, EndsWithEnd, sent_in, strays_of}
 use Rattle.fx_cli.specs.SerialCall.{DidSerial}
 use Rattle.fx_cli.specs.Status.{status_of}
 use Rattle.fx_cli.specs.TopCall.{EndsExactly, IsOutputOf, GotOutput, GotPart, GotNothing, WritesNothing, IsSessionText}
-use Rattle.fx_cli.specs.declared.reading.Stop.{Stop}
-use Rattle.fx_cli.specs.declared.reading.Stop.TheVariants as stops
+use Rattle.session_script.specs.declared.reading.Stop.{Stop}
+use Rattle.session_script.specs.declared.reading.Stop.TheVariants as stops
 use Rattle.fx_rules.specs.declared.command.Sent.{Sent}
-use Rattle.fx_cli.specs.declared.script.Script.{Script}
+use Rattle.session_script.specs.declared.script.Script.{Script}
 use Rattle.fx_cli.specs.declared.status.Status.{Status}
 use Rattle.fx_cli.specs.declared.status.Status.TheVariants.{Done, Usage, Header as HeadFault, Cut, ReadFault, WriteFault, Memory, TooMuch, Differs}
-use Rattle.fx_cli.proofs.ScriptReading.{GoesOn-nil, prompt_here}
-use Rattle.fx_cli.proofs.ScriptLaws.{HasSession-more, HasSession-one, HasSession-no_fault, HasFault-more}
+use Rattle.session_script.proofs.ScriptReading.{GoesOn-nil, prompt_here}
+use Rattle.session_script.proofs.ScriptLaws.{HasSession-more, HasSession-one, HasSession-no_fault, HasFault-more}
 
 -- Bytes taken
 

@@ -5,7 +5,7 @@ use Rattle.fx_rules.specs.Lists.{Among}
 use Rattle.journal_check.specs.Verdict.{IsSomeOutput}
 use Rattle.journal_check.specs.declared.check.Verdict.TheVariants.{Yes, No}
 use Rattle.fx_cli.specs.Check.{output_limit, WroteVerdict, WrotePartOf}
-use Rattle.fx_cli.specs.Input.{TookAtMost, OfTaken}
+use Rattle.session_script.specs.Input.{TookAtMost, OfTaken}
 use Rattle.fx_cli.specs.TopCall.{EndsExactly, GotNothing, WritesNothing}
 use Rattle.fx_cli.specs.declared.status.Status.{Status}
 use Rattle.fx_cli.specs.declared.status.Status.TheVariants.{Done, ReadFault, WriteFault, Memory, TooMuch, Differs}

@@ -6,15 +6,12 @@ use Rattle.fx_rules.specs.Session.{Header}
 use Rattle.fx_rules.specs.State.{State, Within}
 use Rattle.fx_rules.specs.NoCross.{NoCross}
 use Rattle.fx_rules.specs.History.{IsLegal, state, own, Falls}
+use Rattle.fx_rules.specs.Sending.{sent_by}
 use Rattle.fx_rules.specs.declared.command.Sent.{Sent}
 
 -- the commands of one bank, in order
 abbrev pub stream_of : ℕ → List Sent → List Command
 stream_of bank sent = map (λ s. s.command) (filter (λ s. s.bank == bank) sent)
-
--- what an entry's bank sent
-abbrev pub sent_by : Entry → Sent
-sent_by entry = record { bank = entry.bank; command = entry.command }
 
 -- the state before the entry at a place, which is also the one after the entries in front of it
 abbrev pub state_before : Header → List Entry → ℕ → State

@@ -1,13 +1,10 @@
 pub mod Words
 pub mod Status
-pub mod Input
-pub mod Script
-pub mod Stage
-pub mod Intake
-pub mod Reading
 pub mod Headline
 pub mod Run
 pub mod Check
 pub mod TopCall
 pub mod SerialCall
 pub mod CheckCall
+pub mod Answered
+pub mod Process

@@ -1,15 +1,15 @@
 -- What a run does to its source and to standard output.
-use Rattle.std.specs.Prelude.{◌≡◌, ℕ, List, Option, Bool, true, false, Result, Ok, Err, ◌⊎◌}
+use Rattle.std.specs.Prelude.{◌≡◌, ℕ, List, Option, Result, Ok, Err, ◌⊎◌}
 use Rattle.fx_edges.specs.Faults.{Rose}
 use Rattle.fx_edges.specs.Writing.{Appended, AppendedPart}
 use Rattle.fx_rules.specs.declared.outcome.Entry.{Entry}
 use Rattle.reply_lines.specs.Output.{IsOutput}
 use Rattle.reply_lines.specs.declared.output.Ending.TheVariants.{End}
 use Rattle.fx_cli.specs.Headline.{IsSerial}
-use Rattle.fx_cli.specs.Reading.{HasRead}
+use Rattle.session_script.specs.Reading.{HasRead}
 use Rattle.fx_cli.specs.Status.{status_of}
-use Rattle.fx_cli.specs.declared.reading.Stop.{Stop}
-use Rattle.fx_cli.specs.declared.script.Script.{Script}
+use Rattle.session_script.specs.declared.reading.Stop.{Stop}
+use Rattle.session_script.specs.declared.script.Script.{Script}
 use Rattle.fx_cli.specs.declared.status.Status.{Status}
 use Rattle.fx_cli.specs.declared.status.Status.TheVariants.{Done, WriteFault, Memory}
 

@@ -3,11 +3,11 @@ use Rattle.std.specs.Prelude.{ℕ, ◌≡◌, ◌⊎◌, List, [], ◌∷◌, Op
 use Rattle.fx_edges.specs.Faults.{Rose}
 use Rattle.fx_rules.specs.Lists.{Among}
 use Rattle.session_head.specs.declared.reason.HeadReason.{HeadReason}
-use Rattle.fx_cli.specs.Input.{input_limit, TookAtMost, OfTaken}
-use Rattle.fx_cli.specs.Reading.{HasNoFault, IsPrompt, Stopped}
-use Rattle.fx_cli.specs.Script.{HasFault, HasEnd}
+use Rattle.session_script.specs.Input.{input_limit, TookAtMost, OfTaken}
+use Rattle.session_script.specs.Reading.{HasNoFault, IsPrompt, Stopped}
+use Rattle.session_script.specs.Script.{HasFault, HasEnd}
 use Rattle.fx_cli.specs.TopCall.{EndsExactly, GotOutput, GotPart, GotNothing, WritesNothing, IsSessionText}
-use Rattle.fx_cli.specs.declared.reading.Stop.TheVariants as stops
+use Rattle.session_script.specs.declared.reading.Stop.TheVariants as stops
 use Rattle.fx_cli.specs.declared.status.Status.{Status}
 use Rattle.fx_cli.specs.declared.status.Status.TheVariants.{Done, Header, Cut, ReadFault, WriteFault, Memory, TooMuch, Differs}
 

@@ -3,8 +3,8 @@ use Rattle.std.specs.Prelude.{ℕ, List, [], ◌∷◌, ◌++◌, codes}
 use Rattle.fx_amounts.specs.Numeral.{numeral}
 use Rattle.session_head.specs.declared.reason.HeadReason.{HeadReason}
 use Rattle.session_head.specs.Reason.{reason_code}
-use Rattle.fx_cli.specs.declared.reading.Stop.{Stop}
-use Rattle.fx_cli.specs.declared.reading.Stop.TheVariants as stops
+use Rattle.session_script.specs.declared.reading.Stop.{Stop}
+use Rattle.session_script.specs.declared.reading.Stop.TheVariants as stops
 use Rattle.fx_cli.specs.declared.status.Status.{Status}
 use Rattle.fx_cli.specs.declared.status.Status.TheVariants.{Done, Usage, Header, Cut, ReadFault, WriteFault, Memory, TooMuch, Differs}
 

@@ -8,9 +8,9 @@ use Rattle.fx_rules.specs.Session.{Header}
 use Rattle.reply_lines.specs.Output.{IsOutput}
 use Rattle.reply_lines.specs.declared.output.Ending.TheVariants as endings
 use Rattle.fx_cli.specs.Headline.{IsSerial}
-use Rattle.fx_cli.specs.Input.{input_limit}
-use Rattle.fx_cli.specs.Reading.{IsEnded}
-use Rattle.fx_cli.specs.Script.{HasSession, HasEnd, EndsWithEnd, sent_in, strays_of}
+use Rattle.session_script.specs.Input.{input_limit}
+use Rattle.session_script.specs.Reading.{IsEnded}
+use Rattle.session_script.specs.Script.{HasSession, HasEnd, EndsWithEnd, sent_in, strays_of}
 use Rattle.fx_cli.specs.Status.{err_text}
 use Rattle.fx_cli.specs.declared.status.Status.{Status}
 use Rattle.fx_cli.specs.declared.status.Status.TheVariants.{Done, Usage, Differs, WriteFault, Memory}

@@ -1,14 +1,17 @@
-ghost use Rattle.std.specs.Prelude.{◌≤◌, ◌^◌, length};
+ghost use Rattle.std.specs.Prelude.{◌≤◌, ◌^◌, IfOk, length};
 ghost use Rattle.fx_rules.specs.Lists.{Each};
+ghost use Rattle.fx_rules.specs.Sending.{IsSentOf};
+ghost use Rattle.fx_cli.specs.Headline.{IsSerial};
 ghost use Rattle.fx_cli.specs.Run.{Ran, RanScript};
-ghost use Rattle.fx_cli.specs.Script.{IsSentOf};
 
-use crate::reading::read_script;
-use crate::run::run_in_order;
-use crate::script::Script;
 use crate::status::Status;
+use flat_host::FlatHost;
+use fx_amounts::Memory;
 use fx_edges::{Sink, Source};
+use fx_rules::{Sent, Session};
+use market_run::Run;
 use reply_lines::{Ending, OutFault, write_output};
+use session_script::{Script, read_script};
 use std::alloc::Global;
 
 /// Runs the session of the source's bytes in the order of its lines, and answers the status that the run ends with.
@@ -27,13 +30,13 @@ fn run_script<K: Sink>(alloc: Global, script: &Script, out: &mut K) -> Status
     requires few { length script.now.sent.items ≤ 2 ^ 26 }
     ensures ran { RanScript K.written K.faults out.old out.new script.now result }
 {
-    let Ok(history) = run_in_order(alloc, &script.session, &script.sent) else {
+    let Ok(run) = run_in_order(alloc, &script.session, &script.sent) else {
         return Status::Memory;
     };
     match write_output(
         alloc,
         &script.session,
-        &history,
+        run.entries(),
         script.strays,
         Ending::End,
         out,
@@ -42,4 +45,18 @@ fn run_script<K: Sink>(alloc: Global, script: &Script, out: &mut K) -> Status
         Err(OutFault::Write) => Status::WriteFault,
         Err(OutFault::Memory) => Status::Memory,
     }
+}
+
+/// The run of a session's commands, served one after another by one plain host.
+fn run_in_order(alloc: Global, session: &Session, sent: &[Sent]) -> Result<Run<FlatHost>, Memory>
+    requires valid { Each (IsSentOf session.now) sent.now }
+    requires few { length sent.now ≤ 2 ^ 26 }
+    ensures { IfOk result (λ run. IsSerial session.now sent.now run.entries) }
+{
+    // A legal history rests on a valid session, as each is.
+    let _banks = session.banks();
+    let host = FlatHost::open(alloc, session)?;
+    let mut run = Run::new(alloc, host);
+    run.serve_all(sent)?;
+    Ok(run)
 }

@@ -2,11 +2,11 @@ ghost use Rattle.std.specs.Prelude.{◌≡◌, IfOk};
 ghost use Rattle.fx_edges.specs.Writing.{Wrote};
 ghost use Rattle.fx_cli.specs.Status.{code_of, err_text, fault_text, status_of};
 
-use crate::reading::Stop;
 use fx_amounts::Memory;
 use fx_edges::{Sink, SinkFault, write_all};
 use fx_text::push_number;
 use session_head::HeadReason;
+use session_script::Stop;
 use std::alloc::Global;
 
 /// How the program ended.

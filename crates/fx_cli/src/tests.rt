@@ -1,12 +1,18 @@
 ghost use Rattle.std.specs.Prelude.{◌≤◌, ◌<◌, length};
 
 use crate::fx_main;
+use crate::process::serve;
+use fx_amounts::{BankId, PairId};
 use fx_edges::{MemorySink, MemorySource};
-use fx_rules::OpenGate;
+use fx_rules::Gate;
 use samples::Sample;
-use std::alloc::Global;
-use std::process::Abort;
+use std::alloc::{AllocError, Global};
+use std::env::Args;
+use std::io::{self, ErrorKind};
+use std::process::{Abort, ExitCode};
 use std::sync::Wait;
+use std::sync::atomic::AtomicU64;
+use std::sync::atomic::Ordering::SeqCst;
 use std::test::Fail;
 use std::thread::Threads;
 
@@ -48,8 +54,43 @@ fn done<'a>(out: &'a [u8]) -> Ending<'a> {
     Ending { code: 0, out, err }
 }
 
+// A gate that counts how often it is asked.
+#[derive(Drop)]
+struct CountingGate {
+    asked: AtomicU64,
+}
+
+impl CountingGate {
+    fn ask(&self) {
+        self.asked.fetch_add(1, SeqCst);
+    }
+}
+
+impl Gate for CountingGate {
+    fn before<R: Wait>(&self, _rt: &R, _bank: BankId, _number: u32) {
+        self.ask();
+    }
+
+    fn after<R: Wait>(&self, _rt: &R, _bank: BankId, _number: u32) {
+        self.ask();
+    }
+
+    fn inside<R: Wait>(&self, _rt: &R, _pair: PairId) {
+        self.ask();
+    }
+}
+
+// Texts of their own.
+fn owned(alloc: Global, texts: &[&str]) -> Result<Vec<String>, AllocError> {
+    let mut all = Vec::new(alloc);
+    for text in texts {
+        all.push(String::from_str(alloc, text)?)?;
+    }
+    Ok(all)
+}
+
 // Runs over ends in memory, where the source gives at most `most` bytes at a call and standard output takes one, and
-// wants this ending.
+// wants this ending. The gate may be asked nothing.
 fn expect<R: Abort + AllocGlobal + Threads + Wait + Sync>(
     rt: &R,
     words: &[&str],
@@ -61,26 +102,54 @@ fn expect<R: Abort + AllocGlobal + Threads + Wait + Sync>(
     requires { 1 ≤ most }
 {
     let alloc = rt.alloc();
-    let mut program_words = Vec::new(alloc);
-    for word in words {
-        program_words.push(String::from_str(alloc, word)?)?;
-    }
+    let program_words = owned(alloc, words)?;
     let source_fails = fails.source.to_vec(alloc)?;
     let mut source = MemorySource::new(input.to_vec(alloc)?, most, source_fails);
     let mut out = MemorySink::new(1, fails.out.to_vec(alloc)?);
     let mut err = MemorySink::new(128, fails.err.to_vec(alloc)?);
-    let status = fx_main(
-        rt,
-        &program_words,
-        &mut source,
-        &mut out,
-        &mut err,
-        &OpenGate,
-    );
+    let gate = CountingGate {
+        asked: AtomicU64::new(0),
+    };
+    let status = fx_main(rt, &program_words, &mut source, &mut out, &mut err, &gate);
     assert_eq!(rt; status.code(), ending.code, "{words:?} {input:?} {fails:?}");
     assert_eq!(rt; out.written(), ending.out, "{words:?} {input:?}");
     assert_eq!(rt; err.written(), ending.err, "{words:?} {input:?}");
+    assert_eq!(rt; gate.asked.load(SeqCst), 0, "{words:?} {input:?}");
     Ok(())
+}
+
+// Runs the process with these arguments and the session without commands, and wants this ending.
+fn expect_exit<R: Abort + AllocGlobal + Threads + Wait + Sync>(
+    rt: &R,
+    arguments: io::Result<Args>,
+    ending: &Ending,
+) -> Result<(), Fail> {
+    let alloc = rt.alloc();
+    let input = samples::NO_COMMANDS.input.to_vec(alloc)?;
+    let mut source = MemorySource::new(input, 64, Vec::new(alloc));
+    let mut out = MemorySink::new(64, Vec::new(alloc));
+    let mut err = MemorySink::new(64, Vec::new(alloc));
+    let exit = serve(rt, arguments, &mut source, &mut out, &mut err);
+    assert_eq!(rt; exit, ExitCode::from(ending.code));
+    assert_eq!(rt; out.written(), ending.out);
+    assert_eq!(rt; err.written(), ending.err);
+    Ok(())
+}
+
+#[test]
+fn the_exit_status_of_the_process(rt: HostRuntime) -> Result<(), Fail> {
+    let alloc = rt.alloc();
+    let whole = done(samples::NO_COMMANDS.output);
+    let words = owned(alloc, &["fx_cli", "serial"])?;
+    expect_exit(&rt, Ok(words.into_iter()), &whole)?;
+    let words = owned(alloc, &["serial", "serial", "serial"])?;
+    expect_exit(&rt, Ok(words.into_iter()), &refusal(1, USAGE))?;
+    expect_exit(&rt, Ok(Vec::new(alloc).into_iter()), &refusal(1, USAGE))?;
+    // Nothing is written where the arguments could not be read.
+    let refused = io::Error::from(ErrorKind::OutOfMemory);
+    expect_exit(&rt, Err(refused), &refusal(6, b""))?;
+    let unreadable = io::Error::from(ErrorKind::InvalidData);
+    expect_exit(&rt, Err(unreadable), &refusal(1, b""))
 }
 
 // Headers with a fault, and the line that standard error gets.

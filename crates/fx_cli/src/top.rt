@@ -1,11 +1,10 @@
 ghost use Rattle.std.specs.Prelude.{◌≡◌, [], ◌∷◌};
 ghost use Rattle.fx_rules.specs.Lists.{Among};
+ghost use Rattle.fx_cli.specs.Answered.{Answered};
 ghost use Rattle.fx_cli.specs.Words.{AreSerial, AreCheck, AreOther};
 ghost use Rattle.fx_cli.specs.Check.{Checked};
 ghost use Rattle.fx_cli.specs.Run.{Ran};
-ghost use Rattle.fx_cli.specs.TopCall.{EndsExactly, Refused, ToldErr};
-ghost use Rattle.fx_cli.specs.SerialCall.{DidSerial};
-ghost use Rattle.fx_cli.specs.CheckCall.{DidCheck};
+ghost use Rattle.fx_cli.specs.TopCall.{Refused, ToldErr};
 
 use crate::check::check;
 use crate::serial::serial;
@@ -32,19 +31,23 @@ pub fn fx_main<R: AllocGlobal + Threads + Wait + Sync, S: Source, K: Sink, E: Si
     err: &mut E,
     _gate: &G,
 ) -> Status
-    // Other words are refused before anything is read or written.
-    ensures usage { EndsExactly result Status.Usage [] (AreOther words.now) }
-    ensures untouched { AreOther words.now → (source.new ≡ source.old) × (out.new ≡ out.old) }
-
-    // What came of a session, and of the check of an output: what was read and written, and the cause of each status.
-    ensures serial { AreSerial words.now → DidSerial S.left S.faults K.written K.faults source.old source.new out.old out.new result }
-    ensures check { AreCheck words.now → DidCheck S.left S.faults K.written K.faults source.old source.new out.old out.new result }
-
-    // Standard error: the line of the status.
-    ensures err { ToldErr E.written E.faults err.old err.new result }
+    ensures answered { Answered S.left S.faults K.written K.faults E.written E.faults words.now source.old source.new out.old out.new err.old err.new result }
 {
-    let status = follow(rt.alloc(), words, source, out);
-    tell(rt.alloc(), status, err)
+    answer(rt.alloc(), words, source, out, err)
+}
+
+/// Does what the words ask for that need no other thread: having no handle for it, it starts none and waits for nobody.
+fn answer<S: Source, K: Sink, E: Sink>(
+    alloc: Global,
+    words: &[String],
+    source: &mut S,
+    out: &mut K,
+    err: &mut E,
+) -> Status
+    ensures answered { Answered S.left S.faults K.written K.faults E.written E.faults words.now source.old source.new out.old out.new err.old err.new result }
+{
+    let status = follow(alloc, words, source, out);
+    tell(alloc, status, err)
 }
 
 /// Does what the words ask for, but for standard error.

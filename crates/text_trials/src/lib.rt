@@ -1,4 +1,4 @@
-//! Trials of what reads and writes text: amounts, the byte ends, lines and fields, headers and commands.
+//! Trials of what reads and writes text: amounts, the byte ends, lines and fields, headers, commands and whole sessions.
 #![tactic(auto)]
 
 #[cfg(test)]
@@ -13,3 +13,5 @@ mod fixture;
 mod headers;
 #[cfg(test)]
 mod lines;
+#[cfg(test)]
+mod scripts;

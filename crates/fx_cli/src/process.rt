@@ -1,0 +1,65 @@
+ghost use Rattle.std.specs.Prelude.{◌≡◌, ◌≢◌, IfErr, IfOk, drop};
+ghost use Rattle.std.specs.IoError.{error_kind};
+ghost use Rattle.std.specs.Process.{exit_status};
+ghost use Rattle.std.specs.Vec.Iter.{into_iter_items};
+ghost use Rattle.fx_cli.specs.Process.{EndsBy, EndsUnread};
+
+use crate::status::Status;
+use crate::top::fx_main;
+use fx_amounts::Memory;
+use fx_edges::{Sink, Source};
+use fx_rules::OpenGate;
+use std::alloc::Global;
+use std::env::Args;
+use std::io::{self, ErrorKind};
+use std::process::ExitCode;
+use std::sync::Wait;
+use std::thread::Threads;
+
+/// Does all that the process does, over its arguments as they were read and over its streams, and answers what it ends with.
+///
+/// Where the arguments could not be read, nothing is read or written: the exit status is that of `Memory` where memory was
+/// refused, and else that of `Usage`.
+pub fn serve<R: AllocGlobal + Threads + Wait + Sync, S: Source, K: Sink, E: Sink>(
+    rt: &R,
+    arguments: io::Result<Args>,
+    source: &mut S,
+    out: &mut K,
+    err: &mut E,
+) -> ExitCode
+    // The words are the arguments behind the program's name.
+    ensures ends { IfOk arguments (λ all. EndsBy S.left S.faults K.written K.faults E.written E.faults (drop 1 (into_iter_items all)) source.old source.new out.old out.new err.old err.new (exit_status result)) }
+    ensures unread { IfErr arguments (λ fault. EndsUnread (error_kind fault) source.old source.new out.old out.new err.old err.new (exit_status result)) }
+{
+    let status = match arguments {
+        Ok(all) => match words_of(rt.alloc(), all) {
+            Ok(words) => fx_main(rt, &words, source, out, err, &OpenGate),
+            Err(Memory) => Status::Memory,
+        },
+        Err(fault) => unread_status(&fault),
+    };
+    ExitCode::from(status.code())
+}
+
+/// The arguments without the program's name.
+fn words_of(alloc: Global, mut arguments: Args) -> Result<Vec<String>, Memory>
+    ensures words { IfOk result (λ words. words.items ≡ drop 1 (into_iter_items arguments)) }
+{
+    let _name = arguments.next();
+    let mut words = Vec::new(alloc);
+    while let Some(word) = arguments.next() {
+        words.push(word)?;
+    }
+    Ok(words)
+}
+
+/// The status at which the process ends where its arguments can't be read.
+fn unread_status(fault: &io::Error) -> Status
+    ensures memory { error_kind fault.now ≡ ErrorKind.OutOfMemory → result ≡ Status.Memory }
+    ensures other { error_kind fault.now ≢ ErrorKind.OutOfMemory → result ≡ Status.Usage }
+{
+    match fault.kind() {
+        ErrorKind::OutOfMemory => Status::Memory,
+        _ => Status::Usage,
+    }
+}

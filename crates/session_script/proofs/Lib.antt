@@ -1,0 +1,4 @@
+pub mod ScriptLaws
+pub mod Taking
+pub mod Closing
+pub mod ScriptReading

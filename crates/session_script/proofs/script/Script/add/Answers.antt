@@ -1,0 +1,21 @@
+use Rattle.std.proofs.Common.{true, false, refl, sym, subst, append-nil}
+use Rattle.session_script.specs.Stage.{Adds}
+use Rattle.session_script.proofs.script.Script.add.Goals as goal
+
+pub returns-in-End : goal.returns-in-End
+returns-in-End c = subst (λ said. Adds c.args.self.now c.args.self.now said true) c.in-End.ensures.reads
+    (record { session = refl; sent = sym (append-nil c.args.self.now.sent.items); strays = refl; ended = refl; valid = tt })
+
+pub returns-in_ok-push-in-Of : goal.returns-in_ok-push-in-Of
+returns-in_ok-push-in-Of c = subst (λ said. Adds c.args.self.now (record c.args.self.now { sent = c.push.new.self }) said false) c.in-Of.ensures.reads
+    (record {
+      session = refl;
+      sent = c.in_ok-push-in-Of.ensures.items;
+      strays = refl;
+      ended = refl;
+      valid = (record { sender = c.in-Of.ensures.bank; command = c.in-Of.ensures.range }, tt);
+    })
+
+pub returns-in-Passed : goal.returns-in-Passed
+returns-in-Passed c = subst (λ said. Adds c.args.self.now c.args.self.now said false) c.in-Passed.ensures.reads
+    (record { session = refl; sent = sym (append-nil c.args.self.now.sent.items); strays = refl; ended = refl; valid = tt })

@@ -1,0 +1,89 @@
+ghost use Rattle.std.specs.Prelude.{◌≡◌, ◌++◌, ◌∷◌, [], List, IsTrue, OnOk, IsSome, Some};
+ghost use Rattle.fx_text.specs.declared.line.Line.{Line as TextLine};
+ghost use Rattle.session_head.specs.Head.{session_of};
+
+use crate::script::Script;
+use fx_amounts::Memory;
+use fx_text::Line;
+use session_head::{HeadReader, HeadReason, HeadStep, HeadStop};
+use std::alloc::Global;
+use std::mem;
+
+/// What the lines of a text have come to.
+#[derive(Drop)]
+pub(crate) enum Stage {
+    /// The header goes on.
+    Heading(HeadReader),
+    /// START was read. Once the END line was, no further line is looked at.
+    Commanding { script: Script, ended: bool },
+    /// The header has a fault. No further line is looked at.
+    Faulted { line: u64, reason: HeadReason },
+}
+
+impl Stage {
+    ghost use Rattle.session_script.specs.Stage.{StandsAt, is_open};
+
+    /// The stage before the first line. It takes no memory.
+    pub(crate) fn new(alloc: Global) -> Stage
+        ensures begun { StandsAt result [] }
+        ensures readable { IsTrue (is_open result) }
+    {
+        Stage::Heading(HeadReader::new(alloc))
+    }
+
+    /// Takes one line more. After `Err` it is not taken.
+    pub(crate) fn take(&mut self, alloc: Global, line: &Line) -> Result<(), Memory>
+        requires { IsTrue (is_open self.old) }
+        ensures taken { OnOk result ((lines : List TextLine) → StandsAt self.old lines → StandsAt self.new (lines ++ line.now ∷ [])) }
+        ensures readable { IsTrue (is_open self.new) }
+    {
+        match self {
+            Stage::Heading(reader) => match reader.line(line) {
+                Ok(HeadStep::More) => {}
+                Ok(HeadStep::Start) => {
+                    let script = started(alloc, reader);
+                    *self = Stage::Commanding {
+                        script,
+                        ended: false,
+                    };
+                }
+                Err(HeadStop::Fault { line, reason }) => *self = Stage::Faulted { line, reason },
+                Err(HeadStop::Memory) => return Err(Memory),
+            },
+            Stage::Commanding { script, ended } => {
+                if !*ended {
+                    *ended = script.add(line)?;
+                }
+            }
+            Stage::Faulted { .. } => {}
+        }
+        Ok(())
+    }
+
+    /// Takes further lines, one after another. After `Err` some of them may be taken.
+    pub(crate) fn take_all(&mut self, alloc: Global, more: &[Line]) -> Result<(), Memory>
+        requires { IsTrue (is_open self.old) }
+        ensures taken { OnOk result ((lines : List TextLine) → StandsAt self.old lines → StandsAt self.new (lines ++ more.now)) }
+        ensures readable { IsTrue (is_open self.new) }
+    {
+        for line in more {
+            self.take(alloc, line)?;
+        }
+        Ok(())
+    }
+}
+
+/// The script of the session that a reader has read, so far without a command. The reader begins anew.
+fn started(alloc: Global, reader: &mut HeadReader) -> Script
+    requires { IsSome (session_of reader.old) }
+    ensures session { session_of reader.old ≡ Some result.session }
+    ensures sent { result.sent.items ≡ [] }
+    ensures strays { result.strays ≡ 0 }
+{
+    let reader = mem::replace(reader, HeadReader::new(alloc));
+    Script {
+        session: reader.into_session().unwrap(),
+        sent: Vec::new(alloc),
+        strays: 0,
+    }
+}

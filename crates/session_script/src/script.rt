@@ -1,0 +1,33 @@
+ghost use Rattle.std.specs.Prelude.{IfOk};
+ghost use Rattle.order_lines.specs.Grammar.{command_line};
+
+use fx_amounts::Memory;
+use fx_rules::{Sent, Session};
+use fx_text::Line;
+use order_lines::{Spoken, command_from};
+
+/// What the text of a session says: the session of its header, the commands behind START in the order of their lines,
+/// and how many of the lines there were strays.
+#[derive(Debug, Drop)]
+pub struct Script {
+    pub session: Session,
+    pub sent: Vec<Sent>,
+    pub strays: u64,
+}
+
+impl Script {
+    ghost use Rattle.session_script.specs.Stage.{Adds};
+
+    /// Adds what a line behind START says, and answers whether it is the END line. After `Err` the line is not added.
+    pub(crate) fn add(&mut self, line: &Line) -> Result<bool, Memory>
+        ensures { IfOk result (λ ended. Adds self.old self.new (command_line self.old.session line.now) ended) }
+    {
+        match command_from(&self.session, line) {
+            Spoken::Of(bank, command) => self.sent.push(Sent { bank, command })?,
+            Spoken::Stray => self.strays = self.strays.saturating_add(1),
+            Spoken::Passed => {}
+            Spoken::End => return Ok(true),
+        }
+        Ok(false)
+    }
+}
