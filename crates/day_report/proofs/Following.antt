@@ -7,7 +7,7 @@ use Rattle.fx_rules.specs.Lists.{Each}
 use Rattle.fx_rules.specs.Session.{Header}
 use Rattle.fx_rules.specs.State.{State, opening}
 use Rattle.fx_rules.specs.Step.{fills_of}
-use Rattle.fx_rules.specs.History.{IsLegal, after_entry, state}
+use Rattle.fx_rules.specs.History.{IsLegal, state}
 use Rattle.fx_rules.specs.Trade.{IsTrade}
 use Rattle.fx_rules.proofs.ListLemmas.{Each-first, total-append}
 use Rattle.fx_rules.proofs.Soundness.{legal-sound, after_all-push}

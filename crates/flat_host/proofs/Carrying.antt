@@ -1,7 +1,7 @@
 -- One fill carried out, in the tables of credit.
-use Rattle.std.proofs.Common.{ℕ, ◌≡◌, ◌≢◌, ◌+◌, ◌-◌, ◌*◌, ◌≤◌, ◌<◌, min, true, false, cond, eqb, leb, List, [], ◌∷◌, ◌++◌, ◌⊎◌, inl, inr, refl, ap, sym, subst, ◌∙◌, arith, length, get_or, get_or-set_same, get_or-set_other}
+use Rattle.std.proofs.Common.{ℕ, ◌≡◌, ◌≢◌, ◌+◌, ◌-◌, ◌*◌, ◌≤◌, ◌<◌, min, cond, leb, List, [], ◌∷◌, ◌++◌, ◌⊎◌, inl, inr, refl, ap, sym, ◌∙◌, arith, length, get_or, get_or-set_same, get_or-set_other}
 use Rattle.std.proofs.Math.ListN.{set, length-set}
-use Rattle.std.proofs.lemmas.Bool.{cases_eq, cond-true, cond-false, cond_both, leb-true}
+use Rattle.std.proofs.lemmas.Bool.{cases_eq, cond_both, leb-true}
 use Rattle.fx_rules.specs.declared.orders.Fill.{Fill}
 use Rattle.flat_host.specs.FlatState.{use_place, limit_in, use_in, line_in, IsWithin}
 use Rattle.flat_host.specs.Parts.{use_added, uses_after}

@@ -1,15 +1,11 @@
 -- From states to the histories that lead to them.
 use Rattle.std.proofs.Common.{ℕ, zero, suc, ◌≡◌, ◌+◌, ◌-◌, ◌<◌, ◌^◌, List, [], ◌∷◌, ◌++◌, refl, ap, sym, subst, ◌∙◌, arith, length, get_or, take}
-use Rattle.std.proofs.Math.ListN.{set}
-use Rattle.std.proofs.lemmas.List.{length-map}
 use Rattle.fx_rules.specs.declared.command.Command.{Command}
 use Rattle.fx_rules.specs.declared.outcome.Outcome.{Outcome}
 use Rattle.fx_rules.specs.declared.outcome.Outcome.TheVariants.{Depth}
 use Rattle.fx_rules.specs.declared.outcome.Entry.{Entry}
-use Rattle.fx_rules.specs.declared.session.PairRule.{PairRule}
-use Rattle.fx_rules.specs.Session.{Header, IsSession, bank_count, pair_count}
+use Rattle.fx_rules.specs.Session.{Header}
 use Rattle.fx_rules.specs.State.{State, opening}
-use Rattle.fx_rules.specs.Step.{after}
 use Rattle.fx_rules.specs.History.{IsStep, Steps, IsLegal, after_entry, after_all, state}
 use Rattle.fx_rules.specs.Sound.{IsSound}
 use Rattle.fx_rules.specs.Market.{InSome, InEach, MaySend, MayAsk, HasSent, IsDepthOf, GoesOn, next_entry}

@@ -1,14 +1,13 @@
 -- The orders of one pair, when orders are lowered.
-use Rattle.std.proofs.Common.{ℕ, ◌≡◌, ◌≢◌, ◌-◌, ◌<◌, ltb, eqb, Bool, true, false, ◌&&◌, cond, List, [], ◌∷◌, ◌++◌, inl, inr, refl, ap, sym, subst, ◌∙◌, arith, map}
+use Rattle.std.proofs.Common.{ℕ, ◌≡◌, ◌≢◌, ◌-◌, ◌<◌, ltb, eqb, Bool, true, false, ◌&&◌, cond, List, [], ◌∷◌, ◌++◌, inl, inr, refl, ap, sym, subst, ◌∙◌, map}
 use Rattle.std.proofs.lemmas.Bool.{cases_Bool, cond_both, cond-true, cond-false, and_parts, eqb-true, eq-eqb, false_from_ne_true}
-use Rattle.std.specs.List.{filter}
 use Rattle.fx_rules.specs.declared.orders.ActiveOrder.{ActiveOrder}
 use Rattle.fx_rules.specs.declared.orders.Resting.{Resting}
 use Rattle.fx_rules.specs.declared.orders.Fill.{Fill}
 use Rattle.fx_rules.specs.Lists.{Among, Each, EachPair}
 use Rattle.fx_rules.specs.Session.{Header, bank_count, weight_of}
-use Rattle.fx_rules.specs.State.{State, orders_in, reach}
-use Rattle.fx_rules.specs.Sweep.{Taker, Swept, is_order, lowered, with_left, less, fill_with, amount, filled, filled_all}
+use Rattle.fx_rules.specs.State.{State, orders_in}
+use Rattle.fx_rules.specs.Sweep.{Taker, Swept, is_order, lowered, with_left, less, filled, filled_all}
 use Rattle.fx_rules.specs.Raise.{order_of, taker_of_resting, Turned}
 use Rattle.fx_rules.specs.Sound.{IsSound, Rises}
 use Rattle.fx_rules.proofs.Credit.{IsAllowed}

@@ -1,5 +1,5 @@
 -- The sweep of an order that wants all there is, and the local book.
-use Rattle.std.proofs.Common.{ℕ, ◌≡◌, ◌+◌, ◌*◌, ◌≤◌, ◌<◌, List, [], ◌∷◌, refl, ap, sym, subst, ◌∙◌, map, get_or, None, Some, Option, take}
+use Rattle.std.proofs.Common.{ℕ, ◌≡◌, ◌+◌, ◌*◌, ◌<◌, List, [], ◌∷◌, refl, ap, sym, subst, ◌∙◌, map, get_or, None, Some, Option, take}
 use Rattle.std.specs.List.{filter}
 use Rattle.fx_amounts.specs.declared.side.Side.{Side}
 use Rattle.fx_rules.specs.declared.orders.ActiveOrder.{ActiveOrder}

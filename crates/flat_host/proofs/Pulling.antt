@@ -1,10 +1,9 @@
 -- A bank's resting orders are no more than its commands.
-use Rattle.std.proofs.Common.{ℕ, ◌≡◌, ◌≢◌, ◌+◌, ◌≤◌, ◌<◌, Bool, true, false, ◌||◌, eqb, List, [], ◌∷◌, inl, inr, refl, arith, ap, sym, subst, ◌∙◌, length, map, get_or}
+use Rattle.std.proofs.Common.{ℕ, ◌≡◌, ◌+◌, ◌≤◌, ◌<◌, true, false, ◌||◌, eqb, List, [], ◌∷◌, inl, inr, refl, arith, ap, sym, subst, ◌∙◌, length, map, get_or}
 use Rattle.std.proofs.lemmas.Bool.{cases_Bool, eqb-true, false_from_ne_true, false≢true}
 use Rattle.std.proofs.lemmas.List.{length-map}
 use Rattle.std.proofs.lemmas.Map.Steps.{length-le_from_distinct_below}
-use Rattle.std.specs.List.{filter, list_any, IsDistinct}
-use Rattle.fx_rules.specs.declared.orders.ActiveOrder.{ActiveOrder}
+use Rattle.std.specs.List.{list_any, IsDistinct}
 use Rattle.fx_rules.specs.declared.orders.Resting.{Resting}
 use Rattle.fx_rules.specs.Lists.{Among, Each, EachPair}
 use Rattle.fx_rules.specs.Session.{Header}

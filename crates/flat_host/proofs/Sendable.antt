@@ -1,5 +1,5 @@
 -- What a bank may send in the session of the host.
-use Rattle.std.proofs.Common.{ℕ, ◌≡◌, ◌≤◌, ◌<◌, List, sym, subst, ap, ◌∙◌, arith, length, map}
+use Rattle.std.proofs.Common.{ℕ, ◌≡◌, ◌<◌, sym, subst, ap, ◌∙◌, arith, length, map}
 use Rattle.std.proofs.lemmas.List.{length-map}
 use Rattle.fx_amounts.specs.declared.side.Side.{Side}
 use Rattle.fx_rules.specs.declared.command.Command.{Command}

@@ -1,5 +1,5 @@
 -- What the host answers and makes of a command, in each state that it stands for.
-use Rattle.std.proofs.Common.{ℕ, zero, suc, ◌≡◌, ◌≢◌, ◌+◌, ◌-◌, ◌*◌, ◌≤◌, ◌<◌, ◌^◌, min, max, Bool, true, false, ◌&&◌, eqb, ltb, cond, List, [], ◌∷◌, ◌++◌, inl, inr, refl, ap, sym, subst, ◌∙◌, arith, length, get_or, get_or-set_same, get_or-set_other, map, find, Option, Some, None}
+use Rattle.std.proofs.Common.{ℕ, ◌≡◌, ◌≢◌, ◌+◌, ◌-◌, ◌≤◌, ◌<◌, ◌^◌, min, max, ◌&&◌, eqb, ltb, cond, List, [], ◌∷◌, ◌++◌, inl, inr, refl, ap, sym, subst, ◌∙◌, arith, length, get_or, get_or-set_same, get_or-set_other, find, Option, Some, None}
 use Rattle.std.proofs.Math.ListN.{set}
 use Rattle.std.proofs.lemmas.Bool.{cases_Bool, cond-true, cond-false, cond_both, and_parts, and_from, eqb-true, eq-eqb, both_ways}
 use Rattle.std.proofs.lemmas.List.{length-map}
@@ -17,20 +17,20 @@ use Rattle.fx_rules.specs.declared.command.Reject.{Reject}
 use Rattle.fx_rules.specs.declared.command.Life.{Life}
 use Rattle.fx_rules.specs.declared.command.Life.TheVariants.{Day, Ioc, Fok}
 use Rattle.fx_rules.specs.declared.outcome.Outcome.{Outcome}
-use Rattle.fx_rules.specs.declared.outcome.Outcome.TheVariants.{Ordered, Killed, Cancelled, Reduced, NotLess, Nothing, Pulled, LineSet, Shown, Depth, Rejected}
+use Rattle.fx_rules.specs.declared.outcome.Outcome.TheVariants.{Ordered, Killed, Reduced, NotLess, Pulled, LineSet, Shown, Depth, Rejected}
 use Rattle.fx_rules.specs.declared.session.PairRule.{PairRule}
 use Rattle.fx_rules.specs.Lists.{total}
-use Rattle.fx_rules.specs.Session.{Header, IsSession, bank_count, pair_count, weight_of}
+use Rattle.fx_rules.specs.Session.{Header, IsSession, bank_count, pair_count}
 use Rattle.fx_rules.specs.State.{State, orders_in, line, used, cost_between}
 use Rattle.fx_rules.specs.Sweep.{Taker, Swept, is_order, at_rest, filled, filled_all}
-use Rattle.fx_rules.specs.Raise.{limit_set, limited, order_of, Raised, PairsTurned}
-use Rattle.fx_rules.specs.Step.{IsCommand, IsOrdered, IsOutcome, cancel_answer, reduce_answer, orders_by, taker_of, rested, counted, changed, after, fills_of, without_order, without_orders, reduced}
+use Rattle.fx_rules.specs.Raise.{limit_set, limited, order_of}
+use Rattle.fx_rules.specs.Step.{IsCommand, IsOrdered, IsOutcome, cancel_answer, reduce_answer, orders_by, taker_of, rested, changed, after, fills_of, without_order, without_orders, reduced}
 use Rattle.fx_rules.specs.Sound.{IsSound}
-use Rattle.fx_rules.proofs.SweepSound.{weight_of-least, counts-filled_all, limits-filled_all}
+use Rattle.fx_rules.proofs.SweepSound.{weight_of-least, counts-filled_all}
 use Rattle.fx_rules.proofs.RaiseSound.{limited-sound}
 use Rattle.flat_host.specs.FlatState.{FlatState, IsFlatState, IsWithin, TablesFor, StandsFor, limit_place, limit_in, use_in, line_in}
-use Rattle.flat_host.specs.Parts.{PlannedOver, PlannedIn, OrderedIn, taker_from, both_lowered, uses_after, with_rest, rests_of, is_done, order_carried, filled_in, limits_with, counted_in, cancelled_in, reduced_in, shown_in}
-use Rattle.flat_host.specs.Turns.{in_pair, RaisedIn, LineSetIn, limited_in, raised_in}
+use Rattle.flat_host.specs.Parts.{PlannedOver, PlannedIn, OrderedIn, taker_from, both_lowered, uses_after, with_rest, rests_of, is_done, order_carried, limits_with, counted_in, cancelled_in, reduced_in, shown_in}
+use Rattle.flat_host.specs.Turns.{in_pair, RaisedIn, LineSetIn, raised_in}
 use Rattle.flat_host.specs.Levels.{ProbedIn}
 use Rattle.flat_host.specs.Steps.{IsCommandOf, AnswersEach, ChangesEach, FollowsEach, StepsEach, ShowsEach}
 use Rattle.flat_host.proofs.Carrying.{places_same}

@@ -1,12 +1,11 @@
 -- The tables of credit that stand for a state, after its fills.
-use Rattle.std.proofs.Common.{ℕ, zero, suc, ◌≡◌, ◌≢◌, ◌+◌, ◌-◌, ◌*◌, ◌≤◌, ◌<◌, min, Bool, true, false, ◌&&◌, eqb, leb, cond, List, [], ◌∷◌, ◌++◌, ◌⊎◌, inl, inr, refl, ap, sym, subst, ◌∙◌, arith, length, get_or, map}
+use Rattle.std.proofs.Common.{ℕ, zero, suc, ◌≡◌, ◌≢◌, ◌+◌, ◌-◌, ◌*◌, ◌≤◌, ◌<◌, min, true, ◌&&◌, eqb, leb, List, [], ◌∷◌, ◌++◌, inl, inr, ap, sym, subst, ◌∙◌, arith, length, get_or}
 use Rattle.std.proofs.lemmas.Bool.{cases_Bool, cond-true, le-leb, eq-eqb, and_from, or_left, or_right, both_ways}
 use Rattle.fx_rules.specs.declared.orders.Resting.{Resting}
 use Rattle.fx_rules.specs.declared.orders.Fill.{Fill}
-use Rattle.fx_rules.specs.declared.session.PairRule.{PairRule}
 use Rattle.fx_rules.specs.Session.{Header, IsSession, bank_count, pair_count, weight_of}
-use Rattle.fx_rules.specs.State.{State, orders_in, line, reach, used, cost, cost_between, is_between}
-use Rattle.fx_rules.specs.Sweep.{Taker, Swept, less, fill_with, amount, filled, filled_all}
+use Rattle.fx_rules.specs.State.{State, orders_in, line, used, cost, cost_between, is_between}
+use Rattle.fx_rules.specs.Sweep.{Taker, Swept, less, filled, filled_all}
 use Rattle.fx_rules.specs.Raise.{order_of, taker_of_resting, Turned, PairsTurned}
 use Rattle.fx_rules.specs.Sound.{IsSound}
 use Rattle.fx_rules.proofs.Credit.{IsAllowed, used-filled, cost_between-one, cost_between-other, between_cases}

@@ -1,19 +1,13 @@
 -- What the host answers is the market's, so what the laws say of the market's answers they say of the host's.
-use Rattle.std.proofs.Common.{ℕ, ◌≡◌, ◌<◌, ap, ◌∙◌, subst, arith, length}
-use Rattle.std.proofs.lemmas.List.{length-map}
+use Rattle.std.proofs.Common.{ℕ, ◌<◌, arith, length}
 use Rattle.fx_rules.specs.declared.command.Command.{Command}
 use Rattle.fx_rules.specs.declared.command.Command.TheVariants.{Line}
 use Rattle.fx_rules.specs.declared.outcome.Outcome.{Outcome}
 use Rattle.fx_rules.specs.declared.outcome.Outcome.TheVariants.{LineSet, Depth}
-use Rattle.fx_rules.specs.declared.session.PairRule.{PairRule}
-use Rattle.fx_rules.specs.Session.{Header, bank_count, pair_count}
-use Rattle.fx_rules.specs.State.{State}
-use Rattle.fx_rules.specs.Step.{IsCommand}
-use Rattle.fx_rules.specs.Sound.{IsSound}
 use Rattle.fx_rules.proofs.ViewCommands.{views-told, books-alike}
 use Rattle.fx_rules.proofs.ViewRaise.{views-fill}
 use Rattle.fx_rules.proofs.Truth.{books-truthful}
-use Rattle.flat_host.specs.FlatState.{FlatState, StandsFor}
+use Rattle.flat_host.specs.FlatState.{FlatState}
 use Rattle.flat_host.specs.Steps.{IsCommandOf, AnswersEach, ShowsEach}
 use Rattle.flat_host.proofs.Sendable.{sendable, pairs_of}
 use Rattle.flat_host.specs.Views.{TellsByView, FillsByView, ShowsByView, ShowsTruly}

@@ -1,5 +1,5 @@
 -- What the host's parts do to its orders and tables.
-use Rattle.std.specs.Prelude.{ℕ, Bool, ◌≡◌, ◌≢◌, ◌≤◌, ◌<◌, ◌+◌, ◌*◌, ◌-◌, List, [], ◌∷◌, slice_index, slice_index_or, slice_set, length, true, false, filter, nat_lt, nat_le, ◌==◌, if◌then◌else◌, ◌++◌, None}
+use Rattle.std.specs.Prelude.{ℕ, Bool, ◌≡◌, ◌≤◌, ◌<◌, ◌+◌, ◌*◌, ◌-◌, List, [], ◌∷◌, slice_index, slice_index_or, slice_set, length, true, false, nat_lt, nat_le, if◌then◌else◌, ◌++◌, None}
 use Rattle.fx_amounts.specs.declared.side.Side.{Side}
 use Rattle.fx_rules.specs.declared.command.Life.{Life}
 use Rattle.fx_rules.specs.declared.command.Life.TheVariants.{Day, Ioc, Fok}

@@ -1,22 +1,21 @@
 -- An output tells its history.
-use Rattle.std.proofs.Common.{◌≡◌, ℕ, zero, suc, ◌+◌, ◌<◌, ◌≤◌, List, [], ◌∷◌, ◌++◌, length, map, drop, codes, Result, Ok, Err, refl, sym, ap, ◌∙◌, subst, arith, append_assoc, append-nil}
+use Rattle.std.proofs.Common.{◌≡◌, ℕ, ◌+◌, ◌≤◌, List, [], ◌∷◌, ◌++◌, length, map, drop, codes, Result, Ok, Err, refl, sym, ap, ◌∙◌, subst, arith, append_assoc, append-nil}
 use Rattle.std.specs.List.{flat_map}
 use Rattle.std.proofs.lemmas.List.{drop_at, append_cancel_left}
-use Rattle.std.proofs.lemmas.List.Elements.{All-cons, All-append}
+use Rattle.std.proofs.lemmas.List.Elements.{All-cons}
 use Rattle.fx_amounts.specs.Numeral.{numeral}
 use Rattle.fx_text.specs.Lines.{parts_of, all_but_last}
 use Rattle.fx_rules.specs.Session.{Header}
 use Rattle.fx_rules.specs.State.{opening}
 use Rattle.fx_rules.specs.History.{IsLegal}
 use Rattle.fx_rules.specs.declared.outcome.Entry.{Entry}
-use Rattle.session_head.specs.Head.{Begun}
 use Rattle.session_head.specs.HeadText.{head_text_of}
 use Rattle.reply_lines.specs.Output as output
 use Rattle.reply_lines.specs.Output.{entry_line, journal_text, last_text, IsDayText, IsOutput}
 use Rattle.reply_lines.specs.declared.output.Ending.{Ending}
 use Rattle.journal_check.specs.Lines.{lines_from}
 use Rattle.fx_rules.specs.declared.command.Sent.{Sent}
-use Rattle.journal_check.specs.Listed.{Listed, header_in, commands_in, listed}
+use Rattle.journal_check.specs.Listed.{Listed, commands_in, listed}
 use Rattle.fx_rules.specs.Sending.{sent_by}
 use Rattle.journal_check.specs.Verdict.{day_verdict, IsJudged, IsVerdictOn}
 use Rattle.journal_check.specs.Laws.{OutputsAgree, VerdictsAgree}
@@ -28,7 +27,7 @@ use Rattle.journal_check.proofs.JournalWalk.{entries_at}
 use Rattle.journal_check.proofs.Histories.{steps_sent, histories_agree, day_begins}
 use Rattle.reply_lines.proofs.Singly.{days_agree}
 use Rattle.journal_check.proofs.LastLines.{numeral_plain, same_number, last_agrees}
-use Rattle.journal_check.proofs.Walking.{IsPlain, unbroken, IsAt, IsAt-plain, ended}
+use Rattle.journal_check.proofs.Walking.{IsPlain, unbroken, IsAt-plain, ended}
 
 -- The number of entries
 

@@ -1,16 +1,15 @@
 -- A text that is compared with what is written.
-use Rattle.std.proofs.Common.{◌≡◌, ◌≢◌, ℕ, zero, suc, ◌+◌, ◌-◌, ◌<◌, ◌≤◌, Bool, true, false, List, [], ◌∷◌, ◌++◌, length, take, drop, get_or, slice_get, Option, Some, None, is_some, Result, Ok, Err, IfOk, refl, sym, ap, ap₂, ◌∙◌, subst, arith, length-append, append_assoc, append-nil}
+use Rattle.std.proofs.Common.{◌≡◌, ◌≢◌, ℕ, zero, suc, ◌+◌, ◌≤◌, false, List, [], ◌∷◌, ◌++◌, length, take, drop, slice_get, Option, Some, None, is_some, Result, Ok, Err, refl, sym, ap, ◌∙◌, subst, arith, append_assoc, append-nil}
 use Rattle.std.specs.Option.{option_to_list}
 use Rattle.std.proofs.lemmas.Bool.{cond-true, cond-false, eq-eqb, ne_eqb}
 use Rattle.std.proofs.lemmas.List.{length-take-le, take_at, drop_at, take-append-drop}
-use Rattle.fx_edges.specs.Writing.{Appended, AppendedPart, IsPrefixOf}
+use Rattle.fx_edges.specs.Writing.{Appended}
 use Rattle.fx_rules.specs.Session.{Header}
 use Rattle.fx_rules.specs.declared.outcome.Entry.{Entry}
 use Rattle.reply_lines.specs.Faults.{WroteOutput}
 use Rattle.reply_lines.specs.Output.{IsDayText}
 use Rattle.reply_lines.specs.declared.output.OutFault.{OutFault}
 use Rattle.reply_lines.specs.declared.output.OutFault.TheVariants.{Write}
-use Rattle.journal_check.specs.declared.stop.Stop.TheVariants.{Wrong}
 use Rattle.journal_check.specs.Compared.{beginning}
 use Rattle.journal_check.specs.Comparing.{Comparing, taken, told, IsComparing, Differs}
 use Rattle.journal_check.specs.Stops.{end_of, Answers, IsComparedWith}

@@ -1,9 +1,8 @@
 -- The verdict is Yes exactly at the outputs of legal histories.
-use Rattle.std.proofs.Common.{◌≡◌, ℕ, zero, suc, ◌+◌, ◌^◌, ◌<◌, ◌≤◌, Bool, true, false, List, [], ◌∷◌, ◌++◌, length, map, drop, Option, Some, None, Result, Ok, Err, refl, sym, ap, ◌∙◌, subst, arith, eqb, cond, ◌⊎◌, inl, inr, append_assoc, append-nil, length-append}
+use Rattle.std.proofs.Common.{◌≡◌, ℕ, zero, suc, ◌+◌, ◌^◌, ◌<◌, ◌≤◌, Bool, true, false, List, [], ◌∷◌, ◌++◌, length, map, drop, Option, Some, None, Result, Ok, Err, refl, sym, ap, ◌∙◌, subst, arith, eqb, cond, inl, inr, append_assoc, append-nil, length-append}
 use Rattle.std.specs.List.{flat_map}
 use Rattle.std.proofs.lemmas.Bool.{cases_Bool, cond-true, cond-false, eqb-true}
-use Rattle.std.proofs.lemmas.List.{drop_at, append_cancel_left, length-map}
-use Rattle.fx_text.specs.Fields.{fields_of}
+use Rattle.std.proofs.lemmas.List.{drop_at, length-map}
 use Rattle.fx_text.specs.Lines.{line_of}
 use Rattle.fx_text.specs.Number.{number_of}
 use Rattle.fx_text.specs.declared.line.Line.{Line}
@@ -22,22 +21,21 @@ use Rattle.reply_lines.specs.Output as output
 use Rattle.reply_lines.specs.Output.{entry_line, journal_text, last_text, IsDayText, IsOutput}
 use Rattle.reply_lines.specs.declared.output.Ending.{Ending}
 use Rattle.journal_check.specs.Lines.{LineAt, behind, is_long, lines_from}
-use Rattle.journal_check.specs.Listed.{Listed, ◌>>=◌, header_in, count_in, count_told, counted, count_of, said_by, sent_in, commands_in, with_session, listed_behind, journal_behind, listed, most_entries}
+use Rattle.journal_check.specs.Listed.{Listed, ◌>>=◌, header_in, count_told, counted, count_of, said_by, sent_in, commands_in, with_session, listed_behind, journal_behind, listed, most_entries}
 use Rattle.journal_check.specs.Compared.{beginning}
 use Rattle.journal_check.specs.Laws.{OutputsList}
 use Rattle.fx_rules.specs.Sending.{sent_by}
 use Rattle.journal_check.specs.Verdict.{last_in, last_behind, day_verdict, IsJudged, IsVerdict, IsVerdictOn, IsSomeOutput}
 use Rattle.journal_check.specs.declared.check.Verdict.{Verdict}
-use Rattle.journal_check.specs.declared.check.Verdict.TheVariants.{Yes, No}
-use Rattle.journal_check.specs.declared.header.Headed.{Headed}
+use Rattle.journal_check.specs.declared.check.Verdict.TheVariants.{Yes}
 use Rattle.journal_check.specs.declared.journal.Counted.{Counted}
 use Rattle.journal_check.proofs.JudgeLemmas.{listed_commands}
 use Rattle.journal_check.proofs.CompareLemmas.{beginning-shared, beginning-ends}
 use Rattle.journal_check.proofs.HeadWalk.{header_in-head_text}
-use Rattle.journal_check.proofs.JournalWalk.{CountsAt, counts_at, entries_at}
-use Rattle.journal_check.proofs.Histories.{AreSentOf, steps_sent, histories_agree, day_begins}
+use Rattle.journal_check.proofs.JournalWalk.{counts_at, entries_at}
+use Rattle.journal_check.proofs.Histories.{steps_sent, histories_agree, day_begins}
 use Rattle.reply_lines.proofs.Singly.{days_agree}
-use Rattle.journal_check.proofs.LastLines.{IsLast, last_taken, last_only, last_agrees}
+use Rattle.journal_check.proofs.LastLines.{IsLast, last_taken, last_only}
 
 -- How many commands are listed
 

@@ -1,9 +1,9 @@
 -- The text of a session's header is read as that session.
-use Rattle.std.proofs.Common.{◌≡◌, ◌≢◌, ℕ, zero, suc, ◌+◌, ◌*◌, ◌^◌, ◌<◌, ◌≤◌, Bool, true, false, ◌||◌, List, [], ◌∷◌, ◌++◌, length, map, drop, get_or, slice_index, slice_index_or, codes, Option, Some, None, Result, Ok, Err, refl, sym, ap, ◌∙◌, subst, arith, IsTrue, ◌⊎◌, inl, inr, eqb, leb, nat_lt, if◌then◌else◌, append_assoc, length-append}
+use Rattle.std.proofs.Common.{◌≡◌, ℕ, zero, suc, ◌+◌, ◌*◌, ◌<◌, ◌≤◌, Bool, true, false, ◌||◌, List, [], ◌∷◌, ◌++◌, length, map, drop, slice_index_or, codes, Option, Some, None, Result, Ok, refl, sym, ap, ◌∙◌, subst, arith, ◌⊎◌, inl, inr, eqb, leb, nat_lt, if◌then◌else◌, append_assoc, length-append}
 use Rattle.std.specs.List.{All, AllByRecursion, join_with_byte, flat_map}
-use Rattle.std.proofs.lemmas.Bool.{cases_Bool, cond-true, cond-false, ltb-true}
+use Rattle.std.proofs.lemmas.Bool.{cases_Bool}
 use Rattle.std.proofs.lemmas.List.{map-append, get_or_default}
-use Rattle.std.proofs.lemmas.List.Elements.{All-head, All-tail, All-weaker, All-get_or}
+use Rattle.std.proofs.lemmas.List.Elements.{All-head, All-tail, All-get_or}
 use Rattle.std.proofs.lemmas.List.Folds.{flat_map-map}
 use Rattle.std.proofs.lemmas.Nat.{mul-add-lt}
 use Rattle.fx_amounts.specs.Numeral.{numeral}
@@ -31,7 +31,7 @@ use Rattle.journal_check.specs.Listed.{headed, header_in}
 use Rattle.journal_check.specs.declared.header.Headed.{Headed}
 use Rattle.journal_check.proofs.LineLemmas.{parts_of-line}
 use Rattle.journal_check.proofs.HeaderLemmas.{header_in-short, started}
-use Rattle.journal_check.proofs.Walking.{IsPlain, unbroken, IsAt, IsAt-plain, short_line, line_of-plain, ended}
+use Rattle.journal_check.proofs.Walking.{IsPlain, unbroken, IsAt-plain, short_line, line_of-plain, ended}
 
 -- Rows: fields that make a line
 

@@ -1,5 +1,5 @@
 -- A header that is read line by line.
-use Rattle.std.proofs.Common.{◌≡◌, ℕ, suc, ◌+◌, ◌<◌, ◌≤◌, Bool, true, false, List, [], ◌∷◌, length, Some, Result, Ok, Err, refl, sym, ap, ◌∙◌, arith}
+use Rattle.std.proofs.Common.{◌≡◌, ℕ, ◌+◌, ◌<◌, ◌≤◌, true, false, List, [], ◌∷◌, length, Some, Result, Ok, Err, refl, sym, ap, ◌∙◌, arith}
 use Rattle.std.proofs.lemmas.Bool.{cond-true, cond-false, lt-ltb, le-ltb}
 use Rattle.fx_text.specs.Lines.{line_of}
 use Rattle.fx_rules.specs.Session.{Header}
@@ -9,7 +9,7 @@ use Rattle.session_head.specs.declared.reason.HeadStep.TheVariants.{More, Start}
 use Rattle.session_head.specs.declared.reason.HeadStop.TheVariants.{Fault}
 use Rattle.journal_check.specs.Lines.{LineAt, behind, is_long, lines_from}
 use Rattle.journal_check.specs.Listed.{headed, header_in}
-use Rattle.journal_check.specs.Stops.{IsLineAt, IsReadAt, IsStopAt, Missing, TooLong, ReadsLine, Answers}
+use Rattle.journal_check.specs.Stops.{IsReadAt, IsStopAt, Missing, TooLong, ReadsLine, Answers}
 use Rattle.journal_check.specs.declared.header.Headed.{Headed}
 use Rattle.journal_check.specs.declared.line.ReadLine.{ReadLine}
 use Rattle.journal_check.specs.declared.stop.Stop.{Stop}

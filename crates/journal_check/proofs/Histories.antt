@@ -1,17 +1,15 @@
 -- The commands of a legal history determine it, and it determines the text of its day.
-use Rattle.std.proofs.Common.{ℕ, zero, suc, ◌≡◌, ◌+◌, ◌<◌, ◌≤◌, List, [], ◌∷◌, ◌++◌, length, map, refl, ap, ap₂, sym, subst, ◌∙◌, arith}
-use Rattle.fx_amounts.specs.declared.side.Side.TheVariants.{Buy, Sell}
+use Rattle.std.proofs.Common.{ℕ, ◌≡◌, ◌+◌, ◌<◌, List, [], ◌∷◌, ◌++◌, map, refl, ap, sym, subst, ◌∙◌}
 use Rattle.fx_rules.specs.declared.command.Command.{Command}
-use Rattle.fx_rules.specs.declared.orders.Level.{Level}
 use Rattle.fx_rules.specs.declared.outcome.Outcome.{Outcome}
 use Rattle.fx_rules.specs.declared.outcome.Entry.{Entry}
-use Rattle.fx_rules.specs.Session.{Header, IsSession, bank_count, pair_count, bank_name}
+use Rattle.fx_rules.specs.Session.{Header, IsSession, bank_count}
 use Rattle.fx_rules.specs.State.{State, opening, count_of}
 use Rattle.fx_rules.specs.Step.{IsOutcome, IsCommand}
 use Rattle.fx_rules.specs.History.{IsStep, Steps, IsLegal, after_entry, state}
 use Rattle.fx_rules.specs.Sound.{IsSound}
-use Rattle.fx_rules.proofs.Soundness.{after-sound, opening-sound, legal-sound, weight_of-least}
-use Rattle.fx_rules.proofs.Determined.{outcome-same, shows-same}
+use Rattle.fx_rules.proofs.Soundness.{after-sound, opening-sound}
+use Rattle.fx_rules.proofs.Determined.{outcome-same}
 use Rattle.reply_lines.specs.Books.{books_text}
 use Rattle.reply_lines.specs.Report.{report_text}
 use Rattle.reply_lines.specs.Output.{journal_text, desks_text, day_text, IsDayText}

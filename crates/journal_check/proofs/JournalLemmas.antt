@@ -1,5 +1,5 @@
 -- A journal that is read line by line.
-use Rattle.std.proofs.Common.{◌≡◌, ℕ, zero, suc, ◌+◌, ◌-◌, ◌<◌, ◌≤◌, Bool, true, false, List, [], ◌∷◌, ◌++◌, length, map, Option, Some, None, Result, Ok, Err, refl, sym, ap, ◌∙◌, subst, arith}
+use Rattle.std.proofs.Common.{◌≡◌, ℕ, zero, suc, ◌+◌, ◌<◌, true, false, List, [], ◌∷◌, ◌++◌, length, map, Option, Some, None, Result, Ok, Err, refl, sym, ap, ◌∙◌, arith}
 use Rattle.std.proofs.lemmas.Bool.{cond-true, cond-false, lt-ltb, le-ltb}
 use Rattle.fx_text.specs.Lines.{line_of}
 use Rattle.std.proofs.lemmas.List.{length-map, length_push}
@@ -7,12 +7,11 @@ use Rattle.fx_rules.specs.Session.{Header}
 use Rattle.fx_rules.specs.declared.outcome.Entry.{Entry}
 use Rattle.fx_rules.specs.Sending.{sent_by}
 use Rattle.order_lines.specs.Grammar.{journal_line}
-use Rattle.journal_check.specs.Lines.{LineAt, behind, is_long, lines_from}
+use Rattle.journal_check.specs.Lines.{LineAt, is_long, lines_from}
 use Rattle.fx_rules.specs.declared.command.Command.{Command}
 use Rattle.fx_rules.specs.declared.command.Sent.{Sent}
 use Rattle.journal_check.specs.Listed.{counted, count_told, count_of, said_by, sent_in, commands_in}
-use Rattle.journal_check.specs.Stops.{IsLineAt, IsReadAt, IsStopAt, Missing, TooLong, ReadsLine, Answers, AnswersBy}
-use Rattle.journal_check.specs.declared.journal.Counted.{Counted}
+use Rattle.journal_check.specs.Stops.{IsReadAt, IsStopAt, Missing, TooLong, ReadsLine, Answers, AnswersBy}
 use Rattle.journal_check.specs.declared.line.ReadLine.{ReadLine}
 use Rattle.journal_check.specs.declared.stop.Stop.{Stop}
 use Rattle.journal_check.specs.declared.stop.Stop.TheVariants.{Wrong, Memory}

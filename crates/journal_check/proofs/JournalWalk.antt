@@ -1,21 +1,19 @@
 -- The journal of a history is read as its commands.
-use Rattle.std.proofs.Common.{◌≡◌, ℕ, zero, suc, ◌+◌, ◌^◌, ◌<◌, ◌≤◌, Bool, true, false, List, [], ◌∷◌, ◌++◌, length, map, take, drop, codes, Some, None, Option, Result, Ok, Err, refl, sym, ap, ◌∙◌, subst, arith, append_assoc, append-nil, length-append, All, leb, inl, inr}
+use Rattle.std.proofs.Common.{◌≡◌, ℕ, suc, ◌+◌, ◌^◌, ◌<◌, ◌≤◌, true, List, [], ◌∷◌, ◌++◌, length, map, take, drop, codes, Some, Option, Ok, refl, sym, ap, ◌∙◌, subst, arith, append_assoc, append-nil, leb, inl, inr}
 use Rattle.std.specs.Str.Lines.{strip_carriage_return}
 use Rattle.std.proofs.lemmas.Bool.{cases_Bool, leb-true, cond-true, cond-false}
-use Rattle.std.proofs.lemmas.List.Elements.{All-nil, All-cons, All-append, All-weaker}
 use Rattle.fx_amounts.specs.Numeral.{numeral}
-use Rattle.fx_text.specs.Fields.{fields_of, first_field}
+use Rattle.fx_text.specs.Fields.{first_field}
 use Rattle.fx_text.specs.Lines.{line_of}
 use Rattle.fx_text.specs.declared.line.Line.{Line}
 use Rattle.fx_text.specs.declared.line.Line.TheVariants.{Whole, Long}
 use Rattle.fx_text.proofs.NumberLemmas.{number_of-numeral}
 use Rattle.fx_rules.specs.Session.{Header, IsSession}
 use Rattle.fx_rules.specs.declared.outcome.Entry.{Entry}
-use Rattle.order_lines.specs.Grammar.{journal_line}
 use Rattle.order_lines.specs.Spelling.{command_text_of}
 use Rattle.fx_text.proofs.FieldTexts.{IsField-tested, IsField-numeral}
 use Rattle.fx_text.proofs.JoinedFields.{fields_of-join, join-visible, length-join, IsField}
-use Rattle.order_lines.proofs.WrittenCommands.{IsWritten, IsWritten-command}
+use Rattle.order_lines.proofs.WrittenCommands.{IsWritten-command}
 use Rattle.reply_lines.specs.Output as output
 use Rattle.reply_lines.specs.Output.{entry_line, journal_text}
 use Rattle.std.specs.List.{flat_map, join_with_byte, AllByRecursion}
@@ -25,8 +23,8 @@ use Rattle.fx_rules.specs.declared.command.Sent.{Sent}
 use Rattle.journal_check.specs.Listed.{most_entries, counted, count_in, count_told, count_of, sent_in, commands_in}
 use Rattle.fx_rules.specs.Sending.{sent_by}
 use Rattle.journal_check.proofs.JournalLemmas.{count_of-short, commands_in-short, commands_in-all}
-use Rattle.journal_check.proofs.Walking.{IsPlain, IsAt, IsAt-plain, short_line, line_of-plain, ended}
-use Rattle.journal_check.proofs.Histories.{IsSentOf, AreSentOf}
+use Rattle.journal_check.proofs.Walking.{IsPlain, IsAt-plain, short_line, line_of-plain, ended}
+use Rattle.journal_check.proofs.Histories.{AreSentOf}
 
 -- The line that tells how many entries there are
 

@@ -1,6 +1,5 @@
 -- The verdict on a text, step by step.
 use Rattle.std.proofs.Common.{◌≡◌, ℕ, List, [], length, map, Result, Ok, Err, refl, sym, ap, ◌∙◌, subst}
-use Rattle.fx_rules.specs.Session.{Header}
 use Rattle.fx_rules.specs.History.{IsLegal}
 use Rattle.fx_rules.specs.declared.outcome.Entry.{Entry}
 use Rattle.session_head.specs.Head.{Begun}

@@ -1,11 +1,11 @@
 -- The last lines of an output.
-use Rattle.std.proofs.Common.{◌≡◌, ℕ, ◌+◌, ◌-◌, ◌^◌, ◌<◌, ◌≤◌, Bool, true, false, ◌&&◌, ◌||◌, List, [], ◌∷◌, ◌++◌, length, take, drop, codes, bytes_eq, Option, Some, None, is_some, IfSome, refl, sym, ap, ap₂, ◌∙◌, subst, arith, eqb, ◌⊎◌, inl, inr, suc, cond, append_assoc, append-nil, length-append, length-drop, All}
+use Rattle.std.proofs.Common.{◌≡◌, ℕ, ◌+◌, ◌-◌, ◌^◌, ◌<◌, ◌≤◌, Bool, true, false, ◌||◌, List, [], ◌∷◌, ◌++◌, length, take, drop, codes, bytes_eq, Option, Some, None, is_some, refl, sym, ap, ap₂, ◌∙◌, subst, arith, eqb, inl, inr, suc, cond, append-nil, length-append, length-drop}
 use Rattle.std.specs.Char.{is_ascii_digit}
 use Rattle.std.specs.List.{list_all}
 use Rattle.std.specs.Cmp.Lexicographic.{bytes_decides}
 use Rattle.std.proofs.lemmas.Bool.{cases_Bool, cond-true, cond-false, and_parts, or_cases, eq-eqb, eqb-true, leb-true}
 use Rattle.std.proofs.lemmas.List.{take-append-drop, nil_from_length}
-use Rattle.std.proofs.lemmas.List.Elements.{All-nil, All-cons, All-append, All-weaker}
+use Rattle.std.proofs.lemmas.List.Elements.{All-nil, All-cons, All-append}
 use Rattle.fx_amounts.specs.Numeral.{numeral}
 use Rattle.fx_amounts.proofs.NumeralLemmas.{IsNumeralOf-numeral}
 use Rattle.fx_text.specs.Number.{number_of}
@@ -18,8 +18,8 @@ use Rattle.journal_check.specs.Lines.{LineAt, behind, placed, lines_from}
 use Rattle.journal_check.specs.Verdict.{is_strays, is_ending, ending_in, last_in}
 use Rattle.journal_check.specs.declared.check.Verdict.{Verdict}
 use Rattle.journal_check.specs.declared.check.Verdict.TheVariants.{Yes, No}
-use Rattle.journal_check.proofs.LineLemmas.{parts_of-line, BeginsWith, begins_with}
-use Rattle.journal_check.proofs.Walking.{IsPlain, unbroken, IsAt, IsAt-plain, ended}
+use Rattle.journal_check.proofs.LineLemmas.{parts_of-line, begins_with}
+use Rattle.journal_check.proofs.Walking.{IsPlain, unbroken, IsAt-plain, ended}
 
 -- What they are
 

@@ -1,15 +1,15 @@
 -- The lines of a text from an offset on.
-use Rattle.std.proofs.Common.{◌≡◌, ℕ, zero, suc, ◌+◌, ◌-◌, ◌<◌, ◌≤◌, Bool, true, false, List, [], ◌∷◌, ◌++◌, length, take, drop, get_or, position, Option, Some, None, refl, sym, ap, ◌∙◌, subst, arith, eqb, ⊎_elim, ◌⊎◌, inl, inr, length-drop}
+use Rattle.std.proofs.Common.{◌≡◌, ℕ, ◌+◌, ◌-◌, ◌<◌, ◌≤◌, Bool, true, false, List, [], ◌∷◌, ◌++◌, length, take, drop, get_or, position, Option, Some, None, refl, sym, ap, ◌∙◌, subst, arith, eqb, ⊎_elim, length-drop}
 use Rattle.std.specs.List.{All}
 use Rattle.std.specs.Str.Lines.{strip_carriage_return}
-use Rattle.std.proofs.lemmas.Bool.{cases_Bool, cond-true, cond-false, eqb-true, le-leb, lt-ltb, le-ltb}
+use Rattle.std.proofs.lemmas.Bool.{cases_Bool, cond-true, cond-false, eqb-true, le-leb}
 use Rattle.std.proofs.lemmas.List.{length-take, get_or-take, get_or_default, take-append-drop, drop-drop, drop_more}
 use Rattle.std.proofs.lemmas.List.Quantifiers.{position-Some}
 use Rattle.std.proofs.lemmas.List.Splits.{slice_split_none, slice_split_at, length-slice_split}
 use Rattle.fx_text.specs.Lines.{parts_of, all_but_last, line_of}
 use Rattle.fx_text.specs.declared.line.Line.TheVariants.{Whole}
 use Rattle.session_head.proofs.StatementLemmas.{none_passes}
-use Rattle.journal_check.specs.Lines.{LineAt, placed, lines_from}
+use Rattle.journal_check.specs.Lines.{placed, lines_from}
 use Rattle.journal_check.specs.Stops.{IsLineAt}
 
 abbrev pub is_line_feed : ℕ → Bool

@@ -1,12 +1,12 @@
 -- A text that is walked line by line, where it is known what stands in it.
-use Rattle.std.proofs.Common.{◌≡◌, ◌≢◌, ℕ, zero, suc, ◌+◌, ◌-◌, ◌<◌, ◌≤◌, Bool, true, false, List, [], ◌∷◌, ◌++◌, length, take, drop, get_or, refl, sym, ap, ◌∙◌, subst, arith, eqb, append_assoc, All, inl, inr}
+use Rattle.std.proofs.Common.{◌≡◌, ◌≢◌, ℕ, ◌+◌, ◌-◌, ◌≤◌, false, List, [], ◌∷◌, ◌++◌, length, drop, get_or, refl, sym, ap, ◌∙◌, arith, append_assoc, All, inl, inr}
 use Rattle.std.specs.Str.Lines.{strip_carriage_return}
 use Rattle.std.proofs.lemmas.Bool.{ne_eqb, le-ltb, cases_lt}
 use Rattle.std.proofs.lemmas.List.{drop_at, drop-drop, get_or_past}
 use Rattle.std.proofs.lemmas.List.Elements.{All-weaker, All-get_or}
 use Rattle.fx_text.specs.Lines.{parts_of, all_but_last, line_of}
 use Rattle.fx_text.specs.declared.line.Line.TheVariants.{Whole}
-use Rattle.journal_check.specs.Lines.{LineAt, is_long, placed, lines_from}
+use Rattle.journal_check.specs.Lines.{is_long, placed, lines_from}
 use Rattle.journal_check.proofs.LineLemmas.{is_line_feed, parts_of-line, line_of-short}
 
 -- no byte is below the space, as a line feed and a carriage return are

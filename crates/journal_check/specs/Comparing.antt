@@ -1,5 +1,5 @@
 -- What contracts see of a text that is compared with what is written, as a sink.
-use Rattle.std.specs.Prelude.{ℕ, ◌≡◌, ◌≢◌, ◌≤◌, List, [], ◌∷◌, ◌++◌, length, take, slice_get, Option, Some, None}
+use Rattle.std.specs.Prelude.{ℕ, ◌≡◌, ◌≢◌, ◌≤◌, List, ◌∷◌, ◌++◌, length, take, slice_get, Option, Some, None}
 use Rattle.std.specs.Option.{option_to_list}
 
 -- the text; how much of it was written; the byte that was written next, where the text does not have it; the faults

@@ -1,7 +1,7 @@
 -- What a text lists: the session of its header, and the commands of its journal. Where it cannot be read, the offset of the
 -- line that is wrong, or the text's length where a line is missing. No line of more than 256 bytes in front of its line
 -- feed is read.
-use Rattle.std.specs.Prelude.{ℕ, zero, suc, ◌+◌, ◌^◌, ◌==◌, ◌&&◌, if◌then◌else◌, List, [], ◌∷◌, ◌++◌, length, codes, bytes_eq, slice_index_or, Option, Some, None, Result, Ok, Err}
+use Rattle.std.specs.Prelude.{ℕ, zero, suc, ◌^◌, ◌==◌, ◌&&◌, if◌then◌else◌, List, [], ◌∷◌, ◌++◌, length, codes, bytes_eq, slice_index_or, Option, Some, None, Result, Ok, Err}
 use Rattle.fx_text.specs.Fields.{fields_of}
 use Rattle.fx_text.specs.Lines.{line_of}
 use Rattle.fx_text.specs.Number.{number_of}

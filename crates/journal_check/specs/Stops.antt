@@ -1,11 +1,10 @@
 -- What a reading of a text answers.
-use Rattle.std.specs.Prelude.{ℕ, ◌≡◌, ◌≤◌, ◌<◌, ◌+◌, List, [], ◌∷◌, length, map, Option, Some, None, Result, Ok, Err}
-use Rattle.std.specs.declared.vec.Vec.{Vec}
+use Rattle.std.specs.Prelude.{ℕ, ◌≡◌, ◌≤◌, ◌<◌, ◌+◌, List, [], ◌∷◌, length, Option, Some, None, Result, Ok, Err}
 use Rattle.fx_text.specs.Lines.{line_of}
 use Rattle.fx_rules.specs.Session.{Header}
 use Rattle.fx_rules.specs.declared.outcome.Entry.{Entry}
 use Rattle.reply_lines.specs.Output.{IsDayText}
-use Rattle.journal_check.specs.Lines.{LineAt, lines_from}
+use Rattle.journal_check.specs.Lines.{lines_from}
 use Rattle.journal_check.specs.Compared.{beginning}
 use Rattle.journal_check.specs.Verdict.{IsVerdict}
 use Rattle.journal_check.specs.declared.check.Verdict.{Verdict}

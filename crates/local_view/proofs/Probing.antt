@@ -1,5 +1,5 @@
 -- The sweep of an order that wants more than its lines allow, and the local book.
-use Rattle.std.proofs.Common.{ℕ, ◌≡◌, ◌+◌, ◌-◌, ◌/◌, ◌^◌, ◌*◌, ◌≤◌, ◌<◌, min, true, false, not, ◌&&◌, eqb, leb, ltb, cond, List, [], ◌∷◌, ◌⊎◌, inl, inr, refl, ap, sym, subst, ◌∙◌, arith, map, take}
+use Rattle.std.proofs.Common.{ℕ, ◌≡◌, ◌+◌, ◌-◌, ◌/◌, ◌^◌, ◌*◌, ◌≤◌, ◌<◌, min, false, not, ◌&&◌, eqb, leb, ltb, cond, List, [], ◌∷◌, ◌⊎◌, inl, inr, refl, ap, sym, subst, ◌∙◌, arith, map, take}
 use Rattle.std.proofs.lemmas.Bool.{cond-false, false_from_ne_true, lt-ltb}
 use Rattle.std.specs.List.{filter}
 use Rattle.std.specs.Prelude.{slice_index}
@@ -13,7 +13,7 @@ use Rattle.fx_rules.specs.Lists.{Among, Each, total}
 use Rattle.fx_rules.specs.Session.{Header, bank_count, weight_of}
 use Rattle.fx_rules.specs.State.{State, orders_in, count_of, arrivals, line, reach, cost_between}
 use Rattle.fx_rules.specs.Sweep.{Taker, Swept, is_opposite, is_open, open_orders, is_order, IsBest, amount, fill_with, lowered, with_left, filled, less}
-use Rattle.fx_rules.specs.Depth.{unlimited, lots_against, with_fill, levels_of}
+use Rattle.fx_rules.specs.Depth.{lots_against, with_fill, levels_of}
 use Rattle.fx_rules.specs.Sound.{IsSound, IsKept}
 use Rattle.fx_rules.proofs.ListLemmas.{Each-among, Each-weaker, filter_agree_on}
 use Rattle.fx_rules.proofs.Credit.{IsAllowed}
@@ -30,7 +30,7 @@ use Rattle.fx_rules.proofs.ViewFill.{are_of_one, cost_same, line-filled}
 use Rattle.fx_rules.proofs.ViewSweep.{lots_on, among_lots, lots_on-taken}
 use Rattle.global_book.specs.Book.{Book}
 use Rattle.credit_lines.specs.Credit.{Credit}
-use Rattle.match_sweep.specs.Sweeps.{IsSweep, Fits}
+use Rattle.match_sweep.specs.Sweeps.{IsSweep}
 use Rattle.local_view.specs.LocalBook.{IsShown, unlimited_order}
 
 -- ---- orders of no command that rests

@@ -1,5 +1,5 @@
 -- A command that is served: its number fits, and the history goes on by its entry.
-use Rattle.std.proofs.Common.{ℕ, zero, suc, ◌≡◌, ◌+◌, ◌-◌, ◌<◌, ◌≤◌, ◌^◌, List, [], ◌∷◌, ◌++◌, refl, ap, sym, subst, ◌∙◌, arith, length, get_or, eqb, not, map, take, length-append, append_assoc}
+use Rattle.std.proofs.Common.{ℕ, zero, suc, ◌≡◌, ◌+◌, ◌<◌, ◌≤◌, ◌^◌, List, [], ◌∷◌, ◌++◌, refl, ap, sym, subst, ◌∙◌, arith, length, get_or, eqb, not, map, take, length-append, append_assoc}
 use Rattle.std.proofs.lemmas.List.{length-map, length-take, take_more}
 use Rattle.std.proofs.lemmas.List.Filters.{length-filter_both}
 use Rattle.std.specs.List.{filter}
@@ -14,7 +14,7 @@ use Rattle.fx_rules.specs.Market.{InSome, InEach, MaySend, HasSent, GoesOn}
 use Rattle.fx_rules.specs.Sending.{IsSentOf, sent_by}
 use Rattle.fx_rules.proofs.Counting.{counts-own}
 use Rattle.market_run.specs.Ran.{Ran}
-use Rattle.market_run.specs.Running.{HasRun, CanServe, RunsOn, Served}
+use Rattle.market_run.specs.Running.{CanServe, RunsOn, Served}
 
 -- no sender has sent more commands than there are entries
 counts-most : (h : Header) (entries : List Entry) (bank : ℕ) → IsLegal h entries → count_of (state h entries) bank ≤ length entries

@@ -1,5 +1,5 @@
 -- An index finds all notices of each bank.
-use Rattle.std.proofs.Common.{ℕ, zero, suc, ◌≡◌, ◌≢◌, ◌+◌, ◌-◌, ◌≤◌, ◌<◌, eqb, cond, true, false, List, [], ◌∷◌, ◌++◌, ◌⊎◌, inl, inr, length, take, refl, ap, sym, subst, ◌∙◌, arith, Option, Some, None, append-nil, length-append, get_or}
+use Rattle.std.proofs.Common.{ℕ, zero, suc, ◌≡◌, ◌≢◌, ◌+◌, ◌-◌, ◌<◌, eqb, cond, false, List, [], ◌∷◌, ◌++◌, ◌⊎◌, inl, inr, length, take, refl, ap, sym, subst, ◌∙◌, arith, Some, append-nil, length-append, get_or}
 use Rattle.std.proofs.lemmas.Bool.{cases_eq, cond_both, cond-true, cond-false, eqb-true, eq-eqb, false_from_ne_true}
 use Rattle.std.proofs.lemmas.List.{get_or-set_same, get_or-set_other, length-set, take_more, take_all}
 use Rattle.std.proofs.lemmas.List.Concat.{flat_map-append}
@@ -9,7 +9,7 @@ use Rattle.fx_rules.specs.declared.outcome.Entry.{Entry}
 use Rattle.fx_rules.specs.Lists.{Each}
 use Rattle.fx_rules.specs.Step.{fills_of}
 use Rattle.fx_rules.proofs.ListLemmas.{Each-append, Each-weaker}
-use Rattle.reply_lines.specs.Notices.{Notice, notices_in, notices, fill_notices, reply_notices, Replied, Took, Gave}
+use Rattle.reply_lines.specs.Notices.{notices_in, notices, fill_notices, Replied, Took, Gave}
 use Rattle.reply_lines.specs.Index.{is_place, notices_from, notices_at, noticed, IsIndexed, noted, noted_for, noted_for_all, banks_of, banks_of_fill}
 use Rattle.reply_lines.proofs.Numbering.{notices_more}
 

@@ -1,5 +1,5 @@
 -- A legal history has an output; what was written of a text tells how the writing of the output ended.
-use Rattle.std.proofs.Common.{ℕ, ◌≡◌, List, ◌++◌, Option, Result, Ok, Err, OnOk, IsErrAnd, refl, sym, ap, subst, ◌∙◌}
+use Rattle.std.proofs.Common.{ℕ, ◌≡◌, List, ◌++◌, Option, Result, Ok, Err, OnOk, IsErrAnd, refl, sym, subst, ◌∙◌}
 use Rattle.std.specs.List.{flat_map}
 use Rattle.fx_edges.specs.Writing.{Wrote}
 use Rattle.fx_edges.proofs.Writing.{Wrote-of_longer, IsPrefixOf-append}

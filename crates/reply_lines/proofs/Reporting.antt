@@ -1,6 +1,6 @@
 -- The rows of a state's report name the session's pairs and banks.
-use Rattle.std.proofs.Common.{ℕ, zero, suc, ◌≡◌, ◌<◌, ltb, List, [], ◌∷◌, ◌++◌, map, ap, sym, subst, ◌∙◌, arith}
-use Rattle.std.specs.List.{flat_map, filter}
+use Rattle.std.proofs.Common.{ℕ, zero, suc, ◌≡◌, ◌<◌, ltb, List, [], ◌∷◌, map, ap, sym, subst, ◌∙◌, arith}
+use Rattle.std.specs.List.{flat_map}
 use Rattle.fx_rules.specs.Lists.{Each}
 use Rattle.fx_rules.specs.Session.{Header, bank_count, pair_count}
 use Rattle.fx_rules.specs.State.{State}

@@ -1,10 +1,10 @@
 -- The local books of a host are those of each state that it stands for.
-use Rattle.std.proofs.Common.{ℕ, ◌≡◌, ◌<◌, List, [], ◌∷◌, ◌++◌, length, ap, sym, ◌∙◌}
+use Rattle.std.proofs.Common.{ℕ, ◌≡◌, ◌<◌, List, [], ◌∷◌, ◌++◌, length, ap, ◌∙◌}
 use Rattle.std.proofs.lemmas.List.{length-map}
 use Rattle.fx_amounts.specs.declared.side.Side.TheVariants.{Buy, Sell}
 use Rattle.fx_rules.specs.declared.orders.Level.{Level}
 use Rattle.fx_rules.specs.declared.outcome.Outcome.TheVariants.{Depth}
-use Rattle.fx_rules.specs.Session.{Header, IsSession, bank_count, pair_count, bank_name}
+use Rattle.fx_rules.specs.Session.{Header, bank_count, pair_count, bank_name}
 use Rattle.fx_rules.specs.State.{State}
 use Rattle.fx_rules.specs.Depth.{IsDepth}
 use Rattle.fx_rules.specs.Sound.{IsSound}

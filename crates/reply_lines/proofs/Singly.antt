@@ -14,7 +14,7 @@ use Rattle.reply_lines.specs.Rows.{row}
 use Rattle.reply_lines.specs.Notices.{book_fields}
 use Rattle.reply_lines.specs.Books.{LocalBook, AreBooks, book_line, book_lines_below, books_below, books_text}
 use Rattle.reply_lines.specs.Report.{report_text}
-use Rattle.reply_lines.specs.Output.{journal_text, desks_text, day_text, last_text, IsDayText, IsOutput}
+use Rattle.reply_lines.specs.Output.{journal_text, desks_text, day_text, last_text, IsDayText}
 use Rattle.reply_lines.specs.Laws.{OneOutput}
 
 abbrev AreSame : LocalBook → LocalBook → Type 0

@@ -1,5 +1,5 @@
 -- 64 lines in their range have a sum in range.
-use Rattle.std.proofs.Common.{ℕ, zero, suc, ◌≤◌, ◌*◌, ◌^◌, arith, length, get_or, replicate}
+use Rattle.std.proofs.Common.{ℕ, zero, suc, ◌≤◌, ◌^◌, arith, get_or, replicate}
 use Rattle.std.proofs.lemmas.List.{length-replicate}
 use Rattle.flat_host.proofs.Counting.{total-most}
 use Rattle.flat_host.proofs.credit.lines_of.Goals as goal

@@ -1,5 +1,5 @@
 -- After each fill, what is left to carry out leads where it led before.
-use Rattle.std.proofs.Common.{ℕ, suc, ◌≡◌, ◌<◌, ◌+◌, ◌*◌, List, ◌∷◌, arith, sym, ap, subst, ◌∙◌, drop, get_or, length, add-one, leb, cond}
+use Rattle.std.proofs.Common.{ℕ, suc, ◌≡◌, ◌<◌, ◌+◌, ◌*◌, List, ◌∷◌, arith, sym, ap, ◌∙◌, drop, get_or, length, add-one, leb, cond}
 use Rattle.std.proofs.Math.Seq.{drop-cons}
 use Rattle.fx_rules.specs.declared.orders.Fill.{Fill}
 use Rattle.fx_rules.specs.declared.orders.ActiveOrder.{ActiveOrder}
@@ -7,7 +7,6 @@ use Rattle.fx_rules.specs.Sweep.{lowered}
 use Rattle.flat_host.specs.FlatState.{line_in}
 use Rattle.flat_host.specs.Parts.{both_lowered, use_added, uses_after}
 use Rattle.flat_host.proofs.Carrying.{raised, length-added}
-use Rattle.flat_host.proofs.Market.{turned-market}
 use Rattle.flat_host.proofs.credit.make_fills.Goals as goal
 
 pub dropped : (fills : List Fill) (i : ℕ) (fill : Fill) → i < length fills → fill ≡ get_or fills i fill → drop i fills ≡ fill ∷ drop (i + 1) fills

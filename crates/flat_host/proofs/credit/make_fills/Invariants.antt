@@ -1,4 +1,4 @@
-use Rattle.std.proofs.Common.{ℕ, ◌≡◌, ◌≤◌, drop, length, vec_len, vec_capacity}
+use Rattle.std.proofs.Common.{◌≡◌, ◌≤◌, drop, length, vec_len, vec_capacity}
 use Rattle.flat_host.specs.FlatState.{IsWithin}
 use Rattle.flat_host.specs.Parts.{both_lowered, uses_after}
 use Rattle.flat_host.proofs.credit.make_fills.Given as goal

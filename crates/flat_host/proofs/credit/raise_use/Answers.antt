@@ -1,5 +1,5 @@
 -- What the line pays for fits beside what was used.
-use Rattle.std.proofs.Common.{ℕ, ◌≡◌, ◌+◌, ◌≤◌, ◌<◌, ◌^◌, List, arith, get_or, length, ap, ◌∙◌}
+use Rattle.std.proofs.Common.{ℕ, ◌≡◌, ◌<◌, List, arith, get_or, length, ap, ◌∙◌}
 use Rattle.std.proofs.lemmas.List.{get_or_default}
 use Rattle.flat_host.specs.FlatState.{use_place}
 use Rattle.flat_host.proofs.credit.raise_use.Goals as goal

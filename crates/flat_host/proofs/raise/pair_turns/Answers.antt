@@ -1,5 +1,5 @@
 -- Each turn goes on with the turns behind it.
-use Rattle.std.proofs.Common.{ℕ, zero, suc, ◌≡◌, ◌+◌, ◌≤◌, ◌<◌, true, false, eqb, List, [], ◌∷◌, ◌++◌, Option, MatchOption, map, arith, refl, sym, ap, subst, ◌∙◌, inl, inr, drop, find, length, get_or, add-one, append_assoc, append-nil, Vec, Global}
+use Rattle.std.proofs.Common.{ℕ, zero, suc, ◌≡◌, ◌+◌, ◌≤◌, ◌<◌, true, false, eqb, List, [], ◌∷◌, ◌++◌, Option, map, arith, refl, sym, ap, subst, ◌∙◌, inl, inr, drop, find, length, get_or, add-one, append_assoc, append-nil, Vec, Global}
 use Rattle.std.proofs.Math.Seq.{drop-cons}
 use Rattle.fx_rules.specs.declared.orders.ActiveOrder.{ActiveOrder}
 use Rattle.fx_rules.specs.declared.orders.Resting.{Resting}

@@ -1,5 +1,5 @@
 -- Each pair goes on with the pairs behind it.
-use Rattle.std.proofs.Common.{ℕ, zero, suc, ◌≡◌, ◌+◌, ◌-◌, ◌≤◌, ◌<◌, List, [], ◌++◌, arith, refl, sym, ap, subst, ◌∙◌, length, append_assoc, append-nil, Vec, Global}
+use Rattle.std.proofs.Common.{ℕ, zero, suc, ◌≡◌, ◌+◌, ◌-◌, ◌≤◌, List, [], ◌++◌, arith, refl, sym, ap, subst, ◌∙◌, length, append_assoc, append-nil, Vec, Global}
 use Rattle.std.proofs.lemmas.Bool.{false≢true}
 use Rattle.fx_rules.specs.declared.orders.ActiveOrder.{ActiveOrder}
 use Rattle.fx_rules.specs.declared.orders.Fill.{Fill}

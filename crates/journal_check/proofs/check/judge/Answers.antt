@@ -1,9 +1,9 @@
-use Rattle.std.proofs.Common.{List, map, subst, Result, Ok, Err}
+use Rattle.std.proofs.Common.{List, map, subst, Ok, Err}
 use Rattle.fx_rules.specs.declared.outcome.Entry.{Entry}
 use Rattle.journal_check.specs.Stops.{IsComparedWith}
 use Rattle.fx_rules.specs.Sending.{sent_by}
 use Rattle.std.proofs.lemmas.Result.{err_from_is_err_and}
-use Rattle.journal_check.proofs.JudgeLemmas.{WasRead, judged_header, judged_count, judged_commands, judged_apart, judged_last}
+use Rattle.journal_check.proofs.JudgeLemmas.{judged_header, judged_count, judged_commands, judged_apart, judged_last}
 use Rattle.journal_check.proofs.check.judge.Goals as goal
 
 pub returns-in_err-headed : goal.returns-in_err-headed

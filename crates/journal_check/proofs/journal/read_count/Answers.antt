@@ -1,4 +1,3 @@
-use Rattle.journal_check.specs.Listed.{most_entries}
 use Rattle.journal_check.proofs.JournalLemmas.{count_stopped, count_wrong, count_right}
 use Rattle.journal_check.proofs.journal.read_count.Goals as goal
 

@@ -1,5 +1,5 @@
 -- What is planned by the reaches is planned by the lines, and that is the sweep.
-use Rattle.std.proofs.Common.{ℕ, List, Result, Ok, Err, None, ◌≡◌, ◌≢◌, ◌<◌, ◌+◌, refl, arith, slice_index}
+use Rattle.std.proofs.Common.{ℕ, List, Result, Ok, Err, None, ◌≡◌, ◌≢◌, ◌<◌, ◌+◌, arith, slice_index}
 use Rattle.std.specs.Result.{IfOk}
 use Rattle.fx_rules.specs.declared.orders.Fill.{Fill}
 use Rattle.fx_rules.specs.Lists.{total}

@@ -1,9 +1,7 @@
 -- The host's local book is that of each state that it stands for.
-use Rattle.std.proofs.Common.{List, ap, sym, subst, ◌∙◌, ◌∷◌, [], ◌++◌}
-use Rattle.fx_rules.specs.declared.orders.Level.{Level}
+use Rattle.std.proofs.Common.{subst}
 use Rattle.flat_host.specs.Steps.{ShowsEach}
-use Rattle.reply_lines.specs.Rows.{fields_text}
-use Rattle.reply_lines.proofs.Shown.{shown, line_of}
+use Rattle.reply_lines.proofs.Shown.{line_of}
 use Rattle.reply_lines.proofs.Outputs.{on_ok}
 use Rattle.reply_lines.proofs.books.make_book.Goals as goal
 

@@ -1,5 +1,5 @@
 -- Each turn writes one pair's book behind those so far.
-use Rattle.std.proofs.Common.{ℕ, ◌≡◌, arith, ap, sym, subst, length, add-one, Ok, Err}
+use Rattle.std.proofs.Common.{◌≡◌, arith, ap, sym, subst, length, add-one, Err}
 use Rattle.fx_edges.specs.Writing.{Appended, Wrote}
 use Rattle.fx_edges.proofs.Writing.{Wrote-cut, Wrote-from_Appended, Appended-append}
 use Rattle.reply_lines.specs.Books.{book_line, book_lines_below}

@@ -1,6 +1,5 @@
 -- Each turn writes one line behind those so far.
-use Rattle.std.proofs.Common.{List, ◌∙◌, sym, subst, take}
-use Rattle.std.specs.List.{flat_map}
+use Rattle.std.proofs.Common.{◌∙◌, sym, subst}
 use Rattle.fx_edges.specs.Writing.{Appended}
 use Rattle.fx_edges.proofs.Writing.{Wrote-cut, Appended-append}
 use Rattle.reply_lines.proofs.Indexing.{flat_more}

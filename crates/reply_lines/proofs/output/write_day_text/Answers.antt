@@ -1,5 +1,5 @@
 -- One part of the day follows the other; the report is that of the state at the end.
-use Rattle.std.proofs.Common.{List, ℕ, ◌++◌, Result, subst}
+use Rattle.std.proofs.Common.{List, ℕ, ◌++◌, subst}
 use Rattle.fx_edges.specs.Writing.{Wrote}
 use Rattle.fx_edges.proofs.Writing.{Wrote-then}
 use Rattle.fx_rules.specs.History.{state}

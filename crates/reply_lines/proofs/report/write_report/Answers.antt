@@ -1,5 +1,5 @@
 -- One part of the report follows the other.
-use Rattle.std.proofs.Common.{List, ℕ, ◌++◌, codes, Ok}
+use Rattle.std.proofs.Common.{◌++◌, Ok}
 use Rattle.std.specs.List.{flat_map}
 use Rattle.fx_edges.proofs.Writing.{Wrote-then}
 use Rattle.reply_lines.specs.Report.{report_of, volume_line, use_line, net_line}

@@ -1,4 +1,4 @@
-use Rattle.std.proofs.Common.{List, [], ◌∷◌, ◌++◌, refl, sym, subst, take, append-nil}
+use Rattle.std.proofs.Common.{List, ◌++◌, refl, sym, subst, take, append-nil}
 use Rattle.std.proofs.lemmas.List.{take_all}
 use Rattle.fx_rules.specs.declared.orders.Fill.{Fill}
 use Rattle.day_report.specs.Parts.{AreVolumes, AreFlows, HasFills}

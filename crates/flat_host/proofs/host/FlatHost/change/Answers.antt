@@ -1,10 +1,6 @@
 -- What is made of an outcome leads to the state that the outcome makes.
-use Rattle.std.proofs.Common.{ℕ, ◌≡◌, ◌≤◌, ◌^◌, List, Result, Ok, Err, OnOk, sym, ap, subst, ◌∙◌}
+use Rattle.std.proofs.Common.{◌≡◌, ◌≤◌, ◌^◌, Result, Ok, Err, OnOk, sym, ap, subst, ◌∙◌}
 use Rattle.fx_amounts.specs.declared.memory.Memory.{Memory}
-use Rattle.fx_rules.specs.declared.orders.Fill.{Fill}
-use Rattle.fx_rules.specs.declared.outcome.Outcome.{Outcome}
-use Rattle.fx_rules.specs.Step.{fills_of}
-use Rattle.flat_host.specs.FlatState.{FlatState}
 use Rattle.flat_host.specs.Parts.{rests_of, order_carried}
 use Rattle.flat_host.specs.Turns.{raised_in}
 use Rattle.flat_host.specs.Steps.{ChangesEach}

@@ -1,5 +1,5 @@
 -- Each command's answer is the market's.
-use Rattle.std.proofs.Common.{ℕ, ◌≡◌, ◌<◌, ◌≤◌, ◌-◌, ◌^◌, min, arith, eqb, List, Result, Ok, Err, IfOk, sym, ap, subst, ◌∙◌, find, length}
+use Rattle.std.proofs.Common.{◌<◌, ◌≤◌, ◌-◌, ◌^◌, min, arith, eqb, List, Result, Ok, Err, IfOk, sym, ap, subst, ◌∙◌, find, length}
 use Rattle.std.specs.List.{filter}
 use Rattle.fx_amounts.specs.declared.memory.Memory.{Memory}
 use Rattle.fx_rules.specs.declared.orders.ActiveOrder.{ActiveOrder}

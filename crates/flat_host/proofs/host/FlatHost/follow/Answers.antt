@@ -3,7 +3,7 @@ use Rattle.std.proofs.Common.{ℕ, ◌≡◌, ◌+◌, List, Result, Ok, Err, On
 use Rattle.std.proofs.Math.ListN.{set}
 use Rattle.fx_amounts.specs.declared.memory.Memory.{Memory}
 use Rattle.flat_host.specs.Steps.{FollowsEach, FollowsOn}
-use Rattle.flat_host.proofs.GoingOn.{IsDue, due, follows-on}
+use Rattle.flat_host.proofs.GoingOn.{due, follows-on}
 use Rattle.flat_host.proofs.host.FlatHost.follow.Goals as goal
 
 on_ok : (r : Result (Unit {0}) Memory) (P Q : Type 0) → (P → Q) → OnOk r P → OnOk r Q

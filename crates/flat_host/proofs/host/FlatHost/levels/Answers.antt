@@ -1,5 +1,5 @@
 -- The order that is swept is one that takes any price and wants all there is.
-use Rattle.std.proofs.Common.{ℕ, ◌≡◌, List, Result, Ok, Err, IfOk, sym, ap, subst, ◌∙◌, take}
+use Rattle.std.proofs.Common.{ℕ, ◌≡◌, List, Result, Ok, Err, IfOk, ap, subst, ◌∙◌, take}
 use Rattle.std.specs.List.{filter}
 use Rattle.fx_amounts.specs.declared.memory.Memory.{Memory}
 use Rattle.fx_amounts.specs.declared.side.Side.{Side}

@@ -1,5 +1,5 @@
 -- The limit that is set is at least what is used.
-use Rattle.std.proofs.Common.{ℕ, ◌≡◌, ◌≤◌, ◌<◌, max, List, arith, sym, ap, subst, ◌∙◌, length}
+use Rattle.std.proofs.Common.{ℕ, ◌≡◌, ◌≤◌, max, List, arith, sym, ap, subst, ◌∙◌}
 use Rattle.std.proofs.Math.ListN.{set, length-set}
 use Rattle.flat_host.specs.FlatState.{FlatState, IsWithin, use_in}
 use Rattle.flat_host.proofs.Stepping.{limits-within}

@@ -1,9 +1,5 @@
 -- Each can be served once those before it were.
-use Rattle.std.proofs.Common.{List, take, sym, subst, refl, append-nil}
-use Rattle.std.proofs.lemmas.List.{take_all}
-use Rattle.fx_rules.specs.declared.command.Sent.{Sent}
-use Rattle.market_run.specs.Running.{RunsOn, Served}
-use Rattle.market_run.proofs.Serving.{can-serve-next, served-next}
+use Rattle.market_run.proofs.Serving.{can-serve-next}
 use Rattle.market_run.proofs.running.Run.serve_all.Goals as goal
 
 pub serve-requires : goal.serve-requires
