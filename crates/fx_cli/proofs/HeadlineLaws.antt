@@ -1,7 +1,8 @@
 -- The headline of a legal history that has the commands in their order.
 use Rattle.std.proofs.Common.{ℕ, zero, suc, ◌≡◌, ◌≤◌, ◌^◌, eqb, cond, Bool, true, false, List, [], ◌∷◌, take, map, length, refl, ap, sym, subst, ◌∙◌, arith}
-use Rattle.std.specs.Prelude.{Option, Some, None}
+use Rattle.std.specs.Prelude.{Option, Some, None, Ok}
 use Rattle.std.specs.List.{filter, slice_get}
+use Rattle.std.proofs.lemmas.List.{length-map}
 use Rattle.fx_rules.specs.declared.outcome.Entry.{Entry}
 use Rattle.fx_rules.specs.Session.{Header}
 use Rattle.fx_rules.specs.State.{State, opening}
@@ -12,6 +13,9 @@ use Rattle.fx_rules.proofs.Uncrossed.{legal-uncrossed}
 use Rattle.fx_rules.specs.declared.command.Sent.{Sent}
 use Rattle.fx_rules.specs.Sending.{sent_by}
 use Rattle.reply_lines.specs.Output.{IsOutput}
+use Rattle.reply_lines.specs.declared.output.Ending.{Ending}
+use Rattle.journal_check.specs.Listed.{listed}
+use Rattle.journal_check.proofs.Exactly.{outputs_list}
 use Rattle.fx_edges.specs.Writing.{Appended, AppendedPart}
 use Rattle.session_script.specs.declared.script.Script.{Script}
 use Rattle.reply_lines.specs.declared.output.Ending.TheVariants.{End}
@@ -66,6 +70,13 @@ headline_of h sent entries legal in_order = record {
 pub serial_of : (h : Header) (sent : List Sent) (entries : List Entry) → IsLegal h entries → map sent_by entries ≡ sent → IsSerial h sent entries
 serial_of h sent entries legal in_order = record { headline = headline_of h sent entries legal in_order; in_order = in_order }
 
+-- the output of a run lists the run's session and commands
+pub serial_lists : (h : Header) (sent : List Sent) (entries : List Entry) (strays : ℕ) (ending : Ending) (text : List ℕ) → IsSerial h sent entries → length sent ≤ 2 ^ 26 → IsOutput h entries strays ending text
+    → listed text ≡ Ok (record { session = h; commands = map sent_by entries })
+serial_lists h sent entries strays ending text is few output =
+    let as_many : length entries ≡ length sent = sym (length-map entries sent_by) ∙ ap length is.in_order in
+    outputs_list h entries strays ending text is.headline.one_legal_history (omega (arith, few, as_many)) output
+
 -- What a sink got of the output of a history of a script's commands
 
 module _ {K : Type 0} (written : K → Option (List ℕ)) (faults : K → ℕ) (before now : K) (script : Script) (history : List Entry) (serial : IsSerial script.session script.sent.items history) (few : length script.sent.items ≤ 2 ^ 26) where
@@ -75,6 +86,7 @@ module _ {K : Type 0} (written : K → Option (List ℕ)) (faults : K → ℕ) (
     serial = serial;
     text = text;
     is_output = output;
+    lists = serial_lists script.session script.sent.items history script.strays End text serial few output;
     all = all;
   }
 
@@ -84,5 +96,6 @@ module _ {K : Type 0} (written : K → Option (List ℕ)) (faults : K → ℕ) (
     serial = serial;
     text = text;
     is_output = output;
+    lists = serial_lists script.session script.sent.items history script.strays End text serial few output;
     part = part;
   }

@@ -1,10 +1,12 @@
 -- What a run that ended with a status says of that status, of the bytes taken and of the bytes written.
-use Rattle.std.proofs.Common.{◌≡◌, ℕ, ◌≤◌, ◌<◌, Bool, true, false, List, [], ◌∷◌, ◌++◌, length, take, Option, Some, None, Result, Ok, Err, refl, sym, ap, ◌∙◌, subst, arith, ◌⊎◌, inl, inr}
+use Rattle.std.proofs.Common.{◌≡◌, ℕ, ◌≤◌, ◌<◌, Bool, true, false, List, [], ◌∷◌, ◌++◌, length, take, Option, Some, None, Result, Ok, Err, refl, sym, ap, ◌∙◌, subst, arith, ◌⊎◌, inl, inr, map}
 use Rattle.std.specs.Prelude.{IfSome}
 use Rattle.std.specs.Io.KnownBytes.{prepend_known, IsAtEnd}
 use Rattle.std.proofs.lemmas.List.{append_cancel_right, append-nil, length-append, take_all, take-append-le}
 use Rattle.fx_rules.specs.declared.outcome.Entry.{Entry}
 use Rattle.fx_rules.specs.Lists.{Among}
+use Rattle.fx_rules.specs.Sending.{sent_by}
+use Rattle.journal_check.specs.Listed.{listed}
 use Rattle.fx_rules.specs.Session.{Header}
 use Rattle.fx_edges.specs.Faults.{Rose}
 use Rattle.fx_edges.specs.Reading.{Took}
@@ -184,6 +186,7 @@ module _ {K : Type 0} (written : K → Option (List ℕ)) (faults : K → ℕ) (
     serial = all.serial;
     text = all.text;
     is_output = all.is_output;
+    lists = all.lists;
     part = AppendedPart-whole all.all;
   }
 
@@ -244,24 +247,26 @@ module _ {K : Type 0} (written : K → Option (List ℕ)) (faults : K → ℕ) (
     always = λ much. among_stop result (status_of stop) TooMuch [] ran.0 (much_stop input rest stop ended much);
   }
 
-  output_of : (script : Script) (input rest text : List ℕ) (history : List Entry) → IsEnded (Some rest) input → Says input script → IsSerial script.session script.sent.items history → IsOutput script.session history script.strays endings.End text → IsOutputOf input rest text
-  output_of script input rest text history ended says serial output = record {
+  output_of : (script : Script) (input rest text : List ℕ) (history : List Entry) → IsEnded (Some rest) input → Says input script → IsSerial script.session script.sent.items history → IsOutput script.session history script.strays endings.End text
+      → listed text ≡ Ok (record { session = script.session; commands = map sent_by history }) → IsOutputOf input rest text
+  output_of script input rest text history ended says serial output lists = record {
     at_its_end = ended;
     session = script.session;
     of_its_header = says.session;
     history = history;
     of_its_commands = subst (λ (sent : List Sent). IsSerial script.session sent history) says.sent serial;
     exactly = subst (λ (strays : ℕ). IsOutput script.session history strays endings.End text) says.strays output;
+    as_listed = lists;
   }
 
   part_of : (script : Script) (input rest : List ℕ) → Ended (Some rest) input (Ok script) → WrotePart written faults out out' script → GotPart written faults out out' input rest
   part_of script input rest ended part =
-      (part.text, output_of script input rest part.text part.history ended.0 ended.1 part.serial part.is_output, part.part)
+      (part.text, output_of script input rest part.text part.history ended.0 ended.1 part.serial part.is_output part.lists, part.part)
 
   pub done_whole : (read : Result Script Stop) (result : Status) (input rest : List ℕ) → After read result → Ended (Some rest) input read → result ≡ Done → GotOutput written faults out out' input rest
   done_whole (Ok script) result input rest ran ended is =
       let done : RanScript written faults out out' script Done = subst (λ (s : Status). RanScript written faults out out' script s) is ran in
-      (done.text, output_of script input rest done.text done.history ended.0 ended.1 done.serial done.is_output, done.all)
+      (done.text, output_of script input rest done.text done.history ended.0 ended.1 done.serial done.is_output done.lists, done.all)
   done_whole (Err stop) result input rest ran ended is = absurd (no_stop stop result Done no_done ran.0 is)
 
   pub fault_rose : (read : Result Script Stop) (result : Status) → After read result → result ≡ WriteFault → Rose (faults out) (faults out')

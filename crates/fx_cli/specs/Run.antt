@@ -1,10 +1,12 @@
 -- What a run does to its source and to standard output.
-use Rattle.std.specs.Prelude.{◌≡◌, ℕ, List, Option, Result, Ok, Err, ◌⊎◌}
+use Rattle.std.specs.Prelude.{◌≡◌, ℕ, List, map, Option, Result, Ok, Err, ◌⊎◌}
 use Rattle.fx_edges.specs.Faults.{Rose}
 use Rattle.fx_edges.specs.Writing.{Appended, AppendedPart}
 use Rattle.fx_rules.specs.declared.outcome.Entry.{Entry}
+use Rattle.fx_rules.specs.Sending.{sent_by}
 use Rattle.reply_lines.specs.Output.{IsOutput}
 use Rattle.reply_lines.specs.declared.output.Ending.TheVariants.{End}
+use Rattle.journal_check.specs.Listed.{listed}
 use Rattle.fx_cli.specs.Headline.{IsSerial}
 use Rattle.session_script.specs.Reading.{HasRead}
 use Rattle.fx_cli.specs.Status.{status_of}
@@ -19,6 +21,7 @@ pub record WroteAll {K : Type 0} (written : K → Option (List ℕ)) (faults : K
   pub serial : IsSerial script.session script.sent.items history
   pub text : List ℕ
   pub is_output : IsOutput script.session history script.strays End text
+  pub lists : listed text ≡ Ok (record { session = script.session; commands = map sent_by history })
   pub all : Appended written faults before now text
 
 -- and here a prefix of it
@@ -27,6 +30,7 @@ pub record WrotePart {K : Type 0} (written : K → Option (List ℕ)) (faults : 
   pub serial : IsSerial script.session script.sent.items history
   pub text : List ℕ
   pub is_output : IsOutput script.session history script.strays End text
+  pub lists : listed text ≡ Ok (record { session = script.session; commands = map sent_by history })
   pub part : AppendedPart written faults before now text
 
 -- what the run of a script did to standard output, by the status that it ended with

@@ -1,12 +1,14 @@
 -- What the top call says of its status and of what the streams got.
-use Rattle.std.specs.Prelude.{◌≡◌, ◌<◌, ℕ, Bool, true, false, List, [], ◌∷◌, length, take, Option, Some, ◌⊎◌}
+use Rattle.std.specs.Prelude.{◌≡◌, ◌<◌, ℕ, Bool, true, false, List, [], ◌∷◌, length, map, take, Option, Some, Ok, ◌⊎◌}
 use Rattle.fx_edges.specs.Faults.{Rose}
 use Rattle.fx_edges.specs.Writing.{Appended, AppendedPart}
 use Rattle.fx_rules.specs.declared.outcome.Entry.{Entry}
 use Rattle.fx_rules.specs.Lists.{Among}
+use Rattle.fx_rules.specs.Sending.{sent_by}
 use Rattle.fx_rules.specs.Session.{Header}
 use Rattle.reply_lines.specs.Output.{IsOutput}
 use Rattle.reply_lines.specs.declared.output.Ending.TheVariants as endings
+use Rattle.journal_check.specs.Listed.{listed}
 use Rattle.fx_cli.specs.Headline.{IsSerial}
 use Rattle.session_script.specs.Input.{input_limit}
 use Rattle.session_script.specs.Reading.{IsEnded}
@@ -24,6 +26,7 @@ pub record EndsExactly (result status : Status) (earlier : List Status) (cause :
 -- The headline. The input that was taken, where the source has `rest` left, reached its END line, and a text is exactly
 -- the output of one history: one of the session of the input's own header, legal, of each bank's commands once and in its
 -- order, here the order of their lines. What this says of replies, fills, lines and resting orders stands in `IsHeadline`.
+-- Session and history are those that the text itself lists, and that a check of it reads: no other was run than is printed.
 pub record IsOutputOf (input rest text : List ℕ) : Type 0 where
   pub at_its_end : IsEnded (Some rest) input
   pub session : Header
@@ -31,6 +34,7 @@ pub record IsOutputOf (input rest text : List ℕ) : Type 0 where
   pub history : List Entry
   pub of_its_commands : IsSerial session (sent_in session input) history
   pub exactly : IsOutput session history (strays_of session input) endings.End text
+  pub as_listed : listed text ≡ Ok (record { session = session; commands = map sent_by history })
 
 -- a sink got exactly that output
 abbrev pub GotOutput : {K : Type 0} (written : K → Option (List ℕ)) (faults : K → ℕ) (before now : K) → List ℕ → List ℕ → Type 0
