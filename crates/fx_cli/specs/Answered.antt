@@ -18,4 +18,4 @@ pub record Answered {S K E : Type 0} (left : S → Option (List ℕ)) (failed : 
   pub serial : AreSerial words → DidSerial left failed written faults source source' out out' status
   pub check : AreCheck words → DidCheck left failed written faults source source' out out' status
   -- standard error: the line of the status
-  pub err : ToldErr told untold err err' status
+  pub standard_error : ToldErr told untold err err' status

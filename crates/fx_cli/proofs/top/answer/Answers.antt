@@ -14,6 +14,6 @@ returns g c = record {
     check = λ asked.
         check_did g.S.Source.left g.S.Source.faults g.K.Sink.written g.K.Sink.faults c.args.source.now c.follow-status.new.source c.args.out.now c.follow-status.new.out
         c.follow-status.result c.tell.result (c.follow-status.ensures.check asked) c.tell.ensures.same;
-    err = c.tell.ensures.err;
+    standard_error = c.tell.ensures.err;
   };
 }
