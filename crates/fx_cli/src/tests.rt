@@ -111,10 +111,13 @@ fn expect<R: Abort + AllocGlobal + Threads + Wait + Sync>(
         asked: AtomicU64::new(0),
     };
     let status = fx_main(rt, &program_words, &mut source, &mut out, &mut err, &gate);
-    assert_eq!(rt; status.code(), ending.code, "{words:?} {input:?} {fails:?}");
-    assert_eq!(rt; out.written(), ending.out, "{words:?} {input:?}");
-    assert_eq!(rt; err.written(), ending.err, "{words:?} {input:?}");
-    assert_eq!(rt; gate.asked.load(SeqCst), 0, "{words:?} {input:?}");
+    assert!(rt;
+        status.code() == ending.code,
+        "{words:?} {input:?} {fails:?}"
+    );
+    assert!(rt; out.written() == ending.out, "{words:?} {input:?}");
+    assert!(rt; err.written() == ending.err, "{words:?} {input:?}");
+    assert!(rt; gate.asked.load(SeqCst) == 0, "{words:?} {input:?}");
     Ok(())
 }
 
@@ -130,9 +133,9 @@ fn expect_exit<R: Abort + AllocGlobal + Threads + Wait + Sync>(
     let mut out = MemorySink::new(64, Vec::new(alloc));
     let mut err = MemorySink::new(64, Vec::new(alloc));
     let exit = serve(rt, arguments, &mut source, &mut out, &mut err);
-    assert_eq!(rt; exit, ExitCode::from(ending.code));
-    assert_eq!(rt; out.written(), ending.out);
-    assert_eq!(rt; err.written(), ending.err);
+    assert!(rt; exit == ExitCode::from(ending.code));
+    assert!(rt; out.written() == ending.out);
+    assert!(rt; err.written() == ending.err);
     Ok(())
 }
 
@@ -386,7 +389,7 @@ fn long_input(alloc: Global, last: usize) -> Result<Vec<u8>, Fail>
 #[test]
 fn inputs_up_to_the_limit(rt: HostRuntime) -> Result<(), Fail> {
     let input = long_input(rt.alloc(), 190)?;
-    assert_eq!(&rt; input.len(), 1 << 26);
+    assert!(&rt; input.len() == 1 << 26);
     expect(&rt, &["serial"], &input, 4096, &NONE, &done(NO_COMMANDS))?;
     let input = long_input(rt.alloc(), 191)?;
     let too_much = refusal(7, b"too much input\n");

@@ -72,7 +72,7 @@ fn answers<L: Ledger>(book: &PairBook, blank: Blank) -> [Option<u32>; 4]
 fn the_best_places_come_in_order(rt: HostRuntime) -> Result<(), Fail> {
     let book = deep_book(rt.alloc())?;
     let found = arrivals::<Brand>(rt.alloc(), &book, price(108_409), Blank::new(1))?;
-    assert_eq!(rt; found.as_slice(), [0, 1, 3, 4, 5, 6, 2, 7, 8, 9].as_slice());
+    assert!(rt; found.as_slice() == [0, 1, 3, 4, 5, 6, 2, 7, 8, 9].as_slice());
     Ok(())
 }
 
@@ -80,18 +80,18 @@ fn the_best_places_come_in_order(rt: HostRuntime) -> Result<(), Fail> {
 fn no_order_is_told_where_there_is_none(rt: HostRuntime) -> Result<(), Fail> {
     let book = deep_book(rt.alloc())?;
     let found = arrivals::<Brand>(rt.alloc(), &book, price(108_399), Blank::new(1))?;
-    assert_eq!(rt; found.len(), 0);
+    assert!(rt; found.len() == 0);
     let [first, other, second, none] = answers::<Brand>(&book, Blank::new(1));
-    assert_eq!(rt; first, Some(1));
-    assert_eq!(rt; other, None);
-    assert_eq!(rt; second, Some(3));
-    assert_eq!(rt; none, None);
+    assert!(rt; first == Some(1));
+    assert!(rt; other == None);
+    assert!(rt; second == Some(3));
+    assert!(rt; none == None);
     Ok(())
 }
 
 #[test]
 fn room_is_made(rt: HostRuntime) -> Result<(), Fail> {
     let mut book = PairBook::new(rt.alloc(), pair(31), 2)?;
-    assert_eq!(rt; book.reserve(bank(BETA), Side::Buy), Ok(()));
+    assert!(rt; book.reserve(bank(BETA), Side::Buy) == Ok(()));
     Ok(())
 }

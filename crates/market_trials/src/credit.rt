@@ -31,14 +31,14 @@ fn take(lines: &mut CreditLines, i: BankId, j: BankId, count: u64) -> bool
 fn a_session_opens_with_its_limits(rt: HostRuntime) -> Result<(), Fail> {
     let lines = lines(rt.alloc(), limits_of_two(300, 250))?;
     let (alfa, beta, gama) = (bank(ALFA), bank(BETA), bank(GAMA));
-    assert_eq!(rt; lines.limit(alfa, beta).get(), 300);
-    assert_eq!(rt; lines.limit(beta, alfa).get(), 250);
-    assert_eq!(rt; lines.limit(gama, alfa).get(), 0);
-    assert_eq!(rt; lines.used(beta, alfa).get(), 0);
-    assert_eq!(rt; lines.eff(alfa, beta).get(), 250);
-    assert_eq!(rt; lines.eff(beta, alfa).get(), 250);
-    assert_eq!(rt; lines.eff(beta, gama).get(), 0);
-    assert_eq!(rt; lines.reach(beta, alfa, 100), 2);
+    assert!(rt; lines.limit(alfa, beta).get() == 300);
+    assert!(rt; lines.limit(beta, alfa).get() == 250);
+    assert!(rt; lines.limit(gama, alfa).get() == 0);
+    assert!(rt; lines.used(beta, alfa).get() == 0);
+    assert!(rt; lines.eff(alfa, beta).get() == 250);
+    assert!(rt; lines.eff(beta, alfa).get() == 250);
+    assert!(rt; lines.eff(beta, gama).get() == 0);
+    assert!(rt; lines.reach(beta, alfa, 100) == 2);
     Ok(())
 }
 
@@ -47,10 +47,10 @@ fn a_take_uses_the_line_both_ways(rt: HostRuntime) -> Result<(), Fail> {
     let mut lines = lines(rt.alloc(), limits_of_two(1000, 1000))?;
     let (alfa, beta, gama) = (bank(ALFA), bank(BETA), bank(GAMA));
     assert!(rt; take(&mut lines, beta, alfa, 200));
-    assert_eq!(rt; lines.used(alfa, beta).get(), 200);
-    assert_eq!(rt; lines.eff(alfa, beta).get(), 800);
-    assert_eq!(rt; lines.reach(alfa, beta, 70), 11);
-    assert_eq!(rt; lines.used(alfa, gama).get(), 0);
+    assert!(rt; lines.used(alfa, beta).get() == 200);
+    assert!(rt; lines.eff(alfa, beta).get() == 800);
+    assert!(rt; lines.reach(alfa, beta, 70) == 11);
+    assert!(rt; lines.used(alfa, gama).get() == 0);
     assert!(rt; !take(&mut lines, alfa, beta, 801));
     Ok(())
 }
@@ -60,9 +60,9 @@ fn a_limit_stays_at_the_use(rt: HostRuntime) -> Result<(), Fail> {
     let mut lines = lines(rt.alloc(), limits_of_two(1000, 1000))?;
     let (alfa, beta) = (bank(ALFA), bank(BETA));
     assert!(rt; take(&mut lines, alfa, beta, 200));
-    assert_eq!(rt; lines.set(alfa, beta, units(50)).get(), 200);
-    assert_eq!(rt; lines.limit(alfa, beta).get(), 200);
-    assert_eq!(rt; lines.eff(beta, alfa).get(), 0);
+    assert!(rt; lines.set(alfa, beta, units(50)).get() == 200);
+    assert!(rt; lines.limit(alfa, beta).get() == 200);
+    assert!(rt; lines.eff(beta, alfa).get() == 0);
     Ok(())
 }
 
@@ -71,9 +71,9 @@ fn the_lesser_limit_bounds_the_line(rt: HostRuntime) -> Result<(), Fail> {
     let mut lines = lines(rt.alloc(), limits_of_two(250, 250))?;
     let (alfa, beta) = (bank(ALFA), bank(BETA));
     assert!(rt; take(&mut lines, alfa, beta, 200));
-    assert_eq!(rt; lines.set(alfa, beta, units(400)).get(), 400);
-    assert_eq!(rt; lines.eff(alfa, beta).get(), 50);
-    assert_eq!(rt; lines.set(beta, alfa, units(400)).get(), 400);
-    assert_eq!(rt; lines.eff(alfa, beta).get(), 200);
+    assert!(rt; lines.set(alfa, beta, units(400)).get() == 400);
+    assert!(rt; lines.eff(alfa, beta).get() == 50);
+    assert!(rt; lines.set(beta, alfa, units(400)).get() == 400);
+    assert!(rt; lines.eff(alfa, beta).get() == 200);
     Ok(())
 }

@@ -66,9 +66,9 @@ fn the_lowest_offer_and_the_highest_bid_come_first(rt: HostRuntime) -> Result<()
     let asks = row_of(rt.alloc(), Side::Sell, &prices)?;
     let bids = row_of(rt.alloc(), Side::Buy, &prices)?;
     let offers = arrivals::<Brand>(rt.alloc(), &asks, Blank::new(1))?;
-    assert_eq!(rt; offers.as_slice(), [1, 3, 0, 2].as_slice());
+    assert!(rt; offers.as_slice() == [1, 3, 0, 2].as_slice());
     let wanted = arrivals::<Brand>(rt.alloc(), &bids, Blank::new(1))?;
-    assert_eq!(rt; wanted.as_slice(), [0, 2, 3, 1].as_slice());
+    assert!(rt; wanted.as_slice() == [0, 2, 3, 1].as_slice());
     Ok(())
 }
 
@@ -94,8 +94,8 @@ fn no_place_is_told_where_there_is_none(rt: HostRuntime) -> Result<(), Fail> {
     let none = Levels::new(rt.alloc(), Side::Sell);
     let one = row_of(rt.alloc(), Side::Sell, &[price(5)])?;
     let (front, after, from) = ends::<Brand>(&none, &one, Blank::new(1));
-    assert_eq!(rt; front, None);
-    assert_eq!(rt; after, None);
-    assert_eq!(rt; from, None);
+    assert!(rt; front == None);
+    assert!(rt; after == None);
+    assert!(rt; from == None);
     Ok(())
 }

@@ -357,7 +357,7 @@ fn send<R: Abort>(rt: &R, session: &Session, run: &mut Run<FlatHost>, row: &Row)
     assert!(rt; is_wanted(&answer, row), "it would answer {answer:?}");
     run.serve(Sent { bank, command })?;
     let made = run.entries().last().ok_or("no entry")?;
-    assert_eq!(rt; made.number, row.number);
+    assert!(rt; made.number == row.number);
     assert!(rt; is_wanted(&made.outcome, row), "{made:?}");
     Ok(())
 }
@@ -394,8 +394,8 @@ pub(crate) fn play<R: Abort + AllocGlobal>(
     let host = FlatHost::open(rt.alloc(), &session)?;
     let mut run = Run::new(rt.alloc(), host);
     send_all(rt, &session, &mut run, rows)?;
-    assert_eq!(rt; run.market().resting(), resting);
+    assert!(rt; run.market().resting() == resting);
     let again = replay(rt.alloc(), &session, run.entries())?;
-    assert_eq!(rt; again.resting(), resting);
+    assert!(rt; again.resting() == resting);
     Ok(())
 }

@@ -49,22 +49,22 @@ fn reads_back(rt: HostRuntime) -> Result<(), Fail> {
     let names = [b"ALFA".as_slice(), b"BRAVO", b"CHARLIE"];
     let limits = [0, 12, 13, 21, 0, 23, 31, 1_000_000_000_000_000, 0];
     let session = built(rt.alloc(), &names, &pairs, &limits)?.ok_or("a session was refused")?;
-    assert_eq!(rt; session.banks().len(), 3);
-    assert_eq!(rt; session.pairs(), pairs.as_slice());
+    assert!(rt; session.banks().len() == 3);
+    assert!(rt; session.pairs() == pairs.as_slice());
     let alfa = session.bank_named(b"ALFA").ok_or("no ALFA")?;
     let bravo = session.bank_named(b"BRAVO").ok_or("no BRAVO")?;
     let charlie = session.bank_named(b"CHARLIE").ok_or("no CHARLIE")?;
-    assert_eq!(rt; session.limit(alfa, bravo).get(), 12);
-    assert_eq!(rt; session.limit(bravo, alfa).get(), 21);
-    assert_eq!(rt; session.limit(charlie, bravo).get(), 1_000_000_000_000_000);
-    assert_eq!(rt; session.limit(charlie, charlie).get(), 0);
+    assert!(rt; session.limit(alfa, bravo).get() == 12);
+    assert!(rt; session.limit(bravo, alfa).get() == 21);
+    assert!(rt; session.limit(charlie, bravo).get() == 1_000_000_000_000_000);
+    assert!(rt; session.limit(charlie, charlie).get() == 0);
     assert!(rt; session.bank_named(b"ALF").is_none());
     let yen = session.pair_named(b"USD/JPY").ok_or("no USD/JPY")?;
-    assert_eq!(rt; yen.index(), 2);
-    assert_eq!(rt; session.weight(yen), 1_000_000);
+    assert!(rt; yen.index() == 2);
+    assert!(rt; session.weight(yen) == 1_000_000);
     assert!(rt; session.pair_named(b"JPY/USD").is_none());
     assert!(rt; session.pair_named(b"USDJPY").is_none());
-    assert_eq!(rt; eurusd()?.text(), *b"EUR/USD");
+    assert!(rt; eurusd()?.text() == *b"EUR/USD");
     Ok(())
 }
 
@@ -91,7 +91,7 @@ fn how_many_banks(rt: HostRuntime) -> Result<(), Fail> {
         let limits = vec![in rt.alloc(); zero; count as usize * count as usize]?;
         let pairs = vec![in rt.alloc(); eurusd()?]?;
         let session = Session::build(banks, pairs, limits);
-        assert_eq!(rt; session.is_some(), count == 64, "{count} banks");
+        assert!(rt; session.is_some() == count == 64, "{count} banks");
     }
     Ok(())
 }
@@ -134,7 +134,7 @@ fn how_many_pairs(rt: HostRuntime) -> Result<(), Fail> {
             pairs.push(rule(&base, b"USD", 2, 100, 1)?)?;
         }
         let session = with_pairs(rt.alloc(), &pairs)?;
-        assert_eq!(rt; session.is_some(), count == 32, "{count} pairs");
+        assert!(rt; session.is_some() == count == 32, "{count} pairs");
     }
     Ok(())
 }

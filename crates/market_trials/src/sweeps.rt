@@ -103,8 +103,8 @@ fn a_better_price_out_of_reach_is_passed_over(rt: HostRuntime) -> Result<(), Fai
     let taker = buyer(108_430, 1, 2);
     let plan = plan_of::<Brand>(rt.alloc(), &book, &lines, &taker, Blank::new(1))?;
     let fills = told(rt.alloc(), plan.fills.as_slice())?;
-    assert_eq!(rt; fills.as_slice(), [(1, 108_420, 1)].as_slice());
-    assert_eq!(rt; plan.left, 0);
+    assert!(rt; fills.as_slice() == [(1, 108_420, 1)].as_slice());
+    assert!(rt; plan.left == 0);
     Ok(())
 }
 
@@ -118,17 +118,11 @@ fn a_line_cuts_a_fill_and_the_next_order_is_taken(rt: HostRuntime) -> Result<(),
     let taker = buyer(108_420, 3, 2);
     let plan = plan_of::<Brand>(rt.alloc(), &book, &lines, &taker, Blank::new(1))?;
     let fills = told(rt.alloc(), plan.fills.as_slice())?;
-    assert_eq!(rt;
-        fills.as_slice(),
-        [(1, 108_420, 1), (2, 108_420, 2)].as_slice()
-    );
-    assert_eq!(rt; plan.left, 0);
+    assert!(rt; fills.as_slice() == [(1, 108_420, 1), (2, 108_420, 2)].as_slice());
+    assert!(rt; plan.left == 0);
     carry(&mut book, &plan);
-    assert_eq!(rt;
-        left_of::<Brand>(&book, bank(BETA), 1, Blank::new(1)),
-        Some(1)
-    );
-    assert_eq!(rt; left_of::<Brand>(&book, bank(GAMA), 2, Blank::new(1)), None);
+    assert!(rt; left_of::<Brand>(&book, bank(BETA), 1, Blank::new(1)) == Some(1));
+    assert!(rt; left_of::<Brand>(&book, bank(GAMA), 2, Blank::new(1)) == None);
     Ok(())
 }
 
@@ -139,12 +133,12 @@ fn a_deep_book_is_swept_price_by_price(rt: HostRuntime) -> Result<(), Fail> {
     let taker = buyer(108_409, 13, 13);
     let plan = plan_of::<Brand>(rt.alloc(), &book, &lines, &taker, Blank::new(1))?;
     let fills = told(rt.alloc(), plan.fills.as_slice())?;
-    assert_eq!(rt; fills.len(), 11);
-    assert_eq!(rt; plan.left, 0);
-    assert_eq!(rt; fills[0], (1, 108_400, 3));
-    assert_eq!(rt; fills[1], (2, 108_400, 1));
+    assert!(rt; fills.len() == 11);
+    assert!(rt; plan.left == 0);
+    assert!(rt; fills[0] == (1, 108_400, 3));
+    assert!(rt; fills[1] == (2, 108_400, 1));
     for at in 2..fills.len() {
-        assert_eq!(rt; fills[at], (2, 108_399 + at as u32, 1));
+        assert!(rt; fills[at] == (2, 108_399 + at as u32, 1));
     }
     Ok(())
 }
@@ -164,8 +158,8 @@ fn an_order_may_want_more_than_there_is(rt: HostRuntime) -> Result<(), Fail> {
     };
     let sweep = sweep_of::<Brand>(rt.alloc(), &book, &lines, &order, Blank::new(1))?;
     let fills = told(rt.alloc(), sweep.fills.as_slice())?;
-    assert_eq!(rt; fills.len(), 12);
-    assert_eq!(rt; sweep.left, 999_999_986);
+    assert!(rt; fills.len() == 12);
+    assert!(rt; sweep.left == 999_999_986);
     Ok(())
 }
 
@@ -181,16 +175,10 @@ fn a_taker_that_rests_is_lowered_too(rt: HostRuntime) -> Result<(), Fail> {
     let taker = buyer(108_450, 2, 1);
     let plan = plan_of::<Brand>(rt.alloc(), &book, &lines, &taker, Blank::new(1))?;
     let fills = told(rt.alloc(), plan.fills.as_slice())?;
-    assert_eq!(rt; fills.as_slice(), [(1, 108_430, 1)].as_slice());
+    assert!(rt; fills.as_slice() == [(1, 108_430, 1)].as_slice());
     carry(&mut book, &plan);
-    assert_eq!(rt; left_of::<Brand>(&book, bank(BETA), 1, Blank::new(1)), None);
-    assert_eq!(rt;
-        left_of::<Brand>(&book, bank(ALFA), 2, Blank::new(1)),
-        Some(1)
-    );
-    assert_eq!(rt;
-        left_of::<Brand>(&book, bank(BETA), 3, Blank::new(1)),
-        Some(1)
-    );
+    assert!(rt; left_of::<Brand>(&book, bank(BETA), 1, Blank::new(1)) == None);
+    assert!(rt; left_of::<Brand>(&book, bank(ALFA), 2, Blank::new(1)) == Some(1));
+    assert!(rt; left_of::<Brand>(&book, bank(BETA), 3, Blank::new(1)) == Some(1));
     Ok(())
 }

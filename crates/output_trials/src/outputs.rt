@@ -80,7 +80,7 @@ NET GAMA USD 0
 STRAYS 0
 END
 ";
-    assert_eq!(rt; text.as_slice(), expected);
+    assert!(rt; text.as_slice() == expected);
     Ok(())
 }
 
@@ -206,10 +206,10 @@ fn a_day_without_commands(rt: HostRuntime) -> Result<(), Fail> {
     let entries = history(rt.alloc(), &session, b"")?;
     let mut out = MemorySink::new(7, Vec::new(rt.alloc()));
     write_output(rt.alloc(), &session, &entries, 3, Ending::Cut, &mut out)?;
-    assert_eq!(rt; out.written(), QUIET_DAY);
+    assert!(rt; out.written() == QUIET_DAY);
     let mut out = MemorySink::new(7, Vec::new(rt.alloc()));
     write_day(rt.alloc(), &session, &entries, &mut out)?;
-    assert_eq!(rt; out.written(), &QUIET_DAY[..QUIET_DAY.len() - 13]);
+    assert!(rt; out.written() == &QUIET_DAY[..QUIET_DAY.len() - 13]);
     Ok(())
 }
 
@@ -221,7 +221,7 @@ fn a_write_that_fails(rt: HostRuntime) -> Result<(), Fail> {
     fails.push(9)?;
     let mut out = MemorySink::new(7, fails);
     let answer = write_output(rt.alloc(), &session, &entries, 3, Ending::End, &mut out);
-    assert_eq!(rt; answer, Err(OutFault::Write));
+    assert!(rt; answer == Err(OutFault::Write));
     assert!(rt; QUIET_DAY.starts_with(out.written()));
     assert!(rt; out.written().len() < 64);
     Ok(())

@@ -62,13 +62,13 @@ fn report_of(alloc: Global, header: &[u8], journal: &[u8]) -> Result<Report, Fai
 #[test]
 fn a_day_without_fills(rt: HostRuntime) -> Result<(), Fail> {
     let report = report_of(rt.alloc(), QUIET, b"GAMA SHOW ALFA\n")?;
-    assert_eq!(rt; report.volumes.as_slice(), [volume(0, 0, 0, 0)?].as_slice());
+    assert!(rt; report.volumes.as_slice() == [volume(0, 0, 0, 0)?].as_slice());
     let uses = [
         credit(ALFA, BETA, 0, 0, 0)?,
         credit(ALFA, GAMA, 0, 0, 0)?,
         credit(BETA, GAMA, 0, 0, 0)?,
     ];
-    assert_eq!(rt; report.uses.as_slice(), uses.as_slice());
+    assert!(rt; report.uses.as_slice() == uses.as_slice());
     let nets = [
         net(ALFA, b"EUR", 0)?,
         net(ALFA, b"USD", 0)?,
@@ -77,22 +77,19 @@ fn a_day_without_fills(rt: HostRuntime) -> Result<(), Fail> {
         net(GAMA, b"EUR", 0)?,
         net(GAMA, b"USD", 0)?,
     ];
-    assert_eq!(rt; report.nets.as_slice(), nets.as_slice());
+    assert!(rt; report.nets.as_slice() == nets.as_slice());
     Ok(())
 }
 
 /// Wants the report of a day on which ALFA bought 2 lots of BETA at 1.08420.
 fn expect_trade<R: Abort>(rt: &R, report: &Report) -> Result<(), Fail> {
-    assert_eq!(rt;
-        report.volumes.as_slice(),
-        [volume(1, 2, 2_000_000, 2_168_400)?].as_slice()
-    );
+    assert!(rt; report.volumes.as_slice() == [volume(1, 2, 2_000_000, 2_168_400)?].as_slice());
     let uses = [
         credit(ALFA, BETA, 1000, 200, 800)?,
         credit(ALFA, GAMA, 0, 0, 0)?,
         credit(BETA, GAMA, 0, 0, 0)?,
     ];
-    assert_eq!(rt; report.uses.as_slice(), uses.as_slice());
+    assert!(rt; report.uses.as_slice() == uses.as_slice());
     let nets = [
         net(ALFA, b"EUR", 2_000_000)?,
         net(ALFA, b"USD", -2_168_400)?,
@@ -101,7 +98,7 @@ fn expect_trade<R: Abort>(rt: &R, report: &Report) -> Result<(), Fail> {
         net(GAMA, b"EUR", 0)?,
         net(GAMA, b"USD", 0)?,
     ];
-    assert_eq!(rt; report.nets.as_slice(), nets.as_slice());
+    assert!(rt; report.nets.as_slice() == nets.as_slice());
     Ok(())
 }
 

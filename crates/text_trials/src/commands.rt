@@ -34,9 +34,8 @@ fn units(number: u64) -> Result<Units, Fail> {
 
 fn expect_bad(rt: &impl Abort, alloc: Global, text: &[u8], reason: Reject) -> Result<(), Fail> {
     let spoken = command_from(&market(alloc)?, &whole(alloc, text)?);
-    assert_eq!(rt;
-        spoken,
-        Spoken::Of(bank(0)?, Command::Bad { reason }),
+    assert!(rt;
+        spoken == Spoken::Of(bank(0)?, Command::Bad { reason }),
         "{text:?}"
     );
     Ok(())
@@ -152,18 +151,18 @@ fn long_lines(rt: HostRuntime) -> Result<(), Fail> {
         Ok(Spoken::Of(bank(0)?, Command::Bad { reason }))
     };
     let longest = lettered(rt.alloc(), b"ALFA ", 251)?;
-    assert_eq!(rt; command_from(&session, &longest), bad(Reject::Word)?);
+    assert!(rt; command_from(&session, &longest) == bad(Reject::Word)?);
     let long = lettered(rt.alloc(), b"ALFA ", 252)?;
-    assert_eq!(rt; command_from(&session, &long), bad(Reject::Long)?);
-    assert_eq!(rt; journal_from(&session, &long), None);
+    assert!(rt; command_from(&session, &long) == bad(Reject::Long)?);
+    assert!(rt; journal_from(&session, &long) == None);
     let order = lettered(rt.alloc(), b"ALFA BUY EUR/USD 1.08420 3 DAY ", 300)?;
-    assert_eq!(rt; command_from(&session, &order), bad(Reject::Long)?);
+    assert!(rt; command_from(&session, &order) == bad(Reject::Long)?);
     let comment = lettered(rt.alloc(), b"# ALFA ", 300)?;
-    assert_eq!(rt; command_from(&session, &comment), Spoken::Passed);
+    assert!(rt; command_from(&session, &comment) == Spoken::Passed);
     let end = lettered(rt.alloc(), b"END ", 300)?;
-    assert_eq!(rt; command_from(&session, &end), Spoken::Stray);
+    assert!(rt; command_from(&session, &end) == Spoken::Stray);
     let stray = lettered(rt.alloc(), b"DELT ", 300)?;
-    assert_eq!(rt; command_from(&session, &stray), Spoken::Stray);
+    assert!(rt; command_from(&session, &stray) == Spoken::Stray);
     Ok(())
 }
 
@@ -183,13 +182,10 @@ fn lines_of_no_bank(rt: HostRuntime) -> Result<(), Fail> {
         (b"  #", Spoken::Passed),
     ] {
         let line = whole(rt.alloc(), text)?;
-        assert_eq!(rt; command_from(&session, &line), spoken, "{text:?}");
-        assert_eq!(rt; journal_from(&session, &line), None, "{text:?}");
+        assert!(rt; command_from(&session, &line) == spoken, "{text:?}");
+        assert!(rt; journal_from(&session, &line) == None, "{text:?}");
     }
-    assert_eq!(rt;
-        command_from(&session, &cut(rt.alloc(), b"END\r\n")?),
-        Spoken::End
-    );
+    assert!(rt; command_from(&session, &cut(rt.alloc(), b"END\r\n")?) == Spoken::End);
     Ok(())
 }
 
@@ -211,10 +207,10 @@ fn expect_recorded(
     text: &[u8],
 ) -> Result<(), Fail> {
     let recorded = journal_from(&market(alloc)?, &whole(alloc, text)?);
-    assert_eq!(rt; recorded, Some(entry), "{text:?}");
+    assert!(rt; recorded == Some(entry), "{text:?}");
     let mut line = b"> ".to_vec(alloc)?;
     line.extend_from_slice(text)?;
-    assert_eq!(rt; rewritten(alloc, text)?, line);
+    assert!(rt; rewritten(alloc, text)? == line);
     Ok(())
 }
 
@@ -222,7 +218,7 @@ fn expect_recorded(
 fn expect_text(rt: &impl Abort, alloc: Global, command: Command, text: &[u8]) -> Result<(), Fail> {
     let beta = bank(1)?;
     let spoken = command_from(&market(alloc)?, &whole(alloc, text)?);
-    assert_eq!(rt; spoken, Spoken::Of(beta, command), "{text:?}");
+    assert!(rt; spoken == Spoken::Of(beta, command), "{text:?}");
     expect_recorded(rt, alloc, (beta, command), text)
 }
 
@@ -291,7 +287,7 @@ fn blanks(rt: HostRuntime) -> Result<(), Fail> {
     let session = market(rt.alloc())?;
     let show = Command::Show { bank: bank(2)? };
     let line = cut(rt.alloc(), b"\tBETA  SHOW\t\tGAMA \r\n")?;
-    assert_eq!(rt; command_from(&session, &line), Spoken::Of(bank(1)?, show));
+    assert!(rt; command_from(&session, &line) == Spoken::Of(bank(1)?, show));
     Ok(())
 }
 
@@ -329,7 +325,7 @@ fn no_lines_of_a_journal(rt: HostRuntime) -> Result<(), Fail> {
         b"DELT BAD 1",
     ] {
         let line = whole(rt.alloc(), text)?;
-        assert_eq!(rt; journal_from(&session, &line), None, "{text:?}");
+        assert!(rt; journal_from(&session, &line) == None, "{text:?}");
     }
     Ok(())
 }

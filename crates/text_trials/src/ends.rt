@@ -101,9 +101,8 @@ fn a_memory_source_gives_the_least_of_three(rt: HostRuntime) -> Result<(), Fail>
         let bytes = TEXT.to_vec(rt.alloc())?;
         let mut source = MemorySource::new(bytes, most, Vec::new(rt.alloc()));
         for piece in pieces {
-            assert_eq!(rt;
-                read_eight(&rt, &mut source)?.as_slice(),
-                piece,
+            assert!(rt;
+                read_eight(&rt, &mut source)?.as_slice() == piece,
                 "most {most}"
             );
         }
@@ -124,19 +123,19 @@ fn a_memory_source_fails_at_its_calls_and_loses_nothing(rt: HostRuntime) -> Resu
         Ok(5),
         Ok(0),
     ] {
-        assert_eq!(rt; source.read(&mut into), read);
+        assert!(rt; source.read(&mut into) == read);
     }
-    assert_eq!(rt; into, *b"89abc567");
+    assert!(rt; into == *b"89abc567");
     Ok(())
 }
 
 #[test]
 fn a_sink_that_fails_at_its_third_call_holds_a_prefix(rt: HostRuntime) -> Result<(), Fail> {
     let mut sink = MemorySink::new(10, vec![in rt.alloc(); 3]?);
-    assert_eq!(rt; write_all(&mut sink, TEXT), Err(SinkFault::Failed));
-    assert_eq!(rt; sink.written(), b"FXBOOK 1\nBANK ALFA\nB".as_slice());
-    assert_eq!(rt; sink.write(b"ANK"), Ok(3));
-    assert_eq!(rt; sink.written(), b"FXBOOK 1\nBANK ALFA\nBANK".as_slice());
+    assert!(rt; write_all(&mut sink, TEXT) == Err(SinkFault::Failed));
+    assert!(rt; sink.written() == b"FXBOOK 1\nBANK ALFA\nB".as_slice());
+    assert!(rt; sink.write(b"ANK") == Ok(3));
+    assert!(rt; sink.written() == b"FXBOOK 1\nBANK ALFA\nBANK".as_slice());
     Ok(())
 }
 
@@ -144,9 +143,9 @@ fn a_sink_that_fails_at_its_third_call_holds_a_prefix(rt: HostRuntime) -> Result
 fn write_all_writes_each_byte_once(rt: HostRuntime) -> Result<(), Fail> {
     for most in [1, 3, 28, 29, 1000] {
         let mut sink = MemorySink::new(most, Vec::new(rt.alloc()));
-        assert_eq!(rt; write_all(&mut sink, b""), Ok(()));
-        assert_eq!(rt; write_all(&mut sink, TEXT), Ok(()));
-        assert_eq!(rt; sink.written(), TEXT, "most {most}");
+        assert!(rt; write_all(&mut sink, b"") == Ok(()));
+        assert!(rt; write_all(&mut sink, TEXT) == Ok(()));
+        assert!(rt; sink.written() == TEXT, "most {most}");
     }
     Ok(())
 }
@@ -157,14 +156,11 @@ fn the_steady_ends_give_and_take_all(rt: HostRuntime) -> Result<(), Fail> {
     let mut sink = SteadySink::new(rt.alloc());
     for _ in 0..4 {
         let piece = read_eight(&rt, &mut source)?;
-        assert_eq!(rt; sink.write(&piece), Ok(piece.len()));
+        assert!(rt; sink.write(&piece) == Ok(piece.len()));
     }
-    assert_eq!(rt; sink.written(), TEXT);
-    assert_eq!(rt; write_steadily(&mut sink, b"END\n"), Ok(()));
-    assert_eq!(rt;
-        sink.written(),
-        b"FXBOOK 1\nBANK ALFA\nBANK BETA\nEND\n".as_slice()
-    );
+    assert!(rt; sink.written() == TEXT);
+    assert!(rt; write_steadily(&mut sink, b"END\n") == Ok(()));
+    assert!(rt; sink.written() == b"FXBOOK 1\nBANK ALFA\nBANK BETA\nEND\n".as_slice());
     Ok(())
 }
 
@@ -175,16 +171,16 @@ fn std_ends_pass_bytes_on_and_answer_faults(rt: HostRuntime) -> Result<(), Fail>
     let mut sink = StdSink::new(&mut kept);
     for _ in 0..5 {
         let piece = read_eight(&rt, &mut source)?;
-        assert_eq!(rt; write_all(&mut sink, &piece), Ok(()));
+        assert!(rt; write_all(&mut sink, &piece) == Ok(()));
     }
-    assert_eq!(rt; kept.as_slice(), TEXT);
+    assert!(rt; kept.as_slice() == TEXT);
 
     let mut into = [b'.'; 8];
-    assert_eq!(rt; StdSource::new(Broken).read(&mut into), Err(ReadFailed));
-    assert_eq!(rt; into, [b'.'; 8]);
-    assert_eq!(rt; StdSink::new(Broken).write(b"text"), Err(SinkFault::Failed));
-    assert_eq!(rt; StdSink::new(Full).write(b"text"), Err(SinkFault::Failed));
-    assert_eq!(rt; StdSink::new(Full).write(b""), Ok(0));
+    assert!(rt; StdSource::new(Broken).read(&mut into) == Err(ReadFailed));
+    assert!(rt; into == [b'.'; 8]);
+    assert!(rt; StdSink::new(Broken).write(b"text") == Err(SinkFault::Failed));
+    assert!(rt; StdSink::new(Full).write(b"text") == Err(SinkFault::Failed));
+    assert!(rt; StdSink::new(Full).write(b"") == Ok(0));
     Ok(())
 }
 
@@ -198,21 +194,21 @@ fn std_ends_pass_each_byte_of_streams_that_go_by_threes(rt: HostRuntime) -> Resu
     let mut all = Vec::new(rt.alloc());
     for _ in 0..9 {
         let piece = read_eight(&rt, &mut source)?;
-        assert_eq!(rt; piece.len(), 3);
+        assert!(rt; piece.len() == 3);
         all.extend_from_slice(&piece)?;
     }
     all.extend_from_slice(&read_eight(&rt, &mut source)?)?;
-    assert_eq!(rt; all.as_slice(), TEXT);
-    assert_eq!(rt; read_eight(&rt, &mut source)?.len(), 0);
+    assert!(rt; all.as_slice() == TEXT);
+    assert!(rt; read_eight(&rt, &mut source)?.len() == 0);
 
     let mut writer = ByThrees {
         left: b"",
         kept: Vec::new(rt.alloc()),
     };
     let mut sink = StdSink::new(&mut writer);
-    assert_eq!(rt; sink.write(b"FXBOOK 1\n"), Ok(3));
-    assert_eq!(rt; write_all(&mut sink, b"OOK 1\n"), Ok(()));
-    assert_eq!(rt; write_all(&mut sink, b"BANK ALFA\nBANK BETA\n"), Ok(()));
-    assert_eq!(rt; writer.kept.as_slice(), TEXT);
+    assert!(rt; sink.write(b"FXBOOK 1\n") == Ok(3));
+    assert!(rt; write_all(&mut sink, b"OOK 1\n") == Ok(()));
+    assert!(rt; write_all(&mut sink, b"BANK ALFA\nBANK BETA\n") == Ok(()));
+    assert!(rt; writer.kept.as_slice() == TEXT);
     Ok(())
 }

@@ -16,7 +16,7 @@ fn assert_fault(
 ) -> Result<(), Memory> {
     match read(alloc, text)?.answer {
         Err(HeadStop::Fault { line: at, reason }) => {
-            assert_eq!(rt; (at, reason.code()), (line, code), "{text:?}");
+            assert!(rt; (at, reason.code()) == (line, code), "{text:?}");
         }
         _ => assert!(rt; false, "no fault in {text:?}"),
     }
@@ -197,18 +197,18 @@ START
 #[test]
 fn whole_header(rt: HostRuntime) -> Result<(), Fail> {
     let alloc = rt.alloc();
-    assert_eq!(rt; read(alloc, WHOLE)?.answer, Ok(HeadStep::Start));
+    assert!(rt; read(alloc, WHOLE)?.answer == Ok(HeadStep::Start));
     let session = session(alloc, WHOLE)?;
-    assert_eq!(rt; session.banks().len(), 3);
-    assert_eq!(rt; session.pairs().len(), 3);
+    assert!(rt; session.banks().len() == 3);
+    assert!(rt; session.pairs().len() == 3);
     let alfa = session.bank_named(b"ALFA").ok_or("no ALFA")?;
     let beta = session.bank_named(b"BETA").ok_or("no BETA")?;
     let gama = session.bank_named(b"GAMA").ok_or("no GAMA")?;
-    assert_eq!(rt; session.limit(alfa, beta).get(), 12);
-    assert_eq!(rt; session.limit(beta, alfa).get(), 21);
-    assert_eq!(rt; session.limit(alfa, gama).get(), 0);
-    assert_eq!(rt; session.limit(gama, alfa).get(), 1_000_000_000_000_000);
-    assert_eq!(rt; session.limit(beta, gama).get(), 0);
+    assert!(rt; session.limit(alfa, beta).get() == 12);
+    assert!(rt; session.limit(beta, alfa).get() == 21);
+    assert!(rt; session.limit(alfa, gama).get() == 0);
+    assert!(rt; session.limit(gama, alfa).get() == 1_000_000_000_000_000);
+    assert!(rt; session.limit(beta, gama).get() == 0);
     Ok(())
 }
 
@@ -218,11 +218,11 @@ fn one_spelling(rt: HostRuntime) -> Result<(), Fail> {
     let mut text = b"before ".to_vec(alloc)?;
     head_text(&session(alloc, WHOLE)?, &mut text)?;
     let (front, head) = text.split_at(7);
-    assert_eq!(rt; front, b"before ".as_slice());
-    assert_eq!(rt; head, SPELLED);
+    assert!(rt; front == b"before ".as_slice());
+    assert!(rt; head == SPELLED);
     let mut again = Vec::new(alloc);
     head_text(&session(alloc, SPELLED)?, &mut again)?;
-    assert_eq!(rt; again.as_slice(), SPELLED);
+    assert!(rt; again.as_slice() == SPELLED);
     Ok(())
 }
 
@@ -233,16 +233,16 @@ fn the_most(rt: HostRuntime) -> Result<(), Fail> {
     push_pairs(32, &mut text)?;
     text.extend_from_slice(b"LINE B163 B100 5\nLINE B162 B163 6\nSTART\n")?;
     let session = session(alloc, &text)?;
-    assert_eq!(rt; session.banks().len(), BankId::COUNT);
-    assert_eq!(rt; session.pairs().len(), 32);
+    assert!(rt; session.banks().len() == BankId::COUNT);
+    assert!(rt; session.pairs().len() == 32);
     let first = session.bank_named(b"B100").ok_or("no first bank")?;
     let last = session.bank_named(b"B163").ok_or("no last bank")?;
     let other = session
         .bank_named(b"B162")
         .ok_or("no bank before the last")?;
-    assert_eq!(rt; session.limit(last, first).get(), 5);
-    assert_eq!(rt; session.limit(other, last).get(), 6);
-    assert_eq!(rt; session.limit(first, last).get(), 0);
+    assert!(rt; session.limit(last, first).get() == 5);
+    assert!(rt; session.limit(other, last).get() == 6);
+    assert!(rt; session.limit(first, last).get() == 0);
     Ok(())
 }
 

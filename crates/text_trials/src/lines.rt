@@ -64,7 +64,7 @@ fn a_session_is_cut_alike(rt: HostRuntime) -> Result<(), Fail> {
         (false, b"ALFA BUY EUR/USD 1.08425 3 DAY"),
         (false, b"END"),
     ];
-    assert_eq!(rt; SESSION.len(), 198);
+    assert!(rt; SESSION.len() == 198);
     assert!(rt; cuts_alike(rt.alloc(), SESSION, &lines, false)?);
     Ok(())
 }
@@ -158,7 +158,7 @@ fn lines_are_passed_over(rt: HostRuntime) -> Result<(), Fail> {
         } else {
             Line::Whole(bytes)
         };
-        assert_eq!(rt; line.is_passed_over(), *passed, "case {at}");
+        assert!(rt; line.is_passed_over() == *passed, "case {at}");
     }
     Ok(())
 }
@@ -166,7 +166,7 @@ fn lines_are_passed_over(rt: HostRuntime) -> Result<(), Fail> {
 #[test]
 fn fields_are_counted_and_kept(rt: HostRuntime) {
     let all = fields(b" 0 1\t2  3 4 5 6 seven 8 9\t ");
-    assert_eq!(rt; all.count(), 10);
+    assert!(rt; all.count() == 10);
     assert!(rt; all.get(0).is_some_and(|field| field == b"0".as_slice()));
     assert!(rt; all.get(7).is_some_and(|field| field == b"seven".as_slice()));
     assert!(rt; all.get(8).is_none());
@@ -176,25 +176,22 @@ fn fields_are_counted_and_kept(rt: HostRuntime) {
             .is_some_and(|field| field == b"ALFA\xff".as_slice())
     );
     assert!(rt; two.get(2).is_none());
-    assert_eq!(rt; fields(b" \t ").count(), 0);
+    assert!(rt; fields(b" \t ").count() == 0);
 }
 
 #[test]
 fn numbers_are_read(rt: HostRuntime) {
-    assert_eq!(rt; number(b"0", 0, 9), Some(0));
-    assert_eq!(rt; number(b"1000000", 1, 1_000_000), Some(1_000_000));
-    assert_eq!(rt;
-        number(b"18446744073709551615", 0, u64::MAX),
-        Some(u64::MAX)
-    );
-    assert_eq!(rt; number(b"18446744073709551616", 0, u64::MAX), None);
-    assert_eq!(rt; number(b"", 0, 9), None);
-    assert_eq!(rt; number(b"05", 0, 9), None);
-    assert_eq!(rt; number(b"00", 0, 9), None);
-    assert_eq!(rt; number(b"+5", 0, 9), None);
-    assert_eq!(rt; number(b"5 ", 0, 9), None);
-    assert_eq!(rt; number(b"10", 0, 9), None);
-    assert_eq!(rt; number(b"4", 5, 9), None);
+    assert!(rt; number(b"0", 0, 9) == Some(0));
+    assert!(rt; number(b"1000000", 1, 1_000_000) == Some(1_000_000));
+    assert!(rt; number(b"18446744073709551615", 0, u64::MAX) == Some(u64::MAX));
+    assert!(rt; number(b"18446744073709551616", 0, u64::MAX) == None);
+    assert!(rt; number(b"", 0, 9) == None);
+    assert!(rt; number(b"05", 0, 9) == None);
+    assert!(rt; number(b"00", 0, 9) == None);
+    assert!(rt; number(b"+5", 0, 9) == None);
+    assert!(rt; number(b"5 ", 0, 9) == None);
+    assert!(rt; number(b"10", 0, 9) == None);
+    assert!(rt; number(b"4", 5, 9) == None);
 }
 
 #[test]
@@ -228,8 +225,8 @@ fn what_is_pushed_is_the_one_spelling(rt: HostRuntime) -> Result<(), Fail> {
         let price = Price::new(*ticks).ok_or("ticks")?;
         push_price(price, *decimals, &mut text)?;
         assert!(rt; text.as_slice() == *want, "case {at}");
-        assert_eq!(rt; price_from(&text, *decimals), Ok(price), "case {at}");
+        assert!(rt; price_from(&text, *decimals) == Ok(price), "case {at}");
     }
-    assert_eq!(rt; price_from(b"1.0842", 5), Err(PriceFault::Form));
+    assert!(rt; price_from(b"1.0842", 5) == Err(PriceFault::Form));
     Ok(())
 }

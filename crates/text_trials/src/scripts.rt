@@ -46,10 +46,10 @@ fn read(
 fn expect_script(rt: &impl Abort, got: &Result<Script, Stop>, sent: &[Sent], strays: u64) {
     match got {
         Ok(script) => {
-            assert_eq!(rt; script.session.banks().len(), 2);
-            assert_eq!(rt; script.session.pairs().len(), 1);
-            assert_eq!(rt; script.sent.as_slice(), sent);
-            assert_eq!(rt; script.strays, strays);
+            assert!(rt; script.session.banks().len() == 2);
+            assert!(rt; script.session.pairs().len() == 1);
+            assert!(rt; script.sent.as_slice() == sent);
+            assert!(rt; script.strays == strays);
         }
         Err(stop) => assert!(rt; false, "{stop:?}"),
     }
@@ -72,7 +72,7 @@ fn expect_in_pieces(
 fn expect_stop(rt: &impl Abort, got: &Result<Script, Stop>, stop: Stop) {
     match got {
         Ok(script) => assert!(rt; false, "{script:?}"),
-        Err(got) => assert_eq!(rt; *got, stop),
+        Err(got) => assert!(rt; *got == stop),
     }
 }
 
