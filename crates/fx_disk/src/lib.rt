@@ -5,8 +5,14 @@
 // what a crash may leave is defined; `FileDisk` is a real file and tells nothing.
 #![tactic(auto)]
 
+mod call;
 mod disk;
 mod file_disk;
+mod memory_disk;
+mod steady_disk;
+mod tape;
 
 pub use disk::{Disk, DiskStop};
 pub use file_disk::FileDisk;
+pub use memory_disk::MemoryDisk;
+pub use steady_disk::SteadyDisk;
