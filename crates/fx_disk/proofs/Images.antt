@@ -67,9 +67,9 @@ module _ (synced : List ℕ) (ranges : List (ℕ × ℕ)) (at n : ℕ) (image : 
     restored_stays k within outside = elim (cases_lt k at) [
       | inl front ↦ same_outside k (omega (arith, within, synced_in_cut)) (inl front) ∙ may.stays k within (inl front, outside)
       | inr from ↦ elim (cases_lt k (at + n)) [
-          | inl below ↦ same_inside k within from below
-          | inr behind ↦ same_outside k (omega (arith, within, synced_in_cut)) (inr behind) ∙ may.stays k within (inr behind, outside)
-        ]
+        | inl below ↦ same_inside k within from below
+        | inr behind ↦ same_outside k (omega (arith, within, synced_in_cut)) (inr behind) ∙ may.stays k within (inr behind, outside)
+      ]
     ]
 
     pub restored_may_leave : MayLeave synced ranges restored
@@ -84,18 +84,18 @@ module _ (synced : List ℕ) (ranges : List (ℕ × ℕ)) (at n : ℕ) (image : 
       front_same = ext_get_or 0 _ _
           (length-take at image ∙ omega (arith, le, length-restored, length-cut, length-take at restored))
           (λ i below.
-              let long = length-take at image in
-              let front : i < at = omega (arith, below, long) in
-              let within : i < length cut = omega (arith, below, long, le, length-cut) in
-              get_or-take at image i 0 front ∙ sym (same_outside i within (inl front)) ∙ sym (get_or-take at restored i 0 front))
+          let long = length-take at image in
+          let front : i < at = omega (arith, below, long) in
+          let within : i < length cut = omega (arith, below, long, le, length-cut) in
+          get_or-take at image i 0 front ∙ sym (same_outside i within (inl front)) ∙ sym (get_or-take at restored i 0 front))
 
       behind_same : drop (at + n) image ≡ drop (at + n) restored
       behind_same = ext_get_or 0 _ _
           (length-drop (at + n) image ∙ omega (arith, le, length-restored, length-cut, may.no_longer, length-drop (at + n) restored))
           (λ i below.
-              let long = length-drop (at + n) image in
-              let within : at + n + i < length cut = omega (arith, below, long, le, length-cut, may.no_longer) in
-              get_or-drop (at + n) image i 0 ∙ sym (same_outside (at + n + i) within (inr (omega arith))) ∙ sym (get_or-drop (at + n) restored i 0))
+          let long = length-drop (at + n) image in
+          let within : at + n + i < length cut = omega (arith, below, long, le, length-cut, may.no_longer) in
+          get_or-drop (at + n) image i 0 ∙ sym (same_outside (at + n + i) within (inr (omega arith))) ∙ sym (get_or-drop (at + n) restored i 0))
 
       pub restored_torn : Torn at n restored image
       restored_torn = record {

@@ -10,14 +10,14 @@ pub returns-in-Err-clause-failed : goal.returns-in-Err-clause-failed
 returns-in-Err-clause-failed c =
     let was : c.self.inside.tape ≡ c.args.self.now.tape = ap (λ (d : FailingDisk). d.tape) c.self.view_is ∙ ap (λ (d : FailingDisk). d.tape) c.in-Err.ensures.failed in
     λ _. broken_reads c.args.self.now.tape _ c.args.at (length c.args.piece.now)
-        (subst (λ (t : Tape). Added t (Broke c.args.at (length c.args.piece.now)) c.note_broken.new.self) was c.in-Ok-note_broken.ensures.noted)
+    (subst (λ (t : Tape). Added t (Broke c.args.at (length c.args.piece.now)) c.note_broken.new.self) was c.in-Ok-note_broken.ensures.noted)
 
 pub returns-in-Err-clause-torn : goal.returns-in-Err-clause-torn
 returns-in-Err-clause-torn c =
     let was : c.self.inside.tape ≡ c.args.self.now.tape = ap (λ (d : FailingDisk). d.tape) c.self.view_is ∙ ap (λ (d : FailingDisk). d.tape) c.in-Err.ensures.failed in
     λ old image not_memory. broken_torn c.args.self.now.tape _ c.args.at (length c.args.piece.now)
-        (subst (λ (t : Tape). Added t (Broke c.args.at (length c.args.piece.now)) c.note_broken.new.self) was c.in-Ok-note_broken.ensures.noted)
-        old image
+    (subst (λ (t : Tape). Added t (Broke c.args.at (length c.args.piece.now)) c.note_broken.new.self) was c.in-Ok-note_broken.ensures.noted)
+    old image
 
 pub returns-in-Err-clause-images : goal.returns-in-Err-clause-images
 returns-in-Err-clause-images c =
