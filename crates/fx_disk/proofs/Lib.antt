@@ -1,0 +1,4 @@
+pub mod Images
+pub mod Leaving
+pub mod Moments
+pub mod Untold

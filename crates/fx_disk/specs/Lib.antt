@@ -1,0 +1,5 @@
+pub mod Disk
+pub mod InMemory
+pub mod Model
+pub mod ModelLaws
+pub mod Untold

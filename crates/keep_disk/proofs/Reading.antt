@@ -1,0 +1,153 @@
+-- How a journal file is read.
+use Rattle.std.proofs.Common.{◌≡◌, ◌⊎◌, inl, inr, ℕ, zero, suc, ◌+◌, ◌-◌, ◌^◌, ◌<◌, ◌≤◌, Bool, true, false, cond, List, [], ◌∷◌, ◌++◌, length, take, drop, get_or, refl, sym, ◌∙◌, ap, subst, arith, append_assoc, append-nil, length-append, length-drop, w64, take_at, take_all}
+use Rattle.std.specs.Int.{to_be_bytes, from_be_bytes}
+use Rattle.std.proofs.lemmas.Nat.{from_be_bytes-to_be_bytes_8}
+use Rattle.std.proofs.lemmas.List.{drop_at, drop_more, length-take}
+use Rattle.std.proofs.lemmas.Bool.{cases_Bool, cases_eq, cases_lt}
+use Rattle.std.proofs.lemmas.Bool.Decides.{nat_tests}
+use Rattle.keep_disk.specs.Blocks.{body_length, body_of, opens, blocks_from, whole_blocks, space}
+
+-- Lists
+
+pub take_shorter : (n p : ℕ) (xs ys : List ℕ) → n ≤ p → take p xs ≡ take p ys → take n xs ≡ take n ys
+take_shorter zero p xs ys le e = refl
+take_shorter (suc n) zero xs ys le e = absurd (omega arith)
+take_shorter (suc n) (suc p) [] [] le e = refl
+take_shorter (suc n) (suc p) [] (y ∷ ys) le e = absurd (cc)
+take_shorter (suc n) (suc p) (x ∷ xs) [] le e = absurd (cc)
+take_shorter (suc n) (suc p) (x ∷ xs) (y ∷ ys) le e =
+    let head : x ≡ y = ap (λ (l : List ℕ). get_or l 0 0) e in
+    let tail : take p xs ≡ take p ys = ap (λ (l : List ℕ). drop 1 l) e in
+    ap (λ (l : List ℕ). x ∷ l) (take_shorter n p xs ys (omega arith) tail) ∙ ap (λ (h : ℕ). h ∷ take n ys) head
+
+-- Blocks
+
+pub space-append : (xs ys : List (List ℕ)) → space (xs ++ ys) ≡ space xs + space ys
+space-append [] ys = omega arith
+space-append (x ∷ xs) ys = let e = space-append xs ys in omega arith
+
+opens_facts : (gate : ℕ) (rest : List ℕ) → opens gate rest ≡ true → (gate ≡ 1) × (8 + body_length rest < length rest)
+unfolding opens
+opens_facts gate rest e = elim (cases_eq gate 1) [
+  | inl one ↦ (one, elim (cases_lt (8 + body_length rest) (length rest)) [ inl lt ↦ lt | inr ge ↦ absurd (grind (arith, nat_tests)) ])
+  | inr other ↦ absurd (grind (arith, nat_tests))
+]
+
+pub opens_true : (gate : ℕ) (rest : List ℕ) → gate ≡ 1 → 8 + body_length rest < length rest → opens gate rest ≡ true
+unfolding opens
+opens_true gate rest one lt = grind (arith, nat_tests)
+
+pub opens_other : (gate : ℕ) (rest : List ℕ) → (gate ≡ 1 → ⊥) → opens gate rest ≡ false
+unfolding opens
+opens_other gate rest other = grind (arith, nat_tests)
+
+pub blocks_open : (gate : ℕ) (rest : List ℕ) → opens gate rest ≡ true → blocks_from 0 (gate ∷ rest) ≡ body_of rest ∷ blocks_from (8 + body_length rest) rest
+blocks_open gate rest e = ap (λ (t : Bool). cond t (body_of rest ∷ blocks_from (8 + body_length rest) rest) []) e
+
+pub blocks_shut : (gate : ℕ) (rest : List ℕ) → opens gate rest ≡ false → blocks_from 0 (gate ∷ rest) ≡ []
+blocks_shut gate rest e = ap (λ (t : Bool). cond t (body_of rest ∷ blocks_from (8 + body_length rest) rest) []) e
+
+-- a gate that doesn't say 1 opens none
+pub blocks_closed : (gate : ℕ) (rest : List ℕ) → (gate ≡ 1 → ⊥) → blocks_from 0 (gate ∷ rest) ≡ []
+blocks_closed gate rest other = blocks_shut gate rest (opens_other gate rest other)
+
+pub blocks_skip : (place : ℕ) (file : List ℕ) → blocks_from place file ≡ blocks_from 0 (drop place file)
+blocks_skip zero file = refl
+blocks_skip (suc place) [] = refl
+blocks_skip (suc place) (b ∷ file) = blocks_skip place file
+
+pub length-body_of : (rest : List ℕ) → 8 + body_length rest < length rest → length (body_of rest) ≡ body_length rest
+unfolding body_of
+length-body_of rest lt = length-drop 8 (take (8 + body_length rest) rest) ∙ ap (λ (n : ℕ). n - 8) (length-take (8 + body_length rest) rest) ∙ omega arith
+
+same_length : (xs ys : List ℕ) (p : ℕ) → 8 ≤ p → take p xs ≡ take p ys → body_length xs ≡ body_length ys
+unfolding body_length
+same_length xs ys p le e = ap (λ (l : List ℕ). from_be_bytes w64 l) (take_shorter 8 p xs ys le e)
+
+same_body : (xs ys : List ℕ) (p : ℕ) → 8 + body_length ys ≤ p → body_length xs ≡ body_length ys → take p xs ≡ take p ys → body_of xs ≡ body_of ys
+unfolding body_of
+same_body xs ys p le same e =
+    ap (λ (n : ℕ). drop 8 (take (8 + n) xs)) same ∙ ap (λ (l : List ℕ). drop 8 l) (take_shorter (8 + body_length ys) p xs ys le e)
+
+-- The bytes of a file's whole blocks, and anything behind them with a gate, have those blocks and then what
+-- stands behind: whole blocks are never read again.
+pub blocks_behind : (skip : ℕ) (file image : List ℕ) (place : ℕ) → place ≡ skip + space (blocks_from skip file) → place < length image → take place image ≡ take place file
+    → blocks_from skip image ≡ blocks_from skip file ++ blocks_from 0 (drop place image)
+blocks_behind skip [] image place is within e =
+    let same : skip ≡ place = omega arith in
+    blocks_skip skip image ∙ ap (λ (p : ℕ). blocks_from 0 (drop p image)) same
+blocks_behind (suc s) (f ∷ fs) [] place is within e = absurd (omega arith)
+blocks_behind (suc s) (f ∷ fs) (i ∷ image) zero is within e = absurd (omega arith)
+blocks_behind (suc s) (f ∷ fs) (i ∷ image) (suc p) is within e =
+    blocks_behind s fs image p (omega arith) (omega arith) (ap (λ (l : List ℕ). drop 1 l) e)
+blocks_behind zero (gate ∷ rest) [] place is within e = absurd (omega arith)
+blocks_behind zero (gate ∷ rest) (i ∷ image) zero is within e = elim (cases_Bool (opens gate rest)) [
+  | inl wide ↦ let shape = ap space (blocks_open gate rest wide) in absurd (omega arith)
+  | inr shut ↦ ap (λ (bs : List (List ℕ)). bs ++ blocks_from 0 (i ∷ image)) (sym (blocks_shut gate rest shut))
+]
+blocks_behind zero (gate ∷ rest) (i ∷ image) (suc p) is within e = elim (cases_Bool (opens gate rest)) [
+  | inl wide ↦
+      let facts = opens_facts gate rest wide in
+      let shape = ap space (blocks_open gate rest wide) in
+      let long = length-body_of rest facts.1 in
+      let far : p ≡ (8 + body_length rest) + space (blocks_from (8 + body_length rest) rest) = omega (arith, is, shape, long) in
+      let head : i ≡ gate = ap (λ (l : List ℕ). get_or l 0 0) e in
+      let tail : take p image ≡ take p rest = ap (λ (l : List ℕ). drop 1 l) e in
+      let inner : p < length image = omega arith in
+      let rec = blocks_behind (8 + body_length rest) rest image p far inner tail in
+      let len : body_length image ≡ body_length rest = same_length image rest p (omega (arith, far)) tail in
+      let body : body_of image ≡ body_of rest = same_body image rest p (omega (arith, far)) len tail in
+      let wide_too : opens i image ≡ true = opens_true i image (head ∙ facts.0) (omega (arith, far, inner, len)) in
+      blocks_open i image wide_too
+      ∙ ap (λ (b : List ℕ). b ∷ blocks_from (8 + body_length image) image) body
+      ∙ ap (λ (n : ℕ). body_of rest ∷ blocks_from (8 + n) image) len
+      ∙ ap (λ (bs : List (List ℕ)). body_of rest ∷ bs) rec
+      ∙ ap (λ (bs : List (List ℕ)). bs ++ blocks_from 0 (drop p image)) (sym (blocks_open gate rest wide))
+  | inr shut ↦ let shape = ap space (blocks_shut gate rest shut) in absurd (omega arith)
+]
+
+-- One block
+
+pub length-to_be : (n : ℕ) → length (to_be_bytes w64 n) ≡ 8
+length-to_be n = refl
+
+module _ (body junk : List ℕ) (fits : length body < 2 ^ 64) where
+  abbrev head : List ℕ
+  head = to_be_bytes w64 (length body)
+
+  abbrev pub framed : List ℕ
+  framed = head ++ body ++ 0 ∷ junk
+
+  framed_split : framed ≡ head ++ (body ++ 0 ∷ junk)
+  framed_split = append_assoc head body (0 ∷ junk)
+
+  pub framed_length : body_length framed ≡ length body
+  unfolding body_length
+  framed_length =
+      ap (λ (l : List ℕ). from_be_bytes w64 (take 8 l)) framed_split
+      ∙ ap (λ (l : List ℕ). from_be_bytes w64 l) (take_at head (body ++ 0 ∷ junk) 8 refl)
+      ∙ from_be_bytes-to_be_bytes_8 (length body) fits
+
+  front_long : length (head ++ body) ≡ 8 + length body
+  front_long = length-append head body ∙ omega (arith, length-to_be (length body))
+
+  pub framed_body : body_of framed ≡ body
+  unfolding body_of
+  framed_body =
+      ap (λ (n : ℕ). drop 8 (take (8 + n) framed)) framed_length
+      ∙ ap (λ (l : List ℕ). drop 8 l) (take_at (head ++ body) (0 ∷ junk) (8 + length body) front_long)
+      ∙ drop_at head body 8 refl
+
+  pub framed_long : 8 + length body < length framed
+  framed_long = omega (arith, length-append (head ++ body) (0 ∷ junk), front_long)
+
+  framed_end : drop (8 + length body) framed ≡ 0 ∷ junk
+  framed_end = drop_at (head ++ body) (0 ∷ junk) (8 + length body) front_long
+
+  -- behind a gate of 1 it is the one block
+  pub blocks_framed : (gate : ℕ) → gate ≡ 1 → blocks_from 0 (gate ∷ framed) ≡ body ∷ []
+  blocks_framed gate one =
+      blocks_open gate framed (opens_true gate framed one (omega (arith, framed_length, framed_long)))
+      ∙ ap (λ (b : List ℕ). b ∷ blocks_from (8 + body_length framed) framed) framed_body
+      ∙ ap (λ (n : ℕ). body ∷ blocks_from (8 + n) framed) framed_length
+      ∙ ap (λ (bs : List (List ℕ)). body ∷ bs) (blocks_skip (8 + length body) framed ∙ ap (λ (l : List ℕ). blocks_from 0 l) framed_end ∙ blocks_closed 0 junk (λ e. absurd (omega arith)))

@@ -1,0 +1,20 @@
+-- A disk between two calls of a keeper.
+use Rattle.std.specs.Prelude.{◌≡◌, ℕ, ◌+◌, ◌≤◌, List, length, Option, Result, IsErrOf}
+use Rattle.fx_edges.specs.Faults.{Rose}
+use Rattle.fx_disk.specs.Disk.{WhereTold, Only, Torn}
+use Rattle.keep_disk.specs.declared.write.KeepFault.{KeepFault}
+use Rattle.keep_disk.specs.declared.write.KeepFault.TheVariants.{Disk}
+use Rattle.keep_disk.specs.Blocks.{IsClosedAt}
+
+-- where the disk tells its bytes, they are the one image, and are closed at this place
+abbrev pub AtRest : {D : Type 0} → (D → Option (List ℕ)) → (D → List ℕ → Type 0) → D → ℕ → Type 0
+AtRest bytes may_leave disk place = WhereTold (bytes disk) (λ file. IsClosedAt file place × Only file (may_leave disk))
+
+-- one of these images, after a write of n bytes that a crash cut short
+abbrev pub TornFrom : ℕ → ℕ → (List ℕ → Type 0) → List ℕ → Type 0
+TornFrom at n images image = (old : List ℕ) × images old × Torn at n old image
+
+-- the count didn't fall, and rose where the call answers a fault of the disk
+pub record HasCause {D T : Type 0} (faults : D → ℕ) (before now : D) (result : Result T KeepFault) : Type 0 where
+  pub count : faults before ≤ faults now
+  pub cause : IsErrOf result Disk → Rose (faults before) (faults now)

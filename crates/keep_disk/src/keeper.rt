@@ -1,0 +1,89 @@
+ghost use Rattle.std.specs.Prelude.{◌≡◌, ℕ, ◌+◌, ◌<◌, ◌^◌, ◌++◌, [], ◌∷◌, List, length, Option, MatchOption, IfSome, IfOk, OnOk};
+ghost use Rattle.std.specs.Int.{to_be_bytes};
+ghost use Rattle.std.proofs.Common.{w64};
+ghost use Rattle.fx_disk.specs.Disk.{WhereTold, LeavesOnly};
+ghost use Rattle.keep_disk.specs.Blocks.{whole_blocks, HasOrLacks};
+ghost use Rattle.keep_disk.specs.Keeping.{AtRest, HasCause};
+
+use crate::body::Body;
+use crate::write::{KeepFault, write_synced};
+use fx_disk::Disk;
+use std::alloc::{AllocError, Global};
+
+/// A gate that opens the block behind it.
+const OPEN: u8 = 1;
+
+/// A gate that closes the file.
+const CLOSED: u8 = 0;
+
+/// The bytes of a block beside its body: its length, and the gate behind it.
+const FRAME: u64 = 9;
+
+/// What opened a journal file: its whole blocks then, and the place of its last gate now.
+#[derive(Drop)]
+pub struct Keeper {
+    bodies: Vec<Body>,
+    place: u64,
+}
+
+// The place of the gate behind a block of a body of this length, where it fits 64 bits.
+fn place_behind(place: u64, body: &[u8]) -> Option<u64>
+    ensures next { IfSome result (λ next. next ≡ place + 9 + length body.now) }
+    ensures fits { length body.now < 2 ^ 64 }
+{
+    place.checked_add(FRAME)?.checked_add(body.len() as u64)
+}
+
+// The length, the body and a closed gate.
+fn block_of(alloc: Global, body: &[u8]) -> Result<Vec<u8>, AllocError>
+    ensures { IfOk result (λ block. block.items ≡ to_be_bytes w64 (length body.now) ++ body.now ++ 0 ∷ []) }
+{
+    let length = body.len() as u64;
+    let mut block = length.to_be_bytes().to_vec(alloc)?;
+    block.extend_from_slice(body)?;
+    block.push(CLOSED)?;
+    Ok(block)
+}
+
+impl Keeper {
+    /// The whole blocks that the file had when it was opened.
+    pub fn bodies(&self) -> &[Body]
+        ensures { result.now ≡ self.now.bodies.items }
+    {
+        self.bodies.as_slice()
+    }
+
+    /// Appends a block of this body: its bytes and a closed gate behind the last gate, and then, once
+    /// those are synced, that gate's 1. It takes its memory before the first write.
+    ///
+    /// At every moment of the call a crash leaves the blocks from before it, with the new one or
+    /// without, and after `Ok` with it. After a fault the file is to be opened again.
+    pub fn append<D: Disk>(&mut self, disk: &mut D, body: &[u8]) -> Result<(), KeepFault>
+        requires { AtRest D.bytes D.may_leave disk.old self.old.place }
+        ensures every_moment { WhereTold (D.bytes disk.old) (λ file.
+            LeavesOnly D.moment D.left_since disk.old disk.new (HasOrLacks (whole_blocks file) body.now)) }
+        ensures appended { OnOk result (WhereTold (D.bytes disk.old) (λ file. (image : List ℕ) →
+            D.may_leave disk.new image → whole_blocks image ≡ whole_blocks file ++ body.now ∷ [])) }
+        ensures at_rest { OnOk result (AtRest D.bytes D.may_leave disk.new self.new.place) }
+        ensures bodies { self.new.bodies ≡ self.old.bodies }
+        ensures cause { HasCause D.faults disk.old disk.new result }
+    {
+        let Some(next) = place_behind(self.place, body) else {
+            return Err(KeepFault::Memory);
+        };
+        let block = match block_of(*self.bodies.allocator(), body) {
+            Ok(block) => block,
+            Err(_) => return Err(KeepFault::Memory),
+        };
+        match write_synced(disk, self.place + 1, &block) {
+            Ok(()) => {}
+            Err(fault) => return Err(fault),
+        }
+        match write_synced(disk, self.place, &[OPEN]) {
+            Ok(()) => {}
+            Err(fault) => return Err(fault),
+        }
+        self.place = next;
+        Ok(())
+    }
+}

@@ -1,0 +1,10 @@
+// The journal file: blocks that are each on the disk before they count, opened again after any crash.
+#![tactic(auto)]
+
+mod body;
+mod keeper;
+mod write;
+
+pub use body::Body;
+pub use keeper::Keeper;
+pub use write::KeepFault;

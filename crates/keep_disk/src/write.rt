@@ -1,0 +1,48 @@
+ghost use Rattle.std.specs.Prelude.{◌≡◌, ℕ, ◌+◌, ◌≤◌, List, length, Option, option_map, OnOk};
+ghost use Rattle.fx_disk.specs.Disk.{WhereTold, with_piece, Only, LeavesOnly};
+ghost use Rattle.keep_disk.specs.Keeping.{TornFrom, HasCause};
+
+use fx_disk::{Disk, DiskStop};
+use thiserror::Error;
+
+/// Why a keeper gave up. After either the file is to be opened again.
+#[derive(Clone, Copy, Debug, Error, PartialEq, Eq)]
+pub enum KeepFault {
+    /// The disk failed, and its count of faults rose.
+    #[error("the disk failed")]
+    Disk,
+    /// There wasn't enough memory.
+    #[error("out of memory")]
+    Memory,
+}
+
+/// The fault that a disk's stop is to a keeper.
+pub(crate) fn fault_of(stop: DiskStop) -> KeepFault
+    ensures { result ≡ KeepFault.Disk → stop ≡ DiskStop.Failed }
+{
+    match stop {
+        DiskStop::Failed => KeepFault::Disk,
+        DiskStop::Memory => KeepFault::Memory,
+    }
+}
+
+/// Writes a piece and syncs. At every moment of it a crash leaves an image from before, with any
+/// bytes in the piece's range; after `Ok` it leaves what a read gives.
+pub(crate) fn write_synced<D: Disk>(disk: &mut D, at: u64, piece: &[u8]) -> Result<(), KeepFault>
+    requires { WhereTold (D.bytes disk.old) (λ file. at ≤ length file) }
+    ensures bytes { OnOk result (D.bytes disk.new ≡ option_map (with_piece at piece.now) (D.bytes disk.old)) }
+    ensures durable { OnOk result (WhereTold (D.bytes disk.new) (λ file. Only file (D.may_leave disk.new))) }
+    ensures every_moment { LeavesOnly D.moment D.left_since disk.old disk.new
+        (TornFrom at (length piece.now) (D.may_leave disk.old)) }
+    ensures cause { HasCause D.faults disk.old disk.new result }
+{
+    match disk.write_at(at, piece) {
+        Ok(()) => {}
+        Err(stop) => return Err(fault_of(stop)),
+    }
+    match disk.sync() {
+        Ok(()) => {}
+        Err(stop) => return Err(fault_of(stop)),
+    }
+    Ok(())
+}
