@@ -7,3 +7,4 @@ pub mod Meeting
 pub mod Paying
 pub mod Raising
 pub mod Going
+pub mod Quiet

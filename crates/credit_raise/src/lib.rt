@@ -2,6 +2,7 @@
 #![tactic(auto)]
 
 mod laws;
+mod prices;
 mod raise;
 mod replay;
 mod walk;

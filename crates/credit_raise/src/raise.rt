@@ -1,4 +1,4 @@
-ghost use Rattle.std.specs.Prelude.{ℕ, ◌≡◌, ◌≢◌, ◌≤◌, ◌<◌, ◌+◌, ◌*◌, ◌^◌, [], IfOk};
+ghost use Rattle.std.specs.Prelude.{ℕ, ◌≡◌, ◌≢◌, ◌≤◌, ◌<◌, ◌+◌, ◌*◌, ◌^◌, [], true, IfOk};
 ghost use Rattle.std.specs.Option.{SomeIff};
 ghost use Rattle.fx_amounts.specs.Quantity.{IsWeight};
 ghost use Rattle.fx_rules.specs.Lists.{Each};
@@ -9,10 +9,11 @@ ghost use Rattle.global_book.specs.Book.{IsBook};
 ghost use Rattle.credit_raise.specs.Two.{IsFillOf, IsRaised, lots_of, turns};
 ghost use Rattle.credit_raise.specs.Playing.{Played, other_of};
 
+use crate::prices::are_apart;
 use crate::replay::Replay;
 use crate::walk::next_of_two;
 use fx_amounts::{BankId, Memory, Units};
-use fx_rules::{FillList, Plan};
+use fx_rules::{Fill, FillList, Plan};
 use global_book::PairBook;
 use price_levels::Steps;
 use std::alloc::Global;
@@ -25,7 +26,8 @@ use std::sync::ledger::Ledger;
 /// It walks the two banks' orders alone, in arrival order, and leaves the book as it is. What those that had their turns
 /// have left it keeps in a book of its own: each order is put in there at most once, each turn looks into it once, and
 /// once more for each fill. So it takes memory for these orders and for the fills, and the time of that many searches.
-/// `Memory` for want of memory.
+/// Where the line does not pay for a lot, or the two banks' best prices do not cross, it answers at once. `Memory` for want of
+/// memory.
 pub fn plan_raise<L: Ledger>(
     alloc: Global,
     book: &PairBook,
@@ -43,11 +45,57 @@ pub fn plan_raise<L: Ledger>(
     ensures cost { IfOk result (λ plan. lots_of plan.fills * weight ≤ eff) }
     ensures left { IfOk result (λ plan. plan.left ≡ 0) }
 {
-    let replay = play(alloc, book, weight, i, j, eff, steps)?;
+    let fills = fills_of_two(alloc, book, weight, i, j, eff, steps)?;
     Ok(Plan {
-        fills: FillList::from_vec(replay.fills),
+        fills: FillList::from_vec(fills),
         left: 0,
     })
+}
+
+/// The fills of the two banks' orders, which are played out where there may be any.
+fn fills_of_two<L: Ledger>(
+    alloc: Global,
+    book: &PairBook,
+    weight: u32,
+    i: BankId,
+    j: BankId,
+    eff: Units,
+    steps: &mut Steps<L>,
+) -> Result<Vec<Fill>, Memory>
+    requires weight { IsWeight weight }
+    requires differ { i ≢ j }
+    ensures played { IfOk result (λ fills. Played book.now.pair weight i j eff [] (turns i j 0 book.now.orders) fills.items) }
+    ensures valid { IsBook book.now }
+{
+    if is_quiet(book, weight, i, j, eff, steps) {
+        return Ok(Vec::new(alloc));
+    }
+    let replay = play(alloc, book, weight, i, j, eff, steps)?;
+    Ok(replay.fills)
+}
+
+/// Whether nothing can be filled: the line does not pay for a lot, or no orders of the two banks cross.
+fn is_quiet<L: Ledger>(
+    book: &PairBook,
+    weight: u32,
+    i: BankId,
+    j: BankId,
+    eff: Units,
+    steps: &mut Steps<L>,
+) -> bool
+    requires weight { IsWeight weight }
+    requires differ { i ≢ j }
+    ensures quiet { result ≡ true → Played book.now.pair weight i j eff [] (turns i j 0 book.now.orders) [] }
+    ensures valid { IsBook book.now }
+{
+    let banks = book.banks();
+    if eff.get() < u64::from(weight) {
+        return true;
+    }
+    if banks > BankId::COUNT {
+        return false;
+    }
+    are_apart(book, i, j, steps)
 }
 
 /// The two banks' orders played out: each has its turn in arrival order.

@@ -179,7 +179,7 @@ impl Replay {
 }
 
 /// The lots in reach of each bank, where one bank alone can be reached.
-fn reach_of(other: BankId, lots: u64) -> [u64; 64]
+pub(crate) fn reach_of(other: BankId, lots: u64) -> [u64; 64]
     ensures one_each { length result ≡ 64 }
     ensures reach { (bank : ℕ) → slice_index result bank ≡ only other lots bank }
 {

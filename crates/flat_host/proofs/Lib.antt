@@ -1,5 +1,7 @@
 pub mod Searching
 pub mod PlanSteps
+pub mod Existing
+pub mod Walking
 pub mod Lowered
 pub mod Carrying
 pub mod Tables

@@ -4,6 +4,7 @@ pub mod Parts
 pub mod Turns
 pub mod Levels
 pub mod Search
+pub mod Walks
 pub mod Host
 pub mod Opening
 pub mod Views

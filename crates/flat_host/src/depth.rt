@@ -1,10 +1,16 @@
-ghost use Rattle.std.specs.Prelude.{ℕ, ◌&&◌, ◌==◌, ◌≡◌, ◌≤◌, ◌<◌, ◌+◌, ◌*◌, ◌^◌, OnOk, IfOk, filter, length, take};
+ghost use Rattle.std.specs.Prelude.{◌&&◌, ◌==◌, ◌≡◌, ◌≤◌, ◌<◌, ◌^◌, IfOk, filter};
 ghost use Rattle.fx_rules.specs.Lists.{total};
 ghost use Rattle.fx_rules.specs.State.{orders_in};
 ghost use Rattle.fx_rules.specs.Sweep.{is_opposite};
+ghost use Rattle.flat_host.specs.Walks.{IsLevelled};
 
-use fx_amounts::{PairId, Side};
-use fx_rules::ActiveOrder;
+use crate::sweep::Walk;
+use fx_amounts::{Memory, PairId, Side};
+use fx_rules::{ActiveOrder, LevelList, SweptOrder, add_fill};
+use std::alloc::Global;
+
+/// How many levels of a side a local book shows at most.
+const SHOWN: usize = 10;
 
 /// Whether an order is one of the other side of the pair.
 fn is_against(active: &ActiveOrder, pair: PairId, side: Side) -> bool
@@ -24,4 +30,30 @@ pub fn lots_against(orders: &[ActiveOrder], pair: PairId, side: Side) -> u128
         }
     }
     lots
+}
+
+/// The first ten levels of the sweep of a taker, where `lines` are its lines with each bank, in credit units, and a lot costs
+/// `weight` of them. It stops at the first fill of an eleventh price, since none behind that changes them. At `Memory` there
+/// was none for the levels.
+pub fn first_levels(
+    alloc: Global,
+    orders: &[ActiveOrder],
+    taker: &SweptOrder,
+    lines: [u64; 64],
+    weight: u32,
+) -> Result<LevelList, Memory>
+    requires weight { 1 ≤ weight }
+    requires lots { total (λ line. line) lines < 2 ^ 64 }
+    ensures levels { IfOk result (IsLevelled weight lines orders.now taker.now) }
+{
+    let mut walk = Walk::new(taker, lines);
+    let mut levels = Vec::new(alloc);
+    while levels.len() <= SHOWN {
+        let Some(fill) = walk.next_fill(orders, weight) else {
+            break;
+        };
+        add_fill(&mut levels, &fill)?;
+    }
+    levels.truncate(SHOWN);
+    Ok(LevelList::from_vec(levels))
 }

@@ -2,7 +2,6 @@ ghost use Rattle.std.specs.Prelude.{ℕ, ◌≡◌, ◌≢◌, ◌<◌, ◌≤�
 ghost use Rattle.fx_rules.specs.Lists.{total};
 ghost use Rattle.fx_rules.specs.Session.{IsSession, bank_count};
 ghost use Rattle.fx_rules.specs.State.{opening, orders_in};
-ghost use Rattle.fx_rules.specs.Depth.{levels_of};
 ghost use Rattle.fx_rules.specs.Step.{without_orders};
 ghost use Rattle.fx_rules.specs.History.{IsLegal, state};
 ghost use Rattle.fx_rules.specs.Market.{GoesOn};
@@ -19,13 +18,13 @@ use crate::changes::{
     take_out_all,
 };
 use crate::credit::{limit_place, line, lines_of, make_fills, use_place};
-use crate::depth::lots_against;
+use crate::depth::{first_levels, lots_against};
 use crate::raise::{Terms, raised_fills};
 use crate::sweep::{Sweep, plan_sweep};
 use fx_amounts::{BankId, Lots, Memory, PairId, Price, Side, Units};
 use fx_rules::{
     ActiveOrder, Command, Entry, Fill, LevelList, Life, Outcome, PairRule, Plan, Session,
-    SweptOrder, any_price, levels_of,
+    SweptOrder, any_price,
 };
 use std::alloc::Global;
 use std::marker::Model;
@@ -233,8 +232,15 @@ impl FlatHost {
             left: lots_against(&self.orders, pair, side),
             arrival: self.arrivals,
         };
-        let sweep = self.sweep(&unlimited)?;
-        levels_of(*self.orders.allocator(), sweep.fills.as_slice())
+        let weight = self.weights[pair.index()];
+        let lines = lines_of(&self.limits, &self.uses, bank);
+        first_levels(
+            *self.orders.allocator(),
+            &self.orders,
+            &unlimited,
+            lines,
+            weight,
+        )
     }
 
     /// An order command as it comes in.

@@ -4,9 +4,10 @@ ghost use Rattle.fx_rules.specs.State.{orders_in};
 ghost use Rattle.fx_rules.specs.Sweep.{is_open, is_preferred};
 ghost use Rattle.fx_rules.specs.Plan.{Planned, is_behind};
 ghost use Rattle.flat_host.specs.Search.{is_candidate, candidates, preferred_of, IsBestOf};
+ghost use Rattle.flat_host.specs.Walks.{StepsOn};
 
 use fx_amounts::{Memory, Side};
-use fx_rules::{ActiveOrder, FillList, Resting, SweptOrder};
+use fx_rules::{ActiveOrder, Fill, FillList, Resting, SweptOrder};
 use std::alloc::Global;
 
 /// A sweep that was found and is not yet carried out.
@@ -98,13 +99,58 @@ fn preferred(side: Side, best: Option<Resting>, next: Resting) -> Resting
     }
 }
 
+/// A sweep as it goes from best order to best order. It changes no order.
+#[derive(Drop)]
+pub struct Walk {
+    /// The taker, with the lots that it still wants.
+    pub taker: SweptOrder,
+    /// What is left of its lines with each bank, in credit units.
+    pub lines: [u64; 64],
+    /// The order that it took last, where there is one.
+    pub last: Option<Resting>,
+}
+
+impl Walk {
+    /// Before its first fill.
+    pub fn new(taker: &SweptOrder, lines: [u64; 64]) -> Walk
+        ensures taker { result.taker ≡ taker.now }
+        ensures lines { result.lines ≡ lines }
+        ensures last { result.last ≡ None }
+    {
+        Walk {
+            taker: *taker,
+            lines,
+            last: None,
+        }
+    }
+
+    /// The next fill, where a lot costs `weight` credit units; `None` where the taker wants no more or nothing more is open
+    /// to it.
+    pub fn next_fill(&mut self, orders: &[ActiveOrder], weight: u32) -> Option<Fill>
+        requires weight { 1 ≤ weight }
+        ensures steps { StepsOn weight orders.now self.old self.new result }
+    {
+        if self.taker.left == 0 {
+            return None;
+        }
+        let maker = best_behind(orders, &self.taker, &self.lines, weight, &self.last)?;
+        let line = self.lines[maker.bank.index()];
+        let lots = self.taker.amount(&maker, line / u64::from(weight));
+        let fill = self.taker.fill_with(&maker, lots);
+        self.lines[maker.bank.index()] = line - u64::from(lots.count()) * u64::from(weight);
+        self.taker.left -= u128::from(lots.count());
+        self.last = Some(maker);
+        Some(fill)
+    }
+}
+
 /// The sweep of a taker over the orders as they rest, where `lines` are its lines with each bank, in credit units, and
 /// a lot costs `weight` of them. It finds the fills and changes nothing; only their list takes memory.
 pub fn plan_sweep(
     alloc: Global,
     orders: &[ActiveOrder],
     taker: &SweptOrder,
-    mut lines: [u64; 64],
+    lines: [u64; 64],
     weight: u32,
 ) -> Result<Sweep, Memory>
     requires weight { 1 ≤ weight }
@@ -113,22 +159,13 @@ pub fn plan_sweep(
     ensures lots { IfOk result (λ sweep. total (λ fill. fill.lots) sweep.fills ≤ total (λ line. line) lines) }
     ensures left { IfOk result (λ sweep. sweep.left ≤ taker.now.left) }
 {
-    let mut taker = *taker;
-    let mut last = None;
+    let mut walk = Walk::new(taker, lines);
     let mut fills = Vec::new(alloc);
-    while taker.left > 0 {
-        let Some(maker) = best_behind(orders, &taker, &lines, weight, &last) else {
-            break;
-        };
-        let line = lines[maker.bank.index()];
-        let lots = taker.amount(&maker, line / u64::from(weight));
-        fills.push(taker.fill_with(&maker, lots))?;
-        lines[maker.bank.index()] = line - u64::from(lots.count()) * u64::from(weight);
-        taker.left -= u128::from(lots.count());
-        last = Some(maker);
+    while let Some(fill) = walk.next_fill(orders, weight) {
+        fills.push(fill)?;
     }
     Ok(Sweep {
         fills: FillList::from_vec(fills),
-        left: taker.left,
+        left: walk.taker.left,
     })
 }

@@ -400,7 +400,7 @@ fn a_local_book_has_ten_prices_and_what_the_lines_allow(rt: HostRuntime) -> Resu
         (108_406, 1),
         (108_407, 1),
         (108_408, 1),
-        (108_409, 1),
+        (108_409, 3),
     ];
     let fills = [
         (BETA, 1, 108_400, 3),
@@ -414,6 +414,7 @@ fn a_local_book_has_ten_prices_and_what_the_lines_allow(rt: HostRuntime) -> Resu
         (GAMA, 8, 108_407, 1),
         (GAMA, 9, 108_408, 1),
         (GAMA, 10, 108_409, 1),
+        (GAMA, 13, 108_409, 2),
     ];
     let shown = |asks| Wanted::Depth { bids: &[], asks };
     let rows = [
@@ -430,16 +431,19 @@ fn a_local_book_has_ten_prices_and_what_the_lines_allow(rt: HostRuntime) -> Resu
         by(GAMA, 9, sell(108_408, 1), ordered(0, 1, &[])),
         by(GAMA, 10, sell(108_409, 1), ordered(0, 1, &[])),
         by(GAMA, 11, sell(108_410, 1), ordered(0, 1, &[])),
+        by(GAMA, 12, sell(108_411, 1), ordered(0, 1, &[])),
+        // The tenth level has a second fill behind its first.
+        by(GAMA, 13, sell(108_409, 2), ordered(0, 2, &[])),
         by(ALFA, 1, book, shown(&asks)),
         by(
             ALFA,
             2,
-            buy_for(Life::Ioc, 108_409, 13),
-            ordered(13, 0, &fills),
+            buy_for(Life::Ioc, 108_409, 15),
+            ordered(15, 0, &fills),
         ),
-        by(ALFA, 3, book, shown(&[(108_410, 1)])),
+        by(ALFA, 3, book, shown(&[(108_410, 1), (108_411, 1)])),
     ];
-    play(&rt, 300, 10_000, &rows, 3)
+    play(&rt, 300, 10_000, &rows, 4)
 }
 
 #[test]
