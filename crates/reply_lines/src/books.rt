@@ -1,5 +1,5 @@
 ghost use Rattle.std.specs.Prelude.{◌≡◌, ◌<◌, ℕ, OnOk, length};
-ghost use Rattle.fx_edges.specs.Writing.{Wrote};
+ghost use Rattle.fx_pieces.specs.Gathered.{Gathered};
 ghost use Rattle.fx_rules.specs.Session.{bank_count, pair_count};
 ghost use Rattle.reply_lines.specs.Books.{LocalBook, IsHostOf, AreBooksOf, book_line, book_lines_below, books_below, books_text};
 
@@ -8,7 +8,8 @@ use crate::notices::{name_of, push_book};
 use crate::row::{begin_word_row, end_row};
 use flat_host::FlatHost;
 use fx_amounts::{BankId, Memory, PairId};
-use fx_edges::{Sink, SinkFault, write_all};
+use fx_edges::{Sink, SinkFault};
+use fx_pieces::Pieces;
 use fx_rules::{Outcome, Session};
 
 /// Writes the local books of each bank in each pair, as they stand in the host.
@@ -17,14 +18,15 @@ pub(crate) fn write_books<K: Sink>(
     session: &Session,
     host: &FlatHost,
     line: &mut Vec<u8>,
+    pieces: &mut Pieces,
     out: &mut K,
 ) -> Result<(), SinkFault>
     requires host { IsHostOf session.now host.now }
     ensures wrote { (books : ℕ → ℕ → LocalBook) → AreBooksOf session.now host.now books →
-        Wrote K.written K.faults out.old out.new (books_text session.now books) result }
+        Gathered K.written K.faults pieces.old out.old pieces.new out.new (books_text session.now books) result }
 {
-    match write_all(out, b"BOOKS\n") {
-        Ok(()) => write_banks(session, host, line, out),
+    match pieces.put(b"BOOKS\n", out) {
+        Ok(()) => write_banks(session, host, line, pieces, out),
         Err(fault) => Err(fault),
     }
 }
@@ -34,15 +36,16 @@ fn write_banks<K: Sink>(
     session: &Session,
     host: &FlatHost,
     line: &mut Vec<u8>,
+    pieces: &mut Pieces,
     out: &mut K,
 ) -> Result<(), SinkFault>
     requires host { IsHostOf session.now host.now }
     ensures wrote { (books : ℕ → ℕ → LocalBook) → AreBooksOf session.now host.now books →
-        Wrote K.written K.faults out.old out.new (books_below session.now books (bank_count session.now)) result }
+        Gathered K.written K.faults pieces.old out.old pieces.new out.new (books_below session.now books (bank_count session.now)) result }
 {
     for place in 0..session.banks().len() {
         let bank = BankId::new(place as u8).unwrap();
-        match write_pairs(session, host, bank, line, out) {
+        match write_pairs(session, host, bank, line, pieces, out) {
             Ok(()) => {}
             Err(fault) => return Err(fault),
         }
@@ -56,16 +59,17 @@ fn write_pairs<K: Sink>(
     host: &FlatHost,
     bank: BankId,
     line: &mut Vec<u8>,
+    pieces: &mut Pieces,
     out: &mut K,
 ) -> Result<(), SinkFault>
     requires host { IsHostOf session.now host.now }
     requires bank { bank < bank_count session.now }
     ensures wrote { (books : ℕ → ℕ → LocalBook) → AreBooksOf session.now host.now books →
-        Wrote K.written K.faults out.old out.new (book_lines_below session.now books bank (pair_count session.now)) result }
+        Gathered K.written K.faults pieces.old out.old pieces.new out.new (book_lines_below session.now books bank (pair_count session.now)) result }
 {
     for place in 0..session.pairs().len() {
         let pair = PairId::new(place as u8).unwrap();
-        match write_book(session, host, bank, pair, line, out) {
+        match write_book(session, host, bank, pair, line, pieces, out) {
             Ok(()) => {}
             Err(fault) => return Err(fault),
         }
@@ -80,16 +84,17 @@ fn write_book<K: Sink>(
     bank: BankId,
     pair: PairId,
     line: &mut Vec<u8>,
+    pieces: &mut Pieces,
     out: &mut K,
 ) -> Result<(), SinkFault>
     requires host { IsHostOf session.now host.now }
     requires bank { bank < bank_count session.now }
     requires pair { pair < pair_count session.now }
     ensures wrote { (books : ℕ → ℕ → LocalBook) → AreBooksOf session.now host.now books →
-        Wrote K.written K.faults out.old out.new (book_line session.now books bank pair) result }
+        Gathered K.written K.faults pieces.old out.old pieces.new out.new (book_line session.now books bank pair) result }
 {
     let made = make_book(session, host, bank, pair, line);
-    write_made(made, line, out)
+    write_made(made, line, pieces, out)
 }
 
 /// Makes the line of a bank's local book of a pair.

@@ -2,6 +2,7 @@ ghost use Rattle.std.specs.Prelude.{◌≡◌, ℕ, ◌++◌, length, IfOk, OnOk
 ghost use Rattle.std.specs.List.{flat_map};
 ghost use Rattle.fx_amounts.specs.Numeral.{numeral};
 ghost use Rattle.fx_edges.specs.Writing.{Wrote};
+ghost use Rattle.fx_pieces.specs.Gathered.{Gathered};
 ghost use Rattle.fx_rules.specs.Lists.{Each};
 ghost use Rattle.fx_rules.specs.History.{IsLegal, state};
 ghost use Rattle.fx_rules.specs.Session.{bank_count};
@@ -22,7 +23,8 @@ use crate::report::write_report;
 use day_report::{Report, report};
 use flat_host::{FlatHost, replay};
 use fx_amounts::{BankId, Memory};
-use fx_edges::{Sink, SinkFault, write_all};
+use fx_edges::{Sink, SinkFault};
+use fx_pieces::Pieces;
 use fx_rules::{Entry, Session};
 use order_lines::command_text;
 use session_head::head_text;
@@ -82,8 +84,9 @@ impl From<SinkFault> for OutFault {
 
 /// Writes the output of a legal history: header, journal, desks, local books, report and the last lines, which tell of the
 /// strays and of how the reading ended. After a fault a prefix of it was appended; the fault is `Write` only where the
-/// sink's count of faults rose, and `Memory` only where it stayed. Beside one line at a time it keeps the places of each
-/// bank's entries and the market at the end; all that is found before the first byte is written.
+/// sink's count of faults rose, and `Memory` only where it stayed. The sink gets it in pieces of 8 KiB at least, and then the
+/// rest. Beside a piece it keeps the places of each bank's entries and the market at the end; all that is found before the
+/// first byte is written.
 pub fn write_output<K: Sink>(
     alloc: Global,
     session: &Session,
@@ -111,8 +114,7 @@ pub fn write_day<K: Sink>(
     requires legal { IsLegal session.now entries.now }
     ensures wrote { WroteOutput K.written K.faults out.old out.new (IsDayText session.now entries.now) result }
 {
-    let mut line = Vec::new(alloc);
-    match write_text(alloc, session, entries, &mut line, out) {
+    match write_part(alloc, session, entries, out) {
         Ok(()) => Ok(()),
         Err(fault) => Err(OutFault::from(fault)),
     }
@@ -132,8 +134,58 @@ fn write_whole<K: Sink>(
         Wrote K.written K.faults out.old out.new (day_text session.now entries.now books ++ last_text strays ending) result }
 {
     let mut line = Vec::new(alloc);
-    match write_text(alloc, session, entries, &mut line, out) {
-        Ok(()) => write_last(strays, ending, &mut line, out),
+    let mut pieces = Pieces::new(alloc);
+    match write_all_text(
+        alloc,
+        session,
+        entries,
+        strays,
+        ending,
+        &mut line,
+        &mut pieces,
+        out,
+    ) {
+        Ok(()) => pieces.hand_on(out),
+        Err(fault) => Err(fault),
+    }
+}
+
+/// Writes all but the last lines of the output of a legal history.
+fn write_part<K: Sink>(
+    alloc: Global,
+    session: &Session,
+    entries: &[Entry],
+    out: &mut K,
+) -> Result<(), SinkFault>
+    requires legal { IsLegal session.now entries.now }
+    ensures wrote { (books : ℕ → ℕ → LocalBook) → AreBooks session.now (state session.now entries.now) books →
+        Wrote K.written K.faults out.old out.new (day_text session.now entries.now books) result }
+{
+    let mut line = Vec::new(alloc);
+    let mut pieces = Pieces::new(alloc);
+    match write_text(alloc, session, entries, &mut line, &mut pieces, out) {
+        Ok(()) => pieces.hand_on(out),
+        Err(fault) => Err(fault),
+    }
+}
+
+/// Writes all lines, of which the last piece is not yet handed on.
+fn write_all_text<K: Sink>(
+    alloc: Global,
+    session: &Session,
+    entries: &[Entry],
+    strays: u64,
+    ending: Ending,
+    line: &mut Vec<u8>,
+    pieces: &mut Pieces,
+    out: &mut K,
+) -> Result<(), SinkFault>
+    requires legal { IsLegal session.now entries.now }
+    ensures wrote { (books : ℕ → ℕ → LocalBook) → AreBooks session.now (state session.now entries.now) books →
+        Gathered K.written K.faults pieces.old out.old pieces.new out.new (day_text session.now entries.now books ++ last_text strays ending) result }
+{
+    match write_text(alloc, session, entries, line, pieces, out) {
+        Ok(()) => write_last(strays, ending, line, pieces, out),
         Err(fault) => Err(fault),
     }
 }
@@ -144,14 +196,15 @@ fn write_text<K: Sink>(
     session: &Session,
     entries: &[Entry],
     line: &mut Vec<u8>,
+    pieces: &mut Pieces,
     out: &mut K,
 ) -> Result<(), SinkFault>
     requires legal { IsLegal session.now entries.now }
     ensures wrote { (books : ℕ → ℕ → LocalBook) → AreBooks session.now (state session.now entries.now) books →
-        Wrote K.written K.faults out.old out.new (day_text session.now entries.now books) result }
+        Gathered K.written K.faults pieces.old out.old pieces.new out.new (day_text session.now entries.now books) result }
 {
     match Day::new(alloc, session, entries) {
-        Ok(day) => write_day_text(session, entries, &day, line, out),
+        Ok(day) => write_day_text(session, entries, &day, line, pieces, out),
         Err(Memory) => Err(SinkFault::Memory),
     }
 }
@@ -187,18 +240,19 @@ fn write_day_text<K: Sink>(
     entries: &[Entry],
     day: &Day,
     line: &mut Vec<u8>,
+    pieces: &mut Pieces,
     out: &mut K,
 ) -> Result<(), SinkFault>
     requires entries { Each (IsEntryOf session.now) entries.now }
     requires day { IsDayOf session.now entries.now day.now }
     ensures wrote { (books : ℕ → ℕ → LocalBook) → AreBooksOf session.now day.now.host books →
-        Wrote K.written K.faults out.old out.new (day_text session.now entries.now books) result }
+        Gathered K.written K.faults pieces.old out.old pieces.new out.new (day_text session.now entries.now books) result }
 {
-    write_head(session, line, out)?;
-    write_journal(session, entries, line, out)?;
-    write_desks(session, entries, &day.index, line, out)?;
-    write_books(session, &day.host, line, out)?;
-    write_report(session, &day.report, line, out)
+    write_head(session, line, pieces, out)?;
+    write_journal(session, entries, line, pieces, out)?;
+    write_desks(session, entries, &day.index, line, pieces, out)?;
+    write_books(session, &day.host, line, pieces, out)?;
+    write_report(session, &day.report, line, pieces, out)
 }
 
 /// Writes the last lines.
@@ -207,30 +261,41 @@ fn write_last<K: Sink>(
     strays: u64,
     ending: Ending,
     line: &mut Vec<u8>,
+    pieces: &mut Pieces,
     out: &mut K,
 ) -> Result<(), SinkFault>
-    ensures wrote { Wrote K.written K.faults out.old out.new (last_text strays ending) result }
+    ensures wrote { Gathered K.written K.faults pieces.old out.old pieces.new out.new (last_text strays ending) result }
 {
-    write_strays(strays, line, out)?;
-    write_all(out, ending.line())
+    write_strays(strays, line, pieces, out)?;
+    pieces.put(ending.line(), out)
 }
 
 /// Writes the header.
-fn write_head<K: Sink>(session: &Session, line: &mut Vec<u8>, out: &mut K) -> Result<(), SinkFault>
-    ensures wrote { Wrote K.written K.faults out.old out.new (head_text_of session.now) result }
+fn write_head<K: Sink>(
+    session: &Session,
+    line: &mut Vec<u8>,
+    pieces: &mut Pieces,
+    out: &mut K,
+) -> Result<(), SinkFault>
+    ensures wrote { Gathered K.written K.faults pieces.old out.old pieces.new out.new (head_text_of session.now) result }
 {
     line.clear();
     let made = head_text(session, line);
-    write_made(made, line, out)
+    write_made(made, line, pieces, out)
 }
 
 /// Writes the number of strays.
 #[tactic(auto, unfolding(crate::specs::Output::strays_line))]
-fn write_strays<K: Sink>(strays: u64, line: &mut Vec<u8>, out: &mut K) -> Result<(), SinkFault>
-    ensures wrote { Wrote K.written K.faults out.old out.new (strays_line strays) result }
+fn write_strays<K: Sink>(
+    strays: u64,
+    line: &mut Vec<u8>,
+    pieces: &mut Pieces,
+    out: &mut K,
+) -> Result<(), SinkFault>
+    ensures wrote { Gathered K.written K.faults pieces.old out.old pieces.new out.new (strays_line strays) result }
 {
     let made = make_count(b"STRAYS", u128::from(strays), line);
-    write_made(made, line, out)
+    write_made(made, line, pieces, out)
 }
 
 /// Writes the journal.
@@ -239,13 +304,14 @@ fn write_journal<K: Sink>(
     session: &Session,
     entries: &[Entry],
     line: &mut Vec<u8>,
+    pieces: &mut Pieces,
     out: &mut K,
 ) -> Result<(), SinkFault>
     requires entries { Each (IsEntryOf session.now) entries.now }
-    ensures wrote { Wrote K.written K.faults out.old out.new (journal_text session.now entries.now) result }
+    ensures wrote { Gathered K.written K.faults pieces.old out.old pieces.new out.new (journal_text session.now entries.now) result }
 {
-    write_journal_line(entries, line, out)?;
-    write_lines(session, entries, line, out)
+    write_journal_line(entries, line, pieces, out)?;
+    write_lines(session, entries, line, pieces, out)
 }
 
 /// Writes the line that begins the journal.
@@ -253,12 +319,13 @@ fn write_journal<K: Sink>(
 fn write_journal_line<K: Sink>(
     entries: &[Entry],
     line: &mut Vec<u8>,
+    pieces: &mut Pieces,
     out: &mut K,
 ) -> Result<(), SinkFault>
-    ensures wrote { Wrote K.written K.faults out.old out.new (journal_line (length entries.now)) result }
+    ensures wrote { Gathered K.written K.faults pieces.old out.old pieces.new out.new (journal_line (length entries.now)) result }
 {
     let made = make_count(b"JOURNAL", entries.len() as u128, line);
-    write_made(made, line, out)
+    write_made(made, line, pieces, out)
 }
 
 impl Print for Entry {
@@ -281,16 +348,17 @@ fn write_desks<K: Sink>(
     entries: &[Entry],
     index: &[Places],
     line: &mut Vec<u8>,
+    pieces: &mut Pieces,
     out: &mut K,
 ) -> Result<(), SinkFault>
     requires entries { Each (IsEntryOf session.now) entries.now }
     requires index { IsIndex (bank_count session.now) entries.now index.now }
-    ensures wrote { Wrote K.written K.faults out.old out.new (desks_text session.now entries.now) result }
+    ensures wrote { Gathered K.written K.faults pieces.old out.old pieces.new out.new (desks_text session.now entries.now) result }
 {
     for place in 0..session.banks().len() {
         let bank = BankId::new(place as u8).unwrap();
         let places = index[place].as_slice();
-        match write_desk(session, bank, entries, places, line, out) {
+        match write_desk(session, bank, entries, places, line, pieces, out) {
             Ok(()) => {}
             Err(fault) => return Err(fault),
         }

@@ -1,5 +1,5 @@
 use Rattle.std.proofs.Common.{ℕ}
-use Rattle.fx_edges.specs.Writing.{Appended}
+use Rattle.fx_pieces.specs.Gathered.{Kept}
 use Rattle.reply_lines.specs.Books.{LocalBook, AreBooksOf, books_below}
 use Rattle.reply_lines.proofs.books.write_banks.Given as goal
 
@@ -7,4 +7,4 @@ use Rattle.reply_lines.proofs.books.write_banks.Given as goal
 abbrev pub invariant-loop-place : goal.invariant-loop-place
 invariant-loop-place g l =
     (books : ℕ → ℕ → LocalBook) → AreBooksOf l.session l.host books →
-    Appended g.K.Sink.written g.K.Sink.faults l.initial.out l.out (books_below l.session books l.place)
+    Kept g.K.Sink.written g.K.Sink.faults l.initial.pieces l.initial.out l.pieces l.out (books_below l.session books l.place)

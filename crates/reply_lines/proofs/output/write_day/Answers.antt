@@ -11,8 +11,8 @@ returns-in-Ok g c =
           (is_day c.args.session.now c.args.entries.now books.0 books.1) (c.in-Ok.ensures.wrote books.0 books.1);
     }
 
-pub returns : goal.returns
-returns g c =
+pub returns-in-Err : goal.returns-in-Err
+returns-in-Err g c =
     let books = day-books c.args.session.now c.args.entries.now c.requires.legal in
     record {
       wrote = wrote_part (IsDayText c.args.session.now c.args.entries.now) (day_text c.args.session.now c.args.entries.now books.0)

@@ -1,6 +1,6 @@
 -- The day that was found is that of the history.
-use Rattle.std.proofs.Common.{refl, arith}
-use Rattle.fx_edges.proofs.Writing.{Wrote-stopped, Appended-nil, IsPrefixOf-nil}
+use Rattle.std.proofs.Common.{refl}
+use Rattle.fx_pieces.proofs.Gathering.{Gathered-wanting}
 use Rattle.fx_rules.specs.History.{state}
 use Rattle.fx_rules.proofs.Soundness.{legal-sound}
 use Rattle.reply_lines.specs.Output.{day_text}
@@ -26,6 +26,6 @@ returns-in-Ok g c = record {
 
 pub returns-in-Err : goal.returns-in-Err
 returns-in-Err g c = record {
-  wrote = λ books are. Wrote-stopped (Appended-nil g.K.Sink.written g.K.Sink.faults c.args.out.now)
-      (IsPrefixOf-nil (day_text c.args.session.now c.args.entries.now books)) refl (omega arith) (λ failed. absurd cc) (λ wanted. refl);
+  wrote = λ books are. Gathered-wanting g.K.Sink.written g.K.Sink.faults c.args.pieces.now c.args.out.now c.args.pieces.now
+      (day_text c.args.session.now c.args.entries.now books);
 }
