@@ -83,11 +83,27 @@ Gathered-wanting written faults held before rest text = record {
 -- The end of a text
 
 -- what is held was handed on
-pub Wrote-rest : {K T : Type 0} {written : K → Option (List ℕ)} {faults : K → ℕ} {a : K} {rest : List ℕ} {b c : K} {text : List ℕ} (result : Result T SinkFault) → Kept written faults [] a rest b text → Wrote written faults b c rest result → Wrote written faults a c text result
+pub Wrote-rest : {K T : Type 0} {written : K → Option (List ℕ)} {faults : K → ℕ} {held : List ℕ} {a : K} {rest : List ℕ} {b c : K} {text : List ℕ} (result : Result T SinkFault) → Kept written faults held a rest b text → Wrote written faults b c rest result → Wrote written faults a c (held ++ text) result
 Wrote-rest {T = T} {written = written} {faults = faults} {a = a} {c = c} result kept wrote =
     subst (λ (all : List ℕ). Wrote {T = T} written faults a c all result) kept.joined
     (Wrote-after result (record { holds = kept.holds; count = kept.count }) wrote)
 
--- nothing was held at first, and a fault was met
-pub Wrote-from_Gathered : {K T U : Type 0} {written : K → Option (List ℕ)} {faults : K → ℕ} {a : K} {rest : List ℕ} {b : K} {text : List ℕ} {e : SinkFault} → Gathered {T = T} written faults [] a rest b text (Err e) → Wrote {T = U} written faults a b text (Err e)
+-- a fault was met
+pub Wrote-from_Gathered : {K T U : Type 0} {written : K → Option (List ℕ)} {faults : K → ℕ} {held : List ℕ} {a : K} {rest : List ℕ} {b : K} {text : List ℕ} {e : SinkFault} → Gathered {T = T} written faults held a rest b text (Err e) → Wrote {T = U} written faults a b (held ++ text) (Err e)
 Wrote-from_Gathered gathered = record { ok = tt; fault = gathered.fault; cause = gathered.cause; memory = gathered.memory }
+
+-- the same where nothing was held at first
+pub Wrote-rest_of_all : {K T : Type 0} {written : K → Option (List ℕ)} {faults : K → ℕ} {held : List ℕ} {a : K} {rest : List ℕ} {b c : K} {text : List ℕ} (result : Result T SinkFault) → held ≡ [] → Kept written faults held a rest b text → Wrote written faults b c rest result → Wrote written faults a c text result
+Wrote-rest_of_all {T = T} {written = written} {faults = faults} {a = a} {c = c} {text = text} result none kept wrote =
+    subst (λ (xs : List ℕ). Wrote {T = T} written faults a c (xs ++ text) result) none (Wrote-rest result kept wrote)
+
+pub Wrote-from_none : {K T U : Type 0} {written : K → Option (List ℕ)} {faults : K → ℕ} {held : List ℕ} {a : K} {rest : List ℕ} {b : K} {text : List ℕ} {e : SinkFault} → held ≡ [] → Gathered {T = T} written faults held a rest b text (Err e) → Wrote {T = U} written faults a b text (Err e)
+Wrote-from_none {U = U} {written = written} {faults = faults} {a = a} {b = b} {text = text} {e = e} none gathered =
+    subst (λ (xs : List ℕ). Wrote {T = U} written faults a b (xs ++ text) (Err e)) none (Wrote-from_Gathered gathered)
+
+-- what is held was handed on with a further text
+pub Wrote-then_rest : {K T : Type 0} {written : K → Option (List ℕ)} {faults : K → ℕ} {held : List ℕ} {a : K} {rest : List ℕ} {b c : K} {s : List ℕ} (t : List ℕ) (result : Result T SinkFault) → held ≡ [] → Kept written faults held a rest b s → Wrote written faults b c (rest ++ t) result → Wrote written faults a c (s ++ t) result
+Wrote-then_rest {T = T} {written = written} {faults = faults} {a = a} {rest = rest} {c = c} {s = s} t result none kept wrote =
+    subst (λ (all : List ℕ). Wrote {T = T} written faults a c all result)
+    (sym (append_assoc kept.handed rest t) ∙ ap (λ xs. xs ++ t) kept.joined ∙ ap (λ xs. (xs ++ s) ++ t) none)
+    (Wrote-after result (record { holds = kept.holds; count = kept.count }) wrote)

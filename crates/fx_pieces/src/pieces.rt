@@ -1,4 +1,4 @@
-ghost use Rattle.std.specs.Prelude.{◌≡◌, ℕ, List, [], OnOk};
+ghost use Rattle.std.specs.Prelude.{◌≡◌, ◌<◌, ℕ, List, [], length, OnOk};
 ghost use Rattle.fx_edges.specs.Writing.{Wrote};
 ghost use Rattle.fx_pieces.specs.Gathered.{Gathered};
 
@@ -37,6 +37,7 @@ impl Pieces {
     /// `Failed` only where the sink's count of faults rose, and `Memory` only where it stayed.
     pub fn put<K: Sink>(&mut self, text: &[u8], out: &mut K) -> Result<(), SinkFault>
         ensures gathered { Gathered K.written K.faults self.old out.old self.new out.new text.now result }
+        ensures few { OnOk result (length self.new < 8192) }
     {
         if self.held.extend_from_slice(text).is_err() {
             return Err(SinkFault::Memory);

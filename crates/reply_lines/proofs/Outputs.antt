@@ -1,9 +1,9 @@
 -- A legal history has an output; what was written of a text tells how the writing of the output ended.
-use Rattle.std.proofs.Common.{ℕ, ◌≡◌, List, ◌++◌, Option, Result, Ok, Err, OnOk, IsErrAnd, refl, sym, subst, ◌∙◌}
+use Rattle.std.proofs.Common.{ℕ, ◌≡◌, List, [], ◌++◌, Option, Result, Ok, Err, OnOk, IsErrAnd, refl, sym, subst, ◌∙◌, arith}
 use Rattle.std.specs.List.{flat_map}
 use Rattle.fx_edges.specs.Writing.{Wrote}
 use Rattle.fx_pieces.specs.Gathered.{Gathered}
-use Rattle.fx_edges.proofs.Writing.{IsPrefixOf-append}
+use Rattle.fx_edges.proofs.Writing.{IsPrefixOf-append, IsPrefixOf-nil, append_known-nil}
 use Rattle.fx_pieces.proofs.Gathering.{Gathered-of_longer}
 use Rattle.fx_edges.specs.declared.sink.SinkFault.{SinkFault}
 use Rattle.fx_edges.specs.declared.sink.SinkFault.TheVariants as sinks
@@ -65,3 +65,14 @@ module _ {K : Type 0} {written : K → Option (List ℕ)} {faults : K → ℕ} {
     cause = λ failed. wrote.cause (failed_from fault (sym tells ∙ failed));
     memory = λ wanted. wrote.memory (wanted_from fault (sym tells ∙ wanted));
   }
+
+-- want of memory, before anything was written
+pub wanting : {K : Type 0} {written : K → Option (List ℕ)} {faults : K → ℕ} (before : K) (is_output : List ℕ → Type 0) (text : List ℕ) → is_output text → WroteOutput {T = Unit {0}} written faults before before is_output (Err Memory)
+wanting {written = written} before is_output text is = record {
+  text = text;
+  is_text = is;
+  ok = tt;
+  fault = record { part = []; prefix = IsPrefixOf-nil text; holds = sym (append_known-nil (written before)); count = omega arith };
+  cause = λ failed. absurd cc;
+  memory = λ wanted. refl;
+}

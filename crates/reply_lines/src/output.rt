@@ -7,7 +7,7 @@ ghost use Rattle.fx_rules.specs.Lists.{Each};
 ghost use Rattle.fx_rules.specs.History.{IsLegal, state};
 ghost use Rattle.fx_rules.specs.Session.{bank_count};
 ghost use Rattle.session_head.specs.HeadText.{head_text_of};
-ghost use Rattle.reply_lines.specs.Books.{LocalBook, AreBooks, AreBooksOf};
+ghost use Rattle.reply_lines.specs.Books.{LocalBook, AreBooks, IsMarketOf, AreBooksOf};
 ghost use Rattle.reply_lines.specs.Day.{IsDayOf};
 ghost use Rattle.reply_lines.specs.Faults.{WroteOutput};
 ghost use Rattle.reply_lines.specs.Index.{IsIndex};
@@ -21,11 +21,11 @@ use crate::lines::{Print, write_lines};
 use crate::notices::make_count;
 use crate::report::write_report;
 use day_report::{Report, report};
-use flat_host::{FlatHost, replay};
+use flat_host::replay;
 use fx_amounts::{BankId, Memory};
 use fx_edges::{Sink, SinkFault};
 use fx_pieces::Pieces;
-use fx_rules::{Entry, Session};
+use fx_rules::{Entry, Market, Session};
 use order_lines::command_text;
 use session_head::head_text;
 use std::alloc::Global;
@@ -84,9 +84,9 @@ impl From<SinkFault> for OutFault {
 
 /// Writes the output of a legal history: header, journal, desks, local books, report and the last lines, which tell of the
 /// strays and of how the reading ended. After a fault a prefix of it was appended; the fault is `Write` only where the
-/// sink's count of faults rose, and `Memory` only where it stayed. The sink gets it in pieces of 8 KiB at least, and then the
-/// rest. Beside a piece it keeps the places of each bank's entries and the market at the end; all that is found before the
-/// first byte is written.
+/// sink's count of faults rose, and `Memory` only where it stayed. The sink gets it in pieces of 8 KiB at least, and the last
+/// one. Beside these it keeps the places of each bank's entries and the market at the end, which it finds by replaying; all that
+/// is found before the first byte is written.
 pub fn write_output<K: Sink>(
     alloc: Global,
     session: &Session,
@@ -98,7 +98,27 @@ pub fn write_output<K: Sink>(
     requires legal { IsLegal session.now entries.now }
     ensures wrote { WroteOutput K.written K.faults out.old out.new (IsOutput session.now entries.now strays ending) result }
 {
-    match write_whole(alloc, session, entries, strays, ending, out) {
+    match replay(alloc, session, entries) {
+        Ok(host) => write_output_from(alloc, session, entries, &host, strays, ending, out),
+        Err(Memory) => Err(OutFault::Memory),
+    }
+}
+
+/// Writes the output of a legal history, as `write_output` does, from the market in the state after it.
+pub fn write_output_from<M: Market, K: Sink>(
+    alloc: Global,
+    session: &Session,
+    entries: &[Entry],
+    market: &M,
+    strays: u64,
+    ending: Ending,
+    out: &mut K,
+) -> Result<(), OutFault>
+    requires legal { IsLegal session.now entries.now }
+    requires market { M.stands market.now session.now (state session.now entries.now) }
+    ensures wrote { WroteOutput K.written K.faults out.old out.new (IsOutput session.now entries.now strays ending) result }
+{
+    match write_whole(alloc, session, entries, market, strays, ending, out) {
         Ok(()) => Ok(()),
         Err(fault) => Err(OutFault::from(fault)),
     }
@@ -114,106 +134,114 @@ pub fn write_day<K: Sink>(
     requires legal { IsLegal session.now entries.now }
     ensures wrote { WroteOutput K.written K.faults out.old out.new (IsDayText session.now entries.now) result }
 {
-    match write_part(alloc, session, entries, out) {
+    match replay(alloc, session, entries) {
+        Ok(host) => write_day_from(alloc, session, entries, &host, out),
+        Err(Memory) => Err(OutFault::Memory),
+    }
+}
+
+/// Writes the output of a legal history without its last lines, as `write_day` does, from the market in the state after it.
+pub fn write_day_from<M: Market, K: Sink>(
+    alloc: Global,
+    session: &Session,
+    entries: &[Entry],
+    market: &M,
+    out: &mut K,
+) -> Result<(), OutFault>
+    requires legal { IsLegal session.now entries.now }
+    requires market { M.stands market.now session.now (state session.now entries.now) }
+    ensures wrote { WroteOutput K.written K.faults out.old out.new (IsDayText session.now entries.now) result }
+{
+    match write_part(alloc, session, entries, market, out) {
         Ok(()) => Ok(()),
         Err(fault) => Err(OutFault::from(fault)),
     }
 }
 
 /// Writes the output of a legal history.
-fn write_whole<K: Sink>(
+fn write_whole<M: Market, K: Sink>(
     alloc: Global,
     session: &Session,
     entries: &[Entry],
+    market: &M,
     strays: u64,
     ending: Ending,
     out: &mut K,
 ) -> Result<(), SinkFault>
     requires legal { IsLegal session.now entries.now }
+    requires market { M.stands market.now session.now (state session.now entries.now) }
     ensures wrote { (books : ℕ → ℕ → LocalBook) → AreBooks session.now (state session.now entries.now) books →
         Wrote K.written K.faults out.old out.new (day_text session.now entries.now books ++ last_text strays ending) result }
 {
     let mut line = Vec::new(alloc);
     let mut pieces = Pieces::new(alloc);
-    match write_all_text(
-        alloc,
-        session,
-        entries,
-        strays,
-        ending,
-        &mut line,
-        &mut pieces,
-        out,
-    ) {
-        Ok(()) => pieces.hand_on(out),
+    match write_text(alloc, session, entries, market, &mut line, &mut pieces, out) {
+        Ok(()) => write_end(strays, ending, &mut line, &mut pieces, out),
         Err(fault) => Err(fault),
     }
 }
 
 /// Writes all but the last lines of the output of a legal history.
-fn write_part<K: Sink>(
+fn write_part<M: Market, K: Sink>(
     alloc: Global,
     session: &Session,
     entries: &[Entry],
+    market: &M,
     out: &mut K,
 ) -> Result<(), SinkFault>
     requires legal { IsLegal session.now entries.now }
+    requires market { M.stands market.now session.now (state session.now entries.now) }
     ensures wrote { (books : ℕ → ℕ → LocalBook) → AreBooks session.now (state session.now entries.now) books →
         Wrote K.written K.faults out.old out.new (day_text session.now entries.now books) result }
 {
     let mut line = Vec::new(alloc);
     let mut pieces = Pieces::new(alloc);
-    match write_text(alloc, session, entries, &mut line, &mut pieces, out) {
+    match write_text(alloc, session, entries, market, &mut line, &mut pieces, out) {
         Ok(()) => pieces.hand_on(out),
         Err(fault) => Err(fault),
     }
 }
 
-/// Writes all lines, of which the last piece is not yet handed on.
-fn write_all_text<K: Sink>(
+/// Writes all but the last lines, of which the last piece is not yet handed on.
+fn write_text<M: Market, K: Sink>(
     alloc: Global,
     session: &Session,
     entries: &[Entry],
+    market: &M,
+    line: &mut Vec<u8>,
+    pieces: &mut Pieces,
+    out: &mut K,
+) -> Result<(), SinkFault>
+    requires legal { IsLegal session.now entries.now }
+    requires market { M.stands market.now session.now (state session.now entries.now) }
+    ensures wrote { (books : ℕ → ℕ → LocalBook) → AreBooks session.now (state session.now entries.now) books →
+        Gathered K.written K.faults pieces.old out.old pieces.new out.new (day_text session.now entries.now books) result }
+{
+    match Day::new(alloc, session, entries) {
+        Ok(day) => write_day_text(session, entries, market, &day, line, pieces, out),
+        Err(Memory) => Err(SinkFault::Memory),
+    }
+}
+
+/// Writes the last lines, and hands on the last piece.
+fn write_end<K: Sink>(
     strays: u64,
     ending: Ending,
     line: &mut Vec<u8>,
     pieces: &mut Pieces,
     out: &mut K,
 ) -> Result<(), SinkFault>
-    requires legal { IsLegal session.now entries.now }
-    ensures wrote { (books : ℕ → ℕ → LocalBook) → AreBooks session.now (state session.now entries.now) books →
-        Gathered K.written K.faults pieces.old out.old pieces.new out.new (day_text session.now entries.now books ++ last_text strays ending) result }
+    ensures wrote { Wrote K.written K.faults out.old out.new (pieces.old ++ last_text strays ending) result }
 {
-    match write_text(alloc, session, entries, line, pieces, out) {
-        Ok(()) => write_last(strays, ending, line, pieces, out),
+    match write_last(strays, ending, line, pieces, out) {
+        Ok(()) => pieces.hand_on(out),
         Err(fault) => Err(fault),
-    }
-}
-
-/// Writes all but the last lines.
-fn write_text<K: Sink>(
-    alloc: Global,
-    session: &Session,
-    entries: &[Entry],
-    line: &mut Vec<u8>,
-    pieces: &mut Pieces,
-    out: &mut K,
-) -> Result<(), SinkFault>
-    requires legal { IsLegal session.now entries.now }
-    ensures wrote { (books : ℕ → ℕ → LocalBook) → AreBooks session.now (state session.now entries.now) books →
-        Gathered K.written K.faults pieces.old out.old pieces.new out.new (day_text session.now entries.now books) result }
-{
-    match Day::new(alloc, session, entries) {
-        Ok(day) => write_day_text(session, entries, &day, line, pieces, out),
-        Err(Memory) => Err(SinkFault::Memory),
     }
 }
 
 /// What is found of a history before it is printed.
 #[derive(Drop)]
 struct Day {
-    /// The market at the end.
-    host: FlatHost,
     /// The sums of its fills.
     report: Report,
     /// For each bank the places of the entries of which it has notices.
@@ -226,7 +254,6 @@ impl Day {
         ensures day { IfOk result (IsDayOf session.now entries.now) }
     {
         Ok(Day {
-            host: replay(alloc, session, entries)?,
             report: report(alloc, session, entries)?,
             index: index_of(alloc, session, entries)?,
         })
@@ -235,23 +262,25 @@ impl Day {
 
 /// Writes header, journal, desks, local books and report.
 #[tactic(auto, unfolding(crate::specs::Output::day_text))]
-fn write_day_text<K: Sink>(
+fn write_day_text<M: Market, K: Sink>(
     session: &Session,
     entries: &[Entry],
+    market: &M,
     day: &Day,
     line: &mut Vec<u8>,
     pieces: &mut Pieces,
     out: &mut K,
 ) -> Result<(), SinkFault>
     requires entries { Each (IsEntryOf session.now) entries.now }
+    requires market { IsMarketOf M.stands session.now market.now }
     requires day { IsDayOf session.now entries.now day.now }
-    ensures wrote { (books : ℕ → ℕ → LocalBook) → AreBooksOf session.now day.now.host books →
+    ensures wrote { (books : ℕ → ℕ → LocalBook) → AreBooksOf M.stands session.now market.now books →
         Gathered K.written K.faults pieces.old out.old pieces.new out.new (day_text session.now entries.now books) result }
 {
     write_head(session, line, pieces, out)?;
     write_journal(session, entries, line, pieces, out)?;
     write_desks(session, entries, &day.index, line, pieces, out)?;
-    write_books(session, &day.host, line, pieces, out)?;
+    write_books(session, market, line, pieces, out)?;
     write_report(session, &day.report, line, pieces, out)
 }
 

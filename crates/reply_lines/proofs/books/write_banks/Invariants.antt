@@ -6,5 +6,5 @@ use Rattle.reply_lines.proofs.books.write_banks.Given as goal
 -- the local books of the banks so far are written
 abbrev pub invariant-loop-place : goal.invariant-loop-place
 invariant-loop-place g l =
-    (books : ℕ → ℕ → LocalBook) → AreBooksOf l.session l.host books →
+    (books : ℕ → ℕ → LocalBook) → AreBooksOf g.M.Market.stands l.session l.market books →
     Kept g.K.Sink.written g.K.Sink.faults l.initial.pieces l.initial.out l.pieces l.out (books_below l.session books l.place)

@@ -1,21 +1,16 @@
--- The last piece is handed on, where all was written.
-use Rattle.std.proofs.Common.{ℕ, List, ◌++◌, Err, subst}
-use Rattle.fx_pieces.specs.Gathered.{Kept, Gathered}
-use Rattle.fx_pieces.proofs.Gathering.{Wrote-rest, Wrote-from_Gathered}
+-- The last lines follow the day.
+use Rattle.fx_edges.proofs.Writing.{Wrote-of_longer, IsPrefixOf-append}
+use Rattle.fx_pieces.proofs.Gathering.{Wrote-then_rest, Wrote-from_none}
 use Rattle.reply_lines.specs.Output.{day_text, last_text}
 use Rattle.reply_lines.proofs.output.write_whole.Goals as goal
 
 pub returns-in-Ok : goal.returns-in-Ok
 returns-in-Ok g c = record {
-  wrote = λ books are. Wrote-rest c.hand_on.result
-      (subst (λ (held : List ℕ). Kept g.K.Sink.written g.K.Sink.faults held c.args.out.now c.write_all_text.new.pieces c.write_all_text.new.out (day_text c.args.session.now c.args.entries.now books ++ last_text c.args.strays c.args.ending))
-      c.new-pieces.ensures (c.in-Ok.ensures.wrote books are).ok)
-      c.hand_on.ensures.wrote;
+  wrote = λ books are. Wrote-then_rest (last_text c.args.strays c.args.ending) c.write_end.result c.new-pieces.ensures (c.in-Ok.ensures.wrote books are).ok c.write_end.ensures.wrote;
 }
 
 pub returns : goal.returns
 returns g c = record {
-  wrote = λ books are. Wrote-from_Gathered
-      (subst (λ (held : List ℕ). Gathered {T = Unit {0}} g.K.Sink.written g.K.Sink.faults held c.args.out.now c.write_all_text.new.pieces c.write_all_text.new.out (day_text c.args.session.now c.args.entries.now books ++ last_text c.args.strays c.args.ending) (Err c.in-Err.fault))
-      c.new-pieces.ensures (c.in-Err.ensures.wrote books are));
+  wrote = λ books are. Wrote-of_longer {T = Unit {0}} (Wrote-from_none c.new-pieces.ensures (c.in-Err.ensures.wrote books are))
+      (IsPrefixOf-append (day_text c.args.session.now c.args.entries.now books) (last_text c.args.strays c.args.ending));
 }
