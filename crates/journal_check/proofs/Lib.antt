@@ -10,3 +10,4 @@ pub mod JournalWalk
 pub mod LastLines
 pub mod Exactly
 pub mod Agreeing
+pub mod AtTheEnd

@@ -43,7 +43,7 @@ fn judge(alloc: Global, text: &[u8]) -> Result<Verdict, Stop>
 {
     let headed = read_header(alloc, text)?;
     let counted = read_count(alloc, text, headed.next)?;
-    let entries = read_entries(alloc, &headed.session, text, &counted)?;
-    let end = compare_day(alloc, text, &headed.session, &entries)?;
+    let run = read_entries(alloc, &headed.session, text, &counted)?;
+    let end = compare_day(alloc, text, &headed.session, run.entries(), run.market())?;
     Ok(last_lines(text, end))
 }

@@ -1,12 +1,14 @@
 ghost use Rattle.std.specs.Prelude.{◌≡◌, ◌≢◌, ◌≤◌, ◌<◌, length, take, slice_get, Some, None, IfOk};
-ghost use Rattle.fx_rules.specs.History.{IsLegal};
+ghost use Rattle.flat_host.specs.Steps.{stands};
+ghost use Rattle.fx_rules.specs.History.{IsLegal, state};
 ghost use Rattle.journal_check.specs.Comparing.{told};
 ghost use Rattle.journal_check.specs.Stops.{IsComparedWith, end_of};
 
 use crate::stop::Stop;
+use flat_host::FlatHost;
 use fx_edges::{Sink, SinkFault};
 use fx_rules::{Entry, Session};
-use reply_lines::{OutFault, write_day};
+use reply_lines::{OutFault, write_day_from};
 use std::alloc::Global;
 use std::marker::Model;
 
@@ -97,19 +99,21 @@ fn agreeing(text: &[u8], piece: &[u8]) -> usize
 }
 
 /// Compares a text with the output of a legal history, up to its last lines: where that ends in the text, or the first place
-/// where the text has another byte or has ended.
+/// where the text has another byte or has ended. The market is that of the state after the history.
 pub(crate) fn compare_day(
     alloc: Global,
     text: &[u8],
     session: &Session,
     entries: &[Entry],
+    market: &FlatHost,
 ) -> Result<usize, Stop>
     requires legal { IsLegal session.now entries.now }
+    requires market { stands market.now session.now (state session.now entries.now) }
     ensures compared { IsComparedWith session.now entries.now text.now result }
     ensures within { IfOk result (λ end. end ≤ length text.now) }
 {
     let mut comparison = Comparison::new(text);
-    match write_day(alloc, session, entries, &mut comparison) {
+    match write_day_from(alloc, session, entries, market, &mut comparison) {
         Ok(()) => comparison.end(),
         // The text differed, and nothing more was written.
         Err(OutFault::Write) => comparison.end(),

@@ -1,5 +1,6 @@
 ghost use Rattle.std.specs.Prelude.{◌≡◌, ◌≤◌, ◌^◌, length, map, [], IfOk, IfSome};
-ghost use Rattle.fx_rules.specs.History.{IsLegal};
+ghost use Rattle.flat_host.specs.Steps.{stands};
+ghost use Rattle.market_run.specs.Running.{HasRun};
 ghost use Rattle.journal_check.specs.Lines.{lines_from};
 ghost use Rattle.journal_check.specs.Listed.{count_of, count_told, commands_in, most_entries};
 ghost use Rattle.journal_check.specs.Stops.{Answers, AnswersBy};
@@ -8,7 +9,7 @@ ghost use Rattle.fx_rules.specs.Sending.{sent_by};
 use crate::line::read_line;
 use crate::stop::Stop;
 use flat_host::FlatHost;
-use fx_rules::{Entry, Sent, Session};
+use fx_rules::{Sent, Session};
 use fx_text::{Line, fields, number};
 use market_run::Run;
 use order_lines::journal_from;
@@ -61,18 +62,18 @@ fn count_told(line: &Line) -> Option<u64>
     number(fields.field(1), 0, MOST_ENTRIES)
 }
 
-/// Reads the entries of a journal and carries out their commands in order: the only legal history that has them.
+/// Reads the entries of a journal and carries out their commands in order: the run of the only legal history that has them.
 pub(crate) fn read_entries(
     alloc: Global,
     session: &Session,
     text: &[u8],
     counted: &Counted,
-) -> Result<Vec<Entry>, Stop>
+) -> Result<Run<FlatHost>, Stop>
     requires within { counted.now.next ≤ length text.now }
     requires few { counted.now.entries ≤ 2 ^ 28 }
-    ensures answers { AnswersBy (λ entries. map sent_by entries.items) result
+    ensures answers { AnswersBy (λ run. map sent_by run.entries) result
         (commands_in session.now (length text.now) [] counted.now.entries (lines_from text.now counted.now.next)) }
-    ensures legal { IfOk result (λ entries. IsLegal session.now entries.items) }
+    ensures run { IfOk result (HasRun stands session.now) }
 {
     // A legal history rests on a valid session, as each is.
     let _banks = session.banks();
@@ -89,6 +90,5 @@ pub(crate) fn read_entries(
         run.serve(Sent { bank, command })?;
         at = read.next;
     }
-    let (_host, entries) = run.into_parts();
-    Ok(entries)
+    Ok(run)
 }

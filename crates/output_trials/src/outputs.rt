@@ -1,5 +1,6 @@
 use crate::fixture::{QUIET, TRADES, TRADING, history, holds, session};
 use fx_edges::{MemorySink, SteadySink};
+use fx_pieces::Pieces;
 use reply_lines::{Ending, OutFault, write_day, write_output};
 use std::alloc::Global;
 use std::test::Fail;
@@ -224,5 +225,22 @@ fn a_write_that_fails(rt: HostRuntime) -> Result<(), Fail> {
     assert!(rt; answer == Err(OutFault::Write));
     assert!(rt; QUIET_DAY.starts_with(out.written()));
     assert!(rt; out.written().len() < 64);
+    Ok(())
+}
+
+// A sink gets a piece once it has 8 KiB, and what is left at the end.
+#[test]
+fn a_text_in_pieces(rt: HostRuntime) -> Result<(), Fail> {
+    let half = [b'x'; 5000];
+    let mut out = MemorySink::new(10, Vec::new(rt.alloc()));
+    let mut pieces = Pieces::new(rt.alloc());
+    assert!(rt; pieces.put(&half, &mut out) == Ok(()));
+    assert!(rt; out.written().is_empty());
+    assert!(rt; pieces.put(&half, &mut out) == Ok(()));
+    assert!(rt; out.written().len() == 10_000);
+    assert!(rt; pieces.put(b"end", &mut out) == Ok(()));
+    assert!(rt; out.written().len() == 10_000);
+    assert!(rt; pieces.hand_on(&mut out) == Ok(()));
+    assert!(rt; out.written().ends_with(b"xend"));
     Ok(())
 }

@@ -1,8 +1,10 @@
 -- A legal history has an output; what was written of a text tells how the writing of the output ended.
-use Rattle.std.proofs.Common.{ℕ, ◌≡◌, List, ◌++◌, Option, Result, Ok, Err, OnOk, IsErrAnd, refl, sym, subst, ◌∙◌}
+use Rattle.std.proofs.Common.{ℕ, ◌≡◌, List, [], ◌++◌, Option, Result, Ok, Err, OnOk, IsErrAnd, refl, sym, subst, ◌∙◌, arith}
 use Rattle.std.specs.List.{flat_map}
 use Rattle.fx_edges.specs.Writing.{Wrote}
-use Rattle.fx_edges.proofs.Writing.{Wrote-of_longer, IsPrefixOf-append}
+use Rattle.fx_pieces.specs.Gathered.{Gathered}
+use Rattle.fx_edges.proofs.Writing.{IsPrefixOf-append, IsPrefixOf-nil, append_known-nil}
+use Rattle.fx_pieces.proofs.Gathering.{Gathered-of_longer}
 use Rattle.fx_edges.specs.declared.sink.SinkFault.{SinkFault}
 use Rattle.fx_edges.specs.declared.sink.SinkFault.TheVariants as sinks
 use Rattle.fx_rules.specs.declared.outcome.Entry.{Entry}
@@ -23,15 +25,15 @@ on_ok (Ok value) leads known = leads known
 on_ok (Err e) leads known = tt
 
 -- a call that met a fault, handed on by one that had more to write
-pub cut_short : {K T U : Type 0} {written : K → Option (List ℕ)} {faults : K → ℕ} {a b : K} {text : List ℕ} {e : SinkFault} (result : Result U SinkFault) (more : List ℕ) → IsErrAnd result (λ fault. fault ≡ e) → Wrote {T = T} written faults a b text (Err e) → Wrote {T = U} written faults a b (text ++ more) result
+pub cut_short : {K T U : Type 0} {written : K → Option (List ℕ)} {faults : K → ℕ} {held : List ℕ} {a : K} {rest : List ℕ} {b : K} {text : List ℕ} {e : SinkFault} (result : Result U SinkFault) (more : List ℕ) → IsErrAnd result (λ fault. fault ≡ e) → Gathered {T = T} written faults held a rest b text (Err e) → Gathered {T = U} written faults held a rest b (text ++ more) result
 cut_short (Ok value) more same wrote = absurd same
-cut_short {U = U} {written = written} {faults = faults} {a = a} {b = b} {text = text} (Err fault) more same wrote =
-    subst (λ (e : SinkFault). Wrote {T = U} written faults a b (text ++ more) (Err e)) (sym same) (Wrote-of_longer wrote (IsPrefixOf-append text more))
+cut_short {U = U} {written = written} {faults = faults} {held = held} {a = a} {rest = rest} {b = b} {text = text} (Err fault) more same wrote =
+    subst (λ (e : SinkFault). Gathered {T = U} written faults held a rest b (text ++ more) (Err e)) (sym same) (Gathered-of_longer wrote (IsPrefixOf-append text more))
 
 -- lines of the items of a list that is this one
-pub of_items : {K T X : Type 0} {written : K → Option (List ℕ)} {faults : K → ℕ} {a b : K} {xs ys : List X} (print : X → List ℕ) (result : Result T SinkFault) → xs ≡ ys → Wrote {T = T} written faults a b (flat_map print xs) result → Wrote {T = T} written faults a b (flat_map print ys) result
-of_items {T = T} {X = X} {written = written} {faults = faults} {a = a} {b = b} print result same wrote =
-    subst (λ (zs : List X). Wrote {T = T} written faults a b (flat_map print zs) result) same wrote
+pub of_items : {K T X : Type 0} {written : K → Option (List ℕ)} {faults : K → ℕ} {held : List ℕ} {a : K} {rest : List ℕ} {b : K} {xs ys : List X} (print : X → List ℕ) (result : Result T SinkFault) → xs ≡ ys → Gathered {T = T} written faults held a rest b (flat_map print xs) result → Gathered {T = T} written faults held a rest b (flat_map print ys) result
+of_items {T = T} {X = X} {written = written} {faults = faults} {held = held} {a = a} {rest = rest} {b = b} print result same wrote =
+    subst (λ (zs : List X). Gathered {T = T} written faults held a rest b (flat_map print zs) result) same wrote
 
 pub day-books : (h : Header) (entries : List Entry) → IsLegal h entries → (books : ℕ → ℕ → LocalBook) × AreBooks h (state h entries) books
 day-books h entries legal = books-exist h (state h entries) legal.session (legal-sound h entries legal)
@@ -63,3 +65,14 @@ module _ {K : Type 0} {written : K → Option (List ℕ)} {faults : K → ℕ} {
     cause = λ failed. wrote.cause (failed_from fault (sym tells ∙ failed));
     memory = λ wanted. wrote.memory (wanted_from fault (sym tells ∙ wanted));
   }
+
+-- want of memory, before anything was written
+pub wanting : {K : Type 0} {written : K → Option (List ℕ)} {faults : K → ℕ} (before : K) (is_output : List ℕ → Type 0) (text : List ℕ) → is_output text → WroteOutput {T = Unit {0}} written faults before before is_output (Err Memory)
+wanting {written = written} before is_output text is = record {
+  text = text;
+  is_text = is;
+  ok = tt;
+  fault = record { part = []; prefix = IsPrefixOf-nil text; holds = sym (append_known-nil (written before)); count = omega arith };
+  cause = λ failed. absurd cc;
+  memory = λ wanted. refl;
+}

@@ -4,16 +4,12 @@ use Rattle.std.specs.Prelude.{◌≡◌, List}
 use Rattle.fx_rules.specs.Session.{Header, bank_count}
 use Rattle.fx_rules.specs.History.{state}
 use Rattle.day_report.specs.Report.{volumes_of, uses_of, nets_of}
-use Rattle.flat_host.specs.FlatState.{StandsFor}
-use Rattle.reply_lines.specs.Books.{IsHostOf}
 use Rattle.reply_lines.specs.Index.{IsIndex}
 use Rattle.reply_lines.specs.Report.{IsReportOf}
 use Rattle.reply_lines.specs.declared.output.Day.{Day}
 
--- the host stands for the state at the end, the report is its report, and the index has each bank's entries
+-- the report is that of the state at the end, and the index has each bank's entries
 pub record IsDayOf (h : Header) (entries : List Entry) (day : Day) : Type 0 where
-  pub host : IsHostOf h day.host
-  pub stands : StandsFor h (state h entries) day.host
   pub report : IsReportOf h day.report
   pub volumes : day.report.volumes ≡ volumes_of h (state h entries)
   pub uses : day.report.uses ≡ uses_of h (state h entries)

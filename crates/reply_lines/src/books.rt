@@ -1,48 +1,50 @@
 ghost use Rattle.std.specs.Prelude.{◌≡◌, ◌<◌, ℕ, OnOk, length};
-ghost use Rattle.fx_edges.specs.Writing.{Wrote};
+ghost use Rattle.fx_pieces.specs.Gathered.{Gathered};
 ghost use Rattle.fx_rules.specs.Session.{bank_count, pair_count};
-ghost use Rattle.reply_lines.specs.Books.{LocalBook, IsHostOf, AreBooksOf, book_line, book_lines_below, books_below, books_text};
+ghost use Rattle.reply_lines.specs.Books.{LocalBook, IsMarketOf, AreBooksOf, book_line, book_lines_below, books_below, books_text};
 
 use crate::desk::write_made;
 use crate::notices::{name_of, push_book};
 use crate::row::{begin_word_row, end_row};
-use flat_host::FlatHost;
 use fx_amounts::{BankId, Memory, PairId};
-use fx_edges::{Sink, SinkFault, write_all};
-use fx_rules::{Outcome, Session};
+use fx_edges::{Sink, SinkFault};
+use fx_pieces::Pieces;
+use fx_rules::{Market, Outcome, Session};
 
-/// Writes the local books of each bank in each pair, as they stand in the host.
+/// Writes the local books of each bank in each pair, as they stand in the market.
 #[tactic(auto, unfolding(crate::specs::Books::books_text))]
-pub(crate) fn write_books<K: Sink>(
+pub(crate) fn write_books<M: Market, K: Sink>(
     session: &Session,
-    host: &FlatHost,
+    market: &M,
     line: &mut Vec<u8>,
+    pieces: &mut Pieces,
     out: &mut K,
 ) -> Result<(), SinkFault>
-    requires host { IsHostOf session.now host.now }
-    ensures wrote { (books : ℕ → ℕ → LocalBook) → AreBooksOf session.now host.now books →
-        Wrote K.written K.faults out.old out.new (books_text session.now books) result }
+    requires market { IsMarketOf M.stands session.now market.now }
+    ensures wrote { (books : ℕ → ℕ → LocalBook) → AreBooksOf M.stands session.now market.now books →
+        Gathered K.written K.faults pieces.old out.old pieces.new out.new (books_text session.now books) result }
 {
-    match write_all(out, b"BOOKS\n") {
-        Ok(()) => write_banks(session, host, line, out),
+    match pieces.put(b"BOOKS\n", out) {
+        Ok(()) => write_banks(session, market, line, pieces, out),
         Err(fault) => Err(fault),
     }
 }
 
 /// Writes the local books of all banks.
-fn write_banks<K: Sink>(
+fn write_banks<M: Market, K: Sink>(
     session: &Session,
-    host: &FlatHost,
+    market: &M,
     line: &mut Vec<u8>,
+    pieces: &mut Pieces,
     out: &mut K,
 ) -> Result<(), SinkFault>
-    requires host { IsHostOf session.now host.now }
-    ensures wrote { (books : ℕ → ℕ → LocalBook) → AreBooksOf session.now host.now books →
-        Wrote K.written K.faults out.old out.new (books_below session.now books (bank_count session.now)) result }
+    requires market { IsMarketOf M.stands session.now market.now }
+    ensures wrote { (books : ℕ → ℕ → LocalBook) → AreBooksOf M.stands session.now market.now books →
+        Gathered K.written K.faults pieces.old out.old pieces.new out.new (books_below session.now books (bank_count session.now)) result }
 {
     for place in 0..session.banks().len() {
         let bank = BankId::new(place as u8).unwrap();
-        match write_pairs(session, host, bank, line, out) {
+        match write_pairs(session, market, bank, line, pieces, out) {
             Ok(()) => {}
             Err(fault) => return Err(fault),
         }
@@ -51,21 +53,22 @@ fn write_banks<K: Sink>(
 }
 
 /// Writes a bank's local books of all pairs.
-fn write_pairs<K: Sink>(
+fn write_pairs<M: Market, K: Sink>(
     session: &Session,
-    host: &FlatHost,
+    market: &M,
     bank: BankId,
     line: &mut Vec<u8>,
+    pieces: &mut Pieces,
     out: &mut K,
 ) -> Result<(), SinkFault>
-    requires host { IsHostOf session.now host.now }
+    requires market { IsMarketOf M.stands session.now market.now }
     requires bank { bank < bank_count session.now }
-    ensures wrote { (books : ℕ → ℕ → LocalBook) → AreBooksOf session.now host.now books →
-        Wrote K.written K.faults out.old out.new (book_lines_below session.now books bank (pair_count session.now)) result }
+    ensures wrote { (books : ℕ → ℕ → LocalBook) → AreBooksOf M.stands session.now market.now books →
+        Gathered K.written K.faults pieces.old out.old pieces.new out.new (book_lines_below session.now books bank (pair_count session.now)) result }
 {
     for place in 0..session.pairs().len() {
         let pair = PairId::new(place as u8).unwrap();
-        match write_book(session, host, bank, pair, line, out) {
+        match write_book(session, market, bank, pair, line, pieces, out) {
             Ok(()) => {}
             Err(fault) => return Err(fault),
         }
@@ -74,39 +77,40 @@ fn write_pairs<K: Sink>(
 }
 
 /// Writes a bank's local book of a pair.
-fn write_book<K: Sink>(
+fn write_book<M: Market, K: Sink>(
     session: &Session,
-    host: &FlatHost,
+    market: &M,
     bank: BankId,
     pair: PairId,
     line: &mut Vec<u8>,
+    pieces: &mut Pieces,
     out: &mut K,
 ) -> Result<(), SinkFault>
-    requires host { IsHostOf session.now host.now }
+    requires market { IsMarketOf M.stands session.now market.now }
     requires bank { bank < bank_count session.now }
     requires pair { pair < pair_count session.now }
-    ensures wrote { (books : ℕ → ℕ → LocalBook) → AreBooksOf session.now host.now books →
-        Wrote K.written K.faults out.old out.new (book_line session.now books bank pair) result }
+    ensures wrote { (books : ℕ → ℕ → LocalBook) → AreBooksOf M.stands session.now market.now books →
+        Gathered K.written K.faults pieces.old out.old pieces.new out.new (book_line session.now books bank pair) result }
 {
-    let made = make_book(session, host, bank, pair, line);
-    write_made(made, line, out)
+    let made = make_book(session, market, bank, pair, line);
+    write_made(made, line, pieces, out)
 }
 
 /// Makes the line of a bank's local book of a pair.
-fn make_book(
+fn make_book<M: Market>(
     session: &Session,
-    host: &FlatHost,
+    market: &M,
     bank: BankId,
     pair: PairId,
     line: &mut Vec<u8>,
 ) -> Result<(), Memory>
-    requires host { IsHostOf session.now host.now }
+    requires market { IsMarketOf M.stands session.now market.now }
     requires bank { bank < bank_count session.now }
     requires pair { pair < pair_count session.now }
-    ensures ok { OnOk result ((books : ℕ → ℕ → LocalBook) → AreBooksOf session.now host.now books →
+    ensures ok { OnOk result ((books : ℕ → ℕ → LocalBook) → AreBooksOf M.stands session.now market.now books →
         line.new.items ≡ book_line session.now books bank pair) }
 {
-    let Outcome::Depth { bids, asks } = host.depth(bank, pair)? else {
+    let Outcome::Depth { bids, asks } = market.depth(bank, pair)? else {
         unreachable!()
     };
     begin_word_row(name_of(session, bank), line)?;

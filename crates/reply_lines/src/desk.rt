@@ -1,7 +1,7 @@
 ghost use Rattle.std.specs.Prelude.{◌≡◌, ℕ, List, [], ◌<◌, ◌≤◌, ◌^◌, ◌+◌, ◌++◌, ◌*◌, length, OnOk, IfOk, Some, slice_get};
 ghost use Rattle.std.specs.List.{flat_map};
 ghost use Rattle.fx_rules.specs.Lists.{Each};
-ghost use Rattle.fx_edges.specs.Writing.{Wrote};
+ghost use Rattle.fx_pieces.specs.Gathered.{Gathered};
 ghost use Rattle.fx_rules.specs.Session.{bank_count};
 ghost use Rattle.reply_lines.specs.Notices.{notice_lines, reply_notices, taken_notices, given_notices, fill_notices, notices_in, desk_line, desk_text};
 ghost use Rattle.reply_lines.specs.Index.{IsIndexed, noticed};
@@ -9,19 +9,21 @@ ghost use Rattle.reply_lines.specs.Prints.{IsAnswerOf, IsFillOf, IsEntryOf};
 
 use crate::notices::{make_desk, make_fill, make_reply};
 use fx_amounts::{BankId, Memory};
-use fx_edges::{Sink, SinkFault, write_all};
+use fx_edges::{Sink, SinkFault};
+use fx_pieces::Pieces;
 use fx_rules::{Entry, Fill, Session};
 
 /// Writes a line that was made, where there was memory for it.
 pub fn write_made<K: Sink>(
     made: Result<(), Memory>,
     line: &[u8],
+    pieces: &mut Pieces,
     out: &mut K,
 ) -> Result<(), SinkFault>
-    ensures wrote { (text : List ℕ) → OnOk made (line.now ≡ text) → Wrote K.written K.faults out.old out.new text result }
+    ensures wrote { (text : List ℕ) → OnOk made (line.now ≡ text) → Gathered K.written K.faults pieces.old out.old pieces.new out.new text result }
 {
     match made {
-        Ok(()) => write_all(out, line),
+        Ok(()) => pieces.put(line, out),
         Err(Memory) => Err(SinkFault::Memory),
     }
 }
@@ -33,16 +35,17 @@ fn write_fill<K: Sink>(
     fill: &Fill,
     before: u128,
     line: &mut Vec<u8>,
+    pieces: &mut Pieces,
     out: &mut K,
 ) -> Result<u128, SinkFault>
     requires fill { IsFillOf session.now fill.now }
     requires room { before < 2 ^ 127 }
-    ensures wrote { Wrote K.written K.faults out.old out.new (notice_lines session.now before (fill_notices bank fill.now)) result }
+    ensures wrote { Gathered K.written K.faults pieces.old out.old pieces.new out.new (notice_lines session.now before (fill_notices bank fill.now)) result }
     ensures count { IfOk result (λ after. after ≡ before + length (fill_notices bank fill.now)) }
     ensures most { IfOk result (λ after. after ≤ before + 2) }
 {
-    match write_taken(session, bank, fill, before, line, out) {
-        Ok(taken) => write_given(session, bank, fill, taken, line, out),
+    match write_taken(session, bank, fill, before, line, pieces, out) {
+        Ok(taken) => write_given(session, bank, fill, taken, line, pieces, out),
         Err(fault) => Err(fault),
     }
 }
@@ -54,11 +57,12 @@ fn write_taken<K: Sink>(
     fill: &Fill,
     before: u128,
     line: &mut Vec<u8>,
+    pieces: &mut Pieces,
     out: &mut K,
 ) -> Result<u128, SinkFault>
     requires fill { IsFillOf session.now fill.now }
     requires room { before < 2 ^ 127 }
-    ensures wrote { Wrote K.written K.faults out.old out.new (notice_lines session.now before (taken_notices bank fill.now)) result }
+    ensures wrote { Gathered K.written K.faults pieces.old out.old pieces.new out.new (notice_lines session.now before (taken_notices bank fill.now)) result }
     ensures count { IfOk result (λ after. after ≡ before + length (taken_notices bank fill.now)) }
     ensures most { IfOk result (λ after. after ≤ before + 1) }
 {
@@ -74,7 +78,7 @@ fn write_taken<K: Sink>(
         fill,
         line,
     );
-    write_made(made, line, out)?;
+    write_made(made, line, pieces, out)?;
     Ok(before + 1)
 }
 
@@ -85,11 +89,12 @@ fn write_given<K: Sink>(
     fill: &Fill,
     before: u128,
     line: &mut Vec<u8>,
+    pieces: &mut Pieces,
     out: &mut K,
 ) -> Result<u128, SinkFault>
     requires fill { IsFillOf session.now fill.now }
     requires room { before ≤ 2 ^ 127 }
-    ensures wrote { Wrote K.written K.faults out.old out.new (notice_lines session.now before (given_notices bank fill.now)) result }
+    ensures wrote { Gathered K.written K.faults pieces.old out.old pieces.new out.new (notice_lines session.now before (given_notices bank fill.now)) result }
     ensures count { IfOk result (λ after. after ≡ before + length (given_notices bank fill.now)) }
     ensures most { IfOk result (λ after. after ≤ before + 1) }
 {
@@ -106,7 +111,7 @@ fn write_given<K: Sink>(
         fill,
         line,
     );
-    write_made(made, line, out)?;
+    write_made(made, line, pieces, out)?;
     Ok(before + 1)
 }
 
@@ -117,11 +122,12 @@ fn write_reply<K: Sink>(
     entry: &Entry,
     before: u128,
     line: &mut Vec<u8>,
+    pieces: &mut Pieces,
     out: &mut K,
 ) -> Result<u128, SinkFault>
     requires answer { IsAnswerOf session.now entry.now.command entry.now.outcome }
     requires room { before < 2 ^ 127 }
-    ensures wrote { Wrote K.written K.faults out.old out.new (notice_lines session.now before (reply_notices bank entry.now)) result }
+    ensures wrote { Gathered K.written K.faults pieces.old out.old pieces.new out.new (notice_lines session.now before (reply_notices bank entry.now)) result }
     ensures count { IfOk result (λ after. after ≡ before + length (reply_notices bank entry.now)) }
     ensures most { IfOk result (λ after. after ≤ before + 1) }
 {
@@ -136,7 +142,7 @@ fn write_reply<K: Sink>(
         &entry.outcome,
         line,
     );
-    write_made(made, line, out)?;
+    write_made(made, line, pieces, out)?;
     Ok(before + 1)
 }
 
@@ -147,11 +153,12 @@ fn write_fills<K: Sink>(
     fills: &[Fill],
     before: u128,
     line: &mut Vec<u8>,
+    pieces: &mut Pieces,
     out: &mut K,
 ) -> Result<u128, SinkFault>
     requires fills { Each (IsFillOf session.now) fills.now }
     requires room { before ≤ 2 ^ 126 }
-    ensures wrote { Wrote K.written K.faults out.old out.new (notice_lines session.now before (flat_map (fill_notices bank) fills.now)) result }
+    ensures wrote { Gathered K.written K.faults pieces.old out.old pieces.new out.new (notice_lines session.now before (flat_map (fill_notices bank) fills.now)) result }
     ensures count { IfOk result (λ after. after ≡ before + length (flat_map (fill_notices bank) fills.now)) }
     ensures most { IfOk result (λ after. after ≤ before + 2 * length fills.now) }
     ensures short { length fills.now < 2 ^ 63 }
@@ -159,7 +166,7 @@ fn write_fills<K: Sink>(
     let _ = fills.len();
     let mut number = before;
     for fill in fills {
-        number = match write_fill(session, bank, fill, number, line, out) {
+        number = match write_fill(session, bank, fill, number, line, pieces, out) {
             Ok(number) => number,
             Err(fault) => return Err(fault),
         };
@@ -174,16 +181,25 @@ fn write_notices<K: Sink>(
     entry: &Entry,
     before: u128,
     line: &mut Vec<u8>,
+    pieces: &mut Pieces,
     out: &mut K,
 ) -> Result<u128, SinkFault>
     requires entry { IsEntryOf session.now entry.now }
     requires room { before < 2 ^ 126 }
-    ensures wrote { Wrote K.written K.faults out.old out.new (notice_lines session.now before (notices_in bank entry.now)) result }
+    ensures wrote { Gathered K.written K.faults pieces.old out.old pieces.new out.new (notice_lines session.now before (notices_in bank entry.now)) result }
     ensures count { IfOk result (λ after. after ≡ before + length (notices_in bank entry.now)) }
     ensures most { IfOk result (λ after. after ≤ before + 2 ^ 64) }
 {
-    match write_reply(session, bank, entry, before, line, out) {
-        Ok(replied) => write_fills(session, bank, entry.outcome.fills(), replied, line, out),
+    match write_reply(session, bank, entry, before, line, pieces, out) {
+        Ok(replied) => write_fills(
+            session,
+            bank,
+            entry.outcome.fills(),
+            replied,
+            line,
+            pieces,
+            out,
+        ),
         Err(fault) => Err(fault),
     }
 }
@@ -227,15 +243,16 @@ pub fn write_desk<K: Sink>(
     entries: &[Entry],
     places: &[usize],
     line: &mut Vec<u8>,
+    pieces: &mut Pieces,
     out: &mut K,
 ) -> Result<(), SinkFault>
     requires bank { bank < bank_count session.now }
     requires entries { Each (IsEntryOf session.now) entries.now }
     requires places { IsIndexed entries.now bank places.now }
-    ensures wrote { Wrote K.written K.faults out.old out.new (desk_text session.now entries.now bank) result }
+    ensures wrote { Gathered K.written K.faults pieces.old out.old pieces.new out.new (desk_text session.now entries.now bank) result }
 {
-    match write_desk_line(session, bank, entries, places, line, out) {
-        Ok(()) => write_all_notices(session, bank, entries, places, line, out),
+    match write_desk_line(session, bank, entries, places, line, pieces, out) {
+        Ok(()) => write_all_notices(session, bank, entries, places, line, pieces, out),
         Err(fault) => Err(fault),
     }
 }
@@ -247,14 +264,15 @@ fn write_desk_line<K: Sink>(
     entries: &[Entry],
     places: &[usize],
     line: &mut Vec<u8>,
+    pieces: &mut Pieces,
     out: &mut K,
 ) -> Result<(), SinkFault>
     requires bank { bank < bank_count session.now }
     requires within { Each (λ place. place < length entries.now) places.now }
-    ensures wrote { Wrote K.written K.faults out.old out.new (desk_line session.now bank (length (noticed bank entries.now places.now))) result }
+    ensures wrote { Gathered K.written K.faults pieces.old out.old pieces.new out.new (desk_line session.now bank (length (noticed bank entries.now places.now))) result }
 {
     let made = make_desk(session, bank, count_notices(bank, entries, places), line);
-    write_made(made, line, out)
+    write_made(made, line, pieces, out)
 }
 
 /// Writes a bank's notices of the entries at some places.
@@ -264,17 +282,18 @@ fn write_all_notices<K: Sink>(
     entries: &[Entry],
     places: &[usize],
     line: &mut Vec<u8>,
+    pieces: &mut Pieces,
     out: &mut K,
 ) -> Result<(), SinkFault>
     requires entries { Each (IsEntryOf session.now) entries.now }
     requires within { Each (λ place. place < length entries.now) places.now }
-    ensures wrote { Wrote K.written K.faults out.old out.new (notice_lines session.now 0 (noticed bank entries.now places.now)) result }
+    ensures wrote { Gathered K.written K.faults pieces.old out.old pieces.new out.new (notice_lines session.now 0 (noticed bank entries.now places.now)) result }
 {
     let _ = places.len();
     let mut number = 0;
     for place in places {
         let entry = entry_at(entries, *place);
-        number = match write_notices(session, bank, entry, number, line, out) {
+        number = match write_notices(session, bank, entry, number, line, pieces, out) {
             Ok(number) => number,
             Err(fault) => return Err(fault),
         };

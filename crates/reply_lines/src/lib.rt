@@ -12,4 +12,4 @@ mod report;
 mod row;
 
 pub use laws::one_output;
-pub use output::{Ending, OutFault, write_day, write_output};
+pub use output::{Ending, OutFault, write_day, write_day_from, write_output, write_output_from};

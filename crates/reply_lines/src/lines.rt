@@ -1,12 +1,13 @@
 ghost use Rattle.std.specs.Prelude.{◌≡◌, ℕ, List, OnOk};
 ghost use Rattle.std.specs.List.{flat_map};
-ghost use Rattle.fx_edges.specs.Writing.{Wrote};
+ghost use Rattle.fx_pieces.specs.Gathered.{Gathered};
 ghost use Rattle.fx_rules.specs.Lists.{Each};
 ghost use Rattle.fx_rules.specs.Session.{Header};
 
 use crate::desk::write_made;
 use fx_amounts::Memory;
 use fx_edges::{Sink, SinkFault};
+use fx_pieces::Pieces;
 use fx_rules::Session;
 
 /// What an output has a line of: an entry of the journal, a row of the report.
@@ -28,14 +29,15 @@ pub(crate) fn write_lines<T: Print, K: Sink>(
     session: &Session,
     items: &[T],
     line: &mut Vec<u8>,
+    pieces: &mut Pieces,
     out: &mut K,
 ) -> Result<(), SinkFault>
     requires fit { Each (T.fits session.now) items.now }
-    ensures wrote { Wrote K.written K.faults out.old out.new (flat_map (T.text session.now) items.now) result }
+    ensures wrote { Gathered K.written K.faults pieces.old out.old pieces.new out.new (flat_map (T.text session.now) items.now) result }
 {
     for item in items {
         let made = item.make_line(session, line);
-        match write_made(made, line, out) {
+        match write_made(made, line, pieces, out) {
             Ok(()) => {}
             Err(fault) => return Err(fault),
         }

@@ -2,11 +2,12 @@ ghost use Rattle.std.specs.Prelude.{◌≡◌, ℕ, ◌++◌, length, IfOk, OnOk
 ghost use Rattle.std.specs.List.{flat_map};
 ghost use Rattle.fx_amounts.specs.Numeral.{numeral};
 ghost use Rattle.fx_edges.specs.Writing.{Wrote};
+ghost use Rattle.fx_pieces.specs.Gathered.{Gathered};
 ghost use Rattle.fx_rules.specs.Lists.{Each};
 ghost use Rattle.fx_rules.specs.History.{IsLegal, state};
 ghost use Rattle.fx_rules.specs.Session.{bank_count};
 ghost use Rattle.session_head.specs.HeadText.{head_text_of};
-ghost use Rattle.reply_lines.specs.Books.{LocalBook, AreBooks, AreBooksOf};
+ghost use Rattle.reply_lines.specs.Books.{LocalBook, AreBooks, IsMarketOf, AreBooksOf};
 ghost use Rattle.reply_lines.specs.Day.{IsDayOf};
 ghost use Rattle.reply_lines.specs.Faults.{WroteOutput};
 ghost use Rattle.reply_lines.specs.Index.{IsIndex};
@@ -20,10 +21,11 @@ use crate::lines::{Print, write_lines};
 use crate::notices::make_count;
 use crate::report::write_report;
 use day_report::{Report, report};
-use flat_host::{FlatHost, replay};
+use flat_host::replay;
 use fx_amounts::{BankId, Memory};
-use fx_edges::{Sink, SinkFault, write_all};
-use fx_rules::{Entry, Session};
+use fx_edges::{Sink, SinkFault};
+use fx_pieces::Pieces;
+use fx_rules::{Entry, Market, Session};
 use order_lines::command_text;
 use session_head::head_text;
 use std::alloc::Global;
@@ -82,8 +84,9 @@ impl From<SinkFault> for OutFault {
 
 /// Writes the output of a legal history: header, journal, desks, local books, report and the last lines, which tell of the
 /// strays and of how the reading ended. After a fault a prefix of it was appended; the fault is `Write` only where the
-/// sink's count of faults rose, and `Memory` only where it stayed. Beside one line at a time it keeps the places of each
-/// bank's entries and the market at the end; all that is found before the first byte is written.
+/// sink's count of faults rose, and `Memory` only where it stayed. The sink gets it in pieces of 8 KiB at least, and the last
+/// one. Beside these it keeps the places of each bank's entries and the market at the end, which it finds by replaying; all that
+/// is found before the first byte is written.
 pub fn write_output<K: Sink>(
     alloc: Global,
     session: &Session,
@@ -95,7 +98,27 @@ pub fn write_output<K: Sink>(
     requires legal { IsLegal session.now entries.now }
     ensures wrote { WroteOutput K.written K.faults out.old out.new (IsOutput session.now entries.now strays ending) result }
 {
-    match write_whole(alloc, session, entries, strays, ending, out) {
+    match replay(alloc, session, entries) {
+        Ok(host) => write_output_from(alloc, session, entries, &host, strays, ending, out),
+        Err(Memory) => Err(OutFault::Memory),
+    }
+}
+
+/// Writes the output of a legal history, as `write_output` does, from the market in the state after it.
+pub fn write_output_from<M: Market, K: Sink>(
+    alloc: Global,
+    session: &Session,
+    entries: &[Entry],
+    market: &M,
+    strays: u64,
+    ending: Ending,
+    out: &mut K,
+) -> Result<(), OutFault>
+    requires legal { IsLegal session.now entries.now }
+    requires market { M.stands market.now session.now (state session.now entries.now) }
+    ensures wrote { WroteOutput K.written K.faults out.old out.new (IsOutput session.now entries.now strays ending) result }
+{
+    match write_whole(alloc, session, entries, market, strays, ending, out) {
         Ok(()) => Ok(()),
         Err(fault) => Err(OutFault::from(fault)),
     }
@@ -111,56 +134,114 @@ pub fn write_day<K: Sink>(
     requires legal { IsLegal session.now entries.now }
     ensures wrote { WroteOutput K.written K.faults out.old out.new (IsDayText session.now entries.now) result }
 {
-    let mut line = Vec::new(alloc);
-    match write_text(alloc, session, entries, &mut line, out) {
+    match replay(alloc, session, entries) {
+        Ok(host) => write_day_from(alloc, session, entries, &host, out),
+        Err(Memory) => Err(OutFault::Memory),
+    }
+}
+
+/// Writes the output of a legal history without its last lines, as `write_day` does, from the market in the state after it.
+pub fn write_day_from<M: Market, K: Sink>(
+    alloc: Global,
+    session: &Session,
+    entries: &[Entry],
+    market: &M,
+    out: &mut K,
+) -> Result<(), OutFault>
+    requires legal { IsLegal session.now entries.now }
+    requires market { M.stands market.now session.now (state session.now entries.now) }
+    ensures wrote { WroteOutput K.written K.faults out.old out.new (IsDayText session.now entries.now) result }
+{
+    match write_part(alloc, session, entries, market, out) {
         Ok(()) => Ok(()),
         Err(fault) => Err(OutFault::from(fault)),
     }
 }
 
 /// Writes the output of a legal history.
-fn write_whole<K: Sink>(
+fn write_whole<M: Market, K: Sink>(
     alloc: Global,
     session: &Session,
     entries: &[Entry],
+    market: &M,
     strays: u64,
     ending: Ending,
     out: &mut K,
 ) -> Result<(), SinkFault>
     requires legal { IsLegal session.now entries.now }
+    requires market { M.stands market.now session.now (state session.now entries.now) }
     ensures wrote { (books : ℕ → ℕ → LocalBook) → AreBooks session.now (state session.now entries.now) books →
         Wrote K.written K.faults out.old out.new (day_text session.now entries.now books ++ last_text strays ending) result }
 {
     let mut line = Vec::new(alloc);
-    match write_text(alloc, session, entries, &mut line, out) {
-        Ok(()) => write_last(strays, ending, &mut line, out),
+    let mut pieces = Pieces::new(alloc);
+    match write_text(alloc, session, entries, market, &mut line, &mut pieces, out) {
+        Ok(()) => write_end(strays, ending, &mut line, &mut pieces, out),
         Err(fault) => Err(fault),
     }
 }
 
-/// Writes all but the last lines.
-fn write_text<K: Sink>(
+/// Writes all but the last lines of the output of a legal history.
+fn write_part<M: Market, K: Sink>(
     alloc: Global,
     session: &Session,
     entries: &[Entry],
-    line: &mut Vec<u8>,
+    market: &M,
     out: &mut K,
 ) -> Result<(), SinkFault>
     requires legal { IsLegal session.now entries.now }
+    requires market { M.stands market.now session.now (state session.now entries.now) }
     ensures wrote { (books : ℕ → ℕ → LocalBook) → AreBooks session.now (state session.now entries.now) books →
         Wrote K.written K.faults out.old out.new (day_text session.now entries.now books) result }
 {
+    let mut line = Vec::new(alloc);
+    let mut pieces = Pieces::new(alloc);
+    match write_text(alloc, session, entries, market, &mut line, &mut pieces, out) {
+        Ok(()) => pieces.hand_on(out),
+        Err(fault) => Err(fault),
+    }
+}
+
+/// Writes all but the last lines, of which the last piece is not yet handed on.
+fn write_text<M: Market, K: Sink>(
+    alloc: Global,
+    session: &Session,
+    entries: &[Entry],
+    market: &M,
+    line: &mut Vec<u8>,
+    pieces: &mut Pieces,
+    out: &mut K,
+) -> Result<(), SinkFault>
+    requires legal { IsLegal session.now entries.now }
+    requires market { M.stands market.now session.now (state session.now entries.now) }
+    ensures wrote { (books : ℕ → ℕ → LocalBook) → AreBooks session.now (state session.now entries.now) books →
+        Gathered K.written K.faults pieces.old out.old pieces.new out.new (day_text session.now entries.now books) result }
+{
     match Day::new(alloc, session, entries) {
-        Ok(day) => write_day_text(session, entries, &day, line, out),
+        Ok(day) => write_day_text(session, entries, market, &day, line, pieces, out),
         Err(Memory) => Err(SinkFault::Memory),
+    }
+}
+
+/// Writes the last lines, and hands on the last piece.
+fn write_end<K: Sink>(
+    strays: u64,
+    ending: Ending,
+    line: &mut Vec<u8>,
+    pieces: &mut Pieces,
+    out: &mut K,
+) -> Result<(), SinkFault>
+    ensures wrote { Wrote K.written K.faults out.old out.new (pieces.old ++ last_text strays ending) result }
+{
+    match write_last(strays, ending, line, pieces, out) {
+        Ok(()) => pieces.hand_on(out),
+        Err(fault) => Err(fault),
     }
 }
 
 /// What is found of a history before it is printed.
 #[derive(Drop)]
 struct Day {
-    /// The market at the end.
-    host: FlatHost,
     /// The sums of its fills.
     report: Report,
     /// For each bank the places of the entries of which it has notices.
@@ -173,7 +254,6 @@ impl Day {
         ensures day { IfOk result (IsDayOf session.now entries.now) }
     {
         Ok(Day {
-            host: replay(alloc, session, entries)?,
             report: report(alloc, session, entries)?,
             index: index_of(alloc, session, entries)?,
         })
@@ -182,23 +262,26 @@ impl Day {
 
 /// Writes header, journal, desks, local books and report.
 #[tactic(auto, unfolding(crate::specs::Output::day_text))]
-fn write_day_text<K: Sink>(
+fn write_day_text<M: Market, K: Sink>(
     session: &Session,
     entries: &[Entry],
+    market: &M,
     day: &Day,
     line: &mut Vec<u8>,
+    pieces: &mut Pieces,
     out: &mut K,
 ) -> Result<(), SinkFault>
     requires entries { Each (IsEntryOf session.now) entries.now }
+    requires market { IsMarketOf M.stands session.now market.now }
     requires day { IsDayOf session.now entries.now day.now }
-    ensures wrote { (books : ℕ → ℕ → LocalBook) → AreBooksOf session.now day.now.host books →
-        Wrote K.written K.faults out.old out.new (day_text session.now entries.now books) result }
+    ensures wrote { (books : ℕ → ℕ → LocalBook) → AreBooksOf M.stands session.now market.now books →
+        Gathered K.written K.faults pieces.old out.old pieces.new out.new (day_text session.now entries.now books) result }
 {
-    write_head(session, line, out)?;
-    write_journal(session, entries, line, out)?;
-    write_desks(session, entries, &day.index, line, out)?;
-    write_books(session, &day.host, line, out)?;
-    write_report(session, &day.report, line, out)
+    write_head(session, line, pieces, out)?;
+    write_journal(session, entries, line, pieces, out)?;
+    write_desks(session, entries, &day.index, line, pieces, out)?;
+    write_books(session, market, line, pieces, out)?;
+    write_report(session, &day.report, line, pieces, out)
 }
 
 /// Writes the last lines.
@@ -207,30 +290,41 @@ fn write_last<K: Sink>(
     strays: u64,
     ending: Ending,
     line: &mut Vec<u8>,
+    pieces: &mut Pieces,
     out: &mut K,
 ) -> Result<(), SinkFault>
-    ensures wrote { Wrote K.written K.faults out.old out.new (last_text strays ending) result }
+    ensures wrote { Gathered K.written K.faults pieces.old out.old pieces.new out.new (last_text strays ending) result }
 {
-    write_strays(strays, line, out)?;
-    write_all(out, ending.line())
+    write_strays(strays, line, pieces, out)?;
+    pieces.put(ending.line(), out)
 }
 
 /// Writes the header.
-fn write_head<K: Sink>(session: &Session, line: &mut Vec<u8>, out: &mut K) -> Result<(), SinkFault>
-    ensures wrote { Wrote K.written K.faults out.old out.new (head_text_of session.now) result }
+fn write_head<K: Sink>(
+    session: &Session,
+    line: &mut Vec<u8>,
+    pieces: &mut Pieces,
+    out: &mut K,
+) -> Result<(), SinkFault>
+    ensures wrote { Gathered K.written K.faults pieces.old out.old pieces.new out.new (head_text_of session.now) result }
 {
     line.clear();
     let made = head_text(session, line);
-    write_made(made, line, out)
+    write_made(made, line, pieces, out)
 }
 
 /// Writes the number of strays.
 #[tactic(auto, unfolding(crate::specs::Output::strays_line))]
-fn write_strays<K: Sink>(strays: u64, line: &mut Vec<u8>, out: &mut K) -> Result<(), SinkFault>
-    ensures wrote { Wrote K.written K.faults out.old out.new (strays_line strays) result }
+fn write_strays<K: Sink>(
+    strays: u64,
+    line: &mut Vec<u8>,
+    pieces: &mut Pieces,
+    out: &mut K,
+) -> Result<(), SinkFault>
+    ensures wrote { Gathered K.written K.faults pieces.old out.old pieces.new out.new (strays_line strays) result }
 {
     let made = make_count(b"STRAYS", u128::from(strays), line);
-    write_made(made, line, out)
+    write_made(made, line, pieces, out)
 }
 
 /// Writes the journal.
@@ -239,13 +333,14 @@ fn write_journal<K: Sink>(
     session: &Session,
     entries: &[Entry],
     line: &mut Vec<u8>,
+    pieces: &mut Pieces,
     out: &mut K,
 ) -> Result<(), SinkFault>
     requires entries { Each (IsEntryOf session.now) entries.now }
-    ensures wrote { Wrote K.written K.faults out.old out.new (journal_text session.now entries.now) result }
+    ensures wrote { Gathered K.written K.faults pieces.old out.old pieces.new out.new (journal_text session.now entries.now) result }
 {
-    write_journal_line(entries, line, out)?;
-    write_lines(session, entries, line, out)
+    write_journal_line(entries, line, pieces, out)?;
+    write_lines(session, entries, line, pieces, out)
 }
 
 /// Writes the line that begins the journal.
@@ -253,12 +348,13 @@ fn write_journal<K: Sink>(
 fn write_journal_line<K: Sink>(
     entries: &[Entry],
     line: &mut Vec<u8>,
+    pieces: &mut Pieces,
     out: &mut K,
 ) -> Result<(), SinkFault>
-    ensures wrote { Wrote K.written K.faults out.old out.new (journal_line (length entries.now)) result }
+    ensures wrote { Gathered K.written K.faults pieces.old out.old pieces.new out.new (journal_line (length entries.now)) result }
 {
     let made = make_count(b"JOURNAL", entries.len() as u128, line);
-    write_made(made, line, out)
+    write_made(made, line, pieces, out)
 }
 
 impl Print for Entry {
@@ -281,16 +377,17 @@ fn write_desks<K: Sink>(
     entries: &[Entry],
     index: &[Places],
     line: &mut Vec<u8>,
+    pieces: &mut Pieces,
     out: &mut K,
 ) -> Result<(), SinkFault>
     requires entries { Each (IsEntryOf session.now) entries.now }
     requires index { IsIndex (bank_count session.now) entries.now index.now }
-    ensures wrote { Wrote K.written K.faults out.old out.new (desks_text session.now entries.now) result }
+    ensures wrote { Gathered K.written K.faults pieces.old out.old pieces.new out.new (desks_text session.now entries.now) result }
 {
     for place in 0..session.banks().len() {
         let bank = BankId::new(place as u8).unwrap();
         let places = index[place].as_slice();
-        match write_desk(session, bank, entries, places, line, out) {
+        match write_desk(session, bank, entries, places, line, pieces, out) {
             Ok(()) => {}
             Err(fault) => return Err(fault),
         }

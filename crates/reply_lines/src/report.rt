@@ -1,5 +1,5 @@
 ghost use Rattle.std.specs.Prelude.{◌<◌};
-ghost use Rattle.fx_edges.specs.Writing.{Wrote};
+ghost use Rattle.fx_pieces.specs.Gathered.{Gathered};
 ghost use Rattle.fx_rules.specs.Session.{bank_count, pair_count};
 ghost use Rattle.reply_lines.specs.Report.{IsReportOf, volume_line, use_line, net_line, report_of};
 
@@ -8,7 +8,8 @@ use crate::notices::name_of;
 use crate::row::{begin_word_row, end_row, push_field, push_number_field, push_signed_field};
 use day_report::{Net, Report, Use, Volume};
 use fx_amounts::Memory;
-use fx_edges::{Sink, SinkFault, write_all};
+use fx_edges::{Sink, SinkFault};
+use fx_pieces::Pieces;
 use fx_rules::Session;
 
 /// Writes a report.
@@ -17,15 +18,16 @@ pub(crate) fn write_report<K: Sink>(
     session: &Session,
     report: &Report,
     line: &mut Vec<u8>,
+    pieces: &mut Pieces,
     out: &mut K,
 ) -> Result<(), SinkFault>
     requires report { IsReportOf session.now report.now }
-    ensures wrote { Wrote K.written K.faults out.old out.new (report_of session.now report.now.volumes report.now.uses report.now.nets) result }
+    ensures wrote { Gathered K.written K.faults pieces.old out.old pieces.new out.new (report_of session.now report.now.volumes report.now.uses report.now.nets) result }
 {
-    write_all(out, b"REPORT\n")?;
-    write_lines(session, report.volumes.as_slice(), line, out)?;
-    write_lines(session, report.uses.as_slice(), line, out)?;
-    write_lines(session, report.nets.as_slice(), line, out)
+    pieces.put(b"REPORT\n", out)?;
+    write_lines(session, report.volumes.as_slice(), line, pieces, out)?;
+    write_lines(session, report.uses.as_slice(), line, pieces, out)?;
+    write_lines(session, report.nets.as_slice(), line, pieces, out)
 }
 
 impl Print for Volume {

@@ -1,5 +1,9 @@
 use Rattle.std.proofs.Common.{List, map, subst, Ok, Err}
 use Rattle.fx_rules.specs.declared.outcome.Entry.{Entry}
+use Rattle.flat_host.specs.FlatState.{FlatState}
+use Rattle.flat_host.specs.Steps.{stands}
+use Rattle.market_run.specs.Ran.{Ran}
+use Rattle.journal_check.proofs.AtTheEnd.{at_the_end}
 use Rattle.journal_check.specs.Stops.{IsComparedWith}
 use Rattle.fx_rules.specs.Sending.{sent_by}
 use Rattle.std.proofs.lemmas.Result.{err_from_is_err_and}
@@ -14,21 +18,26 @@ returns-in_err-counted c =
     let p = err_from_is_err_and c.from_residual-in_err-counted.result c.from_residual-in_err-counted.ensures.1 in
     rw (p.1, p.2) (judged_count c.args.text.now c.in_ok-headed.headed c.in_err-counted.field-0.0 c.in_ok-headed.ensures.answers c.in_err-counted.ensures.answers)
 
-pub returns-in_err-entries : goal.returns-in_err-entries
-returns-in_err-entries c =
-    let p = err_from_is_err_and c.from_residual-in_err-entries.result c.from_residual-in_err-entries.ensures.1 in
-    rw (p.1, p.2) (judged_commands {A = List Entry} (map sent_by) c.args.text.now c.in_ok-headed.headed c.in_ok-counted.counted c.in_err-entries.field-0.0 c.in_ok-headed.ensures.answers c.in_ok-counted.ensures.answers c.in_err-entries.ensures.answers)
+pub returns-in_err-run : goal.returns-in_err-run
+returns-in_err-run c =
+    let p = err_from_is_err_and c.from_residual-in_err-run.result c.from_residual-in_err-run.ensures.1 in
+    rw (p.1, p.2) (judged_commands {A = Ran FlatState} (λ (run : Ran FlatState). map sent_by run.entries) c.args.text.now c.in_ok-headed.headed c.in_ok-counted.counted c.in_err-run.field-0.0 c.in_ok-headed.ensures.answers c.in_ok-counted.ensures.answers c.in_err-run.ensures.answers)
 
 pub returns-in_err-end : goal.returns-in_err-end
 returns-in_err-end c =
     let p = err_from_is_err_and c.from_residual-in_err-end.result c.from_residual-in_err-end.ensures.1 in
-    rw (p.1, p.2) (judged_apart c.args.text.now c.in_ok-headed.headed c.in_ok-counted.counted c.in_ok-entries.entries.items c.in_err-end.field-0.0
-    (record { header_is = c.in_ok-headed.ensures.answers; count_is = c.in_ok-counted.ensures.answers; commands_are = c.in_ok-entries.ensures.answers; legal = c.in_ok-entries.ensures.legal })
-    (subst (λ (entries : List Entry). IsComparedWith c.in_ok-headed.headed.session entries c.args.text.now (Err c.in_err-end.field-0.0)) c.deref.ensures.value c.in_err-end.ensures.compared))
+    rw (p.1, p.2) (judged_apart c.args.text.now c.in_ok-headed.headed c.in_ok-counted.counted c.in_ok-run.run'.entries c.in_err-end.field-0.0
+    (record { header_is = c.in_ok-headed.ensures.answers; count_is = c.in_ok-counted.ensures.answers; commands_are = c.in_ok-run.ensures.answers; legal = c.in_ok-run.ensures.run.legal })
+    (subst (λ (entries : List Entry). IsComparedWith c.in_ok-headed.headed.session entries c.args.text.now (Err c.in_err-end.field-0.0)) c.entries.ensures.entries c.in_err-end.ensures.compared))
 
 pub returns : goal.returns
 returns c =
-    judged_last c.args.text.now c.in_ok-headed.headed c.in_ok-counted.counted c.in_ok-entries.entries.items c.in_ok-end.end c.last_lines.result
-    (record { header_is = c.in_ok-headed.ensures.answers; count_is = c.in_ok-counted.ensures.answers; commands_are = c.in_ok-entries.ensures.answers; legal = c.in_ok-entries.ensures.legal })
-    (subst (λ (entries : List Entry). IsComparedWith c.in_ok-headed.headed.session entries c.args.text.now (Ok c.in_ok-end.end)) c.deref.ensures.value c.in_ok-end.ensures.compared)
+    judged_last c.args.text.now c.in_ok-headed.headed c.in_ok-counted.counted c.in_ok-run.run'.entries c.in_ok-end.end c.last_lines.result
+    (record { header_is = c.in_ok-headed.ensures.answers; count_is = c.in_ok-counted.ensures.answers; commands_are = c.in_ok-run.ensures.answers; legal = c.in_ok-run.ensures.run.legal })
+    (subst (λ (entries : List Entry). IsComparedWith c.in_ok-headed.headed.session entries c.args.text.now (Ok c.in_ok-end.end)) c.entries.ensures.entries c.in_ok-end.ensures.compared)
     c.last_lines.ensures
+
+pub compare_day-requires : goal.compare_day-requires
+compare_day-requires c =
+    let end = at_the_end stands c.in_ok-headed.headed.session c.in_ok-run.run' c.market.ensures.market c.entries.ensures.entries c.in_ok-run.ensures.run in
+    record { legal = end.0; market = end.1 }

@@ -1,5 +1,6 @@
-use Rattle.std.proofs.Common.{◌-◌, ◌+◌, List, map, arith, ◌∙◌, ap, sym, ℕ, Ok}
-use Rattle.fx_rules.specs.declared.outcome.Entry.{Entry}
+use Rattle.std.proofs.Common.{◌-◌, ◌+◌, map, arith, ◌∙◌, ap, ℕ}
+use Rattle.flat_host.specs.FlatState.{FlatState}
+use Rattle.market_run.specs.Ran.{Ran}
 use Rattle.fx_rules.specs.Sending.{sent_by}
 use Rattle.journal_check.proofs.HeaderLemmas.{read-within}
 use Rattle.journal_check.proofs.JournalLemmas.{commands_stopped, commands_wrong, commands_more, commands_in-all, sent_more}
@@ -7,7 +8,7 @@ use Rattle.journal_check.proofs.journal.read_entries.Goals as goal
 
 pub returns-in-Err-clause-answers : goal.returns-in-Err-clause-answers
 returns-in-Err-clause-answers c =
-    commands_stopped {A = List Entry} (map sent_by) c.args.session.now c.args.text.now c.loop-entry.at (map sent_by c.loop-entry.run.entries) (c.args.counted.now.entries - c.loop-entry._entry) c.in-Err.stop _ (omega arith) c.in-Err.ensures c.loop-entry.invariant.reads
+    commands_stopped {A = Ran FlatState} (λ (run : Ran FlatState). map sent_by run.entries) c.args.session.now c.args.text.now c.loop-entry.at (map sent_by c.loop-entry.run.entries) (c.args.counted.now.entries - c.loop-entry._entry) c.in-Err.stop _ (omega arith) c.in-Err.ensures c.loop-entry.invariant.reads
 
 pub returns-in_default-clause-answers : goal.returns-in_default-clause-answers
 returns-in_default-clause-answers c =
@@ -28,7 +29,6 @@ pub returns-clause-answers : goal.returns-clause-answers
 returns-clause-answers c =
     c.loop-entry.invariant.reads
     ∙ commands_in-all c.args.session.now _ (map sent_by c.loop-entry.run.entries) (c.args.counted.now.entries - c.loop-entry._entry) _ (omega arith)
-    ∙ ap (λ (entries : List Entry). Ok (map sent_by entries)) (sym c.into_parts-host.ensures.entries)
 
 pub serve-requires : goal.serve-requires
 serve-requires c = record {

@@ -1,7 +1,7 @@
 -- Each turn writes one bank's books behind those so far.
 use Rattle.std.proofs.Common.{◌≡◌, arith, ap, sym, subst, length, add-one, Err}
-use Rattle.fx_edges.specs.Writing.{Appended, Wrote}
-use Rattle.fx_edges.proofs.Writing.{Wrote-cut, Wrote-from_Appended, Appended-append}
+use Rattle.fx_pieces.specs.Gathered.{Kept, Gathered}
+use Rattle.fx_pieces.proofs.Gathering.{Gathered-cut, Gathered-from_Kept, Kept-append}
 use Rattle.fx_rules.specs.Session.{pair_count}
 use Rattle.reply_lines.specs.Books.{book_lines_below, books_below}
 use Rattle.reply_lines.proofs.Parts.{books-prefix, same_place}
@@ -11,8 +11,8 @@ pub returns-in-Err : goal.returns-in-Err
 returns-in-Err g c =
     let bank : c.unwrap-bank.result ≡ c.loop-place.place = same_place c.new.result c.unwrap-bank.result c.loop-place.place c.unwrap-bank.ensures c.new.ensures.value in
     record {
-      wrote = λ books are. Wrote-cut (c.loop-place.invariant books are)
-          (subst (λ b. Wrote {T = Unit {0}} g.K.Sink.written g.K.Sink.faults c.loop-place.out c.write_pairs.new.out (book_lines_below c.args.session.now books b (pair_count c.args.session.now)) (Err c.in-Err.fault)) bank (c.in-Err.ensures.wrote books are))
+      wrote = λ books are. Gathered-cut (c.loop-place.invariant books are)
+          (subst (λ b. Gathered {T = Unit {0}} g.K.Sink.written g.K.Sink.faults c.loop-place.pieces c.loop-place.out c.write_pairs.new.pieces c.write_pairs.new.out (book_lines_below c.args.session.now books b (pair_count c.args.session.now)) (Err c.in-Err.fault)) bank (c.in-Err.ensures.wrote books are))
           (books-prefix c.args.session.now books c.loop-place.place (length c.args.session.now.banks)
           (omega (arith, c.loop-place-test.true, ap length c.banks-place-end.ensures.value)));
     }
@@ -20,14 +20,14 @@ returns-in-Err g c =
 pub loop-place-preserved : goal.loop-place-preserved
 loop-place-preserved g c =
     let bank : c.unwrap-bank.result ≡ c.loop-place.place = same_place c.new.result c.unwrap-bank.result c.loop-place.place c.unwrap-bank.ensures c.new.ensures.value in
-    λ books are. subst (λ n. Appended g.K.Sink.written g.K.Sink.faults c.args.out.now c.write_pairs.new.out (books_below c.args.session.now books n)) (sym (add-one c.loop-place.place))
-    (Appended-append (c.loop-place.invariant books are)
-    (subst (λ b. Appended g.K.Sink.written g.K.Sink.faults c.loop-place.out c.write_pairs.new.out (book_lines_below c.args.session.now books b (pair_count c.args.session.now))) bank (c.in-Ok.ensures.wrote books are).ok))
+    λ books are. subst (λ n. Kept g.K.Sink.written g.K.Sink.faults c.args.pieces.now c.args.out.now c.write_pairs.new.pieces c.write_pairs.new.out (books_below c.args.session.now books n)) (sym (add-one c.loop-place.place))
+    (Kept-append (c.loop-place.invariant books are)
+    (subst (λ b. Kept g.K.Sink.written g.K.Sink.faults c.loop-place.pieces c.loop-place.out c.write_pairs.new.pieces c.write_pairs.new.out (book_lines_below c.args.session.now books b (pair_count c.args.session.now))) bank (c.in-Ok.ensures.wrote books are).ok))
 
 pub returns : goal.returns
 returns g c =
     let end : c.loop-place.place ≡ length c.args.session.now.banks = omega (arith, c.loop-place-test.false, c.loop-place.auto.place-end, ap length c.banks-place-end.ensures.value) in
     record {
-      wrote = λ books are. Wrote-from_Appended tt
-          (subst (λ n. Appended g.K.Sink.written g.K.Sink.faults c.args.out.now c.loop-place.out (books_below c.args.session.now books n)) end (c.loop-place.invariant books are));
+      wrote = λ books are. Gathered-from_Kept tt
+          (subst (λ n. Kept g.K.Sink.written g.K.Sink.faults c.args.pieces.now c.args.out.now c.loop-place.pieces c.loop-place.out (books_below c.args.session.now books n)) end (c.loop-place.invariant books are));
     }

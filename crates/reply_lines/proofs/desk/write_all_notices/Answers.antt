@@ -1,6 +1,6 @@
 -- Each turn writes one entry's notices behind those so far.
 use Rattle.std.proofs.Common.{ℕ, ◌≡◌, ◌<◌, ◌+◌, ◌∙◌, get_or, ap, sym, subst, length, arith, Ok, Err}
-use Rattle.fx_edges.specs.Writing.{Wrote}
+use Rattle.fx_pieces.specs.Gathered.{Gathered}
 use Rattle.reply_lines.specs.Notices.{notice_lines}
 use Rattle.reply_lines.specs.Index.{notices_at}
 use Rattle.reply_lines.proofs.Indexing.{at-entry, item_is}
@@ -14,7 +14,7 @@ returns-in-Err g c =
     record {
       wrote = cut-more c.args.session.now 0 c.loop-place.number (notices_at c.args.bank c.args.entries.now) c.args.places.now c.loop-place.place-index place c.in-Err.fault
           c.loop-place-test.true is c.loop-place.invariant.count c.loop-place.invariant.written
-          (subst (λ ns. Wrote {T = ℕ} g.K.Sink.written g.K.Sink.faults c.loop-place.out c.write_notices.new.out (notice_lines c.args.session.now c.loop-place.number ns) (Err c.in-Err.fault))
+          (subst (λ ns. Gathered {T = ℕ} g.K.Sink.written g.K.Sink.faults c.loop-place.pieces c.loop-place.out c.write_notices.new.pieces c.write_notices.new.out (notice_lines c.args.session.now c.loop-place.number ns) (Err c.in-Err.fault))
           (sym (at-entry c.args.bank c.args.entries.now place c.entry_at-entry.result.now c.entry_at-entry.ensures.entry)) c.in-Err.ensures.wrote);
     }
 
@@ -26,7 +26,7 @@ loop-place-preserved g c =
     record {
       written = written-more c.args.session.now 0 c.loop-place.number (notices_at c.args.bank c.args.entries.now) c.args.places.now c.loop-place.place-index place c.in-Ok.number
           c.loop-place-test.true is c.loop-place.invariant.count c.loop-place.invariant.written
-          (subst (λ ns. Wrote g.K.Sink.written g.K.Sink.faults c.loop-place.out c.write_notices.new.out (notice_lines c.args.session.now c.loop-place.number ns) (Ok c.in-Ok.number)) here c.in-Ok.ensures.wrote);
+          (subst (λ ns. Gathered g.K.Sink.written g.K.Sink.faults c.loop-place.pieces c.loop-place.out c.write_notices.new.pieces c.write_notices.new.out (notice_lines c.args.session.now c.loop-place.number ns) (Ok c.in-Ok.number)) here c.in-Ok.ensures.wrote);
       count = count-more 0 c.loop-place.number c.in-Ok.number (notices_at c.args.bank c.args.entries.now) c.args.places.now c.loop-place.place-index place
           c.loop-place-test.true is c.loop-place.invariant.count
           (c.in-Ok.ensures.count ∙ ap (λ ns. c.loop-place.number + length ns) here);

@@ -1,7 +1,7 @@
 -- One part of the day follows the other; the report is that of the state at the end.
 use Rattle.std.proofs.Common.{List, ℕ, ◌++◌, subst}
-use Rattle.fx_edges.specs.Writing.{Wrote}
-use Rattle.fx_edges.proofs.Writing.{Wrote-then}
+use Rattle.fx_pieces.specs.Gathered.{Gathered}
+use Rattle.fx_pieces.proofs.Gathering.{Gathered-then}
 use Rattle.fx_rules.specs.History.{state}
 use Rattle.reply_lines.specs.Books.{books_text}
 use Rattle.reply_lines.specs.Report.{report_text}
@@ -26,7 +26,7 @@ returns-in_err-write_journal g c =
     let h = c.args.session.now in
     let entries = c.args.entries.now in
     record {
-      wrote = λ books are. Wrote-then c.from_residual-in_err-write_journal.result c.in_ok-write_head.ensures.wrote
+      wrote = λ books are. Gathered-then c.from_residual-in_err-write_journal.result c.in_ok-write_head.ensures.wrote
           (cut_short c.from_residual-in_err-write_journal.result (desks_text h entries ++ (books_text h books ++ report_text h (state h entries)))
           c.from_residual-in_err-write_journal.ensures.1 c.in_err-write_journal.ensures.wrote);
     }
@@ -37,8 +37,8 @@ returns-in_err-write_desks g c =
     let h = c.args.session.now in
     let entries = c.args.entries.now in
     record {
-      wrote = λ books are. Wrote-then c.from_residual-in_err-write_desks.result c.in_ok-write_head.ensures.wrote
-          (Wrote-then c.from_residual-in_err-write_desks.result c.in_ok-write_journal.ensures.wrote
+      wrote = λ books are. Gathered-then c.from_residual-in_err-write_desks.result c.in_ok-write_head.ensures.wrote
+          (Gathered-then c.from_residual-in_err-write_desks.result c.in_ok-write_journal.ensures.wrote
           (cut_short c.from_residual-in_err-write_desks.result (books_text h books ++ report_text h (state h entries))
           c.from_residual-in_err-write_desks.ensures.1 c.in_err-write_desks.ensures.wrote));
     }
@@ -49,9 +49,9 @@ returns-in_err-write_books g c =
     let h = c.args.session.now in
     let entries = c.args.entries.now in
     record {
-      wrote = λ books are. Wrote-then c.from_residual-in_err-write_books.result c.in_ok-write_head.ensures.wrote
-          (Wrote-then c.from_residual-in_err-write_books.result c.in_ok-write_journal.ensures.wrote
-          (Wrote-then c.from_residual-in_err-write_books.result c.in_ok-write_desks.ensures.wrote
+      wrote = λ books are. Gathered-then c.from_residual-in_err-write_books.result c.in_ok-write_head.ensures.wrote
+          (Gathered-then c.from_residual-in_err-write_books.result c.in_ok-write_journal.ensures.wrote
+          (Gathered-then c.from_residual-in_err-write_books.result c.in_ok-write_desks.ensures.wrote
           (cut_short c.from_residual-in_err-write_books.result (report_text h (state h entries))
           c.from_residual-in_err-write_books.ensures.1 (c.in_err-write_books.ensures.wrote books are))));
     }
@@ -63,10 +63,10 @@ returns g c =
     let entries = c.args.entries.now in
     let r = c.args.day.now.report in
     record {
-      wrote = λ books are. Wrote-then c.write_report.result c.in_ok-write_head.ensures.wrote
-          (Wrote-then c.write_report.result c.in_ok-write_journal.ensures.wrote
-          (Wrote-then c.write_report.result c.in_ok-write_desks.ensures.wrote
-          (Wrote-then c.write_report.result (c.in_ok-write_books.ensures.wrote books are)
-          (subst (λ (text : List ℕ). Wrote {T = Unit {0}} g.K.Sink.written g.K.Sink.faults c.write_books.new.out c.write_report.new.out text c.write_report.result)
+      wrote = λ books are. Gathered-then c.write_report.result c.in_ok-write_head.ensures.wrote
+          (Gathered-then c.write_report.result c.in_ok-write_journal.ensures.wrote
+          (Gathered-then c.write_report.result c.in_ok-write_desks.ensures.wrote
+          (Gathered-then c.write_report.result (c.in_ok-write_books.ensures.wrote books are)
+          (subst (λ (text : List ℕ). Gathered {T = Unit {0}} g.K.Sink.written g.K.Sink.faults c.write_books.new.pieces c.write_books.new.out c.write_report.new.pieces c.write_report.new.out text c.write_report.result)
           (reported h (state h entries) r.volumes r.uses r.nets c.requires.day.volumes c.requires.day.uses c.requires.day.nets) c.write_report.ensures.wrote))));
     }

@@ -1,8 +1,5 @@
--- The day that was found is that of the history.
-use Rattle.std.proofs.Common.{refl, arith}
-use Rattle.fx_edges.proofs.Writing.{Wrote-stopped, Appended-nil, IsPrefixOf-nil}
-use Rattle.fx_rules.specs.History.{state}
-use Rattle.fx_rules.proofs.Soundness.{legal-sound}
+-- The day that was found and the market are those of the history.
+use Rattle.fx_pieces.proofs.Gathering.{Gathered-wanting}
 use Rattle.reply_lines.specs.Output.{day_text}
 use Rattle.reply_lines.proofs.Printable.{legal-prints}
 use Rattle.reply_lines.proofs.output.write_text.Goals as goal
@@ -10,22 +7,18 @@ use Rattle.reply_lines.proofs.output.write_text.Goals as goal
 pub write_day_text-requires : goal.write_day_text-requires
 write_day_text-requires g c = record {
   entries = legal-prints c.args.session.now c.args.entries.now c.requires.legal;
+  market = record { entries = c.args.entries.now; legal = c.requires.legal; at_the_end = c.requires.market };
   day = c.in-Ok.ensures.day;
 }
 
 pub returns-in-Ok : goal.returns-in-Ok
 returns-in-Ok g c = record {
-  wrote = λ books are. c.write_day_text.ensures.wrote books (record {
-    state = state c.args.session.now c.args.entries.now;
-    session = c.requires.legal.session;
-    sound = legal-sound c.args.session.now c.args.entries.now c.requires.legal;
-    stands = c.in-Ok.ensures.day.stands;
-    are_books = are;
-  });
+  wrote = λ books are. c.write_day_text.ensures.wrote books
+      (record { entries = c.args.entries.now; legal = c.requires.legal; at_the_end = c.requires.market; are_books = are });
 }
 
 pub returns-in-Err : goal.returns-in-Err
 returns-in-Err g c = record {
-  wrote = λ books are. Wrote-stopped (Appended-nil g.K.Sink.written g.K.Sink.faults c.args.out.now)
-      (IsPrefixOf-nil (day_text c.args.session.now c.args.entries.now books)) refl (omega arith) (λ failed. absurd cc) (λ wanted. refl);
+  wrote = λ books are. Gathered-wanting g.K.Sink.written g.K.Sink.faults c.args.pieces.now c.args.out.now c.args.pieces.now
+      (day_text c.args.session.now c.args.entries.now books);
 }

@@ -1,9 +1,7 @@
--- Every entry of a legal history can be printed, and its state is sound.
+-- Every entry of a legal history can be printed.
 use Rattle.fx_rules.specs.History.{state}
-use Rattle.fx_rules.proofs.Soundness.{legal-sound}
 use Rattle.reply_lines.proofs.Printable.{legal-prints}
 use Rattle.reply_lines.proofs.Reporting.{report-of}
-use Rattle.reply_lines.proofs.Shown.{host-of}
 use Rattle.reply_lines.proofs.output.Day.new.Goals as goal
 
 pub index_of-requires : goal.index_of-requires
@@ -12,9 +10,6 @@ index_of-requires c = record { entries = legal-prints c.args.session.now c.args.
 pub returns : goal.returns
 returns c = record {
   day = record {
-    host = host-of c.args.session.now (state c.args.session.now c.args.entries.now) c.in_ok-replay.field-0
-        (legal-sound c.args.session.now c.args.entries.now c.requires.legal) c.in_ok-replay.ensures.replays;
-    stands = c.in_ok-replay.ensures.replays;
     report = report-of c.args.session.now (state c.args.session.now c.args.entries.now) c.in_ok-report.field-0
         c.in_ok-report.ensures.volumes c.in_ok-report.ensures.uses c.in_ok-report.ensures.nets;
     volumes = c.in_ok-report.ensures.volumes;

@@ -1,0 +1,6 @@
+//! Output in pieces: what is written is gathered, and handed to a sink once it is a piece of 8 KiB at least.
+#![tactic(auto)]
+
+mod pieces;
+
+pub use pieces::Pieces;

@@ -1,0 +1,64 @@
+ghost use Rattle.std.specs.Prelude.{◌≡◌, ◌<◌, ℕ, List, [], length, OnOk};
+ghost use Rattle.fx_edges.specs.Writing.{Wrote};
+ghost use Rattle.fx_pieces.specs.Gathered.{Gathered};
+
+use fx_edges::{Sink, SinkFault, write_all};
+use std::alloc::Global;
+use std::marker::Model;
+
+/// The bytes that are gathered before a sink gets them.
+const PIECE: usize = 8192;
+
+/// The bytes that were written for a sink and not yet handed to it. They lie in one buffer, which is used again for each
+/// piece. Contracts see them as a list.
+#[derive(Drop)]
+pub struct Pieces {
+    held: Vec<u8>,
+}
+
+impl Model for Pieces {
+    ghost Value = { List ℕ };
+
+    ghost view = { λ p. p.held.items };
+}
+
+impl Pieces {
+    /// No bytes. It takes no memory.
+    pub fn new(alloc: Global) -> Pieces
+        ensures { result ≡ [] }
+    {
+        Pieces {
+            held: Vec::new(alloc),
+        }
+    }
+
+    /// Writes a text behind what is held, and hands all of it to the sink where that is 8 KiB or more. After a fault the
+    /// sink got a prefix of what was held and the text, and the rest of it is not to be written any more: the fault is
+    /// `Failed` only where the sink's count of faults rose, and `Memory` only where it stayed.
+    pub fn put<K: Sink>(&mut self, text: &[u8], out: &mut K) -> Result<(), SinkFault>
+        ensures gathered { Gathered K.written K.faults self.old out.old self.new out.new text.now result }
+        ensures few { OnOk result (length self.new < 8192) }
+    {
+        if self.held.extend_from_slice(text).is_err() {
+            return Err(SinkFault::Memory);
+        }
+        if self.held.len() < PIECE {
+            return Ok(());
+        }
+        self.hand_on(out)
+    }
+
+    /// Hands the sink what is held. Faults are as those of `write_all`.
+    pub fn hand_on<K: Sink>(&mut self, out: &mut K) -> Result<(), SinkFault>
+        ensures wrote { Wrote K.written K.faults out.old out.new self.old result }
+        ensures none { OnOk result (self.new ≡ []) }
+    {
+        match write_all(out, &self.held) {
+            Ok(()) => {
+                self.held.clear();
+                Ok(())
+            }
+            Err(fault) => Err(fault),
+        }
+    }
+}
