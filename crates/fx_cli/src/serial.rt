@@ -1,6 +1,8 @@
 ghost use Rattle.std.specs.Prelude.{◌≤◌, ◌^◌, IfOk, length};
 ghost use Rattle.fx_rules.specs.Lists.{Each};
 ghost use Rattle.fx_rules.specs.Sending.{IsSentOf};
+ghost use Rattle.flat_host.specs.Steps.{stands};
+ghost use Rattle.market_run.specs.Running.{HasRun};
 ghost use Rattle.fx_cli.specs.Headline.{IsSerial};
 ghost use Rattle.fx_cli.specs.Run.{Ran, RanScript};
 
@@ -10,7 +12,7 @@ use fx_amounts::Memory;
 use fx_edges::{Sink, Source};
 use fx_rules::{Sent, Session};
 use market_run::Run;
-use reply_lines::{Ending, OutFault, write_output};
+use reply_lines::{Ending, OutFault, write_output_from};
 use session_script::{Script, read_script};
 use std::alloc::Global;
 
@@ -33,10 +35,11 @@ fn run_script<K: Sink>(alloc: Global, script: &Script, out: &mut K) -> Status
     let Ok(run) = run_in_order(alloc, &script.session, &script.sent) else {
         return Status::Memory;
     };
-    match write_output(
+    match write_output_from(
         alloc,
         &script.session,
         run.entries(),
+        run.market(),
         script.strays,
         Ending::End,
         out,
@@ -51,7 +54,8 @@ fn run_script<K: Sink>(alloc: Global, script: &Script, out: &mut K) -> Status
 fn run_in_order(alloc: Global, session: &Session, sent: &[Sent]) -> Result<Run<FlatHost>, Memory>
     requires valid { Each (IsSentOf session.now) sent.now }
     requires few { length sent.now ≤ 2 ^ 26 }
-    ensures { IfOk result (λ run. IsSerial session.now sent.now run.entries) }
+    ensures serial { IfOk result (λ run. IsSerial session.now sent.now run.entries) }
+    ensures run { IfOk result (HasRun stands session.now) }
 {
     // A legal history rests on a valid session, as each is.
     let _banks = session.banks();

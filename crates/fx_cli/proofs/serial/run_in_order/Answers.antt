@@ -24,5 +24,8 @@ serve_all-requires c = record {
 pub returns : goal.returns
 returns c =
     let has_run = c.serve_all.ensures.run c.args.session.now (c.new-run.ensures.opens c.args.session.now c.banks-banks.ensures.valid c.in_ok-host.ensures.opens) in
-    serial_of c.args.session.now c.args.sent.now c.serve_all.new.self.entries has_run.legal
-    (in_order c.new-run.result c.serve_all.new.self c.args.sent.now c.new-run.ensures.none c.in_ok-serve_all.ensures.served)
+    record {
+      serial = serial_of c.args.session.now c.args.sent.now c.serve_all.new.self.entries has_run.legal
+          (in_order c.new-run.result c.serve_all.new.self c.args.sent.now c.new-run.ensures.none c.in_ok-serve_all.ensures.served);
+      run = has_run;
+    }
