@@ -1,3 +1,4 @@
 pub mod Appending
+pub mod Closing
 pub mod Moments
 pub mod Reading

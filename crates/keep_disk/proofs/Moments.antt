@@ -1,10 +1,13 @@
 -- What a crash leaves while a keeper writes.
-use Rattle.std.proofs.Common.{◌≡◌, ◌⊎◌, inl, inr, ℕ, ◌+◌, ◌^◌, ◌<◌, ◌≤◌, List, [], ◌∷◌, ◌++◌, length, Option, None, Some, option_map, Result, refl, sym, ◌∙◌, ap, subst, arith}
+use Rattle.std.proofs.Common.{◌≡◌, ◌⊎◌, inl, inr, ℕ, ◌+◌, ◌-◌, ◌^◌, ◌<◌, ◌≤◌, List, [], ◌∷◌, ◌++◌, length, length-drop, take, drop, take_all, take-append-drop, length-append, Option, None, Some, option_map, Result, Ok, Err, OnOk, refl, sym, ◌∙◌, ap, subst, arith}
+use Rattle.std.proofs.Math.Seq.{take-append-add}
+use Rattle.std.proofs.lemmas.List.{take-append-le, drop-take, length-take}
+use Rattle.keep_disk.proofs.Reading.{take_shorter}
 use Rattle.fx_disk.specs.declared.disk.DiskStop.{DiskStop}
 use Rattle.fx_disk.specs.Disk.{WhereTold, with_piece, Torn, TornBy, NoMore, Only, Called, LeavesOnly}
-use Rattle.fx_disk.proofs.Leaving.{Torn-refl, leaves_at_start, leaves_call}
+use Rattle.fx_disk.proofs.Leaving.{Torn-refl, leaves_at_start, leaves_weaker, leaves_then, leaves_call}
 use Rattle.keep_disk.specs.Blocks.{whole_blocks, IsClosedAt, HasOrLacks}
-use Rattle.keep_disk.specs.Keeping.{TornFrom}
+use Rattle.keep_disk.specs.Keeping.{TornFrom, Untouched}
 use Rattle.keep_disk.proofs.Appending.{staged, staged_torn, gate_torn}
 
 -- A write, and then a sync
@@ -53,3 +56,77 @@ pub second_write : (file : List ℕ) (place : ℕ) (images : List ℕ → Type 0
     → HasOrLacks (whole_blocks file) body image
 second_write file place images body fits shut only image from =
     gate_torn file place shut body fits image (subst (λ (f : List ℕ). Torn place 1 f image) (only from.0 from.1) from.2)
+
+-- Calls that add no image
+
+module _ {D : Type 0} (bytes : D → Option (List ℕ)) (may_leave : D → List ℕ → Type 0) (moment : D → ℕ) (left_since : D → ℕ → List ℕ → Type 0) (faults : D → ℕ) where
+  pub Untouched-refl : ((disk : D) (image : List ℕ) → left_since disk (moment disk) image → may_leave disk image) → (disk : D) → Untouched bytes may_leave moment left_since faults disk disk
+  Untouched-refl only_now disk = record {
+    same = refl;
+    no_more = λ image may. may;
+    every_moment = leaves_at_start moment left_since disk (may_leave disk) (only_now disk);
+    count = omega arith;
+  }
+
+  pub Untouched-moments : {T : Type 0} (start before now : D) (result : Result T DiskStop) → Untouched bytes may_leave moment left_since faults start before → Called bytes may_leave moment left_since faults before now result
+      → NoMore (may_leave before) (may_leave now) → LeavesOnly moment left_since start now (may_leave start)
+  Untouched-moments start before now result so_far called fewer =
+      leaves_call moment left_since bytes may_leave faults start before now result (may_leave start) so_far.every_moment called (λ image may. so_far.no_more image (fewer image may))
+
+  pub Untouched-call : {T : Type 0} (start before now : D) (result : Result T DiskStop) → Untouched bytes may_leave moment left_since faults start before → Called bytes may_leave moment left_since faults before now result
+      → NoMore (may_leave before) (may_leave now) → bytes now ≡ bytes before → Untouched bytes may_leave moment left_since faults start now
+  Untouched-call start before now result so_far called fewer same = record {
+    same = same ∙ so_far.same;
+    no_more = λ image may. so_far.no_more image (fewer image may);
+    every_moment = Untouched-moments start before now result so_far called fewer;
+    count = omega (arith, so_far.count, called.count);
+  }
+
+  pub Untouched-then : (start middle now : D) → Untouched bytes may_leave moment left_since faults start middle → Untouched bytes may_leave moment left_since faults middle now → Untouched bytes may_leave moment left_since faults start now
+  Untouched-then start middle now first second = record {
+    same = second.same ∙ first.same;
+    no_more = λ image may. first.no_more image (second.no_more image may);
+    every_moment = leaves_then moment left_since start middle now (may_leave start) first.every_moment (leaves_weaker moment left_since middle now (may_leave middle) (may_leave start) first.no_more second.every_moment);
+    count = omega (arith, first.count, second.count);
+  }
+
+pub both_ok : {T E : Type 0} (result : Result T E) (P Q R : Type 0) → (P → Q → R) → OnOk result P → OnOk result Q → OnOk result R
+both_ok (Ok value) P Q R f p q = f p q
+both_ok (Err e) P Q R f p q = tt
+
+-- A file that is read in parts
+
+take_split : (at n : ℕ) (file : List ℕ) → take (at + n) file ≡ take at file ++ take n (drop at file)
+take_split at n file =
+    let long = length-take (at + n) file in
+    let front : take at (take (at + n) file) ≡ take at file = take_shorter at (at + n) (take (at + n) file) file (omega arith) (take_all (at + n) (take (at + n) file) (omega arith)) in
+    sym (take-append-drop at (take (at + n) file))
+    ∙ ap (λ (l : List ℕ). l ++ drop at (take (at + n) file)) front
+    ∙ ap (λ (l : List ℕ). take at file ++ l) (drop-take at n file)
+
+pub fill_within : (at n : ℕ) (into sub post : List ℕ) → at ≤ length into → n ≤ length sub → at + n ≤ length (take at into ++ (sub ++ post))
+fill_within at n into sub post le room =
+    let a = length-append (take at into) (sub ++ post) in
+    let b = length-append sub post in
+    let d = length-take at into in
+    omega arith
+
+pub fill_more : (at n : ℕ) (into sub post file : List ℕ) → at ≤ length into → n ≤ length sub → take at into ≡ take at file → take n sub ≡ take n (drop at file) → take (at + n) (take at into ++ (sub ++ post)) ≡ take (at + n) file
+fill_more at n into sub post file le room so_far more =
+    let long : length (take at into) ≡ at = length-take at into ∙ omega (arith, le) in
+    let e : at + n ≡ length (take at into) + n = omega (arith, long) in
+    ap (λ (k : ℕ). take k (take at into ++ (sub ++ post))) e
+    ∙ take-append-add (take at into) (sub ++ post) n
+    ∙ ap (λ (l : List ℕ). take at into ++ l) (take-append-le n sub post room ∙ more)
+    ∙ ap (λ (l : List ℕ). l ++ take n (drop at file)) so_far
+    ∙ sym (take_split at n file)
+
+pub fill_length : (at : ℕ) (into sub : List ℕ) → at ≤ length into → length sub ≡ length into - at → length (take at into ++ (sub ++ drop (length into - at) (drop at into))) ≡ length into
+fill_length at into sub le long =
+    let post = drop (length into - at) (drop at into) in
+    let a = length-append (take at into) (sub ++ post) in
+    let b = length-append sub post in
+    let d = length-take at into in
+    let e = length-drop (length into - at) (drop at into) in
+    let f = length-drop at into in
+    omega arith

@@ -1,8 +1,9 @@
 -- How a journal file is read.
 use Rattle.std.proofs.Common.{◌≡◌, ◌⊎◌, inl, inr, ℕ, zero, suc, ◌+◌, ◌-◌, ◌^◌, ◌<◌, ◌≤◌, Bool, true, false, cond, List, [], ◌∷◌, ◌++◌, length, take, drop, get_or, refl, sym, ◌∙◌, ap, subst, arith, append_assoc, append-nil, length-append, length-drop, w64, take_at, take_all}
+use Rattle.std.specs.Prelude.{Option, None, Some, MatchOption}
 use Rattle.std.specs.Int.{to_be_bytes, from_be_bytes}
 use Rattle.std.proofs.lemmas.Nat.{from_be_bytes-to_be_bytes_8}
-use Rattle.std.proofs.lemmas.List.{drop_at, drop_more, length-take}
+use Rattle.std.proofs.lemmas.List.{drop_at, drop_more, drop-take, drop-drop, length-take}
 use Rattle.std.proofs.lemmas.Bool.{cases_Bool, cases_eq, cases_lt}
 use Rattle.std.proofs.lemmas.Bool.Decides.{nat_tests}
 use Rattle.keep_disk.specs.Blocks.{body_length, body_of, opens, blocks_from, whole_blocks, space}
@@ -151,3 +152,74 @@ module _ (body junk : List ℕ) (fits : length body < 2 ^ 64) where
       ∙ ap (λ (b : List ℕ). b ∷ blocks_from (8 + body_length framed) framed) framed_body
       ∙ ap (λ (n : ℕ). body ∷ blocks_from (8 + n) framed) framed_length
       ∙ ap (λ (bs : List (List ℕ)). body ∷ bs) (blocks_skip (8 + length body) framed ∙ ap (λ (l : List ℕ). blocks_from 0 l) framed_end ∙ blocks_closed 0 junk (λ e. absurd (omega arith)))
+
+-- Where a gate opens none, and where it opens one
+
+opens_short : (gate : ℕ) (rest : List ℕ) → length rest ≤ 8 + body_length rest → opens gate rest ≡ false
+unfolding opens
+opens_short gate rest short = elim (cases_eq gate 1) [ inl one ↦ grind (arith, nat_tests) | inr other ↦ grind (arith, nat_tests) ]
+
+pub blocks_short : (gate : ℕ) (rest : List ℕ) → length rest ≤ 8 + body_length rest → blocks_from 0 (gate ∷ rest) ≡ []
+blocks_short gate rest short = blocks_shut gate rest (opens_short gate rest short)
+
+pub body_length-is : (front rest : List ℕ) → front ≡ take 8 rest → from_be_bytes w64 front ≡ body_length rest
+unfolding body_length
+body_length-is front rest is = ap (λ (l : List ℕ). from_be_bytes w64 l) is
+
+body_of-is : (rest : List ℕ) → body_of rest ≡ take (body_length rest) (drop 8 rest)
+unfolding body_of
+body_of-is rest = drop-take 8 (body_length rest) rest
+
+pub blocks_next : (gate : ℕ) (rest body : List ℕ) → gate ≡ 1 → body ≡ take (body_length rest) (drop 8 rest) → 8 + body_length rest < length rest → length body ≡ body_length rest
+    → blocks_from 0 (gate ∷ rest) ≡ body ∷ blocks_from 0 (drop (9 + length body) (gate ∷ rest))
+blocks_next gate rest body one is lt long =
+    let e : suc (8 + body_length rest) ≡ 9 + length body = omega (arith, long) in
+    blocks_open gate rest (opens_true gate rest one lt)
+    ∙ ap (λ (b : List ℕ). b ∷ blocks_from (8 + body_length rest) rest) (body_of-is rest ∙ sym is)
+    ∙ ap (λ (bs : List (List ℕ)). body ∷ bs) (blocks_skip (8 + body_length rest) rest)
+    ∙ ap (λ (n : ℕ). body ∷ blocks_from 0 (drop n (gate ∷ rest))) e
+
+-- The same of a file's bytes, whose first is a gate
+
+pub none_closed : (file : List ℕ) → 1 ≤ length file → (get_or file 0 0 ≡ 1 → ⊥) → blocks_from 0 file ≡ []
+none_closed [] some other = refl
+none_closed (gate ∷ rest) some other = blocks_closed gate rest other
+
+pub none_short : (file rest : List ℕ) → 1 ≤ length file → rest ≡ drop 1 file → length rest ≤ 8 + body_length rest → blocks_from 0 file ≡ []
+none_short [] rest some is short = refl
+none_short (gate ∷ more) rest some is short = blocks_short gate more (let P : List ℕ → Type 0 = λ l. length l ≤ 8 + body_length l in subst P is short)
+
+pub some_next : (file rest head behind : List ℕ) (size : ℕ) → 1 ≤ length file → get_or file 0 0 ≡ 1 → rest ≡ drop 1 file → head ≡ take 8 rest → behind ≡ drop 8 rest → size ≡ from_be_bytes w64 head → size < length behind
+    → blocks_from 0 file ≡ take size behind ∷ blocks_from 0 (drop (9 + length (take size behind)) file)
+some_next [] rest head behind size some one is front back sized lt = absurd (omega arith)
+some_next (gate ∷ more) rest head behind size some one is front back sized lt =
+    let same : rest ≡ more = is in
+    let sized_too : size ≡ body_length more = sized ∙ body_length-is head rest front ∙ ap body_length same in
+    let back_too : behind ≡ drop 8 more = back ∙ ap (λ (l : List ℕ). drop 8 l) same in
+    let far = ap length back_too ∙ length-drop 8 more in
+    let long : length (take size behind) ≡ size = length-take size behind ∙ omega (arith, lt) in
+    blocks_next gate more (take size behind) one
+    (ap (λ (n : ℕ). take n behind) sized_too ∙ ap (λ (l : List ℕ). take (body_length more) l) back_too)
+    (omega (arith, far, lt, sized_too)) (omega (arith, long, sized_too))
+
+pub short_behind : (rest head behind : List ℕ) (size : ℕ) → head ≡ take 8 rest → behind ≡ drop 8 rest → size ≡ from_be_bytes w64 head → length behind ≤ size → length rest ≤ 8 + body_length rest
+short_behind rest head behind size front back sized ge =
+    let sized_too : size ≡ body_length rest = sized ∙ body_length-is head rest front in
+    let far = ap length back ∙ length-drop 8 rest in
+    omega (arith, far, ge, sized_too)
+
+-- one block more was read
+pub read_more : (file : List ℕ) (place : ℕ) (bodies : List (List ℕ)) (body : List ℕ) → whole_blocks file ≡ bodies ++ blocks_from 0 (drop place file) → blocks_from 0 (drop place file) ≡ body ∷ blocks_from 0 (drop (9 + length body) (drop place file))
+    → whole_blocks file ≡ (bodies ++ body ∷ []) ++ blocks_from 0 (drop (place + (9 + length body)) file)
+read_more file place bodies body so_far more =
+    so_far
+    ∙ ap (λ (bs : List (List ℕ)). bodies ++ bs) (more ∙ ap (λ (l : List ℕ). body ∷ blocks_from 0 l) (drop-drop (9 + length body) place file))
+    ∙ sym (append_assoc bodies (body ∷ []) (blocks_from 0 (drop (place + (9 + length body)) file)))
+
+pub match_none : {T : Type 0} (r : Option T) (P : Type 0) (Q : T → Type 0) → r ≡ None → MatchOption r P Q → P
+match_none None P Q is holds = holds
+match_none (Some x) P Q is holds = absurd (cc)
+
+-- what a slice to the end takes
+pub tail_whole : (n : ℕ) (file : List ℕ) → take (length file - n) (drop n file) ≡ drop n file
+tail_whole n file = take_all (length file - n) (drop n file) (omega (arith, length-drop n file))

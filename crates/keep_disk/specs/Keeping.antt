@@ -1,7 +1,7 @@
 -- A disk between two calls of a keeper.
 use Rattle.std.specs.Prelude.{◌≡◌, ℕ, ◌+◌, ◌≤◌, List, length, Option, Result, IsErrOf}
 use Rattle.fx_edges.specs.Faults.{Rose}
-use Rattle.fx_disk.specs.Disk.{WhereTold, Only, Torn}
+use Rattle.fx_disk.specs.Disk.{WhereTold, NoMore, Only, Torn, LeavesOnly}
 use Rattle.keep_disk.specs.declared.write.KeepFault.{KeepFault}
 use Rattle.keep_disk.specs.declared.write.KeepFault.TheVariants.{Disk}
 use Rattle.keep_disk.specs.Blocks.{IsClosedAt}
@@ -18,3 +18,11 @@ TornFrom at n images image = (old : List ℕ) × images old × Torn at n old ima
 pub record HasCause {D T : Type 0} (faults : D → ℕ) (before now : D) (result : Result T KeepFault) : Type 0 where
   pub count : faults before ≤ faults now
   pub cause : IsErrOf result Disk → Rose (faults before) (faults now)
+
+-- Calls since `before` left the bytes as they were and added no image.
+pub record Untouched {D : Type 0} (bytes : D → Option (List ℕ)) (may_leave : D → List ℕ → Type 0) (moment : D → ℕ)
+    (left_since : D → ℕ → List ℕ → Type 0) (faults : D → ℕ) (before now : D) : Type 0 where
+  pub same : bytes now ≡ bytes before
+  pub no_more : NoMore (may_leave before) (may_leave now)
+  pub every_moment : LeavesOnly moment left_since before now (may_leave before)
+  pub count : faults before ≤ faults now

@@ -11,10 +11,10 @@ use fx_disk::Disk;
 use std::alloc::{AllocError, Global};
 
 /// A gate that opens the block behind it.
-const OPEN: u8 = 1;
+pub(crate) const OPEN: u8 = 1;
 
 /// A gate that closes the file.
-const CLOSED: u8 = 0;
+pub(crate) const CLOSED: u8 = 0;
 
 /// The bytes of a block beside its body: its length, and the gate behind it.
 const FRAME: u64 = 9;
@@ -22,8 +22,8 @@ const FRAME: u64 = 9;
 /// What opened a journal file: its whole blocks then, and the place of its last gate now.
 #[derive(Drop)]
 pub struct Keeper {
-    bodies: Vec<Body>,
-    place: u64,
+    pub(crate) bodies: Vec<Body>,
+    pub(crate) place: u64,
 }
 
 // The place of the gate behind a block of a body of this length, where it fits 64 bits.

@@ -3,8 +3,11 @@
 
 mod body;
 mod keeper;
+mod open;
+mod read;
 mod write;
 
 pub use body::Body;
 pub use keeper::Keeper;
+pub use open::open_keeper;
 pub use write::KeepFault;
