@@ -12,7 +12,8 @@ fn names_and_their_texts(rt: HostRuntime) -> Result<(), Fail> {
     ] {
         let name = Name::from_bytes(text).ok_or("a name was refused")?;
         assert!(rt; name.as_bytes() == text);
-        assert!(rt; name == Name::from_bytes(b"ABC").ok_or("ABC was refused")? == text == b"ABC".as_slice());
+        let is_abc = name == Name::from_bytes(b"ABC").ok_or("ABC was refused")?;
+        assert!(rt; is_abc == (text == b"ABC".as_slice()));
     }
     Ok(())
 }

@@ -91,7 +91,7 @@ fn how_many_banks(rt: HostRuntime) -> Result<(), Fail> {
         let limits = vec![in rt.alloc(); zero; count as usize * count as usize]?;
         let pairs = vec![in rt.alloc(); eurusd()?]?;
         let session = Session::build(banks, pairs, limits);
-        assert!(rt; session.is_some() == count == 64, "{count} banks");
+        assert!(rt; session.is_some() == (count == 64), "{count} banks");
     }
     Ok(())
 }
@@ -134,7 +134,7 @@ fn how_many_pairs(rt: HostRuntime) -> Result<(), Fail> {
             pairs.push(rule(&base, b"USD", 2, 100, 1)?)?;
         }
         let session = with_pairs(rt.alloc(), &pairs)?;
-        assert!(rt; session.is_some() == count == 32, "{count} pairs");
+        assert!(rt; session.is_some() == (count == 32), "{count} pairs");
     }
     Ok(())
 }
