@@ -147,26 +147,23 @@ fn lettered(alloc: Global, start: &[u8], letters: usize) -> Result<Line, Fail> {
 #[test]
 fn long_lines(rt: HostRuntime) -> Result<(), Fail> {
     let session = market(rt.alloc())?;
-    let alfa = bank(0)?;
-    let word = Command::Bad {
-        reason: Reject::Word,
-    };
-    let long = Command::Bad {
-        reason: Reject::Long,
-    };
-    for (start, letters, spoken) in [
-        (b"ALFA ".as_slice(), 251, Spoken::Of(alfa, word)),
-        (b"ALFA ", 252, Spoken::Of(alfa, long)),
-        (
-            b"ALFA BUY EUR/USD 1.08420 3 DAY ",
-            300,
-            Spoken::Of(alfa, long),
-        ),
-        (b"# ALFA ", 300, Spoken::Passed),
-        (b"END ", 300, Spoken::Stray),
-        (b"DELT ", 300, Spoken::Stray),
+    for (start, letters, reason) in [
+        (b"ALFA ".as_slice(), 251, Reject::Word),
+        (b"ALFA ", 252, Reject::Long),
+        (b"ALFA BUY EUR/USD 1.08420 3 DAY ", 300, Reject::Long),
     ] {
         let line = lettered(rt.alloc(), start, letters)?;
+        assert!(rt;
+            command_from(&session, &line) == Spoken::Of(bank(0)?, Command::Bad { reason }),
+            "{start:?}"
+        );
+    }
+    for (start, spoken) in [
+        (b"# ALFA ".as_slice(), Spoken::Passed),
+        (b"END ", Spoken::Stray),
+        (b"DELT ", Spoken::Stray),
+    ] {
+        let line = lettered(rt.alloc(), start, 300)?;
         assert!(rt; command_from(&session, &line) == spoken, "{start:?}");
     }
     let longest = lettered(rt.alloc(), b"ALFA ", 252)?;
