@@ -147,27 +147,22 @@ fn lettered(alloc: Global, start: &[u8], letters: usize) -> Result<Line, Fail> {
 #[test]
 fn long_lines(rt: HostRuntime) -> Result<(), Fail> {
     let session = market(rt.alloc())?;
-    for (start, letters, reason) in [
-        (b"ALFA ".as_slice(), 251, Reject::Word),
-        (b"ALFA ", 252, Reject::Long),
-        (b"ALFA BUY EUR/USD 1.08420 3 DAY ", 300, Reject::Long),
-    ] {
-        let line = lettered(rt.alloc(), start, letters)?;
-        assert!(rt;
-            command_from(&session, &line) == Spoken::Of(bank(0)?, Command::Bad { reason }),
-            "{start:?}"
-        );
-    }
-    for (start, spoken) in [
-        (b"# ALFA ".as_slice(), Spoken::Passed),
-        (b"END ", Spoken::Stray),
-        (b"DELT ", Spoken::Stray),
-    ] {
-        let line = lettered(rt.alloc(), start, 300)?;
-        assert!(rt; command_from(&session, &line) == spoken, "{start:?}");
-    }
-    let longest = lettered(rt.alloc(), b"ALFA ", 252)?;
-    assert!(rt; journal_from(&session, &longest) == None);
+    let bad = |reason: Reject| -> Result<Spoken, Fail> {
+        Ok(Spoken::Of(bank(0)?, Command::Bad { reason }))
+    };
+    let longest = lettered(rt.alloc(), b"ALFA ", 251)?;
+    assert!(rt; command_from(&session, &longest) == bad(Reject::Word)?);
+    let long = lettered(rt.alloc(), b"ALFA ", 252)?;
+    assert!(rt; command_from(&session, &long) == bad(Reject::Long)?);
+    assert!(rt; journal_from(&session, &long) == None);
+    let order = lettered(rt.alloc(), b"ALFA BUY EUR/USD 1.08420 3 DAY ", 300)?;
+    assert!(rt; command_from(&session, &order) == bad(Reject::Long)?);
+    let comment = lettered(rt.alloc(), b"# ALFA ", 300)?;
+    assert!(rt; command_from(&session, &comment) == Spoken::Passed);
+    let end = lettered(rt.alloc(), b"END ", 300)?;
+    assert!(rt; command_from(&session, &end) == Spoken::Stray);
+    let stray = lettered(rt.alloc(), b"DELT ", 300)?;
+    assert!(rt; command_from(&session, &stray) == Spoken::Stray);
     Ok(())
 }
 

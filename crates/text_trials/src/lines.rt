@@ -91,41 +91,50 @@ fn line_ends_and_rests_are_cut_alike(rt: HostRuntime) -> Result<(), Fail> {
     Ok(())
 }
 
-/// A text of one byte, so many times, between two others.
-type Filling<'a> = (&'a [u8], u8, usize, &'a [u8]);
-
-/// Whether a text is cut into one line, whole or long, of what is wanted.
-fn cuts_into_one(alloc: Global, text: Filling, long: bool, want: Filling) -> Result<bool, Memory> {
-    let text = filled(alloc, text.0, text.1, text.2, text.3)?;
-    let want = filled(alloc, want.0, want.1, want.2, want.3)?;
-    cuts_alike(alloc, &text, &[(long, &want)], false)
-}
-
-/// Whether an END with so many blanks behind it, as a rest, is the END line or not.
-fn rest_ends(alloc: Global, blanks: usize, end: bool) -> Result<bool, Memory> {
-    let text = filled(alloc, b"END", b' ', blanks, b"")?;
-    let none: [Want; 0] = [];
-    cuts_alike(alloc, &text, &none, end)
+fn cuts_into_one(alloc: Global, text: &[u8], long: bool, want: &[u8]) -> Result<bool, Memory> {
+    cuts_alike(alloc, text, &[(long, want)], false)
 }
 
 #[test]
 fn long_lines_are_cut_alike(rt: HostRuntime) -> Result<(), Fail> {
-    let cases: [(Filling, bool, Filling); 9] = [
-        ((b"", b'x', 256, b"\n"), false, (b"", b'x', 256, b"")),
-        ((b"", b'x', 256, b"\r\n"), false, (b"", b'x', 256, b"")),
-        ((b"", b' ', 255, b"x\n"), false, (b"", b' ', 255, b"x")),
-        ((b"", b'x', 257, b"\n"), true, (b"", b'x', 256, b"")),
-        ((b"", b'x', 256, b"\r\r\n"), true, (b"", b'x', 256, b"")),
-        ((b"", b' ', 256, b"x\n"), true, (b"", b' ', 0, b"")),
-        ((b"ALFA ", b'x', 252, b"\n"), true, (b"ALFA", b' ', 0, b"")),
-        ((b"#", b'x', 5000, b"\n"), true, (b"#", b'x', 255, b"")),
-        ((b"END", b' ', 300, b"\n"), true, (b"END", b' ', 0, b"")),
-    ];
-    for (text, long, want) in cases {
-        assert!(rt; cuts_into_one(rt.alloc(), text, long, want)?, "{text:?}");
-    }
-    assert!(rt; rest_ends(rt.alloc(), 253, true)?);
-    assert!(rt; rest_ends(rt.alloc(), 254, false)?);
+    let most = filled(rt.alloc(), b"", b'x', 256, b"")?;
+    let blanks = filled(rt.alloc(), b"", b' ', 255, b"x")?;
+    let comment = filled(rt.alloc(), b"#", b'x', 255, b"")?;
+    let text = filled(rt.alloc(), b"", b'x', 256, b"\n")?;
+    assert!(rt; cuts_into_one(rt.alloc(), &text, false, &most)?);
+    let text = filled(rt.alloc(), b"", b'x', 256, b"\r\n")?;
+    assert!(rt; cuts_into_one(rt.alloc(), &text, false, &most)?);
+    let text = filled(rt.alloc(), b"", b' ', 255, b"x\n")?;
+    assert!(rt; cuts_into_one(rt.alloc(), &text, false, &blanks)?);
+    let text = filled(rt.alloc(), b"", b'x', 257, b"\n")?;
+    assert!(rt; cuts_into_one(rt.alloc(), &text, true, &most)?);
+    let text = filled(rt.alloc(), b"", b'x', 256, b"\r\r\n")?;
+    assert!(rt; cuts_into_one(rt.alloc(), &text, true, &most)?);
+    let text = filled(rt.alloc(), b"", b' ', 256, b"x\n")?;
+    assert!(rt; cuts_into_one(rt.alloc(), &text, true, b"")?);
+    let text = filled(rt.alloc(), b"ALFA ", b'x', 252, b"\n")?;
+    assert!(rt; cuts_into_one(rt.alloc(), &text, true, b"ALFA")?);
+    let text = filled(rt.alloc(), b"#", b'x', 5000, b"\n")?;
+    assert!(rt; cuts_into_one(rt.alloc(), &text, true, &comment)?);
+    let text = filled(rt.alloc(), b"END", b' ', 300, b"\n")?;
+    assert!(rt; cuts_into_one(rt.alloc(), &text, true, b"END")?);
+    let none: [Want; 0] = [];
+    assert!(rt;
+        cuts_alike(
+            rt.alloc(),
+            &filled(rt.alloc(), b"END", b' ', 253, b"")?,
+            &none,
+            true
+        )?
+    );
+    assert!(rt;
+        cuts_alike(
+            rt.alloc(),
+            &filled(rt.alloc(), b"END", b' ', 254, b"")?,
+            &none,
+            false
+        )?
+    );
     Ok(())
 }
 
