@@ -102,7 +102,7 @@ def build():
     proof = rt(["all", "check", "--jobs", str(jobs)], cwd=HERE, stdout=subprocess.PIPE, stderr=subprocess.STDOUT, env=known)
     for line in proof.stdout:
         begins = re.match(rb"== (\w+)$", line)
-        if begins:
+        if begins and begins[1].decode() in every:
             done, block = done + 1, []
             say(f"{clock(started)}  {done} of {len(every)}  {begins[1].decode()}")
         block.append(line)
