@@ -1,6 +1,5 @@
 pub mod Searching
 pub mod PlanSteps
-pub mod Existing
 pub mod Walking
 pub mod Lowered
 pub mod Carrying

@@ -13,7 +13,7 @@ use Rattle.fx_rules.proofs.Levelling.{levels_of-push, total-levels}
 use Rattle.fx_rules.proofs.Levels.{first_levels-stay}
 use Rattle.flat_host.specs.declared.sweep.Walk.{Walk}
 use Rattle.flat_host.specs.Walks.{FromHere, LeadsOn, IsLevelled}
-use Rattle.flat_host.proofs.Existing.{planned-exists}
+use Rattle.fx_rules.proofs.Existing.{planned-exists}
 
 -- A walk that began with a taker and its lines made these fills so far: whatever it makes from here it made, behind them, from
 -- its beginning, and their lots were paid for by the lines.

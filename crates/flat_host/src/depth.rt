@@ -6,11 +6,8 @@ ghost use Rattle.flat_host.specs.Walks.{IsLevelled};
 
 use crate::sweep::Walk;
 use fx_amounts::{Memory, PairId, Side};
-use fx_rules::{ActiveOrder, LevelList, SweptOrder, add_fill};
+use fx_rules::{ActiveOrder, LevelList, SHOWN_LEVELS, SweptOrder, add_fill};
 use std::alloc::Global;
-
-/// How many levels of a side a local book shows at most.
-const SHOWN: usize = 10;
 
 /// Whether an order is one of the other side of the pair.
 fn is_against(active: &ActiveOrder, pair: PairId, side: Side) -> bool
@@ -48,12 +45,12 @@ pub fn first_levels(
 {
     let mut walk = Walk::new(taker, lines);
     let mut levels = Vec::new(alloc);
-    while levels.len() <= SHOWN {
+    while levels.len() <= SHOWN_LEVELS {
         let Some(fill) = walk.next_fill(orders, weight) else {
             break;
         };
         add_fill(&mut levels, &fill)?;
     }
-    levels.truncate(SHOWN);
+    levels.truncate(SHOWN_LEVELS);
     Ok(LevelList::from_vec(levels))
 }

@@ -8,6 +8,7 @@ pub mod PlainSound
 pub mod Soundness
 pub mod Preference
 pub mod Planning
+pub mod Existing
 pub mod PlanSwept
 pub mod Determined
 pub mod NamesLemmas

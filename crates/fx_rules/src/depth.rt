@@ -7,7 +7,7 @@ use fx_amounts::{Memory, Price, Side};
 use std::alloc::Global;
 
 /// How many levels of a side a local book shows at most.
-const SHOWN: usize = 10;
+pub const SHOWN_LEVELS: usize = 10;
 
 /// The price at which an order of a side takes any price. It takes no memory.
 pub fn any_price(side: Side) -> Price
@@ -28,7 +28,7 @@ pub fn levels_of(alloc: Global, fills: &[Fill]) -> Result<LevelList, Memory>
     for fill in fills {
         add_fill(&mut levels, fill)?;
     }
-    levels.truncate(SHOWN);
+    levels.truncate(SHOWN_LEVELS);
     Ok(LevelList::from_vec(levels))
 }
 

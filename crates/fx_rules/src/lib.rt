@@ -18,7 +18,7 @@ mod session;
 mod taker;
 
 pub use command::{Command, Life, Reject, Sent};
-pub use depth::{add_fill, any_price, levels_of};
+pub use depth::{SHOWN_LEVELS, add_fill, any_price, levels_of};
 pub use gates::{Gate, OpenGate};
 pub use keyed::Keyed;
 pub use laws::{

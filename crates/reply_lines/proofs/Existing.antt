@@ -1,57 +1,27 @@
 -- Each sound state has local books.
 use Rattle.std.proofs.Common.{ℕ, zero, suc, ◌≡◌, ◌≤◌, ◌<◌, true, false, List, [], ◌∷◌, ◌⊎◌, inl, inr, take, refl, ap, sym, subst, ◌∙◌, arith}
-use Rattle.std.proofs.lemmas.Bool.{cases_Bool, false_from_ne_true, false≢true, cases_lt}
+use Rattle.std.proofs.lemmas.Bool.{cases_lt}
 use Rattle.fx_amounts.specs.declared.side.Side.{Side}
 use Rattle.fx_amounts.specs.declared.side.Side.TheVariants.{Buy, Sell}
 use Rattle.fx_rules.specs.declared.orders.Fill.{Fill}
 use Rattle.fx_rules.specs.declared.orders.Level.{Level}
 use Rattle.fx_rules.specs.declared.orders.Resting.{Resting}
-use Rattle.fx_rules.specs.Lists.{Each}
 use Rattle.fx_rules.specs.Session.{Header, IsSession, bank_count, pair_count, weight_of}
 use Rattle.fx_rules.specs.State.{State, reach}
-use Rattle.fx_rules.specs.Sweep.{Taker, Swept, IsBest, is_preferred, open_orders, amount, fill_with, filled, less}
+use Rattle.fx_rules.specs.Sweep.{Taker, Swept, IsBest, open_orders, amount, fill_with, filled, less}
 use Rattle.fx_rules.specs.Depth.{IsDepth, Shows, unlimited, levels_of}
 use Rattle.fx_rules.specs.Sound.{IsSound}
 use Rattle.fx_rules.proofs.Credit.{IsAllowed}
-use Rattle.fx_rules.proofs.ListLemmas.{Each-weaker}
 use Rattle.fx_rules.proofs.Opens.{allowed-open, maker_of, amount_least, IsMaker}
-use Rattle.fx_rules.proofs.Preference.{preferred_self, preferred_trans}
+use Rattle.fx_rules.proofs.Existing.{best-exists}
 use Rattle.fx_rules.proofs.SweepSound.{filled-sound, weight_of-least}
 use Rattle.reply_lines.specs.Books.{LocalBook, AreBooks}
-
--- an order to which no other is preferred, where none is to one that it is preferred to
-not_to : (side : Side) (best o q : Resting) → is_preferred side o best ≡ true → is_preferred side q best ≡ false → is_preferred side q o ≡ false
-not_to side best o q above below =
-    false_from_ne_true (is_preferred side q o) (λ better. false≢true (sym below ∙ preferred_trans side q o best better above))
-
-none_to : (side : Side) (best o : Resting) (orders : List Resting) → is_preferred side o best ≡ true → Each (λ q. is_preferred side q best ≡ false) orders → Each (λ q. is_preferred side q o ≡ false) orders
-none_to side best o orders above all =
-    Each-weaker (λ q. is_preferred side q best ≡ false) (λ q. is_preferred side q o ≡ false) (λ q below. not_to side best o q above below) orders all
 
 -- with an order that is open to it a taker that wants something takes a lot at least
 lots_least : (h : Header) (S : State) (t : Taker) (o : Resting) → 1 ≤ t.left → IsMaker h S t o → 1 ≤ amount t o (reach h S t.bank o.bank t.pair)
 lots_least h S t o wants maker =
     amount_least t o (reach h S t.bank o.bank t.pair) wants
     (omega (arith, maker.kept.left.0, ap (λ (q : Resting). q.left) maker.order)) maker.is_open.reach
-
--- a list that is not empty has a best order
-best-exists : (side : Side) (o : Resting) (orders : List Resting) → (best : Resting) × IsBest side (o ∷ orders) best
-best-exists side o [] = (o, record { there = inl refl; first = (false_from_ne_true (is_preferred side o o) (preferred_self side o), tt) })
-best-exists side o (p ∷ orders) =
-    let last = best-exists side p orders in
-    elim (cases_Bool (is_preferred side o last.0)) [
-      | inl above ↦ (
-        o,
-        record {
-          there = inl refl;
-          first = (
-            false_from_ne_true (is_preferred side o o) (preferred_self side o),
-            none_to side last.0 o (p ∷ orders) above last.1.first,
-          );
-        },
-      )
-      | inr below ↦ (last.0, record { there = inr last.1.there; first = (below, last.1.first) })
-    ]
 
 -- what a sweep comes to, where so many lots are left at most and these orders are open
 swept-exists : (h : Header) (n : ℕ) (S : State) (t : Taker) (orders : List Resting) → IsSound h S → t.bank < bank_count h → 0 < weight_of h t.pair → t.left ≤ n → open_orders h S t ≡ orders → (fills : List Fill) × (left : ℕ) × Swept h S t fills left
