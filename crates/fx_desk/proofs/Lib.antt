@@ -1,0 +1,3 @@
+pub mod Orderly
+pub mod Submits
+pub mod Owning
