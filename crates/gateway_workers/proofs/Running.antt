@@ -1,9 +1,9 @@
 -- A lane runs on by one command, and lanes that ran on are under way.
-use Rattle.std.proofs.Common.{ℕ, suc, ◌≡◌, ◌+◌, ◌<◌, ◌≤◌, ◌≢◌, true, List, [], ◌∷◌, ◌++◌, refl, ap, sym, subst, ◌∙◌, arith, length, get_or, set, take, inl, inr, append_assoc, append-nil, length-append, true≢false}
+use Rattle.std.proofs.Common.{ℕ, suc, ◌≡◌, ◌+◌, ◌<◌, ◌≤◌, ◌≢◌, true, List, [], ◌∷◌, ◌++◌, refl, ap, sym, subst, ◌∙◌, arith, length, get_or, set, map, take, inl, inr, append_assoc, append-nil, length-append, true≢false}
 use Rattle.std.specs.Prelude.{All, Any, is_ok, IfOk, Ok, Err, Result}
 use Rattle.std.specs.List.{AllZip}
 use Rattle.std.proofs.lemmas.Bool.{cases_lt}
-use Rattle.std.proofs.lemmas.List.{length-map, length-take, length-set, take_more, map-append, get_or_default, get_or-set_same, get_or-set_other}
+use Rattle.std.proofs.lemmas.List.{length-map, length-take, length-set, take_more, take_all, map-append, get_or_default, get_or-set_same, get_or-set_other}
 use Rattle.fx_rules.specs.declared.command.Command.{Command}
 use Rattle.fx_rules.specs.declared.outcome.Outcome.{Outcome}
 use Rattle.fx_rules.specs.declared.outcome.Entry.{Entry}
@@ -12,8 +12,8 @@ use Rattle.fx_rules.specs.History.{own}
 use Rattle.fx_chronicle.proofs.Prefixes.{prefix_self, prefix_trans}
 use Rattle.fx_desk.specs.Submitting.{next_own, Submitted}
 use Rattle.gateway_workers.specs.declared.lane.Lane.{Lane}
-use Rattle.gateway_workers.specs.Lanes.{IsReady, AreNumbered, HasRun, IsDone, IsBehind}
-use Rattle.gateway_workers.specs.Serving.{IsUnderWay, RunsOn, AllRunOn, AllHaveRun}
+use Rattle.gateway_workers.specs.Lanes.{IsReadyLane, AreNumbered, LaneRan, IsDone, IsBehind}
+use Rattle.gateway_workers.specs.Serving.{IsUnderWay, RunsOn, AllRunOn, AllLanesRan}
 
 numbered-push : (bank before : ℕ) (entries : List Entry) (e : Entry) → AreNumbered bank before entries → e.bank ≡ bank → e.number ≡ before + length entries + 1 → AreNumbered bank before (entries ++ e ∷ [])
 numbered-push bank before [] e numbered its number = (its, omega (arith, number), tt)
@@ -25,8 +25,8 @@ told_at_ok (Ok x) Q is q = (x, q)
 told_at_ok (Err e) Q is q = absurd (true≢false (sym is))
 
 module _ {P : Type 0} (h : Header) (bank : P → ℕ) (seen mine : P → List Entry) where
-  pub ready-has_run : (lane : Lane P) → IsReady h bank mine lane → HasRun h bank seen mine lane lane
-  ready-has_run lane ready = record {
+  pub ready-ran : (lane : Lane P) → IsReadyLane h bank mine lane → LaneRan h bank seen mine lane lane
+  ready-ran lane ready = record {
     same_lane = refl;
     same_bank = refl;
     within = omega (arith, ready.none_done);
@@ -41,14 +41,14 @@ module _ {P : Type 0} (h : Header) (bank : P → ℕ) (seen mine : P → List En
   }
 
   -- the entries of the commands done are as many as these
-  length-entries : (begun was : Lane P) (has_run : HasRun h bank seen mine begun was) → length has_run.entries ≡ was.done
-  length-entries begun was has_run =
-      let same : length has_run.entries ≡ length (take was.done begun.stream) = sym (length-map has_run.entries (λ (e : Entry). e.command)) ∙ ap length has_run.in_order in
-      omega (arith, same, length-take was.done begun.stream, has_run.within)
+  length-entries : (begun was : Lane P) (ran : LaneRan h bank seen mine begun was) → length ran.entries ≡ was.done
+  length-entries begun was ran =
+      let same : length ran.entries ≡ length (take was.done begun.stream) = sym (length-map ran.entries (λ (e : Entry). e.command)) ∙ ap length ran.in_order in
+      omega (arith, same, length-take was.done begun.stream, ran.within)
 
   pub one-more : (begun was : Lane P) (pass : P) (command : Command) (outcome : Outcome) → was.done < length was.stream → command ≡ get_or was.stream was.done command
       → bank pass ≡ bank was.pass → Submitted h (bank was.pass) (seen was.pass) (mine was.pass) command (seen pass) (mine pass) outcome
-      → IsReady h bank mine begun → HasRun h bank seen mine begun was → HasRun h bank seen mine begun (record was { pass = pass; done = was.done + 1 })
+      → IsReadyLane h bank mine begun → LaneRan h bank seen mine begun was → LaneRan h bank seen mine begun (record was { pass = pass; done = was.done + 1 })
   one-more begun was pass command outcome within is its submitted ready ran =
       let e : Entry = next_own (bank was.pass) (mine was.pass) command outcome in
       let stream : was.stream ≡ begun.stream = ap (λ (l : Lane P). l.stream) ran.same_lane in
@@ -111,30 +111,37 @@ module _ {P : Type 0} (h : Header) (bank : P → ℕ) (seen mine : P → List En
   }
 
   -- lanes that have run from ready ones are under way, and have run still where they run on
-  pub run-under_way : (was now : List (Lane P)) → length now ≡ length was → All (IsReady h bank mine) was → AllHaveRun h bank seen mine was now → All (IsUnderWay h bank seen mine) now
+  pub run-under_way : (was now : List (Lane P)) → length now ≡ length was → All (IsReadyLane h bank mine) was → AllLanesRan h bank seen mine was now → All (IsUnderWay h bank seen mine) now
   run-under_way was now long ready ran k d within =
       let within' : k < length was = omega (arith, long, within) in
-      record { begun = get_or was k d; ready = ready k d within'; has_run = ran k d within' }
+      record { begun = get_or was k d; ready = ready k d within'; so_far = ran k d within' }
 
-  pub run-further : (was mid now : List (Lane P)) → length mid ≡ length was → All (IsReady h bank mine) was → AllHaveRun h bank seen mine was mid → AllRunOn h bank seen mine mid now → AllHaveRun h bank seen mine was now
+  pub run-further : (was mid now : List (Lane P)) → length mid ≡ length was → All (IsReadyLane h bank mine) was → AllLanesRan h bank seen mine was mid → AllRunOn h bank seen mine mid now → AllLanesRan h bank seen mine was now
   run-further was mid now long ready ran on i d within = on i d (omega (arith, long, within)) (get_or was i d) (ready i d within) (ran i d within)
 
-  pub run-none : (was : List (Lane P)) → All (IsReady h bank mine) was → AllHaveRun h bank seen mine was was
-  run-none was ready i d within = ready-has_run (get_or was i d) (ready i d within)
+  pub run-none : (was : List (Lane P)) → All (IsReadyLane h bank mine) was → AllLanesRan h bank seen mine was was
+  run-none was ready i d within = ready-ran (get_or was i d) (ready i d within)
 
-  pub run-zip : (was now : List (Lane P)) → length now ≡ length was → AllHaveRun h bank seen mine was now → AllZip (HasRun h bank seen mine) was now
+  pub run-zip : (was now : List (Lane P)) → length now ≡ length was → AllLanesRan h bank seen mine was now → AllZip (LaneRan h bank seen mine) was now
   run-zip [] [] long ran = tt
   run-zip [] (y ∷ ys) long ran = absurd (omega (arith, long))
   run-zip (x ∷ xs) [] long ran = absurd (omega (arith, long))
   run-zip (x ∷ xs) (y ∷ ys) long ran = (ran 0 x (omega arith), run-zip xs ys (omega (arith, long)) (λ i d within. ran (suc i) d (omega (arith, within))))
 
   -- where none is behind, all are done
-  pub run-done : (was now : List (Lane P)) → length now ≡ length was → AllHaveRun h bank seen mine was now → (Any IsBehind now → ⊥) → All IsDone now
+  pub run-done : (was now : List (Lane P)) → length now ≡ length was → AllLanesRan h bank seen mine was now → (Any IsBehind now → ⊥) → All IsDone now
   run-done was now long ran none k d within =
-      let has_run = ran k d (omega (arith, long, within)) in
+      let its = ran k d (omega (arith, long, within)) in
       let lane = get_or now k d in
-      let stream : length lane.stream ≡ length (get_or was k d).stream = ap (λ (l : Lane P). length l.stream) has_run.same_lane in
+      let stream : length lane.stream ≡ length (get_or was k d).stream = ap (λ (l : Lane P). length l.stream) its.same_lane in
       elim (cases_lt lane.done (length lane.stream)) [
         | inl behind ↦ absurd (none (k, lane, within, get_or_default now k lane d within, behind))
-        | inr past ↦ omega (arith, past, stream, has_run.within)
+        | inr past ↦ omega (arith, past, stream, its.within)
       ]
+
+  -- of a bank that had sent nothing a lane that is done has sent just its stream
+  pub done-sent : (was now : Lane P) → LaneRan h bank seen mine was now → IsDone now → mine was.pass ≡ [] → map (λ (e : Entry). e.command) (mine now.pass) ≡ was.stream
+  done-sent was now ran done none =
+      let commands : List Entry → List Command = map (λ (e : Entry). e.command) in
+      let whole : now.done ≡ length was.stream = done ∙ ap (λ (l : Lane P). length l.stream) ran.same_lane in
+      ap commands (ran.mine_grew ∙ ap (λ (es : List Entry). es ++ ran.entries) none) ∙ ran.in_order ∙ take_all now.done was.stream (omega (arith, whole))

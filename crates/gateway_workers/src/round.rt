@@ -1,7 +1,7 @@
 ghost use Rattle.std.specs.Prelude.{◌≡◌, ◌<◌, ◌≤◌, ◌↔◌, IsTrue, length, All, Any, OnOk, OnErr};
 ghost use Rattle.std.specs.List.{AllZip};
-ghost use Rattle.gateway_workers.specs.Lanes.{IsReady, HasRun, IsDone, IsBehind};
-ghost use Rattle.gateway_workers.specs.Serving.{IsUnderWay, RunsOn, AllRunOn, AllHaveRun};
+ghost use Rattle.gateway_workers.specs.Lanes.{IsReadyLane, LaneRan, IsDone, IsBehind};
+ghost use Rattle.gateway_workers.specs.Serving.{IsUnderWay, RunsOn, AllRunOn, AllLanesRan};
 
 use crate::lane::Lane;
 use fx_amounts::Memory;
@@ -28,8 +28,8 @@ pub fn run_round<R: Threads + Wait + Sync, D: Desk + Sync, G: Gate + Sync>(
 ) -> Result<(), Memory>
     requires lanes { 0 < length lanes.old }
     requires workers { 1 ≤ workers }
-    requires ready { All (IsReady D.session D.bank D.mine) lanes.old }
-    ensures ran { AllZip (HasRun D.session D.bank D.seen D.mine) lanes.old lanes.new }
+    requires ready { All (IsReadyLane D.session D.bank D.mine) lanes.old }
+    ensures ran { AllZip (LaneRan D.session D.bank D.seen D.mine) lanes.old lanes.new }
     ensures done { OnOk result (All IsDone lanes.new) }
     ensures behind { OnErr result (Any IsBehind lanes.new) }
 {
@@ -51,8 +51,8 @@ fn serve_in_threads<R: Threads + Wait + Sync, D: Desk + Sync, G: Gate + Sync>(
 )
     requires lanes { 0 < length lanes.old }
     requires workers { 1 ≤ workers }
-    requires ready { All (IsReady D.session D.bank D.mine) lanes.old }
-    ensures { AllHaveRun D.session D.bank D.seen D.mine lanes.old lanes.new }
+    requires ready { All (IsReadyLane D.session D.bank D.mine) lanes.old }
+    ensures { AllLanesRan D.session D.bank D.seen D.mine lanes.old lanes.new }
 {
     let size = lanes.len().div_ceil(workers as usize);
     thread::for_each_chunk_mut(
@@ -60,7 +60,7 @@ fn serve_in_threads<R: Threads + Wait + Sync, D: Desk + Sync, G: Gate + Sync>(
         lanes,
         size,
         &|_, part|
-            requires { All (IsReady D.session D.bank D.mine) part.now }
+            requires { All (IsReadyLane D.session D.bank D.mine) part.now }
         { serve_all(rt, desk, gate, part) },
     );
 }
@@ -79,8 +79,8 @@ fn any_behind<P>(lanes: &[Lane<P>]) -> bool
 
 /// Serves one command of each lane in turn, until all are done.
 fn serve_all<R: Wait, D: Desk, G: Gate>(rt: &R, desk: &D, gate: &G, lanes: &mut [Lane<D::Pass>])
-    requires { All (IsReady D.session D.bank D.mine) lanes.old }
-    ensures { AllHaveRun D.session D.bank D.seen D.mine lanes.old lanes.new }
+    requires { All (IsReadyLane D.session D.bank D.mine) lanes.old }
+    ensures { AllLanesRan D.session D.bank D.seen D.mine lanes.old lanes.new }
 {
     for turn in 0..longest(lanes) {
         serve_turn(rt, desk, gate, turn, lanes);
@@ -88,7 +88,9 @@ fn serve_all<R: Wait, D: Desk, G: Gate>(rt: &R, desk: &D, gate: &G, lanes: &mut 
 }
 
 /// The length of the longest stream.
-fn longest<P>(lanes: &[Lane<P>]) -> usize {
+fn longest<P>(lanes: &[Lane<P>]) -> usize
+    ensures { All (λ lane. length lane.stream ≤ result) lanes.now }
+{
     let mut most = 0;
     for lane in lanes {
         most = lane.stream.as_slice().len().max(most);
