@@ -59,3 +59,9 @@ pub record Submitted (h : Header) (bank : ℕ) (seen mine : List Entry) (command
   pub told_by_view : IsToldByView h before bank command outcome
   pub filled_by_view : IsFilledByView h before bank command outcome
   pub truthful : IsTruthfulBook h before bank command outcome
+
+-- A history at its close, to a pass of a bank: it begins with what the pass had seen, and of the bank it has just the commands
+-- that the pass submitted.
+pub record IsWholeOf (bank : ℕ) (seen mine history : List Entry) : Type 0 where
+  pub begins : IsPrefix seen history
+  pub own_are_mine : own bank history ≡ mine

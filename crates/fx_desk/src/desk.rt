@@ -24,7 +24,9 @@ pub trait Desk {
 
     /// The bank of a pass, all entries of the history that it has seen, and those of the commands that it submitted.
     ghost bank: { Self.Pass → ℕ };
+
     ghost seen: { Self.Pass → List Entry };
+
     ghost mine: { Self.Pass → List Entry };
 
     /// What a note tells.
