@@ -1,7 +1,6 @@
 -- What a round makes of its lanes. `bank`, `seen` and `mine` are what the desk tells of a pass.
 use Rattle.std.specs.Prelude.{ℕ, ◌≡◌, ◌<◌, ◌≤◌, ◌+◌, ◌^◌, List, [], ◌∷◌, ◌++◌, length, map, take}
 use mathlib.Core.List.{IsPrefix}
-use Rattle.fx_rules.specs.declared.command.Command.{Command}
 use Rattle.fx_rules.specs.declared.outcome.Entry.{Entry}
 use Rattle.fx_rules.specs.Lists.{Each}
 use Rattle.fx_rules.specs.Session.{Header}
@@ -10,7 +9,7 @@ use Rattle.fx_rules.specs.History.{IsLegal, own}
 use Rattle.gateway_workers.specs.declared.lane.Lane.{Lane}
 
 -- a lane that a round may begin with
-pub record IsReady {P : Type 0} (h : Header) (bank : P → ℕ) (mine : P → List Entry) (lane : Lane P) : Type 0 where
+pub record IsReadyLane {P : Type 0} (h : Header) (bank : P → ℕ) (mine : P → List Entry) (lane : Lane P) : Type 0 where
   -- bank and count of commands are those of its pass
   pub bank_of_pass : lane.bank ≡ bank lane.pass
   pub sent_by_pass : lane.sent ≡ length (mine lane.pass)
@@ -25,7 +24,7 @@ AreNumbered bank before [] = Unit {0}
 AreNumbered bank before (e ∷ es) = (e.bank ≡ bank) × (e.number ≡ before + 1) × AreNumbered bank (before + 1) es
 
 -- What a lane has come to in a round, whatever the round answers: the first `done` commands of its stream were carried out.
-pub record HasRun {P : Type 0} (h : Header) (bank : P → ℕ) (seen mine : P → List Entry) (was now : Lane P) : Type 0 where
+pub record LaneRan {P : Type 0} (h : Header) (bank : P → ℕ) (seen mine : P → List Entry) (was now : Lane P) : Type 0 where
   -- it is the same lane, but for its pass and for how far it came
   pub same_lane : now ≡ record was { pass = now.pass; done = now.done }
   pub same_bank : bank now.pass ≡ bank was.pass

@@ -1,5 +1,5 @@
-ghost use Rattle.std.specs.Prelude.{◌≡◌, ◌<◌, IsTrue, IsFalse, MatchBool, length};
-ghost use Rattle.gateway_workers.specs.Lanes.{IsDone};
+ghost use Rattle.std.specs.Prelude.{Decides};
+ghost use Rattle.gateway_workers.specs.Lanes.{IsBehind};
 
 use fx_amounts::BankId;
 use fx_rules::CommandList;
@@ -17,4 +17,13 @@ pub struct Lane<P> {
     pub stream: CommandList,
     /// How many commands of the stream were carried out, from its first on.
     pub done: usize,
+}
+
+impl<P> Lane<P> {
+    /// Whether commands of its stream are left.
+    pub fn is_behind(&self) -> bool
+        ensures value { Decides result (IsBehind self.now) }
+    {
+        self.done < self.stream.as_slice().len()
+    }
 }

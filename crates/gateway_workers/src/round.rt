@@ -1,7 +1,7 @@
-ghost use Rattle.std.specs.Prelude.{ℕ, ◌≡◌, ◌<◌, ◌≤◌, length, All, Any, OnOk, OnErr, slice_index_or};
+ghost use Rattle.std.specs.Prelude.{◌≡◌, ◌<◌, ◌≤◌, ◌↔◌, IsTrue, length, All, Any, OnOk, OnErr};
 ghost use Rattle.std.specs.List.{AllZip};
-ghost use Rattle.gateway_workers.specs.Lanes.{IsReady, HasRun, IsDone, IsBehind};
-ghost use Rattle.gateway_workers.specs.Serving.{IsUnderWay, GoesOn};
+ghost use Rattle.gateway_workers.specs.Lanes.{IsReadyLane, LaneRan, IsDone, IsBehind};
+ghost use Rattle.gateway_workers.specs.Serving.{IsUnderWay, RunsOn, AllRunOn, AllLanesRan};
 
 use crate::lane::Lane;
 use fx_amounts::Memory;
@@ -28,10 +28,31 @@ pub fn run_round<R: Threads + Wait + Sync, D: Desk + Sync, G: Gate + Sync>(
 ) -> Result<(), Memory>
     requires lanes { 0 < length lanes.old }
     requires workers { 1 ≤ workers }
-    requires ready { All (IsReady D.session D.bank D.mine) lanes.old }
-    ensures ran { AllZip (HasRun D.session D.bank D.seen D.mine) lanes.old lanes.new }
+    requires ready { All (IsReadyLane D.session D.bank D.mine) lanes.old }
+    ensures ran { AllZip (LaneRan D.session D.bank D.seen D.mine) lanes.old lanes.new }
     ensures done { OnOk result (All IsDone lanes.new) }
     ensures behind { OnErr result (Any IsBehind lanes.new) }
+{
+    serve_in_threads(rt, desk, gate, workers, lanes);
+    if any_behind(lanes) {
+        Err(Memory)
+    } else {
+        Ok(())
+    }
+}
+
+/// Serves the lanes in threads: so many lanes in order go to each that all have about as many.
+fn serve_in_threads<R: Threads + Wait + Sync, D: Desk + Sync, G: Gate + Sync>(
+    rt: &R,
+    desk: &D,
+    gate: &G,
+    workers: u32,
+    lanes: &mut [Lane<D::Pass>],
+)
+    requires lanes { 0 < length lanes.old }
+    requires workers { 1 ≤ workers }
+    requires ready { All (IsReadyLane D.session D.bank D.mine) lanes.old }
+    ensures { AllLanesRan D.session D.bank D.seen D.mine lanes.old lanes.new }
 {
     let size = lanes.len().div_ceil(workers as usize);
     thread::for_each_chunk_mut(
@@ -39,20 +60,27 @@ pub fn run_round<R: Threads + Wait + Sync, D: Desk + Sync, G: Gate + Sync>(
         lanes,
         size,
         &|_, part|
-            requires { All (IsUnderWay D.session D.bank D.seen D.mine) part.now }
+            requires { All (IsReadyLane D.session D.bank D.mine) part.now }
         { serve_all(rt, desk, gate, part) },
     );
-    if lanes.iter().all(|lane| lane.done == lane.stream.as_slice().len()) {
-        Ok(())
-    } else {
-        Err(Memory)
+}
+
+/// Whether commands of some lane are left.
+fn any_behind<P>(lanes: &[Lane<P>]) -> bool
+    ensures { IsTrue result ↔ Any IsBehind lanes.now }
+{
+    for lane in lanes {
+        if lane.is_behind() {
+            return true;
+        }
     }
+    false
 }
 
 /// Serves one command of each lane in turn, until all are done.
 fn serve_all<R: Wait, D: Desk, G: Gate>(rt: &R, desk: &D, gate: &G, lanes: &mut [Lane<D::Pass>])
-    requires { All (IsUnderWay D.session D.bank D.seen D.mine) lanes.old }
-    ensures { (i : ℕ) (d : _) → i < length lanes.old → GoesOn D.session D.bank D.seen D.mine (slice_index_or lanes.old i d) (slice_index_or lanes.new i d) }
+    requires { All (IsReadyLane D.session D.bank D.mine) lanes.old }
+    ensures { AllLanesRan D.session D.bank D.seen D.mine lanes.old lanes.new }
 {
     for turn in 0..longest(lanes) {
         serve_turn(rt, desk, gate, turn, lanes);
@@ -60,7 +88,9 @@ fn serve_all<R: Wait, D: Desk, G: Gate>(rt: &R, desk: &D, gate: &G, lanes: &mut 
 }
 
 /// The length of the longest stream.
-fn longest<P>(lanes: &[Lane<P>]) -> usize {
+fn longest<P>(lanes: &[Lane<P>]) -> usize
+    ensures { All (λ lane. length lane.stream ≤ result) lanes.now }
+{
     let mut most = 0;
     for lane in lanes {
         most = lane.stream.as_slice().len().max(most);
@@ -77,14 +107,14 @@ fn serve_turn<R: Wait, D: Desk, G: Gate>(
     lanes: &mut [Lane<D::Pass>],
 )
     requires { All (IsUnderWay D.session D.bank D.seen D.mine) lanes.old }
-    ensures { (i : ℕ) (d : _) → i < length lanes.old → GoesOn D.session D.bank D.seen D.mine (slice_index_or lanes.old i d) (slice_index_or lanes.new i d) }
+    ensures { AllRunOn D.session D.bank D.seen D.mine lanes.old lanes.new }
 {
     for lane in lanes.iter_mut() {
         serve_command(rt, desk, gate, turn, lane);
     }
 }
 
-/// Serves command `turn` of the lane, unless that has none or stopped before.
+/// Serves command `turn` of the lane, unless it has none or stopped before.
 fn serve_command<R: Wait, D: Desk, G: Gate>(
     rt: &R,
     desk: &D,
@@ -93,7 +123,7 @@ fn serve_command<R: Wait, D: Desk, G: Gate>(
     lane: &mut Lane<D::Pass>,
 )
     requires { IsUnderWay D.session D.bank D.seen D.mine lane.old }
-    ensures { GoesOn D.session D.bank D.seen D.mine lane.old lane.new }
+    ensures { RunsOn D.session D.bank D.seen D.mine lane.old lane.new }
 {
     if lane.done != turn {
         return;
