@@ -1,8 +1,9 @@
 -- What a history at its close has of the banks whose lanes are done.
-use Rattle.std.proofs.Common.{ℕ, zero, suc, ◌≡◌, ◌+◌, ◌<◌, ◌≤◌, eqb, Bool, true, false, List, [], ◌∷◌, ◌++◌, length, map, take, get_or, All, refl, ap, sym, subst, ◌∙◌, arith, inl, inr}
-use Rattle.std.specs.Prelude.{Some}
-use Rattle.std.specs.List.{AllZip, filter}
+use Rattle.std.proofs.Common.{ℕ, zero, suc, ◌≡◌, ◌<◌, ◌≤◌, ◌^◌, eqb, List, [], ◌∷◌, ◌++◌, length, map, take, drop, append-nil, get_or, All, refl, ap, sym, subst, ◌∙◌, arith, inl, inr}
+use Rattle.std.specs.List.{AllZip}
+use Rattle.std.proofs.Math.ListN.{drop_of_length-le}
 use Rattle.std.proofs.Math.Seq.{take-length}
+use Rattle.std.proofs.lemmas.List.{take_all}
 use Rattle.std.proofs.lemmas.Bool.{cases_lt, cases_Bool, eqb-true}
 use Rattle.std.proofs.lemmas.List.Elements.{AllZip-get_or, All-get_or, length_all_zip}
 use Rattle.std.proofs.lemmas.Option.{slice_get-get_or}
@@ -13,13 +14,14 @@ use Rattle.fx_rules.specs.Lists.{Among, Each}
 use Rattle.fx_rules.specs.Session.{Header, sender_count}
 use Rattle.fx_rules.specs.Sending.{IsSentOf}
 use Rattle.fx_rules.specs.State.{State, opening}
+use Rattle.fx_rules.specs.Step.{IsCommand}
 use Rattle.fx_rules.specs.History.{Steps, IsLegal, after_entry, own}
-use Rattle.fx_rules.proofs.ListLemmas.{filter_cons_false}
-use Rattle.fx_chronicle.specs.Faces.{Witness, witness}
+use Rattle.fx_rules.proofs.ListLemmas.{filter_cons_true, filter_cons_false}
+use Rattle.fx_chronicle.specs.Faces.{Witness}
 use Rattle.fx_desk.specs.Submitting.{IsWholeOf}
 use Rattle.fx_desk.specs.Streams.{stream_of, HasStreams}
 use Rattle.gateway_workers.specs.declared.lane.Lane.{Lane}
-use Rattle.gateway_workers.specs.Lanes.{HasRun, IsDone}
+use Rattle.gateway_workers.specs.Lanes.{IsReadyLane, LaneRan, IsDone}
 use Rattle.threaded_run.specs.Lanes.{AreLanes, lane_of}
 
 among_at : {X : Type 0} (xs : List X) (k : ℕ) (d : X) → k < length xs → Among (get_or xs k d) xs
@@ -59,7 +61,7 @@ abbrev pub mine_of : Witness Entry → List Entry
 mine_of pass = own pass.key pass.met
 
 -- what a bank's lane did is what the history has of the bank
-own_stream : (h : Header) (bank : ℕ) (sent : List Sent) (was now : Lane (Witness Entry)) (history : List Entry) → was ≡ lane_of bank sent → HasRun h key_of seen_by mine_of was now → IsDone now
+own_stream : (h : Header) (bank : ℕ) (sent : List Sent) (was now : Lane (Witness Entry)) (history : List Entry) → was ≡ lane_of bank sent → LaneRan h key_of seen_by mine_of was now → IsDone now
     → IsWholeOf now.pass.key now.pass.seen (mine_of now.pass) history → map (λ (e : Entry). e.command) (own bank history) ≡ stream_of bank sent
 own_stream h bank sent was now history was_is ran done whole =
     let key_is : now.pass.key ≡ bank = ran.same_bank ∙ ap (λ (lane : Lane (Witness Entry)). lane.pass.key) was_is in
@@ -73,7 +75,7 @@ own_stream h bank sent was now history was_is ran done whole =
 
 -- so the history has each bank's commands once and in its order
 pub has-streams : (h : Header) (banks : ℕ) (sent : List Sent) (was now : List (Lane (Witness Entry))) (passes : List (Witness Entry)) (history : List Entry)
-    → IsLegal h history → sender_count h ≡ banks → Each (IsSentOf h) sent → AreLanes banks sent was → AllZip (HasRun h key_of seen_by mine_of) was now → All IsDone now
+    → IsLegal h history → sender_count h ≡ banks → Each (IsSentOf h) sent → AreLanes banks sent was → AllZip (LaneRan h key_of seen_by mine_of) was now → All IsDone now
     → passes ≡ map (λ (lane : Lane (Witness Entry)). lane.pass) now → ((pass : Witness Entry) → Among pass passes → IsWholeOf pass.key pass.seen (mine_of pass) history)
     → HasStreams sent history
 has-streams h banks sent was now passes history legal count valid lanes ran done passes_are whole = λ bank.
@@ -81,15 +83,56 @@ has-streams h banks sent was now passes history legal count valid lanes ran done
       | inl below ↦
           let d : Lane (Witness Entry) = lane_of bank sent in
           let within : bank < length was = omega (arith, below, lanes.all) in
-          let as_many : bank < length now = omega (arith, within, length_all_zip (HasRun h key_of seen_by mine_of) was now ran) in
+          let as_many : bank < length now = omega (arith, within, length_all_zip (LaneRan h key_of seen_by mine_of) was now ran) in
           let here : Among (get_or now bank d).pass passes =
           subst (Among (get_or now bank d).pass) (sym passes_are) (among_mapped (λ (lane : Lane (Witness Entry)). lane.pass) now (get_or now bank d) (among_at now bank d as_many)) in
           own_stream h bank sent (get_or was bank d) (get_or now bank d) history
           (lanes.each bank (get_or was bank d) (slice_get-get_or was bank d within))
-          (AllZip-get_or (HasRun h key_of seen_by mine_of) was now bank d d ran within)
+          (AllZip-get_or (LaneRan h key_of seen_by mine_of) was now bank d d ran within)
           (All-get_or IsDone now bank d as_many done)
           (whole (get_or now bank d).pass here)
       | inr beyond ↦
           ap (map (λ (e : Entry). e.command)) (own_none h (opening h) bank history (omega (arith, beyond, count)) legal.steps)
           ∙ sym (stream_none h bank sent (omega (arith, beyond, count)) valid)
     ]
+
+-- ---- the lanes as they begin
+
+may_send : (h : Header) (bank : ℕ) (sent : List Sent) → Each (IsSentOf h) sent → Each (IsCommand h bank) (stream_of bank sent)
+may_send h bank [] valid = tt
+may_send h bank (s ∷ sent) valid =
+    elim (cases_Bool (eqb s.bank bank)) [
+      | inl is ↦
+          subst (Each (IsCommand h bank)) (sym (ap (map (λ (t : Sent). t.command)) (filter_cons_true (λ (t : Sent). eqb t.bank bank) s sent is)))
+          (subst (λ b. IsCommand h b s.command) (eqb-true s.bank bank is) valid.0.command, may_send h bank sent valid.1)
+      | inr other ↦
+          subst (Each (IsCommand h bank)) (sym (ap (map (λ (t : Sent). t.command)) (filter_cons_false (λ (t : Sent). eqb t.bank bank) s sent other)))
+          (may_send h bank sent valid.1)
+    ]
+
+stream_shorter : (bank : ℕ) (sent : List Sent) → length (stream_of bank sent) ≤ length sent
+stream_shorter bank [] = omega arith
+stream_shorter bank (s ∷ sent) =
+    elim (cases_Bool (eqb s.bank bank)) [
+      | inl is ↦ omega (arith, stream_shorter bank sent, ap (λ (ss : List Sent). length (map (λ (t : Sent). t.command) ss)) (filter_cons_true (λ (t : Sent). eqb t.bank bank) s sent is))
+      | inr other ↦ omega (arith, stream_shorter bank sent, ap (λ (ss : List Sent). length (map (λ (t : Sent). t.command) ss)) (filter_cons_false (λ (t : Sent). eqb t.bank bank) s sent other))
+    ]
+
+ready_lane : (h : Header) (bank : ℕ) (sent : List Sent) → Each (IsSentOf h) sent → length sent < 2 ^ 32 → IsReadyLane h key_of mine_of (lane_of bank sent)
+ready_lane h bank sent valid few = record {
+  bank_of_pass = refl;
+  sent_by_pass = refl;
+  none_done = refl;
+  may_send = may_send h bank sent valid;
+  numbers = omega (arith, few, stream_shorter bank sent);
+}
+
+pub ready-lanes : (h : Header) (banks : ℕ) (sent : List Sent) (lanes : List (Lane (Witness Entry))) → AreLanes banks sent lanes → Each (IsSentOf h) sent → length sent < 2 ^ 32 → All (IsReadyLane h key_of mine_of) lanes
+ready-lanes h banks sent lanes are valid few = λ k d within.
+    subst (IsReadyLane h key_of mine_of) (sym (are.each k (get_or lanes k d) (slice_get-get_or lanes k d within))) (ready_lane h k sent valid few)
+
+-- a row of lanes that were all handed out and came back is what came back
+pub came_back : {X : Type 0} (n : ℕ) (was now : List X) → n ≡ length was → length was ≡ length now → take n (now ++ drop (length now) was) ≡ now
+came_back n was now all same =
+    ap (λ (rest : List _). take n (now ++ rest)) (drop_of_length-le was (omega (arith, same)))
+    ∙ ap (take n) (append-nil now) ∙ take_all n now (omega (arith, all, same))

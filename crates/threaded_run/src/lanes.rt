@@ -4,7 +4,6 @@ ghost use Rattle.fx_rules.specs.Session.{IsSession, sender_count};
 ghost use Rattle.fx_rules.specs.Sending.{IsSentOf};
 ghost use Rattle.fx_rules.specs.History.{own};
 ghost use Rattle.fx_chronicle.specs.Faces.{AreNew};
-ghost use Rattle.gateway_workers.specs.Lanes.{IsReady};
 ghost use Rattle.threaded_run.specs.Lanes.{AreStreams, AreLanes};
 
 use fx_amounts::Memory;

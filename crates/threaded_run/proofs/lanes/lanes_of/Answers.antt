@@ -1,6 +1,5 @@
 use Rattle.std.proofs.Common.{rules, ◌≡◌, ◌++◌, List, [], map, length, arith, sym, subst, ap, ◌∙◌, append-nil}
 use Rattle.std.proofs.lemmas.List.{nil_from_length}
-use Rattle.fx_rules.specs.declared.command.Command.{Command}
 use Rattle.fx_rules.specs.declared.outcome.Entry.{Entry}
 use Rattle.fx_rules.specs.Session.{sender_count}
 use Rattle.fx_chronicle.specs.Faces.{Witness}
