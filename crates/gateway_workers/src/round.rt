@@ -41,7 +41,7 @@ pub fn run_round<R: Threads + Wait + Sync, D: Desk + Sync, G: Gate + Sync>(
     }
 }
 
-/// Serves the lanes in threads: so many lanes in order go to each that all have about as many.
+/// Serves the lanes in threads: in order, the same number of them in each, but for the last thread that may have fewer.
 fn serve_in_threads<R: Threads + Wait + Sync, D: Desk + Sync, G: Gate + Sync>(
     rt: &R,
     desk: &D,
