@@ -5,7 +5,7 @@ use Rattle.fx_rules.specs.Plan.{open_behind}
 use Rattle.global_book.specs.Book.{standing_at}
 use Rattle.match_sweep.specs.Sweeps.{IsFound}
 use Rattle.match_sweep.proofs.Finding.{found-best}
-use Rattle.match_sweep.proofs.sweeping.best_behind.Goals as goal
+use Rattle.match_sweep.proofs.walk.best_behind.Goals as goal
 
 pub returns : goal.returns
 returns g c =

@@ -1,6 +1,6 @@
 use Rattle.std.proofs.Common.{ℕ, ◌≡◌, ◌≢◌, ◌≤◌, ◌<◌, ◌^◌, slice_index, length}
 use Rattle.credit_lines.specs.Credit.{reach_in}
-use Rattle.match_sweep.proofs.sweeping.reaches.Given as goal
+use Rattle.match_sweep.proofs.walk.reaches.Given as goal
 
 -- the banks that were passed have their reaches, and any of them but the bank itself tells that the banks are few
 abbrev pub invariant-loop-number : goal.invariant-loop-number

@@ -5,8 +5,8 @@ use Rattle.std.proofs.lemmas.Bool.{cases_eq, false≢true, not-true, eqb-true, e
 use Rattle.std.specs.Option.{IsSome}
 use Rattle.credit_lines.specs.Credit.{reach_in}
 use Rattle.match_sweep.proofs.Tables.{total-most, zeros-at, set-most, Filled, filled-set, filled-passed}
-use Rattle.match_sweep.proofs.sweeping.reaches.Goals as goal
-use Rattle.match_sweep.proofs.sweeping.reaches.Goals.{in-Some+then-ne+then-index-banks, in-Some+else-ne, else-ne-via-then-ne+else-index-banks, else-ne-via-else-ne, in_default}
+use Rattle.match_sweep.proofs.walk.reaches.Goals as goal
+use Rattle.match_sweep.proofs.walk.reaches.Goals.{in-Some+then-ne+then-index-banks, in-Some+else-ne, else-ne-via-then-ne+else-index-banks, else-ne-via-else-ne, in_default}
 
 ne_differ : (a b : ℕ) → not (eqb a b) ≡ true → a ≢ b
 ne_differ a b differ = eqb-false a b (not-true (eqb a b) differ)
