@@ -1,5 +1,5 @@
 -- A run that keeps a block for each of its rounds, and tells of a round once its block is on the disk.
-use Rattle.std.specs.Prelude.{◌≡◌, ◌⊎◌, ℕ, ◌≤◌, List, [], ◌∷◌, ◌++◌, length, take, map, Option, Some, is_some, Result, IsErrOf}
+use Rattle.std.specs.Prelude.{◌≡◌, ◌⊎◌, ℕ, ◌≤◌, List, [], ◌∷◌, ◌++◌, length, take, map, Option, is_some, Result, IsErrOf}
 use Rattle.std.specs.List.{flat_map}
 use Rattle.std.specs.Iterator.{Yields}
 use Rattle.fx_edges.specs.declared.sink.SinkFault.{SinkFault}

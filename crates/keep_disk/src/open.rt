@@ -21,7 +21,7 @@ fn close<D: Disk>(disk: &mut D, bytes: &[u8], place: usize) -> Result<(), KeepFa
     ensures blocks { OnOk result (WhereTold (D.bytes disk.old) (λ file. (image : List ℕ) →
         D.may_leave disk.new image → whole_blocks image ≡ whole_blocks file)) }
     ensures at_rest { OnOk result (AtRest D.bytes D.may_leave disk.new place) }
-    ensures told { OnOk result (is_some (D.bytes disk.new) ≡ is_some (D.bytes disk.old)) }
+    ensures tells { OnOk result (is_some (D.bytes disk.new) ≡ is_some (D.bytes disk.old)) }
     ensures cause { HasCause D.faults disk.old disk.new result }
 {
     if place < bytes.len() && bytes[place] != OPEN {
@@ -43,7 +43,7 @@ pub fn open_keeper<D: Disk>(alloc: Global, disk: &mut D) -> Result<Keeper, KeepF
     ensures bodies { IfOk result (λ keeper. WhereTold (D.bytes disk.old) (λ file.
         keeper.bodies.items ≡ whole_blocks file)) }
     ensures at_rest { IfOk result (λ keeper. AtRest D.bytes D.may_leave disk.new keeper.place) }
-    ensures told { OnOk result (is_some (D.bytes disk.new) ≡ is_some (D.bytes disk.old)) }
+    ensures tells { OnOk result (is_some (D.bytes disk.new) ≡ is_some (D.bytes disk.old)) }
     ensures cause { HasCause D.faults disk.old disk.new result }
 {
     match settle(disk) {

@@ -1,5 +1,5 @@
 ghost use Rattle.std.specs.Prelude.{◌≡◌, ◌<◌, ℕ, [], ◌∷◌, Option, None, is_some, IfSome, IfOk, OnOk, OnErr};
-ghost use Rattle.fx_edges.specs.Writing.{Appended, AppendedPart};
+ghost use Rattle.fx_edges.specs.Writing.{Appended};
 ghost use Rattle.fx_disk.specs.Disk.{WhereTold, LeavesOnly};
 ghost use Rattle.keep_disk.specs.Blocks.{whole_blocks, HasOrLacks};
 ghost use Rattle.keep_disk.specs.Keeping.{AtRest};
@@ -65,7 +65,9 @@ impl From<Memory> for RunFault {
 /// A round of a run: the body of its block, and what is told of it once that block is kept.
 #[derive(Drop)]
 pub struct Round {
+    /// The bytes of its block's body.
     pub body: Vec<u8>,
+    /// The bytes that are told of it.
     pub text: Vec<u8>,
 }
 
@@ -89,7 +91,8 @@ pub trait Rounds {
 /// Keeps a round and tells of it: its block is appended, and when that is on the disk its text goes to `out`.
 ///
 /// At every moment a crash leaves the blocks from before, with the round's or without. Where a byte was
-/// told, whatever the answer, it leaves them with the round's.
+/// told, whatever the answer, it leaves them with the round's. After a fault the run is over: the file is to
+/// be opened again, and `out` has a prefix of what is told of the round.
 pub fn keep_round<D: Disk, K: Sink>(
     keeper: &mut Keeper,
     disk: &mut D,
@@ -116,7 +119,8 @@ pub fn keep_round<D: Disk, K: Sink>(
 /// Keeps rounds and tells of them, one after the other, until there is none any more.
 ///
 /// At every moment a crash leaves the blocks from before and the first so many of the rounds'. Of each
-/// round of which a byte was told it leaves the block, whatever the answer.
+/// round of which a byte was told it leaves the block, whatever the answer. After a fault the file is to be
+/// opened again, and `out` has a prefix of what is told of the rounds that are kept.
 pub fn keep_rounds<D: Disk, K: Sink, N: Rounds>(
     keeper: &mut Keeper,
     disk: &mut D,
