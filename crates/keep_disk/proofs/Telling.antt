@@ -14,13 +14,13 @@ use Rattle.keep_disk.specs.Blocks.{whole_blocks, HasOrLacks}
 use Rattle.keep_disk.specs.Rounds.{bodies_of, text_of, KeptBlocks, HasFirst, KeptBeforeTold, KeptAll, KeptPart}
 
 -- a disk that told its bytes at the start tells them still
-told_now : (known now : Option (List ℕ)) (file : List ℕ) → is_some now ≡ is_some known → known ≡ Some file → (f : List ℕ) × (now ≡ Some f)
+pub told_now : (known now : Option (List ℕ)) (file : List ℕ) → is_some now ≡ is_some known → known ≡ Some file → (f : List ℕ) × (now ≡ Some f)
 told_now known None file same told = absurd (cc (ap is_some told))
 told_now known (Some f) file same told = (f, refl)
 
 -- Images with the first blocks of a run
 
-first_longer : (start more extra : List (List ℕ)) (least : ℕ) (image : List ℕ) → HasFirst start more least image → HasFirst start (more ++ extra) least image
+pub first_longer : (start more extra : List (List ℕ)) (least : ℕ) (image : List ℕ) → HasFirst start more least image → HasFirst start (more ++ extra) least image
 first_longer start more extra least image has = record {
   count = has.count;
   enough = has.enough;
@@ -28,7 +28,7 @@ first_longer start more extra least image has = record {
   blocks = has.blocks ∙ ap (λ (bs : List (List ℕ)). start ++ bs) (sym (take-append-le has.count more extra has.within));
 }
 
-first_all : (start more : List (List ℕ)) (least : ℕ) (image : List ℕ) → least ≤ length more → whole_blocks image ≡ start ++ more → HasFirst start more least image
+pub first_all : (start more : List (List ℕ)) (least : ℕ) (image : List ℕ) → least ≤ length more → whole_blocks image ≡ start ++ more → HasFirst start more least image
 first_all start more least image le is = record {
   count = length more;
   enough = le;

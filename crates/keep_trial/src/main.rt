@@ -1,22 +1,23 @@
 //! A program to be killed: it appends numbered blocks to `fx.journal` and prints each number once its block is kept.
 //!
 //! `append COUNT DOTS` appends blocks of the next COUNT numbers, each its digits and as many dots. `count DOTS` opens the
-//! file, and prints how many blocks it has and whether they are those of 1, 2, 3 and so on.
+//! file, and prints how many blocks it has and whether they are those of 1, 2, 3 and so on. Status 1: other words; 2: a fault of
+//! the disk, of standard output where it got a number, or of memory; 3: one of standard output where it got the count.
 #![tactic(auto)]
 
+mod keeping;
 mod numbers;
 
-use fx_disk::{Disk, FileDisk};
-use fx_edges::{Sink, StdSink};
-use keep_disk::{RunFault, keep_rounds, open_keeper};
-use numbers::{Numbers, body_of};
-use std::alloc::Global;
+use fx_disk::FileDisk;
+use fx_edges::StdSink;
+use keep_disk::RunFault;
+use keeping::{append, count};
 use std::env::{self, Args};
 use std::process::ExitCode;
 
 /// What the words ask for.
 enum Task {
-    Append { count: u64, dots: usize },
+    Append { numbers: u64, dots: usize },
     Count { dots: usize },
 }
 
@@ -44,43 +45,18 @@ fn task_of(mut words: Args) -> Option<Task> {
         return None;
     }
     let dots = number(&mut words)? as usize;
-    Some(Task::Append { count: first, dots })
-}
-
-/// Appends the blocks of the next `count` numbers, and writes each number once its block is on the disk.
-fn append<D: Disk, K: Sink>(
-    alloc: Global,
-    disk: &mut D,
-    out: &mut K,
-    count: u64,
-    dots: usize,
-) -> Result<(), RunFault> {
-    let mut keeper = open_keeper(alloc, disk)?;
-    let next = keeper.bodies().len() as u64 + 1;
-    let mut numbers = Numbers::new(alloc, next, next.saturating_add(count), dots);
-    keep_rounds(&mut keeper, disk, out, &mut numbers)
-}
-
-/// How many blocks the file has, and whether they are those of 1, 2, 3 and so on.
-fn count<D: Disk>(alloc: Global, disk: &mut D, dots: usize) -> Result<(usize, bool), RunFault> {
-    let keeper = open_keeper(alloc, disk)?;
-    let mut in_order = true;
-    for (at, body) in keeper.bodies().iter().enumerate() {
-        let wanted = body_of(alloc, at as u64 + 1, dots)?;
-        in_order = in_order && body.as_slice() == wanted.as_slice();
-    }
-    Ok((keeper.bodies().len(), in_order))
+    Some(Task::Append {
+        numbers: first,
+        dots,
+    })
 }
 
 fn carry_out(rt: &HostRuntime, task: Task) -> Result<Answer, RunFault> {
     let mut disk = FileDisk::new(rt);
     match task {
-        Task::Append {
-            count: blocks,
-            dots,
-        } => {
+        Task::Append { numbers, dots } => {
             let mut out = StdSink::new(rt.stdout());
-            append(rt.alloc(), &mut disk, &mut out, blocks, dots)?;
+            append(rt.alloc(), &mut disk, &mut out, numbers, dots)?;
             Ok(Answer::Appended)
         }
         Task::Count { dots } => {

@@ -1,4 +1,5 @@
-ghost use Rattle.std.specs.Prelude.{◌≡◌, ◌+◌, ◌-◌, ◌++◌, [], ◌∷◌, replicate, decimal, IfSome, IfOk};
+ghost use Rattle.std.specs.Prelude.{◌≡◌, ◌-◌, IfOk};
+ghost use Rattle.keep_trial.specs.Numbered.{body, GivesNumber};
 
 use fx_amounts::Memory;
 use itoa::Buffer;
@@ -7,7 +8,7 @@ use std::alloc::Global;
 
 /// The body of a number's block: its digits and as many dots.
 pub fn body_of(alloc: Global, number: u64, dots: usize) -> Result<Vec<u8>, Memory>
-    ensures { IfOk result (λ body. body.items ≡ decimal number ++ replicate dots 46) }
+    ensures { IfOk result (λ made. made.items ≡ body dots number) }
 {
     let filler = Vec::from_elem(alloc, b'.', dots)?;
     let mut buffer = Buffer::new();
@@ -41,9 +42,7 @@ impl Numbers {
 impl Rounds for Numbers {
     ghost left = { λ s. s.end - s.next };
 
-    ghost gives = { λ s round t. IfSome round (λ r.
-        (r.body.items ≡ decimal s.next ++ replicate s.dots 46) × (r.text.items ≡ decimal s.next ++ 10 ∷ [])
-        × (t ≡ record s { next = s.next + 1 })) };
+    ghost gives = { GivesNumber };
 
     fn next(&mut self) -> Result<Option<Round>, Memory> {
         let number = self.next;
