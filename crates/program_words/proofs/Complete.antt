@@ -16,7 +16,7 @@ use Rattle.program_words.specs.declared.reading.WordsFault.{WordsFault}
 use Rattle.program_words.specs.declared.reading.WordsFault.TheVariants.{Usage, Memory}
 use Rattle.program_words.proofs.MatchedLemmas.{some_is}
 use Rattle.program_words.specs.declared.task.Task.{Task}
-use Rattle.program_words.specs.declared.task.Task.TheVariants.{Run, Serial, Check, Load}
+use Rattle.program_words.specs.declared.task.Task.TheVariants.{Run, Serial, Check}
 use Rattle.program_words.specs.Forms.{◌>>=◌, workers_of, run_of, alone, load_of, task_of}
 use Rattle.program_words.proofs.Walking.{IsPlain, plain}
 use Rattle.program_words.proofs.Taken.{IsTaken, load_alone, load_with, run_with, run_alone, serial_alone, check_alone}

@@ -1,5 +1,5 @@
 -- The command that was matched, by the clauses of its parts.
-use Rattle.std.proofs.Common.{◌≡◌, List, Option, Some, None, refl, ap, ap₂, sym, ◌∙◌, option_map, Result, Ok, Err, IfErr, IsErrAnd}
+use Rattle.std.proofs.Common.{◌≡◌, List, Option, Some, None, refl, ap, ap₂, sym, option_map, Result, Ok, Err, IfErr, IsErrAnd}
 use Rattle.std.proofs.lemmas.Option.{none-some}
 use Rattle.clap.specs.Words.{Row, Text, subcommand_name_of, subcommand_rows_of}
 use Rattle.clap.specs.declared.parser.matches.ArgMatches.{ArgMatches}

@@ -1,5 +1,5 @@
 -- The numbers of a task that words ask for are in their ranges.
-use Rattle.std.proofs.Common.{ℕ, ◌≡◌, ◌≤◌, ◌-◌, ◌^◌, Bool, true, false, List, [], ◌∷◌, Option, Some, None, refl, ap, sym, subst, ◌∙◌, codes, if◌then◌else◌, IfSome}
+use Rattle.std.proofs.Common.{ℕ, ◌≡◌, ◌≤◌, ◌-◌, ◌^◌, Bool, true, false, List, [], ◌∷◌, Option, Some, None, subst, codes, if◌then◌else◌}
 use Rattle.std.specs.Str.{bytes_eq}
 use Rattle.std.proofs.lemmas.Option.{none-some}
 use Rattle.fx_text.specs.Number.{number_of}
@@ -29,6 +29,32 @@ alone_is_task : (its : Task) (rest : List Text) (task : Task) → IsTask its →
 alone_is_task its [] task is e = subst IsTask (some_is its task e) is
 alone_is_task its (word ∷ rest) task is e = absurd (none-some task e)
 
+-- the numbers of `load`, from the last one on
+
+of_workers : (seed banks pairs commands : ℕ) (rest : List Text) (task : Task) → InRange 2 64 banks → InRange 1 32 pairs → InRange 1 20000 commands
+    → (workers_of rest >>= (λ w. Some (Load seed banks pairs commands w))) ≡ Some task → IsTask task
+of_workers seed banks pairs commands rest task b p n e =
+    let workers = gave (workers_of rest) (λ w. Some (Load seed banks pairs commands w)) task e in
+    subst IsTask (some_is (Load seed banks pairs commands workers.value) task workers.rest) ((b.low, b.high), (p.low, p.high), (n.low, n.high))
+
+of_commands : (seed banks pairs : ℕ) (d : Text) (rest : List Text) (task : Task) → InRange 2 64 banks → InRange 1 32 pairs
+    → (number_of 1 20000 d >>= (λ n. workers_of rest >>= (λ w. Some (Load seed banks pairs n w)))) ≡ Some task → IsTask task
+of_commands seed banks pairs d rest task b p e =
+    let commands = gave (number_of 1 20000 d) (λ n. workers_of rest >>= (λ w. Some (Load seed banks pairs n w))) task e in
+    of_workers seed banks pairs commands.value rest task b p (in_range 1 20000 commands.value d commands.is) commands.rest
+
+of_pairs : (seed banks : ℕ) (c d : Text) (rest : List Text) (task : Task) → InRange 2 64 banks
+    → (number_of 1 32 c >>= (λ p. number_of 1 20000 d >>= (λ n. workers_of rest >>= (λ w. Some (Load seed banks p n w))))) ≡ Some task → IsTask task
+of_pairs seed banks c d rest task b e =
+    let pairs = gave (number_of 1 32 c) (λ p. number_of 1 20000 d >>= (λ n. workers_of rest >>= (λ w. Some (Load seed banks p n w)))) task e in
+    of_commands seed banks pairs.value d rest task b (in_range 1 32 pairs.value c pairs.is) pairs.rest
+
+of_banks : (seed : ℕ) (b c d : Text) (rest : List Text) (task : Task)
+    → (number_of 2 64 b >>= (λ k. number_of 1 32 c >>= (λ p. number_of 1 20000 d >>= (λ n. workers_of rest >>= (λ w. Some (Load seed k p n w)))))) ≡ Some task → IsTask task
+of_banks seed b c d rest task e =
+    let banks = gave (number_of 2 64 b) (λ k. number_of 1 32 c >>= (λ p. number_of 1 20000 d >>= (λ n. workers_of rest >>= (λ w. Some (Load seed k p n w))))) task e in
+    of_pairs seed banks.value c d rest task (in_range 2 64 banks.value b banks.is) banks.rest
+
 load_is_task : (rest : List Text) (task : Task) → load_of rest ≡ Some task → IsTask task
 load_is_task [] task e = absurd (none-some task e)
 load_is_task (a ∷ []) task e = absurd (none-some task e)
@@ -36,15 +62,7 @@ load_is_task (a ∷ b ∷ []) task e = absurd (none-some task e)
 load_is_task (a ∷ b ∷ c ∷ []) task e = absurd (none-some task e)
 load_is_task (a ∷ b ∷ c ∷ d ∷ rest) task e =
     let seed = gave (number_of 0 (2 ^ 64 - 1) a) (λ s. number_of 2 64 b >>= (λ k. number_of 1 32 c >>= (λ p. number_of 1 20000 d >>= (λ n. workers_of rest >>= (λ w. Some (Load s k p n w)))))) task e in
-    let banks = gave (number_of 2 64 b) (λ k. number_of 1 32 c >>= (λ p. number_of 1 20000 d >>= (λ n. workers_of rest >>= (λ w. Some (Load seed.value k p n w))))) task seed.rest in
-    let pairs = gave (number_of 1 32 c) (λ p. number_of 1 20000 d >>= (λ n. workers_of rest >>= (λ w. Some (Load seed.value banks.value p n w)))) task banks.rest in
-    let commands = gave (number_of 1 20000 d) (λ n. workers_of rest >>= (λ w. Some (Load seed.value banks.value pairs.value n w))) task pairs.rest in
-    let workers = gave (workers_of rest) (λ w. Some (Load seed.value banks.value pairs.value commands.value w)) task commands.rest in
-    let banks_in = in_range 2 64 banks.value b banks.is in
-    let pairs_in = in_range 1 32 pairs.value c pairs.is in
-    let commands_in = in_range 1 20000 commands.value d commands.is in
-    subst IsTask (some_is (Load seed.value banks.value pairs.value commands.value workers.value) task workers.rest)
-    ((banks_in.low, banks_in.high), (pairs_in.low, pairs_in.high), (commands_in.low, commands_in.high))
+    of_banks seed.value b c d rest task seed.rest
 
 pub task_is_task : (words : List Text) (task : Task) → task_of words ≡ Some task → IsTask task
 task_is_task [] task e = absurd (none-some task e)

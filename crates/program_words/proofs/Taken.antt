@@ -1,7 +1,7 @@
 -- The command line takes the words of each form, and finds them again in its matches.
-use Rattle.std.proofs.Common.{ℕ, ◌≡◌, Bool, true, false, List, [], ◌∷◌, Option, Some, None, refl, ap, sym, ◌∙◌, codes, slice_index_or}
-use Rattle.clap.specs.Walk.{Held, Row, Rule, Text, Walk, idle, arg_by_index, finished, first_of, nothing_held, pushed, settled, to_positional, walk, walk_from, walked}
-use Rattle.clap.specs.Simple.{App, Shape, built, entered, is_simple, names_of, new_shape, subcommand_of}
+use Rattle.std.proofs.Common.{ℕ, ◌≡◌, true, false, List, [], ◌∷◌, Some, refl, ap, ◌∙◌, codes, slice_index_or}
+use Rattle.clap.specs.Walk.{Held, Text, Walk, idle, arg_by_index, finished, nothing_held, pushed, settled, to_positional, walk, walk_from, walked}
+use Rattle.clap.specs.Simple.{Shape, built, is_simple, names_of, new_shape, subcommand_of}
 use Rattle.clap.specs.Takes.{level_passes, takes, turn_passes, walk_passes}
 use Rattle.clap.proofs.OnLiterals.{clap_on_literals}
 use Rattle.program_words.specs.Tool.{tool}
@@ -136,8 +136,8 @@ pub load_with : (a b c d n : Text) → IsPlain a → IsPlain b → IsPlain c →
 load_with a b c d n pa pb pc pd pn = record {
   taken = takes-by tool _ (met (codes "load") (a ∷ b ∷ c ∷ d ∷ codes "--workers" ∷ n ∷ [])) simple (all_met a b c d n) (all_walks a b c d n) (all_level a b c d n pa pb pc pd pn) refl;
   back =
-    ap printed (subcommand-by tool (codes "load" ∷ a ∷ b ∷ c ∷ d ∷ codes "--workers" ∷ n ∷ []) (met (codes "load") (a ∷ b ∷ c ∷ d ∷ codes "--workers" ∷ n ∷ [])) (all_met a b c d n))
-    ∙ ap (λ (k : Walk). printed_of (codes "load") (finished load_leaf.rules k.held)) (all_numbers a b c d n pa pb pc pd pn);
+      ap printed (subcommand-by tool (codes "load" ∷ a ∷ b ∷ c ∷ d ∷ codes "--workers" ∷ n ∷ []) (met (codes "load") (a ∷ b ∷ c ∷ d ∷ codes "--workers" ∷ n ∷ [])) (all_met a b c d n))
+      ∙ ap (λ (k : Walk). printed_of (codes "load") (finished load_leaf.rules k.held)) (all_numbers a b c d n pa pb pc pd pn);
 }
 
 -- `run`
@@ -181,8 +181,8 @@ pub run_with : (n : Text) → IsPlain n → IsTaken (codes "run" ∷ codes "--wo
 run_with n pn = record {
   taken = takes-by tool _ (met (codes "run") (codes "--workers" ∷ n ∷ [])) simple (run_met n) (run_walks n) (run_level n pn) refl;
   back =
-    ap printed (subcommand-by tool (codes "run" ∷ codes "--workers" ∷ n ∷ []) (met (codes "run") (codes "--workers" ∷ n ∷ [])) (run_met n))
-    ∙ ap (λ (k : Walk). printed_of (codes "run") (finished run_leaf.rules k.held)) (run_numbers n pn);
+      ap printed (subcommand-by tool (codes "run" ∷ codes "--workers" ∷ n ∷ []) (met (codes "run") (codes "--workers" ∷ n ∷ [])) (run_met n))
+      ∙ ap (λ (k : Walk). printed_of (codes "run") (finished run_leaf.rules k.held)) (run_numbers n pn);
 }
 
 -- the words that stand alone

@@ -1,5 +1,5 @@
 -- How `clap` walks over words that begin with no hyphen.
-use Rattle.std.proofs.Common.{ℕ, ◌≡◌, Bool, true, false, ◌&&◌, ◌||◌, ◌==◌, List, [], ◌∷◌, Option, Some, None, is_some, refl, ap}
+use Rattle.std.proofs.Common.{ℕ, ◌≡◌, true, false, ◌&&◌, ◌==◌, List, [], ◌∷◌, None, is_some, refl, ap}
 use Rattle.std.specs.Str.{bytes_eq}
 use Rattle.std.specs.List.{list_all}
 use Rattle.clap.specs.Lexer.{long_of, short_of}
@@ -75,7 +75,7 @@ pub takes-by : (a : App) (words : List Text) (k : Walk) → is_simple a ≡ true
     → walk_passes (built a).top (names_of (built a)) (walk_from nothing_held) (argument_words a words) ≡ true
     → entered_passes (built a) k.stopped ≡ true
     → (settle_passes (built a).top.rules (built a).top.args_override_self k.held
-        && (list_all default_passes (built a).top.rules && is_valid (built a).top (finished (built a).top.rules k.held) (is_some (entered (built a) k.stopped)))) ≡ true
+    && (list_all default_passes (built a).top.rules && is_valid (built a).top (finished (built a).top.rules k.held) (is_some (entered (built a) k.stopped)))) ≡ true
     → takes a words ≡ true
 takes-by a words k simple is ok inside ends = rw (simple, is, ok, inside, ends) refl
 

@@ -1,5 +1,5 @@
 -- The command line that the words are read by, as `clap` sees it.
-use Rattle.std.specs.Prelude.{List, ◌∷◌, [], true, codes, Some}
+use Rattle.std.specs.Prelude.{true, codes, Some}
 use Rattle.clap.specs.Words.{App, Rule, Text, new_app, new_rule, with_rule, with_subcommand}
 
 abbrev pub workers_rule : Rule

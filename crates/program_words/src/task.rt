@@ -55,7 +55,9 @@ impl Workers {
 #[derive(Clone, Copy, Debug, PartialEq, Eq)]
 pub enum Task {
     /// To run a session on threads.
-    Run { workers: Workers },
+    Run {
+        workers: Workers,
+    },
     /// To run a session in the order of its lines.
     Serial,
     /// To check an output.
