@@ -1,5 +1,5 @@
 use Rattle.flat_host.proofs.Walking.{WentBy}
-use Rattle.flat_host.proofs.depth.first_levels.Given as goal
+use Rattle.flat_host.proofs.depth.levels_among.Given as goal
 
 -- the levels are those of the fills of the walk so far
 abbrev pub invariant-loop-walk : goal.invariant-loop-walk
