@@ -4,8 +4,7 @@ use Rattle.fx_rules.specs.declared.command.Sent.{Sent}
 use Rattle.fx_rules.specs.Sending.{sent_by}
 use Rattle.market_run.specs.Ran.{Ran}
 use Rattle.market_run.specs.Running.{Served}
-use Rattle.fx_cli.proofs.HeadlineLaws.{serial_of}
-use Rattle.fx_cli.proofs.serial.run_in_order.Goals as goal
+use Rattle.serial_run.proofs.run.run_in_order.Goals as goal
 
 -- what was served by a run without an entry is what its entries' senders sent
 in_order : {M : Type 0} (was now : Ran M) (sent : List Sent) → was.entries ≡ [] → Served was now sent → map sent_by now.entries ≡ sent
@@ -22,10 +21,7 @@ serve_all-requires c = record {
 }
 
 pub returns : goal.returns
-returns c =
-    let has_run = c.serve_all.ensures.run c.args.session.now (c.new-run.ensures.opens c.args.session.now c.banks-banks.ensures.valid c.in_ok-host.ensures.opens) in
-    record {
-      serial = serial_of c.args.session.now c.args.sent.now c.serve_all.new.self.entries has_run.legal
-          (in_order c.new-run.result c.serve_all.new.self c.args.sent.now c.new-run.ensures.none c.in_ok-serve_all.ensures.served);
-      run = has_run;
-    }
+returns c = record {
+  run = c.serve_all.ensures.run c.args.session.now (c.new-run.ensures.opens c.args.session.now c.banks-banks.ensures.valid c.in_ok-host.ensures.opens);
+  in_order = in_order c.new-run.result c.serve_all.new.self c.args.sent.now c.new-run.ensures.none c.in_ok-serve_all.ensures.served;
+}
