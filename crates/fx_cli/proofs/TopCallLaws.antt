@@ -18,11 +18,10 @@ use Rattle.reply_lines.specs.declared.output.Ending.TheVariants as endings
 use Rattle.session_head.specs.Head as heads
 use Rattle.session_head.specs.declared.reason.HeadReason.{HeadReason}
 use Rattle.session_script.specs.Input.{input_limit}
-use Rattle.fx_cli.specs.Headline.{IsSerial}
 use Rattle.session_script.specs.Reading.{HasNoFault, IsPrompt, Says, MetEnd, IsEnded, Stopped, Ended, HasRead}
 use Rattle.fx_cli.specs.Run.{WroteAll, WrotePart, RanScript, Followed, Ran}
 use Rattle.session_script.specs.Script.{HasSession, HasFault, HasEnd, EndsWithEnd, sent_in, strays_of}
-use Rattle.fx_cli.specs.SerialCall.{DidSerial}
+use Rattle.fx_cli.specs.SessionCall.{DidSession}
 use Rattle.fx_cli.specs.Status.{status_of}
 use Rattle.fx_cli.specs.TopCall.{EndsExactly, IsOutputOf, GotOutput, GotPart, GotNothing, WritesNothing, IsSessionText}
 use Rattle.session_script.specs.declared.reading.Stop.{Stop}
@@ -174,35 +173,35 @@ memory_alone result stop (inl one) is = inr (inl (one ∙ is))
 memory_alone result stop (inr (inl one)) is = inr (inl one)
 memory_alone result stop (inr (inr none)) is = absurd none
 
-module _ {K : Type 0} (written : K → Option (List ℕ)) (faults : K → ℕ) (out out' : K) where
+module _ (IsRight : Header → List Sent → List Entry → Type 0) {K : Type 0} (written : K → Option (List ℕ)) (faults : K → ℕ) (out out' : K) where
   -- what was done at the status that was told; want of memory may have taken a status' place
   abbrev pub After : Result Script Stop → Status → Type 0
-  After (Ok script) status = RanScript written faults out out' script status
+  After (Ok script) status = RanScript IsRight written faults out out' script status
   After (Err stop) status = Among status (status_of stop ∷ Memory ∷ []) × (out' ≡ out)
 
-  whole_part : (script : Script) → WroteAll written faults out out' script → WrotePart written faults out out' script
+  whole_part : (script : Script) → WroteAll IsRight written faults out out' script → WrotePart IsRight written faults out out' script
   whole_part script all = record {
     history = all.history;
-    serial = all.serial;
+    right = all.right;
     text = all.text;
     is_output = all.is_output;
     lists = all.lists;
     part = AppendedPart-whole all.all;
   }
 
-  script_memory : (script : Script) (status : Status) → RanScript written faults out out' script status → RanScript written faults out out' script Memory
+  script_memory : (script : Script) (status : Status) → RanScript IsRight written faults out out' script status → RanScript IsRight written faults out out' script Memory
   script_memory script Done ran = inr (whole_part script ran)
   script_memory script WriteFault ran = inr ran.0
   script_memory script Memory ran = ran
   script_memory script status ran = absurd ran
 
-  pub After-told : (read : Result Script Stop) (status result : Status) → Followed written faults out out' read status → Among result (status ∷ Memory ∷ []) → After read result
-  After-told (Ok script) status result ran (inl same) = subst (λ (s : Status). RanScript written faults out out' script s) (sym same) ran
-  After-told (Ok script) status result ran (inr (inl same)) = subst (λ (s : Status). RanScript written faults out out' script s) (sym same) (script_memory script status ran)
+  pub After-told : (read : Result Script Stop) (status result : Status) → Followed IsRight written faults out out' read status → Among result (status ∷ Memory ∷ []) → After read result
+  After-told (Ok script) status result ran (inl same) = subst (λ (s : Status). RanScript IsRight written faults out out' script s) (sym same) ran
+  After-told (Ok script) status result ran (inr (inl same)) = subst (λ (s : Status). RanScript IsRight written faults out out' script s) (sym same) (script_memory script status ran)
   After-told (Ok script) status result ran (inr (inr none)) = absurd none
   After-told (Err stop) status result ran is = (subst (λ (s : Status). Among result (s ∷ Memory ∷ [])) ran.0 is, ran.1)
 
-  no_script : (script : Script) (other : Stop) → (other ≡ stops.Memory → ⊥) → RanScript written faults out out' script (status_of other) → ⊥
+  no_script : (script : Script) (other : Stop) → (other ≡ stops.Memory → ⊥) → RanScript IsRight written faults out out' script (status_of other) → ⊥
   no_script script (stops.Header line reason) unlike ran = ran
   no_script script stops.Cut unlike ran = ran
   no_script script stops.ReadFault unlike ran = ran
@@ -211,7 +210,7 @@ module _ {K : Type 0} (written : K → Option (List ℕ)) (faults : K → ℕ) (
 
   -- so the reading stopped as the status tells
   pub stopped : (read : Result Script Stop) (result : Status) (other : Stop) → (other ≡ stops.Memory → ⊥) → After read result → result ≡ status_of other → read ≡ Err other
-  stopped (Ok script) result other unlike ran is = absurd (no_script script other unlike (subst (λ (s : Status). RanScript written faults out out' script s) is ran))
+  stopped (Ok script) result other unlike ran is = absurd (no_script script other unlike (subst (λ (s : Status). RanScript IsRight written faults out out' script s) is ran))
   stopped (Err stop) result other unlike ran is = ap (λ (s : Stop). Err s) (stop_same stop other result unlike ran.0 is)
 
   pub stop_only : (read : Result Script Stop) (result : Status) (other : Stop) (known : Option (List ℕ)) (input : List ℕ) → (other ≡ stops.Memory → ⊥) → After read result → Ended known input read → result ≡ status_of other → Stopped known input other
@@ -247,52 +246,52 @@ module _ {K : Type 0} (written : K → Option (List ℕ)) (faults : K → ℕ) (
     always = λ much. among_stop result (status_of stop) TooMuch [] ran.0 (much_stop input rest stop ended much);
   }
 
-  output_of : (script : Script) (input rest text : List ℕ) (history : List Entry) → IsEnded (Some rest) input → Says input script → IsSerial script.session script.sent.items history → IsOutput script.session history script.strays endings.End text
-      → listed text ≡ Ok (record { session = script.session; commands = map sent_by history }) → IsOutputOf input rest text
-  output_of script input rest text history ended says serial output lists = record {
+  output_of : (script : Script) (input rest text : List ℕ) (history : List Entry) → IsEnded (Some rest) input → Says input script → IsRight script.session script.sent.items history → IsOutput script.session history script.strays endings.End text
+      → listed text ≡ Ok (record { session = script.session; commands = map sent_by history }) → IsOutputOf IsRight input rest text
+  output_of script input rest text history ended says right output lists = record {
     at_its_end = ended;
     session = script.session;
     of_its_header = says.session;
     history = history;
-    of_its_commands = subst (λ (sent : List Sent). IsSerial script.session sent history) says.sent serial;
+    of_its_commands = subst (λ (sent : List Sent). IsRight script.session sent history) says.sent right;
     exactly = subst (λ (strays : ℕ). IsOutput script.session history strays endings.End text) says.strays output;
     as_listed = lists;
   }
 
-  part_of : (script : Script) (input rest : List ℕ) → Ended (Some rest) input (Ok script) → WrotePart written faults out out' script → GotPart written faults out out' input rest
+  part_of : (script : Script) (input rest : List ℕ) → Ended (Some rest) input (Ok script) → WrotePart IsRight written faults out out' script → GotPart IsRight written faults out out' input rest
   part_of script input rest ended part =
-      (part.text, output_of script input rest part.text part.history ended.0 ended.1 part.serial part.is_output part.lists, part.part)
+      (part.text, output_of script input rest part.text part.history ended.0 ended.1 part.right part.is_output part.lists, part.part)
 
-  pub done_whole : (read : Result Script Stop) (result : Status) (input rest : List ℕ) → After read result → Ended (Some rest) input read → result ≡ Done → GotOutput written faults out out' input rest
+  pub done_whole : (read : Result Script Stop) (result : Status) (input rest : List ℕ) → After read result → Ended (Some rest) input read → result ≡ Done → GotOutput IsRight written faults out out' input rest
   done_whole (Ok script) result input rest ran ended is =
-      let done : RanScript written faults out out' script Done = subst (λ (s : Status). RanScript written faults out out' script s) is ran in
-      (done.text, output_of script input rest done.text done.history ended.0 ended.1 done.serial done.is_output done.lists, done.all)
+      let done : RanScript IsRight written faults out out' script Done = subst (λ (s : Status). RanScript IsRight written faults out out' script s) is ran in
+      (done.text, output_of script input rest done.text done.history ended.0 ended.1 done.right done.is_output done.lists, done.all)
   done_whole (Err stop) result input rest ran ended is = absurd (no_stop stop result Done no_done ran.0 is)
 
   pub fault_rose : (read : Result Script Stop) (result : Status) → After read result → result ≡ WriteFault → Rose (faults out) (faults out')
   fault_rose (Ok script) result ran is =
-      let wrote : RanScript written faults out out' script WriteFault = subst (λ (s : Status). RanScript written faults out out' script s) is ran in wrote.1
+      let wrote : RanScript IsRight written faults out out' script WriteFault = subst (λ (s : Status). RanScript IsRight written faults out out' script s) is ran in wrote.1
   fault_rose (Err stop) result ran is = absurd (no_stop stop result WriteFault no_write_fault ran.0 is)
 
-  pub fault_part : (read : Result Script Stop) (result : Status) (input rest : List ℕ) → After read result → Ended (Some rest) input read → result ≡ WriteFault → GotPart written faults out out' input rest
+  pub fault_part : (read : Result Script Stop) (result : Status) (input rest : List ℕ) → After read result → Ended (Some rest) input read → result ≡ WriteFault → GotPart IsRight written faults out out' input rest
   fault_part (Ok script) result input rest ran ended is =
-      let wrote : RanScript written faults out out' script WriteFault = subst (λ (s : Status). RanScript written faults out out' script s) is ran in
+      let wrote : RanScript IsRight written faults out out' script WriteFault = subst (λ (s : Status). RanScript IsRight written faults out out' script s) is ran in
       part_of script input rest ended wrote.0
   fault_part (Err stop) result input rest ran ended is = absurd (no_stop stop result WriteFault no_write_fault ran.0 is)
 
   pub nothing_of : out' ≡ out → GotNothing written faults out out'
   nothing_of same = subst (λ (k : K). Appended written faults out k []) (sym same) (Appended-nil written faults out)
 
-  memory_script : (script : Script) (input rest : List ℕ) → Ended (Some rest) input (Ok script) → RanScript written faults out out' script Memory → GotNothing written faults out out' ⊎ GotPart written faults out out' input rest
+  memory_script : (script : Script) (input rest : List ℕ) → Ended (Some rest) input (Ok script) → RanScript IsRight written faults out out' script Memory → GotNothing written faults out out' ⊎ GotPart IsRight written faults out out' input rest
   memory_script script input rest ended (inl none) = inl (nothing_of none)
   memory_script script input rest ended (inr part) = inr (part_of script input rest ended part)
 
-  pub memory_part : (read : Result Script Stop) (result : Status) (input rest : List ℕ) → After read result → Ended (Some rest) input read → result ≡ Memory → GotNothing written faults out out' ⊎ GotPart written faults out out' input rest
+  pub memory_part : (read : Result Script Stop) (result : Status) (input rest : List ℕ) → After read result → Ended (Some rest) input read → result ≡ Memory → GotNothing written faults out out' ⊎ GotPart IsRight written faults out out' input rest
   memory_part (Ok script) result input rest ran ended is =
-      memory_script script input rest ended (subst (λ (s : Status). RanScript written faults out out' script s) is ran)
+      memory_script script input rest ended (subst (λ (s : Status). RanScript IsRight written faults out out' script s) is ran)
   memory_part (Err stop) result input rest ran ended is = inl (nothing_of ran.1)
 
-  script_nothing : (script : Script) (result : Status) → RanScript written faults out out' script result → WritesNothing result → GotNothing written faults out out'
+  script_nothing : (script : Script) (result : Status) → RanScript IsRight written faults out out' script result → WritesNothing result → GotNothing written faults out out'
   script_nothing script Done ran none = absurd none
   script_nothing script WriteFault ran none = absurd none
   script_nothing script Differs ran none = absurd none
@@ -305,7 +304,7 @@ module _ {K : Type 0} (written : K → Option (List ℕ)) (faults : K → ℕ) (
 
   -- Completeness
 
-  served_script : (script : Script) (result : Status) → RanScript written faults out out' script result → ¬ (Rose (faults out) (faults out')) → Among result (Done ∷ Memory ∷ [])
+  served_script : (script : Script) (result : Status) → RanScript IsRight written faults out out' script result → ¬ (Rose (faults out) (faults out')) → Among result (Done ∷ Memory ∷ [])
   served_script script Done ran writes = inl refl
   served_script script WriteFault ran writes = absurd (writes ran.1)
   served_script script Memory ran writes = inr (inl refl)
@@ -318,7 +317,7 @@ module _ {K : Type 0} (written : K → Option (List ℕ)) (faults : K → ℕ) (
   served (Err stop) result input rest ran ended within is reads writes =
       memory_alone result stop ran.0 (served_stop stop input rest ended within is (λ same. reads (ap (λ (s : Stop). Err s) same)))
 
--- What was done with the word `serial`
+-- What was done with a word that runs a session
 
 no_differs : stop_of Differs ≡ None
 unfolding stop_of
@@ -328,56 +327,56 @@ no_usage : stop_of Usage ≡ None
 unfolding stop_of
 no_usage = refl
 
-module _ {S K : Type 0} (left : S → Option (List ℕ)) (taken : S → ℕ) (written : K → Option (List ℕ)) (faults : K → ℕ) (source source' : S) (out out' : K) where
+module _ (IsRight : Header → List Sent → List Entry → Type 0) {S K : Type 0} (left : S → Option (List ℕ)) (taken : S → ℕ) (written : K → Option (List ℕ)) (faults : K → ℕ) (source source' : S) (out out' : K) where
   ended_at : (read : Result Script Stop) (input rest : List ℕ) → HasRead left taken source source' read → left source ≡ Some (input ++ rest) → left source' ≡ Some rest → Ended (Some rest) input read
   ended_at read input rest has had now =
       subst (λ (known : Option (List ℕ)). Ended known input read) now
       (subst (λ (bytes : List ℕ). Ended (left source') bytes read) (Took-is left taken source source' has.input input rest has.took had now) has.ended)
 
-  complete_ran : (read : Result Script Stop) (result : Status) (bytes : List ℕ) → HasRead left taken source source' read → After written faults out out' read result → left source ≡ Some bytes → IsSessionText bytes → ¬ (Rose (taken source) (taken source')) → ¬ (Rose (faults out) (faults out')) → Among result (Done ∷ Memory ∷ [])
+  complete_ran : (read : Result Script Stop) (result : Status) (bytes : List ℕ) → HasRead left taken source source' read → After IsRight written faults out out' read result → left source ≡ Some bytes → IsSessionText bytes → ¬ (Rose (taken source) (taken source')) → ¬ (Rose (faults out) (faults out')) → Among result (Done ∷ Memory ∷ [])
   complete_ran read result bytes has ran had is reads writes =
       let split = told_bytes bytes has.input (left source') (sym had ∙ has.took.moved) in
-      served written faults out out' read result has.input split.0 ran (subst (λ (known : Option (List ℕ)). Ended known has.input read) split.1 has.ended) has.within
+      served IsRight written faults out out' read result has.input split.0 ran (subst (λ (known : Option (List ℕ)). Ended known has.input read) split.1 has.ended) has.within
       (subst (λ (text : List ℕ). IsSessionText text) split.2 is) (λ failed. reads (has.cause failed)) writes
 
-  complete_known : (read : Result Script Stop) (result : Status) (known : Option (List ℕ)) → HasRead left taken source source' read → After written faults out out' read result → left source ≡ known
+  complete_known : (read : Result Script Stop) (result : Status) (known : Option (List ℕ)) → HasRead left taken source source' read → After IsRight written faults out out' read result → left source ≡ known
       → IfSome known (λ bytes. IsSessionText bytes → ¬ (Rose (taken source) (taken source')) → ¬ (Rose (faults out) (faults out')) → Among result (Done ∷ Memory ∷ []))
   complete_known read result None has ran had = tt
   complete_known read result (Some bytes) has ran had = complete_ran read result bytes has ran had
 
-  never : (read : Result Script Stop) (result status : Status) → stop_of status ≡ None → ((script : Script) → RanScript written faults out out' script status → ⊥) → After written faults out out' read result → result ≡ status → ⊥
-  never (Ok script) result status none unlike ran is = unlike script (subst (λ (s : Status). RanScript written faults out out' script s) is ran)
+  never : (read : Result Script Stop) (result status : Status) → stop_of status ≡ None → ((script : Script) → RanScript IsRight written faults out out' script status → ⊥) → After IsRight written faults out out' read result → result ≡ status → ⊥
+  never (Ok script) result status none unlike ran is = unlike script (subst (λ (s : Status). RanScript IsRight written faults out out' script s) is ran)
   never (Err stop) result status none unlike ran is = no_stop stop result status none ran.0 is
 
   -- the run, and the status that was told of it
-  pub serial_did : (status result : Status) → Ran left taken written faults source source' out out' status → Among result (status ∷ Memory ∷ []) → DidSerial left taken written faults source source' out out' result
-  serial_did status result ran tells =
+  pub session_did : (status result : Status) → Ran IsRight left taken written faults source source' out out' status → Among result (status ∷ Memory ∷ []) → DidSession IsRight left taken written faults source source' out out' result
+  session_did status result ran tells =
       let read : Result Script Stop = ran.read in
       let has : HasRead left taken source source' read = ran.has_read in
-      let after : After written faults out out' read result = After-told written faults out out' read status result ran.followed tells in
+      let after : After IsRight written faults out out' read result = After-told IsRight written faults out out' read status result ran.followed tells in
       record {
         taken = record { bytes = has.input; took = has.took; within = has.within };
         prompt = λ input rest had now. subst (λ (bytes : List ℕ). IsPrompt bytes) (Took-is left taken source source' has.input input rest has.took had now) has.prompt;
-        header = λ input rest had now line reason. header_exactly written faults out out' read result input rest line reason after (ended_at read input rest has had now);
-        cut = λ input rest had now. cut_exactly written faults out out' read result input rest after (ended_at read input rest has had now);
-        too_much = λ input rest had now. much_exactly written faults out out' read result input rest after (ended_at read input rest has had now);
-        read_fault = λ is. has.cause (stopped written faults out out' read result stops.ReadFault (λ same. cc) after is);
+        header = λ input rest had now line reason. header_exactly IsRight written faults out out' read result input rest line reason after (ended_at read input rest has had now);
+        cut = λ input rest had now. cut_exactly IsRight written faults out out' read result input rest after (ended_at read input rest has had now);
+        too_much = λ input rest had now. much_exactly IsRight written faults out out' read result input rest after (ended_at read input rest has had now);
+        read_fault = λ is. has.cause (stopped IsRight written faults out out' read result stops.ReadFault (λ same. cc) after is);
         read_before = λ is input rest had now.
-            let before : Stopped (Some rest) input stops.ReadFault = stop_only written faults out out' read result stops.ReadFault (Some rest) input (λ same. cc) after (ended_at read input rest has had now) is in
+            let before : Stopped (Some rest) input stops.ReadFault = stop_only IsRight written faults out out' read result stops.ReadFault (Some rest) input (λ same. cc) after (ended_at read input rest has had now) is in
             (before.1, before.2);
-        done = λ is input rest had now. done_whole written faults out out' read result input rest after (ended_at read input rest has had now) is;
-        write_fault = λ is. fault_rose written faults out out' read result after is;
-        part = λ is input rest had now. fault_part written faults out out' read result input rest after (ended_at read input rest has had now) is;
-        memory = λ is input rest had now. memory_part written faults out out' read result input rest after (ended_at read input rest has had now) is;
-        nothing = λ none. wrote_nothing written faults out out' read result after none;
+        done = λ is input rest had now. done_whole IsRight written faults out out' read result input rest after (ended_at read input rest has had now) is;
+        write_fault = λ is. fault_rose IsRight written faults out out' read result after is;
+        part = λ is input rest had now. fault_part IsRight written faults out out' read result input rest after (ended_at read input rest has had now) is;
+        memory = λ is input rest had now. memory_part IsRight written faults out out' read result input rest after (ended_at read input rest has had now) is;
+        nothing = λ none. wrote_nothing IsRight written faults out out' read result after none;
         no_verdict = λ is. never read result Differs no_differs (λ script ran_so. ran_so) after is;
         complete = complete_known read result (left source) has after refl;
       }
 
   -- a run is no refusal of the words
-  pub serial_accepts : (status : Status) → Ran left taken written faults source source' out out' status → status ≡ Usage → ⊥
-  serial_accepts status ran is =
-      never ran.read status Usage no_usage (λ script ran_so. ran_so) (After-told written faults out out' ran.read status status ran.followed (inl refl)) is
+  pub session_accepts : (status : Status) → Ran IsRight left taken written faults source source' out out' status → status ≡ Usage → ⊥
+  session_accepts status ran is =
+      never ran.read status Usage no_usage (λ script ran_so. ran_so) (After-told IsRight written faults out out' ran.read status status ran.followed (inl refl)) is
 
 -- the refusal of words, told
 pub told_usage : (status result : Status) {other : Type 0} → Among result (status ∷ Memory ∷ []) → (status ≡ Usage → other) → (other → status ≡ Usage) → EndsExactly result Usage [] other

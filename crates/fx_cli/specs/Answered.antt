@@ -3,7 +3,8 @@ use Rattle.std.specs.Prelude.{ℕ, ◌≡◌, List, [], Option, String}
 use Rattle.std.specs.declared.alloc.Global.{Global}
 use Rattle.fx_cli.specs.Words.{AreSerial, AreCheck, AreOther}
 use Rattle.fx_cli.specs.TopCall.{EndsExactly, ToldErr}
-use Rattle.fx_cli.specs.SerialCall.{DidSerial}
+use Rattle.fx_cli.specs.Headline.{IsSerial}
+use Rattle.fx_cli.specs.SessionCall.{DidSession}
 use Rattle.fx_cli.specs.CheckCall.{DidCheck}
 use Rattle.fx_cli.specs.declared.status.Status.{Status}
 use Rattle.fx_cli.specs.declared.status.Status.TheVariants.{Usage}
@@ -15,7 +16,7 @@ pub record Answered {S K E : Type 0} (left : S → Option (List ℕ)) (failed : 
   pub usage : EndsExactly status Usage [] (AreOther words)
   pub untouched : AreOther words → (source' ≡ source) × (out' ≡ out)
   -- what came of a session, and of the check of an output: what was read and written, and the cause of each status
-  pub serial : AreSerial words → DidSerial left failed written faults source source' out out' status
+  pub serial : AreSerial words → DidSession IsSerial left failed written faults source source' out out' status
   pub check : AreCheck words → DidCheck left failed written faults source source' out out' status
   -- standard error: the line of the status
   pub standard_error : ToldErr told untold err err' status

@@ -4,7 +4,7 @@ pub mod Headline
 pub mod Run
 pub mod Check
 pub mod TopCall
-pub mod SerialCall
+pub mod SessionCall
 pub mod CheckCall
 pub mod Answered
 pub mod Process

@@ -3,13 +3,13 @@ use Rattle.std.specs.Prelude.{◌≡◌, ◌<◌, ℕ, Bool, true, false, List, 
 use Rattle.fx_edges.specs.Faults.{Rose}
 use Rattle.fx_edges.specs.Writing.{Appended, AppendedPart}
 use Rattle.fx_rules.specs.declared.outcome.Entry.{Entry}
+use Rattle.fx_rules.specs.declared.command.Sent.{Sent}
 use Rattle.fx_rules.specs.Lists.{Among}
 use Rattle.fx_rules.specs.Sending.{sent_by}
 use Rattle.fx_rules.specs.Session.{Header}
 use Rattle.reply_lines.specs.Output.{IsOutput}
 use Rattle.reply_lines.specs.declared.output.Ending.TheVariants as endings
 use Rattle.journal_check.specs.Listed.{listed}
-use Rattle.fx_cli.specs.Headline.{IsSerial}
 use Rattle.session_script.specs.Input.{input_limit}
 use Rattle.session_script.specs.Reading.{IsEnded}
 use Rattle.session_script.specs.Script.{HasSession, HasEnd, EndsWithEnd, sent_in, strays_of}
@@ -24,25 +24,26 @@ pub record EndsExactly (result status : Status) (earlier : List Status) (cause :
   pub always : cause → Among result (status ∷ Memory ∷ earlier)
 
 -- The headline. The input that was taken, where the source has `rest` left, reached its END line, and a text is exactly
--- the output of one history: one of the session of the input's own header, legal, of each bank's commands once and in its
--- order, here the order of their lines. What this says of replies, fills, lines and resting orders stands in `IsHeadline`.
--- Session and history are those that the text itself lists, and that a check of it reads: no other was run than is printed.
-pub record IsOutputOf (input rest text : List ℕ) : Type 0 where
+-- the output of one history: one of the session of the input's own header and of its commands. What `IsRight` says of that
+-- history is `IsHeadline`: it is legal and has each bank's commands once and in its order, and what this says of replies,
+-- fills, lines and resting orders; or `IsSerial`, where the commands went in the order of their lines besides. Session and
+-- history are those that the text itself lists, and that a check of it reads: no other was run than is printed.
+pub record IsOutputOf (IsRight : Header → List Sent → List Entry → Type 0) (input rest text : List ℕ) : Type 0 where
   pub at_its_end : IsEnded (Some rest) input
   pub session : Header
   pub of_its_header : HasSession input session
   pub history : List Entry
-  pub of_its_commands : IsSerial session (sent_in session input) history
+  pub of_its_commands : IsRight session (sent_in session input) history
   pub exactly : IsOutput session history (strays_of session input) endings.End text
   pub as_listed : listed text ≡ Ok (record { session = session; commands = map sent_by history })
 
 -- a sink got exactly that output
-abbrev pub GotOutput : {K : Type 0} (written : K → Option (List ℕ)) (faults : K → ℕ) (before now : K) → List ℕ → List ℕ → Type 0
-GotOutput written faults before now input rest = (text : List ℕ) × IsOutputOf input rest text × Appended written faults before now text
+abbrev pub GotOutput : (IsRight : Header → List Sent → List Entry → Type 0) {K : Type 0} (written : K → Option (List ℕ)) (faults : K → ℕ) (before now : K) → List ℕ → List ℕ → Type 0
+GotOutput IsRight written faults before now input rest = (text : List ℕ) × IsOutputOf IsRight input rest text × Appended written faults before now text
 
 -- a sink got a prefix of it
-abbrev pub GotPart : {K : Type 0} (written : K → Option (List ℕ)) (faults : K → ℕ) (before now : K) → List ℕ → List ℕ → Type 0
-GotPart written faults before now input rest = (text : List ℕ) × IsOutputOf input rest text × AppendedPart written faults before now text
+abbrev pub GotPart : (IsRight : Header → List Sent → List Entry → Type 0) {K : Type 0} (written : K → Option (List ℕ)) (faults : K → ℕ) (before now : K) → List ℕ → List ℕ → Type 0
+GotPart IsRight written faults before now input rest = (text : List ℕ) × IsOutputOf IsRight input rest text × AppendedPart written faults before now text
 
 -- a sink got nothing
 abbrev pub GotNothing : {K : Type 0} (written : K → Option (List ℕ)) (faults : K → ℕ) (before now : K) → Type 0

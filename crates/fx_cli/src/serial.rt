@@ -12,13 +12,13 @@ use fx_amounts::Memory;
 use fx_edges::{Sink, Source};
 use fx_rules::{Sent, Session};
 use market_run::Run;
-use reply_lines::{Ending, OutFault, write_output_from};
+use reply_lines::{Ending, write_output_from};
 use session_script::{Script, read_script};
 use std::alloc::Global;
 
 /// Runs the session of the source's bytes in the order of its lines, and answers the status that the run ends with.
 pub fn serial<S: Source, K: Sink>(alloc: Global, source: &mut S, out: &mut K) -> Status
-    ensures ran { Ran S.left S.faults K.written K.faults source.old source.new out.old out.new result }
+    ensures ran { Ran IsSerial S.left S.faults K.written K.faults source.old source.new out.old out.new result }
 {
     match read_script(alloc, source) {
         Ok(script) => run_script(alloc, &script, out),
@@ -30,12 +30,12 @@ pub fn serial<S: Source, K: Sink>(alloc: Global, source: &mut S, out: &mut K) ->
 fn run_script<K: Sink>(alloc: Global, script: &Script, out: &mut K) -> Status
     requires valid { Each (IsSentOf script.now.session) script.now.sent.items }
     requires few { length script.now.sent.items ≤ 2 ^ 26 }
-    ensures ran { RanScript K.written K.faults out.old out.new script.now result }
+    ensures ran { RanScript IsSerial K.written K.faults out.old out.new script.now result }
 {
     let Ok(run) = run_in_order(alloc, &script.session, &script.sent) else {
         return Status::Memory;
     };
-    match write_output_from(
+    Status::of_writing(write_output_from(
         alloc,
         &script.session,
         run.entries(),
@@ -43,11 +43,7 @@ fn run_script<K: Sink>(alloc: Global, script: &Script, out: &mut K) -> Status
         script.strays,
         Ending::End,
         out,
-    ) {
-        Ok(()) => Status::Done,
-        Err(OutFault::Write) => Status::WriteFault,
-        Err(OutFault::Memory) => Status::Memory,
-    }
+    ))
 }
 
 /// The run of a session's commands, served one after another by one plain host.

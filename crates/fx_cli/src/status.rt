@@ -1,10 +1,12 @@
 ghost use Rattle.std.specs.Prelude.{◌≡◌, IfOk};
 ghost use Rattle.fx_edges.specs.Writing.{Wrote};
+ghost use Rattle.fx_cli.specs.Run.{written_status};
 ghost use Rattle.fx_cli.specs.Status.{code_of, err_text, fault_text, status_of};
 
 use fx_amounts::Memory;
 use fx_edges::{Sink, SinkFault, write_all};
 use fx_text::push_number;
+use reply_lines::OutFault;
 use session_head::HeadReason;
 use session_script::Stop;
 use std::alloc::Global;
@@ -48,6 +50,17 @@ impl Status {
             Status::Memory => 6,
             Status::TooMuch => 7,
             Status::Differs => 8,
+        }
+    }
+
+    /// What a run ends with whose output was written so.
+    pub(crate) fn of_writing(written: Result<(), OutFault>) -> Status
+        ensures { result ≡ written_status written }
+    {
+        match written {
+            Ok(()) => Status::Done,
+            Err(OutFault::Write) => Status::WriteFault,
+            Err(OutFault::Memory) => Status::Memory,
         }
     }
 

@@ -1,6 +1,7 @@
 ghost use Rattle.std.specs.Prelude.{◌≡◌, [], ◌∷◌};
 ghost use Rattle.fx_rules.specs.Lists.{Among};
 ghost use Rattle.fx_cli.specs.Answered.{Answered};
+ghost use Rattle.fx_cli.specs.Headline.{IsSerial};
 ghost use Rattle.fx_cli.specs.Words.{AreSerial, AreCheck, AreOther};
 ghost use Rattle.fx_cli.specs.Check.{Checked};
 ghost use Rattle.fx_cli.specs.Run.{Ran};
@@ -57,7 +58,7 @@ fn follow<S: Source, K: Sink>(
     source: &mut S,
     out: &mut K,
 ) -> Status
-    ensures serial { AreSerial words.now → Ran S.left S.faults K.written K.faults source.old source.new out.old out.new result }
+    ensures serial { AreSerial words.now → Ran IsSerial S.left S.faults K.written K.faults source.old source.new out.old out.new result }
     ensures check { AreCheck words.now → Checked S.left S.faults K.written K.faults source.old source.new out.old out.new result }
     ensures other { AreOther words.now → Refused source.old source.new out.old out.new result }
     ensures usage { result ≡ Status.Usage → AreOther words.now }

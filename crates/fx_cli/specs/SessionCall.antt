@@ -1,6 +1,10 @@
--- What the top call does with the word `serial`.
+-- What the top call does with a word that runs a session. `IsRight` tells what the history that it makes of the commands is:
+-- the headline with `run`, and with `serial` the one in the order of the lines.
 use Rattle.std.specs.Prelude.{ℕ, ◌≡◌, ◌⊎◌, List, [], ◌∷◌, Option, Some, IfSome}
 use Rattle.fx_edges.specs.Faults.{Rose}
+use Rattle.fx_rules.specs.declared.command.Sent.{Sent}
+use Rattle.fx_rules.specs.declared.outcome.Entry.{Entry}
+use Rattle.fx_rules.specs.Session.{Header as SessionHeader}
 use Rattle.fx_rules.specs.Lists.{Among}
 use Rattle.session_head.specs.declared.reason.HeadReason.{HeadReason}
 use Rattle.session_script.specs.Input.{input_limit, TookAtMost, OfTaken}
@@ -11,7 +15,7 @@ use Rattle.session_script.specs.declared.reading.Stop.TheVariants as stops
 use Rattle.fx_cli.specs.declared.status.Status.{Status}
 use Rattle.fx_cli.specs.declared.status.Status.TheVariants.{Done, Header, Cut, ReadFault, WriteFault, Memory, TooMuch, Differs}
 
-pub record DidSerial {S K : Type 0} (left : S → Option (List ℕ)) (failed : S → ℕ) (written : K → Option (List ℕ)) (faults : K → ℕ)
+pub record DidSession (IsRight : SessionHeader → List Sent → List Entry → Type 0) {S K : Type 0} (left : S → Option (List ℕ)) (failed : S → ℕ) (written : K → Option (List ℕ)) (faults : K → ℕ)
     (source source' : S) (out out' : K) (status : Status) : Type 0 where
   -- the source: how much is taken of it, by reads that stop where the text ends, and why they stop before that
   pub taken : TookAtMost input_limit left failed source source'
@@ -22,10 +26,10 @@ pub record DidSerial {S K : Type 0} (left : S → Option (List ℕ)) (failed : S
   pub read_fault : status ≡ ReadFault → Rose (failed source) (failed source')
   pub read_before : status ≡ ReadFault → OfTaken left source source' (λ input _. HasNoFault input × ¬ (HasEnd input))
   -- standard output: the whole output of the input's session and commands, which is the headline; a prefix of it; or nothing
-  pub done : status ≡ Done → OfTaken left source source' (λ input rest. GotOutput written faults out out' input rest)
+  pub done : status ≡ Done → OfTaken left source source' (λ input rest. GotOutput IsRight written faults out out' input rest)
   pub write_fault : status ≡ WriteFault → Rose (faults out) (faults out')
-  pub part : status ≡ WriteFault → OfTaken left source source' (λ input rest. GotPart written faults out out' input rest)
-  pub memory : status ≡ Memory → OfTaken left source source' (λ input rest. GotNothing written faults out out' ⊎ GotPart written faults out out' input rest)
+  pub part : status ≡ WriteFault → OfTaken left source source' (λ input rest. GotPart IsRight written faults out out' input rest)
+  pub memory : status ≡ Memory → OfTaken left source source' (λ input rest. GotNothing written faults out out' ⊎ GotPart IsRight written faults out out' input rest)
   pub nothing : WritesNothing status → GotNothing written faults out out'
   pub no_verdict : status ≡ Differs → ⊥
   -- completeness: the text of a session, over ends without faults, is served

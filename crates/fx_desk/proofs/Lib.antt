@@ -1,0 +1,4 @@
+pub mod Orderly
+pub mod Submits
+pub mod Owning
+pub mod Streams

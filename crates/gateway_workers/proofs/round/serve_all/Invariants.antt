@@ -1,0 +1,10 @@
+use Rattle.std.proofs.Common.{◌≡◌, length}
+use Rattle.gateway_workers.specs.Serving.{AllLanesRan}
+use Rattle.gateway_workers.proofs.round.serve_all.Given as goal
+
+-- each lane has run
+abbrev pub invariant-loop-turn : goal.invariant-loop-turn
+invariant-loop-turn g l = record {
+  long : length l.lanes ≡ length l.fn.lanes;
+  ran : AllLanesRan g.D.Desk.session g.D.Desk.bank g.D.Desk.seen g.D.Desk.mine l.fn.lanes l.lanes;
+}

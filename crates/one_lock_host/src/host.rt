@@ -1,0 +1,111 @@
+ghost use Rattle.std.specs.Prelude.{◌≡◌, List, IfOk};
+ghost use Rattle.fx_rules.specs.declared.outcome.Entry.{Entry};
+ghost use Rattle.fx_rules.specs.Session.{Header, IsSession, sender_count};
+ghost use Rattle.fx_rules.specs.Lists.{Among};
+ghost use Rattle.fx_rules.specs.History.{IsLegal, own};
+ghost use Rattle.fx_chronicle.specs.Faces.{AreNew, Witness};
+ghost use Rattle.fx_desk.specs.Submitting.{IsWholeOf};
+
+use crate::floor::Floor;
+use flat_host::FlatHost;
+use fx_amounts::{BankId, Memory};
+use fx_chronicle::{Blank, Front, Naming, open};
+use fx_desk::{Desk, Note, Pass};
+use fx_rules::{Command, Entry, Gate, Outcome, Session};
+use std::alloc::Global;
+use std::sync::{Mutex, Wait};
+
+/// What a bank holds at the host behind one lock.
+pub type OnePass<N> = Pass<N>;
+
+/// A desk over the plain host, behind one lock.
+#[derive(Drop)]
+pub struct OneLockHost<N: Naming> {
+    floor: Mutex<Floor<N>>,
+}
+
+/// Opens a host for a day of the session, with one pass for each bank in the session's order. The blank is for 65 keys.
+/// At `Memory` the blank is gone.
+pub fn open_one<N: Naming>(
+    alloc: Global,
+    blank: Blank<Entry>,
+    session: &Session,
+) -> Result<(OneLockHost<N>, Vec<OnePass<N>>), Memory>
+    requires table { blank.table ≡ N.table }
+    requires keys { blank.keys ≡ 65 }
+    requires session { session.now ≡ N.session }
+    ensures passes { IfOk result (λ opened. AreNew (sender_count N.session) opened.1.items) }
+{
+    let (writer, fronts) = open::<N, Entry>(alloc, blank)?;
+    let passes = passes_of(alloc, session.banks().len(), fronts)?;
+    let floor = Floor::open(FlatHost::open(alloc, session)?, writer);
+    Ok((
+        OneLockHost {
+            floor: Mutex::new(floor),
+        },
+        passes,
+    ))
+}
+
+/// The passes of the first so many banks, over the fronts of their keys.
+fn passes_of<N: Naming>(
+    alloc: Global,
+    banks: usize,
+    mut fronts: Vec<Front<N, Entry>>,
+) -> Result<Vec<OnePass<N>>, Memory>
+    requires session { IsSession N.session }
+    requires fronts { AreNew 65 fronts.items }
+    requires banks { banks ≡ sender_count N.session }
+    ensures passes { IfOk result (λ passes. AreNew banks passes.items) }
+{
+    fronts.truncate(banks);
+    let mut passes = Vec::new(alloc);
+    for front in fronts {
+        let bank = BankId::new(front.key() as u8).unwrap();
+        passes.push(Pass::open(bank, front))?;
+    }
+    Ok(passes)
+}
+
+/// Closes a host: the whole history. What each of these passes had seen is a beginning of it, and of their banks it has just
+/// their commands. It takes no memory.
+pub fn close_one<N: Naming>(host: OneLockHost<N>, passes: Vec<OnePass<N>>) -> Vec<Entry>
+    ensures legal { IsLegal N.session result.items }
+    ensures passes { (pass : Witness Entry) → Among pass passes.items → IsWholeOf pass.key pass.seen (own pass.key pass.met) result.items }
+{
+    host.floor.into_inner().close(passes)
+}
+
+impl<N: Naming + Send> Desk for OneLockHost<N> {
+    type Pass = OnePass<N>;
+
+    type Note = Note<N>;
+
+    ghost session = { N.session };
+
+    ghost bank = { λ pass. pass.key };
+
+    ghost seen = { λ pass. pass.seen };
+
+    ghost mine = { λ pass. own pass.key pass.met };
+
+    ghost known = { λ note. note };
+
+    fn submit<R: Wait, G: Gate>(
+        &self,
+        rt: &R,
+        _gate: &G,
+        pass: &mut OnePass<N>,
+        command: &Command,
+    ) -> Result<Outcome, Memory> {
+        self.floor.lock(rt).serve(pass, command)
+    }
+
+    fn note(&self, pass: &mut OnePass<N>) -> Note<N> {
+        pass.note()
+    }
+
+    fn learn(&self, pass: &mut OnePass<N>, note: Note<N>) {
+        pass.learn(note);
+    }
+}

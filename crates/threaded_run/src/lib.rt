@@ -1,0 +1,7 @@
+//! A session's commands run on threads: one lane for each bank, in workers, at the host behind one lock.
+#![tactic(auto)]
+
+mod lanes;
+mod run;
+
+pub use run::run_on_threads;
