@@ -231,6 +231,7 @@ module _ {S K : Type 0} (left : S → Option (List ℕ)) (taken : S → ℕ) (wr
 
   -- a check that did not begin, for want of memory
   pub check_not_begun : source' ≡ source → out' ≡ out → Checked left taken written faults source source' out out' Memory
+  unfolding failed
   check_not_begun unread unwritten = record {
     read = Err halts.Memory;
     has_taken = record {
@@ -244,7 +245,6 @@ module _ {S K : Type 0} (left : S → Option (List ℕ)) (taken : S → ℕ) (wr
   }
     where
       memory_no_fault : failed halts.Memory ≡ failed halts.ReadFault → ⊥
-      unfolding failed
       memory_no_fault is = cc
 
   -- a check is no refusal of the words

@@ -383,6 +383,7 @@ module _ (IsRight : Header → List Sent → List Entry → Type 0) {S K : Type 
 
   -- a run that did not begin, for want of memory
   pub not_begun : source' ≡ source → out' ≡ out → Ran IsRight left taken written faults source source' out out' Memory
+  unfolding failed
   not_begun unread unwritten = record {
     read = Err stops.Memory;
     has_read = record {
@@ -397,7 +398,6 @@ module _ (IsRight : Header → List Sent → List Entry → Type 0) {S K : Type 
   }
     where
       memory_no_fault : failed stops.Memory ≡ failed stops.ReadFault → ⊥
-      unfolding failed
       memory_no_fault is = cc
 
 -- the refusal of words, told

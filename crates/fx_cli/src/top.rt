@@ -63,7 +63,7 @@ fn follow<R: AllocGlobal + Threads + Wait + Sync, S: Source, K: Sink, G: Gate + 
     ensures usage { result ≡ Status.Usage → asked words.now ≡ None }
 {
     match read_words(rt.alloc(), words) {
-        Ok(Task::Run { workers }) => run(rt, workers.count(), source, out, gate),
+        Ok(Task::Run { workers }) => run(rt, workers, source, out, gate),
         Ok(Task::Serial) => serial(rt.alloc(), source, out),
         Ok(Task::Check) => check(rt.alloc(), source, out),
         Ok(Task::Load {
@@ -72,7 +72,7 @@ fn follow<R: AllocGlobal + Threads + Wait + Sync, S: Source, K: Sink, G: Gate + 
             pairs,
             commands,
             workers,
-        }) => load(rt, seed, banks, pairs, commands, workers.count(), out, gate),
+        }) => load(rt, seed, banks, pairs, commands, workers, out, gate),
         Err(WordsFault::Usage) => Status::Usage,
         Err(WordsFault::Memory) => Status::Memory,
     }
