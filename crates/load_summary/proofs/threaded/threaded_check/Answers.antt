@@ -2,7 +2,7 @@
 use Rattle.std.proofs.Common.{◌≡◌, List, length, ap, ◌∙◌, arith}
 use Rattle.fx_rules.specs.declared.outcome.Entry.{Entry}
 use Rattle.fx_desk.proofs.Streams.{streams-length}
-use Rattle.load_summary.proofs.threaded.run_threaded.Goals as goal
+use Rattle.load_summary.proofs.threaded.threaded_check.Goals as goal
 
 pub check_history-requires-clause-few : goal.check_history-requires-clause-few
 check_history-requires-clause-few g c =
