@@ -1,12 +1,12 @@
 -- Each command that is drawn is one that its sender may send.
-use Rattle.std.proofs.Common.{ℕ, zero, suc, ◌≡◌, ◌≢◌, ◌≤◌, ◌<◌, ◌+◌, ◌-◌, ◌*◌, ◌%◌, Bool, true, false, cond, ◌==◌, List, [], ◌∷◌, length, inl, inr, refl, ap, sym, subst, ◌∙◌, arith, nat_lt, append_assoc, ◌++◌}
+use Rattle.std.proofs.Common.{ℕ, zero, suc, ◌≡◌, ◌≢◌, ◌≤◌, ◌<◌, ◌+◌, ◌-◌, ◌%◌, Bool, true, false, cond, ◌==◌, List, [], ◌∷◌, length, inl, inr, refl, ap, ◌∙◌, arith, nat_lt, append_assoc, ◌++◌}
 use Rattle.std.proofs.lemmas.Bool.{cases_lt, lt-ltb, le-ltb}
 use Rattle.std.proofs.Math.Nat.{mod-lt}
 use Rattle.std.specs.Prelude.{if◌then◌else◌}
 use Rattle.fx_amounts.specs.declared.side.Side.{Side}
 use Rattle.fx_amounts.specs.declared.side.Side.TheVariants.{Buy, Sell}
 use Rattle.fx_rules.specs.declared.command.Command.{Command}
-use Rattle.fx_rules.specs.declared.command.Command.TheVariants.{Order, Line, Book}
+use Rattle.fx_rules.specs.declared.command.Command.TheVariants.{Book}
 use Rattle.fx_rules.specs.declared.command.Life.{Life}
 use Rattle.fx_rules.specs.declared.command.Life.TheVariants.{Day, Ioc, Fok}
 use Rattle.fx_rules.specs.declared.command.Sent.{Sent}

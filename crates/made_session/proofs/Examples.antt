@@ -1,11 +1,10 @@
 -- Small sessions, worked by hand: of seed 1, two banks, one pair and two commands; and of seed 72, three banks, two pairs
 -- and four commands.
-use Rattle.std.proofs.Common.{ℕ, ◌≡◌, List, [], ◌∷◌, refl, codes}
+use Rattle.std.proofs.Common.{◌≡◌, [], ◌∷◌, refl, codes}
 use Rattle.fx_amounts.specs.declared.side.Side.TheVariants.{Buy, Sell}
 use Rattle.fx_rules.specs.declared.command.Command.TheVariants.{Order, Line, Book}
 use Rattle.fx_rules.specs.declared.command.Life.TheVariants.{Day, Ioc, Fok}
-use Rattle.fx_rules.specs.Session.{opening_limit}
-use Rattle.made_session.specs.Draws.{seeded, moved, after_draws}
+use Rattle.made_session.specs.Draws.{seeded, moved}
 use Rattle.made_session.specs.Session.{made_header, after_limits}
 use Rattle.made_session.specs.Commands.{made_commands}
 

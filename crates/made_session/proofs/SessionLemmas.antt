@@ -1,14 +1,13 @@
 -- The session that is made is a session.
-use Rattle.std.proofs.Common.{ℕ, zero, suc, ◌≡◌, ◌≢◌, ◌≤◌, ◌<◌, ◌+◌, ◌-◌, ◌*◌, ◌/◌, ◌%◌, ◌^◌, Bool, true, false, ◌||◌, ◌==◌, List, [], ◌∷◌, map, length, inl, inr, refl, ap, sym, subst, ◌∙◌, arith, slice_index, IsTrue, add-one, Option, Some, None, IsSome, SomeIff}
-use Rattle.std.proofs.lemmas.Bool.{cases_lt, cases_Bool, lt-ltb, le-ltb, le-leb}
+use Rattle.std.proofs.Common.{ℕ, ◌≡◌, ◌≢◌, ◌≤◌, ◌<◌, ◌+◌, ◌-◌, ◌*◌, ◌/◌, ◌%◌, Bool, true, false, ◌||◌, ◌==◌, List, [], ◌∷◌, map, length, inl, inr, refl, ap, sym, subst, ◌∙◌, arith, slice_index, IsTrue, add-one, Option, Some, None, IsSome, SomeIff}
+use Rattle.std.proofs.lemmas.Bool.{cases_lt, lt-ltb, le-ltb, le-leb}
 use Rattle.std.proofs.lemmas.Bool.Decides.{nat_tests}
 use Rattle.std.proofs.lemmas.Nat.{div-mul-add, mod-mul-add}
 use Rattle.std.proofs.Math.Nat.{mod-lt, div-add-mod}
 use Rattle.std.specs.Char.{is_ascii_digit, is_ascii_uppercase}
-use Rattle.std.specs.List.{AllPairs}
 use Rattle.fx_rules.specs.Lists.{below}
 use Rattle.fx_rules.specs.Names.{is_name, is_name_byte, is_code}
-use Rattle.fx_rules.specs.Session.{Header, IsSession, IsPairRule, AreSamePair, bank_count, opening_limit}
+use Rattle.fx_rules.specs.Session.{Header, IsSession, IsPairRule}
 use Rattle.fx_rules.specs.declared.session.PairRule.{PairRule}
 use Rattle.credit_lines.proofs.CreditLemmas.{place_below}
 use Rattle.made_session.specs.Draws.{seeded, draw}

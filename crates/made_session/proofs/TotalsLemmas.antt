@@ -1,9 +1,9 @@
 -- The totals of a legal history fit.
-use Rattle.std.proofs.Common.{ℕ, zero, suc, ◌≡◌, ◌≤◌, ◌<◌, ◌+◌, List, [], ◌∷◌, ◌++◌, length, take, drop, get_or, refl, ap, sym, subst, ◌∙◌, arith}
+use Rattle.std.proofs.Common.{ℕ, ◌≡◌, ◌≤◌, ◌<◌, ◌+◌, List, [], ◌∷◌, ◌++◌, length, take, drop, get_or, ap, sym, subst, ◌∙◌, arith}
 use Rattle.std.proofs.lemmas.List.{take_more, take-append-drop, length-append}
 use Rattle.fx_rules.specs.declared.outcome.Entry.{Entry}
 use Rattle.fx_rules.specs.declared.orders.Fill.{Fill}
-use Rattle.fx_rules.specs.Lists.{Each, total}
+use Rattle.fx_rules.specs.Lists.{Each}
 use Rattle.fx_rules.specs.Session.{Header}
 use Rattle.fx_rules.specs.State.{State, opening}
 use Rattle.fx_rules.specs.Step.{fills_of}
@@ -11,7 +11,7 @@ use Rattle.fx_rules.specs.History.{IsLegal, Steps, after_entry, after_all, state
 use Rattle.fx_rules.specs.Trade.{IsTrade}
 use Rattle.fx_rules.proofs.ListLemmas.{total-append}
 use Rattle.fx_rules.proofs.Trading.{step-fills}
-use Rattle.day_report.specs.Trades.{AreTrades, lots_in}
+use Rattle.day_report.specs.Trades.{lots_in}
 use Rattle.day_report.proofs.Sums.{total_push}
 use Rattle.day_report.proofs.Trading.{legal-fits, legal-to}
 use Rattle.made_session.specs.Totals.{fills_told, lots_told}

@@ -41,11 +41,7 @@ fn draw_command(banks: u8, pairs: u8, sender: BankId, kind: u8, draws: &mut Draw
 {
     match kind {
         0..=11 => {
-            let side = if kind % 2 == 0 {
-                Side::Buy
-            } else {
-                Side::Sell
-            };
+            let side = if kind % 2 == 0 { Side::Buy } else { Side::Sell };
             draw_order(pairs, side, Life::Day, draws)
         }
         12 => draw_order(pairs, Side::Buy, Life::Ioc, draws),
