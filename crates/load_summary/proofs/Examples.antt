@@ -1,5 +1,5 @@
 -- The summary of a small load, in its bytes.
-use Rattle.std.proofs.Common.{◌≡◌, List, codes, refl}
+use Rattle.std.proofs.Common.{◌≡◌, codes, refl}
 use Rattle.fx_amounts.specs.Numeral.{numeral}
 use Rattle.load_summary.specs.Lines.{counts_line, verdict_word, threads_line, three_lines}
 use Rattle.load_summary.specs.Summary.{load_text}

@@ -1,5 +1,5 @@
 -- The history of the threads is as long as what was sent.
-use Rattle.std.proofs.Common.{◌≡◌, List, length, ap, ◌∙◌, arith}
+use Rattle.std.proofs.Common.{List, length, ap, arith}
 use Rattle.fx_rules.specs.declared.outcome.Entry.{Entry}
 use Rattle.fx_desk.proofs.Streams.{streams-length}
 use Rattle.load_summary.proofs.threaded.threaded_check.Goals as goal
