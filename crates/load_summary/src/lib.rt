@@ -5,7 +5,7 @@
 mod laws;
 mod lines;
 mod load;
-mod ordered;
+mod serial;
 mod threaded;
 
 pub use laws::summaries_agree;

@@ -1,9 +1,10 @@
 ghost use Rattle.std.specs.Prelude.{◌≡◌, ◌∷◌, ◌++◌, IfOk, OnOk};
 ghost use Rattle.fx_amounts.specs.Numeral.{numeral};
 ghost use Rattle.load_summary.specs.Lines.{counts_line, verdict_word, threads_line, three_lines};
+ghost use Rattle.load_summary.specs.Summary.{counts_of};
 
-use crate::ordered::Ordered;
-use crate::threaded::Threaded;
+use crate::serial::SerialTotals;
+use crate::threaded::ThreadedCheck;
 use fx_amounts::Memory;
 use fx_text::push_number;
 use journal_check::Verdict;
@@ -15,14 +16,14 @@ use std::alloc::Global;
 pub(crate) fn make_lines(
     alloc: Global,
     made_from: &[u64],
-    ordered: Ordered,
-    threaded: Threaded,
+    serial: SerialTotals,
+    threaded: ThreadedCheck,
 ) -> Result<Vec<u8>, Memory>
-    ensures lines { IfOk result (λ text. text.items ≡ three_lines made_from.now ordered threaded) }
+    ensures lines { IfOk result (λ text. text.items ≡ three_lines made_from.now (counts_of serial) threaded.entries threaded.verdict) }
 {
     let mut text = Vec::new(alloc);
     push_counts(b"LOAD", made_from, &mut text)?;
-    push_counts(b"SERIAL", &ordered.counts(), &mut text)?;
+    push_counts(b"SERIAL", &serial.counts(), &mut text)?;
     push_threads(threaded, &mut text)?;
     Ok(text)
 }
@@ -42,8 +43,8 @@ fn push_counts(word: &[u8], counts: &[u64], text: &mut Vec<u8>) -> Result<(), Me
 
 /// Appends the line that tells of a run on threads.
 #[tactic(auto, unfolding(crate::specs::Lines::threads_line))]
-fn push_threads(threaded: Threaded, text: &mut Vec<u8>) -> Result<(), Memory>
-    ensures ok { OnOk result (text.new.items ≡ text.old.items ++ threads_line threaded) }
+fn push_threads(threaded: ThreadedCheck, text: &mut Vec<u8>) -> Result<(), Memory>
+    ensures ok { OnOk result (text.new.items ≡ text.old.items ++ threads_line threaded.entries threaded.verdict) }
 {
     text.extend_from_slice(b"THREADS")?;
     push_count(threaded.entries, text)?;

@@ -2,8 +2,8 @@ ghost use Rattle.std.specs.Prelude.{◌≤◌, IfOk};
 ghost use Rattle.load_summary.specs.Summary.{IsSummary};
 
 use crate::lines::make_lines;
-use crate::ordered::run_ordered;
-use crate::threaded::run_threaded;
+use crate::serial::serial_totals;
+use crate::threaded::threaded_check;
 use fx_amounts::Memory;
 use fx_rules::Gate;
 use made_session::load_session;
@@ -30,13 +30,13 @@ pub fn load_summary<R: AllocGlobal + Threads + Wait + Sync, G: Gate + Sync>(
     ensures summary { IfOk result (λ text. IsSummary seed banks pairs commands text.items) }
 {
     let (session, sent) = load_session(rt.alloc(), seed, banks, pairs, commands)?;
-    let ordered = run_ordered(rt.alloc(), &session, &sent)?;
-    let threaded = run_threaded(rt, &session, &sent, workers, gate)?;
+    let serial = serial_totals(rt.alloc(), &session, &sent)?;
+    let threaded = threaded_check(rt, &session, &sent, workers, gate)?;
     let made_from = [
         seed,
         u64::from(banks),
         u64::from(pairs),
         u64::from(commands),
     ];
-    make_lines(rt.alloc(), &made_from, ordered, threaded)
+    make_lines(rt.alloc(), &made_from, serial, threaded)
 }

@@ -15,7 +15,7 @@ use threaded_run::run_on_threads;
 
 /// What a run on threads came to.
 #[derive(Clone, Copy)]
-pub(crate) struct Threaded {
+pub(crate) struct ThreadedCheck {
     /// How many entries its history has.
     pub(crate) entries: u64,
     /// What the check said of its output.
@@ -24,13 +24,13 @@ pub(crate) struct Threaded {
 
 /// Runs commands, each bank's in its order, in at most `workers` threads, and checks the output of the history that they
 /// made. It may wait.
-pub(crate) fn run_threaded<R: AllocGlobal + Threads + Wait + Sync, G: Gate + Sync>(
+pub(crate) fn threaded_check<R: AllocGlobal + Threads + Wait + Sync, G: Gate + Sync>(
     rt: &R,
     session: &Session,
     sent: &[Sent],
     workers: u32,
     gate: &G,
-) -> Result<Threaded, Memory>
+) -> Result<ThreadedCheck, Memory>
     requires valid { Each (IsSentOf session.now) sent.now }
     requires few { length sent.now ≤ 2 ^ 28 }
     requires workers { 1 ≤ workers }
@@ -39,7 +39,7 @@ pub(crate) fn run_threaded<R: AllocGlobal + Threads + Wait + Sync, G: Gate + Syn
 {
     let history = run_on_threads(rt, session, sent, workers, gate)?;
     let verdict = check_history(rt.alloc(), session, &history)?;
-    Ok(Threaded {
+    Ok(ThreadedCheck {
         entries: history.len() as u64,
         verdict,
     })
