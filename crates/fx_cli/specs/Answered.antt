@@ -1,9 +1,10 @@
 -- What the top call does for its words.
-use Rattle.std.specs.Prelude.{ℕ, ◌≡◌, List, [], Option, String}
+use Rattle.std.specs.Prelude.{ℕ, ◌≡◌, List, [], Option, Some, None, String}
 use Rattle.std.specs.declared.alloc.Global.{Global}
-use Rattle.fx_cli.specs.Words.{AreSerial, AreCheck, AreOther}
+use Rattle.fx_cli.specs.Words.{asked}
+use Rattle.fx_cli.specs.declared.words.Task.TheVariants.{Run, Serial, Check}
 use Rattle.fx_cli.specs.TopCall.{EndsExactly, ToldErr}
-use Rattle.fx_cli.specs.Headline.{IsSerial}
+use Rattle.fx_cli.specs.Headline.{IsHeadline, IsSerial}
 use Rattle.fx_cli.specs.SessionCall.{DidSession}
 use Rattle.fx_cli.specs.CheckCall.{DidCheck}
 use Rattle.fx_cli.specs.declared.status.Status.{Status}
@@ -12,11 +13,13 @@ use Rattle.fx_cli.specs.declared.status.Status.TheVariants.{Usage}
 -- the words were answered with this status
 pub record Answered {S K E : Type 0} (left : S → Option (List ℕ)) (failed : S → ℕ) (written : K → Option (List ℕ)) (faults : K → ℕ) (told : E → Option (List ℕ)) (untold : E → ℕ)
     (words : List (String Global)) (source source' : S) (out out' : K) (err err' : E) (status : Status) : Type 0 where
-  -- other words are refused before anything is read or written
-  pub usage : EndsExactly status Usage [] (AreOther words)
-  pub untouched : AreOther words → (source' ≡ source) × (out' ≡ out)
-  -- what came of a session, and of the check of an output: what was read and written, and the cause of each status
-  pub serial : AreSerial words → DidSession IsSerial left failed written faults source source' out out' status
-  pub check : AreCheck words → DidCheck left failed written faults source source' out out' status
+  -- words in none of the forms are refused before anything is read or written
+  pub usage : EndsExactly status Usage [] (asked words ≡ None)
+  pub untouched : asked words ≡ None → (source' ≡ source) × (out' ≡ out)
+  -- what came of a session, on threads and in the order of its lines, and of the check of an output: what was read and
+  -- written, and the cause of each status
+  pub run : (workers : ℕ) → asked words ≡ Some (Run workers) → DidSession IsHeadline left failed written faults source source' out out' status
+  pub serial : asked words ≡ Some Serial → DidSession IsSerial left failed written faults source source' out out' status
+  pub check : asked words ≡ Some Check → DidCheck left failed written faults source source' out out' status
   -- standard error: the line of the status
   pub standard_error : ToldErr told untold err err' status

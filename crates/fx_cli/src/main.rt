@@ -3,6 +3,7 @@
 
 mod check;
 mod process;
+mod run;
 mod serial;
 mod status;
 mod top;

@@ -17,6 +17,7 @@ use std::test::Fail;
 use std::thread::Threads;
 
 mod samples;
+mod threads;
 
 const USAGE: &[u8] =
     b"usage: fx_cli run [--workers N] | serial | check | load SEED BANKS PAIRS COMMANDS [--workers N]\n";
@@ -295,9 +296,15 @@ fn other_words(rt: HostRuntime) -> Result<(), Fail> {
     expect(&rt, &["serial", "now"], input, 64, &NONE, &usage)?;
     expect(&rt, &["check", "now"], input, 64, &NONE, &usage)?;
     for word in [
-        "", "Serial", "seria", "serials", "serial ", "run", "checks", "--help",
+        "", "Serial", "seria", "serials", "serial ", "runs", "checks", "--help",
     ] {
         expect(&rt, &[word], input, 64, &NONE, &usage)?;
+    }
+    for workers in ["--workers=2", "--workers", "2"] {
+        expect(&rt, &["run", workers], input, 64, &NONE, &usage)?;
+    }
+    for count in ["0", "65", "02", "+2", ""] {
+        expect(&rt, &["run", "--workers", count], input, 64, &NONE, &usage)?;
     }
     // Standard error that fails changes no status.
     let fails = Fails { err: &[1], ..NONE };

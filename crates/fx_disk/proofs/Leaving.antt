@@ -1,5 +1,5 @@
 -- Runs of calls of a disk: what a crash at any moment since the start leaves.
-use Rattle.std.proofs.Common.{◌≡◌, ◌⊎◌, inl, inr, ⊎_elim, ℕ, ◌+◌, ◌≤◌, List, length, Option, Result, refl, arith}
+use Rattle.std.proofs.Common.{inl, inr, ⊎_elim, ℕ, List, Option, Result, refl, arith}
 use Rattle.fx_disk.specs.declared.disk.DiskStop.{DiskStop}
 use Rattle.fx_disk.specs.Disk.{Torn, Called, LeavesOnly}
 

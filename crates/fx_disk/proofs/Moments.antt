@@ -1,6 +1,6 @@
 -- One call more on the tape of a disk in memory.
-use Rattle.std.proofs.Common.{◌≡◌, ◌⊎◌, inl, inr, ⊎_elim, ℕ, ◌+◌, ◌<◌, ◌≤◌, List, [], ◌∷◌, ◌++◌, length, take, Option, None, Some, Result, IsErrOf, Vec, Global, refl, sym, ◌∙◌, ap, subst, arith, length-append, take_all}
-use Rattle.std.specs.Prelude.{MatchOption, is_some, max}
+use Rattle.std.proofs.Common.{◌≡◌, ◌⊎◌, inl, inr, ℕ, ◌+◌, ◌≤◌, List, [], ◌∷◌, ◌++◌, length, take, Option, None, Some, Result, IsErrOf, Vec, Global, refl, sym, ◌∙◌, ap, subst, arith, length-append, take_all}
+use Rattle.std.specs.Prelude.{MatchOption, max}
 use Rattle.std.proofs.lemmas.List.{take-append-le, ext_get_or}
 use Rattle.std.proofs.lemmas.Bool.{cases_lt}
 use Rattle.fx_edges.specs.Faults.{Rose}

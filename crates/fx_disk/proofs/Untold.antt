@@ -1,8 +1,7 @@
 -- A call of a disk that tells nothing.
-use Rattle.std.proofs.Common.{◌≡◌, ℕ, ◌≤◌, Option, None, Result, Err, inl, refl, arith}
+use Rattle.std.proofs.Common.{◌≡◌, ℕ, ◌≤◌, None, Result, inl, refl, arith}
 use Rattle.fx_edges.specs.Faults.{one_more}
 use Rattle.fx_disk.specs.declared.disk.DiskStop.{DiskStop}
-use Rattle.fx_disk.specs.declared.disk.DiskStop.TheVariants.{Failed}
 use Rattle.fx_disk.specs.Disk.{Called}
 
 -- it failed, and was counted

@@ -1,5 +1,5 @@
 -- What contracts see of the disks in memory.
-use Rattle.std.specs.Prelude.{◌≡◌, ℕ, List, Option, Some, length, Result}
+use Rattle.std.specs.Prelude.{ℕ, List, Some, length, Result}
 use Rattle.fx_disk.specs.declared.disk.DiskStop.{DiskStop}
 use Rattle.fx_disk.specs.Disk.{Called}
 use Rattle.fx_disk.specs.Model.{Tape, state_now, MayLeaveIn, LeftSince}

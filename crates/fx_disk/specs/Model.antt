@@ -1,5 +1,5 @@
 -- A disk in memory: its calls since it was made, and what a crash may leave after each of them.
-use Rattle.std.specs.Prelude.{◌≡◌, ◌⊎◌, ℕ, ◌+◌, ◌<◌, ◌≤◌, max, List, [], ◌∷◌, ◌++◌, length, take, slice_index, Option, Some}
+use Rattle.std.specs.Prelude.{◌≡◌, ◌⊎◌, ℕ, ◌+◌, ◌<◌, ◌≤◌, max, List, [], ◌∷◌, ◌++◌, length, take, slice_index}
 use Rattle.fx_disk.specs.declared.call.Call.{Call}
 use Rattle.fx_disk.specs.declared.call.Call.TheVariants.{Wrote, Broke, Synced}
 use Rattle.fx_disk.specs.Disk.{with_piece}

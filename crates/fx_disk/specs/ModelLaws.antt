@@ -1,12 +1,11 @@
 -- What the model says of each disk in memory.
-use Rattle.std.proofs.Common.{◌≡◌, ◌⊎◌, inl, inr, ⊎_elim, ℕ, ◌+◌, ◌-◌, ◌<◌, ◌≤◌, max, min, List, [], ◌∷◌, ◌++◌, length, take, drop, get_or, refl, sym, ◌∙◌, ap, subst, arith, Some, length-append, length-drop, take_all}
+use Rattle.std.proofs.Common.{◌≡◌, ◌⊎◌, inl, inr, ℕ, ◌+◌, ◌-◌, ◌<◌, ◌≤◌, min, List, [], ◌∷◌, ◌++◌, length, take, drop, get_or, refl, sym, ◌∙◌, ap, subst, arith, Some, length-append, length-drop, take_all}
 use Rattle.std.proofs.lemmas.List.{get_or-take, get_or-drop, get_or-append_right, length-take}
 use Rattle.std.proofs.Math.ListN.{get_or-append}
-use Rattle.std.proofs.lemmas.Bool.{cases_lt}
 use Rattle.fx_disk.specs.declared.call.Call.{Call}
 use Rattle.fx_disk.specs.declared.call.Call.TheVariants.{Wrote, Broke, Synced}
 use Rattle.fx_disk.specs.Disk.{with_piece}
-use Rattle.fx_disk.specs.Model.{greatest_end, IsOutside, MayLeave, State, after_call, after_calls, Tape, start_of, state_now, state_at, MayLeaveIn, LeftSince}
+use Rattle.fx_disk.specs.Model.{MayLeave, State, after_call, after_calls, Tape, start_of, state_now, MayLeaveIn, LeftSince}
 
 pub length-with_piece : (at : ℕ) (piece file : List ℕ) → length (with_piece at piece file) ≡ min at (length file) + length piece + (length file - (at + length piece))
 length-with_piece at piece file =

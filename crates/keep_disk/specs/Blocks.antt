@@ -1,6 +1,6 @@
 -- What the bytes of a journal file say: a gate, then, where that is 1, a block and the next gate. A block is
 -- its body's length in 8 bytes, the highest first, and the body.
-use Rattle.std.specs.Prelude.{◌≡◌, ◌⊎◌, ℕ, zero, suc, ◌+◌, ◌<◌, Bool, true, false, cond, nat_lt, ◌==◌, List, [], ◌∷◌, ◌++◌, length, take, drop, slice_index}
+use Rattle.std.specs.Prelude.{◌≡◌, ◌⊎◌, ℕ, zero, suc, ◌+◌, ◌<◌, Bool, false, cond, nat_lt, ◌==◌, List, [], ◌∷◌, ◌++◌, length, take, drop, slice_index}
 use Rattle.std.specs.Int.{from_be_bytes}
 use Rattle.std.proofs.Common.{w64}
 

@@ -1,5 +1,5 @@
 -- A disk between two calls of a keeper.
-use Rattle.std.specs.Prelude.{◌≡◌, ℕ, ◌+◌, ◌≤◌, List, length, Option, Result, IsErrOf}
+use Rattle.std.specs.Prelude.{◌≡◌, ℕ, ◌≤◌, List, Option, Result, IsErrOf}
 use Rattle.fx_edges.specs.Faults.{Rose}
 use Rattle.fx_disk.specs.Disk.{WhereTold, NoMore, Only, Torn, LeavesOnly}
 use Rattle.keep_disk.specs.declared.write.KeepFault.{KeepFault}

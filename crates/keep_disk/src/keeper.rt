@@ -1,4 +1,4 @@
-ghost use Rattle.std.specs.Prelude.{◌≡◌, ℕ, ◌+◌, ◌<◌, ◌^◌, ◌++◌, [], ◌∷◌, List, length, Option, MatchOption, IfSome, IfOk, OnOk};
+ghost use Rattle.std.specs.Prelude.{◌≡◌, ℕ, ◌+◌, ◌<◌, ◌^◌, ◌++◌, [], ◌∷◌, List, length, Option, is_some, IfSome, IfOk, OnOk};
 ghost use Rattle.std.specs.Int.{to_be_bytes};
 ghost use Rattle.std.proofs.Common.{w64};
 ghost use Rattle.fx_disk.specs.Disk.{WhereTold, LeavesOnly};
@@ -65,6 +65,7 @@ impl Keeper {
         ensures appended { OnOk result (WhereTold (D.bytes disk.old) (λ file. (image : List ℕ) →
             D.may_leave disk.new image → whole_blocks image ≡ whole_blocks file ++ body.now ∷ [])) }
         ensures at_rest { OnOk result (AtRest D.bytes D.may_leave disk.new self.new.place) }
+        ensures tells { OnOk result (is_some (D.bytes disk.new) ≡ is_some (D.bytes disk.old)) }
         ensures bodies { self.new.bodies ≡ self.old.bodies }
         ensures cause { HasCause D.faults disk.old disk.new result }
     {

@@ -5,9 +5,11 @@ mod body;
 mod keeper;
 mod open;
 mod read;
+mod rounds;
 mod write;
 
 pub use body::Body;
 pub use keeper::Keeper;
 pub use open::open_keeper;
+pub use rounds::{Round, Rounds, RunFault, keep_round, keep_rounds};
 pub use write::KeepFault;

@@ -1,26 +1,13 @@
-ghost use Rattle.std.specs.Prelude.{◌≡◌, ℕ, ◌+◌, ◌<◌, ◌≤◌, [], List, length, drop, slice_index, Option, IfOk, OnOk};
+ghost use Rattle.std.specs.Prelude.{◌≡◌, ℕ, ◌+◌, ◌<◌, ◌≤◌, [], List, length, drop, slice_index, Option, is_some, IfOk, OnOk};
 ghost use Rattle.fx_disk.specs.Disk.{WhereTold, Only, LeavesOnly};
 ghost use Rattle.keep_disk.specs.Blocks.{blocks_from, whole_blocks, space, IsClosedAt};
-ghost use Rattle.keep_disk.specs.Keeping.{AtRest, Untouched, HasCause};
+ghost use Rattle.keep_disk.specs.Keeping.{AtRest, HasCause};
 
 use crate::keeper::{CLOSED, Keeper, OPEN};
 use crate::read::{read_blocks, read_file};
-use crate::write::{KeepFault, fault_of, write_synced};
+use crate::write::{KeepFault, settle, write_synced};
 use fx_disk::Disk;
 use std::alloc::Global;
-
-// Syncs what an earlier program may have left unsynced.
-fn settle<D: Disk>(disk: &mut D) -> Result<(), KeepFault>
-    ensures untouched { OnOk result (Untouched D.bytes D.may_leave D.moment D.left_since D.faults disk.old disk.new) }
-    ensures durable { OnOk result (WhereTold (D.bytes disk.old) (λ file. Only file (D.may_leave disk.new))) }
-    ensures every_moment { LeavesOnly D.moment D.left_since disk.old disk.new (D.may_leave disk.old) }
-    ensures cause { HasCause D.faults disk.old disk.new result }
-{
-    match disk.sync() {
-        Ok(()) => Ok(()),
-        Err(stop) => Err(fault_of(stop)),
-    }
-}
 
 // Closes the file behind its whole blocks, where the last gate says 1 or is missing.
 fn close<D: Disk>(disk: &mut D, bytes: &[u8], place: usize) -> Result<(), KeepFault>
@@ -34,6 +21,7 @@ fn close<D: Disk>(disk: &mut D, bytes: &[u8], place: usize) -> Result<(), KeepFa
     ensures blocks { OnOk result (WhereTold (D.bytes disk.old) (λ file. (image : List ℕ) →
         D.may_leave disk.new image → whole_blocks image ≡ whole_blocks file)) }
     ensures at_rest { OnOk result (AtRest D.bytes D.may_leave disk.new place) }
+    ensures tells { OnOk result (is_some (D.bytes disk.new) ≡ is_some (D.bytes disk.old)) }
     ensures cause { HasCause D.faults disk.old disk.new result }
 {
     if place < bytes.len() && bytes[place] != OPEN {
@@ -55,6 +43,7 @@ pub fn open_keeper<D: Disk>(alloc: Global, disk: &mut D) -> Result<Keeper, KeepF
     ensures bodies { IfOk result (λ keeper. WhereTold (D.bytes disk.old) (λ file.
         keeper.bodies.items ≡ whole_blocks file)) }
     ensures at_rest { IfOk result (λ keeper. AtRest D.bytes D.may_leave disk.new keeper.place) }
+    ensures tells { OnOk result (is_some (D.bytes disk.new) ≡ is_some (D.bytes disk.old)) }
     ensures cause { HasCause D.faults disk.old disk.new result }
 {
     match settle(disk) {

@@ -9,7 +9,7 @@ use Rattle.fx_rules.specs.declared.orders.ActiveOrder.{ActiveOrder}
 use Rattle.fx_rules.specs.declared.orders.Resting.{Resting}
 use Rattle.fx_rules.specs.declared.orders.Fill.{Fill}
 use Rattle.fx_rules.specs.declared.orders.Level.{Level}
-use Rattle.fx_rules.specs.Lists.{Among, Each, total}
+use Rattle.fx_rules.specs.Lists.{Among, Each}
 use Rattle.fx_rules.specs.Session.{Header, bank_count, weight_of}
 use Rattle.fx_rules.specs.State.{State, orders_in, count_of, arrivals, line, reach, cost_between}
 use Rattle.fx_rules.specs.Sweep.{Taker, Swept, is_opposite, is_open, open_orders, is_order, IsBest, amount, fill_with, lowered, with_left, filled, less}
@@ -30,7 +30,7 @@ use Rattle.fx_rules.proofs.ViewFill.{are_of_one, cost_same, line-filled}
 use Rattle.fx_rules.proofs.ViewSweep.{lots_on, among_lots, lots_on-taken}
 use Rattle.global_book.specs.Book.{Book}
 use Rattle.credit_lines.specs.Credit.{Credit}
-use Rattle.match_sweep.specs.Sweeps.{IsSweep}
+use Rattle.match_sweep.specs.Sweeps.{IsLevelled}
 use Rattle.local_view.specs.LocalBook.{IsShown, unlimited_order}
 
 -- ---- orders of no command that rests
@@ -233,14 +233,15 @@ levels_of-renumbered number (f ∷ fills) =
 still_wants : (lots left : ℕ) → lots + left ≡ 2 ^ 64 - 1 → lots ≤ 64 * 10 ^ 15 → 1 ≤ left
 still_wants lots left sum most = omega arith
 
--- the sweep of such an order shows the local book of each state
-pub shown-swept : (book : Book) (credit : Credit) (weight bank : ℕ) (side : Side) (fills : List Fill) (left : ℕ) (levels : List Level) → bank < credit.banks → 0 < weight → total (λ (f : Fill). f.lots) fills ≤ 64 * 10 ^ 15 → IsSweep book credit weight (unlimited_order book.pair bank side) fills left → levels ≡ take 10 (levels_of fills) → IsShown book credit weight bank side levels
+-- the first levels of the sweep of such an order show the local book of each state
+pub shown-levelled : (book : Book) (credit : Credit) (weight bank : ℕ) (side : Side) (levels : List Level) → bank < credit.banks → 0 < weight → IsLevelled book credit weight (unlimited_order book.pair bank side) levels → IsShown book credit weight bank side levels
 unfolding IsFresh lots_of
-shown-swept book credit weight bank side fills left levels bank_in some most sweep levels_are h S sound fits few =
+shown-levelled book credit weight bank side levels bank_in some levelled h S sound fits few =
     let t : Taker = unlimited_order book.pair bank side in
     let number : ℕ = count_of S bank + 1 in
     let n : ℕ = lots_against S book.pair side in
-    let swept : Swept h S t fills left = sweep h S sound fits in
+    let fills : List Fill = levelled.fills in
+    let swept : Swept h S t fills levelled.left = levelled.sweep h S sound fits in
     let instead : Instead h S S t number n (arrivals S) = record {
       sound = sound;
       like = record { orders = refl; lines = λ i k. refl };
@@ -254,6 +255,7 @@ shown-swept book credit weight bank side fills left levels bank_in some most swe
     } in (
       map (renumbered number) fills,
       n - lots_of fills,
-      swept-instead h S S t number n (arrivals S) fills left instead (still_wants (lots_of fills) left (swept-lots h S t fills left swept) most) swept,
-      levels_are ∙ ap (take 10) (sym (levels_of-renumbered number fills)),
+      swept-instead h S S t number n (arrivals S) fills levelled.left instead
+          (still_wants (lots_of fills) levelled.left (swept-lots h S t fills levelled.left swept) levelled.lots) swept,
+      levelled.first ∙ ap (take 10) (sym (levels_of-renumbered number fills)),
     )

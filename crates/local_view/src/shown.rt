@@ -4,9 +4,9 @@ ghost use Rattle.local_view.specs.LocalBook.{IsLegalLocalBook, IsLocalBook, IsSh
 
 use credit_lines::CreditLines;
 use fx_amounts::{BankId, Memory, PairId, Side};
-use fx_rules::{LevelList, Outcome, SweptOrder, any_price, levels_of};
+use fx_rules::{LevelList, Outcome, SweptOrder, any_price};
 use global_book::PairBook;
-use match_sweep::sweep;
+use match_sweep::first_levels;
 use price_levels::Steps;
 use std::alloc::Global;
 use std::marker::Brand;
@@ -74,8 +74,7 @@ fn shown<L: Ledger>(
     ensures shown { IfOk result (IsShown book.now lines.now weight viewer side) }
 {
     let order = unlimited_order(book.pair(), viewer, side);
-    let sweep = sweep(alloc, book, lines, weight, &order, steps)?;
-    levels_of(alloc, sweep.fills.as_slice())
+    first_levels(alloc, book, lines, weight, &order, steps)
 }
 
 /// An order of a bank in a pair that takes any price, wants more than its lines allow, and comes after all others.

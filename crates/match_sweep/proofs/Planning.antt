@@ -6,6 +6,7 @@ use Rattle.std.proofs.Math.Path.{fun_ext}
 use Rattle.std.proofs.Math.Nat.{mul-le-mul_left}
 use Rattle.std.proofs.lemmas.Nat.{div-mul-add}
 use Rattle.std.proofs.lemmas.Bool.{cases_Bool, cases_eq, cond-true, cond-false, and_parts, eqb-true, eqb-false, cases_lt}
+use Rattle.std.proofs.lemmas.List.{get_or_past}
 use Rattle.std.proofs.lemmas.List.Elements.{filter_agree}
 use Rattle.std.specs.List.{filter}
 use Rattle.fx_rules.specs.declared.orders.Resting.{Resting}
@@ -25,6 +26,7 @@ use Rattle.global_book.proofs.Sought.{behind-place}
 use Rattle.credit_lines.specs.Credit.{Credit, line_in}
 use Rattle.credit_lines.proofs.MarketLemmas.{line_in-line}
 use Rattle.match_sweep.specs.Sweeps.{IsSweep, IsPlanned}
+use Rattle.match_sweep.proofs.Tables.{total-changed}
 
 -- Numbers.
 
@@ -118,6 +120,33 @@ pub best-reach : (reach : List ℕ) (book : List Resting) (t : Taker) (past : Op
 best-reach reach book t past best is =
     let found = Among-filter (λ (o : Resting). is_open t (get_or reach o.bank 0) o && is_behind t.side past o) book best is.there in
     (is_open-says t (get_or reach best.bank 0) best (and_parts (is_open t (get_or reach best.bank 0) best) (is_behind t.side past best) found.1).0).reach
+
+-- a sweep planned by reaches fills no more lots than they have in all
+
+least_last : (a b r : ℕ) → min a (min b r) ≤ r
+least_last a b r = omega arith
+
+within_table : (reach : List ℕ) (bank : ℕ) → 1 ≤ get_or reach bank 0 → bank < length reach
+within_table reach bank some =
+    elim (cases_lt bank (length reach)) [
+      | inl within ↦ within
+      | inr past ↦ absurd (omega (arith, some, get_or_past reach bank 0 past))
+    ]
+
+pub planned-paid : (reach : List ℕ) (book : List Resting) (t : Taker) (last : Option Resting) (fills : List Fill) (left : ℕ) → Planned 1 (λ bank. get_or reach bank 0) book t last fills left → total (λ (f : Fill). f.lots) fills ≤ total (λ (n : ℕ). n) reach
+planned-paid reach book t last [] left planned = omega arith
+planned-paid reach book t last (f ∷ fills) left planned =
+    let best : Resting = planned.0 in
+    let r : ℕ = get_or reach best.bank 0 in
+    let lots_are : f.lots ≡ amount t best r = ap (λ (g : Fill). g.lots) planned.3 ∙ ap (λ n. amount t best n) (div_one r) in
+    let fits : f.lots ≤ r = subst (λ n. n ≤ r) (sym lots_are) (least_last t.left best.left r) in
+    let best_is : IsBest t.side (open_behind (λ bank. get_or reach bank 0) t last book) best =
+    subst (λ (os : List Resting). IsBest t.side os best) (open_one (λ bank. get_or reach bank 0) t last book) planned.2 in
+    let within : best.bank < length reach = within_table reach best.bank (best-reach reach book t last best best_is) in
+    let rest : total (λ (g : Fill). g.lots) fills ≤ total (λ (n : ℕ). n) (set reach best.bank (r - f.lots)) =
+    planned-paid (set reach best.bank (r - f.lots)) book (less t f.lots) (Some best) fills left
+    (subst (λ (l : ℕ → ℕ). Planned 1 l book (less t f.lots) (Some best) fills left) (sym (spend-set reach best.bank f.lots within)) planned.4) in
+    omega (arith, rest, total-changed reach best.bank (r - f.lots) within, fits)
 
 -- What a planned sweep fills and leaves is what its order wants.
 

@@ -1,5 +1,5 @@
 -- Tables of reaches, and what they add up to.
-use Rattle.std.proofs.Common.{ℕ, zero, suc, ◌≡◌, ◌≢◌, ◌+◌, ◌-◌, ◌*◌, ◌≤◌, ◌<◌, List, [], ◌∷◌, refl, sym, subst, ◌∙◌, arith, inl, inr, length, get_or, replicate, get_or-set_same, get_or-set_other}
+use Rattle.std.proofs.Common.{ℕ, zero, suc, ◌≡◌, ◌≢◌, ◌+◌, ◌*◌, ◌≤◌, ◌<◌, List, [], ◌∷◌, refl, sym, subst, ◌∙◌, arith, inl, inr, length, get_or, replicate, get_or-set_same, get_or-set_other}
 use Rattle.std.proofs.Math.ListN.{set}
 use Rattle.std.proofs.lemmas.Bool.{cases_eq}
 use Rattle.fx_rules.specs.Lists.{total}
@@ -58,7 +58,3 @@ filled-passed f own banks number xs passed filled other below in_banks differ =
       | inl same ↦ absurd (passed (omega arith) (λ e. differ (same ∙ e)))
       | inr apart ↦ filled other (omega arith) in_banks differ
     ]
-
--- what was filled and what can still be reached are no more than what could be at first, after a fill
-pub paid-step : (fills most lots : ℕ) (xs : List ℕ) (i : ℕ) → i < length xs → fills + total (λ n. n) xs ≤ most → lots ≤ get_or xs i 0 → fills + lots + total (λ n. n) (set xs i (get_or xs i 0 - lots)) ≤ most
-paid-step fills most lots xs i within paid fits = omega (arith, total-changed xs i (get_or xs i 0 - lots) within)

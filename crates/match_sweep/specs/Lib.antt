@@ -1,4 +1,5 @@
 pub mod Takers
 pub mod Sweeps
+pub mod Walks
 pub mod Carries
 pub mod Laws

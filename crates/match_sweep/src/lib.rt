@@ -4,10 +4,13 @@
 
 mod carrying;
 mod laws;
+mod levels;
 mod sweeping;
 mod taker;
+mod walk;
 
 pub use carrying::carry;
 pub use laws::{sweeps_are_carried, turns_are_carried};
+pub use levels::first_levels;
 pub use sweeping::{SweepPlan, plan, sweep};
 pub use taker::Taker;

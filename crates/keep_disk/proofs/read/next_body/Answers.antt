@@ -1,4 +1,4 @@
-use Rattle.std.proofs.Common.{◌≡◌, ◌-◌, ◌<◌, ◌≤◌, ℕ, List, length, take, drop, get_or, refl, rules, arith}
+use Rattle.std.proofs.Common.{◌≡◌, ◌-◌, ◌<◌, length, take, drop, get_or, rules, arith}
 use Rattle.keep_disk.proofs.Reading.{none_closed, none_short, some_next, short_behind, match_none, tail_whole}
 use Rattle.keep_disk.proofs.read.next_body.Goals as goal
 

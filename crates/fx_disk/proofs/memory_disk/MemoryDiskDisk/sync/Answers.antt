@@ -1,4 +1,4 @@
-use Rattle.std.proofs.Common.{◌≡◌, ◌∙◌, List, ℕ, ap, sym, subst, arith}
+use Rattle.std.proofs.Common.{◌≡◌, ◌∙◌, ap, subst, arith}
 use Rattle.fx_disk.specs.declared.call.Call.TheVariants.{Synced}
 use Rattle.fx_disk.specs.InMemory.{FailingDisk}
 use Rattle.fx_disk.specs.Model.{Tape, Added}

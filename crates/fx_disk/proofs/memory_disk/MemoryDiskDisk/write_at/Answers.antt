@@ -1,4 +1,4 @@
-use Rattle.std.proofs.Common.{◌≡◌, ◌∙◌, List, ℕ, length, ap, sym, subst, arith}
+use Rattle.std.proofs.Common.{◌≡◌, ◌∙◌, length, ap, subst, arith}
 use Rattle.fx_disk.specs.declared.call.Call.TheVariants.{Broke}
 use Rattle.fx_disk.specs.InMemory.{FailingDisk}
 use Rattle.fx_disk.specs.Model.{Tape, Added, AddedWrite}

@@ -1,5 +1,4 @@
-use Rattle.std.proofs.Common.{◌≡◌, List, ℕ, Some, sym, ap, subst, ◌∙◌}
-use Rattle.fx_disk.specs.Disk.{Only}
+use Rattle.std.proofs.Common.{List, ℕ, Some, ap, subst, ◌∙◌}
 use Rattle.fx_disk.specs.Model.{Tape, Added}
 use Rattle.fx_disk.specs.declared.call.Call.TheVariants.{Synced}
 use Rattle.fx_disk.proofs.Moments.{synced_reads, synced_only, synced_no_more}

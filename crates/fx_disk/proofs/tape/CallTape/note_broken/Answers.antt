@@ -1,5 +1,5 @@
 use Rattle.std.proofs.Common.{refl}
-use Rattle.fx_disk.specs.declared.call.Call.TheVariants.{Broke, Synced}
+use Rattle.fx_disk.specs.declared.call.Call.TheVariants.{Broke}
 use Rattle.fx_disk.proofs.Moments.{reads_kept_by}
 use Rattle.fx_disk.proofs.tape.CallTape.note_broken.Goals as goal
 

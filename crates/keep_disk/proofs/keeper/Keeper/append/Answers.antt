@@ -1,4 +1,4 @@
-use Rattle.std.proofs.Common.{◌≡◌, ◌∙◌, ◌+◌, ◌++◌, ◌∷◌, [], ℕ, List, Some, length, refl, sym, ap, subst, rules, w64}
+use Rattle.std.proofs.Common.{◌≡◌, ◌∙◌, ◌+◌, ◌++◌, ◌∷◌, [], ℕ, length, refl, sym, ap, subst, rules, w64}
 use Rattle.std.specs.Int.{to_be_bytes}
 use Rattle.fx_disk.proofs.Leaving.{leaves_weaker, leaves_then}
 use Rattle.keep_disk.specs.Blocks.{whole_blocks, IsClosedAt, HasOrLacks}

@@ -1,0 +1,5 @@
+pub mod Listed
+pub mod SessionLemmas
+pub mod CommandLemmas
+pub mod TotalsLemmas
+pub mod Examples

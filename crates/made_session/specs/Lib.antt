@@ -1,0 +1,4 @@
+pub mod Draws
+pub mod Session
+pub mod Commands
+pub mod Totals

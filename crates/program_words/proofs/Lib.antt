@@ -1,0 +1,6 @@
+pub mod Walking
+pub mod Taken
+pub mod Complete
+pub mod Ranges
+pub mod MatchedLemmas
+pub mod SameWords

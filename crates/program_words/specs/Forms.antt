@@ -1,0 +1,55 @@
+-- The forms of the words, and what each asks for.
+use Rattle.std.specs.Prelude.{ℕ, ◌^◌, ◌-◌, ◌≤◌, List, [], ◌∷◌, Option, Some, None, if◌then◌else◌, bytes_eq, codes}
+use Rattle.fx_text.specs.Number.{number_of}
+use Rattle.program_words.specs.declared.task.Task.{Task}
+use Rattle.program_words.specs.declared.task.Task.TheVariants.{Run, Serial, Check, Load}
+
+infixl 10 ◌>>=◌
+-- what all steps give, where each gives something
+abbrev pub ◌>>=◌ : {A B : Type 0} → Option A → (A → Option B) → Option B
+(Some x) >>= f = f x
+None >>= f = None
+
+-- the workers that the words at the end ask for: 4 where there are none, and else N by `--workers N`
+abbrev pub workers_of : List (List ℕ) → Option ℕ
+workers_of [] = Some 4
+workers_of (option ∷ count ∷ []) = if bytes_eq option (codes "--workers") then number_of 1 64 count else None
+workers_of _ = None
+
+-- `run` or `run --workers N`, by the words behind `run`
+abbrev pub run_of : List (List ℕ) → Option Task
+run_of rest = do
+  workers ← workers_of rest
+  Some (Run workers)
+
+-- a word that stands alone
+abbrev pub alone : Task → List (List ℕ) → Option Task
+alone task [] = Some task
+alone task _ = None
+
+-- `load SEED BANKS PAIRS COMMANDS`, or that and `--workers N`, by the words behind `load`
+abbrev pub load_of : List (List ℕ) → Option Task
+load_of (seed_said ∷ banks_said ∷ pairs_said ∷ commands_said ∷ rest) = do
+  seed ← number_of 0 (2 ^ 64 - 1) seed_said
+  banks ← number_of 2 64 banks_said
+  pairs ← number_of 1 32 pairs_said
+  commands ← number_of 1 20000 commands_said
+  workers ← workers_of rest
+  Some (Load seed banks pairs commands workers)
+load_of _ = None
+
+-- what the words ask for; none where they are in none of the forms
+abbrev pub task_of : List (List ℕ) → Option Task
+task_of [] = None
+task_of (word ∷ rest) =
+    if bytes_eq word (codes "run") then run_of rest
+    else if bytes_eq word (codes "serial") then alone Serial rest
+    else if bytes_eq word (codes "check") then alone Check rest
+    else if bytes_eq word (codes "load") then load_of rest
+    else None
+
+-- the numbers of a task are in their ranges
+abbrev pub IsTask : Task → Type 0
+IsTask (Load seed banks pairs commands workers) =
+    ((2 ≤ banks) × (banks ≤ 64)) × ((1 ≤ pairs) × (pairs ≤ 32)) × ((1 ≤ commands) × (commands ≤ 20000))
+IsTask _ = Unit {0}

@@ -1,0 +1,4 @@
+pub mod Workers
+pub mod Forms
+pub mod Tool
+pub mod Printed
