@@ -1,11 +1,8 @@
 //! The gate is called before and after each command.
-ghost use Rattle.std.specs.Prelude.{◌≡◌, ◌<◌, ◌≤◌};
-
 use crate::fixture::session;
 use crate::generated::{BANKS, commands};
 use fx_amounts::{BankId, PairId};
 use fx_rules::{Gate, Sent};
-use std::alloc::Global;
 use std::sync::{Mutex, Wait};
 use std::test::Fail;
 use threaded_run::run_on_threads;
@@ -59,7 +56,7 @@ fn are_counted(calls: &[Calls], sent: &[Sent]) -> bool {
 
 #[test]
 fn a_gate_sees_each_command_come_and_go(rt: HostRuntime) -> Result<(), Fail> {
-    let session = session(rt.alloc(), BANKS, 2_000)?;
+    let session = session(rt.alloc(), BANKS, 300)?;
     let sent = commands(rt.alloc(), &session, 200)?;
     let none = Calls {
         before: 0,

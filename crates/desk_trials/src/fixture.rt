@@ -1,5 +1,5 @@
 //! The sessions of the trials: so many banks with EUR/USD and GBP/USD, and one limit between any two of them.
-ghost use Rattle.std.specs.Prelude.{◌≡◌, ◌<◌, ◌*◌, IfOk};
+ghost use Rattle.std.specs.Prelude.{◌≡◌, ◌<◌, IfOk};
 ghost use Rattle.fx_amounts.specs.Price.{IsPrice};
 ghost use Rattle.fx_amounts.specs.Quantity.{IsLots};
 ghost use Rattle.fx_rules.specs.Session.{bank_count, pair_count};
@@ -54,7 +54,7 @@ fn rule(base: &[u8], quote: &[u8], weight: u32) -> Result<PairRule, Fail> {
     })
 }
 
-/// So many names, each another's.
+/// So many names, no two the same.
 fn names(alloc: Global, banks: u8) -> Result<Vec<Name>, Fail> {
     let mut names = Vec::new(alloc);
     for number in 0..banks {

@@ -1,5 +1,5 @@
 //! Commands from a number, of all kinds, by sixteen banks in two pairs.
-ghost use Rattle.std.specs.Prelude.{ℕ, ◌≡◌, ◌≢◌, ◌<◌, ◌≤◌, ◌^◌, IfOk, length};
+ghost use Rattle.std.specs.Prelude.{ℕ, ◌≡◌, ◌≢◌, ◌<◌, ◌≤◌, IfOk, length};
 ghost use Rattle.fx_rules.specs.Lists.{Each};
 ghost use Rattle.fx_rules.specs.Session.{Header, bank_count, pair_count};
 ghost use Rattle.fx_rules.specs.Step.{IsCommand};
@@ -54,40 +54,40 @@ fn other_than(sender: BankId, number: u8) -> BankId
     }
 }
 
-/// The command that a number says. Three in four of them are orders or a credit change.
-fn command_from(session: &Session, sender: BankId, drawn: u64) -> Command
+/// The command that a number says. Half of them are orders; where it tells of an order, it is the one of this number.
+fn command_from(session: &Session, sender: BankId, number: u32, drawn: u64) -> Command
     requires banks { bank_count session.now ≡ 16 }
     requires pairs { pair_count session.now ≡ 2 }
+    requires number { 1 ≤ number }
     ensures { IsCommand session.now sender result }
 {
-    let kind = drawn % 16;
-    let pair = pair((drawn / 16 % 2) as u8);
-    let rest = drawn / 32;
-    let number = 1 + (rest % 100) as u32;
+    let kind = drawn % 32;
+    let pair = pair((drawn / 32 % 2) as u8);
+    let rest = drawn / 64;
     let other = other_than(sender, (rest % 15) as u8);
     match kind {
-        0 => Command::Cancel { pair, number },
-        1 => Command::Reduce {
+        0..=2 => Command::Cancel { pair, number },
+        3..=5 => Command::Reduce {
             pair,
             number,
-            lots: lots(1 + (rest / 100 % 3) as u32),
+            lots: lots(1 + (rest % 3) as u32),
         },
-        2 => Command::Pull { pair },
-        3 | 4 => Command::Line {
+        6 => Command::Pull { pair },
+        7..=11 => Command::Line {
             bank: other,
-            limit: Units::new(rest / 15 % 3_000).unwrap(),
+            limit: Units::new(rest / 15 % 1_500).unwrap(),
         },
-        5 => Command::Show { bank: other },
-        6 => Command::Book { pair },
-        7 => Command::Bad {
+        12 => Command::Show { bank: other },
+        13..=14 => Command::Book { pair },
+        15 => Command::Bad {
             reason: Reject::Word,
         },
         _ => order_from(pair, rest),
     }
 }
 
-/// So many commands, each of a bank that a number says.
-pub(crate) fn commands(alloc: Global, session: &Session, count: usize) -> Result<Vec<Sent>, Memory>
+/// So many commands, of each bank in turn. Cancels and reductions tell of one of the bank's last eight commands.
+pub(crate) fn commands(alloc: Global, session: &Session, count: u32) -> Result<Vec<Sent>, Memory>
     requires banks { bank_count session.now ≡ 16 }
     requires pairs { pair_count session.now ≡ 2 }
     ensures count { IfOk result (λ sent. length sent.items ≡ count) }
@@ -95,11 +95,12 @@ pub(crate) fn commands(alloc: Global, session: &Session, count: usize) -> Result
 {
     let mut sent = Vec::new(alloc);
     let mut seed = 1;
-    for _at in 0..count {
+    for at in 0..count {
         seed = next(seed);
         let drawn = seed >> 16;
-        let bank = bank((drawn % 16) as u8);
-        let command = command_from(session, bank, drawn / 16);
+        let bank = bank((at % 16) as u8);
+        let number = (at / 16).saturating_sub((drawn % 8) as u32).max(1);
+        let command = command_from(session, bank, number, drawn / 8);
         sent.push(Sent { bank, command })?;
     }
     Ok(sent)

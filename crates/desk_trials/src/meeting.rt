@@ -1,6 +1,4 @@
 //! Two workers work at the same time: a gate holds each up until the other has come.
-ghost use Rattle.std.specs.Prelude.{◌≡◌, ◌<◌, ◌≤◌};
-
 use crate::fixture::{ALFA, BETA, EURUSD, bank, lots, pair, price, session};
 use fx_amounts::{BankId, PairId, Side};
 use fx_rules::{Command, Gate, Life, Sent};

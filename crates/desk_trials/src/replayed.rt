@@ -105,7 +105,7 @@ fn is_one_history<R: AllocGlobal + Threads + Wait + Sync>(
 
 #[test]
 fn sixteen_banks_make_one_history(rt: HostRuntime) -> Result<(), Fail> {
-    let session = session(rt.alloc(), BANKS, 2_000)?;
+    let session = session(rt.alloc(), BANKS, 300)?;
     let sent = commands(rt.alloc(), &session, 2_000)?;
     for workers in [1, 4, 16] {
         assert!(rt;
