@@ -1,8 +1,12 @@
 //! The places of resting orders of one side, sorted from the best price, and the counter of a search's steps.
 #![tactic(auto)]
 
+mod chunk;
+mod chunks;
+mod cut;
 mod levels;
 mod place;
+mod spot;
 mod steps;
 
 pub use levels::Levels;
