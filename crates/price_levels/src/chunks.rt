@@ -1,4 +1,4 @@
-ghost use Rattle.std.specs.Prelude.{ℕ, ◌≡◌, ◌+◌, ◌*◌, ◌≤◌, ◌<◌, min, true, false, None, [], ◌∷◌, length, slice_get, OnOk, IfSome};
+ghost use Rattle.std.specs.Prelude.{ℕ, ◌≡◌, ◌+◌, ◌*◌, ◌≤◌, ◌<◌, ◌↔◌, min, true, false, None, [], ◌∷◌, length, slice_get, OnOk, IfSome, IsTrue};
 ghost use Rattle.std.specs.List.{All, insert, remove};
 ghost use Rattle.std.specs.List.Sorted.{IsPartitionPoint};
 ghost use Rattle.price_levels.specs.Ladder.{IsSorted};
@@ -41,6 +41,14 @@ impl Chunks {
             count: 0,
             most: 0,
         }
+    }
+
+    /// Whether there is no place.
+    pub(crate) fn is_empty(&self) -> bool
+        requires laid { IsLaidOut self.now }
+        ensures { IsTrue result ↔ (places_of self.now.chunks.items ≡ []) }
+    {
+        self.count == 0
     }
 
     /// Makes room for so many places more.

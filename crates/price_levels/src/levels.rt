@@ -1,4 +1,4 @@
-ghost use Rattle.std.specs.Prelude.{◌≡◌, ◌+◌, ◌≤◌, [], not, slice_get, OnOk};
+ghost use Rattle.std.specs.Prelude.{◌≡◌, ◌+◌, ◌≤◌, ◌↔◌, [], not, slice_get, IsTrue, OnOk};
 ghost use Rattle.std.specs.List.{Contains};
 ghost use Rattle.price_levels.specs.Ladder.{IsSorted, IsNewArrival, Gains, Loses, first_where};
 ghost use Rattle.price_levels.specs.Ladder as ladder;
@@ -42,6 +42,13 @@ impl Levels {
             side,
             chunks: Chunks::new(alloc),
         }
+    }
+
+    /// Whether there is no place.
+    pub fn is_empty(&self) -> bool
+        ensures { IsTrue result ↔ (self.now.places ≡ []) }
+    {
+        self.chunks.is_empty()
     }
 
     /// Makes room for so many places more. At `Memory` there may be none.

@@ -10,5 +10,5 @@ mod spot;
 mod steps;
 
 pub use levels::Levels;
-pub use place::Place;
+pub use place::{Place, sorts_before};
 pub use steps::Steps;
