@@ -1,3 +1,3 @@
-mod Rows
+pub mod Rows
 mod Walking
 mod Wanting

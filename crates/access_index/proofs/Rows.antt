@@ -13,7 +13,7 @@ use Rattle.access_index.specs.Sides.{OwnRows, row_of, RowGains, RowLoses, RowGro
 use Rattle.access_index.specs.Owned.{no_rows, row_at, AreEmpty, AreOwned, KeepsOthers, OwnerGains, OwnerLoses, OwnersGrow}
 
 -- what holds of a side and of the other one holds of both
-both : (P : Side → Type 0) (side : Side) → P side → P (opposite side) → (one : Side) → P one
+pub both : (P : Side → Type 0) (side : Side) → P side → P (opposite side) → (one : Side) → P one
 both P Buy here other Buy = here
 both P Buy here other Sell = other
 both P Sell here other Buy = other
