@@ -1,15 +1,14 @@
 -- The walk along a row to the first place whose order arrived in time.
-use Rattle.std.proofs.Common.{ℕ, ◌≡◌, ◌+◌, ◌≤◌, ◌<◌, Bool, true, false, ◌&&◌, ltb, List, [], ◌∷◌, Option, Some, None, ◌⊎◌, inl, inr, refl, ap, sym, subst, ◌∙◌, arith, length}
-use Rattle.std.proofs.lemmas.Bool.{cases_Bool, both_ways, and_parts, and_from, false_from_ne_true, lt-ltb, le-ltb, ltb-true}
+use Rattle.std.proofs.Common.{ℕ, ◌≡◌, ◌≤◌, ◌<◌, Bool, true, false, ltb, List, [], ◌∷◌, Option, Some, None, inl, inr, refl, ap, sym, subst, ◌∙◌, arith, length}
+use Rattle.std.proofs.lemmas.Bool.{cases_Bool, both_ways, and_parts, and_from, false_from_ne_true, lt-ltb, ltb-true}
 use Rattle.std.specs.List.{Contains, filter, slice_get}
-use Rattle.std.specs.Option.{IfSome}
 use Rattle.fx_amounts.specs.declared.side.Side.{Side}
 use Rattle.price_levels.specs.declared.place.Place.{Place}
 use Rattle.price_levels.specs.Ladder.{sorts_before, IsSorted, IsFirst, IsFirstOf, first_where}
 use Rattle.price_levels.proofs.Sorting.{before_self, before_trans, Contains_cases}
 use Rattle.price_levels.proofs.Firsts.{first_found, first_none, front_found, front_none}
-use Rattle.access_index.specs.Owned.{is_ahead, stands_behind, AreInTime}
-use Rattle.access_index.specs.Search.{IsFrom, Walks, left_in}
+use Rattle.access_index.specs.Owned.{is_ahead, stands_behind}
+use Rattle.access_index.specs.Search.{Walks, left_in}
 
 behind_later : (side : Side) (past : Option Place) (p q : Place) → stands_behind side past p ≡ true → sorts_before side p q ≡ true → stands_behind side past q ≡ true
 behind_later side None p q behind before = refl

@@ -1,5 +1,5 @@
 -- The best place that is wanted, of one bank and of one bank more.
-use Rattle.std.proofs.Common.{ℕ, ◌≡◌, ◌+◌, ◌≤◌, ◌<◌, Bool, true, false, ◌&&◌, ltb, leb, List, length, get_or, Option, Some, None, ◌⊎◌, inl, inr, refl, ap, sym, subst, ◌∙◌, arith}
+use Rattle.std.proofs.Common.{ℕ, ◌≡◌, ◌+◌, ◌≤◌, ◌<◌, Bool, true, false, ◌&&◌, leb, List, get_or, Option, Some, None, ◌⊎◌, inl, inr, ap, sym, subst, ◌∙◌, arith}
 use Rattle.std.proofs.lemmas.Bool.{cases_eq, both_ways, and_parts, and_from, false_from_ne_true, le-leb, leb-true, lt-leb, leb-false, ltb-true}
 use Rattle.std.specs.List.{Contains}
 use Rattle.fx_amounts.specs.Price.{crosses}

@@ -1,13 +1,13 @@
 -- What a search among the owners' places finds is the best of the orders.
-use Rattle.std.proofs.Common.{ℕ, ◌≡◌, ◌+◌, ◌≤◌, ◌<◌, min, Bool, true, false, ◌&&◌, ◌||◌, eqb, ltb, leb, List, length, get_or, Option, Some, None, ◌⊎◌, inl, inr, refl, ap, sym, subst, ◌∙◌, arith}
-use Rattle.std.proofs.lemmas.Bool.{cases_lt, both_ways, and_parts, and_from, eqb-true, eq-eqb, false_from_ne_true}
+use Rattle.std.proofs.Common.{ℕ, ◌≡◌, ◌<◌, Bool, true, ◌&&◌, ◌||◌, eqb, ltb, leb, List, length, get_or, Option, Some, None, inl, inr, refl, ap, sym, subst, ◌∙◌, arith}
+use Rattle.std.proofs.lemmas.Bool.{both_ways, and_parts, and_from, eqb-true, eq-eqb, false_from_ne_true}
 use Rattle.std.specs.List.{Contains}
 use Rattle.std.specs.Option.{IsSome, option_map}
 use Rattle.fx_amounts.specs.Side.{opposite}
 use Rattle.fx_amounts.specs.declared.side.Side.{Side}
 use Rattle.fx_amounts.specs.declared.side.Side.TheVariants.{Buy, Sell}
 use Rattle.fx_rules.specs.declared.orders.Resting.{Resting}
-use Rattle.fx_rules.specs.Lists.{Among, Each}
+use Rattle.fx_rules.specs.Lists.{Among}
 use Rattle.fx_rules.specs.Sweep.{is_opposite, is_preferred}
 use Rattle.fx_rules.specs.Sweep as sweep
 use Rattle.fx_rules.specs.Plan.{is_behind}
@@ -21,8 +21,8 @@ use Rattle.access_index.proofs.Rows.{bank_within}
 use Rattle.order_store.specs.Orders.{Orders, order_at}
 use Rattle.global_book.specs.Book as book
 use Rattle.global_book.specs.Book.{is_of, is_owned, is_sought, standing_at}
-use Rattle.global_book.specs.Rows.{flat, place_in, its_price, is_own, IsPlaced, IsKept}
-use Rattle.global_book.specs.Search.{IsFoundAt, IsFoundIn}
+use Rattle.global_book.specs.Rows.{flat, place_in, its_price, IsKept}
+use Rattle.global_book.specs.Search.{IsFoundIn}
 use Rattle.global_book.proofs.Flat.{among_flat}
 use Rattle.global_book.proofs.Rowing.{some_same}
 

@@ -1,6 +1,5 @@
-use Rattle.std.proofs.Common.{◌≡◌, ◌+◌, ◌<◌, Option, Some, None, ap, sym, subst, ◌∙◌, arith}
-use Rattle.std.specs.List.{Contains}
-use Rattle.std.specs.Option.{IfSome, option_copied}
+use Rattle.std.proofs.Common.{◌<◌, Option, Some, ap, sym, subst, ◌∙◌, arith}
+use Rattle.std.specs.Option.{option_copied}
 use Rattle.price_levels.specs.declared.place.Place.{Place}
 use Rattle.access_index.specs.Owned.{is_ahead}
 use Rattle.access_index.specs.Search.{Walks, left_in}

@@ -1,4 +1,4 @@
-use Rattle.std.proofs.Common.{◌≡◌, ◌≤◌, ◌+◌}
+use Rattle.std.proofs.Common.{◌≡◌, ◌+◌}
 use Rattle.std.specs.Option.{option_copied}
 use Rattle.access_index.specs.Owned.{AreInTime, is_ahead}
 use Rattle.access_index.specs.Search.{Walks, left_in}

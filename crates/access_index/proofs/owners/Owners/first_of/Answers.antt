@@ -1,5 +1,4 @@
-use Rattle.std.proofs.Common.{List, ap, sym, subst, ◌∙◌}
-use Rattle.price_levels.specs.declared.place.Place.{Place}
+use Rattle.std.proofs.Common.{sym, subst}
 use Rattle.price_levels.specs.Ladder.{Ladder}
 use Rattle.access_index.specs.Owned.{AreInTime}
 use Rattle.access_index.proofs.owners.Owners.first_of.Goals as goal

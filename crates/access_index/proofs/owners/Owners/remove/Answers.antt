@@ -1,7 +1,6 @@
-use Rattle.std.proofs.Common.{List, ◌<◌, ◌≡◌, length, ap, sym, subst, ◌∙◌, slice_set, arith}
-use Rattle.std.specs.List.{Contains}
+use Rattle.std.proofs.Common.{List, ◌<◌, length, ap, subst, slice_set, arith}
 use Rattle.access_index.specs.Sides.{OwnRows}
-use Rattle.access_index.specs.Owned.{OwnerLoses, row_at}
+use Rattle.access_index.specs.Owned.{OwnerLoses}
 use Rattle.access_index.proofs.Rows.{bank_within, owned_changed, owner_lost}
 use Rattle.access_index.proofs.owners.Owners.remove.Goals as goal
 

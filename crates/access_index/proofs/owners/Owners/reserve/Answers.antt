@@ -1,4 +1,4 @@
-use Rattle.std.proofs.Common.{List, ◌<◌, ◌≤◌, length, ap, subst, slice_set, arith}
+use Rattle.std.proofs.Common.{List, ◌<◌, length, ap, subst, slice_set, arith}
 use Rattle.access_index.specs.Sides.{OwnRows}
 use Rattle.access_index.specs.Owned.{OwnersGrow}
 use Rattle.access_index.proofs.Rows.{owned_grown, owners_grown}

@@ -1,4 +1,4 @@
-use Rattle.std.proofs.Common.{subst, sym, ap}
+use Rattle.std.proofs.Common.{subst, sym}
 use Rattle.fx_amounts.specs.declared.side.Side.{Side}
 use Rattle.price_levels.specs.Ladder.{IsNewArrival}
 use Rattle.access_index.specs.Sides.{OwnRows, row_of}

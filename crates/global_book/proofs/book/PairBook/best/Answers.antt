@@ -1,9 +1,8 @@
-use Rattle.std.proofs.Common.{ℕ, ◌≡◌, ◌+◌, ◌≤◌, Bool, Option, None, Some, ap, sym, subst, ◌∙◌, length, arith}
+use Rattle.std.proofs.Common.{ℕ, Bool, Some, ap, sym, subst, arith}
 use Rattle.std.specs.Option.{option_copied}
 use Rattle.fx_amounts.specs.Side.{opposite}
 use Rattle.fx_rules.specs.declared.orders.Resting.{Resting}
 use Rattle.price_levels.specs.declared.place.Place.{Place}
-use Rattle.access_index.specs.Owned.{is_wanted, IsBestPlace}
 use Rattle.global_book.specs.Book.{Book, is_sought}
 use Rattle.global_book.specs.Search.{IsFoundIn}
 use Rattle.global_book.proofs.Bests.{best_listed, none_listed}

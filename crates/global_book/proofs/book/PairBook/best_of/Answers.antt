@@ -1,4 +1,4 @@
-use Rattle.std.proofs.Common.{◌≡◌, ◌+◌, ◌≤◌, Bool, Option, None, Some, ap, sym, subst, ◌∙◌, length, arith}
+use Rattle.std.proofs.Common.{Bool, Option, Some, ap, sym, subst}
 use Rattle.std.specs.Option.{option_copied}
 use Rattle.fx_amounts.specs.Side.{opposite}
 use Rattle.fx_rules.specs.declared.orders.Resting.{Resting}

@@ -23,8 +23,11 @@ add-key-requires-clause-absent c =
 
 pub insert-requires-clause-bank : goal.insert-requires-clause-bank
 insert-requires-clause-bank c =
-    omega (arith, (has_rooms c.args.self.now c.self.inside.orders c.self.inside.price_rows c.self.inside.arrival_rows.items c.args.order.bank c.args.order.side (ap (λ (b : Book). b.room) c.self.view_is) c.requires.room).bank_is,
-    c.self.invariant.count)
+    omega (
+      arith,
+      (has_rooms c.args.self.now c.self.inside.orders c.self.inside.price_rows c.self.inside.arrival_rows.items c.args.order.bank c.args.order.side (ap (λ (b : Book). b.room) c.self.view_is) c.requires.room).bank_is,
+      c.self.invariant.count,
+    )
 
 pub insert-requires-clause-room : goal.insert-requires-clause-room
 insert-requires-clause-room c =
