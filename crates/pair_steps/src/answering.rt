@@ -38,6 +38,7 @@ pub fn answer(
     requires pair { pair_of command.now ≡ Some book.now.pair }
     ensures answers { IfOk result (AnswersEach book.now lines.now weight sender.now command.now) }
 {
+    // Reading it tells that it has 64 bits.
     let _arrival = sender.arrival;
     counted_answer::<Brand>(alloc, book, lines, weight, sender, command, Blank::new(1))
 }

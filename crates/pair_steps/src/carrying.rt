@@ -79,7 +79,8 @@ fn change(book: &mut PairBook, sender: &Sender, command: &Command, outcome: &Out
         Command::Pull { .. } => {
             book.pull(sender.bank);
         }
-        Command::Line { .. } | Command::Show { .. } | Command::Book { .. } | Command::Bad { .. } => {}
+        Command::Line { .. } | Command::Show { .. } | Command::Book { .. } | Command::Bad { .. } =>
+            {}
     }
 }
 
