@@ -5,7 +5,7 @@ mod Searching
 mod Keeping
 mod Rooms
 mod Lifting
-mod Pulling
+pub mod Pulling
 mod Finding
 mod Turns
 mod Bests

@@ -23,10 +23,21 @@ pub fn carry(book: &mut PairBook, plan: &Plan)
     ensures banks { book.new.banks ≡ book.old.banks }
     ensures room { KeepsRoom book.old book.new }
 {
-    make_fills::<Brand>(book, plan.fills.as_slice(), Blank::new(1));
+    carry_fills(book, plan.fills.as_slice());
 }
 
-/// The same of these fills, with a ledger for the steps.
+/// The same of these fills, as an outcome tells them.
+pub fn carry_fills(book: &mut PairBook, fills: &[Fill])
+    ensures orders { book.new.orders ≡ carried book.old.orders fills.now }
+    ensures state { (S : State) → EachPair Rises S.orders → book.old.orders ≡ orders_in book.old.pair S.orders → book.new.orders ≡ orders_in book.old.pair (filled_all S fills.now).orders }
+    ensures pair { book.new.pair ≡ book.old.pair }
+    ensures banks { book.new.banks ≡ book.old.banks }
+    ensures room { KeepsRoom book.old book.new }
+{
+    make_fills::<Brand>(book, fills, Blank::new(1));
+}
+
+/// The same, with a ledger for the steps.
 fn make_fills<L: Ledger>(book: &mut PairBook, fills: &[Fill], blank: Blank)
     requires name { blank.name ≡ L.name }
     requires parts { blank.parts ≡ L.parts }

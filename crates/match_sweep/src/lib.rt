@@ -10,7 +10,7 @@ mod sweeping;
 mod taker;
 mod walk;
 
-pub use carrying::carry;
+pub use carrying::{carry, carry_fills};
 pub use laws::{sweeps_are_carried, turns_are_carried};
 pub use levels::first_levels;
 pub use sweeping::{SweepPlan, plan, sweep};

@@ -1,0 +1,60 @@
+-- What is found in the book is the market's answer.
+use Rattle.std.proofs.Common.{ℕ, ◌≡◌, ◌<◌, ◌^◌, Bool, List, [], ◌∷◌, find, Some, inl, inr, refl, ap, sym, subst, ◌∙◌, arith}
+use Rattle.std.proofs.lemmas.Bool.{cases_Bool, cond-true, cond-false}
+use Rattle.std.specs.List.{filter}
+use Rattle.fx_rules.specs.declared.command.Command.{Command}
+use Rattle.fx_rules.specs.declared.command.Command.TheVariants.{Cancel, Reduce, Book as BookCommand}
+use Rattle.fx_rules.specs.declared.outcome.Outcome.{Outcome}
+use Rattle.fx_rules.specs.declared.outcome.Outcome.TheVariants.{Depth}
+use Rattle.fx_rules.specs.Session.{Header}
+use Rattle.fx_rules.specs.State.{State, orders_in}
+use Rattle.fx_rules.specs.Sweep.{is_order}
+use Rattle.fx_rules.specs.Step.{IsOutcome, cancel_answer, reduce_answer}
+use Rattle.fx_rules.proofs.ListLemmas.{filter_cons_true, filter_cons_false}
+use Rattle.global_book.specs.Book.{Book, first}
+use Rattle.credit_lines.specs.Credit.{Credit}
+use Rattle.match_sweep.specs.Sweeps.{Fits}
+use Rattle.local_view.specs.LocalBook.{IsLocalBook}
+use Rattle.pair_steps.specs.declared.sender.Sender.{Sender}
+use Rattle.pair_steps.specs.Sending.{pair_of}
+use Rattle.pair_steps.specs.Answers.{AnswersEach}
+
+pub find-first : {X : Type 0} (test : X → Bool) (xs : List X) → first (filter test xs) ≡ find test xs
+find-first test [] = refl
+find-first test (x ∷ xs) =
+    elim (cases_Bool (test x)) [
+      | inl is ↦ ap (λ ys. first ys) (filter_cons_true test x xs is) ∙ sym (cond-true (test x) (Some x) (find test xs) is)
+      | inr is_not ↦ ap (λ ys. first ys) (filter_cons_false test x xs is_not) ∙ find-first test xs ∙ sym (cond-false (test x) (Some x) (find test xs) is_not)
+    ]
+
+-- a command's pair is the book's
+pub one_pair : (pair its : ℕ) → Some pair ≡ Some its → pair ≡ its
+one_pair pair its same = cc
+
+-- the orders of a book that fits are those of the command's pair
+its_orders : (h : Header) (S : State) (book : Book) (credit : Credit) (weight pair : ℕ) → Fits h S book credit weight → pair ≡ book.pair → book.orders ≡ orders_in pair S.orders
+its_orders h S book credit weight pair fits same = fits.orders ∙ ap (λ p. orders_in p S.orders) (sym same)
+
+pub cancel-answers : (book : Book) (credit : Credit) (weight : ℕ) (sender : Sender) (pair number : ℕ) (command : Command) (outcome : Outcome) → command ≡ Cancel pair number → pair_of command ≡ Some book.pair → outcome ≡ cancel_answer (first (filter (is_order sender.bank number) book.orders)) → AnswersEach book credit weight sender command outcome
+cancel-answers book credit weight sender pair number command outcome command_is pair_is is h S sound fits next =
+    let same : pair ≡ book.pair = one_pair pair book.pair (sym (ap pair_of command_is) ∙ pair_is) in
+    subst (λ (c : Command). IsOutcome h S sender.bank c outcome) (sym command_is)
+    (is ∙ ap cancel_answer (find-first (is_order sender.bank number) book.orders
+    ∙ ap (find (is_order sender.bank number)) (its_orders h S book credit weight pair fits same)))
+
+pub reduce-answers : (book : Book) (credit : Credit) (weight : ℕ) (sender : Sender) (pair number lots : ℕ) (command : Command) (outcome : Outcome) → command ≡ Reduce pair number lots → pair_of command ≡ Some book.pair → outcome ≡ reduce_answer lots (first (filter (is_order sender.bank number) book.orders)) → AnswersEach book credit weight sender command outcome
+reduce-answers book credit weight sender pair number lots command outcome command_is pair_is is h S sound fits next =
+    let same : pair ≡ book.pair = one_pair pair book.pair (sym (ap pair_of command_is) ∙ pair_is) in
+    subst (λ (c : Command). IsOutcome h S sender.bank c outcome) (sym command_is)
+    (is ∙ ap (reduce_answer lots) (find-first (is_order sender.bank number) book.orders
+    ∙ ap (find (is_order sender.bank number)) (its_orders h S book credit weight pair fits same)))
+
+book-answered : (book : Book) (credit : Credit) (weight : ℕ) (sender : Sender) (outcome : Outcome) → sender.arrival < 2 ^ 64 → IsLocalBook book credit weight sender.bank outcome → AnswersEach book credit weight sender (BookCommand book.pair) outcome
+book-answered book credit weight sender (Depth bids asks) most is h S sound fits next = is h S sound fits (omega (arith, most, next.arrival))
+book-answered book credit weight sender outcome most is h S sound fits next = absurd is
+
+pub book-answers : (book : Book) (credit : Credit) (weight : ℕ) (sender : Sender) (pair : ℕ) (command : Command) (outcome : Outcome) → sender.arrival < 2 ^ 64 → command ≡ BookCommand pair → pair_of command ≡ Some book.pair → IsLocalBook book credit weight sender.bank outcome → AnswersEach book credit weight sender command outcome
+book-answers book credit weight sender pair command outcome most command_is pair_is is =
+    let same : pair ≡ book.pair = one_pair pair book.pair (sym (ap pair_of command_is) ∙ pair_is) in
+    subst (λ (c : Command). AnswersEach book credit weight sender c outcome) (sym (command_is ∙ ap BookCommand same))
+    (book-answered book credit weight sender outcome most is)

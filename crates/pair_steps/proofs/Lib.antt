@@ -1,0 +1,3 @@
+pub mod Counted
+pub mod Answered
+pub mod Carried
