@@ -2,8 +2,8 @@
 use Rattle.std.proofs.Common.{ℕ, ◌≡◌, ◌-◌, ◌+◌, ◌*◌, ◌/◌, ◌≤◌, ◌<◌, min, true, false, leb, [], ◌∷◌, inl, inr, refl, ap, sym, subst, ◌∙◌, arith, length, get_or, slice_index, Option, Some, None, IfSome, get_or-set_other}
 use Rattle.std.proofs.Math.ListN.{set}
 use Rattle.std.proofs.Math.Nat.{le-div_iff_mul-le}
-use Rattle.std.proofs.lemmas.Bool.{cases_Bool, cases_eq, cond-true, cond-false, and_parts, and_from, both_ways, false_from_ne_true, leb-true, le-leb}
-use Rattle.std.proofs.lemmas.List.{get_or_default}
+use Rattle.std.proofs.lemmas.Bool.{cases_eq, and_parts, and_cases, and_from, both_ways, false_from_ne_true, leb-true, le-leb}
+use Rattle.fx_amounts.specs.declared.side.Side.{Side}
 use Rattle.fx_amounts.specs.Price.{crosses}
 use Rattle.fx_amounts.specs.Quantity.{IsWeight}
 use Rattle.fx_rules.specs.declared.orders.Resting.{Resting}
@@ -16,81 +16,71 @@ use Rattle.fx_rules.proofs.Preference.{preferred_self, preferred_trans}
 use Rattle.price_levels.specs.declared.place.Place.{Place}
 use Rattle.global_book.specs.Book.{Book, IsBook, IsHeld, IsPlaceOf}
 use Rattle.match_sweep.specs.declared.walk.Walk.{Walk}
-use Rattle.match_sweep.specs.Heads.{IsFound, to_come, AreHeads, preferred_of}
-use Rattle.match_sweep.specs.Walks.{FromHere, LeadsOn, StepsOn, IsReady, IsRenewed, IsTakable, IsPicked, Takes, may_take, head_of, last_of, reach_of, steps_behind}
+use Rattle.match_sweep.specs.Heads.{IsFound, to_come, AreHeads}
+use Rattle.match_sweep.specs.Walks.{FromHere, LeadsOn, StepsOn, IsReady, IsRenewed, IsPicked, Takes, IsPickedAt, may_take, may_take_head, is_ahead, leads, head_of, last_of, reach_of, steps_behind}
 use Rattle.match_sweep.proofs.Tables.{none-kept}
 use Rattle.match_sweep.proofs.Planning.{walk-step, within_table}
 use Rattle.match_sweep.proofs.Picking.{Picks, picked-best, picked-none, heads-stay, among_to_come}
 
--- The best of the heads, when one more is looked at.
+-- The best of the banks, when one more is looked at.
 
-takable-more : (walk : Walk) (n : ℕ) (best : Resting × Place) → IsTakable walk n best → IsTakable walk (n + 1) best
-takable-more walk n best is = record { at = is.at; within = omega (arith, is.within); is = is.is; may = is.may }
+ahead_self : (side : Side) (a : Option (Resting × Place)) → is_ahead side a a ≡ false
+ahead_self side None = refl
+ahead_self side (Some head) = false_from_ne_true (is_preferred side head.0 head.0) (preferred_self side head.0)
 
-pick-more : (walk : Walk) (n : ℕ) (best : Option (Resting × Place)) → IsPicked walk n best → ((head : Resting × Place) → head_of walk n ≡ Some head → may_take walk n head.0 ≡ false) → IsPicked walk (n + 1) best
-pick-more walk n None picked none =
-    λ bank head below is. elim (cases_eq bank n) [
-      | inl same ↦ subst (λ (b : ℕ). may_take walk b head.0 ≡ false) (sym same) (none head (ap (head_of walk) (sym same) ∙ is))
-      | inr other ↦ picked bank head (omega (arith, below, other)) is
-    ]
-pick-more walk n (Some best) picked none = (
-  takable-more walk n best picked.0,
-  λ bank head below is may. elim (cases_eq bank n) [
-    | inl same ↦ absurd (both_ways (may_take walk n head.0) (none head (ap (head_of walk) (sym same) ∙ is)) (subst (λ (b : ℕ). may_take walk b head.0 ≡ true) same may))
-    | inr other ↦ picked.1 bank head (omega (arith, below, other)) is may
+ahead_trans : (side : Side) (a b c : Option (Resting × Place)) → is_ahead side a b ≡ true → is_ahead side b c ≡ true → is_ahead side a c ≡ true
+ahead_trans side (Some a) (Some b) (Some c) first second = preferred_trans side a.0 b.0 c.0 first second
+ahead_trans side None b c first second = absurd (cc)
+ahead_trans side (Some a) None c first second = absurd (cc)
+ahead_trans side (Some a) (Some b) None first second = absurd (cc)
+
+not_ahead_self : (walk : Walk) (n bank : ℕ) → bank ≡ n → is_ahead walk.order.side (head_of walk bank) (head_of walk n) ≡ false
+not_ahead_self walk n bank same =
+    subst (λ (b : ℕ). is_ahead walk.order.side (head_of walk b) (head_of walk n) ≡ false) (sym same) (ahead_self walk.order.side (head_of walk n))
+
+-- the next bank leads
+pub picked-lead : (walk : Walk) (n : ℕ) (best : Option ℕ) → IsPickedAt walk n best → leads walk n best ≡ true → IsPickedAt walk (n + 1) (Some n)
+picked-lead walk n None picked lead = (
+  omega arith,
+  lead,
+  λ bank below may. elim (cases_eq bank n) [
+    | inl same ↦ not_ahead_self walk n bank same
+    | inr other ↦ absurd (both_ways (may_take_head walk bank (head_of walk bank)) (picked bank (omega (arith, below, other))) may)
   ],
 )
+picked-lead walk n (Some best) picked lead =
+    let side : Side = walk.order.side in
+    let parts = and_parts (may_take_head walk n (head_of walk n)) (is_ahead side (head_of walk n) (head_of walk best)) lead in (
+      omega arith,
+      parts.0,
+      λ bank below may. elim (cases_eq bank n) [
+        | inl same ↦ not_ahead_self walk n bank same
+        | inr other ↦ false_from_ne_true (is_ahead side (head_of walk bank) (head_of walk n)) (λ above.
+            both_ways (is_ahead side (head_of walk bank) (head_of walk best)) (picked.2 bank (omega (arith, below, other)) may)
+            (ahead_trans side (head_of walk bank) (head_of walk n) (head_of walk best) above parts.1))
+      ],
+    )
 
-same_head : (walk : Walk) (n bank : ℕ) (head other : Resting × Place) → bank ≡ n → head_of walk n ≡ Some head → head_of walk bank ≡ Some other → other ≡ head
-same_head walk n bank head other same is other_is = let both : Some other ≡ Some head = sym other_is ∙ ap (head_of walk) same ∙ is in cc
-
-not_self : (walk : Walk) (head other : Resting × Place) → other ≡ head → is_preferred walk.order.side other.0 head.0 ≡ false
-not_self walk head other same =
-    subst (λ (q : Resting × Place). is_preferred walk.order.side q.0 head.0 ≡ false) (sym same)
-    (false_from_ne_true (is_preferred walk.order.side head.0 head.0) (preferred_self walk.order.side head.0))
-
--- what is read of the table of heads is a bank's head
-pub head_read : (walk : Walk) (n : ℕ) (other head : Option (Resting × Place)) → n < length walk.heads → get_or walk.heads n other ≡ head → head_of walk n ≡ head
-head_read walk n other head within is = get_or_default walk.heads n None other within ∙ is
-
-pub pick-none : (walk : Walk) (n : ℕ) (best : Option (Resting × Place)) → IsPicked walk n best → head_of walk n ≡ None → IsPicked walk (n + 1) best
-pick-none walk n best picked none =
-    pick-more walk n best picked (λ head is. absurd (let both : None ≡ Some head = sym none ∙ is in cc))
-
-pub pick-no : (walk : Walk) (n : ℕ) (best : Option (Resting × Place)) (head : Resting × Place) → IsPicked walk n best → head_of walk n ≡ Some head → may_take walk n head.0 ≡ false → IsPicked walk (n + 1) best
-pick-no walk n best head picked is may_not =
-    pick-more walk n best picked
-    (λ other other_is. subst (λ (q : Resting × Place). may_take walk n q.0 ≡ false) (sym (same_head walk n n head other refl is other_is)) may_not)
-
-pub pick-yes : (walk : Walk) (n : ℕ) (best : Option (Resting × Place)) (head : Resting × Place) → IsPicked walk n best → head_of walk n ≡ Some head → may_take walk n head.0 ≡ true → IsPicked walk (n + 1) (Some (preferred_of walk.order.side best head))
-pick-yes walk n None head picked is may = (
-  record { at = n; within = omega arith; is = is; may = may },
-  λ bank other below other_is other_may. elim (cases_eq bank n) [
-    | inl same ↦ not_self walk head other (same_head walk n bank head other same is other_is)
-    | inr differ ↦ absurd (both_ways (may_take walk bank other.0) (picked bank other (omega (arith, below, differ)) other_is) other_may)
+-- it does not
+pub picked-stay : (walk : Walk) (n : ℕ) (best : Option ℕ) → IsPickedAt walk n best → leads walk n best ≡ false → IsPickedAt walk (n + 1) best
+picked-stay walk n None picked stay =
+    λ bank below. elim (cases_eq bank n) [
+      | inl same ↦ subst (λ (b : ℕ). may_take_head walk b (head_of walk b) ≡ false) (sym same) stay
+      | inr other ↦ picked bank (omega (arith, below, other))
+    ]
+picked-stay walk n (Some best) picked stay = (
+  omega (arith, picked.0),
+  picked.1,
+  λ bank below may. elim (cases_eq bank n) [
+    | inl same ↦
+        subst (λ (b : ℕ). is_ahead walk.order.side (head_of walk b) (head_of walk best) ≡ false) (sym same)
+        (elim (and_cases (may_take_head walk n (head_of walk n)) (is_ahead walk.order.side (head_of walk n) (head_of walk best)) stay) [
+          | inl not_taken ↦ absurd (both_ways (may_take_head walk n (head_of walk n)) not_taken (subst (λ (b : ℕ). may_take_head walk b (head_of walk b) ≡ true) same may))
+          | inr behind ↦ behind
+        ])
+    | inr other ↦ picked.2 bank (omega (arith, below, other)) may
   ],
 )
-pick-yes walk n (Some best) head picked is may =
-    elim (cases_Bool (is_preferred walk.order.side head.0 best.0)) [
-      | inl before ↦
-          subst (λ (q : Resting × Place). IsPicked walk (n + 1) (Some q)) (sym (cond-true (is_preferred walk.order.side head.0 best.0) head best before)) (
-            record { at = n; within = omega arith; is = is; may = may },
-            λ bank other below other_is other_may. elim (cases_eq bank n) [
-              | inl same ↦ not_self walk head other (same_head walk n bank head other same is other_is)
-              | inr differ ↦ false_from_ne_true (is_preferred walk.order.side other.0 head.0) (λ above.
-                  both_ways (is_preferred walk.order.side other.0 best.0) (picked.1 bank other (omega (arith, below, differ)) other_is other_may)
-                  (preferred_trans walk.order.side other.0 head.0 best.0 above before))
-            ],
-          )
-      | inr behind ↦
-          subst (λ (q : Resting × Place). IsPicked walk (n + 1) (Some q)) (sym (cond-false (is_preferred walk.order.side head.0 best.0) head best behind)) (
-            takable-more walk n best picked.0,
-            λ bank other below other_is other_may. elim (cases_eq bank n) [
-              | inl same ↦ subst (λ (q : Resting × Place). is_preferred walk.order.side q.0 best.0 ≡ false) (sym (same_head walk n bank head other same is other_is)) behind
-              | inr differ ↦ picked.1 bank other (omega (arith, below, differ)) other_is other_may
-            ],
-          )
-    ]
 
 -- A walk with all its heads.
 

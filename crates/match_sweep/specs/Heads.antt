@@ -1,10 +1,10 @@
 -- The orders of each bank that a sweep may still come to, the best of them first. All of this is for this crate's own functions,
 -- which plan.
-use Rattle.std.specs.Prelude.{ℕ, ◌≡◌, ◌≤◌, ◌<◌, Bool, ◌&&◌, nat_lt, if◌then◌else◌, List, [], filter, Option, Some, None}
+use Rattle.std.specs.Prelude.{ℕ, ◌≡◌, ◌≤◌, ◌<◌, Bool, ◌&&◌, nat_lt, List, [], filter, Option, Some, None}
 use Rattle.fx_amounts.specs.declared.side.Side.{Side}
 use Rattle.fx_rules.specs.declared.orders.Resting.{Resting}
 use Rattle.fx_rules.specs.Lists.{Each}
-use Rattle.fx_rules.specs.Sweep.{Taker, is_opposite, is_preferred, IsBest}
+use Rattle.fx_rules.specs.Sweep.{Taker, is_opposite, IsBest}
 use Rattle.fx_rules.specs.Plan.{is_behind}
 use Rattle.price_levels.specs.declared.place.Place.{Place}
 use Rattle.global_book.specs.Book.{is_of, IsPlaceOf}
@@ -27,11 +27,6 @@ to_come t bank last orders = filter (is_to_come t bank last) orders
 abbrev pub AreHeads : (ℕ → ℕ) → Taker → Option Resting → List Resting → ℕ → (ℕ → Option (Resting × Place)) → Type 0
 AreHeads reaches t last orders banks heads =
     (bank : ℕ) → bank < banks → 1 ≤ reaches bank → IsFound t.side (to_come t bank last orders) (heads bank)
-
--- the head that a taker of this side prefers, of the best so far and the next one
-abbrev pub preferred_of : Side → Option (Resting × Place) → Resting × Place → Resting × Place
-preferred_of side None next = next
-preferred_of side (Some best) next = if is_preferred side next.0 best.0 then next else best
 
 -- every order arrived before this
 abbrev pub CameBefore : List Resting → ℕ → Type 0

@@ -1,6 +1,7 @@
 -- A sweep as it goes, from one best order to the next, over a pair's book. All of this is for this crate's own functions,
 -- which plan.
 use Rattle.std.specs.Prelude.{ℕ, ◌≡◌, ◌≢◌, ◌≤◌, ◌<◌, ◌-◌, ◌*◌, ◌/◌, ◌^◌, Bool, true, false, ◌&&◌, nat_le, List, [], ◌∷◌, Option, Some, None, IfSome, slice_index, slice_index_or, slice_set, option_map}
+use Rattle.fx_amounts.specs.declared.side.Side.{Side}
 use Rattle.fx_amounts.specs.Price.{crosses}
 use Rattle.fx_amounts.specs.Quantity.{IsWeight}
 use Rattle.fx_rules.specs.declared.orders.Fill.{Fill}
@@ -83,6 +84,30 @@ IsPicked walk banks (Some best) =
     IsTakable walk banks best
     × ((bank : ℕ) (head : Resting × Place) → bank < banks → head_of walk bank ≡ Some head → may_take walk bank head.0 ≡ true →
     is_preferred walk.order.side head.0 best.0 ≡ false)
+
+-- The best is looked for by the numbers of banks: a bank has a head that may be taken, one head is preferred to another, and a
+-- bank's head is the best of all so far.
+
+abbrev pub may_take_head : Walk → ℕ → Option (Resting × Place) → Bool
+may_take_head walk bank None = false
+may_take_head walk bank (Some head) = may_take walk bank head.0
+
+abbrev pub is_ahead : Side → Option (Resting × Place) → Option (Resting × Place) → Bool
+is_ahead side (Some head) (Some other) = is_preferred side head.0 other.0
+is_ahead side _ _ = false
+
+abbrev pub leads : Walk → ℕ → Option ℕ → Bool
+leads walk bank None = may_take_head walk bank (head_of walk bank)
+leads walk bank (Some best) =
+    may_take_head walk bank (head_of walk bank) && is_ahead walk.order.side (head_of walk bank) (head_of walk best)
+
+-- the bank, of so many, with the best of the heads that may be taken, or there is none
+abbrev pub IsPickedAt : Walk → ℕ → Option ℕ → Type 0
+IsPickedAt walk banks None = (bank : ℕ) → bank < banks → may_take_head walk bank (head_of walk bank) ≡ false
+IsPickedAt walk banks (Some best) =
+    (best < banks) × (may_take_head walk best (head_of walk best) ≡ true)
+    × ((bank : ℕ) → bank < banks → may_take_head walk bank (head_of walk bank) ≡ true →
+    is_ahead walk.order.side (head_of walk bank) (head_of walk best) ≡ false)
 
 -- an order is taken: of its lots as many as are wanted and as the line pays for
 pub record Takes (old new : Walk) (found : Resting × Place) (fill : Fill) : Type 0 where

@@ -3,7 +3,7 @@ ghost use Rattle.std.specs.Option.{option_copied, option_map};
 ghost use Rattle.fx_amounts.specs.Quantity.{IsWeight};
 ghost use Rattle.fx_rules.specs.Sweep.{is_preferred};
 ghost use Rattle.global_book.specs.Book.{standing_at};
-ghost use Rattle.match_sweep.specs.Heads.{AreHeads, CameBefore, IsFound, preferred_of, to_come};
+ghost use Rattle.match_sweep.specs.Heads.{AreHeads, CameBefore, IsFound, to_come};
 
 use fx_amounts::{BankId, Side};
 use fx_rules::{Resting, SweptOrder};
@@ -70,7 +70,7 @@ pub(crate) fn first_heads<L: Ledger>(
 }
 
 /// Whether a taker of `side` prefers the first order: its price is better, or the same and it arrived earlier.
-fn is_preferred(side: Side, order: &Resting, other: &Resting) -> bool
+pub(crate) fn is_preferred(side: Side, order: &Resting, other: &Resting) -> bool
     ensures value { result ≡ is_preferred side order.now other.now }
 {
     let is_better = match side {
@@ -78,18 +78,4 @@ fn is_preferred(side: Side, order: &Resting, other: &Resting) -> bool
         Side::Sell => order.price > other.price,
     };
     is_better || (order.price == other.price && order.arrival < other.arrival)
-}
-
-/// The head that a taker of `side` prefers, of the best so far and the next one.
-pub(crate) fn preferred(
-    side: Side,
-    best: Option<(Resting, Place)>,
-    next: (Resting, Place),
-) -> (Resting, Place)
-    ensures value { result ≡ preferred_of side best next }
-{
-    match best {
-        Some(best) if !is_preferred(side, &next.0, &best.0) => best,
-        _ => next,
-    }
 }

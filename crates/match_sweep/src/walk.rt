@@ -1,11 +1,11 @@
-ghost use Rattle.std.specs.Prelude.{ℕ, ◌≡◌, ◌≢◌, ◌≤◌, ◌<◌, ◌+◌, ◌*◌, ◌^◌, slice_index};
+ghost use Rattle.std.specs.Prelude.{ℕ, ◌≡◌, ◌≢◌, ◌≤◌, ◌<◌, ◌+◌, ◌*◌, ◌^◌, slice_index, IfSome};
 ghost use Rattle.fx_amounts.specs.Quantity.{IsWeight};
 ghost use Rattle.fx_rules.specs.Lists.{total};
 ghost use Rattle.credit_lines.specs.Credit.{line_in};
 ghost use Rattle.match_sweep.specs.Heads.{CameBefore};
-ghost use Rattle.match_sweep.specs.Walks.{Begins, IsPicked, IsReady, IsRenewed, StepsOn, Takes, may_take, steps_behind};
+ghost use Rattle.match_sweep.specs.Walks.{Begins, IsPicked, IsReady, IsRenewed, StepsOn, Takes, head_of, is_ahead, leads, may_take_head, steps_behind};
 
-use crate::heads::{first_heads, head_behind, preferred};
+use crate::heads::{first_heads, head_behind, is_preferred};
 use credit_lines::CreditLines;
 use fx_amounts::BankId;
 use fx_rules::{Fill, Resting, SweptOrder};
@@ -93,13 +93,40 @@ impl Walk {
         }
     }
 
-    /// Whether the head of the bank of this number may be taken: the line pays for a lot, and the order takes its price.
-    fn may_take(&self, number: usize, head: &Resting) -> bool
+    /// Whether the bank of this number has a head that may be taken: the line pays for a lot, and the order takes its price.
+    fn may_take(&self, number: usize) -> bool
         requires { number < 64 }
-        ensures value { result ≡ may_take self.now number head.now }
+        ensures value { result ≡ may_take_head self.now number (head_of self.now number) }
     {
+        let Some((head, _)) = self.heads[number] else {
+            return false;
+        };
         self.lines[number] >= u64::from(self.weight)
             && self.order.price.crosses(head.price, self.order.side)
+    }
+
+    /// Whether the order prefers the head of the first bank to that of the second.
+    fn is_ahead(&self, number: usize, other: usize) -> bool
+        requires first { number < 64 }
+        requires second { other < 64 }
+        ensures value { result ≡ is_ahead self.now.order.side (head_of self.now number) (head_of self.now other) }
+    {
+        let (Some((head, _)), Some((other, _))) = (self.heads[number], self.heads[other]) else {
+            return false;
+        };
+        is_preferred(self.order.side, &head, &other)
+    }
+
+    /// Whether the head of the bank of this number may be taken, and is preferred to that of the best bank so far.
+    fn leads(&self, number: usize, best: Option<usize>) -> bool
+        requires number { number < 64 }
+        requires best { IfSome best (λ at. at < 64) }
+        ensures value { result ≡ leads self.now number best }
+    {
+        match best {
+            Some(best) => self.may_take(number) && self.is_ahead(number, best),
+            None => self.may_take(number),
+        }
     }
 
     /// The best of the heads of so many banks that may be taken.
@@ -109,13 +136,11 @@ impl Walk {
     {
         let mut best = None;
         for number in 0..banks {
-            if let Some(head) = self.heads[number] {
-                if self.may_take(number, &head.0) {
-                    best = Some(preferred(self.order.side, best, head));
-                }
+            if self.leads(number, best) {
+                best = Some(number);
             }
         }
-        best
+        self.heads[best?]
     }
 
     /// Takes an order, with whose bank the line pays for a lot.
