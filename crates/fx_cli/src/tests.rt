@@ -307,7 +307,14 @@ fn other_words(rt: HostRuntime) -> Result<(), Fail> {
         expect(&rt, &["run", "--workers", count], input, 64, &NONE, &usage)?;
     }
     for banks in ["1", "65"] {
-        expect(&rt, &["load", "7", banks, "4", "10"], input, 64, &NONE, &usage)?;
+        expect(
+            &rt,
+            &["load", "7", banks, "4", "10"],
+            input,
+            64,
+            &NONE,
+            &usage,
+        )?;
     }
     // Standard error that fails changes no status.
     let fails = Fails { err: &[1], ..NONE };

@@ -66,13 +66,15 @@ fn follow<R: AllocGlobal + Threads + Wait + Sync, S: Source, K: Sink, G: Gate + 
         Ok(Task::Run { workers }) => run(rt, workers, source, out, gate),
         Ok(Task::Serial) => serial(rt.alloc(), source, out),
         Ok(Task::Check) => check(rt.alloc(), source, out),
-        Ok(Task::Load {
-            seed,
-            banks,
-            pairs,
-            commands,
-            workers,
-        }) => load(rt, seed, banks, pairs, commands, workers, out, gate),
+        Ok(
+            Task::Load {
+                seed,
+                banks,
+                pairs,
+                commands,
+                workers,
+            },
+        ) => load(rt, seed, banks, pairs, commands, workers, out, gate),
         Err(WordsFault::Usage) => Status::Usage,
         Err(WordsFault::Memory) => Status::Memory,
     }

@@ -95,7 +95,7 @@ fn a_load_of_two_commands(rt: HostRuntime) -> Result<(), Fail> {
     };
     let status = fx_main(&rt, &words, &mut source, &mut out, &mut err, &gate);
     assert!(&rt; status.code() == 0);
-    assert!(&rt; out.written() == b"LOAD 1 2 1 2\nSERIAL 2 1 8 1\nTHREADS 2 YES\n");
+    assert!(&rt; out.written() == b"LOAD 1 2 1 2\nSERIAL 2 1 8 1\nTHREADS 2 YES\n".as_slice());
     assert!(&rt; gate.asked.load(SeqCst) == 4);
     Ok(())
 }
