@@ -5,6 +5,7 @@ pub mod Walking
 pub mod Apart
 pub mod Meeting
 pub mod Paying
-pub mod Raising
+pub mod Raised
 pub mod Going
 pub mod Quiet
+pub mod Pairs

@@ -19,7 +19,7 @@ use Rattle.credit_raise.specs.Two.{is_of_two_from, turns}
 use Rattle.credit_raise.specs.Playing.{only, other_of, joined, Played}
 use Rattle.credit_raise.specs.Prices.{IsOf, IsTop, AreBelow, AreEarly, AreApart}
 use Rattle.credit_raise.proofs.Looking.{reached_is}
-use Rattle.credit_raise.proofs.Raising.{turns-owners}
+use Rattle.credit_raise.proofs.Raised.{turns-owners}
 
 -- no order of these can take another of the other bank
 abbrev pub AreQuiet : ℕ → ℕ → ℕ → ℕ → List Resting → Type 0

@@ -1,11 +1,14 @@
-//! What a raised line between two banks brings together in one pair, planned from the two banks' orders alone.
+//! What a raised line between two banks brings together: in one pair, planned from the two banks' orders alone, and from pair to
+//! pair.
 #![tactic(auto)]
 
+mod all_pairs;
 mod laws;
 mod prices;
 mod raise;
 mod replay;
 mod walk;
 
+pub use all_pairs::Raising;
 pub use laws::{limits_set_others_apart, raises_begin, raises_go_on, two_banks_turn};
 pub use raise::plan_raise;

@@ -5,7 +5,7 @@ use Rattle.fx_rules.specs.Lists.{Each}
 use Rattle.fx_rules.specs.Raise.{Turned}
 use Rattle.credit_raise.specs.Two.{IsFillOf, lots_of, turns}
 use Rattle.credit_raise.proofs.Paying.{played-cost, played-parties}
-use Rattle.credit_raise.proofs.Raising.{raised-turned, turns-owners}
+use Rattle.credit_raise.proofs.Raised.{raised-turned, turns-owners}
 use Rattle.credit_raise.proofs.raise.plan_raise.Goals as goal
 
 pub returns-clause-fills : goal.returns-clause-fills
