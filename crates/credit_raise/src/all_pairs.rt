@@ -220,7 +220,11 @@ fn greater(asked: Units, used: Units) -> Units
     ensures value { result ≡ max asked used }
     ensures units { IsUnits asked }
 {
-    if asked.get() < used.get() { used } else { asked }
+    if asked.get() < used.get() {
+        used
+    } else {
+        asked
+    }
 }
 
 /// What is left of so many credit units once so many are used; none where more are.
