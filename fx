@@ -70,7 +70,7 @@ def run_checked(words):
         err.seek(0)
         wrote, said = out.read(), err.read()
     # The toolchain's own lines stand behind what the program wrote on standard error.
-    ended = re.search(rb"(?:^(?:interpreter|checked): .*\n)*^run=ended status=(\d+) .*\n\Z", said, re.M)
+    ended = re.search(rb"(?:^(?:interpreter|checked|races): .*\n)*^run=ended status=(\d+) .*\n\Z", said, re.M)
     sys.stderr.buffer.write(said[: ended.start()] if ended else said)
     sys.stderr.flush()
     if ended and len(wrote) < MOST_BYTES:

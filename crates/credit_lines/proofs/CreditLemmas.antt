@@ -4,7 +4,7 @@ use Rattle.std.proofs.lemmas.Bool.{cases_eq}
 use Rattle.std.proofs.lemmas.List.{length-set, get_or-set_same, get_or-set_other}
 use Rattle.std.proofs.lemmas.Nat.{mul-add-lt, same_from_place, mul-le, div-add-mod'}
 use Rattle.fx_amounts.specs.Quantity.{IsUnits}
-use Rattle.credit_lines.specs.Credit.{Credit, place, shared_place, limit_in, used_in, line_in, reach_in, taken, limited, IsCredit, AreLines}
+use Rattle.credit_lines.specs.Credit.{Credit, place, shared_place, limit_in, used_in, line_in, reach_in, lined, taken, limited, IsCredit, AreLines}
 
 pub place_below : (banks i j : ℕ) → i < banks → j < banks → place banks i j < banks * banks
 place_below banks i j first second = mul-add-lt i banks j banks first second
@@ -50,18 +50,34 @@ same_banks i j a b =
       | inr other ↦ inr (λ same _. other same)
     ]
 
--- what two banks have in common, where the cell of one place changes
-cell_changed : (banks : ℕ) (old new : ℕ → ℕ → ℕ) (cells : List ℕ) (i j cell : ℕ) → length cells ≡ banks * banks → i < banks → j < banks
-    → ((a b : ℕ) → a < banks → b < banks → get_or cells (shared_place banks a b) 0 ≡ old a b)
+-- a table of what each two banks have in common, in the rows of both, where that of two banks changes
+lined-changed : (banks : ℕ) (old new : ℕ → ℕ → ℕ) (cells : List ℕ) (i j cell : ℕ) → length cells ≡ banks * banks → i < banks → j < banks
+    → ((a b : ℕ) → a < banks → b < banks → get_or cells (place banks a b) 0 ≡ old a b)
     → cell ≡ new i j → cell ≡ new j i → ((a b : ℕ) → a < banks → b < banks → shared_place banks a b ≢ shared_place banks i j → new a b ≡ old a b)
-    → (a b : ℕ) → a < banks → b < banks → get_or (set cells (shared_place banks i j) cell) (shared_place banks a b) 0 ≡ new a b
-cell_changed banks old new cells i j cell full p q before here back others a b r s =
-    let now : ℕ → ℕ = λ at. get_or (set cells (shared_place banks i j) cell) at 0 in
-    let there : now (shared_place banks i j) ≡ cell = get_or-set_same cells (shared_place banks i j) cell 0 (omega (arith, full, shared_below banks i j p q)) in
-    elim (cases_eq (shared_place banks a b) (shared_place banks i j)) [
-      | inl same ↦ at_two (λ x y. now (shared_place banks x y) ≡ new x y) banks i j a b p q r s (there ∙ here) (ap now (shared_place-swap banks j i) ∙ there ∙ back) same
-      | inr other ↦ get_or-set_other cells (shared_place banks i j) (shared_place banks a b) cell 0 other ∙ before a b r s ∙ sym (others a b r s other)
+    → (a b : ℕ) → a < banks → b < banks → get_or (lined banks cells i j cell) (place banks a b) 0 ≡ new a b
+lined-changed banks old new cells i j cell full p q before here back others a b r s =
+    let first : List ℕ = set cells (place banks i j) cell in
+    elim (same_banks j i a b) [
+      | inl turned ↦
+          subst (λ x. get_or (lined banks cells i j cell) (place banks x b) 0 ≡ new x b) (sym turned.0)
+          (subst (λ y. get_or (lined banks cells i j cell) (place banks j y) 0 ≡ new j y) (sym turned.1)
+          (get_or-set_same first (place banks j i) cell 0 (omega (arith, full, length-set cells (place banks i j) cell, place_below banks j i q p)) ∙ back))
+      | inr not_turned ↦
+          get_or-set_other first (place banks j i) (place banks a b) cell 0 (place_apart banks j i a b p s not_turned)
+          ∙ elim (same_banks i j a b) [
+            | inl named ↦
+                subst (λ x. get_or first (place banks x b) 0 ≡ new x b) (sym named.0)
+                (subst (λ y. get_or first (place banks i y) 0 ≡ new i y) (sym named.1)
+                (get_or-set_same cells (place banks i j) cell 0 (omega (arith, full, place_below banks i j p q)) ∙ here))
+            | inr not_named ↦
+                let apart : shared_place banks a b ≢ shared_place banks i j = λ same.
+                elim (same_two banks i j a b p q r s same) [ inl as_named ↦ not_named as_named.0 as_named.1 | inr turned ↦ not_turned turned.0 turned.1 ] in
+                get_or-set_other cells (place banks i j) (place banks a b) cell 0 (place_apart banks i j a b q s not_named) ∙ before a b r s ∙ sym (others a b r s apart)
+          ]
     ]
+
+length-lined : (banks : ℕ) (cells : List ℕ) (i j cell : ℕ) → length (lined banks cells i j cell) ≡ length cells
+length-lined banks cells i j cell = length-set (set cells (place banks i j) cell) (place banks j i) cell ∙ length-set cells (place banks i j) cell
 
 pub used_in-swap : (c : Credit) (i j : ℕ) → used_in c i j ≡ used_in c j i
 used_in-swap c i j = ap (λ at. get_or c.uses at 0) (shared_place-swap c.banks i j)
@@ -126,12 +142,12 @@ line_in-taken_same c i j units valid p q =
 pub line_in-taken_other : (c : Credit) (i j units a b : ℕ) → shared_place c.banks a b ≢ shared_place c.banks i j → line_in (taken c i j units) a b ≡ line_in c a b
 line_in-taken_other c i j units a b other = ap (λ u. min (limit_in c a b) (limit_in c b a) - u) (used_in-taken_other c i j units a b other)
 
-pub AreLines-taken : (c : Credit) (lines : List ℕ) (i j units : ℕ) → IsCredit c → AreLines c lines → i < c.banks → j < c.banks → AreLines (taken c i j units) (set lines (shared_place c.banks i j) (line_in c i j - units))
+pub AreLines-taken : (c : Credit) (lines : List ℕ) (i j units : ℕ) → IsCredit c → AreLines c lines → i < c.banks → j < c.banks → AreLines (taken c i j units) (lined c.banks lines i j (line_in c i j - units))
 AreLines-taken c lines i j units valid are p q =
     let here : line_in c i j - units ≡ line_in (taken c i j units) i j = sym (line_in-taken_same c i j units valid p q) in
     record {
-      full = length-set lines (shared_place c.banks i j) (line_in c i j - units) ∙ are.full;
-      lines_are = cell_changed c.banks (line_in c) (line_in (taken c i j units)) lines i j (line_in c i j - units) are.full p q are.lines_are
+      full = length-lined c.banks lines i j (line_in c i j - units) ∙ are.full;
+      lines_are = lined-changed c.banks (line_in c) (line_in (taken c i j units)) lines i j (line_in c i j - units) are.full p q are.lines_are
           here (here ∙ line_in-swap (taken c i j units) i j) (λ a b r s. line_in-taken_other c i j units a b);
     }
 
@@ -179,12 +195,12 @@ line_in-limited_other c i j limit a b q r s other =
     limit_in-limited_other c i j limit b a q r (λ first second. other (shared_place-swap c.banks a b ∙ ap (λ x. shared_place c.banks x a) first ∙ ap (λ y. shared_place c.banks i y) second)) in
     omega arith
 
-pub AreLines-limited : (c : Credit) (lines : List ℕ) (i j limit : ℕ) → IsCredit c → AreLines c lines → i < c.banks → j < c.banks → i ≢ j → AreLines (limited c i j limit) (set lines (shared_place c.banks i j) (min limit (limit_in c j i) - used_in c i j))
+pub AreLines-limited : (c : Credit) (lines : List ℕ) (i j limit : ℕ) → IsCredit c → AreLines c lines → i < c.banks → j < c.banks → i ≢ j → AreLines (limited c i j limit) (lined c.banks lines i j (min limit (limit_in c j i) - used_in c i j))
 AreLines-limited c lines i j limit valid are p q differ =
     let line : ℕ = min limit (limit_in c j i) - used_in c i j in
     let here : min limit (limit_in c j i) - used_in c i j ≡ line_in (limited c i j limit) i j = sym (line_in-limited_same c i j limit valid p q differ) in
     record {
-      full = length-set lines (shared_place c.banks i j) line ∙ are.full;
-      lines_are = cell_changed c.banks (line_in c) (line_in (limited c i j limit)) lines i j line are.full p q are.lines_are
+      full = length-lined c.banks lines i j line ∙ are.full;
+      lines_are = lined-changed c.banks (line_in c) (line_in (limited c i j limit)) lines i j line are.full p q are.lines_are
           here (here ∙ line_in-swap (limited c i j limit) i j) (λ a b. line_in-limited_other c i j limit a b q);
     }

@@ -1,6 +1,5 @@
 -- The credit with which a session opens.
-use Rattle.std.proofs.Common.{ℕ, ◌≡◌, ◌+◌, ◌*◌, ◌/◌, ◌%◌, ◌≤◌, ◌<◌, min, max, List, [], ◌∷◌, ◌++◌, length, get_or, inl, inr, ap, sym, subst, ◌∙◌, arith, below_more}
-use Rattle.std.proofs.lemmas.Bool.{cases_lt}
+use Rattle.std.proofs.Common.{ℕ, ◌≡◌, ◌+◌, ◌*◌, ◌/◌, ◌%◌, ◌≤◌, ◌<◌, min, List, [], ◌∷◌, ◌++◌, length, get_or, ap, sym, subst, ◌∙◌, arith, below_more}
 use Rattle.std.proofs.lemmas.List.{get_or_append_left, get_or_push, length-replicate, get_or-replicate}
 use Rattle.std.proofs.lemmas.Nat.{div-mul-add, mod-mul-add}
 use Rattle.fx_rules.specs.Session.{Header, IsSession, bank_count, opening_limit}
@@ -37,34 +36,16 @@ opening_more h banks at value i j first second old new count pushed is_value is_
     (λ k below. ap (λ (xs : List ℕ). get_or xs k 0) pushed ∙ get_or_append_left old (value ∷ []) 0 k (omega arith) ∙ before k below)
     (ap (λ (xs : List ℕ). get_or xs at 0) pushed ∙ get_or_push old value 0 at count ∙ last)
 
--- the lesser of two limits, whichever bank is named first
-lesser_either : (h : Header) (i j : ℕ) → min (opening_limit h (min i j) (max i j)) (opening_limit h (max i j) (min i j)) ≡ min (opening_limit h i j) (opening_limit h j i)
-lesser_either h i j =
-    let F : ℕ → ℕ → ℕ = λ x y. min (opening_limit h x y) (opening_limit h y x) in
-    elim (cases_lt j i) [
-      | inl above ↦
-          let lower : min i j ≡ j = omega arith in
-          let higher : max i j ≡ i = omega arith in
-          let turned : min (opening_limit h j i) (opening_limit h i j) ≡ min (opening_limit h i j) (opening_limit h j i) = omega arith in
-          ap (λ x. F x (max i j)) lower ∙ ap (F j) higher ∙ turned
-      | inr upto ↦
-          let lower : min i j ≡ i = omega arith in
-          let higher : max i j ≡ j = omega arith in
-          ap (λ x. F x (max i j)) lower ∙ ap (F i) higher
-    ]
-
 pub AreLines-opened : (h : Header) (lines : List ℕ) → length lines ≡ bank_count h * bank_count h → ((k : ℕ) → k < bank_count h * bank_count h → get_or lines k 0 ≡ lesser_at h (bank_count h) k) → AreLines (opened h) lines
 AreLines-opened h lines full each = record {
   full = full;
   lines_are = λ i j p q.
-      let banks : ℕ = bank_count h in
-      let higher : max i j < bank_count h = omega arith in
-      let row : shared_place (bank_count h) i j / bank_count h ≡ min i j = div-mul-add (min i j) (bank_count h) (max i j) higher in
-      let column : shared_place (bank_count h) i j % bank_count h ≡ max i j = mod-mul-add (min i j) (bank_count h) (max i j) higher in
-      each (shared_place (bank_count h) i j) (shared_below (bank_count h) i j p q)
-      ∙ ap (λ x. min (opening_limit h x (shared_place (bank_count h) i j % bank_count h)) (opening_limit h (shared_place (bank_count h) i j % bank_count h) x)) row
-      ∙ ap (λ y. min (opening_limit h (min i j) y) (opening_limit h y (min i j))) column
-      ∙ lesser_either h i j ∙ sym (line_in-opened h i j p q);
+      let row : place (bank_count h) i j / bank_count h ≡ i = div-mul-add i (bank_count h) j q in
+      let column : place (bank_count h) i j % bank_count h ≡ j = mod-mul-add i (bank_count h) j q in
+      each (place (bank_count h) i j) (place_below (bank_count h) i j p q)
+      ∙ ap (λ x. min (opening_limit h x (place (bank_count h) i j % bank_count h)) (opening_limit h (place (bank_count h) i j % bank_count h) x)) row
+      ∙ ap (λ y. min (opening_limit h i y) (opening_limit h y i)) column
+      ∙ sym (line_in-opened h i j p q);
 }
 
 -- the lines are made once a place was visited for each

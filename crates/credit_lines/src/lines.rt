@@ -1,6 +1,6 @@
-ghost use Rattle.std.specs.Prelude.{◌≡◌, ◌≢◌, ◌≤◌, ◌<◌, ◌^◌, IfOk, max};
+ghost use Rattle.std.specs.Prelude.{◌≡◌, ◌≢◌, ◌≤◌, ◌<◌, ◌*◌, ◌^◌, IfOk, length, max};
 ghost use Rattle.fx_amounts.specs.Quantity.{IsWeight};
-ghost use Rattle.credit_lines.specs.Credit.{IsCredit, AreLines, limit_in, used_in, line_in, reach_in, opened, taken, limited};
+ghost use Rattle.credit_lines.specs.Credit.{IsCredit, AreLines, limit_in, used_in, line_in, reach_in, lined, opened, taken, limited};
 ghost use Rattle.credit_lines.specs.Market.{followed, IsNextOf, FollowsOn};
 
 use crate::amounts::{difference, greater, lesser, sum};
@@ -20,7 +20,7 @@ pub struct CreditLines {
     limits: Vec<Units>,
     /// At the shared place of two banks, what they have used.
     uses: Vec<Units>,
-    /// At the shared place of two banks, the line between them.
+    /// At a place of two banks, the line between them: each bank's lines lie in its row.
     lines: Vec<Units>,
 }
 
@@ -82,7 +82,7 @@ impl CreditLines {
         ensures value { result ≡ line_in self.now i j }
         ensures valid { IsCredit self.now }
     {
-        self.lines[shared_place(self.banks, i, j)]
+        self.lines[place(self.banks, i, j)]
     }
 
     /// The lots that the line between banks `i` and `j` allows, 0 to 10^15, at `weight` credit units a lot, 1 to 10^6.
@@ -109,7 +109,8 @@ impl CreditLines {
     {
         let at = shared_place(self.banks, i, j);
         self.uses[at] = sum(self.uses[at], units);
-        self.lines[at] = difference(self.lines[at], units);
+        let line = difference(self.lines[place(self.banks, i, j)], units);
+        set_line(&mut self.lines, self.banks, i, j, line);
     }
 
     /// Bank `i` sets its limit on bank `j`, in credit units. Answers the limit set: the greater of what is asked and what
@@ -127,7 +128,8 @@ impl CreditLines {
         let set = greater(limit, used);
         let back = self.limits[place(self.banks, j, i)];
         self.limits[place(self.banks, i, j)] = set;
-        self.lines[at] = difference(lesser(set, back), used);
+        let line = difference(lesser(set, back), used);
+        set_line(&mut self.lines, self.banks, i, j, line);
         set
     }
 
@@ -144,6 +146,18 @@ impl CreditLines {
         set_asked(self, entry.bank, &entry.command);
         take_all(self, session, entry.outcome.fills());
     }
+}
+
+/// Sets the line between two banks, in the rows of both.
+fn set_line(lines: &mut Vec<Units>, banks: usize, i: BankId, j: BankId, line: Units)
+    requires banks { banks ≤ 64 }
+    requires first { i < banks }
+    requires second { j < banks }
+    requires full { length lines.old.items ≡ banks * banks }
+    ensures { lines.new.items ≡ lined banks lines.old.items i j line }
+{
+    lines[place(banks, i, j)] = line;
+    lines[place(banks, j, i)] = line;
 }
 
 /// The limits that a session opens with, each at the place of its two banks.

@@ -1,6 +1,7 @@
 pub mod Searching
 pub mod PlanSteps
 pub mod Walking
+pub mod Against
 pub mod Lowered
 pub mod Carrying
 pub mod Tables

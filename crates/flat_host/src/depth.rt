@@ -2,7 +2,7 @@ ghost use Rattle.std.specs.Prelude.{◌&&◌, ◌==◌, ◌≡◌, ◌≤◌, �
 ghost use Rattle.fx_rules.specs.Lists.{total};
 ghost use Rattle.fx_rules.specs.State.{orders_in};
 ghost use Rattle.fx_rules.specs.Sweep.{is_opposite};
-ghost use Rattle.flat_host.specs.Walks.{IsLevelled};
+ghost use Rattle.flat_host.specs.Walks.{IsLevelled, against_in};
 
 use crate::sweep::Walk;
 use fx_amounts::{Memory, PairId, Side};
@@ -29,10 +29,46 @@ pub fn lots_against(orders: &[ActiveOrder], pair: PairId, side: Side) -> u128
     lots
 }
 
+/// The orders of the other side of a pair.
+fn orders_against(
+    alloc: Global,
+    orders: &[ActiveOrder],
+    pair: PairId,
+    side: Side,
+) -> Result<Vec<ActiveOrder>, Memory>
+    ensures against { IfOk result (λ against. against.items ≡ against_in pair side orders.now) }
+{
+    let mut against = Vec::new(alloc);
+    for active in orders {
+        if is_against(active, pair, side) {
+            against.push(*active)?;
+        }
+    }
+    Ok(against)
+}
+
 /// The first ten levels of the sweep of a taker, where `lines` are its lines with each bank, in credit units, and a lot costs
+/// `weight` of them. It looks through all orders once, and then through those against the taker alone, fill by fill. At
+/// `Memory` there was none for these or for the levels.
+pub fn first_levels(
+    alloc: Global,
+    orders: &[ActiveOrder],
+    taker: &SweptOrder,
+    lines: [u64; 64],
+    weight: u32,
+) -> Result<LevelList, Memory>
+    requires weight { 1 ≤ weight }
+    requires lots { total (λ line. line) lines < 2 ^ 64 }
+    ensures levels { IfOk result (IsLevelled weight lines orders.now taker.now) }
+{
+    let against = orders_against(alloc, orders, taker.pair, taker.side)?;
+    levels_among(alloc, &against, taker, lines, weight)
+}
+
+/// The first ten levels of the sweep of a taker through these orders, where `lines` are its lines with each bank, in credit units, and a lot costs
 /// `weight` of them. It stops at the first fill of an eleventh price, since none behind that changes them. At `Memory` there
 /// was none for the levels.
-pub fn first_levels(
+fn levels_among(
     alloc: Global,
     orders: &[ActiveOrder],
     taker: &SweptOrder,

@@ -5,6 +5,8 @@ use Rattle.std.specs.declared.vec.Vec.{Vec}
 use Rattle.std.specs.Io.KnownBytes.{IsAtEnd}
 use Rattle.fx_edges.specs.Faults.{Rose}
 use Rattle.fx_edges.specs.Writing.{Appended, AppendedPart}
+use Rattle.fx_edges.specs.Reading.{Took}
+use Rattle.fx_edges.proofs.Reading.{Took-nil}
 use Rattle.fx_edges.proofs.Writing.{Appended-nil, AppendedPart-whole}
 use Rattle.fx_rules.specs.Lists.{Among}
 use Rattle.journal_check.specs.Verdict.{IsVerdict, IsSomeOutput}
@@ -18,6 +20,9 @@ use Rattle.fx_cli.specs.declared.check.Halt.TheVariants as halts
 use Rattle.fx_cli.specs.declared.status.Status.{Status}
 use Rattle.fx_cli.specs.declared.status.Status.TheVariants.{Done, Usage, Header, Cut, ReadFault, WriteFault, Memory, TooMuch, Differs}
 use Rattle.fx_cli.proofs.TopCallLaws.{Took-is, told_bytes}
+
+failed : Halt → Result (Vec ℕ Global) Halt
+failed halt = Err halt
 
 -- the statuses of `check`
 abbrev Answers : Status → Type 0
@@ -223,6 +228,24 @@ module _ {S K : Type 0} (left : S → Option (List ℕ)) (taken : S → ℕ) (wr
         answers = after_answers written faults out out' read result did;
         complete = complete_at read result (left source) has did refl;
       }
+
+  -- a check that did not begin, for want of memory
+  pub check_not_begun : source' ≡ source → out' ≡ out → Checked left taken written faults source source' out out' Memory
+  unfolding failed
+  check_not_begun unread unwritten = record {
+    read = Err halts.Memory;
+    has_taken = record {
+      bytes = [];
+      took = subst (λ (s : S). Took left taken source s []) (sym unread) (Took-nil left taken source);
+      within = omega arith;
+      ended = tt;
+      cause = λ is. absurd (memory_no_fault is);
+    };
+    told = (refl, unwritten);
+  }
+    where
+      memory_no_fault : failed halts.Memory ≡ failed halts.ReadFault → ⊥
+      memory_no_fault is = cc
 
   -- a check is no refusal of the words
   pub check_accepts : (status : Status) → Checked left taken written faults source source' out out' status → status ≡ Usage → ⊥

@@ -1,3 +1,4 @@
 pub mod HeadlineLaws
 pub mod TopCallLaws
 pub mod CheckLaws
+pub mod LoadLaws

@@ -317,6 +317,9 @@ module _ (IsRight : Header → List Sent → List Entry → Type 0) {K : Type 0}
   served (Err stop) result input rest ran ended within is reads writes =
       memory_alone result stop ran.0 (served_stop stop input rest ended within is (λ same. reads (ap (λ (s : Stop). Err s) same)))
 
+failed : Stop → Result Script Stop
+failed stop = Err stop
+
 -- What was done with a word that runs a session
 
 no_differs : stop_of Differs ≡ None
@@ -378,8 +381,30 @@ module _ (IsRight : Header → List Sent → List Entry → Type 0) {S K : Type 
   session_accepts status ran is =
       never ran.read status Usage no_usage (λ script ran_so. ran_so) (After-told IsRight written faults out out' ran.read status status ran.followed (inl refl)) is
 
+  -- a run that did not begin, for want of memory
+  pub not_begun : source' ≡ source → out' ≡ out → Ran IsRight left taken written faults source source' out out' Memory
+  unfolding failed
+  not_begun unread unwritten = record {
+    read = Err stops.Memory;
+    has_read = record {
+      input = [];
+      took = subst (λ (s : S). Took left taken source s []) (sym unread) (Took-nil left taken source);
+      within = omega arith;
+      prompt = prompt_here [] GoesOn-nil;
+      ended = tt;
+      cause = λ is. absurd (memory_no_fault is);
+    };
+    followed = (refl, unwritten);
+  }
+    where
+      memory_no_fault : failed stops.Memory ≡ failed stops.ReadFault → ⊥
+      memory_no_fault is = cc
+
 -- the refusal of words, told
-pub told_usage : (status result : Status) {other : Type 0} → Among result (status ∷ Memory ∷ []) → (status ≡ Usage → other) → (other → status ≡ Usage) → EndsExactly result Usage [] other
-told_usage status result (inl same) only always = record { only = λ is. only (sym same ∙ is); always = λ cause. inl (same ∙ always cause) }
+pub told_usage : (status result : Status) {other : Type 0} → Among result (status ∷ Memory ∷ []) → (status ≡ Usage → other) → (other → Among status (Usage ∷ Memory ∷ [])) → EndsExactly result Usage [] other
+told_usage status result (inl same) only always = record {
+  only = λ is. only (sym same ∙ is);
+  always = λ cause. subst (λ (s : Status). Among s (Usage ∷ Memory ∷ [])) (sym same) (always cause);
+}
 told_usage status result (inr (inl memory)) only always = record { only = λ is. let no : Usage ≡ Memory = sym is ∙ memory in absurd cc; always = λ cause. inr (inl memory) }
 told_usage status result (inr (inr none)) only always = absurd none

@@ -1,14 +1,20 @@
 -- What the top call does for its words.
-use Rattle.std.specs.Prelude.{ℕ, ◌≡◌, List, [], Option, Some, None, String}
+use Rattle.std.specs.Prelude.{ℕ, ◌≡◌, List, [], map, Option, Some, None, String, string_bytes}
 use Rattle.std.specs.declared.alloc.Global.{Global}
-use Rattle.fx_cli.specs.Words.{asked}
-use Rattle.fx_cli.specs.declared.words.Task.TheVariants.{Run, Serial, Check}
+use Rattle.program_words.specs.Forms.{task_of}
+use Rattle.program_words.specs.declared.task.Task.{Task}
+use Rattle.program_words.specs.declared.task.Task.TheVariants.{Run, Serial, Check, Load}
 use Rattle.fx_cli.specs.TopCall.{EndsExactly, ToldErr}
 use Rattle.fx_cli.specs.Headline.{IsHeadline, IsSerial}
 use Rattle.fx_cli.specs.SessionCall.{DidSession}
 use Rattle.fx_cli.specs.CheckCall.{DidCheck}
+use Rattle.fx_cli.specs.LoadCall.{DidLoad}
 use Rattle.fx_cli.specs.declared.status.Status.{Status}
 use Rattle.fx_cli.specs.declared.status.Status.TheVariants.{Usage}
+
+-- what the words ask for, if anything
+abbrev pub asked : List (String Global) → Option Task
+asked words = task_of (map string_bytes words)
 
 -- the words were answered with this status
 pub record Answered {S K E : Type 0} (left : S → Option (List ℕ)) (failed : S → ℕ) (written : K → Option (List ℕ)) (faults : K → ℕ) (told : E → Option (List ℕ)) (untold : E → ℕ)
@@ -16,10 +22,12 @@ pub record Answered {S K E : Type 0} (left : S → Option (List ℕ)) (failed : 
   -- words in none of the forms are refused before anything is read or written
   pub usage : EndsExactly status Usage [] (asked words ≡ None)
   pub untouched : asked words ≡ None → (source' ≡ source) × (out' ≡ out)
-  -- what came of a session, on threads and in the order of its lines, and of the check of an output: what was read and
-  -- written, and the cause of each status
+  -- what came of a session, on threads and in the order of its lines, of the check of an output, and of a load: what was
+  -- read and written, and the cause of each status
   pub run : (workers : ℕ) → asked words ≡ Some (Run workers) → DidSession IsHeadline left failed written faults source source' out out' status
   pub serial : asked words ≡ Some Serial → DidSession IsSerial left failed written faults source source' out out' status
   pub check : asked words ≡ Some Check → DidCheck left failed written faults source source' out out' status
+  pub load : (seed banks pairs commands workers : ℕ) → asked words ≡ Some (Load seed banks pairs commands workers) →
+      DidLoad written faults seed banks pairs commands source source' out out' status
   -- standard error: the line of the status
   pub standard_error : ToldErr told untold err err' status

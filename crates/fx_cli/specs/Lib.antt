@@ -1,10 +1,11 @@
-pub mod Words
 pub mod Status
 pub mod Headline
 pub mod Run
 pub mod Check
 pub mod TopCall
 pub mod SessionCall
+pub mod Load
+pub mod LoadCall
 pub mod CheckCall
 pub mod Answered
 pub mod Process

@@ -64,9 +64,9 @@ pub record IsSessionText (bytes : List ℕ) : Type 0 where
   pub header : HasSession bytes session
   pub ended : HasEnd (take input_limit bytes) ⊎ ((length bytes < input_limit) × EndsWithEnd bytes)
 
--- the words were refused: nothing was read or written
+-- the words were refused, or not read for want of memory: nothing was read or written
 pub record Refused {S K : Type 0} (source source' : S) (out out' : K) (status : Status) : Type 0 where
-  pub usage : status ≡ Usage
+  pub usage : Among status (Usage ∷ Memory ∷ [])
   pub unread : source' ≡ source
   pub unwritten : out' ≡ out
 

@@ -2,12 +2,12 @@
 #![tactic(auto)]
 
 mod check;
+mod load;
 mod process;
 mod run;
 mod serial;
 mod status;
 mod top;
-mod words;
 
 use fx_edges::{StdSink, StdSource};
 use process::serve;

@@ -1,18 +1,13 @@
-ghost use Rattle.std.specs.Prelude.{◌≤◌, ◌^◌, IfOk, length};
+ghost use Rattle.std.specs.Prelude.{◌≤◌, ◌^◌, length};
 ghost use Rattle.fx_rules.specs.Lists.{Each};
 ghost use Rattle.fx_rules.specs.Sending.{IsSentOf};
-ghost use Rattle.flat_host.specs.Steps.{stands};
-ghost use Rattle.market_run.specs.Running.{HasRun};
 ghost use Rattle.fx_cli.specs.Headline.{IsSerial};
 ghost use Rattle.fx_cli.specs.Run.{Ran, RanScript};
 
 use crate::status::Status;
-use flat_host::FlatHost;
-use fx_amounts::Memory;
 use fx_edges::{Sink, Source};
-use fx_rules::{Sent, Session};
-use market_run::Run;
 use reply_lines::{Ending, write_output_from};
+use serial_run::run_in_order;
 use session_script::{Script, read_script};
 use std::alloc::Global;
 
@@ -44,19 +39,4 @@ fn run_script<K: Sink>(alloc: Global, script: &Script, out: &mut K) -> Status
         Ending::End,
         out,
     ))
-}
-
-/// The run of a session's commands, served one after another by one plain host.
-fn run_in_order(alloc: Global, session: &Session, sent: &[Sent]) -> Result<Run<FlatHost>, Memory>
-    requires valid { Each (IsSentOf session.now) sent.now }
-    requires few { length sent.now ≤ 2 ^ 26 }
-    ensures serial { IfOk result (λ run. IsSerial session.now sent.now run.entries) }
-    ensures run { IfOk result (HasRun stands session.now) }
-{
-    // A legal history rests on a valid session, as each is.
-    let _banks = session.banks();
-    let host = FlatHost::open(alloc, session)?;
-    let mut run = Run::new(alloc, host);
-    run.serve_all(sent)?;
-    Ok(run)
 }

@@ -306,6 +306,16 @@ fn other_words(rt: HostRuntime) -> Result<(), Fail> {
     for count in ["0", "65", "02", "+2", ""] {
         expect(&rt, &["run", "--workers", count], input, 64, &NONE, &usage)?;
     }
+    for banks in ["1", "65"] {
+        expect(
+            &rt,
+            &["load", "7", banks, "4", "10"],
+            input,
+            64,
+            &NONE,
+            &usage,
+        )?;
+    }
     // Standard error that fails changes no status.
     let fails = Fails { err: &[1], ..NONE };
     expect(&rt, &["Serial"], input, 64, &fails, &refusal(1, b""))

@@ -1,7 +1,7 @@
 pub mod Sought
 mod Flat
 mod Rowing
-mod Looking
+mod Searching
 mod Keeping
 mod Rooms
 mod Lifting

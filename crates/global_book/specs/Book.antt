@@ -1,6 +1,5 @@
 -- One pair's book, as contracts see it: the orders that rest, in arrival order.
-use Rattle.std.specs.Prelude.{ℕ, ◌≡◌, ◌+◌, ◌≤◌, ◌<◌, ◌^◌, Bool, true, ◌&&◌, ◌==◌, nat_le, nat_lt, if◌then◌else◌, List, filter, Option, Some, None, slice_get, slice_index, slice_index_or, option_map}
-use Rattle.fx_amounts.specs.Price.{crosses}
+use Rattle.std.specs.Prelude.{ℕ, ◌≡◌, ◌+◌, ◌≤◌, ◌<◌, ◌^◌, Bool, true, ◌&&◌, ◌==◌, nat_le, nat_lt, if◌then◌else◌, List, filter, Option, slice_get, slice_index, slice_index_or, option_map}
 use Rattle.fx_amounts.specs.Side.{opposite}
 use Rattle.fx_amounts.specs.declared.side.Side.{Side}
 use Rattle.fx_amounts.specs.declared.side.Side.TheVariants.{Buy, Sell}
@@ -10,6 +9,7 @@ use Rattle.fx_rules.specs.Sound.{ArrivesBefore}
 use Rattle.fx_rules.specs.Sweep.{is_opposite, is_order}
 use Rattle.fx_rules.specs.Plan.{is_behind}
 use Rattle.price_levels.specs.declared.place.Place.{Place}
+use Rattle.access_index.specs.Owned.{allows}
 
 -- for each bank, how many buys and how many sells of its own can come to rest
 pub record Book : Type 0 where
@@ -71,11 +71,6 @@ RestsAbove orders bank number left = (order : Resting) × Among order orders × 
 abbrev pub Rests : List Resting → ℕ → ℕ → Type 0
 Rests orders bank number = (order : Resting) × Among order orders × (is_order bank number order ≡ true)
 
--- a taker of this side with this limit, if it has one, may trade at this price
-abbrev pub allows : Side → Option ℕ → ℕ → Bool
-allows taker None price = true
-allows taker (Some limit) price = crosses taker limit price
-
 -- an order that stands at a place: its price and arrival are all that the place tells of it
 abbrev pub standing_at : Place → Resting
 standing_at place = record { bank = 0; number = 0; side = Buy; price = place.price; left = 0; arrival = place.arrival }
@@ -90,6 +85,20 @@ is_sought taker reach limit before past order =
 -- the orders of a side that are sought
 abbrev pub sought : Side → List ℕ → Option ℕ → ℕ → Option Place → List Resting → List Resting
 sought side reach limit before past orders = filter (is_sought (opposite side) reach limit before past) orders
+
+-- an order of this bank on the other side of a taker's, that arrived before `before` and stands behind the place `past`, where
+-- there is one
+abbrev pub is_owned : Side → ℕ → ℕ → Option Place → Resting → Bool
+is_owned taker bank before past order =
+    is_opposite taker order.side && is_of bank order && nat_lt order.arrival before && is_behind taker (option_map standing_at past) order
+
+-- such orders of a bank and a side
+abbrev pub owned : Side → ℕ → ℕ → Option Place → List Resting → List Resting
+owned side bank before past orders = filter (is_owned (opposite side) bank before past) orders
+
+-- all orders of a side arrived before `before`
+abbrev pub AreInTime : Side → ℕ → List Resting → Type 0
+AreInTime side before orders = Each (λ order. order.side ≡ side → order.arrival < before) orders
 
 -- the place is where the order stands
 pub record IsPlaceOf (order : Resting) (place : Place) : Type 0 where

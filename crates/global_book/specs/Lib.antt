@@ -1,4 +1,3 @@
 pub mod Book
 pub mod Rows
-pub mod Sides
 pub mod Search

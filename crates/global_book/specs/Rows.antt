@@ -1,5 +1,5 @@
 -- How a book keeps its orders: under keys, and in sorted rows of their places.
-use Rattle.std.specs.Prelude.{ℕ, ◌≡◌, ◌≤◌, ◌<◌, ◌^◌, min, Bool, true, nat_lt, if◌then◌else◌, List, [], ◌∷◌, length, Option, Some, None, slice_index_or}
+use Rattle.std.specs.Prelude.{ℕ, suc, ◌≡◌, ◌≤◌, ◌<◌, ◌^◌, min, Bool, true, ◌&&◌, nat_lt, if◌then◌else◌, List, [], ◌∷◌, length, Option, Some, None, slice_index_or}
 use Rattle.std.specs.List.{Contains}
 use Rattle.fx_amounts.specs.Side.{opposite}
 use Rattle.fx_amounts.specs.declared.side.Side.{Side}
@@ -8,6 +8,8 @@ use Rattle.fx_rules.specs.declared.orders.Resting.{Resting}
 use Rattle.fx_rules.specs.Sweep.{is_opposite}
 use Rattle.price_levels.specs.declared.place.Place.{Place}
 use Rattle.price_levels.specs.Ladder.{Ladder}
+use Rattle.access_index.specs.Sides.{OwnRows}
+use Rattle.access_index.specs.Owned.{row_at}
 use Rattle.order_store.specs.Orders.{Orders, order_at, AreOrders}
 use Rattle.global_book.specs.Book.{is_of}
 
@@ -51,24 +53,33 @@ pub record AreResting (banks : ℕ) (orders : Orders) : Type 0 where
       → order.arrival ≡ same.arrival → key ≡ other
   pub held : (key : ℕ) (order : Resting) → order_at orders key ≡ Some order → (order.bank < banks) × (1 ≤ order.number) × (order.arrival < 2 ^ 64)
 
--- the row of a side, and the row of a bank
-abbrev pub IsSideRow : Side → Orders → Ladder → Type 0
-IsSideRow side = IsRow (λ order. is_opposite (opposite side) order.side) its_price side
+-- an order of this bank and side
+abbrev pub is_own : ℕ → Side → Resting → Bool
+is_own bank side order = is_of bank order && is_opposite (opposite side) order.side
+
+-- the row of a bank and a side by price, and the row of a bank by arrival
+abbrev pub IsOwnRow : ℕ → Side → Orders → Ladder → Type 0
+IsOwnRow bank side = IsRow (is_own bank side) its_price side
 
 abbrev pub IsBankRow : ℕ → Orders → Ladder → Type 0
 IsBankRow bank = IsRow (is_of bank) no_price Sell
 
--- all that a book keeps: the orders, the rows of both sides by price, and a row for each bank by arrival
-pub record IsKept (banks : ℕ) (orders : Orders) (bids asks : Ladder) (owners : List Ladder) : Type 0 where
+-- all that a book keeps: the orders, for each bank a row of either side by price, and a row by arrival
+pub record IsKept (banks : ℕ) (orders : Orders) (own : List OwnRows) (owners : List Ladder) : Type 0 where
   pub resting : AreResting (length owners) orders
   pub banks_are : length owners ≡ min banks 64
-  pub bids_are : IsSideRow Buy orders bids
-  pub asks_are : IsSideRow Sell orders asks
+  pub count : length own ≡ length owners
+  pub own_are : (bank : ℕ) (side : Side) → bank < length owners → IsOwnRow bank side orders (row_at own bank side)
   pub owners_are : (bank : ℕ) (none : Ladder) → bank < length owners → IsBankRow bank orders (slice_index_or owners bank none)
 
--- how many buys and sells of the bank with this row can come to rest
+-- how many buys and sells of a bank with these rows can come to rest
 abbrev pub room_in : Orders → Ladder → Ladder → Ladder → ℕ × ℕ
 room_in orders bids asks owner = (min orders.room (min bids.room owner.room), min orders.room (min asks.room owner.room))
+
+-- the same of each bank from this one on
+abbrev pub rooms_from : Orders → List OwnRows → ℕ → List Ladder → List (ℕ × ℕ)
+rooms_from orders own bank [] = []
+rooms_from orders own bank (owner ∷ owners) = room_in orders (row_at own bank Buy) (row_at own bank Sell) owner ∷ rooms_from orders own (suc bank) owners
 
 -- a row by arrival with no places
 abbrev pub IsEmptyRow : Ladder → Type 0

@@ -4,11 +4,10 @@ ghost use Rattle.std.specs.Option.{option_copied};
 ghost use Rattle.fx_amounts.specs.Side.{opposite};
 ghost use Rattle.fx_rules.specs.Lists.{Each};
 ghost use Rattle.fx_rules.specs.Sweep.{IsBest, is_order};
-ghost use Rattle.global_book.specs.Book.{HasRoom, KeepsRoom, IsBook, IsPlaceOf, Rests, RestsAbove, first, is_of, is_of_from, TakesRoom, relotted, sought};
+ghost use Rattle.global_book.specs.Book.{AreInTime, HasRoom, KeepsRoom, IsBook, IsPlaceOf, Rests, RestsAbove, first, is_of, is_of_from, TakesRoom, owned, relotted, sought};
 ghost use Rattle.global_book.specs.Rows.{IsEmptyRow, place_in, its_price};
 
-use crate::search::{Search, best_in};
-use crate::sides::Sides;
+use access_index::{Owners, best_of};
 use fx_amounts::{BankId, Lots, Memory, PairId, Price, Side};
 use fx_rules::Resting;
 use order_store::{OrderKey, OrderStore};
@@ -23,15 +22,15 @@ pub struct PairBook {
     pair: PairId,
     banks: usize,
     orders: OrderStore,
-    sides: Sides,
+    /// For each bank the places of its orders, by side and price.
+    price_rows: Owners,
     /// For each bank the places of its orders, by arrival alone.
-    owners: Vec<Levels>,
+    arrival_rows: Vec<Levels>,
 }
 
 impl Model for PairBook {
-    ghost use Rattle.std.specs.Prelude.{map};
     ghost use Rattle.global_book.specs.Book.{Book};
-    ghost use Rattle.global_book.specs.Rows.{IsKept, flat, room_in};
+    ghost use Rattle.global_book.specs.Rows.{IsKept, flat, rooms_from};
 
     ghost Value = { Book };
 
@@ -39,10 +38,10 @@ impl Model for PairBook {
       pair = b.pair;
       banks = b.banks;
       orders = flat b.orders.slots;
-      room = map (room_in b.orders b.sides.bids b.sides.asks) b.owners.items;
+      room = rooms_from b.orders b.price_rows 0 b.arrival_rows.items;
     } };
 
-    ghost invariant = { λ b. IsKept b.banks b.orders b.sides.bids b.sides.asks b.owners.items };
+    ghost invariant = { λ b. IsKept b.banks b.orders b.price_rows b.arrival_rows.items };
 }
 
 impl PairBook {
@@ -56,8 +55,8 @@ impl PairBook {
             pair,
             banks,
             orders: OrderStore::new(alloc),
-            sides: Sides::new(alloc),
-            owners: empty_rows(alloc, banks.min(BankId::COUNT))?,
+            price_rows: Owners::new(alloc, banks)?,
+            arrival_rows: empty_rows(alloc, banks.min(BankId::COUNT))?,
         })
     }
 
@@ -87,9 +86,10 @@ impl PairBook {
         ensures orders { self.new.orders ≡ self.old.orders }
         ensures valid { IsBook self.new }
     {
+        let number = bank.index();
         self.orders.reserve(1)?;
-        self.sides.reserve(side)?;
-        let row = &mut self.owners[bank.index()];
+        self.price_rows.reserve(bank, side)?;
+        let row = &mut self.arrival_rows[number];
         row.reserve(1)
     }
 
@@ -107,8 +107,9 @@ impl PairBook {
         ensures valid { IsBook self.new }
     {
         let key = self.orders.add(order).0;
-        self.sides.insert(order.side, by_price(&order, key));
-        let row = &mut self.owners[order.bank.index()];
+        self.price_rows
+            .insert(order.bank, order.side, by_price(&order, key));
+        let row = &mut self.arrival_rows[order.bank.index()];
         row.insert(by_arrival(order.arrival, key));
     }
 
@@ -152,8 +153,9 @@ impl PairBook {
     {
         let key = self.orders.find(bank, number).unwrap();
         let order = self.orders.remove(key);
-        self.sides.remove(order.side, &by_price(&order, key.0));
-        let row = &mut self.owners[bank.index()];
+        self.price_rows
+            .remove(order.bank, order.side, &by_price(&order, key.0));
+        let row = &mut self.arrival_rows[bank.index()];
         row.remove(&by_arrival(order.arrival, key.0));
     }
 
@@ -203,18 +205,19 @@ impl PairBook {
         ensures step { steps.new ≡ steps.old + 1 }
         ensures valid { IsBook self.now }
     {
-        if bank.index() >= self.owners.len() {
+        if bank.index() >= self.arrival_rows.len() {
             steps.tick();
             return None;
         }
-        let row = &self.owners[bank.index()];
+        let row = &self.arrival_rows[bank.index()];
         let place = row.from(&by_arrival(after, 0), steps)?;
         Some(self.orders.get(OrderKey(place.key)))
     }
 
     /// The best order of a side, and its place, among those whose owner can be reached for a lot at least, that the limit
     /// allows, that arrived before `before` and that stand behind the place `past`; without a limit any price is allowed,
-    /// and without a place all are looked at. `None` where there is no such order. `reach` has the lots for each bank.
+    /// and without a place all are looked at. `None` where there is no such order. `reach` has the lots for each bank. Where
+    /// all orders of the side arrived in time, it takes one step for each bank at most.
     pub fn best<L: Ledger>(
         &self,
         side: Side,
@@ -228,19 +231,36 @@ impl PairBook {
         ensures none { (result ≡ None) ↔ (sought side reach.now limit before (option_copied past.entry) self.now.orders ≡ []) }
         ensures best { IfSome result (λ found. IsBest (opposite side) (sought side reach.now limit before (option_copied past.entry) self.now.orders) found.0) }
         ensures place { IfSome result (λ found. IsPlaceOf found.0 found.1) }
+        ensures steps { AreInTime side before self.now.orders → steps.new ≤ steps.old + self.now.banks }
         ensures valid { IsBook self.now }
     {
-        let search = Search {
-            side,
-            reach,
-            limit,
-            before,
-        };
-        best_in(&self.orders, self.sides.of(side), &search, past, steps)
+        let (_, place) = best_of(&self.price_rows, side, reach, limit, before, past, steps)?;
+        Some((self.orders.get(OrderKey(place.key)), place))
+    }
+
+    /// The best order of a bank and a side, and its place, among those that arrived before `before` and stand behind the
+    /// place `past`; without a place all of them are looked at. `None` where there is no such order. One step for it, and
+    /// one for each order that arrived too late.
+    pub fn best_of<L: Ledger>(
+        &self,
+        bank: BankId,
+        side: Side,
+        before: u64,
+        past: Option<&Place>,
+        steps: &mut Steps<L>,
+    ) -> Option<(Resting, Place)>
+        ensures none { (result ≡ None) ↔ (owned side bank before (option_copied past.entry) self.now.orders ≡ []) }
+        ensures best { IfSome result (λ found. IsBest (opposite side) (owned side bank before (option_copied past.entry) self.now.orders) found.0) }
+        ensures place { IfSome result (λ found. IsPlaceOf found.0 found.1) }
+        ensures steps { AreInTime side before self.now.orders → steps.new ≤ steps.old + 1 }
+        ensures valid { IsBook self.now }
+    {
+        let place = self.price_rows.first_of(bank, side, before, past, steps)?;
+        Some((self.orders.get(OrderKey(place.key)), place))
     }
 }
 
-/// The place of an order in the row of its side.
+/// The place of an order in the row of its bank and side.
 fn by_price(order: &Resting, key: usize) -> Place
     ensures { result ≡ place_in its_price key order.now }
 {

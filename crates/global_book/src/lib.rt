@@ -2,7 +2,5 @@
 #![tactic(auto)]
 
 mod book;
-mod search;
-mod sides;
 
 pub use book::PairBook;

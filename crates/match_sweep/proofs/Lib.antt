@@ -1,6 +1,8 @@
 pub mod Tables
 pub mod Finding
 pub mod Planning
+pub mod Picking
+pub mod Stepping
 pub mod Walking
 pub mod Lowering
 pub mod OfBook

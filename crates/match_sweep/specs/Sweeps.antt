@@ -1,19 +1,15 @@
 -- The sweep of an order over one pair's book and the lines of its bank, and the states of the market that they are of.
-use Rattle.std.specs.Prelude.{ℕ, ◌≡◌, ◌≤◌, ◌*◌, ◌^◌, List, [], Option, Some, None, take}
-use Rattle.fx_amounts.specs.declared.side.Side.{Side}
-use Rattle.fx_rules.specs.declared.orders.Resting.{Resting}
+use Rattle.std.specs.Prelude.{ℕ, ◌≡◌, ◌≤◌, ◌*◌, ◌^◌, List, take}
 use Rattle.fx_rules.specs.declared.orders.Fill.{Fill}
 use Rattle.fx_rules.specs.declared.orders.Level.{Level}
 use Rattle.fx_rules.specs.Lists.{total}
 use Rattle.fx_rules.specs.Session.{Header, weight_of}
 use Rattle.fx_rules.specs.State.{State, orders_in}
-use Rattle.fx_rules.specs.Sweep.{Taker, Swept, IsBest}
+use Rattle.fx_rules.specs.Sweep.{Taker, Swept}
 use Rattle.fx_rules.specs.Sound.{IsSound}
-use Rattle.fx_rules.specs.Plan.{Planned}
 use Rattle.fx_rules.specs.Depth.{levels_of}
-use Rattle.price_levels.specs.declared.place.Place.{Place}
-use Rattle.global_book.specs.Book.{Book, IsPlaceOf}
-use Rattle.credit_lines.specs.Credit.{Credit, line_in}
+use Rattle.global_book.specs.Book.{Book}
+use Rattle.credit_lines.specs.Credit.{Credit}
 use Rattle.credit_lines.specs.Market.{StandsFor}
 
 -- The book and the credit are those of a state: the book has the orders of its pair, the credit its limits and uses, and
@@ -35,15 +31,3 @@ pub record IsLevelled (book : Book) (credit : Credit) (weight : ℕ) (order : Ta
   pub sweep : IsSweep book credit weight order fills left
   pub lots : total (λ fill. fill.lots) fills ≤ 64 * 10 ^ 15
   pub first : levels ≡ take 10 (levels_of fills)
-
--- The rest is for this crate's own functions, which plan.
-
--- the fills are planned over the book as it stands, by the lines of the order's bank
-abbrev pub IsPlanned : Book → Credit → ℕ → Taker → List Fill → ℕ → Type 0
-IsPlanned book credit weight order fills left =
-    Planned weight (line_in credit order.bank) book.orders order None fills left
-
--- of some orders the best is found, with its place, or there is none
-abbrev pub IsFound : Side → List Resting → Option (Resting × Place) → Type 0
-IsFound side orders None = orders ≡ []
-IsFound side orders (Some found) = IsBest side orders found.0 × IsPlaceOf found.0 found.1

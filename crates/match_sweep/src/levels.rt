@@ -29,7 +29,7 @@ pub fn first_levels<L: Ledger>(
     requires weight { IsWeight weight }
     ensures levels { IfOk result (IsLevelled book.now lines.now weight order.now) }
 {
-    let mut walk = Walk::new(book, lines, weight, order);
+    let mut walk = Walk::new(book, lines, weight, order, steps);
     let mut levels = Vec::new(alloc);
     while levels.len() <= SHOWN_LEVELS {
         let Some(fill) = walk.next_fill(book, steps) else {

@@ -3,6 +3,7 @@
 #![tactic(auto)]
 
 mod carrying;
+mod heads;
 mod laws;
 mod levels;
 mod sweeping;

@@ -1,6 +1,6 @@
-ghost use Rattle.std.specs.Prelude.{◌≡◌, ◌≤◌, ◌<◌, ◌+◌, ◌*◌, ◌^◌, IfOk};
+ghost use Rattle.std.specs.Prelude.{◌≡◌, ◌≤◌, ◌<◌, ◌+◌, ◌*◌, ◌^◌, length, IfOk};
 ghost use Rattle.fx_amounts.specs.Quantity.{IsWeight};
-ghost use Rattle.fx_rules.specs.Lists.{total};
+ghost use Rattle.fx_rules.specs.Lists.{Each, total};
 ghost use Rattle.global_book.specs.Book.{IsBook};
 ghost use Rattle.match_sweep.specs.Takers.{swept_in};
 ghost use Rattle.match_sweep.specs.Sweeps.{IsSweep};
@@ -25,9 +25,9 @@ pub struct SweepPlan {
 }
 
 /// The sweep of a taker over a pair's book, by the lines of its bank, where a lot costs `weight` credit units, 1 to 10^6.
-/// It finds the fills and changes nothing but the counter of its steps; only the list of fills takes memory, and at
-/// `Memory` there was none for it. The book was made for as many banks as the lines have, and the taker's bank is one
-/// of them.
+/// It finds the fills and changes nothing but the counter of its steps, of which it takes at most `(fills + 1) * banks` where
+/// every order arrived before the taker. Only the list of fills takes memory, and at `Memory` there was none for it. The book
+/// was made for as many banks as the lines have, and the taker's bank is one of them.
 pub fn plan<L: Ledger>(
     alloc: Global,
     book: &PairBook,
@@ -41,6 +41,7 @@ pub fn plan<L: Ledger>(
     requires weight { IsWeight weight }
     ensures sweep { IfOk result (λ plan. IsSweep book.now lines.now weight (swept_in book.now.pair taker.now) plan.fills plan.left) }
     ensures sum { IfOk result (λ plan. total (λ fill. fill.lots) plan.fills + plan.left ≡ taker.now.lots) }
+    ensures steps { Each (λ order. order.arrival < taker.now.arrival) book.now.orders → IfOk result (λ plan. steps.new ≤ steps.old + (length plan.fills + 1) * book.now.banks) }
 {
     let order = taker.in_pair(book.pair());
     let sweep = sweep(alloc, book, lines, weight, &order, steps)?;
@@ -50,8 +51,8 @@ pub fn plan<L: Ledger>(
     })
 }
 
-/// The same of an order of the book's pair that may want more than an order can have. The lots of its fills are at most all that the lines
-/// of its bank allow.
+/// The same of an order of the book's pair that may want more than an order can have. The lots of its fills are at most all
+/// that the lines of its bank allow.
 pub fn sweep<L: Ledger>(
     alloc: Global,
     book: &PairBook,
@@ -67,9 +68,10 @@ pub fn sweep<L: Ledger>(
     ensures sweep { IfOk result (λ sweep. IsSweep book.now lines.now weight order.now sweep.fills sweep.left) }
     ensures sum { IfOk result (λ sweep. total (λ fill. fill.lots) sweep.fills + sweep.left ≡ order.now.left) }
     ensures lots { IfOk result (λ sweep. total (λ fill. fill.lots) sweep.fills ≤ 64 * 10 ^ 15) }
+    ensures steps { Each (λ other. other.arrival < order.now.arrival) book.now.orders → IfOk result (λ sweep. steps.new ≤ steps.old + (length sweep.fills + 1) * book.now.banks) }
     ensures valid { IsBook book.now }
 {
-    let mut walk = Walk::new(book, lines, weight, order);
+    let mut walk = Walk::new(book, lines, weight, order, steps);
     let mut fills = Vec::new(alloc);
     while let Some(fill) = walk.next_fill(book, steps) {
         fills.push(fill)?;

@@ -1,13 +1,11 @@
-ghost use Rattle.std.specs.Prelude.{ℕ, ◌≡◌, ◌≢◌, ◌≤◌, ◌<◌, ◌*◌, ◌^◌, slice_index};
-ghost use Rattle.std.specs.Option.{option_map};
+ghost use Rattle.std.specs.Prelude.{ℕ, ◌≡◌, ◌≢◌, ◌≤◌, ◌<◌, ◌+◌, ◌*◌, ◌^◌, slice_index, IfSome};
 ghost use Rattle.fx_amounts.specs.Quantity.{IsWeight};
 ghost use Rattle.fx_rules.specs.Lists.{total};
-ghost use Rattle.fx_rules.specs.Plan.{open_behind};
-ghost use Rattle.global_book.specs.Book.{standing_at};
-ghost use Rattle.credit_lines.specs.Credit.{reach_in};
-ghost use Rattle.match_sweep.specs.Sweeps.{IsFound};
-ghost use Rattle.match_sweep.specs.Walks.{Begins, IsReady, StepsOn};
+ghost use Rattle.credit_lines.specs.Credit.{line_in};
+ghost use Rattle.match_sweep.specs.Heads.{CameBefore};
+ghost use Rattle.match_sweep.specs.Walks.{Begins, IsPicked, IsReady, IsRenewed, StepsOn, Takes, head_of, is_ahead, leads, may_take_head, steps_behind};
 
+use crate::heads::{first_heads, head_behind, is_preferred};
 use credit_lines::CreditLines;
 use fx_amounts::BankId;
 use fx_rules::{Fill, Resting, SweptOrder};
@@ -20,24 +18,39 @@ use std::sync::ledger::Ledger;
 pub(crate) struct Walk {
     /// The order, with the lots that it still wants.
     pub(crate) order: SweptOrder,
-    /// The lots that can still be reached of each bank.
-    reach: [u64; 64],
-    /// Where the order stands that it took last, if there is one.
-    past: Option<Place>,
+    /// What a lot costs, in credit units.
+    weight: u32,
+    /// What is left of the lines with each bank, in credit units; nothing with the order's own.
+    lines: [u64; 64],
+    /// Of each bank with which the line pays for a lot, the best order that the sweep may still come to, with its place. That
+    /// of the bank that was taken from last is out of date.
+    heads: [Option<(Resting, Place)>; 64],
+    /// The order that was taken last, if there is one.
+    last: Option<(Resting, Place)>,
 }
 
 impl Walk {
     /// Before its first fill, by the lines of the order's bank, where a lot costs `weight` credit units.
-    pub(crate) fn new(book: &PairBook, lines: &CreditLines, weight: u32, order: &SweptOrder) -> Walk
+    pub(crate) fn new<L: Ledger>(
+        book: &PairBook,
+        lines: &CreditLines,
+        weight: u32,
+        order: &SweptOrder,
+        steps: &mut Steps<L>,
+    ) -> Walk
         requires banks { book.now.banks ≡ lines.now.banks }
         requires bank { order.now.bank < lines.now.banks }
         requires weight { IsWeight weight }
         ensures begins { Begins book.now lines.now weight order.now result }
+        ensures steps { CameBefore book.now.orders order.now.arrival → steps.new ≤ steps.old + book.now.banks }
     {
+        let lines = lines_of(book.banks(), lines, order.bank);
         Walk {
             order: *order,
-            reach: reaches(book.banks(), lines, weight, order.bank),
-            past: None,
+            weight,
+            lines,
+            heads: first_heads(book, order, &lines, weight, steps),
+            last: None,
         }
     }
 
@@ -50,63 +63,131 @@ impl Walk {
         requires ready { IsReady book.now self.old }
         ensures steps { StepsOn book.now self.old self.new result }
         ensures ready { IsReady book.now self.new }
+        ensures counted { CameBefore book.now.orders self.old.order.arrival → steps.new ≤ steps.old + steps_behind self.old.last }
     {
         if self.order.left == 0 {
             return None;
         }
-        let (maker, place) = best_behind(book, &self.order, &self.reach, &self.past, steps)?;
-        let reach = self.reach[maker.bank.index()];
-        let lots = self.order.amount(&maker, reach);
-        let fill = self.order.fill_with(&maker, lots);
-        self.reach[maker.bank.index()] = reach - u64::from(lots.count());
-        self.order.left -= u128::from(lots.count());
-        self.past = Some(place);
-        Some(fill)
+        self.renew_head(book, steps);
+        let (maker, place) = self.best_head(book.banks())?;
+        Some(self.take(maker, place))
     }
-}
 
-/// The lots that the lines of a bank allow with each other bank, of so many banks; none with itself.
-fn reaches(banks: usize, lines: &CreditLines, weight: u32, bank: BankId) -> [u64; 64]
-    requires banks { banks ≡ lines.now.banks }
-    requires bank { bank < banks }
-    requires weight { IsWeight weight }
-    ensures reach { (other : ℕ) → other < banks → other ≢ bank → slice_index result other ≡ reach_in lines.now bank other weight }
-    ensures own { slice_index result bank ≡ 0 }
-    ensures most { total (λ lots. lots) result ≤ 64 * 10 ^ 15 }
-    ensures few { banks ≤ 64 }
-{
-    let mut reach = [0; 64];
-    for number in 0..64u8 {
-        if let Some(other) = BankId::new(number) {
-            if other != bank && other.index() < banks {
-                reach[other.index()] = lines.reach(bank, other, weight);
-            }
+    /// Finds the head anew of the bank that was taken from last.
+    fn renew_head<L: Ledger>(&mut self, book: &PairBook, steps: &mut Steps<L>)
+        requires ready { IsReady book.now self.old }
+        ensures renewed { IsRenewed book.now self.old self.new }
+        ensures steps { CameBefore book.now.orders self.old.order.arrival → steps.new ≤ steps.old + steps_behind self.old.last }
+    {
+        let Some((order, place)) = self.last else {
+            return;
+        };
+        if self.lines[order.bank.index()] >= u64::from(self.weight) {
+            self.heads[order.bank.index()] = head_behind(
+                book,
+                &self.order,
+                order.bank,
+                Some(&place),
+                steps,
+            );
         }
     }
-    reach
+
+    /// Whether the bank of this number has a head that may be taken: the line pays for a lot, and the order takes its price.
+    fn may_take(&self, number: usize) -> bool
+        requires { number < 64 }
+        ensures value { result ≡ may_take_head self.now number (head_of self.now number) }
+    {
+        let Some((head, _)) = self.heads[number] else {
+            return false;
+        };
+        self.lines[number] >= u64::from(self.weight)
+            && self.order.price.crosses(head.price, self.order.side)
+    }
+
+    /// Whether the order prefers the head of the first bank to that of the second.
+    fn is_ahead(&self, number: usize, other: usize) -> bool
+        requires first { number < 64 }
+        requires second { other < 64 }
+        ensures value { result ≡ is_ahead self.now.order.side (head_of self.now number) (head_of self.now other) }
+    {
+        let (Some((head, _)), Some((other, _))) = (self.heads[number], self.heads[other]) else {
+            return false;
+        };
+        is_preferred(self.order.side, &head, &other)
+    }
+
+    /// Whether the head of the bank of this number may be taken, and is preferred to that of the best bank so far.
+    fn leads(&self, number: usize, best: Option<usize>) -> bool
+        requires number { number < 64 }
+        requires best { IfSome best (λ at. at < 64) }
+        ensures value { result ≡ leads self.now number best }
+    {
+        match best {
+            Some(best) => self.may_take(number) && self.is_ahead(number, best),
+            None => self.may_take(number),
+        }
+    }
+
+    /// The best of the heads of so many banks that may be taken.
+    fn best_head(&self, banks: usize) -> Option<(Resting, Place)>
+        requires { banks ≤ 64 }
+        ensures picked { IsPicked self.now banks result }
+    {
+        let mut best = None;
+        for number in 0..banks {
+            if self.leads(number, best) {
+                best = Some(number);
+            }
+        }
+        self.heads[best?]
+    }
+
+    /// Takes an order, with whose bank the line pays for a lot.
+    fn take(&mut self, maker: Resting, place: Place) -> Fill
+        requires left { 1 ≤ self.old.order.left }
+        requires weight { IsWeight self.old.weight }
+        requires line { self.old.weight ≤ slice_index self.old.lines maker.bank }
+        ensures taken { Takes self.old self.new (maker, place) result }
+    {
+        let line = self.lines[maker.bank.index()];
+        let lots = self.order.amount(&maker, line / u64::from(self.weight));
+        let fill = self.order.fill_with(&maker, lots);
+        self.lines[maker.bank.index()] = line - lots.cost(self.weight).get();
+        self.order.left -= u128::from(lots.count());
+        self.last = Some((maker, place));
+        fill
+    }
 }
 
-/// The best order that is open to a taker and stands behind the place `past`, where there is one; with its place.
-fn best_behind<L: Ledger>(
-    book: &PairBook,
-    order: &SweptOrder,
-    reach: &[u64; 64],
-    past: &Option<Place>,
-    steps: &mut Steps<L>,
-) -> Option<(Resting, Place)>
-    requires banks { book.now.banks ≤ 64 }
-    requires bank { order.now.bank < book.now.banks }
-    requires own { slice_index reach.now order.now.bank ≡ 0 }
-    ensures found { IsFound order.now.side (open_behind (slice_index reach.now) order.now (option_map standing_at past.now) book.now.orders) result }
+/// The line with the bank of this number, in credit units; nothing with the bank itself, or with none.
+fn line_with(banks: usize, lines: &CreditLines, bank: BankId, number: u8) -> u64
+    requires banks { banks ≡ lines.now.banks }
+    requires bank { bank < banks }
+    requires number { number < 64 }
+    ensures line { number < banks → number ≢ bank → result ≡ line_in lines.now bank number }
+    ensures own { number ≡ bank → result ≡ 0 }
+    ensures most { result ≤ 10 ^ 15 }
+    ensures few { number ≢ bank → banks ≤ 64 }
 {
-    let side = order.side.opposite();
-    let reach = &reach[..book.banks()];
-    book.best(
-        side,
-        reach,
-        Some(order.price),
-        order.arrival,
-        past.as_ref(),
-        steps,
-    )
+    match BankId::new(number) {
+        Some(other) if other != bank && other.index() < banks => lines.eff(bank, other).get(),
+        _ => 0,
+    }
+}
+
+/// The lines of a bank with each other bank, of so many banks, in credit units; nothing with itself.
+fn lines_of(banks: usize, lines: &CreditLines, bank: BankId) -> [u64; 64]
+    requires banks { banks ≡ lines.now.banks }
+    requires bank { bank < banks }
+    ensures line { (other : ℕ) → other < banks → other ≢ bank → slice_index result other ≡ line_in lines.now bank other }
+    ensures own { slice_index result bank ≡ 0 }
+    ensures most { total (λ line. line) result ≤ 64 * 10 ^ 15 }
+    ensures few { banks ≤ 64 }
+{
+    let mut table = [0; 64];
+    for number in 0..64u8 {
+        table[usize::from(number)] = line_with(banks, lines, bank, number);
+    }
+    table
 }

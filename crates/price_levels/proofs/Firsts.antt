@@ -1,17 +1,11 @@
 -- What it says of sorted places that one is the first to pass a test, for the crates above.
-use Rattle.std.proofs.Common.{◌≡◌, Bool, true, false, List, [], ◌∷◌, Some, None, ◌⊎◌, inl, inr, refl, ap, sym, subst, ◌∙◌, arith}
+use Rattle.std.proofs.Common.{◌≡◌, Bool, true, false, List, [], ◌∷◌, Some, None, inl, inr, refl, ap, sym, subst, ◌∙◌, arith}
 use Rattle.std.proofs.lemmas.Bool.{cases_Bool, both_ways, cond-true, cond-false}
 use Rattle.std.specs.List.{Contains, filter, slice_get}
 use Rattle.fx_amounts.specs.declared.side.Side.{Side}
 use Rattle.price_levels.specs.declared.place.Place.{Place}
-use Rattle.price_levels.specs.Ladder.{sorts_before, Sorts, InOrder, IsSorted, first_where}
+use Rattle.price_levels.specs.Ladder.{Sorts, InOrder, IsSorted, IsFirst, first_where}
 use Rattle.price_levels.proofs.Sorting.{Each-contains, Contains_later, Contains_first, Contains_cases}
-
--- a place passes the test, and none that passes stands before it
-pub record IsFirst (test : Place → Bool) (side : Side) (places : List Place) (place : Place) : Type 0 where
-  pub there : Contains places place
-  pub passes : test place ≡ true
-  pub first : (other : Place) → Contains places other → test other ≡ true → (other ≡ place) ⊎ (sorts_before side place other ≡ true)
 
 first_where-yes : (test : Place → Bool) (x : Place) (xs : List Place) → test x ≡ true → first_where test (x ∷ xs) ≡ Some x
 first_where-yes test x xs passes = ap (λ (ys : List Place). slice_get ys 0) (cond-true (test x) (x ∷ filter test xs) (filter test xs) passes)

@@ -1,5 +1,5 @@
 -- The places of the resting orders of one side, as contracts see them.
-use Rattle.std.specs.Prelude.{ℕ, ◌≡◌, ◌≢◌, Bool, true, ◌&&◌, ◌||◌, ◌==◌, nat_lt, List, [], ◌∷◌, ◌⊎◌, Option, slice_get}
+use Rattle.std.specs.Prelude.{ℕ, ◌≡◌, ◌≢◌, Bool, true, false, ◌&&◌, ◌||◌, ◌==◌, nat_lt, List, [], ◌∷◌, ◌⊎◌, Option, Some, None, slice_get}
 use Rattle.std.specs.List.{AllByRecursion, Contains, filter}
 use Rattle.fx_amounts.specs.declared.side.Side.{Side}
 use Rattle.fx_amounts.specs.declared.side.Side.TheVariants.{Buy, Sell}
@@ -54,3 +54,14 @@ pub record Loses (old new : List Place) (place : Place) : Type 0 where
 -- the first of the places that pass a test
 abbrev pub first_where : (Place → Bool) → List Place → Option Place
 first_where test places = slice_get (filter test places) 0
+
+-- a place passes the test, and none that passes stands before it
+pub record IsFirst (test : Place → Bool) (side : Side) (places : List Place) (place : Place) : Type 0 where
+  pub there : Contains places place
+  pub passes : test place ≡ true
+  pub first : (other : Place) → Contains places other → test other ≡ true → (other ≡ place) ⊎ (sorts_before side place other ≡ true)
+
+-- the first of the places that pass a test, or none where none passes
+abbrev pub IsFirstOf : (Place → Bool) → Side → List Place → Option Place → Type 0
+IsFirstOf test side places None = (place : Place) → Contains places place → test place ≡ false
+IsFirstOf test side places (Some place) = IsFirst test side places place

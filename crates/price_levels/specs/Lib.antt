@@ -1,1 +1,3 @@
 pub mod Ladder
+pub mod Held
+pub mod Layout

@@ -1,10 +1,12 @@
-ghost use Rattle.std.specs.Prelude.{◌≡◌, ◌+◌, ◌≤◌, true, false, [], not, length, slice_get, OnOk};
+ghost use Rattle.std.specs.Prelude.{◌≡◌, ◌+◌, ◌≤◌, ◌↔◌, [], not, slice_get, IsTrue, OnOk};
 ghost use Rattle.std.specs.List.{Contains};
-ghost use Rattle.std.specs.List.Sorted.{IsPartitionPoint};
 ghost use Rattle.price_levels.specs.Ladder.{IsSorted, IsNewArrival, Gains, Loses, first_where};
 ghost use Rattle.price_levels.specs.Ladder as ladder;
 
-use crate::place::{Place, sorts_before};
+use crate::chunks::Chunks;
+use crate::cut::Cut;
+use crate::place::Place;
+use crate::spot::Spot;
 use crate::steps::Steps;
 use fx_amounts::{Memory, Side};
 use std::alloc::Global;
@@ -15,18 +17,19 @@ use std::sync::ledger::Ledger;
 #[derive(Debug, Drop)]
 pub struct Levels {
     side: Side,
-    places: Vec<Place>,
+    chunks: Chunks,
 }
 
 impl Model for Levels {
-    ghost use Rattle.std.specs.Prelude.{◌-◌, vec_len, vec_capacity};
-    ghost use Rattle.price_levels.specs.Ladder.{Ladder, IsSorted};
+    ghost use Rattle.std.specs.Prelude.{◌-◌};
+    ghost use Rattle.price_levels.specs.Ladder.{Ladder};
+    ghost use Rattle.price_levels.specs.Layout.{IsRow, places_of};
 
     ghost Value = { Ladder };
 
-    ghost view = { λ l. record { side = l.side; places = l.places.items; room = vec_capacity l.places - vec_len l.places } };
+    ghost view = { λ l. record { side = l.side; places = places_of l.chunks.chunks.items; room = l.chunks.most - l.chunks.count } };
 
-    ghost invariant = { λ l. IsSorted l.side l.places.items };
+    ghost invariant = { λ l. IsRow l.side l.chunks };
 }
 
 impl Levels {
@@ -37,8 +40,15 @@ impl Levels {
     {
         Levels {
             side,
-            places: Vec::new(alloc),
+            chunks: Chunks::new(alloc),
         }
+    }
+
+    /// Whether there is no place.
+    pub fn is_empty(&self) -> bool
+        ensures { IsTrue result ↔ (self.now.places ≡ []) }
+    {
+        self.chunks.is_empty()
     }
 
     /// Makes room for so many places more. At `Memory` there may be none.
@@ -49,8 +59,7 @@ impl Levels {
         ensures places { self.new.places ≡ self.old.places }
         ensures sorted { IsSorted self.new.side self.new.places }
     {
-        self.places.reserve(places)?;
-        Ok(())
+        self.chunks.reserve(places)
     }
 
     /// Puts a place where it belongs. It takes one of the places that there is room for.
@@ -62,8 +71,9 @@ impl Levels {
         ensures room { self.new.room + 1 ≡ self.old.room }
         ensures sorted { IsSorted self.new.side self.new.places }
     {
-        let at = count_before(self.side, &self.places, &place);
-        self.places.insert(at, place).unwrap();
+        self.chunks.make_spare();
+        let spot = self.chunks.find(self.side, Cut::Before(&place));
+        self.chunks.insert(spot, place);
     }
 
     /// Takes a place out, and leaves room for another.
@@ -74,8 +84,8 @@ impl Levels {
         ensures room { self.new.room ≡ self.old.room + 1 }
         ensures sorted { IsSorted self.new.side self.new.places }
     {
-        let at = count_before(self.side, &self.places, place);
-        self.places.remove(at);
+        let spot = self.chunks.find(self.side, Cut::Before(place));
+        self.chunks.remove(spot);
     }
 
     /// The first place of all; `None` where there is none.
@@ -85,7 +95,7 @@ impl Levels {
         ensures sorted { IsSorted self.now.side self.now.places }
     {
         steps.tick();
-        self.places.first().copied()
+        self.chunks.get(Spot { chunk: 0, at: 0 })
     }
 
     /// The first place that stands after this one, which need not be there; `None` where there is none.
@@ -95,8 +105,8 @@ impl Levels {
         ensures sorted { IsSorted self.now.side self.now.places }
     {
         steps.tick();
-        let at = count_up_to(self.side, &self.places, place);
-        self.places.get(at).copied()
+        let spot = self.chunks.find(self.side, Cut::Behind(place));
+        self.chunks.get(spot)
     }
 
     /// The first place that does not stand before this one, which need not be there; `None` where there is none.
@@ -106,25 +116,7 @@ impl Levels {
         ensures sorted { IsSorted self.now.side self.now.places }
     {
         steps.tick();
-        let at = count_before(self.side, &self.places, place);
-        self.places.get(at).copied()
+        let spot = self.chunks.find(self.side, Cut::Before(place));
+        self.chunks.get(spot)
     }
-}
-
-/// How many places stand before this one.
-fn count_before(side: Side, places: &[Place], place: &Place) -> usize
-    requires { IsSorted side places.now }
-    ensures within { result ≤ length places.now }
-    ensures parted { IsPartitionPoint (λ other. ladder.sorts_before side other place.now ≡ true) (λ other. ladder.sorts_before side other place.now ≡ false) places.now result }
-{
-    places.partition_point(|other| sorts_before(side, other, place))
-}
-
-/// How many places do not stand after this one.
-fn count_up_to(side: Side, places: &[Place], place: &Place) -> usize
-    requires { IsSorted side places.now }
-    ensures within { result ≤ length places.now }
-    ensures parted { IsPartitionPoint (λ other. not (ladder.sorts_before side place.now other) ≡ true) (λ other. not (ladder.sorts_before side place.now other) ≡ false) places.now result }
-{
-    places.partition_point(|other| !sorts_before(side, place, other))
 }

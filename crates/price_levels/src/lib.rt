@@ -1,10 +1,14 @@
 //! The places of resting orders of one side, sorted from the best price, and the counter of a search's steps.
 #![tactic(auto)]
 
+mod chunk;
+mod chunks;
+mod cut;
 mod levels;
 mod place;
+mod spot;
 mod steps;
 
 pub use levels::Levels;
-pub use place::Place;
+pub use place::{Place, sorts_before};
 pub use steps::Steps;

@@ -15,7 +15,7 @@ pub struct Place {
 }
 
 /// Whether the first place stands before the other among those of `side`.
-pub(crate) fn sorts_before(side: Side, place: &Place, other: &Place) -> bool
+pub fn sorts_before(side: Side, place: &Place, other: &Place) -> bool
     ensures { result ≡ sorts_before side place.now other.now }
 {
     let better = match side {

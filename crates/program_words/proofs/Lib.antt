@@ -4,3 +4,4 @@ pub mod Complete
 pub mod Ranges
 pub mod MatchedLemmas
 pub mod SameWords
+pub mod Examples

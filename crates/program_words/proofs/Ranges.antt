@@ -1,5 +1,5 @@
 -- The numbers of a task that words ask for are in their ranges.
-use Rattle.std.proofs.Common.{ℕ, ◌≡◌, ◌≤◌, ◌-◌, ◌^◌, Bool, true, false, List, [], ◌∷◌, Option, Some, None, subst, codes, if◌then◌else◌}
+use Rattle.std.proofs.Common.{ℕ, ◌≡◌, ◌≤◌, ◌-◌, ◌^◌, Bool, true, false, List, [], ◌∷◌, arith, Option, Some, None, subst, codes, if◌then◌else◌}
 use Rattle.std.specs.Str.{bytes_eq}
 use Rattle.std.proofs.lemmas.Option.{none-some}
 use Rattle.fx_text.specs.Number.{number_of}
@@ -7,7 +7,7 @@ use Rattle.fx_text.proofs.NumberLemmas.{Reads, Reads-number_of}
 use Rattle.clap.specs.Words.{Text}
 use Rattle.program_words.specs.declared.task.Task.{Task}
 use Rattle.program_words.specs.declared.task.Task.TheVariants.{Run, Serial, Check, Load}
-use Rattle.program_words.specs.Forms.{◌>>=◌, workers_of, run_of, alone, load_of, task_of, IsTask}
+use Rattle.program_words.specs.Forms.{◌>>=◌, workers_of, run_of, alone, load_of, task_of, AreWorkers, IsTask}
 use Rattle.program_words.proofs.MatchedLemmas.{some_is}
 use Rattle.program_words.proofs.Complete.{gave}
 
@@ -20,10 +20,21 @@ in_range least most value text e =
     let reads : Reads least most text (Some value) = subst (λ (read : Option ℕ). Reads least most text read) e (Reads-number_of least most text) in
     record { low = reads.least; high = reads.most }
 
+-- the workers that are asked for
+are_workers : (rest : List Text) (workers : ℕ) → workers_of rest ≡ Some workers → AreWorkers workers
+are_workers [] workers e = subst AreWorkers (some_is 4 workers e) (omega arith, omega arith)
+are_workers (option ∷ []) workers e = absurd (none-some workers e)
+are_workers (option ∷ count ∷ []) workers e = at (bytes_eq option (codes "--workers")) e
+  where
+    at : (b : Bool) → (if b then number_of 1 64 count else None) ≡ Some workers → AreWorkers workers
+    at true given = let range = in_range 1 64 workers count given in (range.low, range.high)
+    at false given = absurd (none-some workers given)
+are_workers (option ∷ count ∷ more ∷ rest) workers e = absurd (none-some workers e)
+
 run_is_task : (rest : List Text) (task : Task) → run_of rest ≡ Some task → IsTask task
 run_is_task rest task e =
     let workers = gave (workers_of rest) (λ n. Some (Run n)) task e in
-    subst IsTask (some_is (Run workers.value) task workers.rest) tt
+    subst IsTask (some_is (Run workers.value) task workers.rest) (are_workers rest workers.value workers.is)
 
 alone_is_task : (its : Task) (rest : List Text) (task : Task) → IsTask its → alone its rest ≡ Some task → IsTask task
 alone_is_task its [] task is e = subst IsTask (some_is its task e) is
@@ -35,7 +46,7 @@ of_workers : (seed banks pairs commands : ℕ) (rest : List Text) (task : Task) 
     → (workers_of rest >>= (λ w. Some (Load seed banks pairs commands w))) ≡ Some task → IsTask task
 of_workers seed banks pairs commands rest task b p n e =
     let workers = gave (workers_of rest) (λ w. Some (Load seed banks pairs commands w)) task e in
-    subst IsTask (some_is (Load seed banks pairs commands workers.value) task workers.rest) ((b.low, b.high), (p.low, p.high), (n.low, n.high))
+    subst IsTask (some_is (Load seed banks pairs commands workers.value) task workers.rest) ((b.low, b.high), (p.low, p.high), (n.low, n.high), are_workers rest workers.value workers.is)
 
 of_commands : (seed banks pairs : ℕ) (d : Text) (rest : List Text) (task : Task) → InRange 2 64 banks → InRange 1 32 pairs
     → (number_of 1 20000 d >>= (λ n. workers_of rest >>= (λ w. Some (Load seed banks pairs n w)))) ≡ Some task → IsTask task

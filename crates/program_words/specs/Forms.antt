@@ -48,8 +48,13 @@ task_of (word ∷ rest) =
     else if bytes_eq word (codes "load") then load_of rest
     else None
 
+-- so many workers can be asked for
+abbrev pub AreWorkers : ℕ → Type 0
+AreWorkers workers = (1 ≤ workers) × (workers ≤ 64)
+
 -- the numbers of a task are in their ranges
 abbrev pub IsTask : Task → Type 0
+IsTask (Run workers) = AreWorkers workers
 IsTask (Load seed banks pairs commands workers) =
-    ((2 ≤ banks) × (banks ≤ 64)) × ((1 ≤ pairs) × (pairs ≤ 32)) × ((1 ≤ commands) × (commands ≤ 20000))
+    ((2 ≤ banks) × (banks ≤ 64)) × ((1 ≤ pairs) × (pairs ≤ 32)) × ((1 ≤ commands) × (commands ≤ 20000)) × AreWorkers workers
 IsTask _ = Unit {0}

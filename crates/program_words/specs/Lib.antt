@@ -1,4 +1,3 @@
-pub mod Workers
 pub mod Forms
 pub mod Tool
 pub mod Printed

@@ -8,4 +8,4 @@ mod reading;
 mod task;
 
 pub use reading::{WordsFault, read_words};
-pub use task::{Task, Workers};
+pub use task::Task;

@@ -3,7 +3,7 @@ ghost use Rattle.clap.specs.Words.{first_of, found_of, rows_of, subcommand_rows_
 ghost use Rattle.program_words.specs.Forms.{workers_of, task_of};
 ghost use Rattle.program_words.specs.Printed.{matched_words, option_words, printed, printed_load};
 
-use crate::task::{Task, Workers};
+use crate::task::{DEFAULT_WORKERS, Task};
 use clap::ArgMatches;
 use fx_amounts::Memory;
 use fx_text::number;
@@ -138,11 +138,11 @@ fn push_option<'a>(words: &mut Vec<&'a str>, workers: Option<&'a str>) -> Result
 }
 
 /// The number of workers that was said, or the one that stands where none was.
-fn workers_from(said: Option<&str>) -> Option<Workers>
+fn workers_from(said: Option<&str>) -> Option<u32>
     ensures { result ≡ workers_of (option_words said.entry) }
 {
     match said {
-        None => Workers::new(Workers::DEFAULT),
-        Some(text) => Workers::new(number(text.as_bytes(), 1, 64)? as u32),
+        None => Some(DEFAULT_WORKERS),
+        Some(text) => Some(number(text.as_bytes(), 1, 64)? as u32),
     }
 }

@@ -1,4 +1,4 @@
-use super::{HEADER, MemorySink, MemorySource, owned};
+use super::{CountingGate, HEADER, MemorySink, MemorySource, owned};
 use crate::fx_main;
 use fx_amounts::{BankId, PairId};
 use fx_rules::Gate;
@@ -79,5 +79,23 @@ fn two_workers_meet(rt: HostRuntime) -> Result<(), Fail> {
     assert!(&rt; gate.gave_up.load(SeqCst) == 0);
     assert!(&rt; out.written().starts_with(&journal));
     assert!(&rt; err.written().is_empty());
+    Ok(())
+}
+
+// The gate is called before and after each of the two commands on threads.
+#[test]
+fn a_load_of_two_commands(rt: HostRuntime) -> Result<(), Fail> {
+    let alloc = rt.alloc();
+    let words = owned(alloc, &["load", "1", "2", "1", "2"])?;
+    let mut source = MemorySource::new(Vec::new(alloc), 4096, Vec::new(alloc));
+    let mut out = MemorySink::new(4096, Vec::new(alloc));
+    let mut err = MemorySink::new(4096, Vec::new(alloc));
+    let gate = CountingGate {
+        asked: AtomicU64::new(0),
+    };
+    let status = fx_main(&rt, &words, &mut source, &mut out, &mut err, &gate);
+    assert!(&rt; status.code() == 0);
+    assert!(&rt; out.written() == b"LOAD 1 2 1 2\nSERIAL 2 1 8 1\nTHREADS 2 YES\n".as_slice());
+    assert!(&rt; gate.asked.load(SeqCst) == 4);
     Ok(())
 }

@@ -9,7 +9,7 @@ add_fill-requires g c = record {
   lots = omega (
     arith,
     by-lots c.args.book.now c.new-walk.result c.loop-walk.walk c.next_fill.new.self c.loop-walk.levels.items c.in-Some.fill
-        c.loop-walk.invariant c.in-Some.ensures.steps c.in-Some.ensures.ready,
+        c.new-walk.ensures.begins.ready.weight.0 c.loop-walk.invariant c.in-Some.ensures.steps c.in-Some.ensures.ready,
     c.new-walk.ensures.begins.most,
   );
 }

@@ -1,9 +1,15 @@
+use Rattle.std.proofs.Common.{◌≤◌, ◌+◌, length}
+use Rattle.match_sweep.specs.Heads.{CameBefore}
+use Rattle.match_sweep.specs.Walks.{steps_behind}
 use Rattle.match_sweep.proofs.Walking.{Went}
 use Rattle.match_sweep.proofs.sweeping.sweep.Given as goal
 
--- the fills are those of the walk so far
+-- the fills are those of the walk so far, a step for each
 abbrev pub invariant-loop-fill : goal.invariant-loop-fill
-invariant-loop-fill g l = Went l.book l.initial.walk l.walk l.fills.items
+invariant-loop-fill g l = record {
+  went : Went l.book l.initial.walk l.walk l.fills.items;
+  steps : CameBefore l.book.orders l.initial.walk.order.arrival → l.steps + steps_behind l.walk.last ≤ l.initial.steps + length l.fills.items;
+}
 
 abbrev pub decreases-loop-fill : goal.decreases-loop-fill
 decreases-loop-fill g l = l.walk.order.left

@@ -6,17 +6,17 @@ sum-requires c =
     let can = can_take _ _ _ _ _ c.self.view_is c.requires.first c.requires.second c.requires.credit in
     take_in_range _ _ _ _ _ _ _ c.self.invariant can c.shared_place-at.ensures.value c.index.ensures
 
-pub difference-requires : goal.difference-requires
-difference-requires c =
+pub difference-line-requires : goal.difference-line-requires
+difference-line-requires c =
     let can = can_take _ _ _ _ _ c.self.view_is c.requires.first c.requires.second c.requires.credit in
-    take_below_line _ _ _ _ _ _ _ c.self.invariant can c.shared_place-at.ensures.value c.index-2.ensures
+    take_below_line _ _ _ _ _ _ _ c.self.invariant can c.place.ensures.value c.index-2.ensures
 
 pub invariant_of-self : goal.invariant_of-self
 invariant_of-self c =
     let can = can_take _ _ _ _ _ c.self.view_is c.requires.first c.requires.second c.requires.credit in
-    take_keeps _ _ _ _ _ _ _ _ _ _ c.self.invariant can c.shared_place-at.ensures.value c.index.ensures c.index-2.ensures c.sum.ensures c.difference.ensures
+    take_keeps _ _ _ _ _ _ _ _ _ _ _ _ c.self.invariant can c.shared_place-at.ensures.value c.index.ensures c.place.ensures.value c.index-2.ensures c.sum.ensures c.difference-line.ensures c.set_line.ensures
 
 pub returns-clause-valid : goal.returns-clause-valid
 returns-clause-valid c =
     let can = can_take _ _ _ _ _ c.self.view_is c.requires.first c.requires.second c.requires.credit in
-    (take_keeps _ _ _ _ _ _ _ _ _ _ c.self.invariant can c.shared_place-at.ensures.value c.index.ensures c.index-2.ensures c.sum.ensures c.difference.ensures).0
+    (take_keeps _ _ _ _ _ _ _ _ _ _ _ _ c.self.invariant can c.shared_place-at.ensures.value c.index.ensures c.place.ensures.value c.index-2.ensures c.sum.ensures c.difference-line.ensures c.set_line.ensures).0

@@ -1,11 +1,11 @@
 use Rattle.std.proofs.Common.{ap, ◌∙◌}
-use Rattle.price_levels.specs.Ladder.{Ladder}
-use Rattle.price_levels.proofs.Edits.{copied_item, read_after}
+use Rattle.price_levels.specs.Ladder.{Ladder, first_where, sorts_before}
+use Rattle.price_levels.specs.Layout.{places_of, offset}
+use Rattle.price_levels.proofs.Edits.{read_after}
 use Rattle.price_levels.proofs.levels.Levels.after.Goals as goal
 
 pub returns-clause-first : goal.returns-clause-first
 returns-clause-first g c =
-    read_after c.self.inside.side c.args.place.now c.deref.result.now c.deref-2.result.now c.self.inside.places.items c.args.self.now c.count_up_to-at.result c.copied.result
-    c.deref.ensures.value c.deref-2.ensures.value (ap (λ (l : Ladder). l.places) c.self.view_is) (ap (λ (l : Ladder). l.side) c.self.view_is)
-    c.count_up_to-at.ensures.within c.count_up_to-at.ensures.parted
-    (c.copied.ensures ∙ copied_item c.deref-2.result.now c.count_up_to-at.result c.get.result c.get.ensures.lookup)
+    c.get.ensures
+    ∙ read_after c.self.inside.side c.args.place.now (places_of c.self.inside.chunks.chunks.items) (offset c.self.inside.chunks.chunks.items c.find-spot.result) c.find-spot.ensures.within c.find-spot.ensures.parted
+    ∙ ap (λ (l : Ladder). first_where (sorts_before l.side c.args.place.now) l.places) c.self.view_is

@@ -1,11 +1,11 @@
-use Rattle.std.proofs.Common.{ap, ◌∙◌}
-use Rattle.price_levels.specs.Ladder.{Ladder}
-use Rattle.price_levels.proofs.Edits.{copied_item, read_from}
+use Rattle.std.proofs.Common.{not, ap, ◌∙◌}
+use Rattle.price_levels.specs.Ladder.{Ladder, first_where, sorts_before}
+use Rattle.price_levels.specs.Layout.{places_of, offset}
+use Rattle.price_levels.proofs.Edits.{read_from}
 use Rattle.price_levels.proofs.levels.Levels.from.Goals as goal
 
 pub returns-clause-first : goal.returns-clause-first
 returns-clause-first g c =
-    read_from c.self.inside.side c.args.place.now c.deref.result.now c.deref-2.result.now c.self.inside.places.items c.args.self.now c.count_before-at.result c.copied.result
-    c.deref.ensures.value c.deref-2.ensures.value (ap (λ (l : Ladder). l.places) c.self.view_is) (ap (λ (l : Ladder). l.side) c.self.view_is)
-    c.count_before-at.ensures.within c.count_before-at.ensures.parted
-    (c.copied.ensures ∙ copied_item c.deref-2.result.now c.count_before-at.result c.get.result c.get.ensures.lookup)
+    c.get.ensures
+    ∙ read_from c.self.inside.side c.args.place.now (places_of c.self.inside.chunks.chunks.items) (offset c.self.inside.chunks.chunks.items c.find-spot.result) c.find-spot.ensures.within c.find-spot.ensures.parted
+    ∙ ap (λ (l : Ladder). first_where (λ other. not (sorts_before l.side other c.args.place.now)) l.places) c.self.view_is

@@ -1,21 +1,30 @@
-use Rattle.std.proofs.Common.{ap, ◌<◌, vec_len, vec_capacity, arith, is_ok}
-use Rattle.price_levels.specs.Ladder.{Ladder}
-use Rattle.price_levels.proofs.Edits.{insert_keeps}
+use Rattle.std.proofs.Common.{List, ap, ◌≡◌, ◌∙◌, sym, subst}
+use Rattle.std.specs.List.{insert}
+use Rattle.price_levels.specs.declared.place.Place.{Place}
+use Rattle.price_levels.specs.Ladder.{Ladder, IsSorted, Gains, IsNewArrival}
+use Rattle.price_levels.specs.Layout.{places_of, offset}
+use Rattle.price_levels.proofs.Sorting.{IsSorted-insert, Gains-insert}
 use Rattle.price_levels.proofs.levels.Levels.insert.Goals as goal
 
 pub invariant_of-self : goal.invariant_of-self
 invariant_of-self c =
-    let room : vec_len c.self.inside.places < vec_capacity c.self.inside.places = omega (arith, c.requires.room, ap (λ (l : Ladder). l.room) c.self.view_is) in
-    (insert_keeps c.self.inside.side c.args.place c.deref.result.now c.self.inside.places.items c.insert.new.self.items c.args.self.now c.count_before-at.result (is_ok c.insert.result)
-    c.deref.ensures.value (ap (λ (l : Ladder). l.places) c.self.view_is) c.count_before-at.ensures.within c.self.invariant c.requires.absent
-    c.count_before-at.ensures.parted (c.insert.ensures.succeeds room) c.insert.ensures.items).0
+    let was : List Place = places_of c.make_spare.new.self.chunks.items in
+    let seen : was ≡ c.args.self.now.places = c.make_spare.ensures.places ∙ ap (λ (l : Ladder). l.places) c.self.view_is in
+    record {
+      laid = c.insert.ensures.laid;
+      sorted = subst (IsSorted c.self.inside.side) (sym c.insert.ensures.places)
+          (IsSorted-insert c.self.inside.side c.args.place was (offset c.make_spare.new.self.chunks.items c.find-spot.result) c.find-spot.ensures.within
+          (subst (IsSorted c.self.inside.side) (sym c.make_spare.ensures.places) c.self.invariant.sorted)
+          (subst (IsNewArrival c.args.place.arrival) (sym seen) c.requires.absent) c.find-spot.ensures.parted);
+    }
 
 pub returns-clause-gains : goal.returns-clause-gains
 returns-clause-gains c =
-    let room : vec_len c.self.inside.places < vec_capacity c.self.inside.places = omega (arith, c.requires.room, ap (λ (l : Ladder). l.room) c.self.view_is) in
-    (insert_keeps c.self.inside.side c.args.place c.deref.result.now c.self.inside.places.items c.insert.new.self.items c.args.self.now c.count_before-at.result (is_ok c.insert.result)
-    c.deref.ensures.value (ap (λ (l : Ladder). l.places) c.self.view_is) c.count_before-at.ensures.within c.self.invariant c.requires.absent
-    c.count_before-at.ensures.parted (c.insert.ensures.succeeds room) c.insert.ensures.items).1
+    let was : List Place = places_of c.make_spare.new.self.chunks.items in
+    let seen : was ≡ c.args.self.now.places = c.make_spare.ensures.places ∙ ap (λ (l : Ladder). l.places) c.self.view_is in
+    subst (λ (xs : List Place). Gains c.args.self.now.places xs c.args.place) (sym c.insert.ensures.places)
+    (subst (λ (xs : List Place). Gains xs (insert was (offset c.make_spare.new.self.chunks.items c.find-spot.result) c.args.place) c.args.place) seen
+    (Gains-insert c.args.place was (offset c.make_spare.new.self.chunks.items c.find-spot.result)))
 
 pub returns-clause-sorted : goal.returns-clause-sorted
-returns-clause-sorted c = invariant_of-self c
+returns-clause-sorted c = (invariant_of-self c).sorted

@@ -1,19 +1,30 @@
-use Rattle.std.proofs.Common.{ap}
-use Rattle.price_levels.specs.Ladder.{Ladder}
-use Rattle.price_levels.proofs.Edits.{remove_keeps}
+use Rattle.std.proofs.Common.{List, ap, sym, subst}
+use Rattle.std.specs.List.{Contains, remove}
+use Rattle.price_levels.specs.declared.place.Place.{Place}
+use Rattle.price_levels.specs.Ladder.{Ladder, IsSorted, Loses}
+use Rattle.price_levels.specs.Layout.{places_of, offset}
+use Rattle.price_levels.proofs.Sorting.{IsSorted-remove, Loses-remove, found_within}
 use Rattle.price_levels.proofs.levels.Levels.remove.Goals as goal
 
+pub remove-requires-clause-there : goal.remove-requires-clause-there
+remove-requires-clause-there c =
+    found_within c.self.inside.side c.args.place.now (places_of c.self.inside.chunks.chunks.items) (offset c.self.inside.chunks.chunks.items c.find-spot.result) c.find-spot.ensures.within c.self.invariant.sorted
+    (subst (λ (xs : List Place). Contains xs c.args.place.now) (sym (ap (λ (l : Ladder). l.places) c.self.view_is)) c.requires.there) c.find-spot.ensures.parted
+
 pub invariant_of-self : goal.invariant_of-self
-invariant_of-self c =
-    (remove_keeps c.self.inside.side c.args.place.now c.deref.result.now c.self.inside.places.items c.remove.new.self.items c.args.self.now c.count_before-at.result
-    c.deref.ensures.value (ap (λ (l : Ladder). l.places) c.self.view_is) c.count_before-at.ensures.within c.self.invariant c.requires.there
-    c.count_before-at.ensures.parted c.remove.ensures.items).0
+invariant_of-self c = record {
+  laid = c.remove.ensures.laid;
+  sorted = subst (IsSorted c.self.inside.side) (sym c.remove.ensures.places)
+      (IsSorted-remove c.self.inside.side (places_of c.self.inside.chunks.chunks.items) (offset c.self.inside.chunks.chunks.items c.find-spot.result) c.self.invariant.sorted);
+}
 
 pub returns-clause-loses : goal.returns-clause-loses
 returns-clause-loses c =
-    (remove_keeps c.self.inside.side c.args.place.now c.deref.result.now c.self.inside.places.items c.remove.new.self.items c.args.self.now c.count_before-at.result
-    c.deref.ensures.value (ap (λ (l : Ladder). l.places) c.self.view_is) c.count_before-at.ensures.within c.self.invariant c.requires.there
-    c.count_before-at.ensures.parted c.remove.ensures.items).1
+    let seen = ap (λ (l : Ladder). l.places) c.self.view_is in
+    subst (λ (xs : List Place). Loses c.args.self.now.places xs c.args.place.now) (sym c.remove.ensures.places)
+    (subst (λ (xs : List Place). Loses xs (remove (places_of c.self.inside.chunks.chunks.items) (offset c.self.inside.chunks.chunks.items c.find-spot.result)) c.args.place.now) seen
+    (Loses-remove c.self.inside.side c.args.place.now (places_of c.self.inside.chunks.chunks.items) (offset c.self.inside.chunks.chunks.items c.find-spot.result) c.find-spot.ensures.within c.self.invariant.sorted
+    (subst (λ (xs : List Place). Contains xs c.args.place.now) (sym seen) c.requires.there) c.find-spot.ensures.parted))
 
 pub returns-clause-sorted : goal.returns-clause-sorted
-returns-clause-sorted c = invariant_of-self c
+returns-clause-sorted c = (invariant_of-self c).sorted

@@ -1,0 +1,3 @@
+pub mod Rows
+mod Walking
+mod Wanting

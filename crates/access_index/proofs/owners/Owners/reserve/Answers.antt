@@ -1,0 +1,19 @@
+use Rattle.std.proofs.Common.{List, ◌<◌, length, ap, subst, slice_set, arith}
+use Rattle.access_index.specs.Sides.{OwnRows}
+use Rattle.access_index.specs.Owned.{OwnersGrow}
+use Rattle.access_index.proofs.Rows.{owned_grown, owners_grown}
+use Rattle.access_index.proofs.owners.Owners.reserve.Goals as goal
+
+pub invariant_of-self : goal.invariant_of-self
+invariant_of-self c =
+    let within : c.index.result < length c.self.inside.rows.items = omega (arith, c.requires.bank, c.index.ensures.value, ap length c.self.view_is) in
+    owned_grown c.self.inside.rows.items c.index.result c.index_mut-rows.result.now c.reserve.new.self c.self.invariant within c.index_mut-rows.ensures.value c.reserve.ensures.bids c.reserve.ensures.asks
+
+pub returns-clause-valid : goal.returns-clause-valid
+returns-clause-valid c = invariant_of-self c
+
+pub returns-clause-grow : goal.returns-clause-grow
+returns-clause-grow c =
+    let within : c.index.result < length c.self.inside.rows.items = omega (arith, c.requires.bank, c.index.ensures.value, ap length c.self.view_is) in
+    subst (λ (o : List OwnRows). OwnersGrow o (slice_set c.self.inside.rows.items c.index.result c.reserve.new.self)) c.self.view_is
+    (owners_grown c.self.inside.rows.items c.index.result c.index_mut-rows.result.now c.reserve.new.self within c.index_mut-rows.ensures.value c.reserve.ensures.bids c.reserve.ensures.asks)

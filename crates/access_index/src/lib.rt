@@ -1,0 +1,9 @@
+//! The places of each owner's resting orders in one pair, and the best one that can be reached among all owners.
+#![tactic(auto)]
+
+mod owners;
+mod search;
+mod sides;
+
+pub use owners::Owners;
+pub use search::best_of;

@@ -1,0 +1,134 @@
+ghost use Rattle.std.specs.Prelude.{◌≡◌, ◌≢◌, ◌+◌, ◌≤◌, ◌<◌, ℕ, min, None, [], length, OnOk, IfOk, IfSome};
+ghost use Rattle.std.specs.List.{All, Contains};
+ghost use Rattle.std.specs.Option.{option_copied};
+ghost use Rattle.fx_amounts.specs.declared.side.Side.{Side as OneSide};
+ghost use Rattle.price_levels.specs.Ladder.{IsFirstOf, IsNewArrival};
+ghost use Rattle.access_index.specs.Owned.{AreEmpty, AreInTime, AreOwned, OwnerGains, OwnerLoses, OwnersGrow, is_ahead, row_at};
+
+use crate::search::first_in_time;
+use crate::sides::Sides;
+use fx_amounts::{BankId, Memory, Side};
+use price_levels::{Levels, Place, Steps};
+use std::alloc::Global;
+use std::marker::Model;
+use std::sync::ledger::Ledger;
+
+/// For each bank the places of its orders in one pair.
+#[derive(Debug, Drop)]
+pub struct Owners {
+    rows: Vec<Sides>,
+}
+
+impl Model for Owners {
+    ghost use Rattle.std.specs.Prelude.{List};
+    ghost use Rattle.access_index.specs.Sides.{OwnRows};
+    ghost use Rattle.access_index.specs.Owned.{AreOwned};
+
+    ghost Value = { List OwnRows };
+
+    ghost view = { λ o. o.rows.items };
+
+    ghost invariant = { λ o. AreOwned o.rows.items };
+}
+
+impl Owners {
+    /// No places, for so many banks, 64 at most. `Memory` for want of memory.
+    pub fn new(alloc: Global, banks: usize) -> Result<Owners, Memory>
+        ensures count { IfOk result (λ owners. length owners ≡ min banks 64) }
+        ensures empty { IfOk result (λ owners. (bank : ℕ) (side : OneSide) → (row_at owners bank side).places ≡ []) }
+        ensures valid { IfOk result AreOwned }
+    {
+        let rows = empty_rows(alloc, banks.min(BankId::COUNT))?;
+        Ok(Owners { rows })
+    }
+
+    /// Makes room for one place of a bank and a side. At `Memory` there may be none.
+    pub fn reserve(&mut self, bank: BankId, side: Side) -> Result<(), Memory>
+        requires bank { bank < length self.old }
+        ensures room { OnOk result (1 ≤ (row_at self.new bank side).room) }
+        ensures grow { OwnersGrow self.old self.new }
+        ensures valid { AreOwned self.new }
+    {
+        let rows = &mut self.rows[bank.index()];
+        rows.reserve(side)
+    }
+
+    /// Puts a place among those of a bank and a side. It takes one of the places that there is room for.
+    pub fn insert(&mut self, bank: BankId, side: Side, place: Place)
+        requires bank { bank < length self.old }
+        requires room { 1 ≤ (row_at self.old bank side).room }
+        requires absent { IsNewArrival place.arrival (row_at self.old bank side).places }
+        ensures gains { OwnerGains self.old self.new bank side place }
+        ensures valid { AreOwned self.new }
+    {
+        let rows = &mut self.rows[bank.index()];
+        rows.insert(side, place);
+    }
+
+    /// Takes a place of a bank and a side out, and leaves room for another.
+    pub fn remove(&mut self, bank: BankId, side: Side, place: &Place)
+        requires there { Contains (row_at self.old bank side).places place.now }
+        ensures loses { OwnerLoses self.old self.new bank side place.now }
+        ensures valid { AreOwned self.new }
+    {
+        let rows = &mut self.rows[bank.index()];
+        rows.remove(side, place);
+    }
+
+    /// How many banks there are, 64 at most.
+    pub(crate) fn banks(&self) -> u8
+        ensures value { result ≡ length self.now }
+        ensures valid { AreOwned self.now }
+    {
+        self.rows.len() as u8
+    }
+
+    /// The places of a bank and a side; `None` exactly where the bank has no order of that side.
+    pub fn levels(&self, bank: BankId, side: Side) -> Option<&Levels>
+        ensures some { IfSome result (λ levels. levels.now ≡ row_at self.now bank side) }
+        ensures has { IfSome result (λ levels. levels.now.places ≢ []) }
+        ensures none { result ≡ None → (row_at self.now bank side).places ≡ [] }
+        ensures valid { AreOwned self.now }
+    {
+        if bank.index() >= self.rows.len() {
+            return None;
+        }
+        let levels = self.rows[bank.index()].of(side);
+        if levels.is_empty() {
+            return None;
+        }
+        Some(levels)
+    }
+
+    /// The first place of a bank and a side whose order arrived before `before` and that stands behind the place `past`,
+    /// where there is one. One step for it, and one for each place that is passed over.
+    pub fn first_of<L: Ledger>(
+        &self,
+        bank: BankId,
+        side: Side,
+        before: u64,
+        past: Option<&Place>,
+        steps: &mut Steps<L>,
+    ) -> Option<Place>
+        ensures found { IsFirstOf (is_ahead side before (option_copied past.entry)) side (row_at self.now bank side).places result }
+        ensures steps { AreInTime before (row_at self.now bank side).places → steps.new ≤ steps.old + 1 }
+        ensures valid { AreOwned self.now }
+    {
+        match self.levels(bank, side) {
+            Some(levels) => first_in_time(levels, before, past, steps),
+            None => None,
+        }
+    }
+}
+
+/// So many rows of either side, with no places.
+fn empty_rows(alloc: Global, count: usize) -> Result<Vec<Sides>, Memory>
+    ensures count { IfOk result (λ rows. length rows.items ≡ count) }
+    ensures empty { IfOk result (λ rows. All AreEmpty rows.items) }
+{
+    let mut rows = Vec::new(alloc);
+    for _bank in 0..count {
+        rows.push(Sides::new(alloc))?;
+    }
+    Ok(rows)
+}

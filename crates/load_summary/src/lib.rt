@@ -1,0 +1,12 @@
+//! What `load` tells: a session made from a number is run in order and on threads, and the output of the second run is
+//! checked.
+#![tactic(auto)]
+
+mod laws;
+mod lines;
+mod load;
+mod serial;
+mod threaded;
+
+pub use laws::summaries_agree;
+pub use load::load_summary;

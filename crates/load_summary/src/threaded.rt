@@ -1,0 +1,61 @@
+ghost use Rattle.std.specs.Prelude.{◌≡◌, ◌≤◌, ◌^◌, IfOk, length};
+ghost use Rattle.fx_rules.specs.Lists.{Each};
+ghost use Rattle.fx_rules.specs.Sending.{IsSentOf};
+ghost use Rattle.fx_rules.specs.History.{IsLegal};
+
+use fx_amounts::Memory;
+use fx_edges::SteadySink;
+use fx_rules::{Entry, Gate, Sent, Session};
+use journal_check::{Verdict, check_output};
+use reply_lines::{Ending, OutFault, write_output};
+use std::alloc::Global;
+use std::sync::Wait;
+use std::thread::Threads;
+use threaded_run::run_on_threads;
+
+/// What a run on threads came to.
+#[derive(Clone, Copy)]
+pub(crate) struct ThreadedCheck {
+    /// How many entries its history has.
+    pub(crate) entries: u64,
+    /// What the check said of its output.
+    pub(crate) verdict: Verdict,
+}
+
+/// Runs commands, each bank's in its order, in at most `workers` threads, and checks the output of the history that they
+/// made. It may wait.
+pub(crate) fn threaded_check<R: AllocGlobal + Threads + Wait + Sync, G: Gate + Sync>(
+    rt: &R,
+    session: &Session,
+    sent: &[Sent],
+    workers: u32,
+    gate: &G,
+) -> Result<ThreadedCheck, Memory>
+    requires valid { Each (IsSentOf session.now) sent.now }
+    requires few { length sent.now ≤ 2 ^ 28 }
+    requires workers { 1 ≤ workers }
+    ensures entries { IfOk result (λ threaded. threaded.entries ≡ length sent.now) }
+    ensures verdict { IfOk result (λ threaded. threaded.verdict ≡ Verdict.Yes) }
+{
+    let history = run_on_threads(rt, session, sent, workers, gate)?;
+    let verdict = check_history(rt.alloc(), session, &history)?;
+    Ok(ThreadedCheck {
+        entries: history.len() as u64,
+        verdict,
+    })
+}
+
+/// Checks the output of a legal history. The output is made in memory.
+fn check_history(alloc: Global, session: &Session, entries: &[Entry]) -> Result<Verdict, Memory>
+    requires legal { IsLegal session.now entries.now }
+    requires few { length entries.now ≤ 2 ^ 28 }
+    ensures verdict { IfOk result (λ verdict. verdict ≡ Verdict.Yes) }
+{
+    let mut output = SteadySink::new(alloc);
+    match write_output(alloc, session, entries, 0, Ending::End, &mut output) {
+        Ok(()) => check_output(alloc, output.written()),
+        Err(OutFault::Memory) => Err(Memory),
+        // Such a sink never fails.
+        Err(OutFault::Write) => unreachable!(),
+    }
+}

@@ -1,0 +1,229 @@
+-- A walk's step: all heads are found, the best of them that may be taken is taken, and the other heads stay.
+use Rattle.std.proofs.Common.{ℕ, ◌≡◌, ◌-◌, ◌+◌, ◌*◌, ◌/◌, ◌≤◌, ◌<◌, min, true, false, leb, [], ◌∷◌, inl, inr, refl, ap, sym, subst, ◌∙◌, arith, length, get_or, slice_index, Option, Some, None, IfSome, get_or-set_other}
+use Rattle.std.proofs.Math.ListN.{set}
+use Rattle.std.proofs.Math.Nat.{le-div_iff_mul-le}
+use Rattle.std.proofs.lemmas.Bool.{cases_eq, and_parts, and_cases, and_from, both_ways, false_from_ne_true, leb-true, le-leb}
+use Rattle.fx_amounts.specs.declared.side.Side.{Side}
+use Rattle.fx_amounts.specs.Price.{crosses}
+use Rattle.fx_amounts.specs.Quantity.{IsWeight}
+use Rattle.fx_rules.specs.declared.orders.Resting.{Resting}
+use Rattle.fx_rules.specs.declared.orders.Fill.{Fill}
+use Rattle.fx_rules.specs.Lists.{Among}
+use Rattle.fx_rules.specs.Sweep.{is_preferred, amount, fill_with, less}
+use Rattle.fx_rules.proofs.ListLemmas.{Each-among}
+use Rattle.fx_rules.proofs.Planning.{div_none}
+use Rattle.fx_rules.proofs.Preference.{preferred_self, preferred_trans}
+use Rattle.price_levels.specs.declared.place.Place.{Place}
+use Rattle.global_book.specs.Book.{Book, IsBook, IsHeld, IsPlaceOf}
+use Rattle.match_sweep.specs.declared.walk.Walk.{Walk}
+use Rattle.match_sweep.specs.Heads.{IsFound, to_come, AreHeads}
+use Rattle.match_sweep.specs.Walks.{FromHere, LeadsOn, StepsOn, IsReady, IsRenewed, IsPicked, Takes, IsPickedAt, may_take, may_take_head, is_ahead, leads, head_of, last_of, reach_of, steps_behind}
+use Rattle.match_sweep.proofs.Tables.{none-kept}
+use Rattle.match_sweep.proofs.Planning.{walk-step, within_table}
+use Rattle.match_sweep.proofs.Picking.{Picks, picked-best, picked-none, heads-stay, among_to_come}
+
+-- The best of the banks, when one more is looked at.
+
+ahead_self : (side : Side) (a : Option (Resting × Place)) → is_ahead side a a ≡ false
+ahead_self side None = refl
+ahead_self side (Some head) = false_from_ne_true (is_preferred side head.0 head.0) (preferred_self side head.0)
+
+ahead_trans : (side : Side) (a b c : Option (Resting × Place)) → is_ahead side a b ≡ true → is_ahead side b c ≡ true → is_ahead side a c ≡ true
+ahead_trans side (Some a) (Some b) (Some c) first second = preferred_trans side a.0 b.0 c.0 first second
+ahead_trans side None b c first second = absurd (cc)
+ahead_trans side (Some a) None c first second = absurd (cc)
+ahead_trans side (Some a) (Some b) None first second = absurd (cc)
+
+not_ahead_self : (walk : Walk) (n bank : ℕ) → bank ≡ n → is_ahead walk.order.side (head_of walk bank) (head_of walk n) ≡ false
+not_ahead_self walk n bank same =
+    subst (λ (b : ℕ). is_ahead walk.order.side (head_of walk b) (head_of walk n) ≡ false) (sym same) (ahead_self walk.order.side (head_of walk n))
+
+-- the next bank leads
+pub picked-lead : (walk : Walk) (n : ℕ) (best : Option ℕ) → IsPickedAt walk n best → leads walk n best ≡ true → IsPickedAt walk (n + 1) (Some n)
+picked-lead walk n None picked lead = (
+  omega arith,
+  lead,
+  λ bank below may. elim (cases_eq bank n) [
+    | inl same ↦ not_ahead_self walk n bank same
+    | inr other ↦ absurd (both_ways (may_take_head walk bank (head_of walk bank)) (picked bank (omega (arith, below, other))) may)
+  ],
+)
+picked-lead walk n (Some best) picked lead =
+    let side : Side = walk.order.side in
+    let parts = and_parts (may_take_head walk n (head_of walk n)) (is_ahead side (head_of walk n) (head_of walk best)) lead in (
+      omega arith,
+      parts.0,
+      λ bank below may. elim (cases_eq bank n) [
+        | inl same ↦ not_ahead_self walk n bank same
+        | inr other ↦ false_from_ne_true (is_ahead side (head_of walk bank) (head_of walk n)) (λ above.
+            both_ways (is_ahead side (head_of walk bank) (head_of walk best)) (picked.2 bank (omega (arith, below, other)) may)
+            (ahead_trans side (head_of walk bank) (head_of walk n) (head_of walk best) above parts.1))
+      ],
+    )
+
+-- it does not
+pub picked-stay : (walk : Walk) (n : ℕ) (best : Option ℕ) → IsPickedAt walk n best → leads walk n best ≡ false → IsPickedAt walk (n + 1) best
+picked-stay walk n None picked stay =
+    λ bank below. elim (cases_eq bank n) [
+      | inl same ↦ subst (λ (b : ℕ). may_take_head walk b (head_of walk b) ≡ false) (sym same) stay
+      | inr other ↦ picked bank (omega (arith, below, other))
+    ]
+picked-stay walk n (Some best) picked stay = (
+  omega (arith, picked.0),
+  picked.1,
+  λ bank below may. elim (cases_eq bank n) [
+    | inl same ↦
+        subst (λ (b : ℕ). is_ahead walk.order.side (head_of walk b) (head_of walk best) ≡ false) (sym same)
+        (elim (and_cases (may_take_head walk n (head_of walk n)) (is_ahead walk.order.side (head_of walk n) (head_of walk best)) stay) [
+          | inl not_taken ↦ absurd (both_ways (may_take_head walk n (head_of walk n)) not_taken (subst (λ (b : ℕ). may_take_head walk b (head_of walk b) ≡ true) same may))
+          | inr behind ↦ behind
+        ])
+    | inr other ↦ picked.2 bank (omega (arith, below, other)) may
+  ],
+)
+
+-- A walk with all its heads.
+
+pub record IsSet (book : Book) (walk : Walk) : Type 0 where
+  pub banks : book.banks ≤ 64
+  pub bank : walk.order.bank < book.banks
+  pub weight : IsWeight walk.weight
+  pub own : slice_index walk.lines walk.order.bank ≡ 0
+  pub heads : AreHeads (reach_of walk) walk.order (last_of walk) book.orders book.banks (head_of walk)
+
+pub renewed-set : (book : Book) (old new : Walk) → IsReady book old → IsRenewed book old new → IsSet book new
+renewed-set book old new ready renewed = record {
+  banks = ready.banks;
+  bank = subst (λ (w : Walk). w.order.bank < book.banks) (sym renewed.same) ready.bank;
+  weight = subst (λ (w : Walk). IsWeight w.weight) (sym renewed.same) ready.weight;
+  own = subst (λ (w : Walk). slice_index w.lines w.order.bank ≡ 0) (sym renewed.same) ready.own;
+  heads = renewed.heads;
+}
+
+pays : (line weight : ℕ) → IsWeight weight → weight ≤ line → 1 ≤ line / weight
+pays line weight is fits = (le-div_iff_mul-le {k = weight} {x = 1} {y = line} (omega (arith, is.0))).1 (omega (arith, fits))
+
+paid_for : (line weight : ℕ) → IsWeight weight → 1 ≤ line / weight → weight ≤ line
+paid_for line weight is some = omega (arith, (le-div_iff_mul-le {k = weight} {x = 1} {y = line} (omega (arith, is.0))).0 some)
+
+owners : (book : Book) → IsBook book → (o : Resting) → Among o book.orders → o.bank < book.banks
+owners book is o there = let held : IsHeld book.banks o = Each-among (IsHeld book.banks) book.orders o is.held there in held.bank
+
+-- what is picked of the heads
+pub record Chosen (book : Book) (walk : Walk) (found : Resting × Place) : Type 0 where
+  pub picks : Picks (reach_of walk) walk.order (last_of walk) book.orders book.banks (head_of walk) found.0.bank found.0
+  pub placed : IsPlaceOf found.0 found.1
+  pub line : walk.weight ≤ slice_index walk.lines found.0.bank
+
+pub set-chosen : (book : Book) (walk : Walk) (found : Resting × Place) → IsBook book → IsSet book walk → IsPicked walk book.banks (Some found) → Chosen book walk found
+set-chosen book walk found is set_is picked =
+    let at : ℕ = picked.0.at in
+    let may = and_parts (leb walk.weight (slice_index walk.lines at)) (crosses walk.order.side walk.order.price found.0.price) picked.0.may in
+    let fits : walk.weight ≤ slice_index walk.lines at = leb-true walk.weight (slice_index walk.lines at) may.0 in
+    let some : 1 ≤ reach_of walk at = pays (slice_index walk.lines at) walk.weight set_is.weight fits in
+    let head = subst (IsFound walk.order.side (to_come walk.order at (last_of walk) book.orders)) picked.0.is (set_is.heads at picked.0.within some) in
+    let there = head.0.there in
+    let owner : found.0.bank ≡ at = (among_to_come walk.order at (last_of walk) book.orders found.0 there).1.owner in
+    record {
+      picks = record {
+        rising = is.rising;
+        owners = owners book is;
+        own = ap (λ n. n / walk.weight) set_is.own ∙ div_none 0 walk.weight (omega (arith, set_is.weight.0));
+        heads_are = set_is.heads;
+        there = subst (λ (b : ℕ). Among found.0 (to_come walk.order b (last_of walk) book.orders)) (sym owner) there;
+        reach = subst (λ (b : ℕ). 1 ≤ reach_of walk b) (sym owner) some;
+        crosses = may.1;
+        none_before = λ bank head' within head_is reach crossing. picked.1 bank head' within head_is
+            (and_from (leb walk.weight (slice_index walk.lines bank)) (crosses walk.order.side walk.order.price head'.0.price)
+            (le-leb walk.weight (slice_index walk.lines bank) (paid_for (slice_index walk.lines bank) walk.weight set_is.weight reach)) crossing);
+      };
+      placed = head.1;
+      line = subst (λ (b : ℕ). walk.weight ≤ slice_index walk.lines b) (sym owner) fits;
+    }
+
+-- where none is picked nothing is open
+pub set-none : (book : Book) (walk : Walk) → IsBook book → IsSet book walk → IsPicked walk book.banks None → FromHere book walk [] walk.order.left
+set-none book walk is set_is picked = (
+  refl,
+  inr (picked-none (reach_of walk) walk.order (last_of walk) book.orders book.banks (head_of walk) (owners book is) set_is.heads
+      (λ bank head within head_is reach. false_from_ne_true (crosses walk.order.side walk.order.price head.0.price) (λ crossing.
+      both_ways (may_take walk bank head.0) (picked bank head within head_is)
+      (and_from (leb walk.weight (slice_index walk.lines bank)) (crosses walk.order.side walk.order.price head.0.price)
+      (le-leb walk.weight (slice_index walk.lines bank) (paid_for (slice_index walk.lines bank) walk.weight set_is.weight reach)) crossing)))),
+)
+
+-- An order is taken.
+
+fill_is : (walk : Walk) (best : Resting) (fill : Fill) → fill ≡ fill_with walk.order best (amount walk.order best (reach_of walk best.bank)) → fill ≡ fill_with walk.order best fill.lots
+fill_is walk best fill is = is ∙ ap (fill_with walk.order best) (sym (ap (λ (f : Fill). f.lots) is))
+
+pub taken-leads : (book : Book) (walk new : Walk) (found : Resting × Place) (fill : Fill) → IsSet book walk → 1 ≤ walk.order.left → Chosen book walk found → Takes walk new found fill → LeadsOn book walk new fill
+taken-leads book walk new found fill set_is some chosen takes =
+    let best : Resting = found.0 in
+    let next : Walk = record walk {
+      order = less walk.order fill.lots;
+      lines = set walk.lines best.bank (slice_index walk.lines best.bank - fill.lots * walk.weight);
+      last = Some found;
+    } in
+    let within : best.bank < length walk.lines = within_table walk.lines best.bank (omega (arith, chosen.line, set_is.weight.0)) in
+    record {
+      goes_on = λ more left from.
+          let from_next : FromHere book next more left = subst (λ (w : Walk). FromHere book w more left) takes.now from in
+          subst (λ (f : Fill). FromHere book walk (f ∷ more) left) (sym (fill_is walk best fill takes.is))
+          (walk-step walk.weight walk.lines book.orders walk.order (last_of walk) best fill.lots more left some
+          (picked-best (reach_of walk) walk.order (last_of walk) book.orders book.banks (head_of walk) best.bank best chosen.picks)
+          (ap (λ (f : Fill). f.lots) takes.is) within from_next);
+      wants = omega (arith, ap (λ (w : Walk). w.order.left) takes.now, takes.some, some);
+      arrival = ap (λ (w : Walk). w.order.arrival) takes.now;
+      counted = ap (λ (w : Walk). steps_behind w.last) takes.now;
+    }
+
+least_reach : (a b r lots : ℕ) → lots ≡ min a (min b r) → lots ≤ r
+least_reach a b r lots is = omega arith
+
+pub taken-ready : (book : Book) (walk new : Walk) (found : Resting × Place) (fill : Fill) → IsSet book walk → Chosen book walk found → Takes walk new found fill → IsReady book new
+taken-ready book walk new found fill set_is chosen takes =
+    let best : Resting = found.0 in
+    let line : ℕ = slice_index walk.lines best.bank in
+    let rest : ℕ = line - fill.lots * walk.weight in
+    let within : best.bank < length walk.lines = within_table walk.lines best.bank (omega (arith, chosen.line, set_is.weight.0)) in
+    subst (IsReady book) (sym takes.now)
+    (record {
+      banks = set_is.banks;
+      bank = set_is.bank;
+      weight = set_is.weight;
+      own = none-kept walk.lines best.bank walk.order.bank rest within (omega arith) set_is.own;
+      placed = chosen.placed;
+      heads = λ bank below other reach.
+          let same : get_or (set walk.lines best.bank rest) bank 0 ≡ get_or walk.lines bank 0 = get_or-set_other walk.lines best.bank bank rest 0 other in
+          heads-stay (reach_of walk) walk.order (last_of walk) book.orders book.banks (head_of walk) best.bank bank best chosen.picks below other
+          (subst (λ n. 1 ≤ n / walk.weight) same reach);
+    })
+
+-- A step from before the heads were found.
+
+pub renewed-leads : (book : Book) (old walk new : Walk) (fill : Fill) → IsRenewed book old walk → LeadsOn book walk new fill → LeadsOn book old new fill
+renewed-leads book old walk new fill renewed leads =
+    let from_old = subst (λ (w : Walk). LeadsOn book w new fill) renewed.same leads in
+    record { goes_on = from_old.goes_on; wants = from_old.wants; arrival = from_old.arrival; counted = from_old.counted }
+
+pub renewed-ends : (book : Book) (old walk : Walk) (step : Option Fill) → IsRenewed book old walk → FromHere book walk [] walk.order.left → step ≡ None → StepsOn book old walk step
+renewed-ends book old walk step renewed from none =
+    subst (StepsOn book old walk) (sym none)
+    (ap (λ (w : Walk). w.order) renewed.same, subst (λ (w : Walk). FromHere book w [] w.order.left) renewed.same from)
+
+pub renewed-left : (book : Book) (old walk : Walk) → IsRenewed book old walk → walk.order.left ≡ old.order.left
+renewed-left book old walk renewed = ap (λ (w : Walk). w.order.left) renewed.same
+
+-- a walk whose heads are all found is one of which that of one bank may be out of date
+pub set-ready : (book : Book) (old walk : Walk) → IsReady book old → IsRenewed book old walk → IsReady book walk
+set-ready book old walk ready renewed =
+    let set_is = renewed-set book old walk ready renewed in
+    record {
+      banks = set_is.banks;
+      bank = set_is.bank;
+      weight = set_is.weight;
+      own = set_is.own;
+      placed = subst (λ (w : Walk). IfSome w.last (λ taken. IsPlaceOf taken.0 taken.1)) (sym renewed.same) ready.placed;
+      heads = λ bank below _ reach. set_is.heads bank below reach;
+    }

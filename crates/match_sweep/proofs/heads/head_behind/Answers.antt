@@ -1,0 +1,15 @@
+-- What the book finds of the bank's orders is its head.
+use Rattle.std.proofs.Common.{◌<◌}
+use Rattle.std.specs.Option.{option_copied}
+use Rattle.fx_rules.specs.declared.orders.Resting.{Resting}
+use Rattle.fx_rules.proofs.ListLemmas.{Each-weaker}
+use Rattle.match_sweep.proofs.Finding.{found-head}
+use Rattle.match_sweep.proofs.heads.head_behind.Goals as goal
+
+pub returns : goal.returns
+returns g c = record {
+  head = found-head c.args.book.now.orders c.args.order.now c.args.bank (option_copied c.args.past) c.opposite-side.result c.best_of.result
+      c.opposite-side.ensures (λ none. c.best_of.ensures.none.0 none) c.best_of.ensures.best c.best_of.ensures.place;
+  steps = λ came. c.best_of.ensures.steps
+      (Each-weaker (λ (o : Resting). o.arrival < c.args.order.now.arrival) _ (λ o before _. before) c.args.book.now.orders came);
+}

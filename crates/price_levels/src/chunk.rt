@@ -1,0 +1,114 @@
+ghost use Rattle.std.specs.Prelude.{◌≡◌, ◌+◌, ◌-◌, ◌≤◌, ◌<◌, true, false, [], ◌++◌, length, take, drop, slice_get, OnOk};
+ghost use Rattle.std.specs.List.{insert, remove};
+ghost use Rattle.std.specs.List.Sorted.{IsPartitionPoint};
+ghost use Rattle.price_levels.specs.Ladder.{IsSorted};
+ghost use Rattle.price_levels.specs.Held.{in_front, last_is_in_front};
+
+use crate::cut::Cut;
+use crate::place::Place;
+use fx_amounts::{Memory, Side};
+use std::alloc::Global;
+use std::marker::Model;
+
+/// Some places of a row that follow one another.
+#[derive(Debug, Drop)]
+pub(crate) struct Chunk {
+    places: Vec<Place>,
+}
+
+impl Model for Chunk {
+    ghost use Rattle.std.specs.Prelude.{vec_capacity};
+    ghost use Rattle.price_levels.specs.Held.{Held};
+
+    ghost Value = { Held };
+
+    ghost view = { λ c. record { places = c.places.items; capacity = vec_capacity c.places } };
+}
+
+impl Chunk {
+    /// No places. It takes no memory.
+    pub(crate) fn new(alloc: Global) -> Self
+        ensures { result.places ≡ [] }
+    {
+        Chunk {
+            places: Vec::new(alloc),
+        }
+    }
+
+    /// Makes room for so many places in all.
+    pub(crate) fn widen(&mut self, most: usize) -> Result<(), Memory>
+        ensures room { OnOk result (most ≤ self.new.capacity) }
+        ensures kept_room { self.old.capacity ≤ self.new.capacity }
+        ensures places { self.new.places ≡ self.old.places }
+    {
+        let more = most.saturating_sub(self.places.len());
+        self.places.reserve_exact(more)?;
+        Ok(())
+    }
+
+    /// How many places there are.
+    pub(crate) fn len(&self) -> usize
+        ensures { result ≡ length self.now.places }
+    {
+        self.places.len()
+    }
+
+    /// The place at an index; `None` where there is none.
+    pub(crate) fn get(&self, at: usize) -> Option<Place>
+        ensures { result ≡ slice_get self.now.places at }
+    {
+        self.places.get(at).copied()
+    }
+
+    /// Whether all places stand in front of a point, which the last one tells.
+    pub(crate) fn is_passed(&self, side: Side, cut: &Cut<'_>) -> bool
+        ensures { result ≡ last_is_in_front side cut.now self.now.places }
+    {
+        match self.places.last() {
+            Some(place) => cut.is_passed_by(side, place),
+            None => false,
+        }
+    }
+
+    /// How many places stand in front of a point.
+    pub(crate) fn count_passed(&self, side: Side, cut: &Cut<'_>) -> usize
+        requires { IsSorted side self.now.places }
+        ensures within { result ≤ length self.now.places }
+        ensures parted { IsPartitionPoint (λ other. in_front side cut.now other ≡ true) (λ other. in_front side cut.now other ≡ false) self.now.places result }
+    {
+        self.places
+            .partition_point(|other| cut.is_passed_by(side, other))
+    }
+
+    /// Puts a place at an index, where there is room.
+    pub(crate) fn insert(&mut self, at: usize, place: Place)
+        requires within { at ≤ length self.old.places }
+        requires room { length self.old.places < self.old.capacity }
+        ensures places { self.new.places ≡ insert self.old.places at place }
+        ensures kept_room { self.old.capacity ≤ self.new.capacity }
+    {
+        self.places.insert(at, place).unwrap();
+    }
+
+    /// Takes the place at an index out.
+    pub(crate) fn remove(&mut self, at: usize)
+        requires within { at < length self.old.places }
+        ensures places { self.new.places ≡ remove self.old.places at }
+        ensures kept_room { self.old.capacity ≤ self.new.capacity }
+    {
+        self.places.remove(at);
+    }
+
+    /// Moves the places from an index on behind those of another chunk, where there is room.
+    pub(crate) fn move_tail(&mut self, at: usize, other: &mut Chunk)
+        requires within { at ≤ length self.old.places }
+        requires room { length other.old.places + (length self.old.places - at) ≤ other.old.capacity }
+        ensures kept { self.new.places ≡ take at self.old.places }
+        ensures moved { other.new.places ≡ other.old.places ++ drop at self.old.places }
+        ensures kept_room { self.old.capacity ≤ self.new.capacity }
+        ensures other_room { other.old.capacity ≤ other.new.capacity }
+    {
+        other.places.extend_from_slice(&self.places[at..]).unwrap();
+        self.places.truncate(at);
+    }
+}

@@ -1,0 +1,30 @@
+ghost use Rattle.std.specs.Prelude.{◌≡◌, ◌<◌, ◌^◌, IfOk, length, map};
+ghost use Rattle.fx_rules.specs.Lists.{Each};
+ghost use Rattle.fx_rules.specs.Sending.{IsSentOf, sent_by};
+ghost use Rattle.flat_host.specs.Steps.{stands};
+ghost use Rattle.market_run.specs.Running.{HasRun};
+
+use flat_host::FlatHost;
+use fx_amounts::Memory;
+use fx_rules::{Sent, Session};
+use market_run::Run;
+use std::alloc::Global;
+
+/// The run of a session's commands, fewer than 2^32, which one plain host serves one after another.
+pub fn run_in_order(
+    alloc: Global,
+    session: &Session,
+    sent: &[Sent],
+) -> Result<Run<FlatHost>, Memory>
+    requires valid { Each (IsSentOf session.now) sent.now }
+    requires few { length sent.now < 2 ^ 32 }
+    ensures run { IfOk result (HasRun stands session.now) }
+    ensures in_order { IfOk result (λ run. map sent_by run.entries ≡ sent.now) }
+{
+    // A legal history rests on a valid session, as each is.
+    let _banks = session.banks();
+    let host = FlatHost::open(alloc, session)?;
+    let mut run = Run::new(alloc, host);
+    run.serve_all(sent)?;
+    Ok(run)
+}
