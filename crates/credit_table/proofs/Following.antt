@@ -1,0 +1,86 @@
+-- What an entry does to the table.
+use Rattle.std.proofs.Common.{ℕ, zero, suc, ◌≡◌, ◌≢◌, ◌+◌, ◌-◌, ◌*◌, ◌<◌, ◌≤◌, ◌^◌, List, [], ◌∷◌, length, get_or, set, replicate, refl, ap, sym, subst, ◌∙◌, arith}
+use Rattle.std.proofs.lemmas.List.{length-set, length-replicate}
+use Rattle.fx_rules.specs.declared.outcome.Entry.{Entry}
+use Rattle.fx_rules.specs.Lists.{Each, total}
+use Rattle.fx_rules.specs.Session.{Header, IsSession, bank_count, sender_count}
+use Rattle.fx_rules.specs.State.{State}
+use Rattle.fx_rules.specs.History.{IsStep, after_entry}
+use Rattle.fx_rules.specs.Sound.{IsSound}
+use Rattle.fx_rules.proofs.Staying.{changed-counts}
+use Rattle.credit_lines.specs.Credit.{Credit, opened}
+use Rattle.credit_lines.specs.Market as lines
+use Rattle.credit_table.specs.Table.{Table, Stands, IsTable, IsNextOf, FollowsOn}
+
+-- it is the next of the lines
+pub lines_next : (table : Table) (entry : Entry) → IsSession table.session → IsNextOf table entry → lines.IsNextOf table.session table.lines entry
+lines_next table entry session next =
+    subst (λ (h : Header). lines.IsNextOf h table.lines entry) (sym next.stands.session) (record {
+      session = subst IsSession next.stands.session session;
+      before = next.before;
+      sound = next.sound;
+      stands = next.stands.lines;
+      step = next.step;
+    })
+
+-- its sender is one of the session, whose count can rise
+pub next_sends : (table : Table) (entry : Entry) → IsNextOf table entry → (entry.bank < sender_count table.session) × (get_or table.counts entry.bank 0 < 2 ^ 32 - 1)
+next_sends table entry next = (
+  subst (λ (h : Header). entry.bank < sender_count h) (sym next.stands.session) next.step.sender,
+  few (ap (λ (counts : List ℕ). get_or counts entry.bank 0) next.stands.counts),
+)
+  where
+    few : get_or table.counts entry.bank 0 ≡ get_or next.before.counts entry.bank 0 → get_or table.counts entry.bank 0 < 2 ^ 32 - 1
+    few same = omega (arith, same, next.step.number, next.step.number_most)
+
+-- the table with the lines that an entry leaves and one more command of its bank
+pub follows : (old inside new : Table) (entry : Entry) (credit : Credit) → inside ≡ old → new ≡ record { session = inside.session; lines = credit; counts = set inside.counts entry.bank (get_or inside.counts entry.bank 0 + 1) } → lines.FollowsOn inside.session inside.lines credit entry → FollowsOn old new entry
+follows old inside new entry credit old_is new_is go_on h S sound stood step =
+    let stands : Stands h S inside = subst (Stands h S) (sym old_is) stood in
+    let at : lines.FollowsOn h inside.lines credit entry = subst (λ (k : Header). lines.FollowsOn k inside.lines credit entry) stands.session go_on in
+    subst (Stands h (after_entry S entry)) (sym new_is) (record {
+      session = stands.session;
+      lines = at S sound stands.lines step;
+      counts = ap (λ (counts : List ℕ). set counts entry.bank (get_or counts entry.bank 0 + 1)) (stands.counts ∙ sym (changed-counts S entry.bank entry.command entry.outcome));
+    })
+
+-- ---- one more command counted
+
+pub total-bounded : (counts : List ℕ) → Each (λ count. count < 2 ^ 32) counts → total (λ count. count) counts ≤ length counts * 2 ^ 32
+total-bounded [] all = omega arith
+total-bounded (c ∷ counts) all = omega (arith, all.0, total-bounded counts all.1)
+
+each-set : (counts : List ℕ) (i n : ℕ) → n < 2 ^ 32 → Each (λ count. count < 2 ^ 32) counts → Each (λ count. count < 2 ^ 32) (set counts i n)
+each-set [] i n below all = tt
+each-set (c ∷ counts) zero n below all = (below, all.1)
+each-set (c ∷ counts) (suc i) n below all = (all.0, each-set counts i n below all.1)
+
+pub counted-table : (table : Table) (bank : ℕ) → IsTable table → get_or table.counts bank 0 < 2 ^ 32 - 1 → IsTable (record table { counts = set table.counts bank (get_or table.counts bank 0 + 1) })
+counted-table table bank is few = record {
+  session = is.session;
+  banks = is.banks;
+  senders = length-set table.counts bank (get_or table.counts bank 0 + 1) ∙ is.senders;
+  counts = each-set table.counts bank (get_or table.counts bank 0 + 1) (omega (arith, few)) is.counts;
+}
+
+-- ---- the table as a day opens
+
+total-none : (n : ℕ) → total (λ count. count) (replicate n 0) ≡ 0
+total-none zero = refl
+total-none (suc n) = omega (arith, total-none n)
+
+each-none : (n : ℕ) → Each (λ count. count < 2 ^ 32) (replicate n 0)
+each-none zero = tt
+each-none (suc n) = (omega arith, each-none n)
+
+pub opens : (h session : Header) (credit : Credit) (counts : List ℕ) (banks : ℕ) → IsSession h → session ≡ h → credit ≡ opened h → counts ≡ replicate banks 0 → banks ≡ bank_count h → IsTable (record { session = session; lines = credit; counts = counts })
+opens h session credit counts banks valid session_is credit_is counts_are banks_are =
+    subst (λ (k : Header). IsTable (record { session = k; lines = credit; counts = counts })) (sym session_is) (record {
+      session = valid;
+      banks = ap (λ (c : Credit). c.banks) credit_is;
+      senders = ap length counts_are ∙ length-replicate banks 0 ∙ banks_are;
+      counts = subst (Each (λ count. count < 2 ^ 32)) (sym counts_are) (each-none banks);
+    })
+
+pub none_sent : (counts : List ℕ) (banks : ℕ) → counts ≡ replicate banks 0 → 0 ≡ total (λ count. count) counts
+none_sent counts banks counts_are = sym (ap (total (λ count. count)) counts_are ∙ total-none banks)
