@@ -1,9 +1,9 @@
 -- A bank's orders, gone through in arrival order.
-use Rattle.std.proofs.Common.{ℕ, ◌≡◌, ◌+◌, ◌^◌, ◌≤◌, ◌<◌, Bool, true, false, ◌&&◌, leb, List, [], ◌∷◌, length, Some, None, inl, inr, refl, ap, sym, subst, ◌∙◌, arith}
-use Rattle.std.proofs.lemmas.Bool.{cases_Bool, le-leb, leb-true, lt-leb, and_parts, and_right, and_from}
+use Rattle.std.proofs.Common.{ℕ, ◌≡◌, ◌+◌, ◌^◌, ◌≤◌, ◌<◌, Bool, true, false, ◌&&◌, eqb, leb, ltb, List, [], ◌∷◌, length, Some, None, inl, inr, refl, ap, sym, subst, ◌∙◌, arith}
+use Rattle.std.proofs.lemmas.Bool.{cases_Bool, cases_eq, cases_lt, eq-eqb, ne_eqb, le-leb, leb-true, lt-leb, lt-ltb, le-ltb, and_parts, and_right, and_from}
 use Rattle.std.specs.List.{filter}
 use Rattle.fx_rules.specs.declared.orders.Resting.{Resting}
-use Rattle.fx_rules.specs.Lists.{Among, EachPair}
+use Rattle.fx_rules.specs.Lists.{Among, Each, EachPair}
 use Rattle.fx_rules.specs.Sound.{ArrivesBefore}
 use Rattle.fx_rules.proofs.ListLemmas.{Each-among, Among-filter, filter_agree_on, filter_cons_true, filter_cons_false}
 use Rattle.global_book.specs.Book.{Book, IsBook, first, is_of, is_of_from}
@@ -74,3 +74,48 @@ from_start bank orders =
       | inl is ↦ and_from (is_of bank o) (leb 0 o.arrival) is (le-leb 0 o.arrival (omega arith)) ∙ sym is
       | inr is_not ↦ ap (λ (b : Bool). b && leb 0 o.arrival) is_not ∙ sym is_not
     ])
+
+-- ---- all orders, by their banks
+
+-- those whose key is below a number, and those that have it
+pub length-keys : {X : Type 0} (key : X → ℕ) (n : ℕ) (xs : List X) → length (filter (λ x. ltb (key x) (n + 1)) xs) ≡ length (filter (λ x. ltb (key x) n) xs) + length (filter (λ x. eqb (key x) n) xs)
+length-keys key n [] = refl
+length-keys key n (x ∷ xs) =
+    let rest = length-keys key n xs in
+    elim (cases_lt (key x) n) [
+      | inl low ↦ omega (
+        arith,
+        rest,
+        ap length (filter_cons_true (λ y. ltb (key y) (n + 1)) x xs (lt-ltb (key x) (n + 1) (omega (arith, low)))),
+        ap length (filter_cons_true (λ y. ltb (key y) n) x xs (lt-ltb (key x) n low)),
+        ap length (filter_cons_false (λ y. eqb (key y) n) x xs (ne_eqb (key x) n (λ same. absurd (omega (arith, same, low))))),
+      )
+      | inr high ↦ elim (cases_eq (key x) n) [
+        | inl same ↦ omega (
+          arith,
+          rest,
+          ap length (filter_cons_true (λ y. ltb (key y) (n + 1)) x xs (lt-ltb (key x) (n + 1) (omega (arith, same)))),
+          ap length (filter_cons_false (λ y. ltb (key y) n) x xs (le-ltb (key x) n high)),
+          ap length (filter_cons_true (λ y. eqb (key y) n) x xs (eq-eqb (key x) n same)),
+        )
+        | inr differ ↦ omega (
+          arith,
+          rest,
+          ap length (filter_cons_false (λ y. ltb (key y) (n + 1)) x xs (le-ltb (key x) (n + 1) (omega (arith, high, differ)))),
+          ap length (filter_cons_false (λ y. ltb (key y) n) x xs (le-ltb (key x) n high)),
+          ap length (filter_cons_false (λ y. eqb (key y) n) x xs (ne_eqb (key x) n differ)),
+        )
+      ]
+    ]
+
+-- the orders of the banks below a number
+abbrev pub of_banks_below : ℕ → List Resting → List Resting
+of_banks_below n orders = filter (λ order. ltb order.bank n) orders
+
+pub none-below : {X : Type 0} (key : X → ℕ) (xs : List X) → filter (λ x. ltb (key x) 0) xs ≡ []
+none-below key [] = refl
+none-below key (x ∷ xs) = filter_cons_false (λ y. ltb (key y) 0) x xs (le-ltb (key x) 0 (omega arith)) ∙ none-below key xs
+
+pub all-below : {X : Type 0} (key : X → ℕ) (n : ℕ) (xs : List X) → Each (λ x. key x < n) xs → filter (λ x. ltb (key x) n) xs ≡ xs
+all-below key n [] all = refl
+all-below key n (x ∷ xs) all = filter_cons_true (λ y. ltb (key y) n) x xs (lt-ltb (key x) n all.0) ∙ ap (λ ys. x ∷ ys) (all-below key n xs all.1)

@@ -1,0 +1,321 @@
+-- What is made of a command or an entry, in the books and the table, goes on each legal history.
+use Rattle.std.proofs.Common.{ℕ, ◌≡◌, ◌+◌, ◌<◌, false, List, [], length, get_or, set, Some, None, refl, ap, sym, subst, ◌∙◌, arith}
+use Rattle.std.proofs.lemmas.List.{length-set}
+use Rattle.fx_rules.specs.declared.command.Command.{Command}
+use Rattle.fx_rules.specs.declared.command.Command.TheVariants.{Order, Cancel, Reduce, Pull, Line, Show, Book as BookOf, Bad}
+use Rattle.fx_rules.specs.declared.orders.Fill.{Fill}
+use Rattle.fx_rules.specs.declared.outcome.Entry.{Entry}
+use Rattle.fx_rules.specs.declared.outcome.Outcome.{Outcome}
+use Rattle.fx_rules.specs.declared.outcome.Outcome.TheVariants.{LineSet}
+use Rattle.fx_rules.specs.Session.{Header, IsSession, bank_count, pair_count}
+use Rattle.fx_rules.specs.State.{State, opening, orders_in, count_of}
+use Rattle.fx_rules.specs.Sweep.{filled_all}
+use Rattle.fx_rules.specs.Raise.{limited}
+use Rattle.fx_rules.specs.Step.{IsCommand, IsOutcome, after, fills_of, may_change}
+use Rattle.fx_rules.specs.History.{IsStep, IsLegal, after_entry, state}
+use Rattle.fx_rules.specs.Sound.{IsSound}
+use Rattle.fx_rules.specs.Market.{InSome, MaySend, GoesOn, next_entry}
+use Rattle.fx_rules.proofs.Soundness.{legal-sound, legal-push, after_all-push}
+use Rattle.fx_rules.proofs.RaiseSound.{limited-sound}
+use Rattle.fx_rules.proofs.Staying.{other_pairs-stay}
+use Rattle.global_book.specs.Book.{Book}
+use Rattle.credit_lines.specs.Credit.{Credit}
+use Rattle.credit_lines.specs.Market as lines
+use Rattle.credit_raise.specs.UnderWay.{Raise, IsUnderWay, opened, reached, command_of, outcome_of, fills_of_all}
+use Rattle.match_sweep.specs.Carries.{carried}
+use Rattle.credit_table.specs.Table as table
+use Rattle.credit_table.specs.Table.{Table, Stands}
+use Rattle.pair_steps.specs.Turns.{fills_in}
+use Rattle.pair_steps.specs.Sending.{pair_of}
+use Rattle.pair_host.specs.Standing.{HostState, StandsFor, IsNextOf, FollowsOn, stands}
+use Rattle.pair_host.specs.Books.{AreBooks, HaveOrders, EachBook, IsCarried, IsRecorded, PlansEach, host_of}
+use Rattle.pair_host.specs.OnePair.{AreOf, MayServe, ServesEach, FollowsEach}
+use Rattle.pair_host.proofs.Holding.{BooksOf, books-of, stands-by, have-orders-set}
+use Rattle.pair_host.proofs.Sending.{changes_none, pair_in}
+
+-- ---- from a step to the histories that it goes on
+
+-- what a host that stands for a state is to do with the entry that a bank's next command makes of it
+pub record Steps (h : Header) (S : State) (new : HostState) (bank : ℕ) (command : Command) (outcome : Outcome) : Type 0 where
+  pub step : IsStep h S (next_entry S bank command outcome)
+  pub stands_then : StandsFor h (after_entry S (next_entry S bank command outcome)) new
+
+pub goes-on : (old new : HostState) (bank : ℕ) (command : Command) (outcome : Outcome)
+    → ((h : Header) (H : List Entry) → IsLegal h H → StandsFor h (state h H) old → Steps h (state h H) new bank command outcome)
+    → GoesOn (stands old) (stands new) bank command outcome
+goes-on old new bank command outcome steps h H legal stood =
+    let S : State = state h H in
+    let e : Entry = next_entry S bank command outcome in
+    let its : Steps h S new bank command outcome = steps h H legal stood in
+    (legal-push h H e legal its.step, subst (λ (T : State). StandsFor h T new) (sym (after_all-push (opening h) H e)) its.stands_then)
+
+-- ---- one pair
+
+one-follows : (h : Header) (S : State) (books : List Book) (at : ℕ) (new : Book) (table table' : Table) (e : Entry) → IsSession h → IsSound h S → BooksOf h S books table
+    → pair_of e.command ≡ Some at → IsStep h S e → new.orders ≡ orders_in at (after_entry S e).orders → Stands h (after_entry S e) table'
+    → StandsFor h (after_entry S e) (host_of (set books at new) table')
+one-follows h S books at new table table' e session sound of about step orders credit =
+    stands-by h (after_entry S e) (set books at new) table' (record {
+      count = length-set books at new ∙ of.count;
+      orders = have-orders-set S (after_entry S e) books at new of.orders orders
+          (λ other differ. other_pairs-stay h S e other session sound step (changes_none e.command at other about differ));
+      credit = credit;
+    })
+
+-- the book at a pair's place, and the table, are the state's
+pub are-of : (h : Header) (S : State) (banks : ℕ) (books : List Book) (at : ℕ) (book : Book) (table : Table) → IsSession h → IsSound h S → AreBooks banks books → BooksOf h S books table
+    → at < length books → book ≡ get_or books at book → AreOf h S book table
+are-of h S banks books at book table session sound are of within is =
+    let its_pair : book.pair ≡ at = ap (λ (b : Book). b.pair) is ∙ (are at book within).pair in
+    record {
+      valid = session;
+      sound = sound;
+      orders = ap (λ (b : Book). b.orders) is ∙ of.orders at book within ∙ ap (λ p. orders_in p S.orders) (sym its_pair);
+      credit = of.credit;
+    }
+
+-- it may be served there
+pub within-books : (books : List Book) (at : ℕ) (table : Table) (bank : ℕ) (command : Command) → InSome (stands (host_of books table)) (MaySend bank command) → pair_of command ≡ Some at → at < length books
+within-books books at table bank command some about =
+    let h : Header = some.0 in
+    let of : BooksOf h (state h some.1) books table = books-of h (state h some.1) books table some.3 in
+    omega (arith, of.count, pair_in h bank command at some.4.allowed about)
+
+pub may-serve : (banks : ℕ) (books : List Book) (at : ℕ) (book : Book) (table : Table) (bank : ℕ) (command : Command) → AreBooks banks books
+    → InSome (stands (host_of books table)) (MaySend bank command) → pair_of command ≡ Some at → book ≡ get_or books at book → MayServe book table bank command
+may-serve banks books at book table bank command are some about is =
+    let h : Header = some.0 in
+    let S : State = state h some.1 in
+    record {
+      session = h;
+      before = S;
+      are_of = are-of h S banks books at book table some.2.session (legal-sound h some.1 some.2) are (books-of h S books table some.3)
+          (within-books books at table bank command some about) is;
+      may_send = some.4;
+    }
+
+pub one-goes_on : (banks : ℕ) (books : List Book) (at : ℕ) (book new : Book) (table table' : Table) (bank : ℕ) (command : Command) (outcome : Outcome) → AreBooks banks books
+    → at < length books → book ≡ get_or books at book → pair_of command ≡ Some at → new.pair ≡ book.pair
+    → ((h : Header) (S : State) → StandsFor h S (host_of books table) → MaySend bank command h S)
+    → ServesEach book new table table' bank command outcome
+    → GoesOn (stands (host_of books table)) (stands (host_of (set books at new) table')) bank command outcome
+one-goes_on banks books at book new table table' bank command outcome are within is about same may serves =
+    goes-on (host_of books table) (host_of (set books at new) table') bank command outcome (λ h H legal stood.
+    let S : State = state h H in
+    let e : Entry = next_entry S bank command outcome in
+    let sound : IsSound h S = legal-sound h H legal in
+    let of : BooksOf h S books table = books-of h S books table stood in
+    let its_pair : book.pair ≡ at = ap (λ (b : Book). b.pair) is ∙ (are at book within).pair in
+    let served = serves h S (are-of h S banks books at book table legal.session sound are of within is) (may h S stood) in
+    record {
+      step = served.0;
+      stands_then = one-follows h S books at new table table' e legal.session sound of about served.0
+          (served.1 ∙ ap (λ p. orders_in p (after_entry S e).orders) (same ∙ its_pair)) served.2;
+    })
+
+pub next-within : (books : List Book) (at : ℕ) (table : Table) (e : Entry) → IsNextOf (host_of books table) e → pair_of e.command ≡ Some at → at < length books
+next-within books at table e next about =
+    let of : BooksOf next.session next.before books table = books-of next.session next.before books table next.stood in
+    omega (arith, of.count, pair_in next.session e.bank e.command at next.step.command about)
+
+pub one-follows_on : (banks : ℕ) (books : List Book) (at : ℕ) (book new : Book) (table table' : Table) (e : Entry) → AreBooks banks books
+    → at < length books → book ≡ get_or books at book → pair_of e.command ≡ Some at → new.pair ≡ book.pair
+    → FollowsEach book new table table' e → FollowsOn (host_of books table) (host_of (set books at new) table') e
+one-follows_on banks books at book new table table' e are within is about same follows h S session sound stood step =
+    let of : BooksOf h S books table = books-of h S books table stood in
+    let its_pair : book.pair ≡ at = ap (λ (b : Book). b.pair) is ∙ (are at book within).pair in
+    let done = follows h S (are-of h S banks books at book table session sound are of within is) step in
+    one-follows h S books at new table table' e session sound of about step
+    (done.0 ∙ ap (λ p. orders_in p (after_entry S e).orders) (same ∙ its_pair)) done.1
+
+-- ---- all pairs
+
+-- what is told of a credit change that is planned in all pairs
+pub record IsPlanned (books : List Book) (table : Table) (raise : Raise) (bank other asked : ℕ) (outcome : Outcome) : Type 0 where
+  pub under_way : (h : Header) (H : List Entry) → IsLegal h H → StandsFor h (state h H) (host_of books table) → IsUnderWay h (state h H) raise
+  pub turns : length raise.plans ≡ length books
+  pub bank_is : raise.bank ≡ bank
+  pub command : command_of raise ≡ Line other asked
+  pub value : outcome ≡ outcome_of raise
+  pub answers : (h : Header) (S : State) → IsUnderWay h S raise → length raise.plans ≡ pair_count h → IsOutcome h S raise.bank (command_of raise) outcome
+
+-- it is planned by the books and the lines, pair by pair
+pub planned-by : (books now : List Book) (table : Table) (credit : Credit) (begun raise : Raise) (bank other asked : ℕ) (outcome : Outcome) → now ≡ books → credit ≡ table.lines
+    → begun ≡ opened credit bank other asked
+    → ((h : Header) (H : List Entry) → IsLegal h H → lines.StandsFor h (state h H) credit → IsUnderWay h (state h H) begun)
+    → PlansEach now table begun raise → length raise.plans ≡ length now → command_of raise ≡ command_of begun → raise.bank ≡ begun.bank → outcome ≡ outcome_of raise
+    → ((h : Header) (S : State) → IsUnderWay h S raise → length raise.plans ≡ pair_count h → IsOutcome h S raise.bank (command_of raise) outcome)
+    → IsPlanned books table raise bank other asked outcome
+planned-by books now table credit begun raise bank other asked outcome same paid opens begins plans turns command bank_is value answers = record {
+  under_way = λ h H legal stood.
+      let S : State = state h H in
+      let of : BooksOf h S books table = books-of h S books table stood in
+      plans h S legal.session (subst (HaveOrders S) (sym same) of.orders) of.credit
+      (begins h H legal (subst (λ (its : Credit). lines.StandsFor h S its) (sym paid) of.credit.lines));
+  turns = turns ∙ ap (λ (bs : List Book). length bs) same;
+  bank_is = bank_is ∙ ap (λ (r : Raise). r.bank) opens;
+  command = command ∙ ap command_of opens;
+  value = value;
+  answers = answers;
+}
+
+pub planned-answers : (books : List Book) (table : Table) (raise : Raise) (bank other asked : ℕ) (outcome : Outcome) → IsPlanned books table raise bank other asked outcome
+    → (h : Header) (H : List Entry) → IsLegal h H → StandsFor h (state h H) (host_of books table) → IsOutcome h (state h H) bank (Line other asked) outcome
+planned-answers books table raise bank other asked outcome planned h H legal stood =
+    let S : State = state h H in
+    subst (λ (c : Command). IsOutcome h S bank c outcome) planned.command
+    (subst (λ b. IsOutcome h S b (command_of raise) outcome) planned.bank_is
+    (planned.answers h S (planned.under_way h H legal stood) (planned.turns ∙ (books-of h S books table stood).count)))
+
+other_is : (raise : Raise) (other asked : ℕ) → command_of raise ≡ Line other asked → raise.other ≡ other
+other_is raise other asked is = cc
+
+raised_orders : (S : State) (raise : Raise) (bank other asked pair : ℕ) (outcome : Outcome) → raise.bank ≡ bank → command_of raise ≡ Line other asked → outcome ≡ outcome_of raise
+    → orders_in pair (reached raise S).orders ≡ orders_in pair (after S bank (Line other asked) outcome).orders
+raised_orders S raise bank other asked pair outcome bank_is command value =
+    ap (λ b. orders_in pair (filled_all (limited b raise.other raise.limit S) (fills_of_all raise.plans)).orders) bank_is
+    ∙ ap (λ b. orders_in pair (filled_all (limited bank b raise.limit S) (fills_of_all raise.plans)).orders) (other_is raise other asked command)
+    ∙ ap (λ (o : Outcome). orders_in pair (after S bank (Line other asked) o).orders) (sym value)
+
+pub raise-goes_on : (banks : ℕ) (books books' : List Book) (table table' : Table) (raise : Raise) (bank other asked : ℕ) (outcome : Outcome) → AreBooks banks books
+    → ((h : Header) (S : State) → StandsFor h S (host_of books table) → MaySend bank (Line other asked) h S)
+    → IsPlanned books table raise bank other asked outcome
+    → ((h : Header) (H : List Entry) → IsLegal h H → StandsFor h (state h H) (host_of books table) → IsStep h (state h H) (next_entry (state h H) bank (Line other asked) outcome)
+    → Stands h (after_entry (state h H) (next_entry (state h H) bank (Line other asked) outcome)) table')
+    → EachBook (IsCarried raise) books books'
+    → GoesOn (stands (host_of books table)) (stands (host_of books' table')) bank (Line other asked) outcome
+raise-goes_on banks books books' table table' raise bank other asked outcome are may planned credit carried =
+    goes-on (host_of books table) (host_of books' table') bank (Line other asked) outcome (λ h H legal stood.
+    let S : State = state h H in
+    let e : Entry = next_entry S bank (Line other asked) outcome in
+    let of : BooksOf h S books table = books-of h S books table stood in
+    let under : IsUnderWay h S raise = planned.under_way h H legal stood in
+    let sent : MaySend bank (Line other asked) h S = may h S stood in
+    let answer : IsOutcome h S bank (Line other asked) outcome = planned-answers books table raise bank other asked outcome planned h H legal stood in
+    let step : IsStep h S e = record { sender = sent.sender; command = sent.allowed; number = refl; number_most = sent.number; outcome = answer } in
+    record {
+      step = step;
+      stands_then = stands-by h (after_entry S e) books' table' (record {
+        count = carried.count ∙ of.count;
+        orders = λ place none within.
+            let within' : place < length books = omega (arith, carried.count, within) in
+            let its = carried.each place none within' in
+            let pair_is : (get_or books place none).pair ≡ place = (are place none within').pair in
+            its.reaches h S under (of.orders place none within' ∙ ap (λ p. orders_in p S.orders) (sym pair_is))
+            ∙ ap (λ p. orders_in p (reached raise S).orders) (its.pair ∙ pair_is)
+            ∙ raised_orders S raise bank other asked place outcome planned.bank_is planned.command planned.value;
+        credit = credit h H legal stood step;
+      });
+    })
+
+-- a recorded entry of a command about no pair, or about all
+line_recorded : (h : Header) (S : State) (bank other asked : ℕ) (outcome : Outcome) (old new : Book) → IsSession h → IsSound h S → bank < bank_count h → IsCommand h bank (Line other asked)
+    → IsOutcome h S bank (Line other asked) outcome → old.orders ≡ orders_in old.pair S.orders → IsRecorded (fills_of outcome) old new
+    → new.orders ≡ orders_in new.pair (after S bank (Line other asked) outcome).orders
+line_recorded h S bank other asked (LineSet limit fills) old new session sound sender valid is orders recorded =
+    let limit_sound : IsSound h (limited bank other limit S) = limited-sound h S bank other asked limit sound sender valid.0 valid.1 valid.2 is.0 in
+    recorded.follows h (limited bank other limit S) session limit_sound is.1 orders
+line_recorded h S bank other asked outcome old new session sound sender valid is orders recorded = absurd is
+
+-- where there are no fills, nothing is made
+none_recorded : (S : State) (old new : Book) (fills : List Fill) → fills ≡ [] → old.orders ≡ orders_in old.pair S.orders → IsRecorded fills old new → new.orders ≡ orders_in new.pair S.orders
+none_recorded S old new fills none orders recorded =
+    recorded.orders ∙ ap (λ (fs : List Fill). carried old.orders (fills_in old.pair fs)) none ∙ orders ∙ ap (λ p. orders_in p S.orders) (sym recorded.pair)
+
+some_none : (pair : ℕ) → Some pair ≡ None → ⊥
+some_none pair same = cc
+
+recorded_orders : (h : Header) (S : State) (bank : ℕ) (command : Command) (outcome : Outcome) (old new : Book) → IsSession h → IsSound h S → bank < bank_count h → IsCommand h bank command
+    → IsOutcome h S bank command outcome → pair_of command ≡ None → old.orders ≡ orders_in old.pair S.orders → IsRecorded (fills_of outcome) old new
+    → new.orders ≡ orders_in new.pair (after S bank command outcome).orders
+recorded_orders h S bank (Order side pair price lots life) outcome old new session sound sender valid is about orders recorded = absurd (some_none pair about)
+recorded_orders h S bank (Cancel pair number) outcome old new session sound sender valid is about orders recorded = absurd (some_none pair about)
+recorded_orders h S bank (Reduce pair number lots) outcome old new session sound sender valid is about orders recorded = absurd (some_none pair about)
+recorded_orders h S bank (Pull pair) outcome old new session sound sender valid is about orders recorded = absurd (some_none pair about)
+recorded_orders h S bank (BookOf pair) outcome old new session sound sender valid is about orders recorded = absurd (some_none pair about)
+recorded_orders h S bank (Line other asked) outcome old new session sound sender valid is about orders recorded =
+    line_recorded h S bank other asked outcome old new session sound sender valid is orders recorded
+recorded_orders h S bank (Show other) outcome old new session sound sender valid is about orders recorded =
+    none_recorded S old new (fills_of outcome) (ap fills_of is) orders recorded
+recorded_orders h S bank (Bad reason) outcome old new session sound sender valid is about orders recorded =
+    none_recorded S old new (fills_of outcome) (ap fills_of is) orders recorded
+
+pub all-follow_on : (banks : ℕ) (books books' : List Book) (table table' : Table) (e : Entry) → AreBooks banks books → pair_of e.command ≡ None
+    → EachBook (IsRecorded (fills_of e.outcome)) books books'
+    → ((h : Header) (S : State) → IsSound h S → Stands h S table → IsStep h S e → Stands h (after_entry S e) table')
+    → FollowsOn (host_of books table) (host_of books' table') e
+all-follow_on banks books books' table table' e are about recorded credit h S session sound stood step =
+    let of : BooksOf h S books table = books-of h S books table stood in
+    stands-by h (after_entry S e) books' table' (record {
+      count = recorded.count ∙ of.count;
+      orders = λ place none within.
+          let within' : place < length books = omega (arith, recorded.count, within) in
+          let its = recorded.each place none within' in
+          let pair_is : (get_or books place none).pair ≡ place = (are place none within').pair in
+          recorded_orders h S e.bank e.command e.outcome (get_or books place none) (get_or books' place none) session sound step.sender step.command step.outcome about
+          (of.orders place none within' ∙ ap (λ p. orders_in p S.orders) (sym pair_is)) its
+          ∙ ap (λ p. orders_in p (after_entry S e).orders) (its.pair ∙ pair_is);
+      credit = credit h S sound of.credit step;
+    })
+
+-- a command that no book has anything to do with
+pub told-goes_on : (books : List Book) (table table' : Table) (bank : ℕ) (command : Command) (outcome : Outcome)
+    → ((pair : ℕ) → may_change pair command ≡ false)
+    → ((h : Header) (S : State) → StandsFor h S (host_of books table) → MaySend bank command h S)
+    → ((h : Header) (H : List Entry) → IsLegal h H → StandsFor h (state h H) (host_of books table) → IsOutcome h (state h H) bank command outcome)
+    → ((h : Header) (H : List Entry) → IsLegal h H → StandsFor h (state h H) (host_of books table) → IsStep h (state h H) (next_entry (state h H) bank command outcome)
+    → Stands h (after_entry (state h H) (next_entry (state h H) bank command outcome)) table')
+    → GoesOn (stands (host_of books table)) (stands (host_of books table')) bank command outcome
+told-goes_on books table table' bank command outcome none may answers credit =
+    goes-on (host_of books table) (host_of books table') bank command outcome (λ h H legal stood.
+    let S : State = state h H in
+    let e : Entry = next_entry S bank command outcome in
+    let of : BooksOf h S books table = books-of h S books table stood in
+    let sent : MaySend bank command h S = may h S stood in
+    let step : IsStep h S e = record { sender = sent.sender; command = sent.allowed; number = refl; number_most = sent.number; outcome = answers h H legal stood } in
+    record {
+      step = step;
+      stands_then = stands-by h (after_entry S e) books table' (record {
+        count = of.count;
+        orders = λ place d within. of.orders place d within ∙ sym (other_pairs-stay h S e place legal.session (legal-sound h H legal) step (none place));
+        credit = credit h H legal stood step;
+      });
+    })
+
+-- ---- the table follows
+
+-- where the number is the table's next, the entry is the next one of each state
+next_numbered : (h : Header) (S : State) (books : List Book) (t : Table) (bank number : ℕ) (command : Command) (outcome : Outcome) → StandsFor h S (host_of books t) → number ≡ get_or t.counts bank 0 + 1
+    → number ≡ count_of S bank + 1
+next_numbered h S books t bank number command outcome stood is = is ∙ ap (λ (cs : List ℕ). get_or cs bank 0 + 1) stood.credit.counts
+
+pub table-next : (books : List Book) (t : Table) (bank number : ℕ) (command : Command) (outcome : Outcome) → InSome (stands (host_of books t)) (MaySend bank command) → number ≡ get_or t.counts bank 0 + 1
+    → ((h : Header) (H : List Entry) → IsLegal h H → StandsFor h (state h H) (host_of books t) → IsOutcome h (state h H) bank command outcome)
+    → table.IsNextOf t (record { bank = bank; number = number; command = command; outcome = outcome })
+table-next books t bank number command outcome some is answers =
+    let S : State = state some.0 some.1 in
+    let may : MaySend bank command some.0 S = some.4 in
+    let count : number ≡ count_of S bank + 1 = next_numbered some.0 S books t bank number command outcome some.3 is in
+    record {
+      session = some.0;
+      before = S;
+      sound = legal-sound some.0 some.1 some.2;
+      stands = some.3.credit;
+      step = record {
+        sender = may.sender;
+        command = may.allowed;
+        number = count;
+        number_most = omega (arith, count, may.number);
+        outcome = answers some.0 some.1 some.2 some.3;
+      };
+    }
+
+pub table-follows : (books : List Book) (t t' : Table) (bank number : ℕ) (command : Command) (outcome : Outcome) → number ≡ get_or t.counts bank 0 + 1
+    → table.FollowsOn t t' (record { bank = bank; number = number; command = command; outcome = outcome })
+    → (h : Header) (H : List Entry) → IsLegal h H → StandsFor h (state h H) (host_of books t) → IsStep h (state h H) (next_entry (state h H) bank command outcome)
+    → Stands h (after_entry (state h H) (next_entry (state h H) bank command outcome)) t'
+table-follows books t t' bank number command outcome is follows h H legal stood step =
+    let S : State = state h H in
+    let count : number ≡ count_of S bank + 1 = next_numbered h S books t bank number command outcome stood is in
+    follows h S (legal-sound h H legal) stood.credit
+    (record { sender = step.sender; command = step.command; number = count; number_most = omega (arith, count, step.number_most); outcome = step.outcome })

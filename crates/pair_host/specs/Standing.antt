@@ -1,0 +1,38 @@
+-- What contracts see of the pair host, and the states of the market that it stands for.
+use Rattle.std.specs.Prelude.{ℕ, ◌≡◌, ◌<◌, List, [], length, slice_index_or}
+use Rattle.fx_rules.specs.declared.orders.Resting.{Resting}
+use Rattle.fx_rules.specs.declared.outcome.Entry.{Entry}
+use Rattle.fx_rules.specs.Session.{Header, IsSession, pair_count}
+use Rattle.fx_rules.specs.State.{State, orders_in}
+use Rattle.fx_rules.specs.History.{IsStep, after_entry}
+use Rattle.fx_rules.specs.Sound.{IsSound}
+use Rattle.credit_table.specs.Table.{Table, Stands}
+
+-- the orders that rest in each pair, in arrival order, the pairs in the order of the header; and the credit table
+pub record HostState : Type 0 where
+  pub books : List (List Resting)
+  pub table : Table
+
+-- the host stands for a state: each pair has its orders, and the table is the state's
+pub record StandsFor (h : Header) (S : State) (host : HostState) : Type 0 where
+  pub pairs : length host.books ≡ pair_count h
+  pub orders : (pair : ℕ) → pair < pair_count h → slice_index_or host.books pair [] ≡ orders_in pair S.orders
+  pub credit : Stands h S host.table
+
+-- what the host stands for, as a market does
+abbrev pub stands : HostState → Header → State → Type 0
+stands host h S = StandsFor h S host
+
+-- the entry is a step of a sound state that the host stands for, as the state of a legal history is which goes on by it
+pub record IsNextOf (host : HostState) (entry : Entry) : Type 0 where
+  pub session : Header
+  pub before : State
+  pub valid : IsSession session
+  pub sound : IsSound session before
+  pub stood : StandsFor session before host
+  pub step : IsStep session before entry
+
+-- Each sound state that the host stood for and of which the entry is a step: it stands for the state after it.
+abbrev pub FollowsOn : HostState → HostState → Entry → Type 0
+FollowsOn old new entry =
+    (h : Header) (S : State) → IsSession h → IsSound h S → StandsFor h S old → IsStep h S entry → StandsFor h (after_entry S entry) new
