@@ -134,8 +134,9 @@ def heat(day):
     for use in day.uses:
         for row, column in ((use.first, use.second), (use.second, use.first)):
             places[level(use)].append((column, row, column + 1, row + 1))
-            if cell >= 40 and use.share is not None:
-                axes.text(column + 0.5, row + 0.5, percent(use), ha="center", va="center", fontsize=11, color=COLOURS[f"t{level(use)}"])
+            if cell >= 36:
+                told, size = (percent(use), 11) if use.share is not None else ("no credit" if cell > 60 else "none", 9)
+                axes.text(column + 0.5, row + 0.5, told, ha="center", va="center", fontsize=size, color=COLOURS[f"t{level(use)}"])
     for at, boxed in enumerate(places):
         put(axes, boxes(boxed), f"h{at}", "surface", 1.0 if cell > 20 else 0.5)
     size = 10 if cell > 16 else 7.5
@@ -266,7 +267,7 @@ def draw_bins(prices, lots, sums, entries):
     used = [at for at in range(sums.bins) if sums.fills[at]]
     put_strokes(prices, strokes([((at + 0.5) * step + 0.5, sums.low[at] - 0.15, (at + 0.5) * step + 0.5, sums.high[at] + 0.15) for at in used]), "none", 2.2)
     average = [(at, sums.turnover[at] / (sums.bought[at] + sums.sold[at])) for at in used]
-    prices.plot([(at + 0.5) * step + 0.5 for at, _ in average], [ticks for _, ticks in average], "-", color=COLOURS["buy"], linewidth=1.3)
+    prices.plot([(at + 0.5) * step + 0.5 for at, _ in average], [ticks for _, ticks in average], "-", color=COLOURS["ink"], linewidth=1.3)
     for amounts, sign, colour in ((sums.bought, 1, "buy"), (sums.sold, -1, "sell")):
         put(lots, boxes([((at + 0.1) * step + 0.5, 0, (at + 0.9) * step + 0.5, sign * amounts[at]) for at in used if amounts[at]]), colour)
     lots.autoscale(axis="y")

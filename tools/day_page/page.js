@@ -332,7 +332,8 @@ function fromLink() {
 }
 function start() {
   state.net = day.currencies.length > day.cards ? day.common : "";
-  state.ladder = day.banks.length > 8 ? day.banks[0] : "";
+  const shown = day.pairs.findIndex(pair => pair.name === state.pair), step = day.pairs.length;
+  state.ladder = day.banks.length > 8 ? day.banks.find((_, place) => day.books[place * step + shown] !== "|") || day.banks[0] : "";
   choices(at("choose-pair"), allowed.pair);
   for (const id of ["choose-desk", "use-bank", "filter-with"]) choices(at(id), day.banks);
   put(at("choose-ladder"), "option", "all banks").value = "";

@@ -3,9 +3,9 @@ import html
 import json
 import os
 import re
-from dataclasses import dataclass
 
 from . import charts
+from .checking import RIGHT, UNCHECKED, WRONG
 from .reading import ENDINGS
 
 HERE = os.path.dirname(os.path.realpath(__file__))
@@ -13,32 +13,9 @@ HERE = os.path.dirname(os.path.realpath(__file__))
 NEAREST, CARDS = 12, 6
 USE_HEADS = ("Bank", "Other", "#Bank's limit", "#Other's limit", "#Used", "#Left", "#Share")
 
-FAULT_FREE = "right"
-WRONG = "wrong"
-UNCHECKED = "unchecked"
-CHIPS = {FAULT_FREE: "\u2713 checked: a right output", WRONG: "\u2717 NOT A RIGHT OUTPUT", UNCHECKED: "? NOT CHECKED"}
-MARKS = {FAULT_FREE: "Checked: a right output", WRONG: "NOT A RIGHT OUTPUT", UNCHECKED: "NOT CHECKED"}
-MARK_COLOURS = {FAULT_FREE: "#12663a", WRONG: "#a3120a", UNCHECKED: "#7a4a00"}
-
-
-@dataclass
-class Verdict:
-    """What `./fx check` said of the text: `kind`, whether the proved program said so, and of a wrong one where it is none."""
-
-    kind: str
-    proved: bool = False
-    offset: int = 0
-    line: int = 0
-    text: str = ""
-
-
-@dataclass
-class Source:
-    """The text that the page is of: the name to show, how many bytes it has, and their SHA-256."""
-
-    name: str
-    size: int
-    digest: str
+CHIPS = {RIGHT: "\u2713 checked: a right output", WRONG: "\u2717 NOT A RIGHT OUTPUT", UNCHECKED: "? NOT CHECKED"}
+MARKS = {RIGHT: "Checked: a right output", WRONG: "NOT A RIGHT OUTPUT", UNCHECKED: "NOT CHECKED"}
+MARK_COLOURS = {RIGHT: "#12663a", WRONG: "#a3120a", UNCHECKED: "#7a4a00"}
 
 
 def safe(text):
@@ -170,24 +147,27 @@ def figures(day):
 
 
 def verdict_text(verdict):
-    if verdict.kind == FAULT_FREE:
-        return f"<strong>A right output.</strong> <code>./fx check</code> says YES: this text is the output of one legal history. {asked(verdict)}"
     if verdict.kind == UNCHECKED:
         return (
             "<strong>NOT CHECKED.</strong> Nobody has asked <code>./fx check</code> whether this text is a right output: the page was made with <code>--unchecked</code>."
             " Its figures may be wrong. Don't rely on them before the text has been checked."
         )
+    if verdict.kind == RIGHT:
+        return f"<strong>A right output.</strong> {who(verdict)} says <code>YES</code>: this text is the output of one legal history of the market."
     where = f", in line {grouped(verdict.line)}: <code>{safe(verdict.text)}</code>" if verdict.line else ""
     return (
-        f"<strong>NOT A RIGHT OUTPUT.</strong> <code>./fx check</code> says <code>NO {verdict.offset}</code>: the text is the output of no legal history. It is wrong from byte"
-        f" {grouped(verdict.offset)} on, counted from 0{where}. The page shows what the wrong text says, to help find what happened to it. Don't rely on any figure. {asked(verdict)}"
+        f"<strong>NOT A RIGHT OUTPUT. Don't rely on any figure.</strong> {who(verdict)} says <code>NO {verdict.offset}</code>: the text is the output of no legal history. It goes"
+        f" wrong at byte {grouped(verdict.offset)}, counted from 0{where}. The page shows what this wrong text says, to help find what happened to it."
     )
 
 
-def asked(verdict):
-    if verdict.proved:
-        return "The proved program said so."
-    return "That was the program's sources with run-time checks, and not the proved program, which <code>./fx build</code> makes."
+def who(verdict):
+    """What answered the check."""
+    return (
+        "The proved program, asked by <code>./fx check</code>,"
+        if verdict.proved
+        else "<code>./fx check</code>, here the program's sources with run-time checks and not the proved program, which <code>./fx build</code> makes,"
+    )
 
 
 def differences(day):
@@ -325,11 +305,11 @@ def page(day, source, verdict, tell=lambda part: None):
     heat, (left, top, cell) = charts.heat(day)
     many = len(day.banks) > 16
     chosen = '<div class="controls"><label>Currency <select id="choose-net"><option value="">all</option></select></label></div>' if len(day.currencies) > CARDS else ""
-    mark = "" if verdict.kind == FAULT_FREE else MARKS[verdict.kind] + ": "
+    mark = "" if verdict.kind == RIGHT else MARKS[verdict.kind] + ": "
     put = {
         "title": safe(f"{mark}the day of {source.name}"), "name": safe(f"The day of {source.name}"), "css": parts["page.css"], "js": parts["page.js"],
         "mark": MARKS[verdict.kind], "mark_colour": MARK_COLOURS[verdict.kind], "short_hash": source.digest[:16],
-        "verdict_class": verdict.kind + (" many" if many else ""), "verdict_role": "status" if verdict.kind == FAULT_FREE else "alert",
+        "verdict_class": verdict.kind + (" many" if many else ""), "verdict_role": "status" if verdict.kind == RIGHT else "alert",
         "chip": CHIPS[verdict.kind], "verdict": verdict_text(verdict), "differences": differences(day), "figures": figures(day),
         "heat": heat, "heat_left": str(left), "heat_top": str(top), "heat_cell": str(cell), "legend": legend(day),
         "nearest": nearest_table(day), "exposure": exposure_table(day), "uses": uses_table(day), "use_count": grouped(len(day.uses)),
