@@ -134,8 +134,8 @@ def heat(day):
     for use in day.uses:
         for row, column in ((use.first, use.second), (use.second, use.first)):
             places[level(use)].append((column, row, column + 1, row + 1))
-            if cell >= 36:
-                told, size = (percent(use), 11) if use.share is not None else ("no credit" if cell > 60 else "none", 9)
+            if cell >= 28:
+                told, size = (percent(use), 11 if cell > 40 else 9) if use.share is not None else ("no credit" if cell > 60 else "none", 9)
                 axes.text(column + 0.5, row + 0.5, told, ha="center", va="center", fontsize=size, color=COLOURS[f"t{level(use)}"])
     for at, boxed in enumerate(places):
         put(axes, boxes(boxed), f"h{at}", "surface", 1.0 if cell > 20 else 0.5)

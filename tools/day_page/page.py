@@ -78,7 +78,8 @@ def nearest_line(day):
 def nearest_table(day):
     chosen = sorted((use for use in day.uses if use.used), key=nearness, reverse=True)[:NEAREST]
     rows = [use_row(day, use) for use in chosen]
-    return table("nearest", "In credit units; the share is of the lesser limit.", USE_HEADS, rows) if rows else "<p>No fill has used any line.</p>"
+    caption = f"The {len(rows)} nearest of {few(len(day.uses), 'line')}, in credit units; the share is of the lesser limit."
+    return table("nearest", caption, USE_HEADS, rows) if rows else "<p>No fill has used any line.</p>"
 
 
 def uses_table(day):

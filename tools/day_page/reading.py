@@ -51,8 +51,8 @@ COMMANDS = {
 DESK_LINE = form(f"DESK {NAME} {NUMBER}")
 FILL = form(rf"{NUMBER} FILL {NUMBER} (BUY|SELL) {CODES} {NUMBER} {PRICE} {NAME} {NUMBER} {NUMBER}")
 REPLY = form(
-    rf"{NUMBER} REPLY {NUMBER} (?:(ORDERED) {NUMBER} {NUMBER}|(KILLED|NOTHING)|(CANCELLED|REDUCED|NOTLESS|PULLED|LIMIT|BAD) {NUMBER}"
-    rf"|(SHOWN) {NUMBER} {NUMBER} {NUMBER}|(BOOK) {CODES} {SIDES})"
+    rf"{NUMBER} REPLY {NUMBER} (?=([A-Z]+))(?:ORDERED {NUMBER} {NUMBER}|KILLED|NOTHING|(?:CANCELLED|REDUCED|NOTLESS|PULLED|LIMIT|BAD) {NUMBER}"
+    rf"|SHOWN {NUMBER} {NUMBER} {NUMBER}|BOOK {CODES} {SIDES})"
 )
 BOOK_LINE = form(rf"{NAME} {CODES} {SIDES}")
 VOLUME_LINE = form(rf"VOLUME {CODES} {NUMBER} {NUMBER} {NUMBER} {NUMBER}")
@@ -121,8 +121,8 @@ class Pair:
         self.unit = self.lot // 10**self.decimals
 
     def ticks(self, price):
-        """The ticks of a price's text, or None where it has another number of decimals."""
-        return int(price.replace(".", "")) if len(price.partition(".")[2]) == self.decimals else None
+        """The ticks of a price's bytes, or None where it has another number of decimals."""
+        return int(price.replace(b".", b"")) if len(price.partition(b".")[2]) == self.decimals else None
 
 
 @dataclass
@@ -210,14 +210,14 @@ class Day:
 def bank_of(lines, day, name):
     at = day.bank_at.get(name)
     if at is None:
-        raise lines.bad(f"no bank of the header has the name {name}")
+        raise lines.bad(f"no bank of the header has the name {name.decode()}")
     return at
 
 
 def pair_of(lines, day, name):
     at = day.pair_at.get(name)
     if at is None:
-        raise lines.bad(f"the header has no pair {name}")
+        raise lines.bad(f"the header has no pair {name.decode()}")
     return at
 
 
@@ -233,14 +233,14 @@ def read_header(lines, day):
         base, quote, *numbers = (part.decode() for part in found.groups())
         day.pairs.append(Pair(f"{base}/{quote}", base, quote, *map(int, numbers)))
         line = lines.next("a line PAIR, LINE or START")
-    day.bank_at = {name: at for at, name in enumerate(day.banks)}
-    day.pair_at = {pair.name: at for at, pair in enumerate(day.pairs)}
+    day.bank_at = {name.encode(): at for at, name in enumerate(day.banks)}
+    day.pair_at = {pair.name.encode(): at for at, pair in enumerate(day.pairs)}
     if not 2 <= len(day.banks) <= 64 or len(day.bank_at) < len(day.banks):
         raise lines.bad("the header has not 2 to 64 different banks")
     if not 1 <= len(day.pairs) <= 32 or len(day.pair_at) < len(day.pairs):
         raise lines.bad("the header has not 1 to 32 different pairs")
     while found := LIMIT_LINE.fullmatch(line):
-        of, on, limit = (part.decode() for part in found.groups())
+        of, on, limit = found.groups()
         day.opening[bank_of(lines, day, of), bank_of(lines, day, on)] = int(limit)
         line = lines.next("a line LINE or START")
     if line != b"START":
@@ -254,7 +254,6 @@ def read_journal(lines, day):
     day.entries = int(lines.take(JOURNAL_LINE, "a line JOURNAL with a number")[0])
     if day.entries > MOST_ENTRIES:
         raise lines.bad("more commands than the check of an output takes")
-    banks = {name.encode(): at for at, name in enumerate(day.banks)}
     day.places = [array("I") for _ in day.banks]
     day.sent = [deque(maxlen=day.kept) for _ in day.banks]
     counts = dict.fromkeys(COMMANDS, 0)
@@ -263,9 +262,9 @@ def read_journal(lines, day):
         word = line.split(b" ", 2)[1:2]
         shape = COMMANDS.get(word[0]) if word else None
         found = shape and shape.fullmatch(line)
-        bank = banks.get(found[1]) if found else None
-        if bank is None:
+        if not found:
             raise lines.bad("not a command of a bank")
+        bank = bank_of(lines, day, found[1])
         counts[word[0]] += 1
         day.places[bank].append(entry)
         day.sent[bank].append(line)
@@ -327,7 +326,7 @@ def read_desks(lines, day):
         for number in range(1, desk.count + 1):
             line = lines.next(f"notice {number} of {desk.count} of {name}")
             found = FILL.fullmatch(line) or REPLY.fullmatch(line)
-            if not found or found[1] != b"%d" % number:
+            if not found or int(found[1]) != number:
                 raise lines.bad(f"not notice {number} of {name}")
             if found.re is FILL:
                 take_fill(lines, day, desk, matching, bank, found)
@@ -341,24 +340,24 @@ def take_reply(lines, day, desk, bank, found):
     desk.commands += 1
     if int(found[2]) != desk.commands or desk.commands > len(day.places[bank]):
         raise lines.bad(f"not the reply to command {desk.commands} of {day.banks[bank]}")
-    kind = (found[3] or found[6] or found[7] or found[9] or found[13]).decode()
+    kind = found[3].decode()
     desk.kinds[kind] = desk.kinds.get(kind, 0) + 1
 
 
 def take_fill(lines, day, desk, matching, bank, found):
-    number, side, name, lots, price, other, base, quote = (part.decode() for part in found.groups()[1:])
+    turn, number, side, name, lots, price, other, base, quote = found.groups()
     at, with_bank = pair_of(lines, day, name), bank_of(lines, day, other)
     pair, number, lots, base, quote = day.pairs[at], int(number), int(lots), int(base), int(quote)
-    ticks, places, buys = pair.ticks(price), day.places[bank], side == "BUY"
+    ticks, places, buys = pair.ticks(price), day.places[bank], side == b"BUY"
     if ticks is None:
-        raise lines.bad(f"no price with the {pair.decimals} decimals of {name}")
+        raise lines.bad(f"no price with the {pair.decimals} decimals of {pair.name}")
     if with_bank == bank:
         raise lines.bad("a fill of a bank with itself")
     if not 1 <= number <= desk.commands:
         raise lines.bad(f"a fill of order {number}, which was not sent before")
     if (base, quote) != (lots * pair.lot, lots * pair.unit * ticks):
-        day.differs(f"the amounts at line {lines.number} are not those of {lots} lots at {price}")
-    matching.told(bank, with_bank, at, ticks, lots, buys, places[desk.commands - 1], places[number - 1], int(found[1]))
+        day.differs(f"the amounts at line {lines.number} are not those of {lots} lots at {price.decode()}")
+    matching.told(bank, with_bank, at, ticks, lots, buys, places[desk.commands - 1], places[number - 1], int(turn))
     sums = desk.traded.setdefault((at, buys), [0, 0, 0, 0])
     for place, amount in enumerate((1, lots, base, quote)):
         sums[place] += amount
