@@ -3,8 +3,10 @@
 Each colour of a chart is a stand-in for a custom property of the page's style sheet, so one chart serves light, dark and paper.
 """
 import io
+import logging
 import re
 
+logging.getLogger("matplotlib").setLevel(logging.ERROR)  # It would tell of its cache on standard error.
 import matplotlib
 from matplotlib.backends.backend_svg import FigureCanvasSVG
 from matplotlib.figure import Figure

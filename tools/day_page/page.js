@@ -176,6 +176,9 @@ function fillTable(pair, binned) {
   at("fills-count").textContent = binned ? `The last ${grouped(pair.fills.length)} of ${grouped(pair.count)} fills, as a table` : `All ${few(pair.count, "fill")}, as a table`;
   const cells = pair.fills.map(([entry, ticks, lots, buyer, seller, buys]) => [grouped(entry), price(pair, ticks), grouped(lots), day.banks[buyer], day.banks[seller], [buys ? "bought" : "sold", buys ? "buys" : "sells"]]);
   rows(at("fill-table"), ["#Command", "#Price", "#Lots", "Buyer", "Seller", "The taker"], cells);
+  at("parts").hidden = !binned;
+  const parts = pair.bins.map(([from, to, fills, bought, sold, low, high, average]) => [grouped(from), grouped(to), grouped(fills), grouped(bought), grouped(sold), price(pair, low), price(pair, high), average]);
+  rows(at("part-table"), ["#From command", "#To", "#Fills", "#Lots that takers bought", "#and sold", "#Lowest price", "#Highest", "#Average"], parts);
 }
 function fillChart() {
   const stage = at("fills"), cursor = at("fills-cursor"), told = at("fills-told");
@@ -284,10 +287,18 @@ function showDesk() {
   mine.sort((a, b) => share(b[1]) - share(a[1]) || Number(b[1].used) - Number(a[1].used));
   rows(at("desk-lines"), ["With", "#Own limit", "#Its limit", "#Used", "#Left", "#Share"], mine.map(([bank, use]) => [bank, grouped(use.limit), grouped(use.other), grouped(use.used), grouped(use.left), [use.share, `shade h${use.level}`]]));
   rows(at("desk-nets"), ["Currency", "#Net"], found.nets.map(([code, amount]) => [code, [grouped(amount), amount.startsWith("-") ? "owes" : ""]]));
+  owed(index, found);
   const sent = new Map();
   (found.sent ? found.sent.split("\n") : []).forEach((command, place) => sent.set(String(found.firstSent + place), command));
   desk = found.notices ? found.notices.split("\n").map(line => readNotice(line, sent)) : [];
   notices();
+}
+// What a bank gets from each other bank by currency; below zero it owes.
+function owed(index, found) {
+  const codes = day.currencies.filter(code => found.gets.some(get => get[1] === code)), byBank = new Map();
+  for (const [other, code, amount] of found.gets) byBank.set(other, { ...byBank.get(other), [code]: amount });
+  const cells = [...byBank].map(([other, amounts]) => [day.banks[other], ...codes.map(code => [grouped(amounts[code] || "0"), (amounts[code] || "").startsWith("-") ? "owes" : ""])]);
+  rows(at("desk-gets"), ["From", ...codes.map(code => "#" + code)], cells);
 }
 function share(use) {
   return use.share === "\u2013" ? -1 : parseFloat(use.share);

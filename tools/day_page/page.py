@@ -199,6 +199,7 @@ def desk_data(day, bank):
         "told": desk_text(day, bank),
         "traded": traded,
         "nets": [[code, str(amount)] for code, amount in zip(day.currencies, day.nets[bank * len(day.currencies) :]) if amount],
+        "gets": [[other, code, str(amount)] for (other, code), amount in sorted(desk.gets.items()) if amount],
         "notices": b"\n".join(desk.notices).decode(),
         "sent": "\n".join(sent),
         "firstSent": len(day.places[bank]) - len(sent) + 1,
@@ -289,6 +290,7 @@ def made_text(day, source, verdict):
 <li><strong>Not proved.</strong> <code>tools/day</code> made this page from the text alone. What is proved is the program that made the text, and its check; neither proves the page.</li>
 <li><strong>The text.</strong> <span id="source-name">{safe(source.name)}</span>, {grouped(source.size)} bytes in {grouped(day.lines)} lines, SHA-256 <span class="hash" id="digest">{source.digest}</span>. These bytes were {'not checked' if verdict.kind == UNCHECKED else 'the ones that were checked'}.</li>
 <li><strong>Limits, use, lines, nets and volumes</strong> are those of the text's report, and the local books are its section of that name. The page adds up the fills of all desks too: the two {agree}.</li>
+<li><strong>What a bank gets from another or owes it</strong> is the sum over their fills on the bank's desk. There is no clearing house: nobody pays the nets of all banks but the banks one another.</li>
 <li><strong>A fill</strong> stands on two desks, and the page puts the two notices together. Its place in the history is the later of the two last commands that the desks had answered before it; its taker is the later of the two orders.</li>
 <li><strong>What is left out.</strong> {kept}</li>
 <li><strong>The ending</strong> {day.ending} says that {ENDINGS[day.ending]}.</li>

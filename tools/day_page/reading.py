@@ -163,7 +163,7 @@ class PairFills:
 @dataclass
 class Desk:
     """What one bank was told: how many replies of each kind, its last notices, its fills by pair and side (how many, lots, base, quote),
-    and what they use with each other bank."""
+    what they use with each other bank, and what it gets from each by currency, below 0 where it owes."""
 
     count: int
     notices: deque
@@ -172,6 +172,7 @@ class Desk:
     kinds: dict = field(default_factory=dict)
     traded: dict = field(default_factory=dict)
     used: dict = field(default_factory=dict)
+    gets: dict = field(default_factory=dict)
 
 
 @dataclass
@@ -362,6 +363,8 @@ def take_fill(lines, day, desk, matching, bank, found):
     for place, amount in enumerate((1, lots, base, quote)):
         sums[place] += amount
     desk.used[with_bank] = desk.used.get(with_bank, 0) + lots * pair.weight
+    for code, amount in ((pair.base, base if buys else -base), (pair.quote, -quote if buys else quote)):
+        desk.gets[with_bank, code] = desk.gets.get((with_bank, code), 0) + amount
     desk.fills += 1
 
 
@@ -425,10 +428,8 @@ def compare_nets(day):
     nets = iter(day.nets)
     for name, desk in zip(day.banks, day.desks):
         sums = dict.fromkeys(day.currencies, 0)
-        for (at, buys), (_, _, base, quote) in desk.traded.items():
-            sign = 1 if buys else -1
-            sums[day.pairs[at].base] += sign * base
-            sums[day.pairs[at].quote] -= sign * quote
+        for (_, code), amount in desk.gets.items():
+            sums[code] += amount
         for code in day.currencies:
             if next(nets) != sums[code]:
                 day.differs(f"the net of {name} in {code} is not what its desk's fills add up to")
