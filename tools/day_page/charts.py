@@ -114,12 +114,12 @@ def put_strokes(axes, path, colour, width):
 
 
 def short(amount):
-    """An amount in few digits, as 1.2M."""
+    """An amount in few digits, as 1.2M; beyond what has a name as 1.2e15."""
     size, sign = abs(amount), "\u2212" if amount < 0 else ""
-    for unit, name in ((10**18, "E"), (10**15, "P"), (10**12, "T"), (10**9, "G"), (10**6, "M"), (10**3, "k")):
-        if size >= unit:
-            return f"{sign}{size / unit:.3g}{name}" if size < 999.5 * unit else f"{sign}{size / unit:.0f}{name}"
-    return f"{sign}{size:g}"
+    for unit, name in ((10**12, "tn"), (10**9, "bn"), (10**6, "M"), (10**3, "k")):
+        if unit <= size < 1000 * unit:
+            return f"{sign}{size / unit:.4g}{name}" if size >= 999.5 * unit else f"{sign}{size / unit:.3g}{name}"
+    return f"{sign}{size:.2e}".replace("e+", "e") if size >= 10**15 else f"{sign}{size:g}"
 
 
 def heat(day):
@@ -152,11 +152,12 @@ def heat(day):
 
 
 def percent(use):
-    """The part of the lesser limit that is used, in whole percent that reach 100 and 0 only where nothing is left or used."""
+    """The part of the lesser limit that is used, in whole percent, which say 0 and 100 only where nothing is used or left."""
     if use.share is None:
         return "\u2013"
-    whole = round(100 * use.share)
-    return f"{max(1, min(99, whole)) if use.used and use.left else whole}%"
+    if use.used and use.left and not 0.5 <= 100 * use.share < 99.5:
+        return "<1%" if use.share < 0.5 else ">99%"
+    return f"{100 * use.share:.0f}%"
 
 
 def net(day, currency):
@@ -208,7 +209,7 @@ def volume(day):
         axes.set_xlim(0, 1.22 * (max(amounts) or 1))
         axes.set_ylim(count - 0.5, -0.5)
         for at, amount in enumerate(amounts):
-            axes.annotate(f"{amount:,}", (amount, at), (4, 0), textcoords="offset points", va="center", fontsize=9, color=COLOURS["ink"])
+            axes.annotate(f"{amount:,}" if amount < 10**9 else short(amount), (amount, at), (4, 0), textcoords="offset points", va="center", fontsize=9, color=COLOURS["ink"])
         axes.set_yticks(range(count), [pair.name for pair in day.pairs] if left < 100 else [])
         axes.set_xticks([])
         axes.tick_params(axis="y", length=0)
@@ -216,15 +217,15 @@ def volume(day):
     return chart.svg("Bars: lots by pair, and the credit units that they used")
 
 
-FILLS_LEFT, FILLS_RIGHT = 60, WIDE - 22
+FILLS_LEFT, FILLS_RIGHT = 72, WIDE - 22
 
 
 def fills(day, at):
     """A pair's fills over the history: prices above, lots below, those that a taker bought up and those it sold down."""
     pair, sums = day.pairs[at], day.fills[at]
     chart = Chart(f"fills-{at}", WIDE, 350)
-    prices = chart.axes(FILLS_LEFT, 12, FILLS_RIGHT, 200, spines=("left",))
-    lots = chart.axes(FILLS_LEFT, 222, FILLS_RIGHT, 318, spines=("left",), sharex=prices)
+    prices = chart.axes(FILLS_LEFT, 18, FILLS_RIGHT, 200, spines=("left",))
+    lots = chart.axes(FILLS_LEFT, 226, FILLS_RIGHT, 318, spines=("left",), sharex=prices)
     prices.set_xlim(0.5, max(2, day.entries) + 0.5)
     (draw_each if sums.count <= sums.kept else draw_bins)(prices, lots, sums, day.entries)
     prices.set_ylim(*prices_range(sums))
@@ -238,14 +239,14 @@ def fills(day, at):
     lots.xaxis.set_major_formatter(FuncFormatter(lambda place, _: f"{place:,.0f}"))
     lots.set_xlabel(f"command of the history, of {day.entries:,}", fontsize=9, color=COLOURS["muted"])
     for axes, title in ((prices, "Price"), (lots, "Lots")):
-        axes.set_ylabel(title, fontsize=9, color=COLOURS["muted"])
+        axes.set_title(title, loc="left", fontsize=9, pad=4, color=COLOURS["muted"])
         axes.grid(color=COLOURS["grid"], linewidth=0.7)
         axes.set_axisbelow(True)
     return chart.svg(f"Fills of {pair.name} over the history, by price and lots")
 
 
 def prices_range(sums):
-    low, high = (min(filter(None, sums.low)), max(filter(None, sums.high))) if sums.count else (0, 1)
+    low, high = min(filter(None, sums.low)), max(filter(None, sums.high))
     room = max(1, (high - low) * 0.08)
     return low - room, high + room
 

@@ -56,7 +56,7 @@ function sort(table, head) {
   for (const other of head.parentNode.children) other.removeAttribute("aria-sort");
   head.setAttribute("aria-sort", turn > 0 ? "ascending" : "descending");
   const value = row => {
-    const text = (row.cells[place] || row.cells[0]).textContent.replace(/[,%]/g, "").replace("\u2212", "-").trim();
+    const text = (row.cells[place] || row.cells[0]).textContent.replace(/[,%<>]/g, "").replace("\u2212", "-").trim();
     return text !== "" && isFinite(text) ? Number(text) : text;
   };
   const order = (a, b) => (typeof a === typeof b ? (a < b ? -1 : a > b ? 1 : 0) : typeof a === "number" ? 1 : -1);
@@ -139,7 +139,7 @@ function filterUses() {
   let shown = 0;
   for (const row of at("uses").tBodies[0].rows) {
     const text = index => row.cells[index].textContent;
-    row.hidden = (bank !== "" && text(0) !== bank && text(1) !== bank) || (least > 0 && !(parseFloat(text(6)) >= least));
+    row.hidden = (bank !== "" && text(0) !== bank && text(1) !== bank) || (least > 0 && !(parseFloat(text(6).replace(/[<>]/, "")) >= least));
     shown += row.hidden ? 0 : 1;
   }
   at("use-shown").textContent = `${grouped(shown)} of ${grouped(day.uses.length)} shown`;
@@ -166,7 +166,7 @@ function showPair() {
   spot = -1;
   at("fills-cursor").hidden = true;
   at("fills-told").textContent = spots.length ? "Point at the chart, or move with the arrow keys." : "No fill of this pair.";
-  at("fills-legend").textContent = binned
+  at("fills-legend").textContent = !pair.count ? "" : binned
     ? `The pair has ${grouped(pair.count)} fills, more than ${grouped(day.kept)}, so the history is cut into ${grouped(day.cuts)} equal parts. Grey: from the lowest to the highest price of a part; line: its average price by lots. Lots above the line were bought by takers, those below sold by takers.`
     : "Each mark is a fill. Up and blue: the taker bought; down and orange: the taker sold. Lots above the line were bought by takers, those below sold by takers.";
   fillTable(pair, binned);
@@ -301,7 +301,7 @@ function owed(index, found) {
   rows(at("desk-gets"), ["From", ...codes.map(code => "#" + code)], cells);
 }
 function share(use) {
-  return use.share === "\u2013" ? -1 : parseFloat(use.share);
+  return use.share === "\u2013" ? -1 : parseFloat(use.share.replace(/[<>]/, ""));
 }
 function notices() {
   const kind = at("filter-kind").value, pair = at("filter-pair").value, other = at("filter-with").value, text = at("filter-text").value.trim().toUpperCase();

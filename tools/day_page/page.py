@@ -78,7 +78,7 @@ def nearest_line(day):
 def nearest_table(day):
     chosen = sorted((use for use in day.uses if use.used), key=nearness, reverse=True)[:NEAREST]
     rows = [use_row(day, use) for use in chosen]
-    caption = f"The {len(rows)} nearest of {few(len(day.uses), 'line')}, in credit units; the share is of the lesser limit."
+    caption = f"{len(rows)} of {few(len(day.uses), 'line')}, in credit units; the share is of the lesser limit."
     return table("nearest", caption, USE_HEADS, rows) if rows else "<p>No fill has used any line.</p>"
 
 
@@ -271,7 +271,8 @@ def fill_charts(day, tell):
     made = []
     for at, pair in enumerate(day.pairs):
         tell(f"fills of {pair.name}")
-        made.append(f'<div class="fill-chart" data-pair="{pair.name}" hidden>{charts.fills(day, at)}</div>')
+        chart = charts.fills(day, at) if day.fills[at].count else ""
+        made.append(f'<div class="fill-chart" data-pair="{pair.name}" hidden>{chart}</div>')
     return "\n".join(made)
 
 
@@ -315,7 +316,7 @@ def page(day, source, verdict, tell=lambda part: None):
         "verdict_class": verdict.kind + (" many" if many else ""), "verdict_role": "status" if verdict.kind == RIGHT else "alert",
         "chip": CHIPS[verdict.kind], "verdict": verdict_text(verdict), "differences": differences(day), "figures": figures(day),
         "heat": heat, "heat_left": str(left), "heat_top": str(top), "heat_cell": str(cell), "legend": legend(day),
-        "nearest": nearest_table(day), "exposure": exposure_table(day), "uses": uses_table(day), "use_count": grouped(len(day.uses)),
+        "nearest": nearest_table(day), "exposure": exposure_table(day), "uses": uses_table(day), "use_count": few(len(day.uses), "line"),
         "nets": nets_table(day), "nets_controls": chosen, "nets_open": "" if many else " open", "net_charts": net_charts(day, tell),
         "volume": charts.volume(day), "volumes": volumes_table(day), "fill_charts": fill_charts(day, tell),
         "made": made_text(day, source, verdict), "data": data(day),
