@@ -1,0 +1,95 @@
+"""Asks `./fx check` about a text, and tells what it said."""
+import os
+import re
+import signal
+import subprocess
+import tempfile
+from dataclasses import dataclass
+
+RIGHT, WRONG, UNCHECKED = "right", "wrong", "unchecked"
+# The status with which the check ends where the text is no right output.
+DIFFERS = 8
+
+
+class NoAnswer(Exception):
+    """The check could not be asked, or came to no answer."""
+
+
+@dataclass
+class Verdict:
+    """What was said of the text: `kind`, whether the proved program said so, and of a wrong text where it is none. `offset` is in bytes
+    from the beginning; `line` is counted from 1, or 0 where the text can't be read again."""
+
+    kind: str
+    proved: bool = False
+    offset: int = 0
+    line: int = 0
+    text: str = ""
+
+
+@dataclass
+class Source:
+    """The text: the name to show, how many bytes it has, and their SHA-256."""
+
+    name: str
+    size: int
+    digest: str
+
+
+class Check:
+    """A run of `./fx check` that is handed the text as it is read, so that it is of the same bytes."""
+
+    def __init__(self, program):
+        self.out, self.err = tempfile.TemporaryFile(), tempfile.TemporaryFile()
+        try:
+            self.run = subprocess.Popen([program, "check"], stdin=subprocess.PIPE, stdout=self.out, stderr=self.err, start_new_session=True)
+        except OSError as fault:
+            raise NoAnswer(f"./fx can't be started: {fault.strerror}") from fault
+
+    def feed(self, piece):
+        try:
+            self.run.stdin.write(piece)
+        except BrokenPipeError:
+            pass  # It has ended; its answer says how.
+
+    def answer(self):
+        """The exit status, and what was written on either output."""
+        try:
+            self.run.stdin.close()
+        except BrokenPipeError:
+            pass
+        status = self.run.wait()
+        for file in (self.out, self.err):
+            file.seek(0)
+        return status, self.out.read(), self.err.read()
+
+    def verdict(self, path):
+        """What it says of the text, which is the file of this path, or standard input for `-`. The proved program writes nothing on
+        standard error beside the status' own line; the sources with run-time checks say there that they are not it."""
+        status, out, err = self.answer()
+        no = re.fullmatch(rb"NO (\d+)\n", out)
+        if status == 0 and out == b"YES\n":
+            return Verdict(RIGHT, proved=err == b"")
+        if status == DIFFERS and no:
+            offset = int(no[1])
+            return Verdict(WRONG, err == b"output differs\n", offset, *line_at(path, offset))
+        told = err.decode(errors="replace").strip().splitlines()
+        raise NoAnswer(f"./fx check came to no answer (status {status}{': ' + told[-1] if told else ''})")
+
+    def stop(self):
+        if self.run.poll() is None:
+            os.killpg(self.run.pid, signal.SIGTERM)
+            self.run.wait()
+
+
+def line_at(path, offset):
+    """The number and the beginning of the line of a file in which a byte stands; 0 and nothing where the text is no file."""
+    if path == "-":
+        return 0, ""
+    number, before = 1, 0
+    with open(path, "rb") as file:
+        for line in file:
+            if before + len(line) > offset:
+                return number, line[:200].decode("ascii", errors="backslashreplace").rstrip("\n")
+            number, before = number + 1, before + len(line)
+    return number, "(the end of the text)"

@@ -1,0 +1,324 @@
+"""Makes the page of a day: its tables, its texts, and the data that its choices are made from."""
+import html
+import json
+import os
+import re
+
+from . import charts
+from .checking import RIGHT, UNCHECKED, WRONG
+from .reading import ENDINGS
+
+HERE = os.path.dirname(os.path.realpath(__file__))
+# How many lines the list of those nearest to the limit has, and up to how many currencies all charts of nets stand side by side.
+NEAREST, CARDS = 12, 6
+USE_HEADS = ("Bank", "Other", "#Bank's limit", "#Other's limit", "#Used", "#Left", "#Share")
+
+CHIPS = {RIGHT: "\u2713 checked: a right output", WRONG: "\u2717 NOT A RIGHT OUTPUT", UNCHECKED: "? NOT CHECKED"}
+MARKS = {RIGHT: "Checked: a right output", WRONG: "NOT A RIGHT OUTPUT", UNCHECKED: "NOT CHECKED"}
+MARK_COLOURS = {RIGHT: "#12663a", WRONG: "#a3120a", UNCHECKED: "#7a4a00"}
+
+
+def safe(text):
+    return html.escape(str(text))
+
+
+def grouped(number):
+    return f"{number:,}".replace("-", "\u2212")
+
+
+def few(count, one):
+    return f"{grouped(count)} {one}{'' if count == 1 else 's'}"
+
+
+def average(pair, turnover, lots):
+    """The average price of some lots, by lots, with one digit more than a price has; `turnover` is the sum of lots times ticks."""
+    return decimal((10 * turnover + lots // 2) // lots, pair.decimals + 1) if lots else ""
+
+
+def decimal(number, places):
+    digits = f"{number:0{places + 1}}"
+    return f"{digits[:-places]}.{digits[-places:]}" if places else digits
+
+
+def table(name, caption, heads, rows, classes="sorts"):
+    """A table's markup. A heading that begins with # is one of numbers; a cell is a text, or a text with its classes."""
+    numbers = [head.startswith("#") for head in heads]
+    tops = "".join(f'<th scope="col"{" class=n" if number else ""}>{safe(head.lstrip("#"))}</th>' for head, number in zip(heads, numbers))
+    body = []
+    for row in rows:
+        cells = []
+        for place, cell in enumerate(row):
+            text, extra = cell if isinstance(cell, tuple) else (cell, "")
+            kinds = " ".join(filter(None, ("n" if numbers[place] else "", extra)))
+            mark = f' class="{kinds}"' if kinds else ""
+            cells.append(f'<th scope="row"{mark}>{safe(text)}</th>' if place == 0 else f"<td{mark}>{safe(text)}</td>")
+        body.append(f"<tr>{''.join(cells)}</tr>")
+    return f'<table id="{name}" class="{classes}"><caption>{safe(caption)}</caption><thead><tr>{tops}</tr></thead><tbody>\n' + "\n".join(body) + "\n</tbody></table>"
+
+
+def shade(use):
+    """The part of the lesser limit that is used, in the colour that it has in the heat map."""
+    return charts.percent(use), f"shade h{charts.level(use)}"
+
+
+def nearness(use):
+    """Sorts the lines nearest to the limit first."""
+    return (use.left == 0 and use.used > 0, use.share or 0, use.used)
+
+
+def use_row(day, use):
+    return (day.banks[use.first], day.banks[use.second], *map(grouped, (*use.limits, use.used, use.left)), shade(use))
+
+
+def nearest_line(day):
+    use = max(day.uses, key=nearness)
+    return [use.first, use.second]
+
+
+def nearest_table(day):
+    chosen = sorted((use for use in day.uses if use.used), key=nearness, reverse=True)[:NEAREST]
+    rows = [use_row(day, use) for use in chosen]
+    caption = f"{len(rows)} of {few(len(day.uses), 'line')}, in credit units; the share is of the lesser limit."
+    return table("nearest", caption, USE_HEADS, rows) if rows else "<p>No fill has used any line.</p>"
+
+
+def uses_table(day):
+    rows = [use_row(day, use) for use in day.uses]
+    return table("uses", "The lines USE of the report, in credit units; the share is of the lesser limit.", USE_HEADS, rows)
+
+
+def exposure_table(day):
+    rows = []
+    for bank, name in enumerate(day.banks):
+        own = [use for use in day.uses if bank in (use.first, use.second)]
+        top = max(own, key=nearness)
+        other = day.banks[top.first + top.second - bank]
+        full = sum(charts.level(use) == 6 for use in own)
+        near = sum(charts.level(use) == 5 for use in own)
+        without = sum(use.share is None for use in own)
+        nearest = (f"{other} {charts.percent(top)}", f"shade h{charts.level(top)}") if top.used else ("none", "none")
+        rows.append((name, grouped(sum(use.used for use in own)), grouped(sum(use.left for use in own)), str(full), str(near), str(without), nearest))
+    heads = ("Bank", "#Used", "#Left", "#Used up", "#Over 90%", "#No credit", "Nearest")
+    return table("exposure", "Credit units over all of a bank's lines; how many of them are used up, over 90% used, or without credit.", heads, rows, "sorts pin")
+
+
+def nets_table(day):
+    step = len(day.currencies)
+    rows = [(name, *((grouped(amount), "owes" if amount < 0 else "") for amount in day.nets[bank * step : (bank + 1) * step])) for bank, name in enumerate(day.banks)]
+    return table("nets-table", "The lines NET of the report: below zero the bank owes the currency.", ("Bank", *(f"#{code}" for code in day.currencies)), rows, "sorts pin")
+
+
+def volumes_table(day):
+    rows = []
+    for pair, (fills, lots, base, quote) in zip(day.pairs, day.volumes):
+        mean = average(pair, quote // pair.unit, lots) if pair.unit else ""
+        rows.append((pair.name, grouped(fills), grouped(lots), grouped(base), grouped(quote), mean, grouped(lots * pair.weight)))
+    heads = ("Pair", "#Fills", "#Lots", "#Base amount", "#Quote amount", "#Average price", "#Credit units used")
+    return table("volumes", "The lines VOLUME of the report; the average is the quote amount by the base amount.", heads, rows)
+
+
+def legend(day):
+    """What the heat map's colours say, with how many lines have each."""
+    names = ["nothing used", "to 25%", "to 50%", "to 75%", "to 90%", "over 90%", "used up", "no credit"]
+    counts = [0] * len(names)
+    for use in day.uses:
+        counts[charts.level(use)] += 1
+    items = "".join(f'<li><span class="swatch" style="background: var(--h{at})"></span>{name}: {count}</li>' for at, (name, count) in enumerate(zip(names, counts)))
+    return f'Used part of the lesser limit, with the number of lines: <ul class="legend">{items}</ul>'
+
+
+def figures(day):
+    """The day in a few numbers."""
+    fills, lots = sum(volume[0] for volume in day.volumes), sum(volume[1] for volume in day.volumes)
+    full = sum(charts.level(use) == 6 for use in day.uses)
+    near = sum(charts.level(use) == 5 for use in day.uses)
+    told = [
+        ("Banks", grouped(len(day.banks)), ""),
+        ("Pairs", grouped(len(day.pairs)), ""),
+        ("Commands", grouped(day.entries), ""),
+        ("Fills", grouped(fills), ""),
+        ("Lots", grouped(lots), ""),
+        ("Lines used up", grouped(full), "alarm" if full else ""),
+        ("Lines over 90%", grouped(near), "alarm" if near else ""),
+        ("Not read", grouped(day.kinds["BAD"]), ""),
+        ("Strays", grouped(day.strays), ""),
+        ("Ending", day.ending, "" if day.ending == "END" else "alarm"),
+    ]
+    return "\n".join(f'<div class="{extra}"><dt>{name}</dt><dd>{value}</dd></div>' for name, value, extra in told)
+
+
+def verdict_text(verdict):
+    if verdict.kind == UNCHECKED:
+        return (
+            "<strong>NOT CHECKED.</strong> Nobody has asked <code>./fx check</code> whether this text is a right output: the page was made with <code>--unchecked</code>."
+            " Its figures may be wrong. Don't rely on them before the text has been checked."
+        )
+    if verdict.kind == RIGHT:
+        return f"<strong>A right output.</strong> {who(verdict)} says <code>YES</code>: this text is the output of one legal history of the market."
+    where = f", in line {grouped(verdict.line)}: <code>{safe(verdict.text)}</code>" if verdict.line else ""
+    return (
+        f"<strong>NOT A RIGHT OUTPUT. Don't rely on any figure.</strong> {who(verdict)} says <code>NO {verdict.offset}</code>: the text is the output of no legal history. It goes"
+        f" wrong at byte {grouped(verdict.offset)}, counted from 0{where}. The page shows what this wrong text says, to help find what happened to it."
+    )
+
+
+def who(verdict):
+    """What answered the check."""
+    return (
+        "The proved program, asked by <code>./fx check</code>,"
+        if verdict.proved
+        else "<code>./fx check</code>, here the program's sources with run-time checks and not the proved program, which <code>./fx build</code> makes,"
+    )
+
+
+def differences(day):
+    """What the text tells twice and not alike."""
+    if not day.differences:
+        return ""
+    shown = "".join(f"<li>{safe(what)}</li>" for what in day.differences[:10])
+    more = f"<p>and {grouped(len(day.differences) - 10)} more.</p>" if len(day.differences) > 10 else ""
+    return f'<div class="differences" id="differences"><p><strong>The desks and the report do not agree:</strong></p><ul>{shown}</ul>{more}</div>'
+
+
+def desk_text(day, bank):
+    desk = day.desks[bank]
+    words = [f"{grouped(count)} {kind}" for kind, count in sorted(desk.kinds.items())]
+    return f"{few(desk.commands, 'command')} sent, {few(desk.fills, 'fill')} told; {few(desk.count, 'notice')} in all. Replies: {', '.join(words) or 'none'}."
+
+
+def desk_data(day, bank):
+    desk, traded = day.desks[bank], []
+    for at, pair in enumerate(day.pairs):
+        bought, sold = (desk.traded.get((at, buys), (0, 0, 0, 0)) for buys in (True, False))
+        if bought[0] or sold[0]:
+            means = [average(pair, side[3] // pair.unit, side[1]) if pair.unit else "" for side in (bought, sold)]
+            traded.append([pair.name, str(bought[1]), means[0], str(sold[1]), means[1], str(bought[1] - sold[1])])
+    sent = [line.split(b" ", 1)[1].decode() for line in day.sent[bank]]
+    return {
+        "count": desk.count,
+        "told": desk_text(day, bank),
+        "traded": traded,
+        "nets": [[code, str(amount)] for code, amount in zip(day.currencies, day.nets[bank * len(day.currencies) :]) if amount],
+        "gets": [[other, code, str(amount)] for (other, code), amount in sorted(desk.gets.items()) if amount],
+        "notices": b"\n".join(desk.notices).decode(),
+        "sent": "\n".join(sent),
+        "firstSent": len(day.places[bank]) - len(sent) + 1,
+    }
+
+
+def pair_data(day, at):
+    pair, sums = day.pairs[at], day.fills[at]
+    kept = [[entry + 1, ticks, lots, buyer, seller, int(buys)] for entry, _, ticks, lots, buyer, seller, buys in sorted(sums.newest)]
+    return {
+        "name": pair.name, "base": pair.base, "quote": pair.quote, "decimals": pair.decimals, "lot": pair.lot, "weight": pair.weight,
+        "count": sums.count, "told": pair_text(pair, sums), "fills": kept, "bins": bins_data(day, at) if sums.count > sums.kept else [],
+    }
+
+
+def pair_text(pair, sums):
+    if not sums.count:
+        return "No fill."
+    low, high = min(low for low in sums.low if low is not None), max(high for high in sums.high if high is not None)
+    mean = average(pair, sum(sums.turnover), sums.lots)
+    first, last = charts.price(pair, sums.first[2]), charts.price(pair, sums.last[2])
+    return f"{few(sums.count, 'fill')} of {few(sums.lots, 'lot')}, from {charts.price(pair, low)} to {charts.price(pair, high)}, on average {mean} by lots; the first at {first}, the last at {last}."
+
+
+def bins_data(day, at):
+    """Each part of the history in which the pair has fills: its first and last command, and its sums."""
+    pair, sums, rows = day.pairs[at], day.fills[at], []
+    for place in range(sums.bins):
+        if sums.fills[place]:
+            first, last = -(-place * day.entries // sums.bins) + 1, -(-(place + 1) * day.entries // sums.bins)
+            mean = average(pair, sums.turnover[place], sums.bought[place] + sums.sold[place])
+            rows.append([first, last, sums.fills[place], sums.bought[place], sums.sold[place], sums.low[place], sums.high[place], mean])
+    return rows
+
+
+def data(day):
+    """What the page's choices are made from. Amounts are texts, since they can be beyond what a browser counts exactly."""
+    most = max(2, day.entries)
+    told = {
+        "banks": day.banks,
+        "currencies": day.currencies,
+        "kept": day.kept,
+        "cuts": day.fills[0].bins,
+        "cards": CARDS,
+        "common": max(day.currencies, key=lambda code: sum(code in (pair.base, pair.quote) for pair in day.pairs)),
+        "busiest": max(zip(day.pairs, day.fills), key=lambda one: one[1].count)[0].name,
+        "axis": {"left": charts.FILLS_LEFT, "right": charts.FILLS_RIGHT, "width": charts.WIDE, "most": most},
+        "opening": {f"{of},{on}": str(limit) for (of, on), limit in day.opening.items()},
+        "uses": [[use.first, use.second, *(str(amount) for amount in (*use.limits, use.used, use.left)), charts.percent(use), charts.level(use)] for use in day.uses],
+        "nearest": nearest_line(day),
+        "books": [f"{' '.join(bids)}|{' '.join(asks)}" for bids, asks in day.books],
+        "pairs": [pair_data(day, at) for at in range(len(day.pairs))],
+        "desks": [desk_data(day, bank) for bank in range(len(day.banks))],
+    }
+    return json.dumps(told, separators=(",", ":")).replace("<", "\\u003c").replace("&", "\\u0026")
+
+
+def net_charts(day, tell):
+    cards = []
+    for at, code in enumerate(day.currencies):
+        tell(f"nets of {code}")
+        column = day.nets[at :: len(day.currencies)]
+        owed = grouped(sum(amount for amount in column if amount > 0))
+        cards.append(f'<figure class="card net-card" data-currency="{code}"><h4>{code} <small>{owed} to be paid</small></h4>{charts.net(day, code)}</figure>')
+    return "\n".join(cards)
+
+
+def fill_charts(day, tell):
+    made = []
+    for at, pair in enumerate(day.pairs):
+        tell(f"fills of {pair.name}")
+        chart = charts.fills(day, at) if day.fills[at].count else ""
+        made.append(f'<div class="fill-chart" data-pair="{pair.name}" hidden>{chart}</div>')
+    return "\n".join(made)
+
+
+def made_text(day, source, verdict):
+    """How each figure is got, and what a long day leaves out."""
+    reduced = [f"the desk of {name}" for name, desk in zip(day.banks, day.desks) if desk.count > day.kept]
+    binned = [pair.name for pair, sums in zip(day.pairs, day.fills) if sums.count > sums.kept]
+    kept = (
+        f"Of {few(len(reduced), 'desk')} the page has the last {grouped(day.kept)} notices alone, and of {few(len(binned), 'pair')} the last {grouped(day.kept)} fills and sums over"
+        f" {few(day.fills[0].bins, 'equal part')} of the history; <code>--keep</code> takes more. All sums are over the whole day."
+        if reduced or binned
+        else "The page has every notice and every fill of the day."
+    )
+    agree = "do not agree, as told above" if day.differences else "agree"
+    return f"""<ul>
+<li><strong>Not proved.</strong> <code>tools/day</code> made this page from the text alone. What is proved is the program that made the text, and its check; neither proves the page.</li>
+<li><strong>The text.</strong> <span id="source-name">{safe(source.name)}</span>, {grouped(source.size)} bytes in {grouped(day.lines)} lines, SHA-256 <span class="hash" id="digest">{source.digest}</span>. These bytes were {'not checked' if verdict.kind == UNCHECKED else 'the ones that were checked'}.</li>
+<li><strong>Limits, use, lines, nets and volumes</strong> are those of the text's report, and the local books are its section of that name. The page adds up the fills of all desks too: the two {agree}.</li>
+<li><strong>What a bank gets from another or owes it</strong> is the sum over their fills on the bank's desk. There is no clearing house: nobody pays the nets of all banks but the banks one another.</li>
+<li><strong>A fill</strong> stands on two desks, and the page puts the two notices together. Its place in the history is the later of the two last commands that the desks had answered before it; its taker is the later of the two orders.</li>
+<li><strong>What is left out.</strong> {kept}</li>
+<li><strong>The ending</strong> {day.ending} says that {ENDINGS[day.ending]}.</li>
+<li><strong>Whom it is for.</strong> The page shows every bank's limits, book and desk, so it is the venue's. A bank may see none of the others'.</li>
+</ul>"""
+
+
+def page(day, source, verdict, tell=lambda part: None):
+    """The page's text."""
+    parts = {}
+    for name in ("page.html", "page.css", "page.js"):
+        with open(f"{HERE}/{name}", encoding="utf-8") as file:
+            parts[name] = file.read()
+    tell("the heat map")
+    heat, (left, top, cell) = charts.heat(day)
+    many = len(day.banks) > 16
+    chosen = '<div class="controls"><label>Currency <select id="choose-net"><option value="">all</option></select></label></div>' if len(day.currencies) > CARDS else ""
+    mark = "" if verdict.kind == RIGHT else MARKS[verdict.kind] + ": "
+    put = {
+        "title": safe(f"{mark}the day of {source.name}"), "name": safe(f"The day of {source.name}"), "css": parts["page.css"], "js": parts["page.js"],
+        "mark": MARKS[verdict.kind], "mark_colour": MARK_COLOURS[verdict.kind], "short_hash": source.digest[:16],
+        "verdict_class": verdict.kind + (" many" if many else ""), "verdict_role": "status" if verdict.kind == RIGHT else "alert",
+        "chip": CHIPS[verdict.kind], "verdict": verdict_text(verdict), "differences": differences(day), "figures": figures(day),
+        "heat": heat, "heat_left": str(left), "heat_top": str(top), "heat_cell": str(cell), "legend": legend(day),
+        "nearest": nearest_table(day), "exposure": exposure_table(day), "uses": uses_table(day), "use_count": few(len(day.uses), "line"),
+        "nets": nets_table(day), "nets_controls": chosen, "nets_open": "" if many else " open", "net_charts": net_charts(day, tell),
+        "volume": charts.volume(day), "volumes": volumes_table(day), "fill_charts": fill_charts(day, tell),
+        "made": made_text(day, source, verdict), "data": data(day),
+    }
+    return re.sub(r"\{\{(\w+)\}\}", lambda found: put[found[1]], parts["page.html"])
