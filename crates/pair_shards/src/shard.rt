@@ -1,4 +1,4 @@
-ghost use Rattle.std.specs.Prelude.{◌≡◌, ◌<◌, ◌-◌, ◌^◌, ◌++◌, [], ◌∷◌, true, Some, length, IfOk, OnOk, OnErr};
+ghost use Rattle.std.specs.Prelude.{◌≡◌, ◌<◌, ◌+◌, ◌-◌, ◌^◌, ◌++◌, [], ◌∷◌, true, Some, length, IfOk, OnOk, OnErr};
 ghost use Rattle.fx_rules.specs.Session.{bank_count, pair_count, sender_count};
 ghost use Rattle.fx_rules.specs.Keyed.{pair_key};
 ghost use Rattle.fx_rules.specs.Step.{IsCommand, IsOutcome};
@@ -7,11 +7,13 @@ ghost use Rattle.fx_chronicle.specs.Touching.{pends};
 ghost use Rattle.fx_chronicle.specs.Faces.{witness};
 ghost use Rattle.pair_steps.specs.Sending.{IsNextIn, pair_of};
 ghost use Rattle.pair_steps.specs.Carries.{HasRoomFor, entry_of};
+ghost use Rattle.credit_raise.specs.UnderWay.{IsUnderWay, command_of};
 ghost use Rattle.credit_book.specs.Recorded.{signed_by};
 ghost use Rattle.credit_book.specs.Serving.{IsServed};
 ghost use Rattle.pair_shards.specs.Shards.{AreOfLast, IsShard};
 
 use credit_book::{CreditBook, Pass};
+use credit_raise::Raising;
 use fx_amounts::{Memory, PairId};
 use fx_chronicle::{Front, Naming};
 use fx_rules::{Command, Entry, Outcome, Plan, Session};
@@ -171,6 +173,32 @@ impl<N: Naming> Shard<N> {
     {
         credit.sign(&mut self.front);
         pair_steps::carry_out(&mut self.book, sender, command, outcome);
+    }
+
+    /// Has its turn in a line command under way, as the next pair: it catches up, and what the orders of the command's two banks make in
+    /// its book is planned. The book stays as it is. After `Memory` the command is as before.
+    pub fn turn(
+        &mut self,
+        alloc: Global,
+        credit: &mut CreditBook<N>,
+        raising: &mut Raising,
+    ) -> Result<(), Memory>
+        requires signed { credit.old.history.pending ≡ [] }
+        requires under_way { IsUnderWay N.session (state N.session credit.old.history.entries) raising.old }
+        requires next { self.old.book.pair ≡ length raising.old.plans }
+        ensures goes_on { OnOk result (IsUnderWay N.session (state N.session credit.old.history.entries) raising.new) }
+        ensures turns { OnOk result (length raising.new.plans ≡ length raising.old.plans + 1) }
+        ensures command { command_of raising.new ≡ command_of raising.old }
+        ensures bank { raising.new.bank ≡ raising.old.bank }
+        ensures memory { OnErr result (raising.new ≡ raising.old) }
+        ensures front { self.new.front ≡ witness self.old.front.key credit.old.history.entries }
+        ensures book { self.new.book ≡ self.old.book }
+        ensures same { credit.new ≡ credit.old }
+        ensures kept { IsShard N.session self.new }
+    {
+        self.catch_up(credit);
+        let weight = credit.weight(self.pair());
+        raising.pair(alloc, self.book(), weight)
     }
 
     /// Signs the entry of a command over all pairs, the last one, and makes in the book what it makes there: `plan` has the entry's fills
