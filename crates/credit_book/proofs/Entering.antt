@@ -21,6 +21,7 @@ use Rattle.fx_chronicle.proofs.Pending.{pends-touched, signed_by_one}
 use Rattle.fx_desk.specs.Submitting.{next_own}
 use Rattle.pair_steps.specs.declared.sender.Sender.{Sender}
 use Rattle.pair_steps.specs.Sending.{IsNextIn}
+use Rattle.pair_steps.specs.Carries.{entry_of}
 use Rattle.credit_table.specs.Table.{Table, Stands, IsNextOf, FollowsOn, AnswersEach, is_of_no_pair}
 use Rattle.credit_book.specs.Recorded.{Recorded, IsCreditBook, key_count, committed, recorded, signed_by}
 use Rattle.credit_book.specs.Serving.{IsServed}
@@ -85,15 +86,11 @@ signed_alone book new entry key new_is bank_is no_pair =
 
 -- ---- a command served
 
--- the entry of a sender's command
-abbrev pub entry_by : Sender → Command → Outcome → Entry
-entry_by sender command outcome = record { bank = sender.bank; number = sender.number; command = command; outcome = outcome }
-
 -- the entry of a bank's next command with the market's outcome goes on the history
 pub goes_on : (h : Header) (entries : List Entry) (sender : Sender) (key : ℕ) (command : Command) (outcome copy : Outcome) → IsLegal h entries → IsNextIn (state h entries) sender → sender.bank ≡ key → sender.bank < sender_count h → sender.number < 2 ^ 32 → IsCommand h key command
-    → IsOutcome h (state h entries) sender.bank command outcome → copy ≡ outcome → IsLegal h (entries ++ entry_by sender command copy ∷ [])
+    → IsOutcome h (state h entries) sender.bank command outcome → copy ≡ outcome → IsLegal h (entries ++ entry_of sender command copy ∷ [])
 goes_on h entries sender key command outcome copy legal next bank_is sends most may is copied =
-    legal-push h entries (entry_by sender command copy) legal (record {
+    legal-push h entries (entry_of sender command copy) legal (record {
       sender = sends;
       command = subst (λ b. IsCommand h b command) (sym bank_is) may;
       number = next.number;
@@ -110,16 +107,16 @@ legal_after h was now entry same legal = subst (λ (es : List Entry). IsLegal h 
 
 -- the table's answer to a command
 pub answered : (h : Header) (was book : Recorded) (sender : Sender) (key : ℕ) (command : Command) (outcome copy : Outcome) → book ≡ was → IsCreditBook h book → IsNextIn (state h was.history.entries) sender → sender.bank ≡ key → sender.bank < sender_count h → sender.number < 2 ^ 32 → IsCommand h key command
-    → AnswersEach book.table sender.bank command outcome → copy ≡ outcome → IsLegal h (was.history.entries ++ entry_by sender command copy ∷ [])
+    → AnswersEach book.table sender.bank command outcome → copy ≡ outcome → IsLegal h (was.history.entries ++ entry_of sender command copy ∷ [])
 answered h was book sender key command outcome copy same kept next bank_is sends most may answers copied =
     goes_on h was.history.entries sender key command outcome copy (subst (λ (b : Recorded). IsLegal h b.history.entries) same kept.legal) next bank_is sends most may
     (subst (λ (b : Recorded). IsOutcome h (state h b.history.entries) sender.bank command outcome) same (answers h (state h book.history.entries) kept.stands)) copied
 
 -- `start` and `mid` are history and pass as the entry is made, `before` and `pass` as the call began
-pub served : (h : Header) (before start after : List Entry) (pass mid pass' : Witness Entry) (sender : Sender) (command : Command) (outcome copy : Outcome) → start ≡ before → mid ≡ pass → IsLegal h before → IsLegal h (before ++ entry_by sender command copy ∷ []) → IsNextIn (state h before) sender → sender.bank ≡ pass.key → copy ≡ outcome
-    → IsPrefix mid.seen start → own mid.key start ≡ own mid.key mid.met → after ≡ start ++ entry_by sender command copy ∷ [] → pass' ≡ witness mid.key (start ++ entry_by sender command copy ∷ []) → IsServed h before pass command after pass' outcome
+pub served : (h : Header) (before start after : List Entry) (pass mid pass' : Witness Entry) (sender : Sender) (command : Command) (outcome copy : Outcome) → start ≡ before → mid ≡ pass → IsLegal h before → IsLegal h (before ++ entry_of sender command copy ∷ []) → IsNextIn (state h before) sender → sender.bank ≡ pass.key → copy ≡ outcome
+    → IsPrefix mid.seen start → own mid.key start ≡ own mid.key mid.met → after ≡ start ++ entry_of sender command copy ∷ [] → pass' ≡ witness mid.key (start ++ entry_of sender command copy ∷ []) → IsServed h before pass command after pass' outcome
 served h before start after pass mid pass' sender command outcome copy start_is mid_is legal legal_after next bank_is copied begins owns after_is pass_is =
-    let e : Entry = entry_by sender command copy in
+    let e : Entry = entry_of sender command copy in
     let begins' : IsPrefix pass.seen before = subst (λ (w : Witness Entry). IsPrefix w.seen before) mid_is (subst (λ (es : List Entry). IsPrefix mid.seen es) start_is begins) in
     let owns' : own pass.key before ≡ own pass.key pass.met =
     subst (λ (w : Witness Entry). own w.key before ≡ own w.key w.met) mid_is (subst (λ (es : List Entry). own mid.key es ≡ own mid.key mid.met) start_is owns) in

@@ -1,0 +1,4 @@
+pub mod Staying
+pub mod Keeping
+pub mod Signing
+pub mod Lines
