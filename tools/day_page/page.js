@@ -287,18 +287,21 @@ function showDesk() {
   mine.sort((a, b) => share(b[1]) - share(a[1]) || Number(b[1].used) - Number(a[1].used));
   rows(at("desk-lines"), ["With", "#Own limit", "#Its limit", "#Used", "#Left", "#Share"], mine.map(([bank, use]) => [bank, grouped(use.limit), grouped(use.other), grouped(use.used), grouped(use.left), [use.share, `shade h${use.level}`]]));
   rows(at("desk-nets"), ["Currency", "#Net"], found.nets.map(([code, amount]) => [code, [grouped(amount), amount.startsWith("-") ? "owes" : ""]]));
-  owed(index, found);
+  owed(found);
   const sent = new Map();
   (found.sent ? found.sent.split("\n") : []).forEach((command, place) => sent.set(String(found.firstSent + place), command));
   desk = found.notices ? found.notices.split("\n").map(line => readNotice(line, sent)) : [];
   notices();
 }
-// What a bank gets from each other bank by currency; below zero it owes.
-function owed(index, found) {
-  const codes = day.currencies.filter(code => found.gets.some(get => get[1] === code)), byBank = new Map();
-  for (const [other, code, amount] of found.gets) byBank.set(other, { ...byBank.get(other), [code]: amount });
-  const cells = [...byBank].map(([other, amounts]) => [day.banks[other], ...codes.map(code => [grouped(amounts[code] || "0"), (amounts[code] || "").startsWith("-") ? "owes" : ""])]);
-  rows(at("desk-gets"), ["From", ...codes.map(code => "#" + code)], cells);
+// What a bank gets from each other bank, and owes it, by currency.
+function owed(found) {
+  const byBank = new Map();
+  for (const [other, code, amount] of found.gets) {
+    const lists = byBank.get(other) || byBank.set(other, [[], []]).get(other), owes = amount.startsWith("-");
+    lists[owes ? 1 : 0].push(`${grouped(amount.replace("-", ""))} ${code}`);
+  }
+  const cells = [...byBank].map(([other, [gets, owes]]) => [day.banks[other], [gets.join("; "), "list"], [owes.join("; "), "list owes"]]);
+  rows(at("desk-gets"), ["With", "Gets", "Owes"], cells);
 }
 function share(use) {
   return use.share === "\u2013" ? -1 : parseFloat(use.share.replace(/[<>]/, ""));
