@@ -97,6 +97,7 @@ function heatMap() {
     choose({ desk: day.banks[row] });
     at("filter-with").value = day.banks[column];
     notices();
+    remember();
     at("desk").scrollIntoView();
   }
   function cellAt(event) {
@@ -335,13 +336,19 @@ function choose(wanted, keep) {
   if ("desk" in wanted) showDesk();
   if ("net" in wanted) showNet();
   at("choose-ladder").value = state.ladder;
-  if (!keep) history.replaceState(null, "", "#" + new URLSearchParams(state));
+  if (!keep) remember();
+}
+function remember() {
+  const filters = ["kind", "pair", "with"].map(key => [key === "pair" ? "of" : key, at(`filter-${key}`).value]).filter(filter => filter[1]);
+  history.replaceState(null, "", "#" + new URLSearchParams({ ...state, ...Object.fromEntries(filters) }));
 }
 function fromLink() {
   const asked = Object.fromEntries(new URLSearchParams(location.hash.includes("=") ? location.hash.slice(1) : ""));
   choose({ ...state, ...asked }, true);
-  if (asked.with && day.banks.includes(asked.with)) at("filter-with").value = asked.with;
-  if (asked.kind) at("filter-kind").value = asked.kind;
+  for (const [key, filter] of [["kind", "kind"], ["of", "pair"], ["with", "with"]]) {
+    const select = at(`filter-${filter}`);
+    if ([...select.options].some(option => option.value === asked[key])) select.value = asked[key];
+  }
   notices();
 }
 function start() {
@@ -358,10 +365,16 @@ function start() {
   for (const [id, key] of [["choose-pair", "pair"], ["choose-desk", "desk"], ["choose-ladder", "ladder"], ["choose-net", "net"]]) {
     if (at(id)) at(id).addEventListener("change", event => choose({ [key]: event.target.value }));
   }
-  for (const id of ["filter-kind", "filter-pair", "filter-with", "filter-text"]) at(id).addEventListener("input", notices);
+  for (const id of ["filter-kind", "filter-pair", "filter-with", "filter-text"]) {
+    at(id).addEventListener("input", () => {
+      notices();
+      remember();
+    });
+  }
   at("filter-clear").addEventListener("click", () => {
     for (const id of ["filter-kind", "filter-pair", "filter-with", "filter-text"]) at(id).value = "";
     notices();
+    remember();
   });
   for (const id of ["use-bank", "use-share"]) at(id).addEventListener("input", filterUses);
   for (const table of document.querySelectorAll("table.sorts")) sortable(table);
@@ -369,7 +382,7 @@ function start() {
   fillChart();
   filterUses();
   fromLink();
-  addEventListener("hashchange", fromLink);
+  addEventListener("hashchange", () => location.hash.includes("=") && fromLink());
   document.documentElement.dataset.ready = "yes";
 }
 start();

@@ -221,7 +221,8 @@ def pair_text(pair, sums):
     low, high = min(low for low in sums.low if low is not None), max(high for high in sums.high if high is not None)
     mean = average(pair, sum(sums.turnover), sums.lots)
     first, last = charts.price(pair, sums.first[2]), charts.price(pair, sums.last[2])
-    return f"{few(sums.count, 'fill')} of {few(sums.lots, 'lot')}, from {charts.price(pair, low)} to {charts.price(pair, high)}, on average {mean} by lots; the first at {first}, the last at {last}."
+    ranged = f"from {charts.price(pair, low)} to {charts.price(pair, high)}, on average {mean} by lots"
+    return f"{few(sums.count, 'fill')} of {few(sums.lots, 'lot')}, {ranged}; the first at {first}, the last at {last}."
 
 
 def bins_data(day, at):
