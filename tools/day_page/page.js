@@ -275,7 +275,9 @@ function readNotice(line, sent) {
   }
   const command = sent.get(order) || "", parts = command.split(" ");
   const bank = parts[0] === "LINE" || parts[0] === "SHOW" ? parts[1] : "";
-  return { number, kind: words[0], order, pair: bank ? "" : parts[1] || "", other: bank, command, told: replies[words[0]](words.slice(1)), line };
+  const dropped = parts[4] === "IOC" && words[0] === "ORDERED" ? Number(parts[3]) - Number(words[1]) : 0;
+  const told = replies[words[0]](words.slice(1)) + (dropped ? `, ${grouped(dropped)} dropped` : "");
+  return { number, kind: words[0], order, pair: bank ? "" : parts[1] || "", other: bank, command, told, line };
 }
 let desk = [];
 function showDesk() {
