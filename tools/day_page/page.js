@@ -298,12 +298,14 @@ function showDesk() {
 }
 // What a bank gets from each other bank, and owes it, by currency.
 function owed(found) {
-  const byBank = new Map();
-  for (const [other, code, amount] of found.gets) {
-    const lists = byBank.get(other) || byBank.set(other, [[], []]).get(other), owes = amount.startsWith("-");
-    lists[owes ? 1 : 0].push(`${grouped(amount.replace("-", ""))} ${code}`);
-  }
-  const cells = [...byBank].map(([other, [gets, owes]]) => [day.banks[other], [gets.join("; "), "list"], [owes.join("; "), "list owes"]]);
+  const cells = Object.entries(found.gets).map(([other, told]) => {
+    const lists = [[], []];
+    for (let place = 0; place < told.length; place += 2) {
+      const amount = String(told[place + 1]);
+      lists[amount.startsWith("-") ? 1 : 0].push(`${grouped(amount.replace("-", ""))} ${day.currencies[told[place]]}`);
+    }
+    return [day.banks[other], [lists[0].join("; "), "list"], [lists[1].join("; "), "list owes"]];
+  });
   rows(at("desk-gets"), ["With", "Gets", "Owes"], cells);
 }
 function share(use) {

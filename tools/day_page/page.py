@@ -199,11 +199,20 @@ def desk_data(day, bank):
         "told": desk_text(day, bank),
         "traded": traded,
         "nets": [[code, str(amount)] for code, amount in zip(day.currencies, day.nets[bank * len(day.currencies) :]) if amount],
-        "gets": [[other, code, str(amount)] for (other, code), amount in sorted(desk.gets.items()) if amount],
+        "gets": gets_data(day, desk),
         "notices": b"\n".join(desk.notices).decode(),
         "sent": "\n".join(sent),
         "firstSent": len(day.places[bank]) - len(sent) + 1,
     }
+
+
+def gets_data(day, desk):
+    """By other bank: one behind the other, the number of a currency and what the desk's bank gets of it."""
+    codes, told = {code: at for at, code in enumerate(day.currencies)}, {}
+    for (other, code), amount in sorted(desk.gets.items()):
+        if amount:
+            told.setdefault(other, []).extend((codes[code], amount if abs(amount) < 1 << 53 else str(amount)))
+    return told
 
 
 def pair_data(day, at):
