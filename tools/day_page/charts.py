@@ -176,7 +176,8 @@ def net(day, currency):
     axes.set_ylim(-1.32 * reach, 1.32 * reach)
     for x, (amount, _) in enumerate(amounts if count <= 16 else []):
         below = amount < 0
-        axes.annotate(short(amount), (x, amount), (0, -3 if below else 3), textcoords="offset points", ha="center", va="top" if below else "bottom", fontsize=9, color=COLOURS["ink"])
+        place = {"textcoords": "offset points", "ha": "center", "va": "top" if below else "bottom"}
+        axes.annotate(short(amount), (x, amount), (0, -3 if below else 3), fontsize=9, color=COLOURS["ink"], **place)
     names_along(axes, [name for _, name in amounts], count > 16, 9 if count <= 16 else 7.5)
     amounts_on(axes.yaxis)
     axes.grid(axis="y", color=COLOURS["grid"], linewidth=0.7)
@@ -254,9 +255,11 @@ def prices_range(sums):
 def draw_each(prices, lots, sums, entries):
     """Each fill by itself: a mark at its price, and a bar of its lots. Fills of one command share its bar, one on the other."""
     width = max(entries / 400, 0.3)
+    size = 9 if sums.count < 40 else 6 if sums.count < 150 else 4
     for buys, colour, mark in ((True, "buy", "^"), (False, "sell", "v")):
         chosen = [fill for fill in sums.newest if fill[6] == buys]
-        prices.plot([fill[0] + 1 for fill in chosen], [fill[2] for fill in chosen], mark, color=COLOURS[colour], markersize=9 if sums.count < 40 else 6 if sums.count < 150 else 4, markeredgewidth=0)
+        places, ticks = [fill[0] + 1 for fill in chosen], [fill[2] for fill in chosen]
+        prices.plot(places, ticks, mark, color=COLOURS[colour], markersize=size, markeredgewidth=0)
         by_entry = {}
         for fill in chosen:
             by_entry[fill[0]] = by_entry.get(fill[0], 0) + fill[3] * (1 if buys else -1)

@@ -97,6 +97,7 @@ function heatMap() {
     choose({ desk: day.banks[row] });
     at("filter-with").value = day.banks[column];
     notices();
+    remember();
     at("desk").scrollIntoView();
   }
   function cellAt(event) {
@@ -274,7 +275,9 @@ function readNotice(line, sent) {
   }
   const command = sent.get(order) || "", parts = command.split(" ");
   const bank = parts[0] === "LINE" || parts[0] === "SHOW" ? parts[1] : "";
-  return { number, kind: words[0], order, pair: bank ? "" : parts[1] || "", other: bank, command, told: replies[words[0]](words.slice(1)), line };
+  const dropped = parts[4] === "IOC" && words[0] === "ORDERED" ? Number(parts[3]) - Number(words[1]) : 0;
+  const told = replies[words[0]](words.slice(1)) + (dropped ? `, ${grouped(dropped)} dropped` : "");
+  return { number, kind: words[0], order, pair: bank ? "" : parts[1] || "", other: bank, command, told, line };
 }
 let desk = [];
 function showDesk() {
@@ -287,18 +290,23 @@ function showDesk() {
   mine.sort((a, b) => share(b[1]) - share(a[1]) || Number(b[1].used) - Number(a[1].used));
   rows(at("desk-lines"), ["With", "#Own limit", "#Its limit", "#Used", "#Left", "#Share"], mine.map(([bank, use]) => [bank, grouped(use.limit), grouped(use.other), grouped(use.used), grouped(use.left), [use.share, `shade h${use.level}`]]));
   rows(at("desk-nets"), ["Currency", "#Net"], found.nets.map(([code, amount]) => [code, [grouped(amount), amount.startsWith("-") ? "owes" : ""]]));
-  owed(index, found);
+  owed(found);
   const sent = new Map();
   (found.sent ? found.sent.split("\n") : []).forEach((command, place) => sent.set(String(found.firstSent + place), command));
   desk = found.notices ? found.notices.split("\n").map(line => readNotice(line, sent)) : [];
   notices();
 }
-// What a bank gets from each other bank by currency; below zero it owes.
-function owed(index, found) {
-  const codes = day.currencies.filter(code => found.gets.some(get => get[1] === code)), byBank = new Map();
-  for (const [other, code, amount] of found.gets) byBank.set(other, { ...byBank.get(other), [code]: amount });
-  const cells = [...byBank].map(([other, amounts]) => [day.banks[other], ...codes.map(code => [grouped(amounts[code] || "0"), (amounts[code] || "").startsWith("-") ? "owes" : ""])]);
-  rows(at("desk-gets"), ["From", ...codes.map(code => "#" + code)], cells);
+// What a bank gets from each other bank, and owes it, by currency.
+function owed(found) {
+  const cells = Object.entries(found.gets).map(([other, told]) => {
+    const lists = [[], []];
+    for (let place = 0; place < told.length; place += 2) {
+      const amount = String(told[place + 1]);
+      lists[amount.startsWith("-") ? 1 : 0].push(`${grouped(amount.replace("-", ""))} ${day.currencies[told[place]]}`);
+    }
+    return [day.banks[other], [lists[0].join("; "), "list"], [lists[1].join("; "), "list owes"]];
+  });
+  rows(at("desk-gets"), ["With", "Gets", "Owes"], cells);
 }
 function share(use) {
   return use.share === "\u2013" ? -1 : parseFloat(use.share.replace(/[<>]/, ""));
@@ -332,13 +340,19 @@ function choose(wanted, keep) {
   if ("desk" in wanted) showDesk();
   if ("net" in wanted) showNet();
   at("choose-ladder").value = state.ladder;
-  if (!keep) history.replaceState(null, "", "#" + new URLSearchParams(state));
+  if (!keep) remember();
+}
+function remember() {
+  const filters = ["kind", "pair", "with"].map(key => [key === "pair" ? "of" : key, at(`filter-${key}`).value]).filter(filter => filter[1]);
+  history.replaceState(null, "", "#" + new URLSearchParams({ ...state, ...Object.fromEntries(filters) }));
 }
 function fromLink() {
   const asked = Object.fromEntries(new URLSearchParams(location.hash.includes("=") ? location.hash.slice(1) : ""));
   choose({ ...state, ...asked }, true);
-  if (asked.with && day.banks.includes(asked.with)) at("filter-with").value = asked.with;
-  if (asked.kind) at("filter-kind").value = asked.kind;
+  for (const [key, filter] of [["kind", "kind"], ["of", "pair"], ["with", "with"]]) {
+    const select = at(`filter-${filter}`);
+    if ([...select.options].some(option => option.value === asked[key])) select.value = asked[key];
+  }
   notices();
 }
 function start() {
@@ -355,10 +369,16 @@ function start() {
   for (const [id, key] of [["choose-pair", "pair"], ["choose-desk", "desk"], ["choose-ladder", "ladder"], ["choose-net", "net"]]) {
     if (at(id)) at(id).addEventListener("change", event => choose({ [key]: event.target.value }));
   }
-  for (const id of ["filter-kind", "filter-pair", "filter-with", "filter-text"]) at(id).addEventListener("input", notices);
+  for (const id of ["filter-kind", "filter-pair", "filter-with", "filter-text"]) {
+    at(id).addEventListener("input", () => {
+      notices();
+      remember();
+    });
+  }
   at("filter-clear").addEventListener("click", () => {
     for (const id of ["filter-kind", "filter-pair", "filter-with", "filter-text"]) at(id).value = "";
     notices();
+    remember();
   });
   for (const id of ["use-bank", "use-share"]) at(id).addEventListener("input", filterUses);
   for (const table of document.querySelectorAll("table.sorts")) sortable(table);
@@ -366,7 +386,7 @@ function start() {
   fillChart();
   filterUses();
   fromLink();
-  addEventListener("hashchange", fromLink);
+  addEventListener("hashchange", () => location.hash.includes("=") && fromLink());
   document.documentElement.dataset.ready = "yes";
 }
 start();

@@ -84,7 +84,7 @@ def nearest_table(day):
 
 def uses_table(day):
     rows = [use_row(day, use) for use in day.uses]
-    return table("uses", "The lines USE of the report, in credit units; the share is of the lesser limit.", USE_HEADS, rows)
+    return table("uses", "The report's text lines USE, in credit units; the share is of the lesser limit.", USE_HEADS, rows)
 
 
 def exposure_table(day):
@@ -105,7 +105,7 @@ def exposure_table(day):
 def nets_table(day):
     step = len(day.currencies)
     rows = [(name, *((grouped(amount), "owes" if amount < 0 else "") for amount in day.nets[bank * step : (bank + 1) * step])) for bank, name in enumerate(day.banks)]
-    return table("nets-table", "The lines NET of the report: below zero the bank owes the currency.", ("Bank", *(f"#{code}" for code in day.currencies)), rows, "sorts pin")
+    return table("nets-table", "The report's text lines NET: below zero the bank owes the currency.", ("Bank", *(f"#{code}" for code in day.currencies)), rows, "sorts pin")
 
 
 def volumes_table(day):
@@ -114,7 +114,7 @@ def volumes_table(day):
         mean = average(pair, quote // pair.unit, lots) if pair.unit else ""
         rows.append((pair.name, grouped(fills), grouped(lots), grouped(base), grouped(quote), mean, grouped(lots * pair.weight)))
     heads = ("Pair", "#Fills", "#Lots", "#Base amount", "#Quote amount", "#Average price", "#Credit units used")
-    return table("volumes", "The lines VOLUME of the report; the average is the quote amount by the base amount.", heads, rows)
+    return table("volumes", "The report's text lines VOLUME; the average is the quote amount by the base amount.", heads, rows)
 
 
 def legend(day):
@@ -155,7 +155,7 @@ def verdict_text(verdict):
         )
     if verdict.kind == RIGHT:
         return f"<strong>A right output.</strong> {who(verdict)} says <code>YES</code>: this text is the output of one legal history of the market."
-    where = f", in line {grouped(verdict.line)}: <code>{safe(verdict.text)}</code>" if verdict.line else ""
+    where = f", in text line {grouped(verdict.line)}: <code>{safe(verdict.text)}</code>" if verdict.line else ""
     return (
         f"<strong>NOT A RIGHT OUTPUT. Don't rely on any figure.</strong> {who(verdict)} says <code>NO {verdict.offset}</code>: the text is the output of no legal history. It goes"
         f" wrong at byte {grouped(verdict.offset)}, counted from 0{where}. The page shows what this wrong text says, to help find what happened to it."
@@ -199,11 +199,20 @@ def desk_data(day, bank):
         "told": desk_text(day, bank),
         "traded": traded,
         "nets": [[code, str(amount)] for code, amount in zip(day.currencies, day.nets[bank * len(day.currencies) :]) if amount],
-        "gets": [[other, code, str(amount)] for (other, code), amount in sorted(desk.gets.items()) if amount],
+        "gets": gets_data(day, desk),
         "notices": b"\n".join(desk.notices).decode(),
         "sent": "\n".join(sent),
         "firstSent": len(day.places[bank]) - len(sent) + 1,
     }
+
+
+def gets_data(day, desk):
+    """By other bank: one behind the other, the number of a currency and what the desk's bank gets of it."""
+    codes, told = {code: at for at, code in enumerate(day.currencies)}, {}
+    for (other, code), amount in sorted(desk.gets.items()):
+        if amount:
+            told.setdefault(other, []).extend((codes[code], amount if abs(amount) < 1 << 53 else str(amount)))
+    return told
 
 
 def pair_data(day, at):
@@ -221,7 +230,8 @@ def pair_text(pair, sums):
     low, high = min(low for low in sums.low if low is not None), max(high for high in sums.high if high is not None)
     mean = average(pair, sum(sums.turnover), sums.lots)
     first, last = charts.price(pair, sums.first[2]), charts.price(pair, sums.last[2])
-    return f"{few(sums.count, 'fill')} of {few(sums.lots, 'lot')}, from {charts.price(pair, low)} to {charts.price(pair, high)}, on average {mean} by lots; the first at {first}, the last at {last}."
+    ranged = f"from {charts.price(pair, low)} to {charts.price(pair, high)}, on average {mean} by lots"
+    return f"{few(sums.count, 'fill')} of {few(sums.lots, 'lot')}, {ranged}; the first at {first}, the last at {last}."
 
 
 def bins_data(day, at):
@@ -289,7 +299,7 @@ def made_text(day, source, verdict):
     agree = "do not agree, as told above" if day.differences else "agree"
     return f"""<ul>
 <li><strong>Not proved.</strong> <code>tools/day</code> made this page from the text alone. What is proved is the program that made the text, and its check; neither proves the page.</li>
-<li><strong>The text.</strong> <span id="source-name">{safe(source.name)}</span>, {grouped(source.size)} bytes in {grouped(day.lines)} lines, SHA-256 <span class="hash" id="digest">{source.digest}</span>. These bytes were {'not checked' if verdict.kind == UNCHECKED else 'the ones that were checked'}.</li>
+<li><strong>The text.</strong> <span id="source-name">{safe(source.name)}</span>, {grouped(source.size)} bytes in {grouped(day.lines)} text lines, SHA-256 <span class="hash" id="digest">{source.digest}</span>. These bytes were {'not checked' if verdict.kind == UNCHECKED else 'the ones that were checked'}.</li>
 <li><strong>Limits, use, lines, nets and volumes</strong> are those of the text's report, and the local books are its section of that name. The page adds up the fills of all desks too: the two {agree}.</li>
 <li><strong>What a bank gets from another or owes it</strong> is the sum over their fills on the bank's desk. There is no clearing house: nobody pays the nets of all banks but the banks one another.</li>
 <li><strong>A fill</strong> stands on two desks, and the page puts the two notices together. Its place in the history is the later of the two last commands that the desks had answered before it; its taker is the later of the two orders.</li>

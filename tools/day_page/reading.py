@@ -198,6 +198,7 @@ class Day:
     def __init__(self, kept):
         self.kept = kept
         self.banks, self.pairs, self.currencies = [], [], []
+        self.bank_at, self.pair_at = {}, {}
         self.opening, self.entries, self.kinds = {}, 0, dict.fromkeys(KINDS, 0)
         self.places, self.sent = [], []
         self.desks, self.fills, self.books = [], [], []
@@ -283,7 +284,7 @@ class Matching:
     """
 
     def __init__(self, day):
-        self.day, self.waiting, self.bins = day, {}, day.fills[0].bins
+        self.day, self.waiting, self.taken, self.bins = day, {}, {}, day.fills[0].bins
 
     def told(self, bank, other, pair, ticks, lots, buys, entry, arrived, turn):
         """Takes a fill's notice: the last replied entry before it, when its own order arrived, and its number on the desk."""
