@@ -1,5 +1,7 @@
 -- One pair's book, as contracts see it: the orders that rest, in arrival order.
-use Rattle.std.specs.Prelude.{ℕ, ◌≡◌, ◌+◌, ◌≤◌, ◌<◌, ◌^◌, Bool, true, ◌&&◌, ◌==◌, nat_le, nat_lt, if◌then◌else◌, List, filter, Option, slice_get, slice_index, slice_index_or, option_map}
+use Rattle.std.specs.Prelude.{ℕ, ◌≡◌, ◌+◌, ◌≤◌, ◌<◌, ◌^◌, Bool, true, ◌&&◌, ◌==◌, nat_le, nat_lt, if◌then◌else◌, List, filter, length, Option, slice_get, slice_index, slice_index_or, option_map}
+use Rattle.std.specs.List.{Contains}
+use Rattle.std.specs.List.Sorted.{IsStrictlyIncreasing}
 use Rattle.fx_amounts.specs.Side.{opposite}
 use Rattle.fx_amounts.specs.declared.side.Side.{Side}
 use Rattle.fx_amounts.specs.declared.side.Side.TheVariants.{Buy, Sell}
@@ -95,6 +97,17 @@ is_owned taker bank before past order =
 -- such orders of a bank and a side
 abbrev pub owned : Side → ℕ → ℕ → Option Place → List Resting → List Resting
 owned side bank before past orders = filter (is_owned (opposite side) bank before past) orders
+
+-- a bank has an order among these
+abbrev pub Owns : ℕ → List Resting → Type 0
+Owns bank orders = (order : Resting) × Among order orders × (order.bank ≡ bank)
+
+-- these banks are those that have an order in the book, each once, from the lowest number on
+pub record AreOwners (book : Book) (owners : List ℕ) : Type 0 where
+  pub all : Each (λ order. Contains owners order.bank) book.orders
+  pub owns : (bank : ℕ) → Contains owners bank → Owns bank book.orders
+  pub rising : IsStrictlyIncreasing owners
+  pub few : length owners ≤ book.banks
 
 -- all orders of a side arrived before `before`
 abbrev pub AreInTime : Side → ℕ → List Resting → Type 0

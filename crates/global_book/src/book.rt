@@ -4,7 +4,7 @@ ghost use Rattle.std.specs.Option.{option_copied};
 ghost use Rattle.fx_amounts.specs.Side.{opposite};
 ghost use Rattle.fx_rules.specs.Lists.{Each};
 ghost use Rattle.fx_rules.specs.Sweep.{IsBest, is_order};
-ghost use Rattle.global_book.specs.Book.{AreInTime, HasRoom, KeepsRoom, IsBook, IsPlaceOf, Rests, RestsAbove, first, is_of, is_of_from, TakesRoom, owned, relotted, sought};
+ghost use Rattle.global_book.specs.Book.{AreInTime, AreOwners, HasRoom, KeepsRoom, IsBook, IsPlaceOf, Rests, RestsAbove, first, is_of, is_of_from, TakesRoom, owned, relotted, sought};
 ghost use Rattle.global_book.specs.Rows.{IsEmptyRow, place_in, its_price};
 
 use access_index::{Owners, best_of};
@@ -74,6 +74,14 @@ impl PairBook {
         ensures valid { IsBook self.now }
     {
         self.banks
+    }
+
+    /// The banks that have an order in the book, each once, from the lowest number on.
+    pub fn owners(&self) -> &[BankId]
+        ensures owners { AreOwners self.now result.now }
+        ensures valid { IsBook self.now }
+    {
+        self.price_rows.listed()
     }
 
     /// Makes room for one order more of a bank and a side. At `Memory` there may be none.
