@@ -1,8 +1,8 @@
 -- A walk's step: all heads are found, the best of them that may be taken is taken, and the other heads stay.
-use Rattle.std.proofs.Common.{ℕ, ◌≡◌, ◌-◌, ◌+◌, ◌*◌, ◌/◌, ◌≤◌, ◌<◌, min, true, false, leb, List, [], ◌∷◌, ◌++◌, inl, inr, refl, ap, sym, subst, ◌∙◌, arith, length, get_or, slice_index, Option, Some, None, IfSome, get_or-set_other}
+use Rattle.std.proofs.Common.{ℕ, ◌≡◌, ◌-◌, ◌*◌, ◌/◌, ◌≤◌, ◌<◌, min, true, false, leb, List, [], ◌∷◌, ◌++◌, inl, inr, refl, ap, sym, subst, ◌∙◌, arith, length, get_or, slice_index, Option, Some, None, IfSome, get_or-set_other}
 use Rattle.std.proofs.Math.ListN.{set}
 use Rattle.std.proofs.Math.Nat.{le-div_iff_mul-le}
-use Rattle.std.proofs.lemmas.Bool.{cases_eq, and_parts, and_cases, and_from, both_ways, false_from_ne_true, leb-true, le-leb}
+use Rattle.std.proofs.lemmas.Bool.{and_parts, and_cases, and_from, both_ways, false_from_ne_true, leb-true, le-leb}
 use Rattle.std.proofs.lemmas.List.Elements.{Contains-append_left, Contains-push, Contains-push_cases}
 use Rattle.std.specs.List.{Contains}
 use Rattle.fx_amounts.specs.declared.side.Side.{Side}

@@ -1,5 +1,5 @@
 -- One more bank is looked at.
-use Rattle.std.proofs.Common.{ℕ, List, Option, [], ◌∷◌, ◌++◌, ◌≡◌, take, ap, sym, subst, ◌∙◌, ◌+◌, arith}
+use Rattle.std.proofs.Common.{ℕ, List, [], ◌∷◌, ◌++◌, ◌≡◌, take, ap, sym, subst, ◌∙◌, ◌+◌, arith}
 use Rattle.std.proofs.lemmas.List.{take_more}
 use Rattle.match_sweep.specs.Walks.{IsPickedAt}
 use Rattle.match_sweep.proofs.Stepping.{picked-lead, picked-stay}

@@ -1,5 +1,5 @@
 -- The best of the heads is the next order that the sweep takes.
-use Rattle.std.proofs.Common.{ℕ, ◌≡◌, List, Some, None, arith}
+use Rattle.std.proofs.Common.{ℕ, List, Some, arith}
 use Rattle.fx_rules.specs.declared.orders.Resting.{Resting}
 use Rattle.price_levels.specs.declared.place.Place.{Place}
 use Rattle.global_book.specs.Book.{AreOwners, Book, IsBook}
