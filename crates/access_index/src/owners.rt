@@ -5,9 +5,9 @@ ghost use Rattle.std.specs.Option.{option_copied};
 ghost use Rattle.fx_amounts.specs.declared.side.Side.{Side as OneSide};
 ghost use Rattle.price_levels.specs.Ladder.{IsFirstOf, IsNewArrival};
 ghost use Rattle.access_index.specs.Listed.{listed, with_bank};
-ghost use Rattle.access_index.specs.Owned.{AreEmpty, AreInTime, AreOwned, OwnerGains, OwnerLoses, OwnersGrow, is_ahead, row_at};
+ghost use Rattle.access_index.specs.Owned.{AreEmpty, AreInTime, AreOwned, OwnerGains, OwnerLoses, OwnersGrow, is_ahead, row_at, stands_behind};
 
-use crate::search::first_in_time;
+use crate::search::{first_in_time, first_place_behind};
 use crate::sides::Sides;
 use fx_amounts::{BankId, Memory, Side};
 use price_levels::{Levels, Place, Steps};
@@ -130,6 +130,25 @@ impl Owners {
     {
         match self.levels(bank, side) {
             Some(levels) => first_in_time(levels, before, past, steps),
+            None => None,
+        }
+    }
+
+    /// The first place of a bank and a side that stands behind the place `past`, where there is one, whenever its order
+    /// arrived. At most one step.
+    pub fn first_behind<L: Ledger>(
+        &self,
+        bank: BankId,
+        side: Side,
+        past: Option<&Place>,
+        steps: &mut Steps<L>,
+    ) -> Option<Place>
+        ensures found { IsFirstOf (stands_behind side (option_copied past.entry)) side (row_at self.now bank side).places result }
+        ensures steps { steps.new ≤ steps.old + 1 }
+        ensures valid { AreOwned self.now }
+    {
+        match self.levels(bank, side) {
+            Some(levels) => first_place_behind(levels, past, steps),
             None => None,
         }
     }

@@ -1,9 +1,9 @@
 ghost use Rattle.std.specs.Prelude.{ℕ, ◌≡◌, ◌+◌, ◌≤◌, ◌<◌, List, [], ◌∷◌, ◌++◌, length};
 ghost use Rattle.std.specs.Option.{option_copied};
 ghost use Rattle.fx_amounts.specs.Side.{opposite};
-ghost use Rattle.price_levels.specs.Ladder.{IsFirstOf};
+ghost use Rattle.price_levels.specs.Ladder.{IsFirstOf, IsSorted};
 ghost use Rattle.access_index.specs.Listed.{listed};
-ghost use Rattle.access_index.specs.Owned.{AreInTime, AreOwned, IsBestOf, allows, is_ahead, is_wanted, row_at};
+ghost use Rattle.access_index.specs.Owned.{AreInTime, AreOwned, IsBestOf, allows, is_ahead, is_wanted, row_at, stands_behind};
 ghost use Rattle.access_index.specs.Search.{AllInTime, IsBestAmong, leads, wants};
 
 use crate::owners::Owners;
@@ -149,10 +149,7 @@ pub(crate) fn first_in_time<L: Ledger>(
     ensures found { IsFirstOf (is_ahead levels.now.side before (option_copied past.entry)) levels.now.side levels.now.places result }
     ensures steps { AreInTime before levels.now.places → steps.new ≤ steps.old + 1 }
 {
-    let mut next = match past {
-        Some(place) => levels.after(place, steps),
-        None => levels.front(steps),
-    };
+    let mut next = first_place_behind(levels, past, steps);
     while let Some(place) = next {
         if place.arrival < before {
             return Some(place);
@@ -160,4 +157,20 @@ pub(crate) fn first_in_time<L: Ledger>(
         next = levels.after(&place, steps);
     }
     None
+}
+
+/// The first place of a row that stands behind the place `past`, where there is one. One step.
+pub(crate) fn first_place_behind<L: Ledger>(
+    levels: &Levels,
+    past: Option<&Place>,
+    steps: &mut Steps<L>,
+) -> Option<Place>
+    ensures found { IsFirstOf (stands_behind levels.now.side (option_copied past.entry)) levels.now.side levels.now.places result }
+    ensures step { steps.new ≡ steps.old + 1 }
+    ensures sorted { IsSorted levels.now.side levels.now.places }
+{
+    match past {
+        Some(place) => levels.after(place, steps),
+        None => levels.front(steps),
+    }
 }
