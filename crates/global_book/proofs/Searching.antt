@@ -31,7 +31,7 @@ use Rattle.global_book.proofs.Rowing.{some_same}
 use Rattle.global_book.proofs.Keeping.{own_there}
 use Rattle.global_book.proofs.Lifting.{each_from}
 
-better_same : (side : Side) (a b : ℕ) → sweep.is_better (opposite side) a b ≡ is_better side a b
+pub better_same : (side : Side) (a b : ℕ) → sweep.is_better (opposite side) a b ≡ is_better side a b
 better_same Buy a b = refl
 better_same Sell a b = refl
 
