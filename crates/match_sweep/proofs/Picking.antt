@@ -165,7 +165,7 @@ picked-best listed_now reaches t last book banks heads at best picks = record {
       (λ o there. before_open listed_now reaches t last book banks heads at best o picks there);
 }
 
-none_among : (orders : List Resting) → ((o : Resting) → Among o orders → ⊥) → orders ≡ []
+pub none_among : (orders : List Resting) → ((o : Resting) → Among o orders → ⊥) → orders ≡ []
 none_among [] none = refl
 none_among (o ∷ orders) none = absurd (none o (inl refl))
 
@@ -217,11 +217,11 @@ all_behind listed_now reaches t last book banks heads at other best o picks with
       | inr before ↦ before
     ]
 
-still_behind : (side : Side) (last : Option Resting) (best o : Resting) → is_behind side last best ≡ true → is_preferred side best o ≡ true → is_behind side last o ≡ true
+pub still_behind : (side : Side) (last : Option Resting) (best o : Resting) → is_behind side last best ≡ true → is_preferred side best o ≡ true → is_behind side last o ≡ true
 still_behind side None best o behind later = refl
 still_behind side (Some last) best o behind later = preferred_trans side last best o behind later
 
-same_tests : (p q : Bool) → (p ≡ true → q ≡ true) → (q ≡ true → p ≡ true) → p ≡ q
+pub same_tests : (p q : Bool) → (p ≡ true → q ≡ true) → (q ≡ true → p ≡ true) → p ≡ q
 same_tests true true there back = refl
 same_tests true false there back = absurd (both_ways false refl (there refl))
 same_tests false true there back = absurd (both_ways false refl (back refl))

@@ -105,10 +105,10 @@ renewed-set book old new ready renewed = record {
   heads = renewed.heads;
 }
 
-pays : (line weight : ℕ) → IsWeight weight → weight ≤ line → 1 ≤ line / weight
+pub pays : (line weight : ℕ) → IsWeight weight → weight ≤ line → 1 ≤ line / weight
 pays line weight is fits = (le-div_iff_mul-le {k = weight} {x = 1} {y = line} (omega (arith, is.0))).1 (omega (arith, fits))
 
-paid_for : (line weight : ℕ) → IsWeight weight → 1 ≤ line / weight → weight ≤ line
+pub paid_for : (line weight : ℕ) → IsWeight weight → 1 ≤ line / weight → weight ≤ line
 paid_for line weight is some = omega (arith, (le-div_iff_mul-le {k = weight} {x = 1} {y = line} (omega (arith, is.0))).0 some)
 
 owners : (book : Book) → IsBook book → (o : Resting) → Among o book.orders → o.bank < book.banks

@@ -2,11 +2,11 @@ ghost use Rattle.std.specs.Prelude.{ℕ, IfSome, ◌≡◌, ◌≤◌, ◌<◌, 
 ghost use Rattle.std.specs.Option.{option_copied, option_map};
 ghost use Rattle.fx_amounts.specs.Quantity.{IsWeight};
 ghost use Rattle.fx_rules.specs.Lists.{Among};
-ghost use Rattle.fx_rules.specs.Sweep.{is_preferred};
+ghost use Rattle.fx_rules.specs.Sweep.{is_better, is_preferred};
 ghost use Rattle.global_book.specs.Book.{standing_at};
 ghost use Rattle.match_sweep.specs.Heads.{AreHeads, CameBefore, IsFound, to_come};
 
-use fx_amounts::{BankId, Side};
+use fx_amounts::{BankId, Price, Side};
 use fx_rules::{Resting, SweptOrder};
 use global_book::PairBook;
 use price_levels::{Place, Steps};
@@ -70,13 +70,20 @@ pub(crate) fn first_heads<L: Ledger>(
     heads
 }
 
+/// Whether the first price is better than the other for a taker of `side`.
+pub(crate) fn is_better(side: Side, price: Price, other: Price) -> bool
+    ensures value { result ≡ is_better side price other }
+{
+    match side {
+        Side::Buy => price < other,
+        Side::Sell => price > other,
+    }
+}
+
 /// Whether a taker of `side` prefers the first order: its price is better, or the same and it arrived earlier.
 pub(crate) fn is_preferred(side: Side, order: &Resting, other: &Resting) -> bool
     ensures value { result ≡ is_preferred side order.now other.now }
 {
-    let is_better = match side {
-        Side::Buy => order.price < other.price,
-        Side::Sell => order.price > other.price,
-    };
-    is_better || (order.price == other.price && order.arrival < other.arrival)
+    is_better(side, order.price, other.price)
+        || (order.price == other.price && order.arrival < other.arrival)
 }

@@ -177,7 +177,7 @@ fn line_with(banks: usize, lines: &CreditLines, bank: BankId, number: u8) -> u64
 }
 
 /// The lines of a bank with each other bank, of so many banks, in credit units; nothing with itself.
-fn lines_of(banks: usize, lines: &CreditLines, bank: BankId) -> [u64; 64]
+pub(crate) fn lines_of(banks: usize, lines: &CreditLines, bank: BankId) -> [u64; 64]
     requires banks { banks ≡ lines.now.banks }
     requires bank { bank < banks }
     ensures line { (other : ℕ) → other < banks → other ≢ bank → slice_index result other ≡ line_in lines.now bank other }
