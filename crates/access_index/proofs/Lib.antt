@@ -1,3 +1,4 @@
 pub mod Rows
+pub mod Listing
 mod Walking
 mod Wanting

@@ -53,22 +53,18 @@ module _ (side : Side) (before : ℕ) (past : Option Place) (places : List Place
       ])
       (λ p after. behind_later side past place p walks.behind after)
 
-  -- a walk begins at the front, or behind the place that was handed in
-  pub walk_begins_behind : (place : Place) (next : Option Place) → past ≡ Some place → IsSorted side places → next ≡ first_where (sorts_before side place) places → Walks side passes past places next
-  walk_begins_behind place next is_past sorted found =
-      walks_from next place sorted found
-      (λ other there ahead. subst (λ (p : Option Place). stands_behind side p other ≡ true) is_past (is_behind side before past other ahead))
-      (λ p after. subst (λ (q : Option Place). stands_behind side q p ≡ true) (sym is_past) after)
-
-  pub walk_begins : (next : Option Place) → past ≡ None → IsSorted side places → next ≡ slice_get places 0 → Walks side passes past places next
-  walk_begins None none sorted found = record { there = tt; behind = tt; ahead = λ other there ahead. front_none places (sym found) other there }
-  walk_begins (Some next) none sorted found =
-      let it = front_found side places next sorted (sym found) in
-      record {
-        there = it.there;
-        behind = subst (λ (q : Option Place). stands_behind side q next ≡ true) (sym none) refl;
-        ahead = λ other there ahead. it.first other there refl;
-      }
+  -- a walk begins at the first place that stands behind the one that was handed in
+  pub walk_begins : (next : Option Place) → IsFirstOf (stands_behind side past) side places next → Walks side passes past places next
+  walk_begins None found = record {
+    there = tt;
+    behind = tt;
+    ahead = λ other there ahead. both_ways (stands_behind side past other) (found other there) (is_behind side before past other ahead);
+  }
+  walk_begins (Some next) found = record {
+    there = found.there;
+    behind = found.passes;
+    ahead = λ other there ahead. found.first other there (is_behind side before past other ahead);
+  }
 
   -- the first place in time is the first of all
   pub walk_finds : (place : Place) → Walks side passes past places (Some place) → place.arrival < before → IsFirst passes side places place
@@ -117,6 +113,25 @@ length-filter_less p q (y ∷ ys) x less there fails passes =
                 ]
           ]
     ]
+
+-- the first place behind one, and the first of all
+pub first_behind_one : (side : Side) (past : Option Place) (places : List Place) (place : Place) (first : Option Place) → past ≡ Some place → IsSorted side places → first ≡ first_where (sorts_before side place) places
+    → IsFirstOf (stands_behind side past) side places first
+first_behind_one side past places place first is_past sorted found =
+    subst (λ (p : Option Place). IsFirstOf (stands_behind side p) side places first) (sym is_past)
+    (elim first as (λ (f : Option Place). f ≡ first_where (sorts_before side place) places → IsFirstOf (sorts_before side place) side places f) [
+      | None ↦ λ none. first_none (sorts_before side place) places (sym none)
+      | Some next ↦ λ some. first_found (sorts_before side place) side places next sorted (sym some)
+    ] found)
+
+pub first_of_all : (side : Side) (past : Option Place) (places : List Place) (first : Option Place) → past ≡ None → IsSorted side places → first ≡ slice_get places 0
+    → IsFirstOf (stands_behind side past) side places first
+first_of_all side past places first is_past sorted found =
+    subst (λ (p : Option Place). IsFirstOf (stands_behind side p) side places first) (sym is_past)
+    (elim first as (λ (f : Option Place). f ≡ slice_get places 0 → IsFirstOf (λ (_ : Place). true) side places f) [
+      | None ↦ λ none other there. absurd (front_none places (sym none) other there)
+      | Some next ↦ λ some. front_found side places next sorted (sym some)
+    ] found)
 
 pub left_falls : (side : Side) (places : List Place) (place : Place) (next : Option Place) → IsSorted side places → next ≡ first_where (sorts_before side place) places
     → left_in side places next < left_in side places (Some place)

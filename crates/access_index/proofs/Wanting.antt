@@ -1,6 +1,7 @@
 -- The best place that is wanted, of one bank and of one bank more.
-use Rattle.std.proofs.Common.{ℕ, ◌≡◌, ◌+◌, ◌≤◌, ◌<◌, Bool, true, false, ◌&&◌, leb, List, get_or, Option, Some, None, ◌⊎◌, inl, inr, ap, sym, subst, ◌∙◌, arith}
-use Rattle.std.proofs.lemmas.Bool.{cases_eq, both_ways, and_parts, and_from, false_from_ne_true, le-leb, leb-true, lt-leb, leb-false, ltb-true}
+use Rattle.std.proofs.Common.{ℕ, ◌≡◌, ◌≤◌, ◌<◌, Bool, true, false, ◌&&◌, leb, List, [], ◌∷◌, ◌++◌, length, get_or, Option, Some, None, ◌⊎◌, inl, inr, ap, sym, subst, ◌∙◌, arith}
+use Rattle.std.proofs.lemmas.Bool.{both_ways, and_parts, and_from, false_from_ne_true, le-leb, leb-true, lt-leb, leb-false, ltb-true}
+use Rattle.std.proofs.lemmas.List.Elements.{Contains-append_left, Contains-push, Contains-push_cases}
 use Rattle.std.specs.List.{Contains}
 use Rattle.fx_amounts.specs.Price.{crosses}
 use Rattle.fx_amounts.specs.Side.{opposite}
@@ -10,8 +11,11 @@ use Rattle.price_levels.specs.declared.place.Place.{Place}
 use Rattle.price_levels.specs.Ladder.{is_better, sorts_before, IsFirst, IsFirstOf}
 use Rattle.price_levels.proofs.Sorting.{before_cases, before_self, before_trans}
 use Rattle.access_index.specs.Sides.{OwnRows}
-use Rattle.access_index.specs.Owned.{row_at, allows, is_ahead, is_wanted, IsBestPlace, IsBestOf}
-use Rattle.access_index.specs.Search.{leads}
+use Rattle.access_index.specs.Owned.{row_at, allows, is_ahead, is_wanted, IsBestOf}
+use Rattle.access_index.specs.Listed.{listed}
+use Rattle.access_index.specs.Search.{IsBestPlaceAmong, IsBestAmong, leads}
+use Rattle.access_index.proofs.Rows.{bank_within}
+use Rattle.access_index.proofs.Listing.{row_listed}
 
 -- prices only get worse along a row
 worse_later : (side : Side) (limit p q : ℕ) → (is_better side p q ≡ true) ⊎ (p ≡ q) → crosses (opposite side) limit p ≡ false → crosses (opposite side) limit q ≡ false
@@ -68,62 +72,54 @@ module _ (side : Side) (reach : List ℕ) (limit : Option ℕ) (before : ℕ) (p
         first = λ other there h. it.first other there (wanted_parts other h).2;
       }
 
--- a bank among the first so many and one more
-one_more : (bank one : ℕ) → one < bank + 1 → (one < bank) ⊎ (one ≡ bank)
-one_more bank one below =
-    elim (cases_eq one bank) [
-      | inl same ↦ inr same
-      | inr differ ↦ inl (omega arith)
-    ]
-
-module _ (wants : ℕ → Place → Bool) (side : Side) (owners : List OwnRows) (bank : ℕ) where
+module _ (wants : ℕ → Place → Bool) (side : Side) (owners : List OwnRows) (banks : List ℕ) (bank : ℕ) where
   -- nothing of the bank is wanted
   pub best_stays-none : (best : Option (ℕ × Place)) (first : Option Place) → first ≡ None → IsFirstOf (wants bank) side (row_at owners bank side).places first
-      → IsBestOf wants side owners bank best → IsBestOf wants side owners (bank + 1) best
+      → IsBestAmong wants side owners banks best → IsBestAmong wants side owners (banks ++ bank ∷ []) best
   best_stays-none None first none is so_far = λ one place below there.
-      elim (one_more bank one below) [
+      elim (Contains-push_cases banks bank one below) [
         | inl before ↦ so_far one place before there
         | inr same ↦
             let is' : IsFirstOf (wants bank) side (row_at owners bank side).places None = subst (IsFirstOf (wants bank) side (row_at owners bank side).places) none is in
-            ap (λ (b : ℕ). wants b place) same ∙ is' place (subst (λ (b : ℕ). Contains (row_at owners b side).places place) same there)
+            ap (λ (b : ℕ). wants b place) (sym same) ∙ is' place (subst (λ (b : ℕ). Contains (row_at owners b side).places place) (sym same) there)
       ]
   best_stays-none (Some best) first none is so_far = record {
-    bank = omega (arith, so_far.bank);
+    bank = Contains-append_left banks (bank ∷ []) best.0 so_far.bank;
     there = so_far.there;
     wanted = so_far.wanted;
-    best = λ one place below there wanted. elim (one_more bank one below) [
+    best = λ one place below there wanted. elim (Contains-push_cases banks bank one below) [
       | inl before ↦ so_far.best one place before there wanted
       | inr same ↦
           let is' : IsFirstOf (wants bank) side (row_at owners bank side).places None = subst (IsFirstOf (wants bank) side (row_at owners bank side).places) none is in
-          absurd (both_ways (wants bank place) (is' place (subst (λ (b : ℕ). Contains (row_at owners b side).places place) same there)) (ap (λ (b : ℕ). wants b place) (sym same) ∙ wanted))
+          absurd (both_ways (wants bank place) (is' place (subst (λ (b : ℕ). Contains (row_at owners b side).places place) (sym same) there)) (ap (λ (b : ℕ). wants b place) same ∙ wanted))
     ];
   }
 
   -- the bank's first leads
   pub best_changes : (best : Option (ℕ × Place)) (place : Place) → IsFirst (wants bank) side (row_at owners bank side).places place
-      → IsBestOf wants side owners bank best → leads side place best ≡ true → IsBestPlace wants side owners (bank + 1) (bank, place)
+      → IsBestAmong wants side owners banks best → leads side place best ≡ true → IsBestPlaceAmong wants side owners (banks ++ bank ∷ []) (bank, place)
   best_changes None place is so_far leads' = record {
-    bank = omega arith;
+    bank = Contains-push banks bank;
     there = is.there;
     wanted = is.passes;
-    best = λ one other below there wanted. elim (one_more bank one below) [
+    best = λ one other below there wanted. elim (Contains-push_cases banks bank one below) [
       | inl before ↦ absurd (both_ways (wants one other) (so_far one other before there) wanted)
       | inr same ↦
-          elim (is.first other (subst (λ (b : ℕ). Contains (row_at owners b side).places other) same there) (ap (λ (b : ℕ). wants b other) (sym same) ∙ wanted)) [
+          elim (is.first other (subst (λ (b : ℕ). Contains (row_at owners b side).places other) (sym same) there) (ap (λ (b : ℕ). wants b other) same ∙ wanted)) [
             | inl equal ↦ false_from_ne_true (sorts_before side other place) (λ h. before_self side place (subst (λ (p : Place). sorts_before side p place ≡ true) equal h))
             | inr later ↦ false_from_ne_true (sorts_before side other place) (λ h. before_self side place (before_trans side place other place later h))
           ]
     ];
   }
   best_changes (Some best) place is so_far leads' = record {
-    bank = omega arith;
+    bank = Contains-push banks bank;
     there = is.there;
     wanted = is.passes;
-    best = λ one other below there wanted. elim (one_more bank one below) [
+    best = λ one other below there wanted. elim (Contains-push_cases banks bank one below) [
       | inl before ↦ false_from_ne_true (sorts_before side other place) (λ h.
           both_ways (sorts_before side other best.1) (so_far.best one other before there wanted) (before_trans side other place best.1 h leads'))
       | inr same ↦
-          elim (is.first other (subst (λ (b : ℕ). Contains (row_at owners b side).places other) same there) (ap (λ (b : ℕ). wants b other) (sym same) ∙ wanted)) [
+          elim (is.first other (subst (λ (b : ℕ). Contains (row_at owners b side).places other) (sym same) there) (ap (λ (b : ℕ). wants b other) same ∙ wanted)) [
             | inl equal ↦ false_from_ne_true (sorts_before side other place) (λ h. before_self side place (subst (λ (p : Place). sorts_before side p place ≡ true) equal h))
             | inr later ↦ false_from_ne_true (sorts_before side other place) (λ h. before_self side place (before_trans side place other place later h))
           ]
@@ -132,18 +128,32 @@ module _ (wants : ℕ → Place → Bool) (side : Side) (owners : List OwnRows) 
 
   -- the bank's first does not lead
   pub best_stays : (best : Option (ℕ × Place)) (place : Place) → IsFirst (wants bank) side (row_at owners bank side).places place
-      → IsBestOf wants side owners bank best → leads side place best ≡ false → IsBestOf wants side owners (bank + 1) best
+      → IsBestAmong wants side owners banks best → leads side place best ≡ false → IsBestAmong wants side owners (banks ++ bank ∷ []) best
   best_stays None place is so_far trails = cc
   best_stays (Some best) place is so_far trails = record {
-    bank = omega (arith, so_far.bank);
+    bank = Contains-append_left banks (bank ∷ []) best.0 so_far.bank;
     there = so_far.there;
     wanted = so_far.wanted;
-    best = λ one other below there wanted. elim (one_more bank one below) [
+    best = λ one other below there wanted. elim (Contains-push_cases banks bank one below) [
       | inl before ↦ so_far.best one other before there wanted
       | inr same ↦ false_from_ne_true (sorts_before side other best.1) (λ h.
-          elim (is.first other (subst (λ (b : ℕ). Contains (row_at owners b side).places other) same there) (ap (λ (b : ℕ). wants b other) (sym same) ∙ wanted)) [
+          elim (is.first other (subst (λ (b : ℕ). Contains (row_at owners b side).places other) (sym same) there) (ap (λ (b : ℕ). wants b other) same ∙ wanted)) [
             | inl equal ↦ both_ways (sorts_before side place best.1) trails (subst (λ (p : Place). sorts_before side p best.1 ≡ true) equal h)
             | inr later ↦ both_ways (sorts_before side place best.1) trails (before_trans side place other best.1 later h)
           ])
     ];
   }
+
+-- the best of the banks that have a place is the best of all
+pub listed_best : (wants : ℕ → Place → Bool) (side : Side) (owners : List OwnRows) (best : Option (ℕ × Place)) → IsBestAmong wants side owners (listed owners) best → IsBestOf wants side owners (length owners) best
+listed_best wants side owners None among = λ bank place below there. among bank place (row_listed owners bank side place there) there
+listed_best wants side owners (Some best) among = record {
+  bank = bank_within owners best.0 side best.1 among.there;
+  there = among.there;
+  wanted = among.wanted;
+  best = λ bank place below there wanted. among.best bank place (row_listed owners bank side place there) there wanted;
+}
+
+-- of no banks none is the best
+pub none_among : (wants : ℕ → Place → Bool) (side : Side) (owners : List OwnRows) → IsBestAmong wants side owners [] None
+none_among wants side owners = λ bank place among there. absurd (omega (arith, among.1))

@@ -1,3 +1,4 @@
 pub mod Sides
 pub mod Owned
+pub mod Listed
 pub mod Search

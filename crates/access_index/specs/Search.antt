@@ -1,5 +1,5 @@
 -- A search among all owners' places, as it goes from bank to bank and from place to place.
-use Rattle.std.specs.Prelude.{ℕ, ◌≡◌, ◌+◌, ◌⊎◌, Bool, true, List, filter, length, Option, Some, None, IfSome}
+use Rattle.std.specs.Prelude.{ℕ, ◌≡◌, ◌+◌, ◌⊎◌, Bool, true, false, List, filter, length, Option, Some, None, IfSome}
 use Rattle.std.specs.List.{Contains}
 use Rattle.std.specs.Option.{option_copied}
 use Rattle.fx_amounts.specs.declared.side.Side.{Side}
@@ -16,6 +16,20 @@ wants search = is_wanted search.side search.reach.now search.limit search.before
 -- all orders of a side arrived in time
 abbrev pub AllInTime : ℕ → Side → List OwnRows → Type 0
 AllInTime before side owners = (bank : ℕ) → AreInTime before (row_at owners bank side).places
+
+-- a place of one of these banks is wanted, and none of theirs that is wanted stands before it
+pub record IsBestPlaceAmong (wants : ℕ → Place → Bool) (side : Side) (owners : List OwnRows) (banks : List ℕ) (found : ℕ × Place) : Type 0 where
+  pub bank : Contains banks found.0
+  pub there : Contains (row_at owners found.0 side).places found.1
+  pub wanted : wants found.0 found.1 ≡ true
+  pub best : (bank : ℕ) (place : Place) → Contains banks bank → Contains (row_at owners bank side).places place → wants bank place ≡ true
+      → sorts_before side place found.1 ≡ false
+
+-- the best of the places of these banks that are wanted, with its bank, or none where none is wanted
+abbrev pub IsBestAmong : (ℕ → Place → Bool) → Side → List OwnRows → List ℕ → Option (ℕ × Place) → Type 0
+IsBestAmong wants side owners banks None =
+    (bank : ℕ) (place : Place) → Contains banks bank → Contains (row_at owners bank side).places place → wants bank place ≡ false
+IsBestAmong wants side owners banks (Some found) = IsBestPlaceAmong wants side owners banks found
 
 -- a place stands before the best so far, or is the first
 abbrev pub leads : Side → Place → Option (ℕ × Place) → Bool

@@ -1,11 +1,13 @@
-ghost use Rattle.std.specs.Prelude.{◌≡◌, ◌≢◌, ◌+◌, ◌≤◌, ◌<◌, ℕ, min, None, [], length, OnOk, IfOk, IfSome};
-ghost use Rattle.std.specs.List.{All, Contains};
+ghost use Rattle.std.specs.Prelude.{◌≡◌, ◌≢◌, ◌+◌, ◌≤◌, ◌<◌, ◌==◌, ℕ, min, None, [], length, not, nat_lt, vec_len, vec_capacity, OnOk, IfOk, IfSome};
+ghost use Rattle.std.specs.List.{All, Contains, filter};
+ghost use Rattle.std.specs.List.Sorted.{IsPartitionedBy};
 ghost use Rattle.std.specs.Option.{option_copied};
 ghost use Rattle.fx_amounts.specs.declared.side.Side.{Side as OneSide};
 ghost use Rattle.price_levels.specs.Ladder.{IsFirstOf, IsNewArrival};
-ghost use Rattle.access_index.specs.Owned.{AreEmpty, AreInTime, AreOwned, OwnerGains, OwnerLoses, OwnersGrow, is_ahead, row_at};
+ghost use Rattle.access_index.specs.Listed.{listed, with_bank};
+ghost use Rattle.access_index.specs.Owned.{AreEmpty, AreInTime, AreOwned, OwnerGains, OwnerLoses, OwnersGrow, is_ahead, row_at, stands_behind};
 
-use crate::search::first_in_time;
+use crate::search::{first_in_time, first_place_behind};
 use crate::sides::Sides;
 use fx_amounts::{BankId, Memory, Side};
 use price_levels::{Levels, Place, Steps};
@@ -17,18 +19,20 @@ use std::sync::ledger::Ledger;
 #[derive(Debug, Drop)]
 pub struct Owners {
     rows: Vec<Sides>,
+    /// The banks that have a place, from the lowest number on. There is room for all.
+    listed: Vec<BankId>,
 }
 
 impl Model for Owners {
-    ghost use Rattle.std.specs.Prelude.{List};
+    ghost use Rattle.std.specs.Prelude.{List, vec_capacity};
     ghost use Rattle.access_index.specs.Sides.{OwnRows};
-    ghost use Rattle.access_index.specs.Owned.{AreOwned};
+    ghost use Rattle.access_index.specs.Listed.{IsIndex};
 
     ghost Value = { List OwnRows };
 
     ghost view = { λ o. o.rows.items };
 
-    ghost invariant = { λ o. AreOwned o.rows.items };
+    ghost invariant = { λ o. IsIndex o.rows.items o.listed.items (vec_capacity o.listed) };
 }
 
 impl Owners {
@@ -38,8 +42,11 @@ impl Owners {
         ensures empty { IfOk result (λ owners. (bank : ℕ) (side : OneSide) → (row_at owners bank side).places ≡ []) }
         ensures valid { IfOk result AreOwned }
     {
-        let rows = empty_rows(alloc, banks.min(BankId::COUNT))?;
-        Ok(Owners { rows })
+        let count = banks.min(BankId::COUNT);
+        let rows = empty_rows(alloc, count)?;
+        let mut listed = Vec::new(alloc);
+        listed.reserve_exact(count)?;
+        Ok(Owners { rows, listed })
     }
 
     /// Makes room for one place of a bank and a side. At `Memory` there may be none.
@@ -62,7 +69,11 @@ impl Owners {
         ensures valid { AreOwned self.new }
     {
         let rows = &mut self.rows[bank.index()];
+        let is_listed = rows.has_places();
         rows.insert(side, place);
+        if !is_listed {
+            list(&mut self.listed, bank);
+        }
     }
 
     /// Takes a place of a bank and a side out, and leaves room for another.
@@ -73,14 +84,17 @@ impl Owners {
     {
         let rows = &mut self.rows[bank.index()];
         rows.remove(side, place);
+        if !rows.has_places() {
+            unlist(&mut self.listed, bank);
+        }
     }
 
-    /// How many banks there are, 64 at most.
-    pub(crate) fn banks(&self) -> u8
-        ensures value { result ≡ length self.now }
+    /// The banks that have a place, from the lowest number on.
+    pub fn listed(&self) -> &[BankId]
+        ensures value { result.now ≡ listed self.now }
         ensures valid { AreOwned self.now }
     {
-        self.rows.len() as u8
+        &self.listed
     }
 
     /// The places of a bank and a side; `None` exactly where the bank has no order of that side.
@@ -119,6 +133,25 @@ impl Owners {
             None => None,
         }
     }
+
+    /// The first place of a bank and a side that stands behind the place `past`, where there is one, whenever its order
+    /// arrived. At most one step.
+    pub fn first_behind<L: Ledger>(
+        &self,
+        bank: BankId,
+        side: Side,
+        past: Option<&Place>,
+        steps: &mut Steps<L>,
+    ) -> Option<Place>
+        ensures found { IsFirstOf (stands_behind side (option_copied past.entry)) side (row_at self.now bank side).places result }
+        ensures steps { steps.new ≤ steps.old + 1 }
+        ensures valid { AreOwned self.now }
+    {
+        match self.levels(bank, side) {
+            Some(levels) => first_place_behind(levels, past, steps),
+            None => None,
+        }
+    }
 }
 
 /// So many rows of either side, with no places.
@@ -131,4 +164,23 @@ fn empty_rows(alloc: Global, count: usize) -> Result<Vec<Sides>, Memory>
         rows.push(Sides::new(alloc))?;
     }
     Ok(rows)
+}
+
+/// Puts a bank among others, in the order of their numbers, where there is room.
+fn list(banks: &mut Vec<BankId>, bank: BankId)
+    requires room { vec_len banks.old < vec_capacity banks.old }
+    requires in_order { IsPartitionedBy (λ other. nat_lt other bank) banks.old.items }
+    ensures banks { banks.new.items ≡ with_bank bank banks.old.items }
+    ensures room { vec_capacity banks.old ≤ vec_capacity banks.new }
+{
+    let at = banks.partition_point(|other| *other < bank);
+    banks.insert(at, bank).unwrap();
+}
+
+/// Takes a bank out, and leaves its room.
+fn unlist(banks: &mut Vec<BankId>, bank: BankId)
+    ensures banks { banks.new.items ≡ filter (λ other. not (other == bank)) banks.old.items }
+    ensures room { vec_capacity banks.new ≡ vec_capacity banks.old }
+{
+    banks.retain(|other| *other != bank);
 }

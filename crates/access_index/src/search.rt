@@ -1,9 +1,10 @@
-ghost use Rattle.std.specs.Prelude.{◌≡◌, ◌+◌, ◌≤◌, ◌<◌, length};
+ghost use Rattle.std.specs.Prelude.{ℕ, ◌≡◌, ◌+◌, ◌≤◌, ◌<◌, List, [], ◌∷◌, ◌++◌, length};
 ghost use Rattle.std.specs.Option.{option_copied};
 ghost use Rattle.fx_amounts.specs.Side.{opposite};
-ghost use Rattle.price_levels.specs.Ladder.{IsFirstOf};
-ghost use Rattle.access_index.specs.Owned.{AreInTime, AreOwned, IsBestOf, allows, is_ahead, is_wanted, row_at};
-ghost use Rattle.access_index.specs.Search.{AllInTime, leads, wants};
+ghost use Rattle.price_levels.specs.Ladder.{IsFirstOf, IsSorted};
+ghost use Rattle.access_index.specs.Listed.{listed};
+ghost use Rattle.access_index.specs.Owned.{AreInTime, AreOwned, IsBestOf, allows, is_ahead, is_wanted, row_at, stands_behind};
+ghost use Rattle.access_index.specs.Search.{AllInTime, IsBestAmong, leads, wants};
 
 use crate::owners::Owners;
 use fx_amounts::{BankId, Price, Side};
@@ -40,7 +41,7 @@ impl Search<'_> {
 /// The best place of a side, with its bank, among those whose owner can be reached for a lot at least, that the limit
 /// allows, whose orders arrived before `before` and that stand behind the place `past`; without a limit any price is allowed, and without
 /// a place all are looked at. `None` where there is none. `reach` has the lots for each bank. Where no order of the side
-/// arrived at or after `before`, it takes at most one step for each bank.
+/// arrived at or after `before`, it takes at most one step for each bank that has a place.
 pub fn best_of<L: Ledger>(
     owners: &Owners,
     side: Side,
@@ -52,7 +53,7 @@ pub fn best_of<L: Ledger>(
 ) -> Option<(BankId, Place)>
     requires one_each { length owners.now ≤ length reach.now }
     ensures found { IsBestOf (is_wanted side reach.now limit before (option_copied past.entry)) side owners.now (length owners.now) result }
-    ensures steps { AllInTime before side owners.now → steps.new ≤ steps.old + length owners.now }
+    ensures steps { AllInTime before side owners.now → steps.new ≤ steps.old + length (listed owners.now) }
     ensures valid { AreOwned owners.now }
 {
     let search = Search {
@@ -73,19 +74,18 @@ fn best_for<L: Ledger>(
 ) -> Option<(BankId, Place)>
     requires one_each { length owners.now ≤ length search.now.reach.now }
     ensures found { IsBestOf (wants search.now) search.now.side owners.now (length owners.now) result }
-    ensures steps { AllInTime search.now.before search.now.side owners.now → steps.new ≤ steps.old + length owners.now }
+    ensures steps { AllInTime search.now.before search.now.side owners.now → steps.new ≤ steps.old + length (listed owners.now) }
     ensures valid { AreOwned owners.now }
 {
+    let listed = owners.listed();
     let mut best = None;
-    for number in 0..owners.banks() {
-        if let Some(bank) = BankId::new(number) {
-            best = better_of(owners, bank, search, best, steps);
-        }
+    for bank in listed {
+        best = better_of(owners, *bank, search, best, steps);
     }
     best
 }
 
-/// The best place of one bank more, from the best of those before it.
+/// The best place of some banks and one more, from the best of those before it.
 fn better_of<L: Ledger>(
     owners: &Owners,
     bank: BankId,
@@ -94,8 +94,7 @@ fn better_of<L: Ledger>(
     steps: &mut Steps<L>,
 ) -> Option<(BankId, Place)>
     requires bank { bank < length search.now.reach.now }
-    requires best { IsBestOf (wants search.now) search.now.side owners.now bank best }
-    ensures found { IsBestOf (wants search.now) search.now.side owners.now (bank + 1) result }
+    ensures found { (banks : List ℕ) → IsBestAmong (wants search.now) search.now.side owners.now banks best → IsBestAmong (wants search.now) search.now.side owners.now (banks ++ bank ∷ []) result }
     ensures steps { AllInTime search.now.before search.now.side owners.now → steps.new ≤ steps.old + 1 }
 {
     let Some(place) = first_wanted(owners, bank, search, steps) else {
@@ -150,10 +149,7 @@ pub(crate) fn first_in_time<L: Ledger>(
     ensures found { IsFirstOf (is_ahead levels.now.side before (option_copied past.entry)) levels.now.side levels.now.places result }
     ensures steps { AreInTime before levels.now.places → steps.new ≤ steps.old + 1 }
 {
-    let mut next = match past {
-        Some(place) => levels.after(place, steps),
-        None => levels.front(steps),
-    };
+    let mut next = first_place_behind(levels, past, steps);
     while let Some(place) = next {
         if place.arrival < before {
             return Some(place);
@@ -161,4 +157,20 @@ pub(crate) fn first_in_time<L: Ledger>(
         next = levels.after(&place, steps);
     }
     None
+}
+
+/// The first place of a row that stands behind the place `past`, where there is one. One step.
+pub(crate) fn first_place_behind<L: Ledger>(
+    levels: &Levels,
+    past: Option<&Place>,
+    steps: &mut Steps<L>,
+) -> Option<Place>
+    ensures found { IsFirstOf (stands_behind levels.now.side (option_copied past.entry)) levels.now.side levels.now.places result }
+    ensures step { steps.new ≡ steps.old + 1 }
+    ensures sorted { IsSorted levels.now.side levels.now.places }
+{
+    match past {
+        Some(place) => levels.after(place, steps),
+        None => levels.front(steps),
+    }
 }

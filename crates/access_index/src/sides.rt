@@ -3,6 +3,7 @@ ghost use Rattle.std.specs.List.{Contains};
 ghost use Rattle.fx_amounts.specs.Side.{opposite};
 ghost use Rattle.fx_amounts.specs.declared.side.Side.TheVariants.{Buy, Sell};
 ghost use Rattle.price_levels.specs.Ladder.{IsNewArrival};
+ghost use Rattle.access_index.specs.Listed.{has_places};
 ghost use Rattle.access_index.specs.Sides.{RowGains, RowLoses, RowGrows, row_of};
 
 use fx_amounts::{Memory, Side};
@@ -74,6 +75,13 @@ impl Sides {
             Side::Buy => self.bids.remove(place),
             Side::Sell => self.asks.remove(place),
         }
+    }
+
+    /// Whether there is a place of either side.
+    pub(crate) fn has_places(&self) -> bool
+        ensures { result ≡ has_places self.now }
+    {
+        !self.bids.is_empty() || !self.asks.is_empty()
     }
 
     /// The row of a side.

@@ -9,3 +9,4 @@ pub mod Pulling
 mod Finding
 mod Turns
 mod Bests
+mod Levelling

@@ -2,6 +2,7 @@
 use Rattle.std.proofs.Common.{ℕ, ◌≡◌, ◌<◌, Bool, true, ◌&&◌, ◌||◌, eqb, ltb, leb, List, length, get_or, Option, Some, None, inl, inr, refl, ap, sym, subst, ◌∙◌, arith}
 use Rattle.std.proofs.lemmas.Bool.{both_ways, and_parts, and_from, eqb-true, eq-eqb, false_from_ne_true}
 use Rattle.std.specs.List.{Contains}
+use Rattle.std.specs.List.Sorted.{IsStrictlyIncreasing}
 use Rattle.std.specs.Option.{IsSome, option_map}
 use Rattle.fx_amounts.specs.Side.{opposite}
 use Rattle.fx_amounts.specs.declared.side.Side.{Side}
@@ -17,16 +18,20 @@ use Rattle.price_levels.specs.Ladder.{Ladder, is_better, sorts_before, IsFirst, 
 use Rattle.price_levels.proofs.Sorting.{before_self, before_trans}
 use Rattle.access_index.specs.Sides.{OwnRows}
 use Rattle.access_index.specs.Owned.{row_at, allows, is_ahead, is_wanted, stands_behind, IsBestPlace, IsBestOf, AreInTime}
+use Rattle.access_index.specs.Listed.{listed}
 use Rattle.access_index.proofs.Rows.{bank_within}
+use Rattle.access_index.proofs.Listing.{listed-few, listed-rises, listed_has, row_listed}
 use Rattle.order_store.specs.Orders.{Orders, order_at}
 use Rattle.global_book.specs.Book as book
-use Rattle.global_book.specs.Book.{is_of, is_owned, is_sought, standing_at}
+use Rattle.global_book.specs.Book.{AreOwners, is_of, is_owned, is_sought, standing_at}
 use Rattle.global_book.specs.Rows.{flat, place_in, its_price, IsKept}
 use Rattle.global_book.specs.Search.{IsFoundIn}
-use Rattle.global_book.proofs.Flat.{among_flat}
+use Rattle.global_book.proofs.Flat.{among_flat, flat_among}
 use Rattle.global_book.proofs.Rowing.{some_same}
+use Rattle.global_book.proofs.Keeping.{own_there}
+use Rattle.global_book.proofs.Lifting.{each_from}
 
-better_same : (side : Side) (a b : ℕ) → sweep.is_better (opposite side) a b ≡ is_better side a b
+pub better_same : (side : Side) (a b : ℕ) → sweep.is_better (opposite side) a b ≡ is_better side a b
 better_same Buy a b = refl
 better_same Sell a b = refl
 
@@ -212,3 +217,19 @@ module _ (banks : ℕ) (orders : Orders) (own : List OwnRows) (owners : List Lad
   first_lives side bank before past found place is_found is =
       let first : IsFirst (is_ahead side before past) side (row_at own bank side).places place = subst (IsFirstOf (is_ahead side before past) side (row_at own bank side).places) is_found is in
       place_lives bank side place first.there
+
+  -- the banks that are listed are those that have an order
+  pub owners_are : (resting : book.Book) (banks_now : List ℕ) → flat orders.slots ≡ resting.orders → banks ≡ resting.banks → banks_now ≡ listed own → AreOwners resting banks_now
+  owners_are resting banks_now seen banks_are listed_are = record {
+    all = each_from (λ order. Contains banks_now order.bank) resting.orders (λ order there.
+        let it = flat_among orders.slots order (subst (Among order) (sym seen) there) in
+        subst (λ (xs : List ℕ). Contains xs order.bank) (sym listed_are)
+        (row_listed own order.bank order.side (place_in its_price it.0 order)
+        (own_there (length owners) orders own it.0 order kept.own_are (kept.resting.held it.0 order it.1).0 it.1)));
+    owns = λ bank there.
+        let place = listed_has own bank (subst (λ (xs : List ℕ). Contains xs bank) listed_are there) in
+        let it = order_of bank place.0 place.1 place.2 in
+        (it.0, subst (Among it.0) seen (among_flat orders.slots place.1.key it.0 it.1.there), it.1.bank_is);
+    rising = subst IsStrictlyIncreasing (sym listed_are) (listed-rises 0 own);
+    few = omega (arith, listed-few 0 own, ap length listed_are, kept.count, kept.banks_are, banks_are);
+  }

@@ -1,12 +1,14 @@
 -- One pair's book, as contracts see it: the orders that rest, in arrival order.
-use Rattle.std.specs.Prelude.{ℕ, ◌≡◌, ◌+◌, ◌≤◌, ◌<◌, ◌^◌, Bool, true, ◌&&◌, ◌==◌, nat_le, nat_lt, if◌then◌else◌, List, filter, Option, slice_get, slice_index, slice_index_or, option_map}
+use Rattle.std.specs.Prelude.{ℕ, ◌≡◌, ◌+◌, ◌≤◌, ◌<◌, ◌^◌, Bool, true, false, ◌&&◌, ◌==◌, nat_le, nat_lt, if◌then◌else◌, List, filter, length, Option, Some, None, slice_get, slice_index, slice_index_or, option_map}
+use Rattle.std.specs.List.{Contains}
+use Rattle.std.specs.List.Sorted.{IsStrictlyIncreasing}
 use Rattle.fx_amounts.specs.Side.{opposite}
 use Rattle.fx_amounts.specs.declared.side.Side.{Side}
 use Rattle.fx_amounts.specs.declared.side.Side.TheVariants.{Buy, Sell}
 use Rattle.fx_rules.specs.declared.orders.Resting.{Resting}
-use Rattle.fx_rules.specs.Lists.{Among, Each, EachPair}
+use Rattle.fx_rules.specs.Lists.{Among, Each, EachPair, total}
 use Rattle.fx_rules.specs.Sound.{ArrivesBefore}
-use Rattle.fx_rules.specs.Sweep.{is_opposite, is_order}
+use Rattle.fx_rules.specs.Sweep.{is_better, is_opposite, is_order}
 use Rattle.fx_rules.specs.Plan.{is_behind}
 use Rattle.price_levels.specs.declared.place.Place.{Place}
 use Rattle.access_index.specs.Owned.{allows}
@@ -95,6 +97,48 @@ is_owned taker bank before past order =
 -- such orders of a bank and a side
 abbrev pub owned : Side → ℕ → ℕ → Option Place → List Resting → List Resting
 owned side bank before past orders = filter (is_owned (opposite side) bank before past) orders
+
+-- an order of this bank on the other side of a taker's, at this price
+abbrev pub is_level : Side → ℕ → ℕ → Resting → Bool
+is_level taker bank price order = is_of bank order && is_opposite taker order.side && order.price == price
+
+-- the lots that such orders have left
+abbrev pub level_lots : Side → ℕ → ℕ → List Resting → ℕ
+level_lots taker bank price orders = total (λ order. order.left) (filter (is_level taker bank price) orders)
+
+-- a price is worse for a taker than `past`, where there is one
+abbrev pub is_worse : Side → Option ℕ → ℕ → Bool
+is_worse taker None price = true
+is_worse taker (Some past) price = is_better taker past price
+
+-- an order of this bank on the other side of a taker's, at a worse price than `past`
+abbrev pub is_worse_of : Side → ℕ → Option ℕ → Resting → Bool
+is_worse_of taker bank past order = is_of bank order && is_opposite taker order.side && is_worse taker past order.price
+
+-- the best price of such orders, with all lots that the bank has there
+pub record IsLevel (taker : Side) (bank : ℕ) (past : Option ℕ) (orders : List Resting) (level : ℕ × ℕ) : Type 0 where
+  pub order : Resting
+  pub there : Among order orders
+  pub passes : is_worse_of taker bank past order ≡ true
+  pub price : order.price ≡ level.0
+  pub first : Each (λ other. is_worse_of taker bank past other ≡ true → is_better taker other.price level.0 ≡ false) orders
+  pub lots : level.1 ≡ level_lots taker bank level.0 orders
+
+-- the same, or there is no such order
+abbrev pub IsLevelOf : Side → ℕ → Option ℕ → List Resting → Option (ℕ × ℕ) → Type 0
+IsLevelOf taker bank past orders None = Each (λ order. is_worse_of taker bank past order ≡ false) orders
+IsLevelOf taker bank past orders (Some level) = IsLevel taker bank past orders level
+
+-- a bank has an order among these
+abbrev pub Owns : ℕ → List Resting → Type 0
+Owns bank orders = (order : Resting) × Among order orders × (order.bank ≡ bank)
+
+-- these banks are those that have an order in the book, each once, from the lowest number on
+pub record AreOwners (book : Book) (owners : List ℕ) : Type 0 where
+  pub all : Each (λ order. Contains owners order.bank) book.orders
+  pub owns : (bank : ℕ) → Contains owners bank → Owns bank book.orders
+  pub rising : IsStrictlyIncreasing owners
+  pub few : length owners ≤ book.banks
 
 -- all orders of a side arrived before `before`
 abbrev pub AreInTime : Side → ℕ → List Resting → Type 0

@@ -1,5 +1,5 @@
 -- What a search finds among the orders that are kept.
-use Rattle.std.specs.Prelude.{ℕ, ◌≡◌, Bool, true, false, Option, Some, None}
+use Rattle.std.specs.Prelude.{ℕ, ◌-◌, ◌^◌, ◌≡◌, Bool, true, false, Option, Some, None}
 use Rattle.fx_amounts.specs.declared.side.Side.{Side}
 use Rattle.fx_rules.specs.declared.orders.Resting.{Resting}
 use Rattle.fx_rules.specs.Sweep.{is_preferred}
@@ -18,3 +18,7 @@ pub record IsFoundAt (passes : Resting → Bool) (taker : Side) (orders : Orders
 abbrev pub IsFoundIn : (Resting → Bool) → Side → Orders → Option (Resting × Place) → Type 0
 IsFoundIn passes taker orders None = (key : ℕ) (order : Resting) → order_at orders key ≡ Some order → passes order ≡ false
 IsFoundIn passes taker orders (Some found) = IsFoundAt passes taker orders found
+
+-- the place behind all orders of a price
+abbrev pub end_of : ℕ → Place
+end_of price = record { price = price; arrival = 2 ^ 64 - 1; key = 0 }

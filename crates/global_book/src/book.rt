@@ -1,10 +1,11 @@
 ghost use Rattle.std.specs.Prelude.{◌≡◌, ◌+◌, ◌≤◌, ◌<◌, ◌^◌, ◌↔◌, [], ◌∷◌, ◌++◌, None, not, map, filter, length, false, OnOk, IfOk, IfSome};
 ghost use Rattle.std.specs.List.{All};
-ghost use Rattle.std.specs.Option.{option_copied};
+ghost use Rattle.std.specs.Option.{option_copied, option_map};
 ghost use Rattle.fx_amounts.specs.Side.{opposite};
 ghost use Rattle.fx_rules.specs.Lists.{Each};
 ghost use Rattle.fx_rules.specs.Sweep.{IsBest, is_order};
-ghost use Rattle.global_book.specs.Book.{AreInTime, HasRoom, KeepsRoom, IsBook, IsPlaceOf, Rests, RestsAbove, first, is_of, is_of_from, TakesRoom, owned, relotted, sought};
+ghost use Rattle.global_book.specs.Book.{AreInTime, AreOwners, HasRoom, IsLevelOf, KeepsRoom, IsBook, IsPlaceOf, Rests, RestsAbove, first, is_of, is_of_from, TakesRoom, owned, relotted, sought};
+ghost use Rattle.global_book.specs.Search.{end_of};
 ghost use Rattle.global_book.specs.Rows.{IsEmptyRow, place_in, its_price};
 
 use access_index::{Owners, best_of};
@@ -74,6 +75,14 @@ impl PairBook {
         ensures valid { IsBook self.now }
     {
         self.banks
+    }
+
+    /// The banks that have an order in the book, each once, from the lowest number on.
+    pub fn owners(&self) -> &[BankId]
+        ensures owners { AreOwners self.now result.now }
+        ensures valid { IsBook self.now }
+    {
+        self.price_rows.listed()
     }
 
     /// Makes room for one order more of a bank and a side. At `Memory` there may be none.
@@ -258,6 +267,26 @@ impl PairBook {
         let place = self.price_rows.first_of(bank, side, before, past, steps)?;
         Some((self.orders.get(OrderKey(place.key)), place))
     }
+
+    /// The best price, worse than `past` where there is one, at which a bank has orders of a side, and all lots that they
+    /// have left there; `None` where there is no such price. One step at most.
+    pub fn next_level<L: Ledger>(
+        &self,
+        bank: BankId,
+        side: Side,
+        past: Option<Price>,
+        steps: &mut Steps<L>,
+    ) -> Option<(Price, u128)>
+        ensures level { IsLevelOf (opposite side) bank past self.now.orders result }
+        ensures steps { steps.new ≤ steps.old + 1 }
+        ensures valid { IsBook self.now }
+    {
+        let last = end_of(past);
+        let place = self
+            .price_rows
+            .first_behind(bank, side, last.as_ref(), steps)?;
+        Some((place.price, self.orders.lots_at(bank, side, place.price)))
+    }
 }
 
 /// The place of an order in the row of its bank and side.
@@ -269,6 +298,18 @@ fn by_price(order: &Resting, key: usize) -> Place
         arrival: order.arrival,
         key,
     }
+}
+
+/// The place behind all orders of a price, where there is one.
+fn end_of(past: Option<Price>) -> Option<Place>
+    ensures { result ≡ option_map end_of past }
+{
+    let price = past?;
+    Some(Place {
+        price,
+        arrival: u64::MAX,
+        key: 0,
+    })
 }
 
 /// The place of an order in its bank's row, where all prices are one.

@@ -1,10 +1,11 @@
 -- The sweep of an order that wants more than its lines allow, and the local book.
-use Rattle.std.proofs.Common.{ℕ, ◌≡◌, ◌+◌, ◌-◌, ◌/◌, ◌^◌, ◌*◌, ◌≤◌, ◌<◌, min, false, not, ◌&&◌, eqb, leb, ltb, cond, List, [], ◌∷◌, ◌⊎◌, inl, inr, refl, ap, sym, subst, ◌∙◌, arith, map, take}
-use Rattle.std.proofs.lemmas.Bool.{cond-false, false_from_ne_true, lt-ltb}
+use Rattle.std.proofs.Common.{ℕ, ◌≡◌, ◌+◌, ◌-◌, ◌/◌, ◌^◌, ◌*◌, ◌≤◌, ◌<◌, min, true, false, not, ◌&&◌, eqb, leb, ltb, cond, List, [], ◌∷◌, ◌⊎◌, inl, inr, refl, ap, sym, subst, ◌∙◌, arith, map, take}
+use Rattle.std.proofs.lemmas.Bool.{cond-false, false_from_ne_true, le-leb, lt-ltb}
 use Rattle.std.specs.List.{filter}
 use Rattle.std.specs.Prelude.{slice_index}
-use Rattle.fx_amounts.specs.Price.{crosses}
+use Rattle.fx_amounts.specs.Price.{IsPrice, crosses}
 use Rattle.fx_amounts.specs.declared.side.Side.{Side}
+use Rattle.fx_amounts.specs.declared.side.Side.TheVariants.{Buy, Sell}
 use Rattle.fx_rules.specs.declared.orders.ActiveOrder.{ActiveOrder}
 use Rattle.fx_rules.specs.declared.orders.Resting.{Resting}
 use Rattle.fx_rules.specs.declared.orders.Fill.{Fill}
@@ -13,9 +14,9 @@ use Rattle.fx_rules.specs.Lists.{Among, Each}
 use Rattle.fx_rules.specs.Session.{Header, bank_count, weight_of}
 use Rattle.fx_rules.specs.State.{State, orders_in, count_of, arrivals, line, reach, cost_between}
 use Rattle.fx_rules.specs.Sweep.{Taker, Swept, is_opposite, is_open, open_orders, is_order, IsBest, amount, fill_with, lowered, with_left, filled, less}
-use Rattle.fx_rules.specs.Depth.{lots_against, with_fill, levels_of}
+use Rattle.fx_rules.specs.Depth.{any_price, lots_against, with_fill, levels_of}
 use Rattle.fx_rules.specs.Sound.{IsSound, IsKept}
-use Rattle.fx_rules.proofs.ListLemmas.{Each-among, Each-weaker, filter_agree_on}
+use Rattle.fx_rules.proofs.ListLemmas.{Each-of, Each-among, Each-weaker, filter_agree_on}
 use Rattle.fx_rules.proofs.Credit.{IsAllowed}
 use Rattle.fx_rules.proofs.Opens.{orders_in-among, IsMaker, maker_of, allowed-open}
 use Rattle.fx_rules.proofs.Planning.{orders_in-rising}
@@ -30,8 +31,9 @@ use Rattle.fx_rules.proofs.ViewFill.{are_of_one, cost_same, line-filled}
 use Rattle.fx_rules.proofs.ViewSweep.{lots_on, among_lots, lots_on-taken}
 use Rattle.global_book.specs.Book.{Book}
 use Rattle.credit_lines.specs.Credit.{Credit}
-use Rattle.match_sweep.specs.Sweeps.{IsLevelled}
-use Rattle.local_view.specs.LocalBook.{IsShown, unlimited_order}
+use Rattle.match_sweep.specs.Reaches.{IsReached, IsUnlimited}
+use Rattle.match_sweep.specs.Sweeps.{Fits, IsLevelled}
+use Rattle.local_view.specs.LocalBook.{IsShown}
 
 -- ---- orders of no command that rests
 
@@ -233,9 +235,39 @@ levels_of-renumbered number (f ∷ fills) =
 still_wants : (lots left : ℕ) → lots + left ≡ 2 ^ 64 - 1 → lots ≤ 64 * 10 ^ 15 → 1 ≤ left
 still_wants lots left sum most = omega arith
 
--- the first levels of the sweep of such an order show the local book of each state
-pub shown-levelled : (book : Book) (credit : Credit) (weight bank : ℕ) (side : Side) (levels : List Level) → bank < credit.banks → 0 < weight → IsLevelled book credit weight (unlimited_order book.pair bank side) levels → IsShown book credit weight bank side levels
-unfolding IsFresh lots_of
+-- An order of a bank in a pair that takes any price, wants more than its lines allow, and comes after all others.
+unlimited_order : ℕ → ℕ → Side → Taker
+unlimited_order pair bank side = record {
+  bank = bank;
+  number = 0;
+  pair = pair;
+  side = side;
+  price = any_price side;
+  left = 2 ^ 64 - 1;
+  arrival = 2 ^ 64 - 1;
+}
+
+any_crosses : (side : Side) (price : ℕ) → IsPrice price → crosses side (any_price side) price ≡ true
+any_crosses Buy price is = le-leb price (10 ^ 9) is.1
+any_crosses Sell price is = le-leb 1 price is.0
+
+-- in each state of the book it takes all that its lines allow
+is_unlimited : (h : Header) (S : State) (book : Book) (credit : Credit) (weight bank : ℕ) (side : Side) → IsSound h S → Fits h S book credit weight → arrivals S < 2 ^ 64 → IsUnlimited book (unlimited_order book.pair bank side)
+unfolding unlimited_order
+is_unlimited h S book credit weight bank side sound fits few =
+    let kept : (o : Resting) → Among o book.orders → IsPrice o.price × (o.arrival < arrivals S) = λ o there.
+    let found = orders_in-among book.pair S.orders o (subst (Among o) fits.orders there) in
+    let active : IsKept h S.counts found.0 = Each-among (IsKept h S.counts) S.orders found.0 sound.kept found.1 in
+    subst (λ (q : Resting). IsPrice q.price × (q.arrival < arrivals S)) (sym found.3) (active.price, active.arrival) in
+    record {
+      crosses = Each-of (λ (o : Resting). crosses side (any_price side) o.price ≡ true) book.orders (λ o there. any_crosses side o.price (kept o there).0);
+      came = Each-of (λ (o : Resting). o.arrival < 2 ^ 64 - 1) book.orders (λ o there. let it = (kept o there).1 in omega arith);
+      wants = omega arith;
+    }
+
+-- the first levels of its sweep show the local book of each state
+shown-levelled : (book : Book) (credit : Credit) (weight bank : ℕ) (side : Side) (levels : List Level) → bank < credit.banks → 0 < weight → IsLevelled book credit weight (unlimited_order book.pair bank side) levels → IsShown book credit weight bank side levels
+unfolding IsFresh lots_of unlimited_order
 shown-levelled book credit weight bank side levels bank_in some levelled h S sound fits few =
     let t : Taker = unlimited_order book.pair bank side in
     let number : ℕ = count_of S bank + 1 in
@@ -259,3 +291,9 @@ shown-levelled book credit weight bank side levels bank_in some levelled h S sou
           (still_wants (lots_of fills) levelled.left (swept-lots h S t fills levelled.left swept) levelled.lots) swept,
       levelled.first ∙ ap (take 10) (sym (levels_of-renumbered number fills)),
     )
+
+pub shown-reached : (book : Book) (credit : Credit) (weight bank : ℕ) (side : Side) (levels : List Level) → bank < credit.banks → 0 < weight → IsReached book credit weight bank side levels → IsShown book credit weight bank side levels
+unfolding unlimited_order
+shown-reached book credit weight bank side levels bank_in some reached h S sound fits few =
+    shown-levelled book credit weight bank side levels bank_in some
+    (reached (unlimited_order book.pair bank side) refl refl refl (is_unlimited h S book credit weight bank side sound fits few)) h S sound fits few

@@ -1,8 +1,7 @@
 -- A bank's local book of a pair, of a book and lines.
-use Rattle.std.specs.Prelude.{ℕ, ◌<◌, ◌-◌, ◌^◌, List}
+use Rattle.std.specs.Prelude.{ℕ, ◌<◌, ◌^◌, List}
 use Rattle.fx_amounts.specs.declared.side.Side.{Side}
 use Rattle.fx_rules.specs.declared.orders.Level.{Level}
-use Rattle.fx_rules.specs.declared.taker.SweptOrder.{SweptOrder}
 use Rattle.fx_rules.specs.declared.outcome.Entry.{Entry}
 use Rattle.fx_rules.specs.declared.outcome.Outcome.{Outcome}
 use Rattle.fx_rules.specs.declared.outcome.Outcome.TheVariants.{Depth}
@@ -10,22 +9,10 @@ use Rattle.fx_rules.specs.Session.{Header}
 use Rattle.fx_rules.specs.State.{State, arrivals}
 use Rattle.fx_rules.specs.Sound.{IsSound}
 use Rattle.fx_rules.specs.History.{IsLegal, state}
-use Rattle.fx_rules.specs.Depth.{any_price, Shows, IsDepth}
+use Rattle.fx_rules.specs.Depth.{Shows, IsDepth}
 use Rattle.global_book.specs.Book.{Book}
 use Rattle.credit_lines.specs.Credit.{Credit}
 use Rattle.match_sweep.specs.Sweeps.{Fits}
-
--- an order of a bank in a pair that takes any price, wants more than its lines allow, and comes after all others
-abbrev pub unlimited_order : ℕ → ℕ → Side → SweptOrder
-unlimited_order pair bank side = record {
-  bank = bank;
-  number = 0;
-  pair = pair;
-  side = side;
-  price = any_price side;
-  left = 2 ^ 64 - 1;
-  arrival = 2 ^ 64 - 1;
-}
 
 -- The levels of one side of the local book, in every sound state that book and credit are of. A sound state's orders
 -- arrived before its next command, and that has an arrival below 2^64.

@@ -1,12 +1,12 @@
 ghost use Rattle.std.specs.Prelude.{◌≡◌, ◌<◌, IfOk};
 ghost use Rattle.fx_amounts.specs.Quantity.{IsWeight};
-ghost use Rattle.local_view.specs.LocalBook.{IsLegalLocalBook, IsLocalBook, IsShown, unlimited_order};
+ghost use Rattle.local_view.specs.LocalBook.{IsLegalLocalBook, IsLocalBook, IsShown};
 
 use credit_lines::CreditLines;
-use fx_amounts::{BankId, Memory, PairId, Side};
-use fx_rules::{LevelList, Outcome, SweptOrder, any_price};
+use fx_amounts::{BankId, Memory, Side};
+use fx_rules::{LevelList, Outcome};
 use global_book::PairBook;
-use match_sweep::first_levels;
+use match_sweep::levels_in_reach;
 use price_levels::Steps;
 use std::alloc::Global;
 use std::marker::Brand;
@@ -73,21 +73,5 @@ fn shown<L: Ledger>(
     requires weight { IsWeight weight }
     ensures shown { IfOk result (IsShown book.now lines.now weight viewer side) }
 {
-    let order = unlimited_order(book.pair(), viewer, side);
-    first_levels(alloc, book, lines, weight, &order, steps)
-}
-
-/// An order of a bank in a pair that takes any price, wants more than its lines allow, and comes after all others.
-fn unlimited_order(pair: PairId, viewer: BankId, side: Side) -> SweptOrder
-    ensures value { result ≡ unlimited_order pair viewer side }
-{
-    SweptOrder {
-        bank: viewer,
-        number: 0,
-        pair,
-        side,
-        price: any_price(side),
-        left: u128::from(u64::MAX),
-        arrival: u64::MAX,
-    }
+    levels_in_reach(alloc, book, lines, weight, viewer, side, steps)
 }

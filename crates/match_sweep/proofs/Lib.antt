@@ -2,7 +2,11 @@ pub mod Tables
 pub mod Finding
 pub mod Planning
 pub mod Picking
+mod Heading
+pub mod Levelling
 pub mod Stepping
+pub mod Reaching
+pub mod LevelSteps
 pub mod Walking
 pub mod Lowering
 pub mod OfBook

@@ -1,6 +1,7 @@
 -- The best of the heads that a taker may take is the best order that is open to it, and the other heads stay.
 use Rattle.std.proofs.Common.{ℕ, ◌≡◌, ◌≢◌, ◌≤◌, ◌<◌, Bool, true, false, ◌&&◌, eqb, ltb, List, [], ◌∷◌, ◌⊎◌, inl, inr, refl, ap, sym, subst, ◌∙◌, arith, Option, Some, None}
 use Rattle.std.proofs.lemmas.Bool.{or_left, cases_Bool, cases_eq, and_parts, and_from, both_ways, false_from_ne_true, eqb-true, eq-eqb, ltb-true, lt-ltb, ltb-false, leb-true, le-leb}
+use Rattle.std.specs.List.{Contains}
 use Rattle.fx_amounts.specs.Price.{crosses}
 use Rattle.fx_amounts.specs.declared.side.Side.{Side}
 use Rattle.fx_amounts.specs.declared.side.Side.TheVariants.{Buy, Sell}
@@ -114,21 +115,22 @@ crosses_too side price h o below taken =
 -- The best of the heads.
 
 -- no head that the taker may take is preferred to this order
-abbrev pub NoneBefore : (ℕ → ℕ) → Taker → ℕ → (ℕ → Option (Resting × Place)) → Resting → Type 0
-NoneBefore reaches t banks heads best =
-    (bank : ℕ) (head : Resting × Place) → bank < banks → heads bank ≡ Some head → 1 ≤ reaches bank → crosses t.side t.price head.0.price ≡ true →
+abbrev pub NoneBefore : List ℕ → (ℕ → ℕ) → Taker → (ℕ → Option (Resting × Place)) → Resting → Type 0
+NoneBefore listed reaches t heads best =
+    (bank : ℕ) (head : Resting × Place) → Contains listed bank → heads bank ≡ Some head → 1 ≤ reaches bank → crosses t.side t.price head.0.price ≡ true →
     is_preferred t.side head.0 best ≡ false
 
--- the taker's book, its heads, and the best of them that it may take
-pub record Picks (reaches : ℕ → ℕ) (t : Taker) (last : Option Resting) (book : List Resting) (banks : ℕ) (heads : ℕ → Option (Resting × Place)) (at : ℕ) (best : Resting) : Type 0 where
+-- the taker's book, the banks that have an order in it, its heads, and the best of them that it may take
+pub record Picks (listed_now : List ℕ) (reaches : ℕ → ℕ) (t : Taker) (last : Option Resting) (book : List Resting) (banks : ℕ) (heads : ℕ → Option (Resting × Place)) (at : ℕ) (best : Resting) : Type 0 where
   pub rising : EachPair ArrivesBefore book
   pub owners : (o : Resting) → Among o book → o.bank < banks
+  pub listed : (o : Resting) → Among o book → Contains listed_now o.bank
   pub own : reaches t.bank ≡ 0
   pub heads_are : AreHeads reaches t last book banks heads
   pub there : Among best (to_come t at last book)
   pub reach : 1 ≤ reaches at
   pub crosses : crosses t.side t.price best.price ≡ true
-  pub none_before : NoneBefore reaches t banks heads best
+  pub none_before : NoneBefore listed_now reaches t heads best
 
 -- the head of a bank that has orders to come
 record HasHead (side : Side) (orders : List Resting) (head : Option (Resting × Place)) : Type 0 where
@@ -141,8 +143,8 @@ has_head side orders None o there found = absurd (subst (Among o) found there)
 has_head side orders (Some head) o there found = record { found = head; is = refl; best = found.0 }
 
 -- the order that is picked stands before each that may still come, but for a bank that can't be reached
-before_open : (reaches : ℕ → ℕ) (t : Taker) (last : Option Resting) (book : List Resting) (banks : ℕ) (heads : ℕ → Option (Resting × Place)) (at : ℕ) (best o : Resting) → Picks reaches t last book banks heads at best → Among o (open_behind reaches t last book) → is_preferred t.side o best ≡ false
-before_open reaches t last book banks heads at best o picks there =
+before_open : (listed_now : List ℕ) (reaches : ℕ → ℕ) (t : Taker) (last : Option Resting) (book : List Resting) (banks : ℕ) (heads : ℕ → Option (Resting × Place)) (at : ℕ) (best o : Resting) → Picks listed_now reaches t last book banks heads at best → Among o (open_behind reaches t last book) → is_preferred t.side o best ≡ false
+before_open listed_now reaches t last book banks heads at best o picks there =
     let opens = open-to_come reaches t last book o there in
     let o_in = among_to_come t o.bank last book o opens.0 in
     let within : o.bank < banks = picks.owners o o_in.0 in
@@ -154,22 +156,22 @@ before_open reaches t last book banks heads at best o picks there =
     (among_to_come t o.bank last book head.found.0 head.best.there).0
     (among_to_come t at last book best picks.there).0
     below
-    (picks.none_before o.bank head.found within head.is opens.1.reach crossing)
+    (picks.none_before o.bank head.found (picks.listed o o_in.0) head.is opens.1.reach crossing)
 
-pub picked-best : (reaches : ℕ → ℕ) (t : Taker) (last : Option Resting) (book : List Resting) (banks : ℕ) (heads : ℕ → Option (Resting × Place)) (at : ℕ) (best : Resting) → Picks reaches t last book banks heads at best → IsBest t.side (open_behind reaches t last book) best
-picked-best reaches t last book banks heads at best picks = record {
+pub picked-best : (listed_now : List ℕ) (reaches : ℕ → ℕ) (t : Taker) (last : Option Resting) (book : List Resting) (banks : ℕ) (heads : ℕ → Option (Resting × Place)) (at : ℕ) (best : Resting) → Picks listed_now reaches t last book banks heads at best → IsBest t.side (open_behind reaches t last book) best
+picked-best listed_now reaches t last book banks heads at best picks = record {
   there = to_come-open reaches t at last book best picks.own picks.reach picks.crosses picks.there;
   first = Each-of (λ (o : Resting). is_preferred t.side o best ≡ false) (open_behind reaches t last book)
-      (λ o there. before_open reaches t last book banks heads at best o picks there);
+      (λ o there. before_open listed_now reaches t last book banks heads at best o picks there);
 }
 
-none_among : (orders : List Resting) → ((o : Resting) → Among o orders → ⊥) → orders ≡ []
+pub none_among : (orders : List Resting) → ((o : Resting) → Among o orders → ⊥) → orders ≡ []
 none_among [] none = refl
 none_among (o ∷ orders) none = absurd (none o (inl refl))
 
 -- where no head may be taken nothing is open
-pub picked-none : (reaches : ℕ → ℕ) (t : Taker) (last : Option Resting) (book : List Resting) (banks : ℕ) (heads : ℕ → Option (Resting × Place)) → ((o : Resting) → Among o book → o.bank < banks) → AreHeads reaches t last book banks heads → ((bank : ℕ) (head : Resting × Place) → bank < banks → heads bank ≡ Some head → 1 ≤ reaches bank → crosses t.side t.price head.0.price ≡ false) → open_behind reaches t last book ≡ []
-picked-none reaches t last book banks heads owners heads_are none =
+pub picked-none : (listed_now : List ℕ) (reaches : ℕ → ℕ) (t : Taker) (last : Option Resting) (book : List Resting) (banks : ℕ) (heads : ℕ → Option (Resting × Place)) → ((o : Resting) → Among o book → o.bank < banks) → ((o : Resting) → Among o book → Contains listed_now o.bank) → AreHeads reaches t last book banks heads → ((bank : ℕ) (head : Resting × Place) → Contains listed_now bank → heads bank ≡ Some head → 1 ≤ reaches bank → crosses t.side t.price head.0.price ≡ false) → open_behind reaches t last book ≡ []
+picked-none listed_now reaches t last book banks heads owners listed heads_are none =
     none_among (open_behind reaches t last book)
     (λ o there.
     let opens = open-to_come reaches t last book o there in
@@ -177,24 +179,31 @@ picked-none reaches t last book banks heads owners heads_are none =
     let head = has_head t.side (to_come t o.bank last book) (heads o.bank) o opens.0 (heads_are o.bank within opens.1.reach) in
     let below : is_preferred t.side o head.found.0 ≡ false =
     Each-among (λ (q : Resting). is_preferred t.side q head.found.0 ≡ false) (to_come t o.bank last book) o head.best.first opens.0 in
-    both_ways (crosses t.side t.price head.found.0.price) (none o.bank head.found within head.is opens.1.reach)
+    both_ways (crosses t.side t.price head.found.0.price) (none o.bank head.found (listed o (among_to_come t o.bank last book o opens.0).0) head.is opens.1.reach)
     (crosses_too t.side t.price head.found.0 o below opens.1.crosses))
 
 -- The other heads, once the best is taken.
 
+-- a bank with a head has an order
+head_listed : (listed_now : List ℕ) (t : Taker) (bank : ℕ) (last : Option Resting) (book : List Resting) (found : Option (Resting × Place)) (head : Resting × Place) → ((o : Resting) → Among o book → Contains listed_now o.bank) → found ≡ Some head → IsFound t.side (to_come t bank last book) found → Contains listed_now bank
+head_listed listed_now t bank last book found head listed is found_is =
+    let best = subst (IsFound t.side (to_come t bank last book)) is found_is in
+    let it = among_to_come t bank last book head.0 best.0.there in
+    subst (Contains listed_now) it.1.owner (listed head.0 it.0)
+
 -- a head stands behind the order that is picked, of whatever price it is
-behind_picked : (reaches : ℕ → ℕ) (t : Taker) (last : Option Resting) (book : List Resting) (banks : ℕ) (heads : ℕ → Option (Resting × Place)) (at other : ℕ) (best : Resting) (head : Resting × Place) → Picks reaches t last book banks heads at best → other < banks → 1 ≤ reaches other → heads other ≡ Some head → is_preferred t.side head.0 best ≡ false
-behind_picked reaches t last book banks heads at other best head picks within some is =
+behind_picked : (listed_now : List ℕ) (reaches : ℕ → ℕ) (t : Taker) (last : Option Resting) (book : List Resting) (banks : ℕ) (heads : ℕ → Option (Resting × Place)) (at other : ℕ) (best : Resting) (head : Resting × Place) → Picks listed_now reaches t last book banks heads at best → other < banks → 1 ≤ reaches other → heads other ≡ Some head → is_preferred t.side head.0 best ≡ false
+behind_picked listed_now reaches t last book banks heads at other best head picks within some is =
     elim (cases_Bool (crosses t.side t.price head.0.price)) [
-      | inl crossing ↦ picks.none_before other head within is some crossing
+      | inl crossing ↦ picks.none_before other head (head_listed listed_now t other last book (heads other) head picks.listed is (picks.heads_are other within some)) is some crossing
       | inr dear ↦ false_from_ne_true (is_preferred t.side head.0 best) (λ before.
           both_ways (crosses t.side t.price head.0.price) dear
           (crosses_too t.side t.price head.0 best (not_back t.side head.0 best before) picks.crosses))
     ]
 
 -- so what may still come of another bank stands behind it
-all_behind : (reaches : ℕ → ℕ) (t : Taker) (last : Option Resting) (book : List Resting) (banks : ℕ) (heads : ℕ → Option (Resting × Place)) (at other : ℕ) (best o : Resting) → Picks reaches t last book banks heads at best → other < banks → other ≢ at → 1 ≤ reaches other → Among o (to_come t other last book) → is_preferred t.side best o ≡ true
-all_behind reaches t last book banks heads at other best o picks within differ some there =
+all_behind : (listed_now : List ℕ) (reaches : ℕ → ℕ) (t : Taker) (last : Option Resting) (book : List Resting) (banks : ℕ) (heads : ℕ → Option (Resting × Place)) (at other : ℕ) (best o : Resting) → Picks listed_now reaches t last book banks heads at best → other < banks → other ≢ at → 1 ≤ reaches other → Among o (to_come t other last book) → is_preferred t.side best o ≡ true
+all_behind listed_now reaches t last book banks heads at other best o picks within differ some there =
     let o_in = among_to_come t other last book o there in
     let best_in = among_to_come t at last book best picks.there in
     let head = has_head t.side (to_come t other last book) (heads other) o there (picks.heads_are other within some) in
@@ -202,24 +211,24 @@ all_behind reaches t last book banks heads at other best o picks within differ s
     let apart : (q : Resting) → q.bank ≡ other → best ≢ q = λ q owner same. differ (sym owner ∙ ap (λ (r : Resting). r.bank) (sym same) ∙ best_in.1.owner) in
     let below : is_preferred t.side o head.found.0 ≡ false =
     Each-among (λ (q : Resting). is_preferred t.side q head.found.0 ≡ false) (to_come t other last book) o head.best.first there in
-    let above : is_preferred t.side head.found.0 best ≡ false = behind_picked reaches t last book banks heads at other best head.found picks within some head.is in
+    let above : is_preferred t.side head.found.0 best ≡ false = behind_picked listed_now reaches t last book banks heads at other best head.found picks within some head.is in
     elim (same_or_before t.side book best o picks.rising best_in.0 o_in.0 (not_before_first t.side book o head.found.0 best picks.rising o_in.0 head_in.0 best_in.0 below above)) [
       | inl same ↦ absurd (apart o o_in.1.owner same)
       | inr before ↦ before
     ]
 
-still_behind : (side : Side) (last : Option Resting) (best o : Resting) → is_behind side last best ≡ true → is_preferred side best o ≡ true → is_behind side last o ≡ true
+pub still_behind : (side : Side) (last : Option Resting) (best o : Resting) → is_behind side last best ≡ true → is_preferred side best o ≡ true → is_behind side last o ≡ true
 still_behind side None best o behind later = refl
 still_behind side (Some last) best o behind later = preferred_trans side last best o behind later
 
-same_tests : (p q : Bool) → (p ≡ true → q ≡ true) → (q ≡ true → p ≡ true) → p ≡ q
+pub same_tests : (p q : Bool) → (p ≡ true → q ≡ true) → (q ≡ true → p ≡ true) → p ≡ q
 same_tests true true there back = refl
 same_tests true false there back = absurd (both_ways false refl (there refl))
 same_tests false true there back = absurd (both_ways false refl (back refl))
 same_tests false false there back = refl
 
-pub heads-stay : (reaches : ℕ → ℕ) (t : Taker) (last : Option Resting) (book : List Resting) (banks : ℕ) (heads : ℕ → Option (Resting × Place)) (at other : ℕ) (best : Resting) → Picks reaches t last book banks heads at best → other < banks → other ≢ at → 1 ≤ reaches other → IsFound t.side (to_come t other (Some best) book) (heads other)
-heads-stay reaches t last book banks heads at other best picks within differ some =
+pub heads-stay : (listed_now : List ℕ) (reaches : ℕ → ℕ) (t : Taker) (last : Option Resting) (book : List Resting) (banks : ℕ) (heads : ℕ → Option (Resting × Place)) (at other : ℕ) (best : Resting) → Picks listed_now reaches t last book banks heads at best → other < banks → other ≢ at → 1 ≤ reaches other → IsFound t.side (to_come t other (Some best) book) (heads other)
+heads-stay listed_now reaches t last book banks heads at other best picks within differ some =
     let best_in = among_to_come t at last book best picks.there in
     subst (λ (os : List Resting). IsFound t.side os (heads other))
     (filter_agree_on (is_to_come t other last) (is_to_come t other (Some best)) book
@@ -231,7 +240,7 @@ heads-stay reaches t last book banks heads at other best picks within differ som
       opposite = is.opposite;
       owner = is.owner;
       earlier = is.earlier;
-      behind = all_behind reaches t last book banks heads at other best o picks within differ some (among_filter (is_to_come t other last) book o there holds);
+      behind = all_behind listed_now reaches t last book banks heads at other best o picks within differ some (among_filter (is_to_come t other last) book o there holds);
     }))
     (λ holds.
     let is = to_come-says t other (Some best) o holds in

@@ -1,8 +1,10 @@
 -- A walk's step: all heads are found, the best of them that may be taken is taken, and the other heads stay.
-use Rattle.std.proofs.Common.{ℕ, ◌≡◌, ◌-◌, ◌+◌, ◌*◌, ◌/◌, ◌≤◌, ◌<◌, min, true, false, leb, [], ◌∷◌, inl, inr, refl, ap, sym, subst, ◌∙◌, arith, length, get_or, slice_index, Option, Some, None, IfSome, get_or-set_other}
+use Rattle.std.proofs.Common.{ℕ, ◌≡◌, ◌-◌, ◌*◌, ◌/◌, ◌≤◌, ◌<◌, min, true, false, leb, List, [], ◌∷◌, ◌++◌, inl, inr, refl, ap, sym, subst, ◌∙◌, arith, length, get_or, slice_index, Option, Some, None, IfSome, get_or-set_other}
 use Rattle.std.proofs.Math.ListN.{set}
 use Rattle.std.proofs.Math.Nat.{le-div_iff_mul-le}
-use Rattle.std.proofs.lemmas.Bool.{cases_eq, and_parts, and_cases, and_from, both_ways, false_from_ne_true, leb-true, le-leb}
+use Rattle.std.proofs.lemmas.Bool.{and_parts, and_cases, and_from, both_ways, false_from_ne_true, leb-true, le-leb}
+use Rattle.std.proofs.lemmas.List.Elements.{Contains-append_left, Contains-push, Contains-push_cases}
+use Rattle.std.specs.List.{Contains}
 use Rattle.fx_amounts.specs.declared.side.Side.{Side}
 use Rattle.fx_amounts.specs.Price.{crosses}
 use Rattle.fx_amounts.specs.Quantity.{IsWeight}
@@ -14,7 +16,7 @@ use Rattle.fx_rules.proofs.ListLemmas.{Each-among}
 use Rattle.fx_rules.proofs.Planning.{div_none}
 use Rattle.fx_rules.proofs.Preference.{preferred_self, preferred_trans}
 use Rattle.price_levels.specs.declared.place.Place.{Place}
-use Rattle.global_book.specs.Book.{Book, IsBook, IsHeld, IsPlaceOf}
+use Rattle.global_book.specs.Book.{AreOwners, Book, IsBook, IsHeld, IsPlaceOf}
 use Rattle.match_sweep.specs.declared.walk.Walk.{Walk}
 use Rattle.match_sweep.specs.Heads.{IsFound, to_come, AreHeads}
 use Rattle.match_sweep.specs.Walks.{FromHere, LeadsOn, StepsOn, IsReady, IsRenewed, IsPicked, Takes, IsPickedAt, may_take, may_take_head, is_ahead, leads, head_of, last_of, reach_of, steps_behind}
@@ -39,46 +41,49 @@ not_ahead_self walk n bank same =
     subst (λ (b : ℕ). is_ahead walk.order.side (head_of walk b) (head_of walk n) ≡ false) (sym same) (ahead_self walk.order.side (head_of walk n))
 
 -- the next bank leads
-pub picked-lead : (walk : Walk) (n : ℕ) (best : Option ℕ) → IsPickedAt walk n best → leads walk n best ≡ true → IsPickedAt walk (n + 1) (Some n)
-picked-lead walk n None picked lead = (
-  omega arith,
+pub picked-lead : (walk : Walk) (banks : List ℕ) (n : ℕ) (best : Option ℕ) → n < 64 → IsPickedAt walk banks best → leads walk n best ≡ true → IsPickedAt walk (banks ++ n ∷ []) (Some n)
+picked-lead walk banks n None within picked lead = (
+  Contains-push banks n,
+  within,
   lead,
-  λ bank below may. elim (cases_eq bank n) [
-    | inl same ↦ not_ahead_self walk n bank same
-    | inr other ↦ absurd (both_ways (may_take_head walk bank (head_of walk bank)) (picked bank (omega (arith, below, other))) may)
+  λ bank below may. elim (Contains-push_cases banks n bank below) [
+    | inr same ↦ not_ahead_self walk n bank (sym same)
+    | inl before ↦ absurd (both_ways (may_take_head walk bank (head_of walk bank)) (picked bank before) may)
   ],
 )
-picked-lead walk n (Some best) picked lead =
+picked-lead walk banks n (Some best) within picked lead =
     let side : Side = walk.order.side in
     let parts = and_parts (may_take_head walk n (head_of walk n)) (is_ahead side (head_of walk n) (head_of walk best)) lead in (
-      omega arith,
+      Contains-push banks n,
+      within,
       parts.0,
-      λ bank below may. elim (cases_eq bank n) [
-        | inl same ↦ not_ahead_self walk n bank same
-        | inr other ↦ false_from_ne_true (is_ahead side (head_of walk bank) (head_of walk n)) (λ above.
-            both_ways (is_ahead side (head_of walk bank) (head_of walk best)) (picked.2 bank (omega (arith, below, other)) may)
+      λ bank below may. elim (Contains-push_cases banks n bank below) [
+        | inr same ↦ not_ahead_self walk n bank (sym same)
+        | inl before ↦ false_from_ne_true (is_ahead side (head_of walk bank) (head_of walk n)) (λ above.
+            both_ways (is_ahead side (head_of walk bank) (head_of walk best)) (picked.3 bank before may)
             (ahead_trans side (head_of walk bank) (head_of walk n) (head_of walk best) above parts.1))
       ],
     )
 
 -- it does not
-pub picked-stay : (walk : Walk) (n : ℕ) (best : Option ℕ) → IsPickedAt walk n best → leads walk n best ≡ false → IsPickedAt walk (n + 1) best
-picked-stay walk n None picked stay =
-    λ bank below. elim (cases_eq bank n) [
-      | inl same ↦ subst (λ (b : ℕ). may_take_head walk b (head_of walk b) ≡ false) (sym same) stay
-      | inr other ↦ picked bank (omega (arith, below, other))
+pub picked-stay : (walk : Walk) (banks : List ℕ) (n : ℕ) (best : Option ℕ) → IsPickedAt walk banks best → leads walk n best ≡ false → IsPickedAt walk (banks ++ n ∷ []) best
+picked-stay walk banks n None picked stay =
+    λ bank below. elim (Contains-push_cases banks n bank below) [
+      | inr same ↦ subst (λ (b : ℕ). may_take_head walk b (head_of walk b) ≡ false) same stay
+      | inl before ↦ picked bank before
     ]
-picked-stay walk n (Some best) picked stay = (
-  omega (arith, picked.0),
+picked-stay walk banks n (Some best) picked stay = (
+  Contains-append_left banks (n ∷ []) best picked.0,
   picked.1,
-  λ bank below may. elim (cases_eq bank n) [
-    | inl same ↦
-        subst (λ (b : ℕ). is_ahead walk.order.side (head_of walk b) (head_of walk best) ≡ false) (sym same)
+  picked.2,
+  λ bank below may. elim (Contains-push_cases banks n bank below) [
+    | inr same ↦
+        subst (λ (b : ℕ). is_ahead walk.order.side (head_of walk b) (head_of walk best) ≡ false) same
         (elim (and_cases (may_take_head walk n (head_of walk n)) (is_ahead walk.order.side (head_of walk n) (head_of walk best)) stay) [
-          | inl not_taken ↦ absurd (both_ways (may_take_head walk n (head_of walk n)) not_taken (subst (λ (b : ℕ). may_take_head walk b (head_of walk b) ≡ true) same may))
+          | inl not_taken ↦ absurd (both_ways (may_take_head walk n (head_of walk n)) not_taken (subst (λ (b : ℕ). may_take_head walk b (head_of walk b) ≡ true) (sym same) may))
           | inr behind ↦ behind
         ])
-    | inr other ↦ picked.2 bank (omega (arith, below, other)) may
+    | inl before ↦ picked.3 bank before may
   ],
 )
 
@@ -100,10 +105,10 @@ renewed-set book old new ready renewed = record {
   heads = renewed.heads;
 }
 
-pays : (line weight : ℕ) → IsWeight weight → weight ≤ line → 1 ≤ line / weight
+pub pays : (line weight : ℕ) → IsWeight weight → weight ≤ line → 1 ≤ line / weight
 pays line weight is fits = (le-div_iff_mul-le {k = weight} {x = 1} {y = line} (omega (arith, is.0))).1 (omega (arith, fits))
 
-paid_for : (line weight : ℕ) → IsWeight weight → 1 ≤ line / weight → weight ≤ line
+pub paid_for : (line weight : ℕ) → IsWeight weight → 1 ≤ line / weight → weight ≤ line
 paid_for line weight is some = omega (arith, (le-div_iff_mul-le {k = weight} {x = 1} {y = line} (omega (arith, is.0))).0 some)
 
 owners : (book : Book) → IsBook book → (o : Resting) → Among o book.orders → o.bank < book.banks
@@ -111,23 +116,32 @@ owners book is o there = let held : IsHeld book.banks o = Each-among (IsHeld boo
 
 -- what is picked of the heads
 pub record Chosen (book : Book) (walk : Walk) (found : Resting × Place) : Type 0 where
-  pub picks : Picks (reach_of walk) walk.order (last_of walk) book.orders book.banks (head_of walk) found.0.bank found.0
+  pub owners_now : List ℕ
+  pub picks : Picks owners_now (reach_of walk) walk.order (last_of walk) book.orders book.banks (head_of walk) found.0.bank found.0
   pub placed : IsPlaceOf found.0 found.1
   pub line : walk.weight ≤ slice_index walk.lines found.0.bank
 
-pub set-chosen : (book : Book) (walk : Walk) (found : Resting × Place) → IsBook book → IsSet book walk → IsPicked walk book.banks (Some found) → Chosen book walk found
-set-chosen book walk found is set_is picked =
+-- a bank with an order is one of the book's
+owner_within : (book : Book) (owners_now : List ℕ) (bank : ℕ) → IsBook book → AreOwners book owners_now → Contains owners_now bank → bank < book.banks
+owner_within book owners_now bank is are there =
+    let it = are.owns bank there in
+    omega (arith, owners book is it.0 it.1, it.2)
+
+pub set-chosen : (book : Book) (walk : Walk) (owners_now : List ℕ) (found : Resting × Place) → IsBook book → AreOwners book owners_now → IsSet book walk → IsPicked walk owners_now (Some found) → Chosen book walk found
+set-chosen book walk owners_now found is are set_is picked =
     let at : ℕ = picked.0.at in
     let may = and_parts (leb walk.weight (slice_index walk.lines at)) (crosses walk.order.side walk.order.price found.0.price) picked.0.may in
     let fits : walk.weight ≤ slice_index walk.lines at = leb-true walk.weight (slice_index walk.lines at) may.0 in
     let some : 1 ≤ reach_of walk at = pays (slice_index walk.lines at) walk.weight set_is.weight fits in
-    let head = subst (IsFound walk.order.side (to_come walk.order at (last_of walk) book.orders)) picked.0.is (set_is.heads at picked.0.within some) in
+    let head = subst (IsFound walk.order.side (to_come walk.order at (last_of walk) book.orders)) picked.0.is (set_is.heads at (owner_within book owners_now at is are picked.0.within) some) in
     let there = head.0.there in
     let owner : found.0.bank ≡ at = (among_to_come walk.order at (last_of walk) book.orders found.0 there).1.owner in
     record {
+      owners_now = owners_now;
       picks = record {
         rising = is.rising;
         owners = owners book is;
+        listed = λ o there. Each-among (λ (q : Resting). Contains owners_now q.bank) book.orders o are.all there;
         own = ap (λ n. n / walk.weight) set_is.own ∙ div_none 0 walk.weight (omega (arith, set_is.weight.0));
         heads_are = set_is.heads;
         there = subst (λ (b : ℕ). Among found.0 (to_come walk.order b (last_of walk) book.orders)) (sym owner) there;
@@ -142,10 +156,10 @@ set-chosen book walk found is set_is picked =
     }
 
 -- where none is picked nothing is open
-pub set-none : (book : Book) (walk : Walk) → IsBook book → IsSet book walk → IsPicked walk book.banks None → FromHere book walk [] walk.order.left
-set-none book walk is set_is picked = (
+pub set-none : (book : Book) (walk : Walk) (owners_now : List ℕ) → IsBook book → AreOwners book owners_now → IsSet book walk → IsPicked walk owners_now None → FromHere book walk [] walk.order.left
+set-none book walk owners_now is are set_is picked = (
   refl,
-  inr (picked-none (reach_of walk) walk.order (last_of walk) book.orders book.banks (head_of walk) (owners book is) set_is.heads
+  inr (picked-none owners_now (reach_of walk) walk.order (last_of walk) book.orders book.banks (head_of walk) (owners book is) (λ o there. Each-among (λ (q : Resting). Contains owners_now q.bank) book.orders o are.all there) set_is.heads
       (λ bank head within head_is reach. false_from_ne_true (crosses walk.order.side walk.order.price head.0.price) (λ crossing.
       both_ways (may_take walk bank head.0) (picked bank head within head_is)
       (and_from (leb walk.weight (slice_index walk.lines bank)) (crosses walk.order.side walk.order.price head.0.price)
@@ -171,7 +185,7 @@ taken-leads book walk new found fill set_is some chosen takes =
           let from_next : FromHere book next more left = subst (λ (w : Walk). FromHere book w more left) takes.now from in
           subst (λ (f : Fill). FromHere book walk (f ∷ more) left) (sym (fill_is walk best fill takes.is))
           (walk-step walk.weight walk.lines book.orders walk.order (last_of walk) best fill.lots more left some
-          (picked-best (reach_of walk) walk.order (last_of walk) book.orders book.banks (head_of walk) best.bank best chosen.picks)
+          (picked-best chosen.owners_now (reach_of walk) walk.order (last_of walk) book.orders book.banks (head_of walk) best.bank best chosen.picks)
           (ap (λ (f : Fill). f.lots) takes.is) within from_next);
       wants = omega (arith, ap (λ (w : Walk). w.order.left) takes.now, takes.some, some);
       arrival = ap (λ (w : Walk). w.order.arrival) takes.now;
@@ -196,7 +210,7 @@ taken-ready book walk new found fill set_is chosen takes =
       placed = chosen.placed;
       heads = λ bank below other reach.
           let same : get_or (set walk.lines best.bank rest) bank 0 ≡ get_or walk.lines bank 0 = get_or-set_other walk.lines best.bank bank rest 0 other in
-          heads-stay (reach_of walk) walk.order (last_of walk) book.orders book.banks (head_of walk) best.bank bank best chosen.picks below other
+          heads-stay chosen.owners_now (reach_of walk) walk.order (last_of walk) book.orders book.banks (head_of walk) best.bank bank best chosen.picks below other
           (subst (λ n. 1 ≤ n / walk.weight) same reach);
     })
 

@@ -1,6 +1,7 @@
 -- A sweep as it goes, from one best order to the next, over a pair's book. All of this is for this crate's own functions,
 -- which plan.
 use Rattle.std.specs.Prelude.{ℕ, ◌≡◌, ◌≢◌, ◌≤◌, ◌<◌, ◌-◌, ◌*◌, ◌/◌, ◌^◌, Bool, true, false, ◌&&◌, nat_le, List, [], ◌∷◌, Option, Some, None, IfSome, slice_index, slice_index_or, slice_set, option_map}
+use Rattle.std.specs.List.{Contains}
 use Rattle.fx_amounts.specs.declared.side.Side.{Side}
 use Rattle.fx_amounts.specs.Price.{crosses}
 use Rattle.fx_amounts.specs.Quantity.{IsWeight}
@@ -69,20 +70,20 @@ abbrev pub may_take : Walk → ℕ → Resting → Bool
 may_take walk bank head =
     nat_le walk.weight (slice_index walk.lines bank) && crosses walk.order.side walk.order.price head.price
 
--- a head of one of so many banks that may be taken
-pub record IsTakable (walk : Walk) (banks : ℕ) (found : Resting × Place) : Type 0 where
+-- a head of one of these banks that may be taken
+pub record IsTakable (walk : Walk) (banks : List ℕ) (found : Resting × Place) : Type 0 where
   pub at : ℕ
-  pub within : at < banks
+  pub within : Contains banks at
   pub is : head_of walk at ≡ Some found
   pub may : may_take walk at found.0 ≡ true
 
--- the best of the heads of so many banks that may be taken, or there is none
-abbrev pub IsPicked : Walk → ℕ → Option (Resting × Place) → Type 0
+-- the best of the heads of these banks that may be taken, or there is none
+abbrev pub IsPicked : Walk → List ℕ → Option (Resting × Place) → Type 0
 IsPicked walk banks None =
-    (bank : ℕ) (head : Resting × Place) → bank < banks → head_of walk bank ≡ Some head → may_take walk bank head.0 ≡ false
+    (bank : ℕ) (head : Resting × Place) → Contains banks bank → head_of walk bank ≡ Some head → may_take walk bank head.0 ≡ false
 IsPicked walk banks (Some best) =
     IsTakable walk banks best
-    × ((bank : ℕ) (head : Resting × Place) → bank < banks → head_of walk bank ≡ Some head → may_take walk bank head.0 ≡ true →
+    × ((bank : ℕ) (head : Resting × Place) → Contains banks bank → head_of walk bank ≡ Some head → may_take walk bank head.0 ≡ true →
     is_preferred walk.order.side head.0 best.0 ≡ false)
 
 -- The best is looked for by the numbers of banks: a bank has a head that may be taken, one head is preferred to another, and a
@@ -101,12 +102,12 @@ leads walk bank None = may_take_head walk bank (head_of walk bank)
 leads walk bank (Some best) =
     may_take_head walk bank (head_of walk bank) && is_ahead walk.order.side (head_of walk bank) (head_of walk best)
 
--- the bank, of so many, with the best of the heads that may be taken, or there is none
-abbrev pub IsPickedAt : Walk → ℕ → Option ℕ → Type 0
-IsPickedAt walk banks None = (bank : ℕ) → bank < banks → may_take_head walk bank (head_of walk bank) ≡ false
+-- the bank, of these, with the best of the heads that may be taken, or there is none
+abbrev pub IsPickedAt : Walk → List ℕ → Option ℕ → Type 0
+IsPickedAt walk banks None = (bank : ℕ) → Contains banks bank → may_take_head walk bank (head_of walk bank) ≡ false
 IsPickedAt walk banks (Some best) =
-    (best < banks) × (may_take_head walk best (head_of walk best) ≡ true)
-    × ((bank : ℕ) → bank < banks → may_take_head walk bank (head_of walk bank) ≡ true →
+    Contains banks best × (best < 64) × (may_take_head walk best (head_of walk best) ≡ true)
+    × ((bank : ℕ) → Contains banks bank → may_take_head walk bank (head_of walk bank) ≡ true →
     is_ahead walk.order.side (head_of walk bank) (head_of walk best) ≡ false)
 
 -- an order is taken: of its lots as many as are wanted and as the line pays for

@@ -1,11 +1,12 @@
-ghost use Rattle.std.specs.Prelude.{ℕ, ◌≡◌, ◌≤◌, ◌<◌, ◌+◌, ◌/◌, None, slice_index, slice_index_or};
+ghost use Rattle.std.specs.Prelude.{ℕ, IfSome, ◌≡◌, ◌≤◌, ◌<◌, ◌+◌, ◌/◌, None, slice_index, slice_index_or};
 ghost use Rattle.std.specs.Option.{option_copied, option_map};
 ghost use Rattle.fx_amounts.specs.Quantity.{IsWeight};
-ghost use Rattle.fx_rules.specs.Sweep.{is_preferred};
+ghost use Rattle.fx_rules.specs.Lists.{Among};
+ghost use Rattle.fx_rules.specs.Sweep.{is_better, is_preferred};
 ghost use Rattle.global_book.specs.Book.{standing_at};
 ghost use Rattle.match_sweep.specs.Heads.{AreHeads, CameBefore, IsFound, to_come};
 
-use fx_amounts::{BankId, Side};
+use fx_amounts::{BankId, Price, Side};
 use fx_rules::{Resting, SweptOrder};
 use global_book::PairBook;
 use price_levels::{Place, Steps};
@@ -27,28 +28,28 @@ pub(crate) fn head_behind<L: Ledger>(
     book.best_of(bank, side, order.arrival, past, steps)
 }
 
-/// The head of the bank of this number as a sweep begins, where a line of `line` credit units pays for a lot.
+/// The head of a bank as a sweep begins, where a line of `line` credit units pays for a lot.
 fn first_head<L: Ledger>(
     book: &PairBook,
     order: &SweptOrder,
     line: u64,
     weight: u32,
-    number: u8,
+    bank: BankId,
     steps: &mut Steps<L>,
 ) -> Option<(Resting, Place)>
-    requires number { number < 64 }
     requires weight { IsWeight weight }
-    ensures head { 1 ≤ line / weight → IsFound order.now.side (to_come order.now number None book.now.orders) result }
+    ensures head { 1 ≤ line / weight → IsFound order.now.side (to_come order.now bank None book.now.orders) result }
+    ensures owner { IfSome result (λ found. Among found.0 (to_come order.now bank None book.now.orders)) }
     ensures steps { CameBefore book.now.orders order.now.arrival → steps.new ≤ steps.old + 1 }
 {
-    let bank = BankId::new(number)?;
     if line < u64::from(weight) {
         return None;
     }
     head_behind(book, order, bank, None, steps)
 }
 
-/// The heads as a sweep begins: of each bank with which the line pays for a lot, the best order that it may come to.
+/// The heads as a sweep begins: of each bank with which the line pays for a lot, the best order that it may come to. It looks
+/// only at the banks that have an order.
 pub(crate) fn first_heads<L: Ledger>(
     book: &PairBook,
     order: &SweptOrder,
@@ -56,26 +57,33 @@ pub(crate) fn first_heads<L: Ledger>(
     weight: u32,
     steps: &mut Steps<L>,
 ) -> [Option<(Resting, Place)>; 64]
-    requires banks { book.now.banks ≤ 64 }
     requires weight { IsWeight weight }
     ensures heads { AreHeads (λ bank. slice_index lines.now bank / weight) order.now None book.now.orders book.now.banks (λ bank. slice_index_or result bank None) }
     ensures steps { CameBefore book.now.orders order.now.arrival → steps.new ≤ steps.old + book.now.banks }
 {
+    let owners = book.owners();
     let mut heads = [None; 64];
-    let banks = book.banks();
-    for number in 0..banks {
-        heads[number] = first_head(book, order, lines[number], weight, number as u8, steps);
+    for owner in owners {
+        let number = owner.index();
+        heads[number] = first_head(book, order, lines[number], weight, *owner, steps);
     }
     heads
+}
+
+/// Whether the first price is better than the other for a taker of `side`.
+pub(crate) fn is_better(side: Side, price: Price, other: Price) -> bool
+    ensures value { result ≡ is_better side price other }
+{
+    match side {
+        Side::Buy => price < other,
+        Side::Sell => price > other,
+    }
 }
 
 /// Whether a taker of `side` prefers the first order: its price is better, or the same and it arrived earlier.
 pub(crate) fn is_preferred(side: Side, order: &Resting, other: &Resting) -> bool
     ensures value { result ≡ is_preferred side order.now other.now }
 {
-    let is_better = match side {
-        Side::Buy => order.price < other.price,
-        Side::Sell => order.price > other.price,
-    };
-    is_better || (order.price == other.price && order.arrival < other.arrival)
+    is_better(side, order.price, other.price)
+        || (order.price == other.price && order.arrival < other.arrival)
 }

@@ -5,13 +5,13 @@
 mod carrying;
 mod heads;
 mod laws;
-mod levels;
+mod reached;
 mod sweeping;
 mod taker;
 mod walk;
 
 pub use carrying::{carry, carry_fills};
 pub use laws::{sweeps_are_carried, turns_are_carried};
-pub use levels::first_levels;
+pub use reached::levels_in_reach;
 pub use sweeping::{SweepPlan, plan, sweep};
 pub use taker::Taker;

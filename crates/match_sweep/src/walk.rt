@@ -69,7 +69,7 @@ impl Walk {
             return None;
         }
         self.renew_head(book, steps);
-        let (maker, place) = self.best_head(book.banks())?;
+        let (maker, place) = self.best_head(book.owners())?;
         Some(self.take(maker, place))
     }
 
@@ -129,13 +129,13 @@ impl Walk {
         }
     }
 
-    /// The best of the heads of so many banks that may be taken.
-    fn best_head(&self, banks: usize) -> Option<(Resting, Place)>
-        requires { banks ≤ 64 }
-        ensures picked { IsPicked self.now banks result }
+    /// The best of the heads of these banks that may be taken.
+    fn best_head(&self, owners: &[BankId]) -> Option<(Resting, Place)>
+        ensures picked { IsPicked self.now owners.now result }
     {
         let mut best = None;
-        for number in 0..banks {
+        for owner in owners {
+            let number = owner.index();
             if self.leads(number, best) {
                 best = Some(number);
             }
@@ -177,7 +177,7 @@ fn line_with(banks: usize, lines: &CreditLines, bank: BankId, number: u8) -> u64
 }
 
 /// The lines of a bank with each other bank, of so many banks, in credit units; nothing with itself.
-fn lines_of(banks: usize, lines: &CreditLines, bank: BankId) -> [u64; 64]
+pub(crate) fn lines_of(banks: usize, lines: &CreditLines, bank: BankId) -> [u64; 64]
     requires banks { banks ≡ lines.now.banks }
     requires bank { bank < banks }
     ensures line { (other : ℕ) → other < banks → other ≢ bank → slice_index result other ≡ line_in lines.now bank other }

@@ -2,5 +2,6 @@
 #![tactic(auto)]
 
 mod store;
+mod sums;
 
 pub use store::{OrderKey, OrderStore};

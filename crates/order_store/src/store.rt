@@ -1,8 +1,10 @@
 ghost use Rattle.std.specs.Prelude.{◌≡◌, ◌+◌, ◌<◌, ◌≤◌, ◌^◌, [], Some, None, OnOk, IfSome, IsSome, IsSomeAnd};
+ghost use Rattle.order_store.specs.Levels.{is_at, level_number, lots_where};
 ghost use Rattle.order_store.specs.Orders.{AreOrders, Changes, IsOf, Lacks, order_at};
 ghost use Rattle.order_store.specs.Orders as orders;
 
-use fx_amounts::{BankId, Lots, Memory};
+use crate::sums::LevelSums;
+use fx_amounts::{BankId, Lots, Memory, Price, Side};
 use fx_rules::Resting;
 use slab::Slab;
 use std::alloc::Global;
@@ -19,19 +21,22 @@ pub struct OrderStore {
     orders: Slab<Resting>,
     /// The key of each order, by its bank and number as one.
     names: HashMap<u64, usize>,
+    /// The lots of the orders by bank, side and price.
+    sums: LevelSums,
 }
 
 impl Model for OrderStore {
-    ghost use Rattle.std.specs.Prelude.{◌-◌, min, None, slice_index_or, nat_eq};
+    ghost use Rattle.std.specs.Prelude.{◌-◌, min, nat_eq};
     ghost use Rattle.std.specs.HashMap.{get, spare};
     ghost use Rattle.slab.specs.Slab.{slab_len};
-    ghost use Rattle.order_store.specs.Orders.{Orders, IsIndexed};
+    ghost use Rattle.order_store.specs.Orders.{Orders};
+    ghost use Rattle.order_store.specs.Levels.{IsStored};
 
     ghost Value = { Orders };
 
-    ghost view = { λ s. record { slots = s.orders.slots; room = min (s.orders.capacity - slab_len s.orders) (spare s.names) } };
+    ghost view = { λ s. record { slots = s.orders.slots; room = min (s.orders.capacity - slab_len s.orders) (min (spare s.names) (spare s.sums.lots)) } };
 
-    ghost invariant = { λ s. IsIndexed (λ key. slice_index_or s.orders.slots key None) (get nat_eq s.names) };
+    ghost invariant = { λ s. IsStored s.orders.slots (get nat_eq s.names) (get nat_eq s.sums.lots) };
 }
 
 impl OrderStore {
@@ -42,6 +47,7 @@ impl OrderStore {
         OrderStore {
             orders: Slab::new(alloc),
             names: HashMap::new(alloc),
+            sums: LevelSums::new(alloc),
         }
     }
 
@@ -54,7 +60,7 @@ impl OrderStore {
     {
         self.orders.reserve(orders)?;
         self.names.reserve(orders)?;
-        Ok(())
+        self.sums.reserve(orders)
     }
 
     /// Keeps an order under a new key. It takes one of the places that there is room for.
@@ -67,6 +73,8 @@ impl OrderStore {
         ensures valid { AreOrders self.new }
     {
         let name = name_of(order.bank, order.number);
+        let level = level_of(order.bank, order.side, order.price);
+        self.sums.add(level, order.left, self.orders.len());
         let key = self.orders.insert_reserved(order);
         let put: Result<_, _> = self.names.insert(name, key);
         put.unwrap();
@@ -89,6 +97,15 @@ impl OrderStore {
         ensures room { self.new.room ≡ self.old.room }
         ensures valid { AreOrders self.new }
     {
+        let Resting {
+            bank,
+            side,
+            price,
+            left: had,
+            ..
+        } = *self.orders.get(key.0).unwrap();
+        self.sums
+            .take(level_of(bank, side, price), had.count() - left.count());
         let order = self.orders.get_mut(key.0).unwrap();
         order.left = left;
     }
@@ -103,6 +120,10 @@ impl OrderStore {
     {
         let order = self.orders.remove(key.0);
         self.names.remove(&name_of(order.bank, order.number));
+        self.sums.take(
+            level_of(order.bank, order.side, order.price),
+            order.left.count(),
+        );
         order
     }
 
@@ -115,6 +136,14 @@ impl OrderStore {
         let key = self.names.get(&name_of(bank, number)).copied()?;
         Some(OrderKey(key))
     }
+
+    /// The lots that the orders of a bank and a side have left at a price.
+    pub fn lots_at(&self, bank: BankId, side: Side, price: Price) -> u128
+        ensures lots { result ≡ lots_where (is_at bank side price) self.now.slots }
+        ensures valid { AreOrders self.now }
+    {
+        self.sums.of(level_of(bank, side, price))
+    }
 }
 
 /// The number that stands for a bank and a number of its stream.
@@ -124,4 +153,16 @@ fn name_of(bank: BankId, number: u32) -> u64
     ensures number { number < 2 ^ 32 }
 {
     bank.index() as u64 * (1 << 32) + u64::from(number)
+}
+
+/// The number that stands for a bank, a side and a price.
+fn level_of(bank: BankId, side: Side, price: Price) -> u64
+    ensures value { result ≡ level_number bank side price }
+    ensures price { price < 2 ^ 30 }
+{
+    let side = match side {
+        Side::Buy => 0,
+        Side::Sell => 1,
+    };
+    bank.index() as u64 * (1 << 31) + side * (1 << 30) + u64::from(price.ticks())
 }

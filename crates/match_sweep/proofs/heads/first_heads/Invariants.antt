@@ -1,12 +1,16 @@
-use Rattle.std.proofs.Common.{ℕ, ◌≡◌, ◌≤◌, ◌<◌, ◌+◌, ◌/◌, None, length, slice_index, slice_index_or}
+use Rattle.std.proofs.Common.{ℕ, ◌≡◌, ◌≤◌, ◌+◌, ◌/◌, None, length, slice_index, slice_index_or, take}
+use Rattle.std.specs.List.{Contains}
+use Rattle.std.specs.Option.{IfSome}
+use Rattle.fx_rules.specs.Lists.{Among}
 use Rattle.match_sweep.specs.Heads.{CameBefore, IsFound, to_come}
 use Rattle.match_sweep.proofs.heads.first_heads.Given as goal
 
--- the heads of the banks that were passed, a step for each
-abbrev pub invariant-loop-number : goal.invariant-loop-number
-invariant-loop-number g l = record {
+-- the heads of the banks that were passed, a step for each; of the others there are none
+abbrev pub invariant-loop-owner : goal.invariant-loop-owner
+invariant-loop-owner g l = record {
   full : length l.heads ≡ 64;
-  heads : (bank : ℕ) → bank < l.number → 1 ≤ slice_index l.lines bank / l.weight →
+  heads : (bank : ℕ) → Contains (take l.owner-index l.owners) bank → 1 ≤ slice_index l.lines bank / l.weight →
       IsFound l.order.side (to_come l.order bank None l.book.orders) (slice_index_or l.heads bank None);
-  steps : CameBefore l.book.orders l.order.arrival → l.steps ≤ l.fn.steps + l.number;
+  owned : (bank : ℕ) → IfSome (slice_index_or l.heads bank None) (λ found. Among found.0 (to_come l.order bank None l.book.orders));
+  steps : CameBefore l.book.orders l.order.arrival → l.steps ≤ l.fn.steps + l.owner-index;
 }

@@ -5,6 +5,7 @@ use Rattle.fx_rules.specs.declared.orders.Resting.{Resting}
 use Rattle.price_levels.specs.declared.place.Place.{Place}
 use Rattle.global_book.specs.Book.{Book, is_sought}
 use Rattle.global_book.specs.Search.{IsFoundIn}
+use Rattle.access_index.proofs.Listing.{listed-few}
 use Rattle.global_book.proofs.Bests.{best_listed, none_listed}
 use Rattle.global_book.proofs.Finding.{kept_book}
 use Rattle.global_book.proofs.Searching.{none_sought, best_there, best_sought, place_lives, places_in_time}
@@ -27,7 +28,7 @@ returns-in_err-place-clause-best g c =
 pub returns-in_err-place-clause-steps : goal.returns-in_err-place-clause-steps
 returns-in_err-place-clause-steps g c = λ all.
     let in_time = places_in_time c.self.inside.banks c.self.inside.orders c.self.inside.price_rows c.self.inside.arrival_rows.items c.self.invariant c.args.side c.args.before c.args.self.now.orders (ap (λ (b : Book). b.orders) c.self.view_is) all in
-    omega (arith, c.best_of.ensures.steps in_time, c.self.invariant.count, c.self.invariant.banks_are, ap (λ (b : Book). b.banks) c.self.view_is)
+    omega (arith, c.best_of.ensures.steps in_time, listed-few 0 c.self.inside.price_rows, c.self.invariant.count, c.self.invariant.banks_are, ap (λ (b : Book). b.banks) c.self.view_is)
 
 pub returns-in_err-place-clause-valid : goal.returns-in_err-place-clause-valid
 returns-in_err-place-clause-valid g c =
@@ -65,7 +66,7 @@ returns-clause-place g c =
 pub returns-clause-steps : goal.returns-clause-steps
 returns-clause-steps g c = λ all.
     let in_time = places_in_time c.self.inside.banks c.self.inside.orders c.self.inside.price_rows c.self.inside.arrival_rows.items c.self.invariant c.args.side c.args.before c.args.self.now.orders (ap (λ (b : Book). b.orders) c.self.view_is) all in
-    omega (arith, c.best_of.ensures.steps in_time, c.self.invariant.count, c.self.invariant.banks_are, ap (λ (b : Book). b.banks) c.self.view_is)
+    omega (arith, c.best_of.ensures.steps in_time, listed-few 0 c.self.inside.price_rows, c.self.invariant.count, c.self.invariant.banks_are, ap (λ (b : Book). b.banks) c.self.view_is)
 
 pub returns-clause-valid : goal.returns-clause-valid
 returns-clause-valid g c =

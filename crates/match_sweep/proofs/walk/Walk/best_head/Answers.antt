@@ -1,18 +1,27 @@
 -- One more bank is looked at.
-use Rattle.std.proofs.Common.{sym, subst, ◌∙◌, ◌+◌}
+use Rattle.std.proofs.Common.{ℕ, List, [], ◌∷◌, ◌++◌, ◌≡◌, take, ap, sym, subst, ◌∙◌, ◌+◌, arith}
+use Rattle.std.proofs.lemmas.List.{take_more}
 use Rattle.match_sweep.specs.Walks.{IsPickedAt}
 use Rattle.match_sweep.proofs.Stepping.{picked-lead, picked-stay}
 use Rattle.match_sweep.proofs.walk.Walk.best_head.Goals as goal
 use Rattle.match_sweep.proofs.walk.Walk.best_head.Goals.{then-leads, else-leads}
 
-pub loop-number-preserved : goal.loop-number-preserved
-loop-number-preserved c =
-    let n = c.loop-number.number in
-    elim c.if-leads.branch [
+pub loop-owner-init : goal.loop-owner-init
+loop-owner-init c = λ bank there. absurd (omega (arith, there.1))
+
+pub loop-owner-preserved : goal.loop-owner-preserved
+loop-owner-preserved c =
+    let k = c.loop-owner.owner-index in
+    let banks : List ℕ = c.args.owners.now in
+    let n : ℕ = c.index-number.result in
+    let more : take k banks ++ n ∷ [] ≡ take (k + 1) banks
+    = ap (λ (bank : ℕ). take k banks ++ bank ∷ []) (c.index-number.ensures.value ∙ c.owner-item.is) ∙ sym (take_more banks k c.owner-item.result c.loop-owner-test.true) in
+    subst (λ (xs : List ℕ). IsPickedAt c.args.self.now xs c.if-leads.best) more
+    (elim c.if-leads.branch [
       | then-leads w ↦
-          subst (IsPickedAt c.args.self.now (n + 1)) (sym w.best-is)
-          (picked-lead c.args.self.now n c.loop-number.best c.loop-number.invariant (sym c.leads.ensures.value ∙ w.if-leads.true))
+          subst (IsPickedAt c.args.self.now (take k banks ++ n ∷ [])) (sym w.best-is)
+          (picked-lead c.args.self.now (take k banks) n c.loop-owner.best c.index-number.ensures.most c.loop-owner.invariant (sym c.leads.ensures.value ∙ w.if-leads.true))
       | else-leads w ↦
-          subst (IsPickedAt c.args.self.now (n + 1)) (sym w.best-is)
-          (picked-stay c.args.self.now n c.loop-number.best c.loop-number.invariant (sym c.leads.ensures.value ∙ w.if-leads.false))
-    ]
+          subst (IsPickedAt c.args.self.now (take k banks ++ n ∷ [])) (sym w.best-is)
+          (picked-stay c.args.self.now (take k banks) n c.loop-owner.best c.loop-owner.invariant (sym c.leads.ensures.value ∙ w.if-leads.false))
+    ])

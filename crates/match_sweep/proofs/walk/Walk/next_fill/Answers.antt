@@ -1,28 +1,28 @@
 -- The best of the heads is the next order that the sweep takes.
-use Rattle.std.proofs.Common.{ℕ, ◌≡◌, Some, None, subst, arith}
+use Rattle.std.proofs.Common.{ℕ, List, Some, arith}
 use Rattle.fx_rules.specs.declared.orders.Resting.{Resting}
 use Rattle.price_levels.specs.declared.place.Place.{Place}
-use Rattle.global_book.specs.Book.{Book, IsBook}
+use Rattle.global_book.specs.Book.{AreOwners, Book, IsBook}
 use Rattle.match_sweep.specs.declared.walk.Walk.{Walk}
 use Rattle.match_sweep.specs.Walks.{IsReady, IsRenewed, IsPicked}
 use Rattle.match_sweep.proofs.Stepping.{Chosen, renewed-set, set-chosen, set-none, taken-leads, taken-ready, renewed-leads, renewed-ends, renewed-left}
 use Rattle.match_sweep.proofs.walk.Walk.next_fill.Goals as goal
 
-chosen : (book : Book) (old walk : Walk) (banks : ℕ) (found : Resting × Place) → IsBook book → banks ≡ book.banks → IsReady book old → IsRenewed book old walk → IsPicked walk banks (Some found) → Chosen book walk found
-chosen book old walk banks found is banks_are ready renewed picked =
-    set-chosen book walk found is (renewed-set book old walk ready renewed) (subst (λ (n : ℕ). IsPicked walk n (Some found)) banks_are picked)
+chosen : (book : Book) (old walk : Walk) (owners : List ℕ) (found : Resting × Place) → IsBook book → AreOwners book owners → IsReady book old → IsRenewed book old walk → IsPicked walk owners (Some found) → Chosen book walk found
+chosen book old walk owners found is are ready renewed picked =
+    set-chosen book walk owners found is are (renewed-set book old walk ready renewed) picked
 
 pub returns-in_err-maker-clause-steps : goal.returns-in_err-maker-clause-steps
 returns-in_err-maker-clause-steps g c =
     renewed-ends c.args.book.now c.args.self.now c.renew_head.new.self c.from_residual.result c.renew_head.ensures.renewed
-    (set-none c.args.book.now c.renew_head.new.self c.banks.ensures.valid
+    (set-none c.args.book.now c.renew_head.new.self c.owners.result.now c.owners.ensures.valid c.owners.ensures.owners
     (renewed-set c.args.book.now c.args.self.now c.renew_head.new.self c.requires.ready c.renew_head.ensures.renewed)
-    (subst (λ (n : ℕ). IsPicked c.renew_head.new.self n None) c.banks.ensures.value c.in_err-maker.ensures.picked))
+    c.in_err-maker.ensures.picked)
     c.from_residual.ensures
 
 pub take-requires-clause-line : goal.take-requires-clause-line
 take-requires-clause-line g c =
-    (chosen c.args.book.now c.args.self.now c.renew_head.new.self c.banks.result (c.in_ok-maker.maker, c.in_ok-maker.place) c.banks.ensures.valid c.banks.ensures.value
+    (chosen c.args.book.now c.args.self.now c.renew_head.new.self c.owners.result.now (c.in_ok-maker.maker, c.in_ok-maker.place) c.owners.ensures.valid c.owners.ensures.owners
     c.requires.ready c.renew_head.ensures.renewed c.in_ok-maker.ensures.picked).line
 
 pub returns-clause-steps : goal.returns-clause-steps
@@ -32,7 +32,7 @@ returns-clause-steps g c =
     (taken-leads c.args.book.now walk c.take.new.self (c.in_ok-maker.maker, c.in_ok-maker.place) c.take.result
     (renewed-set c.args.book.now c.args.self.now walk c.requires.ready c.renew_head.ensures.renewed)
     (omega (arith, renewed-left c.args.book.now c.args.self.now walk c.renew_head.ensures.renewed, c.if-self-eq0.false))
-    (chosen c.args.book.now c.args.self.now walk c.banks.result (c.in_ok-maker.maker, c.in_ok-maker.place) c.banks.ensures.valid c.banks.ensures.value
+    (chosen c.args.book.now c.args.self.now walk c.owners.result.now (c.in_ok-maker.maker, c.in_ok-maker.place) c.owners.ensures.valid c.owners.ensures.owners
     c.requires.ready c.renew_head.ensures.renewed c.in_ok-maker.ensures.picked)
     c.take.ensures.taken)
 
@@ -41,6 +41,6 @@ returns-clause-ready g c =
     let walk : Walk = c.renew_head.new.self in
     taken-ready c.args.book.now walk c.take.new.self (c.in_ok-maker.maker, c.in_ok-maker.place) c.take.result
     (renewed-set c.args.book.now c.args.self.now walk c.requires.ready c.renew_head.ensures.renewed)
-    (chosen c.args.book.now c.args.self.now walk c.banks.result (c.in_ok-maker.maker, c.in_ok-maker.place) c.banks.ensures.valid c.banks.ensures.value
+    (chosen c.args.book.now c.args.self.now walk c.owners.result.now (c.in_ok-maker.maker, c.in_ok-maker.place) c.owners.ensures.valid c.owners.ensures.owners
     c.requires.ready c.renew_head.ensures.renewed c.in_ok-maker.ensures.picked)
     c.take.ensures.taken

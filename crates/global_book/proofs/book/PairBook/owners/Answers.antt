@@ -1,0 +1,15 @@
+use Rattle.std.proofs.Common.{ap}
+use Rattle.global_book.specs.Book.{Book}
+use Rattle.global_book.proofs.Finding.{kept_book}
+use Rattle.global_book.proofs.Searching.{owners_are}
+use Rattle.global_book.proofs.book.PairBook.owners.Goals as goal
+
+pub returns-clause-owners : goal.returns-clause-owners
+returns-clause-owners c =
+    owners_are c.self.inside.banks c.self.inside.orders c.self.inside.price_rows c.self.inside.arrival_rows.items c.self.invariant c.args.self.now c.listed.result.now
+    (ap (λ (b : Book). b.orders) c.self.view_is) (ap (λ (b : Book). b.banks) c.self.view_is) c.listed.ensures.value
+
+pub returns-clause-valid : goal.returns-clause-valid
+returns-clause-valid c =
+    kept_book c.self.inside.banks c.self.inside.orders c.self.inside.price_rows c.self.inside.arrival_rows.items c.args.self.now
+    c.self.invariant (ap (λ (b : Book). b.orders) c.self.view_is) (ap (λ (b : Book). b.banks) c.self.view_is)

@@ -1,0 +1,410 @@
+-- The walk from price to price: its best price, what it takes of a bank and of all, and the sweep that its levels are of.
+use Rattle.std.proofs.Common.{ℕ, ◌≡◌, ◌≢◌, ◌+◌, ◌-◌, ◌*◌, ◌/◌, ◌≤◌, ◌<◌, min, Bool, true, false, not, ◌&&◌, if◌then◌else◌, leb, eqb, List, [], ◌∷◌, length, ◌⊎◌, inl, inr, refl, ap, sym, subst, ◌∙◌, arith, Option, Some, None, IfSome, get_or, get_or-set_same, get_or-set_other, slice_index}
+use Rattle.std.proofs.Math.ListN.{set, length-set}
+use Rattle.std.proofs.Math.Nat.{add-mul}
+use Rattle.std.proofs.lemmas.Bool.{cases_Bool, cases_eq, cases_lt, and_parts, and_from, both_ways, false_from_ne_true, eq-eqb, eqb-true, le-leb, lt-ltb, le-ltb, ltb-true, ltb-false, leb-true}
+use Rattle.std.proofs.lemmas.List.{get_or_default}
+use Rattle.std.specs.List.{filter}
+use Rattle.std.specs.Option.{option_map}
+use Rattle.fx_amounts.specs.Quantity.{IsWeight}
+use Rattle.fx_amounts.specs.declared.side.Side.{Side}
+use Rattle.fx_amounts.specs.declared.side.Side.TheVariants.{Buy, Sell}
+use Rattle.fx_rules.specs.declared.orders.Resting.{Resting}
+use Rattle.fx_rules.specs.Lists.{Among, Each, total}
+use Rattle.fx_rules.specs.Sweep.{is_better, is_opposite}
+use Rattle.fx_rules.proofs.ListLemmas.{Each-among, Each-of, filter_cons_false}
+use Rattle.global_book.specs.Book.{Book, IsLevel, IsLevelOf, is_level, is_of, is_worse, is_worse_of, level_lots}
+use Rattle.match_sweep.specs.declared.reached.LevelWalk.{LevelWalk}
+use Rattle.match_sweep.specs.Reaches.{AreTaken, HaveLevels, IsBestPrice, IsLeft, IsPaid, IsTakenOf, TakesOf, better_price, head_of, line_behind, price_of}
+use Rattle.match_sweep.proofs.Tables.{total-changed}
+use Rattle.match_sweep.proofs.Levelling.{level_parts}
+use Rattle.match_sweep.proofs.Planning.{lots_cost}
+use Rattle.match_sweep.proofs.Stepping.{paid_for, pays}
+
+-- Prices.
+
+pub better-self : (taker : Side) (price : ℕ) → is_better taker price price ≡ false
+better-self Buy price = le-ltb price price (omega arith)
+better-self Sell price = le-ltb price price (omega arith)
+
+pub better-trans : (taker : Side) (a b c : ℕ) → is_better taker a b ≡ true → is_better taker b c ≡ true → is_better taker a c ≡ true
+better-trans Buy a b c first second = let f = ltb-true a b first in let s = ltb-true b c second in lt-ltb a c (omega arith)
+better-trans Sell a b c first second = let f = ltb-true b a first in let s = ltb-true c b second in lt-ltb c a (omega arith)
+
+-- of two prices of which the first is not better, the other is better or they are equal
+pub better-or_same : (taker : Side) (a b : ℕ) → is_better taker a b ≡ false → (a ≡ b) ⊎ (is_better taker b a ≡ true)
+better-or_same Buy a b not_better =
+    let most = ltb-false a b not_better in
+    elim (cases_eq a b) [ inl same ↦ inl same | inr differ ↦ inr (lt-ltb b a (omega arith)) ]
+better-or_same Sell a b not_better =
+    let most = ltb-false b a not_better in
+    elim (cases_eq a b) [ inl same ↦ inl same | inr differ ↦ inr (lt-ltb a b (omega arith)) ]
+
+some_equal : (a b : ℕ) → Some a ≡ Some b → a ≡ b
+some_equal a b same = cc
+
+none_differs : {P : Type 0} (a : ℕ) → None ≡ Some a → P
+none_differs a same = cc
+
+-- one bank more
+pub better-on : (walk : LevelWalk) (n : ℕ) (best found : Option ℕ) → price_of walk n ≡ found → IsBestPrice walk n best → IsBestPrice walk (n + 1) (better_price walk.taker best found)
+better-on walk n None None is so_far = λ bank below.
+    elim (cases_eq bank n) [
+      | inl same ↦ ap (price_of walk) same ∙ is
+      | inr differ ↦ so_far bank (omega arith)
+    ]
+better-on walk n None (Some q) is so_far = (
+  (n, omega arith, is),
+  λ bank other below at. elim (cases_eq bank n) [
+    | inl same ↦
+        let it : other ≡ q = some_equal other q (sym at ∙ ap (price_of walk) same ∙ is) in
+        ap (λ p. is_better walk.taker p q) it ∙ better-self walk.taker q
+    | inr differ ↦ none_differs other (sym (so_far bank (omega arith)) ∙ at)
+  ],
+)
+better-on walk n (Some p) None is so_far = (
+  (so_far.0.0, omega (arith, so_far.0.1), so_far.0.2),
+  λ bank other below at. elim (cases_eq bank n) [
+    | inl same ↦ none_differs other (sym is ∙ sym (ap (price_of walk) same) ∙ at)
+    | inr differ ↦ so_far.1 bank other (omega arith) at
+  ],
+)
+better-on walk n (Some p) (Some q) is so_far =
+    elim (cases_Bool (is_better walk.taker q p)) [
+      | inl better ↦
+          subst (IsBestPrice walk (n + 1)) (sym (ap (λ b. if b then Some q else Some p) better)) (
+            (n, omega arith, is),
+            λ bank other below at. elim (cases_eq bank n) [
+              | inl same ↦
+                  let it : other ≡ q = some_equal other q (sym at ∙ ap (price_of walk) same ∙ is) in
+                  ap (λ r. is_better walk.taker r q) it ∙ better-self walk.taker q
+              | inr differ ↦ false_from_ne_true (is_better walk.taker other q) (λ above.
+                  both_ways (is_better walk.taker other p) (so_far.1 bank other (omega arith) at) (better-trans walk.taker other q p above better))
+            ],
+          )
+      | inr not_better ↦
+          subst (IsBestPrice walk (n + 1)) (sym (ap (λ b. if b then Some q else Some p) not_better)) (
+            (so_far.0.0, omega (arith, so_far.0.1), so_far.0.2),
+            λ bank other below at. elim (cases_eq bank n) [
+              | inl same ↦
+                  let it : other ≡ q = some_equal other q (sym at ∙ ap (price_of walk) same ∙ is) in
+                  ap (λ r. is_better walk.taker r p) it ∙ not_better
+              | inr differ ↦ so_far.1 bank other (omega arith) at
+            ],
+          )
+    ]
+
+-- A bank that has nothing at a price.
+
+worse_still : (taker : Side) (past : Option ℕ) (price other : ℕ) → is_worse taker past price ≡ true → is_better taker price other ≡ true → is_worse taker past other ≡ true
+worse_still taker None price other worse better = refl
+worse_still taker (Some past) price other worse better = better-trans taker past price other worse better
+
+none_pass : (test : Resting → Bool) (orders : List Resting) → Each (λ o. test o ≡ false) orders → filter test orders ≡ []
+none_pass test [] none = refl
+none_pass test (order ∷ orders) none = filter_cons_false test order orders none.0 ∙ none_pass test orders none.1
+
+-- what stands behind a price stands behind a better one
+behind_both : (taker : Side) (bank : ℕ) (past : Option ℕ) (price : ℕ) (order : Resting) → is_worse taker past price ≡ true → is_worse_of taker bank (Some price) order ≡ true → is_worse_of taker bank past order ≡ true
+behind_both taker bank past price order worse holds =
+    let two = and_parts (is_of bank order && is_opposite taker order.side) (is_better taker price order.price) holds in
+    and_from (is_of bank order && is_opposite taker order.side) (is_worse taker past order.price) two.0 (worse_still taker past price order.price worse two.1)
+
+-- a bank's head is at a worse price
+abbrev pub IsWorseHead : Side → ℕ → Option (ℕ × ℕ) → Type 0
+IsWorseHead taker price head = IfSome head (λ h. is_better taker price h.0 ≡ true)
+
+not_there : (taker : Side) (bank price : ℕ) (past : Option ℕ) (orders : List Resting) (head : Option (ℕ × ℕ)) (o : Resting) → IsLevelOf taker bank past orders head → IsWorseHead taker price head → Among o orders
+    → is_worse_of taker bank past o ≡ true → o.price ≡ price → ⊥
+not_there taker bank price past orders None o is behind there passes same =
+    both_ways (is_worse_of taker bank past o) (Each-among (λ q. is_worse_of taker bank past q ≡ false) orders o is there) passes
+not_there taker bank price past orders (Some head) o is behind there passes same =
+    both_ways (is_better taker o.price head.0)
+    (Each-among (λ q. is_worse_of taker bank past q ≡ true → is_better taker q.price head.0 ≡ false) orders o is.first there passes)
+    (ap (λ p. is_better taker p head.0) same ∙ behind)
+
+pub no_lots : (taker : Side) (bank price : ℕ) (past : Option ℕ) (orders : List Resting) (head : Option (ℕ × ℕ)) → is_worse taker past price ≡ true → IsLevelOf taker bank past orders head → IsWorseHead taker price head
+    → level_lots taker bank price orders ≡ 0
+no_lots taker bank price past orders head worse is behind =
+    ap (total (λ (o : Resting). o.left)) (none_pass (is_level taker bank price) orders (Each-of (λ o. is_level taker bank price o ≡ false) orders (λ o there.
+    false_from_ne_true (is_level taker bank price o) (λ at.
+    let parts = level_parts taker bank price o at in
+    let two = and_parts (is_of bank o && is_opposite taker o.side) (eqb o.price price) at in
+    let passes : is_worse_of taker bank past o ≡ true
+    = and_from (is_of bank o && is_opposite taker o.side) (is_worse taker past o.price) two.0 (ap (is_worse taker past) parts.price_is ∙ worse) in
+    not_there taker bank price past orders head o is behind there passes parts.price_is))))
+
+pub head_stays : (taker : Side) (bank price : ℕ) (past : Option ℕ) (orders : List Resting) (head : Option (ℕ × ℕ)) → is_worse taker past price ≡ true → IsLevelOf taker bank past orders head → IsWorseHead taker price head
+    → IsLevelOf taker bank (Some price) orders head
+head_stays taker bank price past orders None worse is behind =
+    Each-of (λ o. is_worse_of taker bank (Some price) o ≡ false) orders (λ o there.
+    false_from_ne_true (is_worse_of taker bank (Some price) o) (λ passes.
+    both_ways (is_worse_of taker bank past o) (Each-among (λ q. is_worse_of taker bank past q ≡ false) orders o is there) (behind_both taker bank past price o worse passes)))
+head_stays taker bank price past orders (Some head) worse is behind =
+    let two = and_parts (is_of bank is.order && is_opposite taker is.order.side) (is_worse taker past is.order.price) is.passes in
+    record {
+      order = is.order;
+      there = is.there;
+      passes = and_from (is_of bank is.order && is_opposite taker is.order.side) (is_better taker price is.order.price) two.0 (ap (is_better taker price) is.price ∙ behind);
+      price = is.price;
+      first = Each-of (λ o. is_worse_of taker bank (Some price) o ≡ true → is_better taker o.price head.0 ≡ false) orders (λ o there passes.
+          Each-among (λ q. is_worse_of taker bank past q ≡ true → is_better taker q.price head.0 ≡ false) orders o is.first there (behind_both taker bank past price o worse passes));
+      lots = is.lots;
+    }
+
+-- What is taken of one bank.
+
+nothing_taken : (weight : ℕ) (taker : Side) (price : ℕ) (orders : List Resting) (bank line : ℕ) → min (level_lots taker bank price orders) (line / weight) ≡ 0 → line ≡ line_behind weight taker price orders bank line
+nothing_taken weight taker price orders bank line none =
+    let nothing : min (level_lots taker bank price orders) (line / weight) * weight ≡ 0 = ap (λ n. n * weight) none ∙ (let it : 0 * weight ≡ 0 = omega arith in it) in
+    omega arith
+
+unpaid : (walk : LevelWalk) → IsPaid walk walk 0
+unpaid walk = record { same = refl; long = refl; paid = omega arith }
+
+-- a line that pays for nothing
+pub takes_none-line : (book : Book) (walk : LevelWalk) (bank price : ℕ) → IsWeight walk.weight → slice_index walk.lines bank < walk.weight → TakesOf book walk walk bank price 0
+takes_none-line book walk bank price weighs short =
+    let none : slice_index walk.lines bank / walk.weight < 1
+    = elim (cases_lt (slice_index walk.lines bank / walk.weight) 1) [
+      | inl few ↦ few
+      | inr some ↦ let it = paid_for (slice_index walk.lines bank) walk.weight weighs some in omega arith
+    ] in
+    record {
+      taken = record {
+        line = nothing_taken walk.weight walk.taker price book.orders bank (slice_index walk.lines bank) (omega (arith, none));
+        head = λ reach. absurd (omega (arith, none, reach));
+      };
+      others = λ other _. record { line = refl; head = refl };
+      sum = unpaid walk;
+    }
+
+-- a head at a worse price, or none
+pub takes_none-head : (book : Book) (walk : LevelWalk) (bank price : ℕ) → IsWeight walk.weight → is_worse walk.taker walk.last price ≡ true
+    → (1 ≤ slice_index walk.lines bank / walk.weight → IsLevelOf walk.taker bank walk.last book.orders (head_of walk bank))
+    → (1 ≤ slice_index walk.lines bank / walk.weight → IsWorseHead walk.taker price (head_of walk bank)) → TakesOf book walk walk bank price 0
+takes_none-head book walk bank price weighs worse is behind =
+    let reach : ℕ = slice_index walk.lines bank / walk.weight in
+    record {
+      taken = record {
+        line = nothing_taken walk.weight walk.taker price book.orders bank (slice_index walk.lines bank)
+            (elim (cases_lt reach 1) [
+              | inl none ↦ omega (arith, none)
+              | inr some ↦ omega (arith, no_lots walk.taker bank price walk.last book.orders (head_of walk bank) worse (is some) (behind some))
+            ]);
+        head = λ some. head_stays walk.taker bank price walk.last book.orders (head_of walk bank) worse (is some) (behind some);
+      };
+      others = λ other _. record { line = refl; head = refl };
+      sum = unpaid walk;
+    }
+
+-- the head of a bank with which the line pays is its best price
+pub price_there : (walk : LevelWalk) (bank : ℕ) (head : ℕ × ℕ) → walk.weight ≤ slice_index walk.lines bank → head_of walk bank ≡ Some head → price_of walk bank ≡ Some head.0
+price_there walk bank head pays' is =
+    ap (λ b. if b then option_map (λ (h : ℕ × ℕ). h.0) (head_of walk bank) else None) (le-leb walk.weight (slice_index walk.lines bank) pays')
+    ∙ ap (option_map (λ (h : ℕ × ℕ). h.0)) is
+
+-- and it is worse than the best of all, where it is another
+pub worse_head : (walk : LevelWalk) (bank price : ℕ) (head : ℕ × ℕ) → IsWeight walk.weight → head_of walk bank ≡ Some head → head.0 ≢ price
+    → IfSome (price_of walk bank) (λ other. is_better walk.taker other price ≡ false) → 1 ≤ slice_index walk.lines bank / walk.weight → IsWorseHead walk.taker price (head_of walk bank)
+worse_head walk bank price head weighs is differ best some =
+    let at : price_of walk bank ≡ Some head.0 = price_there walk bank head (paid_for (slice_index walk.lines bank) walk.weight weighs some) is in
+    let not_better : is_better walk.taker head.0 price ≡ false = subst (λ (f : Option ℕ). IfSome f (λ other. is_better walk.taker other price ≡ false)) at best in
+    subst (λ (h : Option (ℕ × ℕ)). IsWorseHead walk.taker price h) (sym is)
+    (elim (better-or_same walk.taker head.0 price not_better) [ inl same ↦ absurd (differ same) | inr worse ↦ worse ])
+
+-- the lots at the price are taken
+pub takes_some : (book : Book) (walk : LevelWalk) (bank at price lots taken : ℕ) (next : Option (ℕ × ℕ)) → IsWeight walk.weight → at ≡ bank → at < length walk.lines → at < length walk.heads
+    → walk.weight ≤ slice_index walk.lines bank → lots ≡ level_lots walk.taker bank price book.orders → taken ≡ min lots (slice_index walk.lines at / walk.weight)
+    → IsLevelOf walk.taker bank (Some price) book.orders next
+    → TakesOf book walk (record walk { lines = set walk.lines at (slice_index walk.lines at - taken * walk.weight); heads = set walk.heads at next }) bank price taken
+takes_some book walk bank at price lots taken next weighs at_is within heads_within pays' lots_are taken_is level =
+    let line : ℕ = slice_index walk.lines at in
+    let rest : ℕ = line - taken * walk.weight in
+    let new : LevelWalk = record walk { lines = set walk.lines at rest; heads = set walk.heads at next } in
+    let few : taken * walk.weight ≤ line = lots_cost taken line walk.weight (omega arith) in
+    subst (λ (b : ℕ). TakesOf book walk new b price taken) at_is (record {
+      taken = record {
+        line = get_or-set_same walk.lines at rest 0 within
+            ∙ ap (λ n. line - n * walk.weight) (taken_is ∙ ap (λ n. min n (line / walk.weight)) (lots_are ∙ ap (λ b. level_lots walk.taker b price book.orders) (sym at_is)));
+        head = λ _. subst (IsLevelOf walk.taker at (Some price) book.orders) (sym (get_or-set_same walk.heads at next None heads_within))
+            (subst (λ (b : ℕ). IsLevelOf walk.taker b (Some price) book.orders next) (sym at_is) level);
+      };
+      others = λ other differ. record {
+        line = get_or-set_other walk.lines at other rest 0 differ;
+        head = get_or-set_other walk.heads at other next None differ;
+      };
+      sum = record { same = refl; long = length-set walk.lines at rest; paid = let changed = total-changed walk.lines at rest within in omega (arith, changed, few) };
+    })
+
+-- what was read of a table at a bank's number
+pub read_at : {X : Type 0} (table : List (Option X)) (at bank : ℕ) (d found : Option X) → at ≡ bank → at < length table → get_or table at d ≡ found → get_or table bank None ≡ found
+read_at table at bank d found at_is within read = ap (λ k. get_or table k None) (sym at_is) ∙ sym (get_or_default table at d None within) ∙ read
+
+pub not_equal : (a b : ℕ) → not (eqb a b) ≡ true → a ≢ b
+not_equal a b differ same = let it : false ≡ true = sym (ap not (eq-eqb a b same)) ∙ differ in cc
+
+pub equal : (a b : ℕ) → not (eqb a b) ≡ false → a ≡ b
+equal a b not_differ =
+    elim (cases_Bool (eqb a b)) [
+      | inl same ↦ eqb-true a b same
+      | inr differ ↦ let it : true ≡ false = sym (ap not differ) ∙ not_differ in cc
+    ]
+
+-- the lots at a head
+pub head_lots : (walk : LevelWalk) (book : Book) (bank price : ℕ) (head : ℕ × ℕ) → head_of walk bank ≡ Some head → head.0 ≡ price → IsLevelOf walk.taker bank walk.last book.orders (head_of walk bank)
+    → head.1 ≡ level_lots walk.taker bank price book.orders
+head_lots walk book bank price head is price_is level =
+    let it : IsLevel walk.taker bank walk.last book.orders head = subst (IsLevelOf walk.taker bank walk.last book.orders) is level in
+    it.lots ∙ ap (λ p. level_lots walk.taker bank p book.orders) price_is
+
+-- What is taken of all banks.
+
+pub record TakenSoFar (book : Book) (old now : LevelWalk) (price number lots : ℕ) : Type 0 where
+  pub taken : (bank : ℕ) → bank < number → IsTakenOf book old now price bank
+  pub left : (bank : ℕ) → number ≤ bank → IsLeft old now bank
+  pub sum : IsPaid old now lots
+
+pub taken-begins : (book : Book) (walk : LevelWalk) (price : ℕ) → TakenSoFar book walk walk price 0 0
+taken-begins book walk price = record {
+  taken = λ bank below. absurd (omega (arith, below));
+  left = λ bank _. record { line = refl; head = refl };
+  sum = unpaid walk;
+}
+
+pub weight_same : (old now : LevelWalk) (lots : ℕ) → IsPaid old now lots → now.weight ≡ old.weight
+weight_same old now lots paid = ap (λ (w : LevelWalk). w.weight) paid.same
+
+pub taker_same : (old now : LevelWalk) (lots : ℕ) → IsPaid old now lots → now.taker ≡ old.taker
+taker_same old now lots paid = ap (λ (w : LevelWalk). w.taker) paid.same
+
+last_same : (old now : LevelWalk) (lots : ℕ) → IsPaid old now lots → now.last ≡ old.last
+last_same old now lots paid = ap (λ (w : LevelWalk). w.last) paid.same
+
+paid_both : (old now new : LevelWalk) (lots more : ℕ) → IsPaid old now lots → IsPaid now new more → IsPaid old new (lots + more)
+paid_both old now new lots more first second = record {
+  same = second.same ∙ ap (λ (w : LevelWalk). record w { lines = new.lines; heads = new.heads }) first.same;
+  long = second.long ∙ first.long;
+  paid = let weigh = weight_same old now lots first in
+      let here : more * old.weight + total (λ (n : ℕ). n) new.lines ≡ total (λ (n : ℕ). n) now.lines = ap (λ w. more * w + total (λ (n : ℕ). n) new.lines) (sym weigh) ∙ second.paid in
+      omega (arith, here, first.paid, add-mul lots more old.weight);
+}
+
+-- what is taken of a bank that was left so far
+taken_here : (book : Book) (old now new : LevelWalk) (price bank lots : ℕ) → IsPaid old now lots → IsLeft old now bank → IsTakenOf book now new price bank → IsTakenOf book old new price bank
+taken_here book old now new price bank lots paid left taken = record {
+  line = taken.line
+      ∙ ap (λ w. line_behind w now.taker price book.orders bank (slice_index now.lines bank)) (weight_same old now lots paid)
+      ∙ ap (λ s. line_behind old.weight s price book.orders bank (slice_index now.lines bank)) (taker_same old now lots paid)
+      ∙ ap (line_behind old.weight old.taker price book.orders bank) left.line;
+  head = λ reach. subst (λ (s : Side). IsLevelOf s bank (Some price) book.orders (head_of new bank)) (taker_same old now lots paid)
+      (taken.head (subst (λ (w : ℕ). 1 ≤ slice_index new.lines bank / w) (sym (weight_same old now lots paid)) reach));
+}
+
+-- a bank whose lots were taken stays so
+taken_still : (book : Book) (old now new : LevelWalk) (price bank : ℕ) → IsTakenOf book old now price bank → IsLeft now new bank → IsTakenOf book old new price bank
+taken_still book old now new price bank taken left = record {
+  line = left.line ∙ taken.line;
+  head = λ reach. subst (IsLevelOf old.taker bank (Some price) book.orders) (sym left.head) (taken.head (subst (λ (l : ℕ). 1 ≤ l / old.weight) left.line reach));
+}
+
+pub taken-on : (book : Book) (old now new : LevelWalk) (price number lots more : ℕ) → TakenSoFar book old now price number lots → TakesOf book now new number price more → TakenSoFar book old new price (number + 1) (lots + more)
+taken-on book old now new price number lots more so_far takes = record {
+  taken = λ bank below. elim (cases_eq bank number) [
+    | inl same ↦ subst (IsTakenOf book old new price) (sym same) (taken_here book old now new price number lots so_far.sum (so_far.left number (omega arith)) takes.taken)
+    | inr differ ↦ taken_still book old now new price bank (so_far.taken bank (omega arith)) (takes.others bank differ)
+  ];
+  left = λ bank above.
+      let was = so_far.left bank (omega arith) in
+      let now_is = takes.others bank (λ same. omega (arith, same, above)) in
+      record { line = now_is.line ∙ was.line; head = now_is.head ∙ was.head };
+  sum = paid_both old now new lots more so_far.sum takes.sum;
+}
+
+pub taken-whole : (book : Book) (old now : LevelWalk) (price lots : ℕ) → TakenSoFar book old now price 64 lots → AreTaken book old now price lots
+taken-whole book old now price lots so_far = record { taken = so_far.taken; sum = so_far.sum }
+
+-- what the next bank is asked with
+pub head_left : (book : Book) (old now : LevelWalk) (price number lots : ℕ) → number < 64 → TakenSoFar book old now price number lots → HaveLevels book old
+    → 1 ≤ slice_index now.lines number / now.weight → IsLevelOf now.taker number now.last book.orders (head_of now number)
+head_left book old now price number lots below so_far have reach =
+    let left = so_far.left number (omega arith) in
+    let reach' : 1 ≤ slice_index old.lines number / old.weight
+    = subst (λ (w : ℕ). 1 ≤ slice_index old.lines number / w) (weight_same old now lots so_far.sum) (subst (λ (l : ℕ). 1 ≤ l / now.weight) left.line reach) in
+    subst (λ (s : Side). IsLevelOf s number now.last book.orders (head_of now number)) (sym (taker_same old now lots so_far.sum))
+    (subst (λ (p : Option ℕ). IsLevelOf old.taker number p book.orders (head_of now number)) (sym (last_same old now lots so_far.sum))
+    (subst (IsLevelOf old.taker number old.last book.orders) (sym left.head) (have number below reach')))
+
+price_left : (old now : LevelWalk) (number lots : ℕ) → IsPaid old now lots → IsLeft old now number → price_of now number ≡ price_of old number
+price_left old now number lots paid left =
+    ap (λ w. if leb w (slice_index now.lines number) then option_map (λ (h : ℕ × ℕ). h.0) (head_of now number) else None) (weight_same old now lots paid)
+    ∙ ap (λ l. if leb old.weight l then option_map (λ (h : ℕ × ℕ). h.0) (head_of now number) else None) left.line
+    ∙ ap (λ (h : Option (ℕ × ℕ)). if leb old.weight (slice_index old.lines number) then option_map (λ (h : ℕ × ℕ). h.0) h else None) left.head
+
+if_some : (found : Option ℕ) (P : ℕ → Type 0) → ((other : ℕ) → found ≡ Some other → P other) → IfSome found P
+if_some None P holds = tt
+if_some (Some other) P holds = holds other refl
+
+pub best_left : (book : Book) (old now : LevelWalk) (price number lots : ℕ) → number < 64 → TakenSoFar book old now price number lots → IsBestPrice old 64 (Some price)
+    → IfSome (price_of now number) (λ other. is_better now.taker other price ≡ false)
+best_left book old now price number lots below so_far best =
+    if_some (price_of now number) (λ other. is_better now.taker other price ≡ false) (λ other is.
+    ap (λ s. is_better s other price) (taker_same old now lots so_far.sum)
+    ∙ best.1 number other below (sym (price_left old now number lots so_far.sum (so_far.left number (omega arith))) ∙ is))
+
+-- The best price is that of a level.
+
+pub record HasPrice (walk : LevelWalk) (bank price : ℕ) : Type 0 where
+  pub pays : walk.weight ≤ slice_index walk.lines bank
+  pub head : ℕ × ℕ
+  pub is : head_of walk bank ≡ Some head
+  pub price_is : head.0 ≡ price
+
+pub has_price : (walk : LevelWalk) (bank price : ℕ) → price_of walk bank ≡ Some price → HasPrice walk bank price
+has_price walk bank price at =
+    elim (cases_Bool (leb walk.weight (slice_index walk.lines bank))) [
+      | inl pays' ↦
+          let headed : option_map (λ (h : ℕ × ℕ). h.0) (head_of walk bank) ≡ Some price
+          = sym (ap (λ b. if b then option_map (λ (h : ℕ × ℕ). h.0) (head_of walk bank) else None) pays') ∙ at in
+          let answer : (found : Option (ℕ × ℕ)) → head_of walk bank ≡ found → option_map (λ (h : ℕ × ℕ). h.0) found ≡ Some price → HasPrice walk bank price = λ found.
+          elim found as (λ (f : Option (ℕ × ℕ)). head_of walk bank ≡ f → option_map (λ (h : ℕ × ℕ). h.0) f ≡ Some price → HasPrice walk bank price) [
+            | None ↦ λ _ none. none_differs price none
+            | Some head ↦ λ is some. record { pays = leb-true walk.weight (slice_index walk.lines bank) pays'; head = head; is = is; price_is = some_equal head.0 price some }
+          ] in
+          answer (head_of walk bank) refl headed
+      | inr short ↦ none_differs price (sym (ap (λ b. if b then option_map (λ (h : ℕ × ℕ). h.0) (head_of walk bank) else None) short) ∙ at)
+    ]
+
+-- the level of a bank with the best price
+pub record HasLevel (book : Book) (walk : LevelWalk) (price : ℕ) : Type 0 where
+  pub bank : ℕ
+  pub reach : 1 ≤ slice_index walk.lines bank / walk.weight
+  pub lots : ℕ
+  pub level : IsLevel walk.taker bank walk.last book.orders (price, lots)
+
+pub best_level : (book : Book) (walk : LevelWalk) (price : ℕ) → IsWeight walk.weight → HaveLevels book walk → IsBestPrice walk 64 (Some price) → HasLevel book walk price
+best_level book walk price weighs have best =
+    let bank : ℕ = best.0.0 in
+    let has = has_price walk bank price best.0.2 in
+    let reach : 1 ≤ slice_index walk.lines bank / walk.weight = pays (slice_index walk.lines bank) walk.weight weighs has.pays in
+    record {
+      bank = bank;
+      reach = reach;
+      lots = has.head.1;
+      level = subst (λ p. IsLevel walk.taker bank walk.last book.orders (p, has.head.1)) has.price_is
+          (subst (IsLevelOf walk.taker bank walk.last book.orders) has.is (have bank best.0.1 reach));
+    }
+
+pub best_worse : (book : Book) (walk : LevelWalk) (price : ℕ) → IsWeight walk.weight → HaveLevels book walk → IsBestPrice walk 64 (Some price) → is_worse walk.taker walk.last price ≡ true
+best_worse book walk price weighs have best =
+    let has = best_level book walk price weighs have best in
+    let order : Resting = has.level.order in
+    ap (is_worse walk.taker walk.last) (sym has.level.price)
+    ∙ (and_parts (is_of has.bank order && is_opposite walk.taker order.side) (is_worse walk.taker walk.last order.price) has.level.passes).1
+
+-- the heads behind the level that was taken
+pub levels_behind : (book : Book) (old taken new : LevelWalk) (price lots : ℕ) → AreTaken book old taken price lots → new ≡ record taken { last = Some price } → HaveLevels book new
+levels_behind book old taken new price lots all is =
+    subst (HaveLevels book) (sym is) (λ bank below reach.
+    subst (λ (s : Side). IsLevelOf s bank (Some price) book.orders (head_of taken bank)) (sym (taker_same old taken lots all.sum))
+    ((all.taken bank below).head (subst (λ (w : ℕ). 1 ≤ slice_index taken.lines bank / w) (weight_same old taken lots all.sum) reach)))

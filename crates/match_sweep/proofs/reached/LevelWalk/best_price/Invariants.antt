@@ -1,0 +1,6 @@
+use Rattle.match_sweep.specs.Reaches.{IsBestPrice}
+use Rattle.match_sweep.proofs.reached.LevelWalk.best_price.Given as goal
+
+-- the best of the banks that were passed
+abbrev pub invariant-loop-number : goal.invariant-loop-number
+invariant-loop-number l = IsBestPrice l.self l.number l.best

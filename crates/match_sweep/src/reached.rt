@@ -1,0 +1,233 @@
+ghost use Rattle.std.specs.Prelude.{ℕ, ◌≡◌, ◌≤◌, ◌<◌, ◌*◌, ◌/◌, ◌^◌, true, false, Some, None, slice_index, slice_index_or, IfOk, IfSome};
+ghost use Rattle.fx_amounts.specs.Quantity.{IsWeight};
+ghost use Rattle.fx_rules.specs.Lists.{total};
+ghost use Rattle.fx_rules.specs.Sweep.{is_better};
+ghost use Rattle.global_book.specs.Book.{IsLevelOf, is_worse};
+ghost use Rattle.match_sweep.specs.Reaches.{AreTaken, BeginsAt, HaveLevels, IsBestPrice, IsReached, TakesLevel, TakesOf, better_price, price_of};
+
+use crate::heads::is_better;
+use crate::walk::lines_of;
+use credit_lines::CreditLines;
+use fx_amounts::{BankId, Memory, Price, Side};
+use fx_rules::{Level, LevelList, SHOWN_LEVELS};
+use global_book::PairBook;
+use price_levels::Steps;
+use std::alloc::Global;
+use std::sync::ledger::Ledger;
+
+/// The first ten levels of what a bank reaches with an order of this side, at any price and for as many lots as there are, by
+/// its lines, where a lot costs `weight` credit units, 1 to 10^6. It walks from price to price over what each bank has at
+/// it, and not from order to order. It changes nothing but the counter of its steps. The book was made for as many banks as
+/// the lines have, and the bank is one of them. At `Memory` there was none for the levels.
+pub fn levels_in_reach<L: Ledger>(
+    alloc: Global,
+    book: &PairBook,
+    lines: &CreditLines,
+    weight: u32,
+    bank: BankId,
+    side: Side,
+    steps: &mut Steps<L>,
+) -> Result<LevelList, Memory>
+    requires banks { book.now.banks ≡ lines.now.banks }
+    requires bank { bank < lines.now.banks }
+    requires weight { IsWeight weight }
+    ensures levels { IfOk result (IsReached book.now lines.now weight bank side) }
+{
+    let mut walk = LevelWalk::new(book, lines, weight, bank, side, steps);
+    let mut levels = Vec::new(alloc);
+    while levels.len() < SHOWN_LEVELS {
+        let Some(level) = walk.next_level(book, steps) else {
+            break;
+        };
+        levels.push(level)?;
+    }
+    Ok(LevelList::from_vec(levels))
+}
+
+/// A walk from price to price over what a bank can reach. It changes no book.
+#[derive(Drop)]
+pub(crate) struct LevelWalk {
+    /// The side of the orders that would take.
+    taker: Side,
+    /// What a lot costs, in credit units.
+    weight: u32,
+    /// What is left of the lines with each bank, in credit units; nothing with the bank's own.
+    lines: [u64; 64],
+    /// Of each bank with which the line pays for a lot, its best price behind the last level, with its lots there.
+    heads: [Option<(Price, u128)>; 64],
+    /// The price of the last level, where there is one.
+    last: Option<Price>,
+}
+
+impl LevelWalk {
+    /// Before its first level, by the lines of a bank, where a lot costs `weight` credit units.
+    fn new<L: Ledger>(
+        book: &PairBook,
+        lines: &CreditLines,
+        weight: u32,
+        bank: BankId,
+        taker: Side,
+        steps: &mut Steps<L>,
+    ) -> LevelWalk
+        requires banks { book.now.banks ≡ lines.now.banks }
+        requires bank { bank < lines.now.banks }
+        requires weight { IsWeight weight }
+        ensures begins { BeginsAt book.now lines.now weight bank taker result }
+    {
+        let lines = lines_of(book.banks(), lines, bank);
+        LevelWalk {
+            taker,
+            weight,
+            lines,
+            heads: first_of_each(book, taker, &lines, weight, steps),
+            last: None,
+        }
+    }
+
+    /// The next level; `None` where nothing more can be reached.
+    fn next_level<L: Ledger>(&mut self, book: &PairBook, steps: &mut Steps<L>) -> Option<Level>
+        requires weight { IsWeight self.old.weight }
+        requires most { total (λ line. line) self.old.lines ≤ 64 * 10 ^ 15 }
+        requires heads { HaveLevels book.now self.old }
+        ensures level { TakesLevel book.now self.old self.new result }
+    {
+        let price = self.best_price()?;
+        let lots = self.take_all(book, price, steps);
+        self.last = Some(price);
+        Some(Level { price, lots })
+    }
+
+    /// The price of the head of the bank of this number, where the line with it pays for a lot.
+    fn price_at(&self, number: usize) -> Option<Price>
+        requires { number < 64 }
+        ensures price { result ≡ price_of self.now number }
+    {
+        let (price, _) = self.heads[number]?;
+        if self.lines[number] < u64::from(self.weight) {
+            return None;
+        }
+        Some(price)
+    }
+
+    /// The best price of the heads of banks with which the line pays for a lot.
+    fn best_price(&self) -> Option<Price>
+        ensures best { IsBestPrice self.now 64 result }
+    {
+        let mut best = None;
+        for number in 0..64 {
+            best = better_price(self.taker, best, self.price_at(number));
+        }
+        best
+    }
+
+    /// Takes of each bank what the line with it pays for of its lots at the best price; how many they are in all.
+    fn take_all<L: Ledger>(&mut self, book: &PairBook, price: Price, steps: &mut Steps<L>) -> u64
+        requires weight { IsWeight self.old.weight }
+        requires most { total (λ line. line) self.old.lines ≤ 64 * 10 ^ 15 }
+        requires heads { HaveLevels book.now self.old }
+        requires best { IsBestPrice self.old 64 (Some price) }
+        ensures taken { AreTaken book.now self.old self.new price result }
+    {
+        let mut lots = 0;
+        for number in 0..64u8 {
+            lots += self.take_of(book, number, price, steps);
+        }
+        lots
+    }
+
+    /// The same of the bank of this number.
+    fn take_of<L: Ledger>(
+        &mut self,
+        book: &PairBook,
+        number: u8,
+        price: Price,
+        steps: &mut Steps<L>,
+    ) -> u64
+        requires number { number < 64 }
+        requires weight { IsWeight self.old.weight }
+        requires head { 1 ≤ slice_index self.old.lines number / self.old.weight → IsLevelOf self.old.taker number self.old.last book.now.orders (slice_index_or self.old.heads number None) }
+        requires worse { is_worse self.old.taker self.old.last price ≡ true }
+        requires best { IfSome (price_of self.old number) (λ other. is_better self.old.taker other price ≡ false) }
+        ensures taken { TakesOf book.now self.old self.new number price result }
+    {
+        let at = usize::from(number);
+        let Some(bank) = BankId::new(number) else {
+            return 0;
+        };
+        let Some((head, lots)) = self.heads[at] else {
+            return 0;
+        };
+        let weight = u64::from(self.weight);
+        let line = self.lines[at];
+        if head != price || line < weight {
+            return 0;
+        }
+        let taken = lots.min(u128::from(line / weight)) as u64;
+        self.lines[at] = line - taken * weight;
+        self.heads[at] = level_behind(book, self.taker, bank, Some(price), steps);
+        taken
+    }
+}
+
+/// The better of two prices for a taker of a side, where there are any.
+fn better_price(taker: Side, price: Option<Price>, other: Option<Price>) -> Option<Price>
+    ensures { result ≡ better_price taker price other }
+{
+    match (price, other) {
+        (Some(price), Some(other)) if !is_better(taker, other, price) => Some(price),
+        (price, None) => price,
+        (_, other) => other,
+    }
+}
+
+/// The best price of a bank that is worse than `past`, where there is one, for a taker of a side, and the bank's lots there.
+fn level_behind<L: Ledger>(
+    book: &PairBook,
+    taker: Side,
+    bank: BankId,
+    past: Option<Price>,
+    steps: &mut Steps<L>,
+) -> Option<(Price, u128)>
+    ensures level { IsLevelOf taker bank past book.now.orders result }
+{
+    book.next_level(bank, taker.opposite(), past, steps)
+}
+
+/// The first level of the bank of this number, where a line of `line` credit units pays for a lot.
+fn first_level<L: Ledger>(
+    book: &PairBook,
+    taker: Side,
+    line: u64,
+    weight: u32,
+    number: u8,
+    steps: &mut Steps<L>,
+) -> Option<(Price, u128)>
+    requires number { number < 64 }
+    requires weight { IsWeight weight }
+    ensures level { 1 ≤ line / weight → IsLevelOf taker number None book.now.orders result }
+{
+    let bank = BankId::new(number)?;
+    if line < u64::from(weight) {
+        return None;
+    }
+    level_behind(book, taker, bank, None, steps)
+}
+
+/// The first levels of all banks with which the line pays for a lot.
+fn first_of_each<L: Ledger>(
+    book: &PairBook,
+    taker: Side,
+    lines: &[u64; 64],
+    weight: u32,
+    steps: &mut Steps<L>,
+) -> [Option<(Price, u128)>; 64]
+    requires weight { IsWeight weight }
+    ensures levels { (bank : ℕ) → bank < 64 → 1 ≤ slice_index lines.now bank / weight → IsLevelOf taker bank None book.now.orders (slice_index_or result bank None) }
+{
+    let mut heads = [None; 64];
+    for number in 0..64u8 {
+        let at = usize::from(number);
+        heads[at] = first_level(book, taker, lines[at], weight, number, steps);
+    }
+    heads
+}
