@@ -1,5 +1,5 @@
 -- An entry that goes behind the history: it is legal, the credit book stands for the state after it, and its keys sign it.
-use Rattle.std.proofs.Common.{ℕ, ◌≡◌, ◌≢◌, ◌+◌, ◌-◌, ◌<◌, ◌^◌, true, false, List, [], ◌∷◌, ◌++◌, length, get_or, refl, ap, sym, subst, ◌∙◌, arith}
+use Rattle.std.proofs.Common.{ℕ, ◌≡◌, ◌+◌, ◌-◌, ◌<◌, ◌^◌, true, false, List, [], ◌∷◌, ◌++◌, length, get_or, refl, ap, sym, subst, ◌∙◌, arith}
 use mathlib.Core.List.{IsPrefix}
 use Rattle.fx_rules.specs.declared.command.Command.{Command}
 use Rattle.fx_rules.specs.declared.command.Command.TheVariants.{Order, Cancel, Reduce, Pull, Line, Show, Book, Bad}
@@ -8,7 +8,7 @@ use Rattle.fx_rules.specs.declared.outcome.Entry.{Entry}
 use Rattle.fx_rules.specs.Session.{Header, sender_count}
 use Rattle.fx_rules.specs.State.{count_of}
 use Rattle.fx_rules.specs.Step.{IsCommand, IsOutcome}
-use Rattle.fx_rules.specs.History.{IsLegal, state, own, after_entry}
+use Rattle.fx_rules.specs.History.{IsLegal, state, own}
 use Rattle.fx_rules.specs.Keyed.{is_about, touches_key}
 use Rattle.fx_rules.proofs.Soundness.{legal-sound, legal-push, after_all-push}
 use Rattle.fx_rules.proofs.Counting.{counts-own}
@@ -22,7 +22,7 @@ use Rattle.fx_desk.specs.Submitting.{next_own}
 use Rattle.pair_steps.specs.declared.sender.Sender.{Sender}
 use Rattle.pair_steps.specs.Sending.{IsNextIn}
 use Rattle.pair_steps.specs.Carries.{entry_of}
-use Rattle.credit_table.specs.Table.{Table, Stands, IsNextOf, FollowsOn, AnswersEach, is_of_no_pair}
+use Rattle.credit_table.specs.Table.{Table, IsNextOf, FollowsOn, AnswersEach, is_of_no_pair}
 use Rattle.credit_book.specs.Recorded.{Recorded, IsCreditBook, key_count, committed, recorded, signed_by}
 use Rattle.credit_book.specs.Serving.{IsServed}
 

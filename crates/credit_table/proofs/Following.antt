@@ -1,12 +1,10 @@
 -- What an entry does to the table.
-use Rattle.std.proofs.Common.{ℕ, zero, suc, ◌≡◌, ◌≢◌, ◌+◌, ◌-◌, ◌*◌, ◌<◌, ◌≤◌, ◌^◌, List, [], ◌∷◌, length, get_or, set, replicate, refl, ap, sym, subst, ◌∙◌, arith}
+use Rattle.std.proofs.Common.{ℕ, zero, suc, ◌≡◌, ◌+◌, ◌-◌, ◌*◌, ◌<◌, ◌≤◌, ◌^◌, List, [], ◌∷◌, length, get_or, set, replicate, refl, ap, sym, subst, ◌∙◌, arith}
 use Rattle.std.proofs.lemmas.List.{length-set, length-replicate}
 use Rattle.fx_rules.specs.declared.outcome.Entry.{Entry}
 use Rattle.fx_rules.specs.Lists.{Each, total}
-use Rattle.fx_rules.specs.Session.{Header, IsSession, bank_count, sender_count}
-use Rattle.fx_rules.specs.State.{State}
-use Rattle.fx_rules.specs.History.{IsStep, after_entry}
-use Rattle.fx_rules.specs.Sound.{IsSound}
+use Rattle.fx_rules.specs.Session.{Header, IsSession, bank_count}
+use Rattle.fx_rules.specs.History.{after_entry}
 use Rattle.fx_rules.proofs.Staying.{changed-counts}
 use Rattle.credit_lines.specs.Credit.{Credit, opened}
 use Rattle.credit_lines.specs.Market as lines
@@ -22,16 +20,6 @@ lines_next table entry session next =
       stands = next.stands.lines;
       step = next.step;
     })
-
--- its sender is one of the session, whose count can rise
-pub next_sends : (table : Table) (entry : Entry) → IsNextOf table entry → (entry.bank < sender_count table.session) × (get_or table.counts entry.bank 0 < 2 ^ 32 - 1)
-next_sends table entry next = (
-  subst (λ (h : Header). entry.bank < sender_count h) (sym next.stands.session) next.step.sender,
-  few (ap (λ (counts : List ℕ). get_or counts entry.bank 0) next.stands.counts),
-)
-  where
-    few : get_or table.counts entry.bank 0 ≡ get_or next.before.counts entry.bank 0 → get_or table.counts entry.bank 0 < 2 ^ 32 - 1
-    few same = omega (arith, same, next.step.number, next.step.number_most)
 
 -- the table with the lines that an entry leaves and one more command of its bank
 pub follows : (old inside new : Table) (entry : Entry) (credit : Credit) → inside ≡ old → new ≡ record { session = inside.session; lines = credit; counts = set inside.counts entry.bank (get_or inside.counts entry.bank 0 + 1) } → lines.FollowsOn inside.session inside.lines credit entry → FollowsOn old new entry

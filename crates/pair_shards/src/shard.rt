@@ -1,5 +1,5 @@
 ghost use Rattle.std.specs.Prelude.{◌≡◌, ◌<◌, ◌+◌, ◌-◌, ◌^◌, ◌++◌, [], ◌∷◌, true, Some, length, IfOk, OnOk, OnErr};
-ghost use Rattle.fx_rules.specs.Session.{bank_count, pair_count, sender_count};
+ghost use Rattle.fx_rules.specs.Session.{pair_count, sender_count};
 ghost use Rattle.fx_rules.specs.Keyed.{pair_key};
 ghost use Rattle.fx_rules.specs.Step.{IsCommand, IsOutcome};
 ghost use Rattle.fx_rules.specs.History.{own, state};

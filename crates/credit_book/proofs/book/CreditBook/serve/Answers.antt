@@ -1,7 +1,6 @@
-use Rattle.std.proofs.Common.{◌≡◌, List, ◌∷◌, ◌++◌, [], ap, sym, subst, ◌∙◌}
+use Rattle.std.proofs.Common.{ap, sym, subst, ◌∙◌}
 use Rattle.fx_rules.specs.declared.outcome.Entry.{Entry}
-use Rattle.fx_rules.specs.History.{IsLegal, state}
-use Rattle.fx_rules.specs.Step.{IsOutcome}
+use Rattle.fx_rules.specs.History.{IsLegal}
 use Rattle.fx_chronicle.specs.Faces.{Witness}
 use Rattle.credit_book.specs.Recorded.{Recorded}
 use Rattle.credit_book.proofs.Entering.{answered, served, signed_alone, entries_after, legal_after}

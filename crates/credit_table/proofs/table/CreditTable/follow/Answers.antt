@@ -1,6 +1,6 @@
 use Rattle.std.proofs.Common.{sym, subst}
 use Rattle.credit_table.specs.Table.{Table, IsNextOf}
-use Rattle.credit_table.proofs.Following.{lines_next, next_sends, follows}
+use Rattle.credit_table.proofs.Following.{lines_next, follows}
 use Rattle.credit_table.proofs.table.CreditTable.follow.Goals as goal
 
 pub follow-requires : goal.follow-requires
