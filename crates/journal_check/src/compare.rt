@@ -1,13 +1,13 @@
 ghost use Rattle.std.specs.Prelude.{◌≡◌, ◌≢◌, ◌≤◌, ◌<◌, length, take, slice_get, Some, None, IfOk};
-ghost use Rattle.flat_host.specs.Steps.{stands};
 ghost use Rattle.fx_rules.specs.History.{IsLegal, state};
 ghost use Rattle.journal_check.specs.Comparing.{told};
 ghost use Rattle.journal_check.specs.Stops.{IsComparedWith, end_of};
+ghost use Rattle.pair_host.specs.Standing.{stands};
 
 use crate::stop::Stop;
-use flat_host::FlatHost;
 use fx_edges::{Sink, SinkFault};
 use fx_rules::{Entry, Session};
+use pair_host::PairHost;
 use reply_lines::{OutFault, write_day_from};
 use std::alloc::Global;
 use std::marker::Model;
@@ -105,7 +105,7 @@ pub(crate) fn compare_day(
     text: &[u8],
     session: &Session,
     entries: &[Entry],
-    market: &FlatHost,
+    market: &PairHost,
 ) -> Result<usize, Stop>
     requires legal { IsLegal session.now entries.now }
     requires market { stands market.now session.now (state session.now entries.now) }

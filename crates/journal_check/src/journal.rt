@@ -1,6 +1,6 @@
 ghost use Rattle.std.specs.Prelude.{◌≡◌, ◌≤◌, ◌^◌, length, map, [], IfOk, IfSome};
-ghost use Rattle.flat_host.specs.Steps.{stands};
 ghost use Rattle.market_run.specs.Running.{HasRun};
+ghost use Rattle.pair_host.specs.Standing.{stands};
 ghost use Rattle.journal_check.specs.Lines.{lines_from};
 ghost use Rattle.journal_check.specs.Listed.{count_of, count_told, commands_in, most_entries};
 ghost use Rattle.journal_check.specs.Stops.{Answers, AnswersBy};
@@ -8,11 +8,11 @@ ghost use Rattle.fx_rules.specs.Sending.{sent_by};
 
 use crate::line::read_line;
 use crate::stop::Stop;
-use flat_host::FlatHost;
 use fx_rules::{Sent, Session};
 use fx_text::{Line, fields, number};
 use market_run::Run;
 use order_lines::journal_from;
+use pair_host::PairHost;
 use std::alloc::Global;
 
 /// The most entries of a history whose output can be checked.
@@ -68,7 +68,7 @@ pub(crate) fn read_entries(
     session: &Session,
     text: &[u8],
     counted: &Counted,
-) -> Result<Run<FlatHost>, Stop>
+) -> Result<Run<PairHost>, Stop>
     requires within { counted.now.next ≤ length text.now }
     requires few { counted.now.entries ≤ 2 ^ 28 }
     ensures answers { AnswersBy (λ run. map sent_by run.entries) result
@@ -77,7 +77,7 @@ pub(crate) fn read_entries(
 {
     // A legal history rests on a valid session, as each is.
     let _banks = session.banks();
-    let mut run = Run::new(alloc, FlatHost::open(alloc, session)?);
+    let mut run = Run::new(alloc, PairHost::open(alloc, session)?);
     let mut at = counted.next;
     for _entry in 0..counted.entries {
         let read = match read_line(alloc, text, at) {

@@ -10,7 +10,7 @@ use made_session::load_session;
 use std::sync::Wait;
 use std::thread::Threads;
 
-/// Makes a session and its commands from a number, runs them in the order in which they were made on one plain host, runs
+/// Makes a session and its commands from a number, runs them in the order in which they were made on one host over the pair books, runs
 /// each bank's in its order in at most `workers` threads (1 or more), and checks the output of the second run. The answer
 /// is three lines on it, which the first four numbers determine: 2 to 64 banks, 1 to 32 pairs, 1 to 20,000 commands. It may
 /// wait.

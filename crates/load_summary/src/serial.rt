@@ -31,7 +31,7 @@ impl SerialTotals {
     }
 }
 
-/// Runs commands in order on one plain host, and says what they came to.
+/// Runs commands in order on one host over the pair books, and says what they came to.
 pub(crate) fn serial_totals(
     alloc: Global,
     session: &Session,

@@ -1,4 +1,4 @@
-//! A session's commands run in order, by one plain host.
+//! A session's commands run in order, by one host over the pair books.
 #![tactic(auto)]
 
 mod run;

@@ -1,21 +1,21 @@
 ghost use Rattle.std.specs.Prelude.{◌≡◌, ◌<◌, ◌^◌, IfOk, length, map};
 ghost use Rattle.fx_rules.specs.Lists.{Each};
 ghost use Rattle.fx_rules.specs.Sending.{IsSentOf, sent_by};
-ghost use Rattle.flat_host.specs.Steps.{stands};
 ghost use Rattle.market_run.specs.Running.{HasRun};
+ghost use Rattle.pair_host.specs.Standing.{stands};
 
-use flat_host::FlatHost;
 use fx_amounts::Memory;
 use fx_rules::{Sent, Session};
 use market_run::Run;
+use pair_host::PairHost;
 use std::alloc::Global;
 
-/// The run of a session's commands, fewer than 2^32, which one plain host serves one after another.
+/// The run of a session's commands, fewer than 2^32, which one host over the pair books serves one after another.
 pub fn run_in_order(
     alloc: Global,
     session: &Session,
     sent: &[Sent],
-) -> Result<Run<FlatHost>, Memory>
+) -> Result<Run<PairHost>, Memory>
     requires valid { Each (IsSentOf session.now) sent.now }
     requires few { length sent.now < 2 ^ 32 }
     ensures run { IfOk result (HasRun stands session.now) }
@@ -23,7 +23,7 @@ pub fn run_in_order(
 {
     // A legal history rests on a valid session, as each is.
     let _banks = session.banks();
-    let host = FlatHost::open(alloc, session)?;
+    let host = PairHost::open(alloc, session)?;
     let mut run = Run::new(alloc, host);
     run.serve_all(sent)?;
     Ok(run)

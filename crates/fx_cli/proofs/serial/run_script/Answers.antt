@@ -2,7 +2,7 @@
 use Rattle.std.proofs.Common.{rules, ◌≡◌, map, sym, subst, arith}
 use Rattle.fx_rules.specs.History.{IsLegal}
 use Rattle.fx_rules.specs.Sending.{sent_by}
-use Rattle.flat_host.specs.Steps.{stands}
+use Rattle.pair_host.specs.Standing.{stands}
 use Rattle.journal_check.proofs.AtTheEnd.{at_the_end}
 use Rattle.fx_cli.specs.Headline.{IsSerial}
 use Rattle.fx_cli.specs.Run.{RanScript}

@@ -1,7 +1,6 @@
 use Rattle.std.proofs.Common.{List, map, subst, Ok, Err}
 use Rattle.fx_rules.specs.declared.outcome.Entry.{Entry}
-use Rattle.flat_host.specs.FlatState.{FlatState}
-use Rattle.flat_host.specs.Steps.{stands}
+use Rattle.pair_host.specs.Standing.{HostState, stands}
 use Rattle.market_run.specs.Ran.{Ran}
 use Rattle.journal_check.proofs.AtTheEnd.{at_the_end}
 use Rattle.journal_check.specs.Stops.{IsComparedWith}
@@ -21,7 +20,7 @@ returns-in_err-counted c =
 pub returns-in_err-run : goal.returns-in_err-run
 returns-in_err-run c =
     let p = err_from_is_err_and c.from_residual-in_err-run.result c.from_residual-in_err-run.ensures.1 in
-    rw (p.1, p.2) (judged_commands {A = Ran FlatState} (λ (run : Ran FlatState). map sent_by run.entries) c.args.text.now c.in_ok-headed.headed c.in_ok-counted.counted c.in_err-run.field-0.0 c.in_ok-headed.ensures.answers c.in_ok-counted.ensures.answers c.in_err-run.ensures.answers)
+    rw (p.1, p.2) (judged_commands {A = Ran HostState} (λ (run : Ran HostState). map sent_by run.entries) c.args.text.now c.in_ok-headed.headed c.in_ok-counted.counted c.in_err-run.field-0.0 c.in_ok-headed.ensures.answers c.in_ok-counted.ensures.answers c.in_err-run.ensures.answers)
 
 pub returns-in_err-end : goal.returns-in_err-end
 returns-in_err-end c =

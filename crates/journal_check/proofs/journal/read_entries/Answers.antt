@@ -1,5 +1,5 @@
 use Rattle.std.proofs.Common.{◌-◌, ◌+◌, map, arith, ◌∙◌, ap, ℕ}
-use Rattle.flat_host.specs.FlatState.{FlatState}
+use Rattle.pair_host.specs.Standing.{HostState}
 use Rattle.market_run.specs.Ran.{Ran}
 use Rattle.fx_rules.specs.Sending.{sent_by}
 use Rattle.journal_check.proofs.HeaderLemmas.{read-within}
@@ -8,7 +8,7 @@ use Rattle.journal_check.proofs.journal.read_entries.Goals as goal
 
 pub returns-in-Err-clause-answers : goal.returns-in-Err-clause-answers
 returns-in-Err-clause-answers c =
-    commands_stopped {A = Ran FlatState} (λ (run : Ran FlatState). map sent_by run.entries) c.args.session.now c.args.text.now c.loop-entry.at (map sent_by c.loop-entry.run.entries) (c.args.counted.now.entries - c.loop-entry._entry) c.in-Err.stop _ (omega arith) c.in-Err.ensures c.loop-entry.invariant.reads
+    commands_stopped {A = Ran HostState} (λ (run : Ran HostState). map sent_by run.entries) c.args.session.now c.args.text.now c.loop-entry.at (map sent_by c.loop-entry.run.entries) (c.args.counted.now.entries - c.loop-entry._entry) c.in-Err.stop _ (omega arith) c.in-Err.ensures c.loop-entry.invariant.reads
 
 pub returns-in_default-clause-answers : goal.returns-in_default-clause-answers
 returns-in_default-clause-answers c =

@@ -1,7 +1,7 @@
 use Rattle.std.proofs.Common.{◌≡◌, ◌≤◌, ◌-◌, [], length, map}
 use Rattle.journal_check.specs.Lines.{lines_from}
 use Rattle.journal_check.specs.Listed.{commands_in}
-use Rattle.flat_host.specs.Steps.{stands}
+use Rattle.pair_host.specs.Standing.{stands}
 use Rattle.market_run.specs.Running.{HasRun}
 use Rattle.fx_rules.specs.Sending.{sent_by}
 use Rattle.journal_check.proofs.journal.read_entries.Given as goal
