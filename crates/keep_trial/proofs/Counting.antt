@@ -1,5 +1,5 @@
 -- What is kept and printed of the rounds that numbers give.
-use Rattle.std.proofs.Common.{◌≡◌, ℕ, zero, suc, ◌+◌, ◌-◌, ◌^◌, ◌≤◌, min, List, [], ◌∷◌, ◌++◌, length, take, Option, None, Some, Result, Ok, Err, OnOk, OnErr, refl, sym, ◌∙◌, ap, subst, arith, append-nil, take_all}
+use Rattle.std.proofs.Common.{◌≡◌, ℕ, zero, suc, ◌+◌, ◌-◌, ◌^◌, ◌≤◌, ◌<◌, get_or, min, List, [], ◌∷◌, ◌++◌, length, take, Option, None, Some, Result, Ok, Err, OnOk, OnErr, refl, sym, ◌∙◌, ap, subst, arith, append-nil, take_all}
 use Rattle.std.specs.Prelude.{is_some}
 use Rattle.std.proofs.lemmas.List.{length-map}
 use Rattle.std.specs.Iterator.{Yields}
@@ -21,6 +21,14 @@ bodies_more dots first (suc count) =
     let same : first + 1 + count ≡ first + suc count = omega arith in
     ap (λ (bs : List (List ℕ)). body dots first ∷ bs) (bodies_more dots (first + 1) count)
     ∙ ap (λ (n : ℕ). body dots first ∷ (bodies dots (first + 1) count ++ body dots n ∷ [])) same
+
+-- each of some bodies
+pub bodies_at : (dots first count at : ℕ) (d : List ℕ) → at < count → get_or (bodies dots first count) at d ≡ body dots (first + at)
+bodies_at dots first zero at d within = absurd (omega arith)
+bodies_at dots first (suc count) zero d within = let same : first ≡ first + 0 = omega arith in ap (body dots) same
+bodies_at dots first (suc count) (suc at) d within =
+    let same : first + 1 + at ≡ first + suc at = omega arith in
+    bodies_at dots (first + 1) count at d (omega arith) ∙ ap (body dots) same
 
 -- Rounds that came one from the other
 

@@ -1,4 +1,4 @@
-ghost use Rattle.std.specs.Prelude.{◌≡◌, length, IsTrue, IfOk, OnOk};
+ghost use Rattle.std.specs.Prelude.{◌≡◌, ◌↔◌, length, IsTrue, IfOk, OnOk};
 ghost use Rattle.fx_disk.specs.Disk.{WhereTold, Only};
 ghost use Rattle.keep_disk.specs.Blocks.{whole_blocks};
 ghost use Rattle.keep_trial.specs.Numbered.{bodies, room, KeptNumbers, AllNumbers};
@@ -31,7 +31,7 @@ pub fn append<D: Disk, K: Sink>(
 
 // Whether the bodies are those of 1, 2, 3 and so on.
 fn are_in_order(alloc: Global, found: &[Body], dots: usize) -> Result<bool, Memory>
-    ensures { IfOk result (λ yes. IsTrue yes → found.now ≡ bodies dots 1 (length found.now)) }
+    ensures { IfOk result (λ yes. IsTrue yes ↔ (found.now ≡ bodies dots 1 (length found.now))) }
 {
     let mut number = 0;
     for body in found {
@@ -48,7 +48,7 @@ fn are_in_order(alloc: Global, found: &[Body], dots: usize) -> Result<bool, Memo
 pub fn count<D: Disk>(alloc: Global, disk: &mut D, dots: usize) -> Result<(usize, bool), RunFault>
     ensures blocks { IfOk result (λ found. WhereTold (D.bytes disk.old) (λ file. found.0 ≡ length (whole_blocks file))) }
     ensures in_order { IfOk result (λ found. WhereTold (D.bytes disk.old) (λ file.
-        IsTrue found.1 → whole_blocks file ≡ bodies dots 1 (length (whole_blocks file)))) }
+        IsTrue found.1 ↔ (whole_blocks file ≡ bodies dots 1 (length (whole_blocks file))))) }
 {
     let keeper = open_keeper(alloc, disk)?;
     let found = keeper.bodies();
