@@ -2,8 +2,10 @@
 """Writes a session text: make_session.py BANKS PAIRS COMMANDS [KIND [SEED]].
 
 KIND is `orders` (DAY orders around one price; the default), `rest` (DAY orders that never cross, so that books grow deep),
-`mixed` (orders of every life, cancels, credit changes, books), or `raise` (a deep book without credit, and then one credit
-change between the first two banks). The same arguments give the same text.
+`mixed` (orders of every life, cancels, credit changes, books), `thick` (commands of all kinds, every fourth a credit change
+that orders are waiting for), `raced` (orders in all pairs for lines that are soon used up and raised a little at a time),
+`raise` (a deep book without credit, and then one credit change between the first two banks), or `long` (such a raise with 150
+fills, ten levels of a book, and then orders and a book after each thousand). The same arguments give the same text.
 """
 import random
 import sys
@@ -25,7 +27,8 @@ def header(out, banks, pairs, limits):
     out.append("FXBOOK 1")
     out += [f"BANK {name(bank)}" for bank in range(banks)]
     out += [f"PAIR {pair(index)} 2 1000 {10 + index}" for index in range(pairs)]
-    out += [f"LINE {name(i)} {name(j)} {limits(i, j)}" for i in range(banks) for j in range(banks) if i != j and limits(i, j)]
+    lines = ((i, j, limits(i, j)) for i in range(banks) for j in range(banks) if i != j)
+    out += [f"LINE {name(i)} {name(j)} {limit}" for i, j, limit in lines if limit]
     out.append("START")
 
 
@@ -58,19 +61,72 @@ def mixed(rng, banks, pairs, number):
     return f"{name(bank)} BOOK {pair(rng.randrange(pairs))}"
 
 
+def thick(rng, banks, pairs, number):
+    bank = rng.randrange(banks)
+    other = (bank + 1 + rng.randrange(banks - 1)) % banks
+    kind = rng.randrange(24)
+    if kind < 6:
+        return f"{name(bank)} LINE {name(other)} {rng.choice([0, 200, 500, 1000, 5000])}"
+    if kind < 15:
+        return order(rng, banks, pairs)
+    if kind < 17:
+        return order(rng, banks, pairs, "IOC" if kind == 15 else "FOK")
+    named = f"{pair(rng.randrange(pairs))} {1 + rng.randrange(max(1, number // banks))}"
+    return [
+        f"{name(bank)} CANCEL {named}",
+        f"{name(bank)} REDUCE {named} {1 + rng.randrange(10)}",
+        f"{name(bank)} PULL {pair(rng.randrange(pairs))}",
+        f"{name(bank)} SHOW {name(other)}",
+        f"{name(bank)} BOOK {pair(rng.randrange(pairs))}",
+        f"{name(bank)} SHOW",
+        f"# {number}",
+    ][kind - 17]
+
+
+def raced(rng, banks, pairs, number):
+    bank = rng.randrange(banks)
+    if number % 16 == 0:
+        other = (bank + 1 + rng.randrange(banks - 1)) % banks
+        return f"{name(bank)} LINE {name(other)} {100 + 20 * number // banks}"
+    return order(rng, banks, pairs, rng.choice(["DAY", "IOC"]))
+
+
+def long_day(rng, banks, pairs, commands):
+    first, second = name(0), name(1)
+    yield from (f"{first} SELL {pair(0)} {price(9000 + place)} 1 DAY" for place in range(150))
+    yield from (f"{second} BUY {pair(0)} {price(9200)} 1 DAY" for _ in range(150))
+    yield from (f"{one} LINE {other} 1000000000000" for one, other in ((first, second), (second, first)))
+    yield from (f"{first} SELL {pair(0)} {price(20000 + place)} 2 DAY" for place in range(12))
+    yield f"{second} BOOK {pair(0)}"
+    for number in range(commands):
+        yield f"{second} BOOK {pair(0)}" if number % 1000 == 999 else order(rng, banks, pairs)
+
+
 def main():
     banks, pairs, commands = (int(word) for word in sys.argv[1:4])
     kind = sys.argv[4] if len(sys.argv) > 4 else "orders"
     rng = random.Random(int(sys.argv[5]) if len(sys.argv) > 5 else 1)
     out = []
     amounts = {(i, j): 1000 * (1 + rng.randrange(20)) for i in range(banks) for j in range(banks)}
-    header(out, banks, pairs, (lambda i, j: 0) if kind == "raise" else lambda i, j: 100 * amounts[i, j])
+    limits = {
+        "raise": lambda i, j: 0,
+        "long": lambda i, j: 0,
+        "thick": lambda i, j: rng.choice([0, 300, 3000]),
+        "raced": lambda i, j: 100,
+    }.get(kind, lambda i, j: 100 * amounts[i, j])
+    header(out, banks, pairs, limits)
     if kind == "orders":
         out += [order(rng, banks, pairs) for _ in range(commands)]
     elif kind == "rest":
         out += [resting(rng, banks, pairs) for _ in range(commands)]
     elif kind == "mixed":
         out += [mixed(rng, banks, pairs, number) for number in range(commands)]
+    elif kind == "thick":
+        out += [thick(rng, banks, pairs, number) for number in range(commands)]
+    elif kind == "raced":
+        out += [raced(rng, banks, pairs, number) for number in range(commands)]
+    elif kind == "long":
+        out += long_day(rng, banks, pairs, commands)
     elif kind == "raise":
         out += [order(rng, banks, pairs) for _ in range(commands)]
         out += [f"{name(0)} LINE {name(1)} 1000000", f"{name(1)} LINE {name(0)} 1000000"]

@@ -13,7 +13,11 @@ pub(crate) const ALFA: u8 = 0;
 
 pub(crate) const BETA: u8 = 1;
 
+pub(crate) const GAMA: u8 = 2;
+
 pub(crate) const EURUSD: u8 = 0;
+
+pub(crate) const GBPUSD: u8 = 1;
 
 pub(crate) fn bank(number: u8) -> BankId
     requires { number < 64 }

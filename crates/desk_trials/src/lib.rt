@@ -11,6 +11,14 @@ mod generated;
 #[cfg(test)]
 mod learnt;
 #[cfg(test)]
+mod marks;
+#[cfg(test)]
 mod meeting;
 #[cfg(test)]
+mod raced;
+#[cfg(test)]
 mod replayed;
+#[cfg(test)]
+mod shown_between;
+#[cfg(test)]
+mod side_by_side;

@@ -1,14 +1,12 @@
 //! Two workers work at the same time: a gate holds each up until the other has come.
 use crate::fixture::{ALFA, BETA, EURUSD, bank, lots, pair, price, session};
+use crate::marks::is_seen;
 use fx_amounts::{BankId, PairId, Side};
 use fx_rules::{Command, Gate, Life, Sent};
 use std::sync::Wait;
 use std::sync::atomic::{AtomicBool, Ordering};
 use std::test::Fail;
 use threaded_run::run_on_threads;
-
-/// How often a gate looks for what it waits for before it gives up.
-const LOOKS: u32 = 1_000_000_000;
 
 /// A gate for ALFA and BETA. Command 1 of each waits for that of the other to come, and then ALFA's until BETA's has gone.
 #[derive(Drop)]
@@ -29,14 +27,11 @@ impl MeetingGate {
         }
     }
 
-    /// Looks until the mark is set, or gives up.
+    /// Waits until the mark is set, or gives up.
     fn wait_for(&self, mark: &AtomicBool) {
-        for _look in 0..LOOKS {
-            if mark.load(Ordering::SeqCst) {
-                return;
-            }
+        if !is_seen(mark) {
+            self.has_given_up.store(true, Ordering::SeqCst);
         }
-        self.has_given_up.store(true, Ordering::SeqCst);
     }
 }
 

@@ -3,10 +3,9 @@
 use Rattle.std.proofs.Common.{◌≡◌, ℕ, ◌≤◌, List, [], ◌++◌, Option, Result, Ok, Err, append_assoc, append-nil, refl, sym, ap, subst, ◌∙◌, arith}
 use Rattle.std.specs.Io.KnownBytes.{append_known}
 use Rattle.fx_edges.specs.declared.sink.SinkFault.{SinkFault}
-use Rattle.fx_edges.specs.declared.sink.SinkFault.TheVariants.{Failed, Memory}
+use Rattle.fx_edges.specs.declared.sink.SinkFault.TheVariants.{Memory}
 use Rattle.fx_edges.specs.Faults.{Rose}
-use Rattle.fx_edges.specs.Writing.{IsPrefixOf, Appended, AppendedPart, Wrote}
-use Rattle.fx_edges.proofs.FaultCounts.{Rose-from_later}
+use Rattle.fx_edges.specs.Writing.{IsPrefixOf, AppendedPart, Wrote}
 use Rattle.fx_edges.proofs.Writing.{append_known-nil, append_known-append_known, IsPrefixOf-refl, IsPrefixOf-trans, IsPrefixOf-after, IsPrefixOf-append, IsPrefixOf-nil, AppendedPart-longer, Wrote-after}
 use Rattle.fx_pieces.specs.Gathered.{Kept, Gathered}
 
@@ -79,6 +78,20 @@ Gathered-wanting written faults held before rest text = record {
   cause = λ failed. absurd cc;
   memory = λ wanted. refl;
 }
+
+-- what was held was handed on, and then the text as it is
+pub Gathered-of_whole : {K T : Type 0} {written : K → Option (List ℕ)} {faults : K → ℕ} {held : List ℕ} {a : K} {rest : List ℕ} {b : K} {text : List ℕ} (result : Result T SinkFault) → rest ≡ [] → Wrote written faults a b (held ++ text) result → Gathered written faults held a rest b text result
+Gathered-of_whole {held = held} {text = text} (Ok value) none wrote = record {
+  ok = record { handed = held ++ text; joined = ap (λ xs. (held ++ text) ++ xs) none ∙ append-nil (held ++ text); holds = wrote.ok.holds; count = wrote.ok.count };
+  fault = tt;
+  cause = tt;
+  memory = tt;
+}
+Gathered-of_whole (Err e) none wrote = record { ok = tt; fault = wrote.fault; cause = wrote.cause; memory = wrote.memory }
+
+-- a fault while what was held was handed on
+pub Gathered-of_held : {K T U : Type 0} {written : K → Option (List ℕ)} {faults : K → ℕ} {held : List ℕ} {a : K} {b : K} {e : SinkFault} (rest text : List ℕ) → Wrote {T = T} written faults a b held (Err e) → Gathered {T = U} written faults held a rest b text (Err e)
+Gathered-of_held {held = held} rest text wrote = record { ok = tt; fault = AppendedPart-longer wrote.fault (IsPrefixOf-append held text); cause = wrote.cause; memory = wrote.memory }
 
 -- The end of a text
 

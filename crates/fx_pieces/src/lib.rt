@@ -1,4 +1,4 @@
-//! Output in pieces: what is written is gathered, and handed to a sink once it is a piece of 8 KiB at least.
+//! Output in pieces: what is written is gathered, and handed to a sink once it is a piece of 64 KiB at least.
 #![tactic(auto)]
 
 mod pieces;

@@ -7,7 +7,7 @@ use std::alloc::Global;
 use std::marker::Model;
 
 /// The bytes that are gathered before a sink gets them.
-const PIECE: usize = 8192;
+const PIECE: usize = 65536;
 
 /// The bytes that were written for a sink and not yet handed to it. They lie in one buffer, which is used again for each
 /// piece. Contracts see them as a list.
@@ -32,12 +32,27 @@ impl Pieces {
         }
     }
 
-    /// Writes a text behind what is held, and hands all of it to the sink where that is 8 KiB or more. After a fault the
-    /// sink got a prefix of what was held and the text, and the rest of it is not to be written any more: the fault is
-    /// `Failed` only where the sink's count of faults rose, and `Memory` only where it stayed.
+    /// Writes a text behind what is held. The sink gets all of that once it is 64 KiB or more; a text that is so much by itself
+    /// goes to the sink as it lies there. After a fault the sink got a prefix of what was held and the text, and the rest of it
+    /// is not to be written any more: the fault is `Failed` only where the sink's count of faults rose, and `Memory` only where
+    /// it stayed.
     pub fn put<K: Sink>(&mut self, text: &[u8], out: &mut K) -> Result<(), SinkFault>
         ensures gathered { Gathered K.written K.faults self.old out.old self.new out.new text.now result }
-        ensures few { OnOk result (length self.new < 8192) }
+        ensures few { OnOk result (length self.new < 65536) }
+    {
+        if text.len() < PIECE {
+            return self.hold(text, out);
+        }
+        if let Err(fault) = self.hand_on(out) {
+            return Err(fault);
+        }
+        write_all(out, text)
+    }
+
+    /// Holds a text behind what is held, and hands all of it to the sink where that is a piece.
+    fn hold<K: Sink>(&mut self, text: &[u8], out: &mut K) -> Result<(), SinkFault>
+        ensures gathered { Gathered K.written K.faults self.old out.old self.new out.new text.now result }
+        ensures few { OnOk result (length self.new < 65536) }
     {
         if self.held.extend_from_slice(text).is_err() {
             return Err(SinkFault::Memory);

@@ -228,19 +228,24 @@ fn a_write_that_fails(rt: HostRuntime) -> Result<(), Fail> {
     Ok(())
 }
 
-// A sink gets a piece once it has 8 KiB, and what is left at the end.
+// A sink gets a piece once it has 64 KiB, and what is left at the end; a text of so much goes on at once.
 #[test]
 fn a_text_in_pieces(rt: HostRuntime) -> Result<(), Fail> {
-    let half = [b'x'; 5000];
+    let half = [b'x'; 40_000];
+    let long = [b'y'; 70_000];
     let mut out = MemorySink::new(10, Vec::new(rt.alloc()));
     let mut pieces = Pieces::new(rt.alloc());
     assert!(rt; pieces.put(&half, &mut out) == Ok(()));
     assert!(rt; out.written().is_empty());
     assert!(rt; pieces.put(&half, &mut out) == Ok(()));
-    assert!(rt; out.written().len() == 10_000);
+    assert!(rt; out.written().len() == 80_000);
     assert!(rt; pieces.put(b"end", &mut out) == Ok(()));
-    assert!(rt; out.written().len() == 10_000);
+    assert!(rt; out.written().len() == 80_000);
+    assert!(rt; pieces.put(&long, &mut out) == Ok(()));
+    assert!(rt; out.written().len() == 150_003);
+    assert!(rt; out.written()[79_999..80_004].starts_with(b"xendy"));
+    assert!(rt; pieces.put(b"END", &mut out) == Ok(()));
     assert!(rt; pieces.hand_on(&mut out) == Ok(()));
-    assert!(rt; out.written().ends_with(b"xend"));
+    assert!(rt; out.written().ends_with(b"yEND"));
     Ok(())
 }

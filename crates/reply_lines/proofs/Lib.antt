@@ -1,4 +1,4 @@
-pub mod Numbering
+mod Items
 pub mod Parts
 pub mod Printable
 pub mod Existing
@@ -6,5 +6,5 @@ pub mod Singly
 mod Reporting
 mod Shown
 mod Outputs
-mod Indexing
+mod Gathering
 mod Levels

@@ -1,6 +1,6 @@
 pub mod Rows
 pub mod Notices
-pub mod Index
+pub mod Desks
 pub mod Books
 pub mod Report
 pub mod Output

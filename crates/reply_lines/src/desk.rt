@@ -1,258 +1,290 @@
-ghost use Rattle.std.specs.Prelude.{◌≡◌, ℕ, List, [], ◌<◌, ◌≤◌, ◌^◌, ◌+◌, ◌++◌, ◌*◌, length, OnOk, IfOk, Some, slice_get};
+ghost use Rattle.std.specs.Prelude.{◌≡◌, List, ◌<◌, ◌+◌, ◌++◌, length, replicate, IfOk, OnOk};
+ghost use Rattle.fx_rules.specs.declared.outcome.Entry.{Entry};
 ghost use Rattle.std.specs.List.{flat_map};
-ghost use Rattle.fx_rules.specs.Lists.{Each};
 ghost use Rattle.fx_pieces.specs.Gathered.{Gathered};
+ghost use Rattle.fx_rules.specs.Lists.{Each};
 ghost use Rattle.fx_rules.specs.Session.{bank_count};
-ghost use Rattle.reply_lines.specs.Notices.{notice_lines, reply_notices, taken_notices, given_notices, fill_notices, notices_in, desk_line, desk_text};
-ghost use Rattle.reply_lines.specs.Index.{IsIndexed, noticed};
+ghost use Rattle.reply_lines.specs.Desks.{nothing_yet, with_line, HaveGot, AreDesksOf};
+ghost use Rattle.reply_lines.specs.Notices.{reply_notices, taken_notices, given_notices, fill_notices, notices_in, desk_line, desk_text};
+ghost use Rattle.reply_lines.specs.Output.{desks_text};
 ghost use Rattle.reply_lines.specs.Prints.{IsAnswerOf, IsFillOf, IsEntryOf};
 
+use crate::lines::write_made;
 use crate::notices::{make_desk, make_fill, make_reply};
 use fx_amounts::{BankId, Memory};
 use fx_edges::{Sink, SinkFault};
 use fx_pieces::Pieces;
 use fx_rules::{Entry, Fill, Session};
+use std::alloc::Global;
+use std::marker::Model;
 
-/// Writes a line that was made, where there was memory for it.
-pub fn write_made<K: Sink>(
-    made: Result<(), Memory>,
-    line: &[u8],
-    pieces: &mut Pieces,
-    out: &mut K,
-) -> Result<(), SinkFault>
-    ensures wrote { (text : List ℕ) → OnOk made (line.now ≡ text) → Gathered K.written K.faults pieces.old out.old pieces.new out.new text result }
-{
-    match made {
-        Ok(()) => pieces.put(line, out),
-        Err(Memory) => Err(SinkFault::Memory),
+/// A bank's desk so far: how many notices the bank has got, and their lines, in which they are numbered from 1.
+#[derive(Debug, Drop)]
+pub(crate) struct Desk {
+    count: usize,
+    lines: Vec<u8>,
+}
+
+impl Model for Desk {
+    ghost use Rattle.std.specs.Prelude.{◌≤◌, vec_len};
+    ghost use Rattle.reply_lines.specs.Desks.{DeskSoFar, desk_with};
+
+    ghost Value = { DeskSoFar };
+
+    ghost view = { λ d. desk_with d.count d.lines.items };
+
+    // each notice has a line
+    ghost invariant = { λ d. d.count ≤ vec_len d.lines };
+}
+
+impl Desk {
+    fn new(alloc: Global) -> Desk
+        ensures { result ≡ nothing_yet }
+    {
+        Desk {
+            count: 0,
+            lines: Vec::new(alloc),
+        }
+    }
+
+    /// How many notices it has.
+    fn count(&self) -> usize
+        ensures { result ≡ self.now.count }
+    {
+        self.count
+    }
+
+    /// The lines of its notices.
+    fn lines(&self) -> &[u8]
+        ensures { result.now ≡ self.now.lines }
+    {
+        &self.lines
+    }
+
+    /// The number of the notice that is added next.
+    fn next_number(&self) -> u128
+        ensures { result ≡ self.now.count + 1 }
+    {
+        self.count as u128 + 1
+    }
+
+    /// Adds the line of the next notice. Without memory for it the desk stays.
+    fn add(&mut self, line: &[u8]) -> Result<(), Memory>
+        requires line { 0 < length line.now }
+        ensures ok { OnOk result (self.new ≡ with_line self.old line.now) }
+    {
+        self.lines.extend_from_slice(line)?;
+        self.count += 1;
+        Ok(())
     }
 }
 
-/// Writes the notices that a bank gets of a fill, numbered after `before`, and answers the number of the last.
-fn write_fill<K: Sink>(
+/// The desks of all banks after a history, gathered in one walk over it.
+pub(crate) fn desks_of(
+    alloc: Global,
     session: &Session,
-    bank: BankId,
-    fill: &Fill,
-    before: u128,
-    line: &mut Vec<u8>,
-    pieces: &mut Pieces,
-    out: &mut K,
-) -> Result<u128, SinkFault>
-    requires fill { IsFillOf session.now fill.now }
-    requires room { before < 2 ^ 127 }
-    ensures wrote { Gathered K.written K.faults pieces.old out.old pieces.new out.new (notice_lines session.now before (fill_notices bank fill.now)) result }
-    ensures count { IfOk result (λ after. after ≡ before + length (fill_notices bank fill.now)) }
-    ensures most { IfOk result (λ after. after ≤ before + 2) }
+    entries: &[Entry],
+) -> Result<Vec<Desk>, Memory>
+    requires entries { Each (IsEntryOf session.now) entries.now }
+    ensures desks { IfOk result (λ desks. AreDesksOf session.now entries.now desks.items) }
 {
-    match write_taken(session, bank, fill, before, line, pieces, out) {
-        Ok(taken) => write_given(session, bank, fill, taken, line, pieces, out),
-        Err(fault) => Err(fault),
+    let mut desks = no_desks(alloc, session.banks().len())?;
+    let mut line = Vec::new(alloc);
+    for entry in entries {
+        add_entry(session, entry, &mut desks, &mut line)?;
     }
+    Ok(desks)
 }
 
-/// Writes a fill as its taker's bank sees it, where that is the bank.
-fn write_taken<K: Sink>(
-    session: &Session,
-    bank: BankId,
-    fill: &Fill,
-    before: u128,
-    line: &mut Vec<u8>,
-    pieces: &mut Pieces,
-    out: &mut K,
-) -> Result<u128, SinkFault>
-    requires fill { IsFillOf session.now fill.now }
-    requires room { before < 2 ^ 127 }
-    ensures wrote { Gathered K.written K.faults pieces.old out.old pieces.new out.new (notice_lines session.now before (taken_notices bank fill.now)) result }
-    ensures count { IfOk result (λ after. after ≡ before + length (taken_notices bank fill.now)) }
-    ensures most { IfOk result (λ after. after ≤ before + 1) }
+/// So many banks' desks, without a notice yet.
+fn no_desks(alloc: Global, banks: usize) -> Result<Vec<Desk>, Memory>
+    ensures none { IfOk result (λ desks. desks.items ≡ replicate banks nothing_yet) }
 {
-    if fill.taker != bank {
-        return Ok(before);
+    let mut desks = Vec::new(alloc);
+    for _bank in 0..banks {
+        desks.push(Desk::new(alloc))?;
     }
-    let made = make_fill(
+    Ok(desks)
+}
+
+/// Adds the notices of an entry: the reply to its sender, and then those of its fills.
+fn add_entry(
+    session: &Session,
+    entry: &Entry,
+    desks: &mut Vec<Desk>,
+    line: &mut Vec<u8>,
+) -> Result<(), Memory>
+    requires entry { IsEntryOf session.now entry.now }
+    requires desks { length desks.old.items ≡ bank_count session.now }
+    ensures ok { OnOk result (HaveGot session.now (λ bank. notices_in bank entry.now) desks.old.items desks.new.items) }
+{
+    add_reply(session, entry, desks, line)?;
+    add_fills(session, entry.outcome.fills(), desks, line)
+}
+
+/// Adds the reply to an entry to its sender's desk.
+fn add_reply(
+    session: &Session,
+    entry: &Entry,
+    desks: &mut Vec<Desk>,
+    line: &mut Vec<u8>,
+) -> Result<(), Memory>
+    requires answer { IsAnswerOf session.now entry.now.command entry.now.outcome }
+    requires sender { entry.now.bank < length desks.old.items }
+    ensures ok { OnOk result (HaveGot session.now (λ bank. reply_notices bank entry.now) desks.old.items desks.new.items) }
+{
+    let desk = &mut desks[entry.bank.index()];
+    let number = desk.next_number();
+    make_reply(
         session,
-        before + 1,
+        number,
+        entry.number,
+        &entry.command,
+        &entry.outcome,
+        line,
+    )?;
+    desk.add(line)
+}
+
+/// Adds the notices of fills, in order.
+fn add_fills(
+    session: &Session,
+    fills: &[Fill],
+    desks: &mut Vec<Desk>,
+    line: &mut Vec<u8>,
+) -> Result<(), Memory>
+    requires fills { Each (IsFillOf session.now) fills.now }
+    requires desks { length desks.old.items ≡ bank_count session.now }
+    ensures ok { OnOk result (HaveGot session.now (λ bank. flat_map (fill_notices bank) fills.now) desks.old.items desks.new.items) }
+{
+    for fill in fills {
+        add_fill(session, fill, desks, line)?;
+    }
+    Ok(())
+}
+
+/// Adds a fill to its taker's desk and to its maker's.
+fn add_fill(
+    session: &Session,
+    fill: &Fill,
+    desks: &mut Vec<Desk>,
+    line: &mut Vec<u8>,
+) -> Result<(), Memory>
+    requires fill { IsFillOf session.now fill.now }
+    requires desks { length desks.old.items ≡ bank_count session.now }
+    ensures ok { OnOk result (HaveGot session.now (λ bank. fill_notices bank fill.now) desks.old.items desks.new.items) }
+{
+    add_taken(session, fill, desks, line)?;
+    add_given(session, fill, desks, line)
+}
+
+/// Adds a fill to its taker's desk.
+fn add_taken(
+    session: &Session,
+    fill: &Fill,
+    desks: &mut Vec<Desk>,
+    line: &mut Vec<u8>,
+) -> Result<(), Memory>
+    requires fill { IsFillOf session.now fill.now }
+    requires desks { length desks.old.items ≡ bank_count session.now }
+    ensures ok { OnOk result (HaveGot session.now (λ bank. taken_notices bank fill.now) desks.old.items desks.new.items) }
+{
+    let desk = &mut desks[fill.taker.index()];
+    let number = desk.next_number();
+    make_fill(
+        session,
+        number,
         fill.taker_number,
         fill.taker_side,
         fill.maker,
         fill,
         line,
-    );
-    write_made(made, line, pieces, out)?;
-    Ok(before + 1)
+    )?;
+    desk.add(line)
 }
 
-/// Writes a fill as its maker's bank sees it, where that is the bank.
-fn write_given<K: Sink>(
+/// Adds a fill to its maker's desk.
+fn add_given(
     session: &Session,
-    bank: BankId,
     fill: &Fill,
-    before: u128,
+    desks: &mut Vec<Desk>,
     line: &mut Vec<u8>,
-    pieces: &mut Pieces,
-    out: &mut K,
-) -> Result<u128, SinkFault>
+) -> Result<(), Memory>
     requires fill { IsFillOf session.now fill.now }
-    requires room { before ≤ 2 ^ 127 }
-    ensures wrote { Gathered K.written K.faults pieces.old out.old pieces.new out.new (notice_lines session.now before (given_notices bank fill.now)) result }
-    ensures count { IfOk result (λ after. after ≡ before + length (given_notices bank fill.now)) }
-    ensures most { IfOk result (λ after. after ≤ before + 1) }
+    requires desks { length desks.old.items ≡ bank_count session.now }
+    ensures ok { OnOk result (HaveGot session.now (λ bank. given_notices bank fill.now) desks.old.items desks.new.items) }
 {
-    if fill.maker != bank {
-        return Ok(before);
-    }
+    let desk = &mut desks[fill.maker.index()];
+    let number = desk.next_number();
     let side = fill.taker_side.opposite();
-    let made = make_fill(
+    make_fill(
         session,
-        before + 1,
+        number,
         fill.maker_number,
         side,
         fill.taker,
         fill,
         line,
-    );
-    write_made(made, line, pieces, out)?;
-    Ok(before + 1)
+    )?;
+    desk.add(line)
 }
 
-/// Writes the reply to an entry, where the bank sent it.
-fn write_reply<K: Sink>(
+/// Writes the desks of all banks.
+#[tactic(auto, unfolding(crate::specs::Output::desks_text))]
+pub(crate) fn write_desks<K: Sink>(
     session: &Session,
-    bank: BankId,
-    entry: &Entry,
-    before: u128,
+    desks: &[Desk],
     line: &mut Vec<u8>,
     pieces: &mut Pieces,
     out: &mut K,
-) -> Result<u128, SinkFault>
-    requires answer { IsAnswerOf session.now entry.now.command entry.now.outcome }
-    requires room { before < 2 ^ 127 }
-    ensures wrote { Gathered K.written K.faults pieces.old out.old pieces.new out.new (notice_lines session.now before (reply_notices bank entry.now)) result }
-    ensures count { IfOk result (λ after. after ≡ before + length (reply_notices bank entry.now)) }
-    ensures most { IfOk result (λ after. after ≤ before + 1) }
+) -> Result<(), SinkFault>
+    requires desks { length desks.now ≡ bank_count session.now }
+    ensures wrote { (entries : List Entry) → AreDesksOf session.now entries desks.now →
+        Gathered K.written K.faults pieces.old out.old pieces.new out.new (desks_text session.now entries) result }
 {
-    if entry.bank != bank {
-        return Ok(before);
-    }
-    let made = make_reply(
-        session,
-        before + 1,
-        entry.number,
-        &entry.command,
-        &entry.outcome,
-        line,
-    );
-    write_made(made, line, pieces, out)?;
-    Ok(before + 1)
-}
-
-/// Writes the notices that a bank gets of fills, numbered after `before`, and answers the number of the last.
-fn write_fills<K: Sink>(
-    session: &Session,
-    bank: BankId,
-    fills: &[Fill],
-    before: u128,
-    line: &mut Vec<u8>,
-    pieces: &mut Pieces,
-    out: &mut K,
-) -> Result<u128, SinkFault>
-    requires fills { Each (IsFillOf session.now) fills.now }
-    requires room { before ≤ 2 ^ 126 }
-    ensures wrote { Gathered K.written K.faults pieces.old out.old pieces.new out.new (notice_lines session.now before (flat_map (fill_notices bank) fills.now)) result }
-    ensures count { IfOk result (λ after. after ≡ before + length (flat_map (fill_notices bank) fills.now)) }
-    ensures most { IfOk result (λ after. after ≤ before + 2 * length fills.now) }
-    ensures short { length fills.now < 2 ^ 63 }
-{
-    let _ = fills.len();
-    let mut number = before;
-    for fill in fills {
-        number = match write_fill(session, bank, fill, number, line, pieces, out) {
-            Ok(number) => number,
+    for place in 0..session.banks().len() {
+        let bank = BankId::new(place as u8).unwrap();
+        match write_bank(session, bank, desks, line, pieces, out) {
+            Ok(()) => {}
             Err(fault) => return Err(fault),
-        };
+        }
     }
-    Ok(number)
+    Ok(())
 }
 
-/// Writes the notices that a bank gets of an entry, numbered after `before`, and answers the number of the last.
-fn write_notices<K: Sink>(
+/// Writes the desk of one of the banks.
+fn write_bank<K: Sink>(
     session: &Session,
     bank: BankId,
-    entry: &Entry,
-    before: u128,
-    line: &mut Vec<u8>,
-    pieces: &mut Pieces,
-    out: &mut K,
-) -> Result<u128, SinkFault>
-    requires entry { IsEntryOf session.now entry.now }
-    requires room { before < 2 ^ 126 }
-    ensures wrote { Gathered K.written K.faults pieces.old out.old pieces.new out.new (notice_lines session.now before (notices_in bank entry.now)) result }
-    ensures count { IfOk result (λ after. after ≡ before + length (notices_in bank entry.now)) }
-    ensures most { IfOk result (λ after. after ≤ before + 2 ^ 64) }
-{
-    match write_reply(session, bank, entry, before, line, pieces, out) {
-        Ok(replied) => write_fills(
-            session,
-            bank,
-            entry.outcome.fills(),
-            replied,
-            line,
-            pieces,
-            out,
-        ),
-        Err(fault) => Err(fault),
-    }
-}
-
-/// How many notices a bank gets of the entries at some places.
-fn count_notices(bank: BankId, entries: &[Entry], places: &[usize]) -> u128
-    requires within { Each (λ place. place < length entries.now) places.now }
-    ensures value { result ≡ length (noticed bank entries.now places.now) }
-{
-    let mut count = 0;
-    for place in places {
-        count += notices_in(bank, entry_at(entries, *place));
-    }
-    count
-}
-
-/// The entry at a place.
-fn entry_at(entries: &[Entry], place: usize) -> &Entry
-    requires within { place < length entries.now }
-    ensures entry { slice_get entries.now place ≡ Some result.now }
-{
-    &entries[place]
-}
-
-/// How many notices a bank gets of an entry.
-fn notices_in(bank: BankId, entry: &Entry) -> u128
-    ensures value { result ≡ length (notices_in bank entry.now) }
-    ensures most { result ≤ 2 ^ 64 }
-{
-    let mut count = u128::from(entry.bank == bank);
-    for fill in entry.outcome.fills() {
-        count += u128::from(fill.taker == bank) + u128::from(fill.maker == bank);
-    }
-    count
-}
-
-/// Writes a bank's desk: how many notices it has, and these. They are found at the places.
-pub fn write_desk<K: Sink>(
-    session: &Session,
-    bank: BankId,
-    entries: &[Entry],
-    places: &[usize],
+    desks: &[Desk],
     line: &mut Vec<u8>,
     pieces: &mut Pieces,
     out: &mut K,
 ) -> Result<(), SinkFault>
     requires bank { bank < bank_count session.now }
-    requires entries { Each (IsEntryOf session.now) entries.now }
-    requires places { IsIndexed entries.now bank places.now }
-    ensures wrote { Gathered K.written K.faults pieces.old out.old pieces.new out.new (desk_text session.now entries.now bank) result }
+    requires desks { length desks.now ≡ bank_count session.now }
+    ensures wrote { (entries : List Entry) → AreDesksOf session.now entries desks.now →
+        Gathered K.written K.faults pieces.old out.old pieces.new out.new (desk_text session.now entries bank) result }
 {
-    match write_desk_line(session, bank, entries, places, line, pieces, out) {
-        Ok(()) => write_all_notices(session, bank, entries, places, line, pieces, out),
+    let desk = &desks[bank.index()];
+    write_desk(session, bank, desk.count(), desk.lines(), line, pieces, out)
+}
+
+/// Writes a bank's desk: how many notices it has, and their lines.
+fn write_desk<K: Sink>(
+    session: &Session,
+    bank: BankId,
+    count: usize,
+    lines: &[u8],
+    line: &mut Vec<u8>,
+    pieces: &mut Pieces,
+    out: &mut K,
+) -> Result<(), SinkFault>
+    requires bank { bank < bank_count session.now }
+    ensures wrote { Gathered K.written K.faults pieces.old out.old pieces.new out.new (desk_line session.now bank count ++ lines.now) result }
+{
+    match write_desk_line(session, bank, count, line, pieces, out) {
+        Ok(()) => pieces.put(lines, out),
         Err(fault) => Err(fault),
     }
 }
@@ -261,42 +293,14 @@ pub fn write_desk<K: Sink>(
 fn write_desk_line<K: Sink>(
     session: &Session,
     bank: BankId,
-    entries: &[Entry],
-    places: &[usize],
+    count: usize,
     line: &mut Vec<u8>,
     pieces: &mut Pieces,
     out: &mut K,
 ) -> Result<(), SinkFault>
     requires bank { bank < bank_count session.now }
-    requires within { Each (λ place. place < length entries.now) places.now }
-    ensures wrote { Gathered K.written K.faults pieces.old out.old pieces.new out.new (desk_line session.now bank (length (noticed bank entries.now places.now))) result }
+    ensures wrote { Gathered K.written K.faults pieces.old out.old pieces.new out.new (desk_line session.now bank count) result }
 {
-    let made = make_desk(session, bank, count_notices(bank, entries, places), line);
+    let made = make_desk(session, bank, count as u128, line);
     write_made(made, line, pieces, out)
-}
-
-/// Writes a bank's notices of the entries at some places.
-fn write_all_notices<K: Sink>(
-    session: &Session,
-    bank: BankId,
-    entries: &[Entry],
-    places: &[usize],
-    line: &mut Vec<u8>,
-    pieces: &mut Pieces,
-    out: &mut K,
-) -> Result<(), SinkFault>
-    requires entries { Each (IsEntryOf session.now) entries.now }
-    requires within { Each (λ place. place < length entries.now) places.now }
-    ensures wrote { Gathered K.written K.faults pieces.old out.old pieces.new out.new (notice_lines session.now 0 (noticed bank entries.now places.now)) result }
-{
-    let _ = places.len();
-    let mut number = 0;
-    for place in places {
-        let entry = entry_at(entries, *place);
-        number = match write_notices(session, bank, entry, number, line, pieces, out) {
-            Ok(number) => number,
-            Err(fault) => return Err(fault),
-        };
-    }
-    Ok(())
 }

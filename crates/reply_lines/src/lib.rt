@@ -3,7 +3,6 @@
 
 mod books;
 mod desk;
-mod index;
 mod laws;
 mod lines;
 mod notices;

@@ -4,7 +4,6 @@ ghost use Rattle.fx_pieces.specs.Gathered.{Gathered};
 ghost use Rattle.fx_rules.specs.Lists.{Each};
 ghost use Rattle.fx_rules.specs.Session.{Header};
 
-use crate::desk::write_made;
 use fx_amounts::Memory;
 use fx_edges::{Sink, SinkFault};
 use fx_pieces::Pieces;
@@ -43,4 +42,19 @@ pub(crate) fn write_lines<T: Print, K: Sink>(
         }
     }
     Ok(())
+}
+
+/// Writes a line that was made, where there was memory for it.
+pub fn write_made<K: Sink>(
+    made: Result<(), Memory>,
+    line: &[u8],
+    pieces: &mut Pieces,
+    out: &mut K,
+) -> Result<(), SinkFault>
+    ensures wrote { (text : List ℕ) → OnOk made (line.now ≡ text) → Gathered K.written K.faults pieces.old out.old pieces.new out.new text result }
+{
+    match made {
+        Ok(()) => pieces.put(line, out),
+        Err(Memory) => Err(SinkFault::Memory),
+    }
 }

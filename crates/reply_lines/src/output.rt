@@ -1,27 +1,22 @@
-ghost use Rattle.std.specs.Prelude.{◌≡◌, ℕ, ◌++◌, length, IfOk, OnOk};
-ghost use Rattle.std.specs.List.{flat_map};
-ghost use Rattle.fx_amounts.specs.Numeral.{numeral};
+ghost use Rattle.std.specs.Prelude.{◌≡◌, ℕ, ◌++◌, length, IfOk};
 ghost use Rattle.fx_edges.specs.Writing.{Wrote};
 ghost use Rattle.fx_pieces.specs.Gathered.{Gathered};
 ghost use Rattle.fx_rules.specs.Lists.{Each};
 ghost use Rattle.fx_rules.specs.History.{IsLegal, state};
-ghost use Rattle.fx_rules.specs.Session.{bank_count};
 ghost use Rattle.session_head.specs.HeadText.{head_text_of};
 ghost use Rattle.reply_lines.specs.Books.{LocalBook, AreBooks, IsMarketOf, AreBooksOf};
 ghost use Rattle.reply_lines.specs.Day.{IsDayOf};
 ghost use Rattle.reply_lines.specs.Faults.{WroteOutput};
-ghost use Rattle.reply_lines.specs.Index.{IsIndex};
 ghost use Rattle.reply_lines.specs.Prints.{IsEntryOf};
-ghost use Rattle.reply_lines.specs.Output.{entry_line, journal_line, journal_text, desks_text, day_text, strays_line, ending_line, last_text, IsDayText, IsOutput};
+ghost use Rattle.reply_lines.specs.Output.{entry_line, journal_line, journal_text, day_text, strays_line, ending_line, last_text, IsDayText, IsOutput};
 
 use crate::books::write_books;
-use crate::desk::{write_desk, write_made};
-use crate::index::{Places, index_of};
-use crate::lines::{Print, write_lines};
+use crate::desk::{Desk, desks_of, write_desks};
+use crate::lines::{Print, write_lines, write_made};
 use crate::notices::make_count;
 use crate::report::write_report;
 use day_report::{Report, report};
-use fx_amounts::{BankId, Memory};
+use fx_amounts::Memory;
 use fx_edges::{Sink, SinkFault};
 use fx_pieces::Pieces;
 use fx_rules::{Entry, Market, Session};
@@ -84,9 +79,9 @@ impl From<SinkFault> for OutFault {
 
 /// Writes the output of a legal history: header, journal, desks, local books, report and the last lines, which tell of the
 /// strays and of how the reading ended. After a fault a prefix of it was appended; the fault is `Write` only where the
-/// sink's count of faults rose, and `Memory` only where it stayed. The sink gets it in pieces of 8 KiB at least, and the last
-/// one. Beside these it keeps the places of each bank's entries and the market at the end, which it finds by replaying; all that
-/// is found before the first byte is written.
+/// sink's count of faults rose, and `Memory` only where it stayed. The sink gets it in pieces of 64 KiB at least, and the last
+/// one. Beside these it keeps the text of all desks and the market at the end, which it finds by replaying; all that is found
+/// before the first byte is written.
 pub fn write_output<K: Sink>(
     alloc: Global,
     session: &Session,
@@ -244,8 +239,8 @@ fn write_end<K: Sink>(
 struct Day {
     /// The sums of its fills.
     report: Report,
-    /// For each bank the places of the entries of which it has notices.
-    index: Vec<Places>,
+    /// The desks of the banks.
+    desks: Vec<Desk>,
 }
 
 impl Day {
@@ -255,7 +250,7 @@ impl Day {
     {
         Ok(Day {
             report: report(alloc, session, entries)?,
-            index: index_of(alloc, session, entries)?,
+            desks: desks_of(alloc, session, entries)?,
         })
     }
 }
@@ -279,7 +274,7 @@ fn write_day_text<M: Market, K: Sink>(
 {
     write_head(session, line, pieces, out)?;
     write_journal(session, entries, line, pieces, out)?;
-    write_desks(session, entries, &day.index, line, pieces, out)?;
+    write_desks(session, &day.desks, line, pieces, out)?;
     write_books(session, market, line, pieces, out)?;
     write_report(session, &day.report, line, pieces, out)
 }
@@ -368,29 +363,4 @@ impl Print for Entry {
         line.push(b'\n')?;
         Ok(())
     }
-}
-
-/// Writes the desks of all banks.
-#[tactic(auto, unfolding(crate::specs::Output::desks_text))]
-fn write_desks<K: Sink>(
-    session: &Session,
-    entries: &[Entry],
-    index: &[Places],
-    line: &mut Vec<u8>,
-    pieces: &mut Pieces,
-    out: &mut K,
-) -> Result<(), SinkFault>
-    requires entries { Each (IsEntryOf session.now) entries.now }
-    requires index { IsIndex (bank_count session.now) entries.now index.now }
-    ensures wrote { Gathered K.written K.faults pieces.old out.old pieces.new out.new (desks_text session.now entries.now) result }
-{
-    for place in 0..session.banks().len() {
-        let bank = BankId::new(place as u8).unwrap();
-        let places = index[place].as_slice();
-        match write_desk(session, bank, entries, places, line, pieces, out) {
-            Ok(()) => {}
-            Err(fault) => return Err(fault),
-        }
-    }
-    Ok(())
 }

@@ -1,4 +1,4 @@
-//! A session's commands run on threads: one lane for each bank, in workers, at the host behind one lock.
+//! A session's commands run on threads: one lane for each bank, in workers, at the host with a lock for each pair.
 #![tactic(auto)]
 
 mod lanes;

@@ -2,21 +2,19 @@ ghost use Rattle.std.specs.Prelude.{◌≡◌, ◌<◌, ◌≤◌, ◌^◌, leng
 ghost use Rattle.fx_rules.specs.Lists.{Each};
 ghost use Rattle.fx_rules.specs.Sending.{IsSentOf};
 ghost use Rattle.fx_rules.specs.History.{IsLegal};
+ghost use Rattle.credit_book.specs.Recorded.{key_count};
 ghost use Rattle.fx_desk.specs.Streams.{HasStreams};
 
 use crate::lanes::{lanes_of, passes_of};
 use fx_amounts::Memory;
 use fx_chronicle::{Blank, Naming};
+use fx_host::{close_host, keys_of, open_host};
 use fx_rules::{Entry, Gate, Sent, Session};
 use gateway_workers::run_round;
-use one_lock_host::{close_one, open_one};
 use std::alloc::Global;
 use std::marker::Brand;
 use std::sync::Wait;
 use std::thread::Threads;
-
-/// For how many keys the host's blank is made.
-const KEYS: u32 = 65;
 
 /// Runs a session's commands, each bank's in its order, in at most `workers` threads (1 or more), and answers the history
 /// that they made. There are fewer than 2^32 commands. It may wait.
@@ -33,7 +31,7 @@ pub fn run_on_threads<R: AllocGlobal + Threads + Wait + Sync, G: Gate + Sync>(
     ensures legal { IfOk result (λ history. IsLegal session.now history.items) }
     ensures streams { IfOk result (λ history. HasStreams sent.now history.items) }
 {
-    let blank = Blank::new(rt.alloc(), KEYS)?;
+    let blank = Blank::new(rt.alloc(), keys_of(session))?;
     run_at::<Brand, R, G>(rt, blank, session, sent, workers, gate)
 }
 
@@ -47,7 +45,7 @@ fn run_at<N: Naming + Send + Sync, R: AllocGlobal + Threads + Wait + Sync, G: Ga
     gate: &G,
 ) -> Result<Vec<Entry>, Memory>
     requires table { blank.table ≡ N.table }
-    requires keys { blank.keys ≡ 65 }
+    requires keys { blank.keys ≡ key_count N.session }
     requires session { session.now ≡ N.session }
     requires valid { Each (IsSentOf session.now) sent.now }
     requires few { length sent.now < 2 ^ 32 }
@@ -55,9 +53,10 @@ fn run_at<N: Naming + Send + Sync, R: AllocGlobal + Threads + Wait + Sync, G: Ga
     ensures legal { IfOk result (λ history. IsLegal session.now history.items) }
     ensures streams { IfOk result (λ history. HasStreams sent.now history.items) }
 {
-    let (host, passes) = open_one::<N>(rt.alloc(), blank, session)?;
+    let (host, passes) = open_host::<N>(rt.alloc(), blank, session)?;
     let mut lanes = lanes_of(rt.alloc(), passes, sent)?;
     run_round(rt, &host, gate, workers, &mut lanes)?;
     let passes = passes_of(rt.alloc(), lanes)?;
-    Ok(close_one(host, passes))
+    let (history, _shards) = close_host(host, passes);
+    Ok(history)
 }

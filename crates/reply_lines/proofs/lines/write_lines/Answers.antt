@@ -2,8 +2,7 @@
 use Rattle.std.proofs.Common.{◌∙◌, sym, subst}
 use Rattle.fx_pieces.specs.Gathered.{Kept}
 use Rattle.fx_pieces.proofs.Gathering.{Gathered-cut, Kept-append}
-use Rattle.reply_lines.proofs.Indexing.{flat_more}
-use Rattle.reply_lines.proofs.Numbering.{at-place}
+use Rattle.reply_lines.proofs.Items.{flat_more, at-place}
 use Rattle.reply_lines.proofs.Outputs.{on_ok}
 use Rattle.reply_lines.proofs.Parts.{rows-prefix}
 use Rattle.reply_lines.proofs.lines.write_lines.Goals as goal

@@ -21,6 +21,6 @@ returns-clause-streams g c =
     let passes : c.in_ok-passes.passes.items ≡ map (λ (lane : Lane (Witness Entry)). lane.pass) c.run_round.new.lanes =
     c.in_ok-passes.ensures.passes ∙ ap (map (λ (lane : Lane (Witness Entry)). lane.pass))
     (came_back _ _ c.run_round.new.lanes c.in_ok-lanes.lanes.ok.0 (ap (λ (ls : List (Lane (Witness Entry))). length ls) (sym c.deref_mut.ensures.value) ∙ length_all_zip _ _ _ c.run_round.ensures.ran)) in
-    has-streams _ _ c.args.sent.now _ _ _ _ c.close_one.ensures.legal refl
+    has-streams _ _ c.args.sent.now _ _ _ _ c.close_host-history.ensures.legal refl
     (subst (λ h. Each (IsSentOf h) c.args.sent.now) c.requires.session c.requires.valid)
-    lanes c.run_round.ensures.ran c.in_ok-run_round.ensures.done passes c.close_one.ensures.passes
+    lanes c.run_round.ensures.ran c.in_ok-run_round.ensures.done passes c.close_host-history.ensures.passes

@@ -4,8 +4,8 @@ use Rattle.reply_lines.proofs.Printable.{legal-prints}
 use Rattle.reply_lines.proofs.Reporting.{report-of}
 use Rattle.reply_lines.proofs.output.Day.new.Goals as goal
 
-pub index_of-requires : goal.index_of-requires
-index_of-requires c = record { entries = legal-prints c.args.session.now c.args.entries.now c.requires.legal }
+pub desks_of-requires : goal.desks_of-requires
+desks_of-requires c = record { entries = legal-prints c.args.session.now c.args.entries.now c.requires.legal }
 
 pub returns : goal.returns
 returns c = record {
@@ -15,6 +15,6 @@ returns c = record {
     volumes = c.in_ok-report.ensures.volumes;
     uses = c.in_ok-report.ensures.uses;
     nets = c.in_ok-report.ensures.nets;
-    index = c.in_ok-index_of.ensures.index;
+    desks = c.in_ok-desks_of.ensures.desks;
   };
 }

@@ -1,0 +1,139 @@
+#!/usr/bin/env python3
+"""Refuses each allocation of a run in turn: refused_memory.py [--program PATH] [SESSION..].
+
+A shim of the C library's allocator, made by `cc` in a new folder and put before it by LD_PRELOAD, answers the Nth growth of a
+run with nothing. For N from 1 until a run makes fewer, the program has to end with the answer of an undisturbed run, or with
+status 6, `out of memory` on standard error (or a prefix of it) and a prefix of an output. Of `run` on threads the output may be
+that of any history: `check` has to say YES. Each row of the table is a session and a word: how many allocations, and how many
+of the refusals were told as want of memory. Without sessions it takes those of examples/.
+"""
+import argparse
+import os
+import subprocess
+import sys
+import tempfile
+
+HERE = os.path.dirname(os.path.abspath(__file__))
+SHIM = r"""
+#define _GNU_SOURCE
+#include <errno.h>
+#include <fcntl.h>
+#include <stdatomic.h>
+#include <stdlib.h>
+#include <sys/mman.h>
+#include <unistd.h>
+
+/* Counts the allocations in a file of eight bytes that is shared, and refuses the one that REFUSE names. */
+extern void *__libc_malloc(size_t);
+extern void *__libc_calloc(size_t, size_t);
+extern void *__libc_realloc(void *, size_t);
+extern void *__libc_memalign(size_t, size_t);
+static atomic_long *made;
+static long refused;
+
+__attribute__((constructor)) static void begin(void) {
+    const char *name = getenv("REFUSE_COUNT"), *word = getenv("REFUSE");
+    int file = name ? open(name, O_RDWR) : -1;
+    void *place = file < 0 ? MAP_FAILED : mmap(NULL, 8, PROT_READ | PROT_WRITE, MAP_SHARED, file, 0);
+    if (file >= 0) close(file);
+    if (place == MAP_FAILED) return;
+    refused = word ? atol(word) : 0;
+    made = place;
+}
+
+static int refuses(void) {
+    if (!made || atomic_fetch_add(made, 1) + 1 != refused) return 0;
+    errno = ENOMEM;
+    return 1;
+}
+
+void *malloc(size_t size) { return refuses() ? NULL : __libc_malloc(size); }
+void *calloc(size_t count, size_t size) { return refuses() ? NULL : __libc_calloc(count, size); }
+void *realloc(void *old, size_t size) { return refuses() ? NULL : __libc_realloc(old, size); }
+void *memalign(size_t align, size_t size) { return refuses() ? NULL : __libc_memalign(align, size); }
+void *aligned_alloc(size_t align, size_t size) { return refuses() ? NULL : __libc_memalign(align, size); }
+int posix_memalign(void **into, size_t align, size_t size) {
+    if (refuses()) return ENOMEM;
+    *into = __libc_memalign(align, size);
+    return *into ? 0 : ENOMEM;
+}
+"""
+
+
+class Trial:
+    """A session under a word of the program, run as often as it allocates."""
+
+    def __init__(self, program, shim, folder, text, words):
+        self.program, self.shim, self.folder, self.text, self.words = program, shim, folder, text, words
+        self.plain = self.ran(0)
+
+    def ran(self, refused):
+        made = os.path.join(self.folder, "made")
+        with open(made, "wb") as file:
+            file.write(bytes(8))
+        env = {"LD_PRELOAD": self.shim, "REFUSE": str(refused), "REFUSE_COUNT": made}
+        done = subprocess.run([self.program, *self.words], input=self.text, env=env, capture_output=True, timeout=120)
+        with open(made, "rb") as file:
+            return done.returncode, done.stdout, done.stderr, int.from_bytes(file.read(), "little")
+
+    def is_output(self, text):
+        if self.words[0] != "run":
+            return text == self.plain[1]
+        return subprocess.run([self.program, "check"], input=text, capture_output=True).stdout == b"YES\n"
+
+    def is_prefix(self, text):
+        # the order of the history is free on threads: the part that is the same in every order has to agree
+        if self.words[0] == "run":
+            return text[:64] == self.plain[1][: len(text[:64])]
+        return self.plain[1].startswith(text)
+
+    def judge(self, refused):
+        status, out, err, made = self.ran(refused)
+        if status == self.plain[0]:
+            fault = None if self.is_output(out) and err == self.plain[2] else "another answer"
+        elif status == 6:
+            fault = None if b"out of memory\n".startswith(err) and self.is_prefix(out) else "want of memory told wrongly"
+        else:
+            fault = f"status {status}"
+        return fault, status == 6, made
+
+    def row(self):
+        told, refused, wrong = 0, 0, []
+        while True:
+            refused += 1
+            fault, memory, made = self.judge(refused)
+            if made < refused:
+                return refused - 1, told, wrong
+            told += memory
+            if fault:
+                wrong.append((refused, fault))
+
+
+def main():
+    words = argparse.ArgumentParser(description=__doc__, formatter_class=argparse.RawDescriptionHelpFormatter)
+    words.add_argument("--program", default=os.path.join(HERE, "..", "crates", "fx_cli", "out", "fx_cli"))
+    words.add_argument("sessions", nargs="*")
+    told = words.parse_args()
+    examples = os.path.join(HERE, "..", "examples")
+    sessions = told.sessions or [os.path.join(examples, name) for name in ("first.fx", "morning.fx")]
+    bad = 0
+    with tempfile.TemporaryDirectory() as folder:
+        source, shim = os.path.join(folder, "shim.c"), os.path.join(folder, "shim.so")
+        with open(source, "w") as file:
+            file.write(SHIM)
+        subprocess.run(["cc", "-O1", "-shared", "-fPIC", source, "-o", shim], check=True)
+        for path in sessions:
+            with open(path, "rb") as file:
+                text = file.read()
+            output = subprocess.run([told.program, "serial"], input=text, capture_output=True).stdout
+            rows = [(["serial"], text), (["run", "--workers", "1"], text), (["run", "--workers", "2"], text), (["check"], output)]
+            for command, given in rows:
+                made, memory, wrong = Trial(told.program, shim, folder, given, command).row()
+                bad += len(wrong)
+                print(f"{os.path.basename(path):24} {' '.join(command):16} {made:6} allocations, {memory:6} told as want of memory, {len(wrong)} wrong", flush=True)
+                for refused, fault in wrong[:5]:
+                    print(f"    at {refused}: {fault}")
+    sys.exit(bad > 0)
+
+
+main()

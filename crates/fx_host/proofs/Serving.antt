@@ -1,0 +1,37 @@
+-- A command that is served at the host.
+use Rattle.std.proofs.Common.{ℕ, ◌≡◌, ◌<◌, List, Result, Ok, Err, IfOk, OnErr, Some, ap, arith}
+use Rattle.fx_amounts.specs.declared.memory.Memory.{Memory}
+use Rattle.fx_rules.specs.declared.command.Command.{Command}
+use Rattle.fx_rules.specs.declared.command.Command.TheVariants.{Order, Cancel, Reduce, Pull, Line, Show, Book, Bad}
+use Rattle.fx_rules.specs.declared.outcome.Outcome.{Outcome}
+use Rattle.fx_rules.specs.declared.outcome.Entry.{Entry}
+use Rattle.fx_rules.specs.Session.{Header, pair_count}
+use Rattle.fx_rules.specs.Step.{IsCommand}
+use Rattle.fx_rules.specs.History.{own}
+use Rattle.fx_chronicle.specs.Faces.{Witness}
+use Rattle.fx_desk.specs.Submitting.{Submitted}
+use Rattle.pair_steps.specs.Sending.{pair_of}
+use Rattle.pair_steps.proofs.Answered.{one_pair}
+use Rattle.credit_book.specs.Serving.{IsServed}
+use Rattle.credit_book.proofs.Submitting.{submitted}
+
+-- a command in one pair is in one of the session's
+pub pair_within : (h : Header) (bank : ℕ) (command : Command) (pair : ℕ) → IsCommand h bank command → pair_of command ≡ Some pair → pair < pair_count h
+pair_within h bank (Order side its price lots life) pair valid is = omega (arith, valid.0, one_pair its pair is)
+pair_within h bank (Cancel its number) pair valid is = omega (arith, valid.0, one_pair its pair is)
+pair_within h bank (Reduce its number lots) pair valid is = omega (arith, valid.0, one_pair its pair is)
+pair_within h bank (Pull its) pair valid is = omega (arith, valid, one_pair its pair is)
+pair_within h bank (Book its) pair valid is = omega (arith, valid, one_pair its pair is)
+pair_within h bank (Line other asked) pair valid is = cc
+pair_within h bank (Show other) pair valid is = cc
+pair_within h bank (Bad reason) pair valid is = cc
+
+-- what its bank then knows
+pub serves-submitted : (h : Header) (before : List Entry) (pass : Witness Entry) (command : Command) (after : List Entry) (pass' : Witness Entry) (r : Result Outcome Memory) → IfOk r (IsServed h before pass command after pass')
+    → IfOk r (Submitted h pass.key pass.seen (own pass.key pass.met) command pass'.seen (own pass'.key pass'.met))
+serves-submitted h before pass command after pass' (Ok outcome) served = submitted h before pass command after pass' outcome served
+serves-submitted h before pass command after pass' (Err e) served = tt
+
+pub same_bank : (h : Header) (before : List Entry) (pass : Witness Entry) (command : Command) (after : List Entry) (pass' : Witness Entry) (r : Result Outcome Memory) → IfOk r (IsServed h before pass command after pass') → OnErr r (pass' ≡ pass) → pass'.key ≡ pass.key
+same_bank h before pass command after pass' (Ok outcome) served kept = ap (λ (w : Witness Entry). w.key) served.meets
+same_bank h before pass command after pass' (Err e) served kept = ap (λ (w : Witness Entry). w.key) kept

@@ -1,0 +1,190 @@
+//! A credit change over all pairs, while no other command of a pair is served.
+ghost use Rattle.std.specs.Prelude.{◌≡◌, ◌<◌, ◌-◌, ◌+◌, ◌^◌, [], true, length, IfOk, OnOk, OnErr};
+ghost use Rattle.fx_rules.specs.declared.command.Command.TheVariants.{Line};
+ghost use Rattle.fx_rules.specs.Session.{IsSession, pair_count};
+ghost use Rattle.fx_rules.specs.Keyed.{pair_key};
+ghost use Rattle.fx_rules.specs.Step.{IsCommand};
+ghost use Rattle.fx_rules.specs.History.{state, own};
+ghost use Rattle.fx_chronicle.specs.Touching.{pends};
+ghost use Rattle.credit_raise.specs.UnderWay.{IsUnderWay, command_of};
+ghost use Rattle.credit_book.specs.Recorded.{IsCreditBook, signed_by};
+ghost use Rattle.credit_book.specs.Serving.{IsServed};
+ghost use Rattle.pair_shards.specs.Shards.{PairsPend};
+ghost use Rattle.fx_host.specs.Changing.{IsLast, IsPlanned};
+
+use crate::locks::{lock_pair, pair_at};
+use credit_book::{CreditBook, Pass};
+use credit_raise::Raising;
+use fx_amounts::{BankId, Memory, PairId, Units};
+use fx_chronicle::Naming;
+use fx_rules::{Command, Entry, Outcome};
+use pair_shards::Shard;
+use std::alloc::Global;
+use std::sync::{Mutex, Wait};
+
+/// A credit change once every pair had its turn. Nothing is made of it yet.
+struct Planned {
+    /// What it makes in each pair.
+    raising: Raising,
+    /// Its entry.
+    entry: Entry,
+    /// What its bank is told.
+    answer: Outcome,
+}
+
+/// Serves a bank's credit change. All pairs are planned, and all memory is taken, before anything is made; then it is entered into
+/// the history, and each pair signs it and makes its part. After `Memory` the credit book and the pass are as they were, and so
+/// are the pairs' books.
+pub(crate) fn change_all<R: Wait, N: Naming>(
+    rt: &R,
+    alloc: Global,
+    shards: &[Mutex<Shard<N>>],
+    credit: &mut CreditBook<N>,
+    pass: &mut Pass<N>,
+    other: BankId,
+    asked: Units,
+) -> Result<Outcome, Memory>
+    requires pairs { length shards.now ≡ pair_count N.session }
+    requires signed { credit.old.history.pending ≡ [] }
+    requires command { IsCommand N.session pass.old.key (Line other asked) }
+    requires few { length (own pass.old.key pass.old.met) < 2 ^ 32 - 1 }
+    ensures served { IfOk result (IsServed N.session credit.old.history.entries pass.old (Line other asked) credit.new.history.entries pass.new) }
+    ensures signed { credit.new.history.pending ≡ [] }
+    ensures memory { OnErr result (credit.new ≡ credit.old) }
+    ensures pass_memory { OnErr result (pass.new ≡ pass.old) }
+{
+    let Planned {
+        raising,
+        entry,
+        answer,
+    } = plan_change(rt, alloc, shards, credit, pass, other, asked)?;
+    credit.reserve()?;
+    credit.enter(pass, entry);
+    carry_all(rt, shards, credit, &raising);
+    Ok(answer)
+}
+
+/// Plans the next command of the pass's bank, a credit change, pair by pair. It takes memory for all that is made of it, but for the
+/// history's room.
+fn plan_change<R: Wait, N: Naming>(
+    rt: &R,
+    alloc: Global,
+    shards: &[Mutex<Shard<N>>],
+    credit: &mut CreditBook<N>,
+    pass: &mut Pass<N>,
+    other: BankId,
+    asked: Units,
+) -> Result<Planned, Memory>
+    requires pairs { length shards.now ≡ pair_count N.session }
+    requires signed { credit.old.history.pending ≡ [] }
+    requires command { IsCommand N.session pass.old.key (Line other asked) }
+    requires few { length (own pass.old.key pass.old.met) < 2 ^ 32 - 1 }
+    ensures planned { IfOk result (λ planned. IsPlanned N.session credit.old.history.entries pass.old.key (Line other asked) planned.raising planned.entry planned.answer) }
+    ensures same { credit.new ≡ credit.old }
+    ensures pass { pass.new ≡ pass.old }
+    ensures kept { IsCreditBook N.session credit.new }
+{
+    let sender = credit.sender(pass);
+    let mut raising = Raising::open(alloc, credit.lines(), sender.bank, other, asked);
+    plan_all(rt, alloc, shards, credit, &mut raising)?;
+    let answer = raising.outcome(alloc)?;
+    let entry = Entry {
+        bank: sender.bank,
+        number: sender.number,
+        command: Command::Line {
+            bank: other,
+            limit: asked,
+        },
+        outcome: answer.copy()?,
+    };
+    Ok(Planned {
+        raising,
+        entry,
+        answer,
+    })
+}
+
+/// Each pair has its turn in a credit change that has just begun, by the line that the pairs before it left.
+fn plan_all<R: Wait, N: Naming>(
+    rt: &R,
+    alloc: Global,
+    shards: &[Mutex<Shard<N>>],
+    credit: &mut CreditBook<N>,
+    raising: &mut Raising,
+) -> Result<(), Memory>
+    requires session { IsSession N.session }
+    requires pairs { length shards.now ≡ pair_count N.session }
+    requires signed { credit.old.history.pending ≡ [] }
+    requires under_way { IsUnderWay N.session (state N.session credit.old.history.entries) raising.old }
+    requires begins { raising.old.plans ≡ [] }
+    ensures goes_on { OnOk result (IsUnderWay N.session (state N.session credit.old.history.entries) raising.new) }
+    ensures turns { OnOk result (length raising.new.plans ≡ pair_count N.session) }
+    ensures command { command_of raising.new ≡ command_of raising.old }
+    ensures bank { raising.new.bank ≡ raising.old.bank }
+    ensures same { credit.new ≡ credit.old }
+{
+    for place in 0..shards.len() {
+        plan_pair(rt, alloc, shards, credit, raising, pair_at(place))?;
+    }
+    Ok(())
+}
+
+/// The next pair has its turn. Its lock is given back.
+fn plan_pair<R: Wait, N: Naming>(
+    rt: &R,
+    alloc: Global,
+    shards: &[Mutex<Shard<N>>],
+    credit: &mut CreditBook<N>,
+    raising: &mut Raising,
+    pair: PairId,
+) -> Result<(), Memory>
+    requires within { pair < length shards.now }
+    requires signed { credit.old.history.pending ≡ [] }
+    requires under_way { IsUnderWay N.session (state N.session credit.old.history.entries) raising.old }
+    requires next { pair ≡ length raising.old.plans }
+    ensures goes_on { OnOk result (IsUnderWay N.session (state N.session credit.old.history.entries) raising.new) }
+    ensures turns { OnOk result (length raising.new.plans ≡ length raising.old.plans + 1) }
+    ensures command { command_of raising.new ≡ command_of raising.old }
+    ensures bank { raising.new.bank ≡ raising.old.bank }
+    ensures same { credit.new ≡ credit.old }
+{
+    let mut shard = lock_pair(rt, shards, pair);
+    shard.turn(alloc, credit, raising)
+}
+
+/// Each pair signs the last entry, of a credit change for which each had its turn, and makes its part.
+fn carry_all<R: Wait, N: Naming>(
+    rt: &R,
+    shards: &[Mutex<Shard<N>>],
+    credit: &mut CreditBook<N>,
+    raising: &Raising,
+)
+    requires session { IsSession N.session }
+    requires pairs { length shards.now ≡ pair_count N.session }
+    requires last { IsLast N.session credit.old.history.entries raising.now }
+    requires pend { PairsPend N.session 0 credit.old.history.pending }
+    ensures entries { credit.new.history.entries ≡ credit.old.history.entries }
+    ensures signed { credit.new.history.pending ≡ [] }
+{
+    for place in 0..shards.len() {
+        carry_pair(rt, shards, credit, raising, pair_at(place));
+    }
+}
+
+/// One pair signs, and makes its part. Its lock is given back.
+fn carry_pair<R: Wait, N: Naming>(
+    rt: &R,
+    shards: &[Mutex<Shard<N>>],
+    credit: &mut CreditBook<N>,
+    raising: &Raising,
+    pair: PairId,
+)
+    requires pairs { length shards.now ≡ pair_count N.session }
+    requires within { pair < pair_count N.session }
+    requires last { IsLast N.session credit.old.history.entries raising.now }
+    requires pends { pends credit.old.history.pending (pair_key pair) ≡ true }
+    ensures value { credit.new ≡ signed_by (pair_key pair) credit.old }
+{
+    let mut shard = lock_pair(rt, shards, pair);
+    shard.carry(credit, raising.plan(pair));
+}

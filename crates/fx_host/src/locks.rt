@@ -1,0 +1,47 @@
+//! The locks of the pairs.
+ghost use Rattle.std.specs.Prelude.{◌≡◌, ◌<◌, ◌≤◌, length};
+ghost use Rattle.std.specs.Sync.Mutex.{mutex_guard_value};
+ghost use Rattle.fx_rules.specs.Keyed.{pair_key};
+
+use fx_amounts::PairId;
+use fx_chronicle::Naming;
+use fx_rules::Gate;
+use pair_shards::Shard;
+use std::sync::{Mutex, MutexGuard, Wait};
+
+/// The pair at a place of the header.
+pub(crate) fn pair_at(place: usize) -> PairId
+    requires within { place < 32 }
+    ensures value { result ≡ place }
+{
+    PairId::new(place as u8).unwrap()
+}
+
+/// The shard of a pair, once its lock is got. What lies behind a lock is known by its type alone, so the shard is asked for its
+/// pair.
+pub(crate) fn lock_pair<'a, R: Wait, N: Naming>(
+    rt: &R,
+    shards: &'a [Mutex<Shard<N>>],
+    pair: PairId,
+) -> MutexGuard<'a, Shard<N>>
+    requires within { pair < length shards.now }
+    ensures pair { (mutex_guard_value result).book.pair ≡ pair }
+    ensures key { (mutex_guard_value result).front.key ≡ pair_key pair }
+{
+    for _ in rt.forever() {
+        let shard = shards[pair.index()].lock(rt);
+        if shard.pair() == pair {
+            return shard;
+        }
+    }
+    unreachable!()
+}
+
+/// Calls the gate's `inside` once for each of so many pairs, in order.
+pub(crate) fn tell_all<R: Wait, G: Gate>(rt: &R, gate: &G, pairs: usize)
+    requires pairs { pairs ≤ 32 }
+{
+    for place in 0..pairs {
+        gate.inside(rt, pair_at(place));
+    }
+}

@@ -1,0 +1,93 @@
+ghost use Rattle.std.specs.Prelude.{◌≡◌, ◌+◌, length, IfOk};
+ghost use Rattle.fx_rules.specs.Session.{IsSession, pair_count, sender_count};
+ghost use Rattle.fx_chronicle.specs.Faces.{AreNew};
+ghost use Rattle.credit_book.specs.Recorded.{key_count};
+ghost use Rattle.fx_host.specs.Opening.{ArePairFronts};
+
+use crate::host::{Host, ShardRoom};
+use crate::locks::pair_at;
+use credit_book::{CreditBook, SignedBook};
+use fx_amounts::{BankId, Memory};
+use fx_chronicle::{Blank, Front, Naming, open};
+use fx_desk::Pass;
+use fx_rules::{Entry, Session};
+use pair_shards::Shard;
+use std::alloc::Global;
+use std::sync::{Mutex, RwLock};
+
+/// For how many keys the blank of a session's host is made.
+pub fn keys_of(session: &Session) -> u32
+    ensures keys { result ≡ key_count session.now }
+{
+    65 + session.pairs().len() as u32
+}
+
+/// Opens a host for a day of the session, with one pass for each bank in the session's order. The blank is for 65 keys and one more
+/// for each pair. At `Memory` the blank is gone.
+pub fn open_host<N: Naming>(
+    alloc: Global,
+    blank: Blank<Entry>,
+    session: &Session,
+) -> Result<(Host<N>, Vec<Pass<N>>), Memory>
+    requires table { blank.table ≡ N.table }
+    requires keys { blank.keys ≡ key_count N.session }
+    requires session { session.now ≡ N.session }
+    ensures passes { IfOk result (λ opened. AreNew (sender_count N.session) opened.1.items) }
+{
+    let (writer, mut fronts) = open::<N, Entry>(alloc, blank)?;
+    let pair_fronts = fronts.split_off(65)?;
+    let passes = passes_of(alloc, session.banks().len(), fronts)?;
+    let shards = shards_of(alloc, session, pair_fronts)?;
+    let book = CreditBook::open(alloc, session, writer)?;
+    let mut closed = Vec::new(alloc);
+    closed.reserve(shards.len())?;
+    let host = Host {
+        alloc,
+        turn: RwLock::new(()),
+        shards,
+        credit: Mutex::new(SignedBook { book }),
+        closed: Mutex::new(ShardRoom { shards: closed }),
+    };
+    Ok((host, passes))
+}
+
+/// The shards of the pairs, over the fronts of their keys, each behind a lock of its own.
+fn shards_of<N: Naming>(
+    alloc: Global,
+    session: &Session,
+    fronts: Vec<Front<N, Entry>>,
+) -> Result<Vec<Mutex<Shard<N>>>, Memory>
+    requires session { session.now ≡ N.session }
+    requires valid { IsSession N.session }
+    requires count { length fronts.items ≡ pair_count N.session }
+    requires fronts { ArePairFronts 0 fronts.items }
+    ensures count { IfOk result (λ shards. length shards.items ≡ pair_count N.session) }
+{
+    let mut shards = Vec::new(alloc);
+    for front in fronts {
+        let pair = pair_at(shards.len());
+        let shard = Shard::open(alloc, session, pair, front)?;
+        shards.push(Mutex::new(shard))?;
+    }
+    Ok(shards)
+}
+
+/// The passes of the first so many banks, over the fronts of their keys.
+fn passes_of<N: Naming>(
+    alloc: Global,
+    banks: usize,
+    mut fronts: Vec<Front<N, Entry>>,
+) -> Result<Vec<Pass<N>>, Memory>
+    requires session { IsSession N.session }
+    requires fronts { AreNew 65 fronts.items }
+    requires banks { banks ≡ sender_count N.session }
+    ensures passes { IfOk result (λ passes. AreNew banks passes.items) }
+{
+    fronts.truncate(banks);
+    let mut passes = Vec::new(alloc);
+    for front in fronts {
+        let bank = BankId::new(front.key() as u8).unwrap();
+        passes.push(Pass::open(bank, front))?;
+    }
+    Ok(passes)
+}

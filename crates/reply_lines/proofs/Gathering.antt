@@ -1,0 +1,98 @@
+-- Notices added one after another to the desks of their banks.
+use Rattle.std.proofs.Common.{ℕ, zero, suc, ◌≡◌, ◌+◌, ◌<◌, eqb, cond, List, [], ◌∷◌, ◌++◌, inl, inr, length, take, refl, ap, ap₂, sym, subst, ◌∙◌, arith, append_assoc, append-nil, add-zero, length-append, get_or, set, replicate}
+use Rattle.std.proofs.lemmas.Bool.{cases_eq, cond-true, cond-false, eq-eqb, ne_eqb}
+use Rattle.std.proofs.lemmas.List.{get_or-set_same, get_or-set_other, length-set, take_all}
+use Rattle.std.specs.List.{flat_map}
+use Rattle.fx_rules.specs.declared.outcome.Entry.{Entry}
+use Rattle.fx_rules.specs.Session.{Header, bank_count}
+use Rattle.reply_lines.specs.Rows.{row, fields_text}
+use Rattle.reply_lines.specs.Desks.{DeskSoFar, desk_with, nothing_yet, with_notice, with_notices, HaveGot, AreDesksOf}
+use Rattle.reply_lines.specs.Notices.{Notice, notice_line, notice_lines, notices}
+use Rattle.reply_lines.proofs.Items.{flat_more}
+
+-- a line has its line feed at least
+pub row-some : (first : List ℕ) (rest : List (List ℕ)) → 0 < length (row first rest)
+row-some first rest = omega (arith, length-append (first ++ fields_text rest) (10 ∷ []))
+
+-- One desk
+
+with_notices-append : (h : Header) (desk : DeskSoFar) (xs ys : List Notice) → with_notices h desk (xs ++ ys) ≡ with_notices h (with_notices h desk xs) ys
+with_notices-append h desk [] ys = refl
+with_notices-append h desk (x ∷ xs) ys = with_notices-append h (with_notice h desk x) xs ys
+
+-- the notices are counted, and their lines stand behind those from before
+with_notices-is : (h : Header) (desk : DeskSoFar) (ns : List Notice) → with_notices h desk ns ≡ desk_with (desk.count + length ns) (desk.lines ++ notice_lines h desk.count ns)
+with_notices-is h desk [] = ap₂ desk_with (sym (add-zero desk.count)) (sym (append-nil desk.lines))
+with_notices-is h desk (n ∷ ns) =
+    with_notices-is h (with_notice h desk n) ns
+    ∙ ap₂ desk_with (omega arith) (append_assoc desk.lines (notice_line h (desk.count + 1) n) (notice_lines h (desk.count + 1) ns))
+
+-- All desks
+
+pub got-nothing : (h : Header) (desks : List DeskSoFar) → HaveGot h (λ bank. []) desks desks
+got-nothing h desks = record { count = refl; each = λ bank within. refl }
+
+-- the desks got the same, written in another way
+pub got-same : (h : Header) (more same : ℕ → List Notice) (before after : List DeskSoFar) → ((bank : ℕ) → more bank ≡ same bank) → HaveGot h more before after → HaveGot h same before after
+got-same h more same before after are got = record {
+  count = got.count;
+  each = λ bank within. got.each bank within ∙ ap (with_notices h (get_or before bank nothing_yet)) (are bank);
+}
+
+pub got-then : (h : Header) (first second : ℕ → List Notice) (before between after : List DeskSoFar) → HaveGot h first before between → HaveGot h second between after → HaveGot h (λ bank. first bank ++ second bank) before after
+got-then h first second before between after one other = record {
+  count = other.count ∙ one.count;
+  each = λ bank within.
+      other.each bank (subst (λ n. bank < n) (sym one.count) within)
+      ∙ ap (λ desk. with_notices h desk (second bank)) (one.each bank within)
+      ∙ sym (with_notices-append h (get_or before bank nothing_yet) (first bank) (second bank));
+}
+
+-- one desk got one notice
+pub got-one : (h : Header) (owner : ℕ) (notice : Notice) (before after : List DeskSoFar) → owner < length before → after ≡ set before owner (with_notice h (get_or before owner nothing_yet) notice) → HaveGot h (λ bank. cond (eqb owner bank) (notice ∷ []) []) before after
+got-one h owner notice before after inside is =
+    let more = with_notice h (get_or before owner nothing_yet) notice in
+    record {
+      count = ap length is ∙ length-set before owner more;
+      each = λ bank within. ap (λ desks. get_or desks bank nothing_yet) is ∙ elim (cases_eq bank owner) [
+        | inl same ↦ subst (λ b. get_or (set before owner more) b nothing_yet ≡ with_notices h (get_or before b nothing_yet) (cond (eqb owner b) (notice ∷ []) [])) (sym same)
+            (get_or-set_same before owner more nothing_yet inside
+            ∙ ap (with_notices h (get_or before owner nothing_yet)) (sym (cond-true (eqb owner owner) (notice ∷ []) [] (eq-eqb owner owner refl))))
+        | inr differ ↦ get_or-set_other before owner bank more nothing_yet differ
+            ∙ ap (with_notices h (get_or before bank nothing_yet)) (sym (cond-false (eqb owner bank) (notice ∷ []) [] (ne_eqb owner bank (λ same. differ (sym same)))))
+      ];
+    }
+
+-- the notices of one item more
+pub got-more : {X : Type 0} (h : Header) (f : ℕ → X → List Notice) (xs : List X) (i : ℕ) (x : X) (before between after : List DeskSoFar) → i < length xs → x ≡ get_or xs i x → HaveGot h (λ bank. flat_map (f bank) (take i xs)) before between → HaveGot h (λ bank. f bank x) between after → HaveGot h (λ bank. flat_map (f bank) (take (i + 1) xs)) before after
+got-more h f xs i x before between after within is so_far one =
+    got-same h (λ bank. flat_map (f bank) (take i xs) ++ f bank x) (λ bank. flat_map (f bank) (take (i + 1) xs)) before after
+    (λ bank. sym (flat_more (f bank) xs i x within is))
+    (got-then h (λ bank. flat_map (f bank) (take i xs)) (λ bank. f bank x) before between after so_far one)
+
+-- and of all
+pub got-all : {X : Type 0} (h : Header) (f : ℕ → X → List Notice) (xs : List X) (i : ℕ) (before after : List DeskSoFar) → i ≡ length xs → HaveGot h (λ bank. flat_map (f bank) (take i xs)) before after → HaveGot h (λ bank. flat_map (f bank) xs) before after
+got-all h f xs i before after is so_far =
+    got-same h (λ bank. flat_map (f bank) (take i xs)) (λ bank. flat_map (f bank) xs) before after
+    (λ bank. ap (flat_map (f bank)) (ap (λ n. take n xs) is ∙ take_all (length xs) xs (omega arith))) so_far
+
+get_or-replicate : (n bank : ℕ) → get_or (replicate n nothing_yet) bank nothing_yet ≡ nothing_yet
+get_or-replicate zero bank = refl
+get_or-replicate (suc n) zero = refl
+get_or-replicate (suc n) (suc bank) = get_or-replicate n bank
+
+length-replicate : (n : ℕ) → length (replicate n nothing_yet) ≡ n
+length-replicate zero = refl
+length-replicate (suc n) = ap suc (length-replicate n)
+
+-- desks that had nothing and got all notices of a history are the desks of it
+pub desks-all : (h : Header) (entries : List Entry) (before after : List DeskSoFar) → before ≡ replicate (bank_count h) nothing_yet → HaveGot h (λ bank. notices bank entries) before after → AreDesksOf h entries after
+desks-all h entries before after none got =
+    let many : length before ≡ bank_count h = ap length none ∙ length-replicate (bank_count h) in record {
+      banks = got.count ∙ many;
+      each = λ bank within.
+          let all : 0 + length (notices bank entries) ≡ length (notices bank entries) = omega arith in
+          got.each bank (subst (λ n. bank < n) (sym many) within)
+          ∙ ap (λ desk. with_notices h desk (notices bank entries)) (ap (λ desks. get_or desks bank nothing_yet) none ∙ get_or-replicate (bank_count h) bank)
+          ∙ with_notices-is h nothing_yet (notices bank entries) ∙ ap (λ n. desk_with n (notice_lines h 0 (notices bank entries))) all;
+    }

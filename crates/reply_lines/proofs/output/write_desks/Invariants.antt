@@ -1,7 +1,0 @@
-use Rattle.fx_pieces.specs.Gathered.{Kept}
-use Rattle.reply_lines.specs.Output.{desks_below}
-use Rattle.reply_lines.proofs.output.write_desks.Given as goal
-
--- the desks of the banks so far are written
-abbrev pub invariant-loop-place : goal.invariant-loop-place
-invariant-loop-place g l = Kept g.K.Sink.written g.K.Sink.faults l.initial.pieces l.initial.out l.pieces l.out (desks_below l.session l.entries l.place)

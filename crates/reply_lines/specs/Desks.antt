@@ -1,0 +1,41 @@
+-- Each bank's desk, gathered in one walk over a history.
+use Rattle.std.specs.Prelude.{ℕ, ◌≡◌, ◌<◌, ◌+◌, List, [], ◌∷◌, ◌++◌, length, slice_index_or}
+use Rattle.fx_rules.specs.declared.outcome.Entry.{Entry}
+use Rattle.fx_rules.specs.Session.{Header, bank_count}
+use Rattle.reply_lines.specs.Notices.{Notice, notice_line, notice_lines, notices}
+
+-- how many notices a desk has so far, and their lines
+pub record DeskSoFar : Type 0 where
+  pub count : ℕ
+  pub lines : List ℕ
+
+abbrev pub desk_with : ℕ → List ℕ → DeskSoFar
+desk_with count lines = record { count = count; lines = lines }
+
+-- a desk without a notice
+abbrev pub nothing_yet : DeskSoFar
+nothing_yet = desk_with 0 []
+
+-- a desk with one line more
+abbrev pub with_line : DeskSoFar → List ℕ → DeskSoFar
+with_line desk line = desk_with (desk.count + 1) (desk.lines ++ line)
+
+-- with one notice more, and with some more in order
+abbrev pub with_notice : Header → DeskSoFar → Notice → DeskSoFar
+with_notice h desk notice = with_line desk (notice_line h (desk.count + 1) notice)
+
+abbrev pub with_notices : Header → DeskSoFar → List Notice → DeskSoFar
+with_notices h desk [] = desk
+with_notices h desk (notice ∷ more) = with_notices h (with_notice h desk notice) more
+
+-- each bank's desk got some more notices
+pub record HaveGot (h : Header) (more : ℕ → List Notice) (before after : List DeskSoFar) : Type 0 where
+  pub count : length after ≡ length before
+  pub each : (bank : ℕ) → bank < length before →
+      slice_index_or after bank nothing_yet ≡ with_notices h (slice_index_or before bank nothing_yet) (more bank)
+
+-- each bank's desk has its notices of a history
+pub record AreDesksOf (h : Header) (entries : List Entry) (desks : List DeskSoFar) : Type 0 where
+  pub banks : length desks ≡ bank_count h
+  pub each : (bank : ℕ) → bank < bank_count h →
+      slice_index_or desks bank nothing_yet ≡ desk_with (length (notices bank entries)) (notice_lines h 0 (notices bank entries))
