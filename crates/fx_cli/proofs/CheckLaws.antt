@@ -1,24 +1,24 @@
 -- What the word `check` does, from what its parts do.
-use Rattle.std.proofs.Common.{ℕ, ◌≡◌, ◌<◌, ◌≤◌, ◌⊎◌, List, [], ◌∷◌, ◌++◌, inl, inr, refl, sym, ap, subst, ◌∙◌, arith, length, Option, Some, None, IfSome, Result, Ok, Err, append-nil, length-append}
+use Rattle.std.proofs.Common.{ℕ, ◌≡◌, ◌<◌, ◌⊎◌, List, [], ◌∷◌, ◌++◌, inl, inr, refl, sym, ap, subst, ◌∙◌, arith, length, Option, Some, None, IfSome, Result, Ok, Err, length-append}
 use Rattle.std.specs.declared.alloc.Global.{Global}
 use Rattle.std.specs.declared.vec.Vec.{Vec}
 use Rattle.std.specs.Io.KnownBytes.{IsAtEnd}
 use Rattle.fx_edges.specs.Faults.{Rose}
-use Rattle.fx_edges.specs.Writing.{Appended, AppendedPart}
+use Rattle.fx_edges.specs.Writing.{Appended}
 use Rattle.fx_edges.specs.Reading.{Took}
 use Rattle.fx_edges.proofs.Reading.{Took-nil}
 use Rattle.fx_edges.proofs.Writing.{Appended-nil, AppendedPart-whole}
 use Rattle.fx_rules.specs.Lists.{Among}
-use Rattle.journal_check.specs.Verdict.{IsVerdict, IsSomeOutput}
+use Rattle.journal_check.specs.Verdict.{IsSomeOutput}
 use Rattle.journal_check.specs.declared.check.Verdict.{Verdict}
 use Rattle.journal_check.specs.declared.check.Verdict.TheVariants.{Yes, No}
-use Rattle.fx_cli.specs.Check.{output_limit, verdict_text, halted, HasTaken, Halted, WroteVerdict, WrotePartOf, ToldVerdict, ThenTold, Checked}
-use Rattle.fx_cli.specs.CheckCall.{IsOther, DidCheck}
-use Rattle.fx_cli.specs.TopCall.{EndsExactly, GotNothing, WritesNothing}
+use Rattle.fx_cli.specs.Check.{output_limit, halted, HasTaken, Halted, WroteVerdict, WrotePartOf, ToldVerdict, ThenTold, Checked}
+use Rattle.fx_cli.specs.CheckCall.{DidCheck}
+use Rattle.fx_cli.specs.TopCall.{GotNothing, WritesNothing}
 use Rattle.fx_cli.specs.declared.check.Halt.{Halt}
 use Rattle.fx_cli.specs.declared.check.Halt.TheVariants as halts
 use Rattle.fx_cli.specs.declared.status.Status.{Status}
-use Rattle.fx_cli.specs.declared.status.Status.TheVariants.{Done, Usage, Header, Cut, ReadFault, WriteFault, Memory, TooMuch, Differs}
+use Rattle.fx_cli.specs.declared.status.Status.TheVariants.{Done, Usage, ReadFault, WriteFault, Memory, TooMuch, Differs}
 use Rattle.fx_cli.proofs.TopCallLaws.{Took-is, told_bytes}
 
 failed : Halt → Result (Vec ℕ Global) Halt

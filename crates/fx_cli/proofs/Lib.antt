@@ -1,4 +1,5 @@
 pub mod HeadlineLaws
+pub mod Served
 pub mod TopCallLaws
 pub mod CheckLaws
 pub mod LoadLaws

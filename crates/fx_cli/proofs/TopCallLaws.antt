@@ -1,37 +1,36 @@
 -- What a run that ended with a status says of that status, of the bytes taken and of the bytes written.
-use Rattle.std.proofs.Common.{◌≡◌, ℕ, ◌≤◌, ◌<◌, Bool, true, false, List, [], ◌∷◌, ◌++◌, length, take, Option, Some, None, Result, Ok, Err, refl, sym, ap, ◌∙◌, subst, arith, ◌⊎◌, inl, inr, map}
+use Rattle.std.proofs.Common.{◌≡◌, ℕ, ◌≤◌, ◌<◌, List, [], ◌∷◌, ◌++◌, length, take, Option, Some, None, Result, Ok, Err, refl, sym, ap, ◌∙◌, subst, arith, ◌⊎◌, inl, inr}
 use Rattle.std.specs.Prelude.{IfSome}
-use Rattle.std.specs.Io.KnownBytes.{prepend_known, IsAtEnd}
+use Rattle.std.specs.Io.KnownBytes.{prepend_known}
 use Rattle.std.proofs.lemmas.List.{append_cancel_right, append-nil, length-append, take_all, take-append-le}
 use Rattle.fx_rules.specs.declared.outcome.Entry.{Entry}
+use Rattle.fx_rules.specs.declared.command.Sent.{Sent}
 use Rattle.fx_rules.specs.Lists.{Among}
-use Rattle.fx_rules.specs.Sending.{sent_by}
-use Rattle.journal_check.specs.Listed.{listed}
 use Rattle.fx_rules.specs.Session.{Header}
 use Rattle.fx_edges.specs.Faults.{Rose}
 use Rattle.fx_edges.specs.Reading.{Took}
-use Rattle.fx_edges.specs.Writing.{Appended, AppendedPart}
+use Rattle.fx_edges.specs.Writing.{Appended}
 use Rattle.fx_edges.proofs.Reading.{Took-nil}
 use Rattle.fx_edges.proofs.Writing.{Appended-nil, AppendedPart-whole}
-use Rattle.reply_lines.specs.Output.{IsOutput}
-use Rattle.reply_lines.specs.declared.output.Ending.TheVariants as endings
 use Rattle.session_head.specs.Head as heads
 use Rattle.session_head.specs.declared.reason.HeadReason.{HeadReason}
 use Rattle.session_script.specs.Input.{input_limit}
-use Rattle.session_script.specs.Reading.{HasNoFault, IsPrompt, Says, MetEnd, IsEnded, Stopped, Ended, HasRead}
-use Rattle.fx_cli.specs.Run.{WroteAll, WrotePart, RanScript, Followed, Ran}
-use Rattle.session_script.specs.Script.{HasSession, HasFault, HasEnd, EndsWithEnd, sent_in, strays_of}
+use Rattle.session_script.specs.Reading.{HasNoFault, IsPrompt, IsEnded, EndedEarly, TextEnded, Stopped}
+use Rattle.session_script.specs.Script.{HasFault, HasEnd, EndsWithEnd}
+use Rattle.session_script.specs.declared.ends.EarlyEnd.{EarlyEnd}
+use Rattle.session_script.specs.declared.ends.EarlyEnd.TheVariants as early
+use Rattle.session_script.specs.declared.ends.TextEnd.{TextEnd}
+use Rattle.session_script.specs.declared.ends.TextEnd.TheVariants.{EndLine, Early}
+use Rattle.session_script.specs.declared.ends.Stop.{Stop}
+use Rattle.session_script.specs.declared.ends.Stop.TheVariants as stops
+use Rattle.fx_cli.specs.Run.{GotPartOf, RanText, ReadCame, status_read, Followed, Ran}
 use Rattle.fx_cli.specs.SessionCall.{DidSession}
-use Rattle.fx_cli.specs.Status.{status_of}
-use Rattle.fx_cli.specs.TopCall.{EndsExactly, IsOutputOf, GotOutput, GotPart, GotNothing, WritesNothing, IsSessionText}
-use Rattle.session_script.specs.declared.reading.Stop.{Stop}
-use Rattle.session_script.specs.declared.reading.Stop.TheVariants as stops
-use Rattle.fx_rules.specs.declared.command.Sent.{Sent}
-use Rattle.session_script.specs.declared.script.Script.{Script}
+use Rattle.fx_cli.specs.Status.{status_at, status_of}
+use Rattle.fx_cli.specs.TopCall.{EndsExactly, GotOutput, GotPart, GotSoFar, GotNothing, IsSessionText}
 use Rattle.fx_cli.specs.declared.status.Status.{Status}
 use Rattle.fx_cli.specs.declared.status.Status.TheVariants.{Done, Usage, Header as HeadFault, Cut, ReadFault, WriteFault, Memory, TooMuch, Differs}
 use Rattle.session_script.proofs.ScriptReading.{GoesOn-nil, prompt_here}
-use Rattle.session_script.proofs.ScriptLaws.{HasSession-more, HasSession-one, HasSession-no_fault, HasFault-more}
+use Rattle.session_script.proofs.ScriptLaws.{HasSession-no_fault, HasFault-more}
 
 -- Bytes taken
 
@@ -56,45 +55,103 @@ faults_agree : (text : List ℕ) (line other : ℕ) (reason why : HeadReason) �
 unfolding HasFault
 faults_agree text line other reason why fault again = let same : heads.Faulted line reason ≡ heads.Faulted other why = sym fault ∙ again in cc
 
--- The status of each stop
+-- The statuses of what a reading came to
 
+end_of : Status → Option TextEnd
+end_of Done = Some EndLine
+end_of Cut = Some (Early early.Cut)
+end_of ReadFault = Some (Early early.ReadFault)
+end_of TooMuch = Some (Early early.TooMuch)
+end_of _ = None
+
+end_is : (end : TextEnd) → end_of (status_at end) ≡ Some end
+unfolding end_of
+end_is EndLine = refl
+end_is (Early early.Cut) = refl
+end_is (Early early.ReadFault) = refl
+end_is (Early early.TooMuch) = refl
+
+some_end : (a b : TextEnd) → Some a ≡ Some b → a ≡ b
+some_end a b e = cc
+
+same_end : (end other : TextEnd) → status_at end ≡ status_at other → end ≡ other
+same_end end other same = some_end end other (sym (end_is end) ∙ ap end_of same ∙ end_is other)
+
+-- a status that no end of a text has
+abbrev IsNoEnd : Status → Type 0
+IsNoEnd status = end_of status ≡ None
+
+header_no_end : (line : ℕ) (reason : HeadReason) → IsNoEnd (HeadFault line reason)
+unfolding end_of
+header_no_end line reason = refl
+
+write_no_end : IsNoEnd WriteFault
+unfolding end_of
+write_no_end = refl
+
+memory_no_end : IsNoEnd Memory
+unfolding end_of
+memory_no_end = refl
+
+differs_no_end : IsNoEnd Differs
+unfolding end_of
+differs_no_end = refl
+
+usage_no_end : IsNoEnd Usage
+unfolding end_of
+usage_no_end = refl
+
+no_end : (end : TextEnd) (status : Status) → IsNoEnd status → status_at end ≡ status → ⊥
+no_end end status none is = let e : Some end ≡ None = sym (end_is end) ∙ ap end_of is ∙ none in cc
+
+-- what stopped a reading before START, by a status
 stop_of : Status → Option Stop
 stop_of (HeadFault line reason) = Some (stops.Header line reason)
-stop_of Cut = Some stops.Cut
-stop_of ReadFault = Some stops.ReadFault
-stop_of TooMuch = Some stops.TooMuch
+stop_of Cut = Some (stops.Early early.Cut)
+stop_of ReadFault = Some (stops.Early early.ReadFault)
+stop_of TooMuch = Some (stops.Early early.TooMuch)
 stop_of Memory = Some stops.Memory
 stop_of _ = None
 
 stop_is : (stop : Stop) → stop_of (status_of stop) ≡ Some stop
 unfolding stop_of
 stop_is (stops.Header line reason) = refl
-stop_is stops.Cut = refl
-stop_is stops.ReadFault = refl
-stop_is stops.TooMuch = refl
+stop_is (stops.Early early.Cut) = refl
+stop_is (stops.Early early.ReadFault) = refl
+stop_is (stops.Early early.TooMuch) = refl
 stop_is stops.Memory = refl
+
+abbrev IsNoStop : Status → Type 0
+IsNoStop status = stop_of status ≡ None
+
+done_no_stop : IsNoStop Done
+unfolding stop_of
+done_no_stop = refl
+
+write_no_stop : IsNoStop WriteFault
+unfolding stop_of
+write_no_stop = refl
+
+differs_no_stop : IsNoStop Differs
+unfolding stop_of
+differs_no_stop = refl
+
+usage_no_stop : IsNoStop Usage
+unfolding stop_of
+usage_no_stop = refl
 
 some_stop : (a b : Stop) → Some a ≡ Some b → a ≡ b
 some_stop a b e = cc
 
-status_injective : (stop other : Stop) → status_of stop ≡ status_of other → stop ≡ other
-status_injective stop other same = some_stop stop other (sym (stop_is stop) ∙ ap stop_of same ∙ stop_is other)
+same_stop : (stop other : Stop) → status_of stop ≡ status_of other → stop ≡ other
+same_stop stop other same = some_stop stop other (sym (stop_is stop) ∙ ap stop_of same ∙ stop_is other)
 
-stop_same : (stop other : Stop) (result : Status) → (other ≡ stops.Memory → ⊥) → Among result (status_of stop ∷ Memory ∷ []) → result ≡ status_of other → stop ≡ other
-stop_same stop other result differ (inl one) is = status_injective stop other (sym one ∙ is)
-stop_same stop other result differ (inr (inl one)) is = absurd (differ (status_injective other stops.Memory (sym is ∙ one)))
-stop_same stop other result differ (inr (inr none)) is = absurd none
+stop_told : (stop other : Stop) (result : Status) → (other ≡ stops.Memory → ⊥) → Among result (status_of stop ∷ Memory ∷ []) → result ≡ status_of other → stop ≡ other
+stop_told stop other result differ (inl one) is = same_stop stop other (sym one ∙ is)
+stop_told stop other result differ (inr (inl one)) is = absurd (differ (same_stop other stops.Memory (sym is ∙ one)))
+stop_told stop other result differ (inr (inr none)) is = absurd none
 
-no_done : stop_of Done ≡ None
-unfolding stop_of
-no_done = refl
-
-no_write_fault : stop_of WriteFault ≡ None
-unfolding stop_of
-no_write_fault = refl
-
--- a status that is no stop's
-no_stop : (stop : Stop) (result status : Status) → stop_of status ≡ None → Among result (status_of stop ∷ Memory ∷ []) → result ≡ status → ⊥
+no_stop : (stop : Stop) (result status : Status) → IsNoStop status → Among result (status_of stop ∷ Memory ∷ []) → result ≡ status → ⊥
 unfolding stop_of
 no_stop stop result status other (inl one) is = let same : Some stop ≡ None = sym (stop_is stop) ∙ ap stop_of (sym one ∙ is) ∙ other in cc
 no_stop stop result status other (inr (inl one)) is = let same : Some stops.Memory ≡ None = ap stop_of (sym one ∙ is) ∙ other in cc
@@ -105,35 +162,55 @@ among_stop result status other earlier (inl same) there = subst (λ (s : Status)
 among_stop result status other earlier (inr (inl same)) there = inr (inl same)
 among_stop result status other earlier (inr (inr none)) there = absurd none
 
--- How the reading ended, where the source has `rest` left
-
-not_ended : (input rest : List ℕ) → IsEnded (Some rest) input → ¬ (HasEnd input) → ¬ (EndsWithEnd input) → ⊥
-not_ended input rest (inl has) line_not rest_not = line_not has
-not_ended input rest (inr ends) line_not rest_not = rest_not ends.1
-
-not_full : (input rest : List ℕ) → IsEnded (Some rest) input → ¬ (HasEnd input) → length input ≡ input_limit → ⊥
-not_full input rest (inl has) line_not full = line_not has
-not_full input rest (inr ends) line_not full = omega (arith, ends.0.short, full)
+-- How an input ended, where the source has `rest` left
 
 header_stop : (input rest : List ℕ) (line : ℕ) (reason : HeadReason) (stop : Stop) → Stopped (Some rest) input stop → HasFault input line reason → Among (status_of stop) (HeadFault line reason ∷ Memory ∷ [])
 header_stop input rest line reason (stops.Header other why) stopped fault = inl (faults_agree input line other reason why fault stopped)
-header_stop input rest line reason stops.Cut stopped fault = absurd (stopped.1 line reason fault)
-header_stop input rest line reason stops.ReadFault stopped fault = absurd (stopped.1 line reason fault)
-header_stop input rest line reason stops.TooMuch stopped fault = absurd (stopped.1 line reason fault)
+header_stop input rest line reason (stops.Early early.Cut) stopped fault = absurd (stopped.1.1 line reason fault)
+header_stop input rest line reason (stops.Early early.ReadFault) stopped fault = absurd (stopped.1.1 line reason fault)
+header_stop input rest line reason (stops.Early early.TooMuch) stopped fault = absurd (stopped.1.1 line reason fault)
 header_stop input rest line reason stops.Memory stopped fault = inr (inl refl)
 
-cut_stop : (input rest : List ℕ) (stop : Stop) → Stopped (Some rest) input stop → Stopped (Some rest) input stops.Cut → Among (status_of stop) (Cut ∷ Memory ∷ ReadFault ∷ [])
+-- the status of an early end where another has its cause
+cut_early : (input rest : List ℕ) (end : EarlyEnd) → EndedEarly (Some rest) input end → EndedEarly (Some rest) input early.Cut → (end ≡ early.Cut) ⊎ (end ≡ early.ReadFault)
+cut_early input rest early.Cut ended cut = inl refl
+cut_early input rest early.ReadFault ended cut = inr refl
+cut_early input rest early.TooMuch ended cut = absurd (omega (arith, ended.0, cut.0.short))
+
+much_early : (input rest : List ℕ) (end : EarlyEnd) → EndedEarly (Some rest) input end → EndedEarly (Some rest) input early.TooMuch → end ≡ early.TooMuch
+much_early input rest early.Cut ended much = absurd (omega (arith, ended.0.short, much.0))
+much_early input rest early.ReadFault ended much = absurd (omega (arith, ended.0, much.0))
+much_early input rest early.TooMuch ended much = refl
+
+-- an end with the END line is no early one
+ended_cut : (input rest : List ℕ) → IsEnded (Some rest) input → EndedEarly (Some rest) input early.Cut → ⊥
+ended_cut input rest (inl has) cut = cut.2 has
+ended_cut input rest (inr ends) cut = cut.3 ends.1
+
+ended_much : (input rest : List ℕ) → IsEnded (Some rest) input → EndedEarly (Some rest) input early.TooMuch → ⊥
+ended_much input rest (inl has) much = much.2 has
+ended_much input rest (inr ends) much = omega (arith, ends.0.short, much.0)
+
+cut_among : (end : EarlyEnd) → (end ≡ early.Cut) ⊎ (end ≡ early.ReadFault) → Among (status_at (Early end)) (Cut ∷ Memory ∷ ReadFault ∷ WriteFault ∷ [])
+cut_among end (inl cut) = inl (ap (λ (e : EarlyEnd). status_at (Early e)) cut)
+cut_among end (inr fault) = inr (inr (inl (ap (λ (e : EarlyEnd). status_at (Early e)) fault)))
+
+cut_text : (input rest : List ℕ) (end : TextEnd) → TextEnded (Some rest) input end → EndedEarly (Some rest) input early.Cut → Among (status_at end) (Cut ∷ Memory ∷ ReadFault ∷ WriteFault ∷ [])
+cut_text input rest EndLine ended cut = absurd (ended_cut input rest ended cut)
+cut_text input rest (Early end) ended cut = cut_among end (cut_early input rest end ended cut)
+
+much_text : (input rest : List ℕ) (end : TextEnd) → TextEnded (Some rest) input end → EndedEarly (Some rest) input early.TooMuch → Among (status_at end) (TooMuch ∷ Memory ∷ WriteFault ∷ [])
+much_text input rest EndLine ended much = absurd (ended_much input rest ended much)
+much_text input rest (Early end) ended much = inl (ap (λ (e : EarlyEnd). status_at (Early e)) (much_early input rest end ended much))
+
+cut_stop : (input rest : List ℕ) (stop : Stop) → Stopped (Some rest) input stop → EndedEarly (Some rest) input early.Cut → Among (status_of stop) (Cut ∷ Memory ∷ ReadFault ∷ WriteFault ∷ [])
 cut_stop input rest (stops.Header other why) stopped cut = absurd (cut.1 other why stopped)
-cut_stop input rest stops.Cut stopped cut = inl refl
-cut_stop input rest stops.ReadFault stopped cut = inr (inr (inl refl))
-cut_stop input rest stops.TooMuch stopped cut = absurd (omega (arith, stopped.0, cut.0.short))
+cut_stop input rest (stops.Early end) stopped cut = cut_among end (cut_early input rest end stopped.1 cut)
 cut_stop input rest stops.Memory stopped cut = inr (inl refl)
 
-much_stop : (input rest : List ℕ) (stop : Stop) → Stopped (Some rest) input stop → Stopped (Some rest) input stops.TooMuch → Among (status_of stop) (TooMuch ∷ Memory ∷ [])
+much_stop : (input rest : List ℕ) (stop : Stop) → Stopped (Some rest) input stop → EndedEarly (Some rest) input early.TooMuch → Among (status_of stop) (TooMuch ∷ Memory ∷ WriteFault ∷ [])
 much_stop input rest (stops.Header other why) stopped much = absurd (much.1 other why stopped)
-much_stop input rest stops.Cut stopped much = absurd (omega (arith, stopped.0.short, much.0))
-much_stop input rest stops.ReadFault stopped much = absurd (omega (arith, stopped.0, much.0))
-much_stop input rest stops.TooMuch stopped much = inl refl
+much_stop input rest (stops.Early end) stopped much = inl (ap (λ (e : EarlyEnd). status_at (Early e)) (much_early input rest end stopped.1 much))
 much_stop input rest stops.Memory stopped much = inr (inl refl)
 
 -- Whole texts
@@ -152,21 +229,29 @@ text_short : (input rest : List ℕ) → length (input ++ rest) < input_limit �
 text_short input rest short full = omega (arith, length-append input rest)
 
 -- the reading of a whole text stops for no other reason
-served_cut : (input rest : List ℕ) → Stopped (Some rest) input stops.Cut → length input ≤ input_limit → HasEnd (take input_limit (input ++ rest)) ⊎ ((length (input ++ rest) < input_limit) × EndsWithEnd (input ++ rest)) → ⊥
+served_cut : (input rest : List ℕ) → EndedEarly (Some rest) input early.Cut → length input ≤ input_limit → HasEnd (take input_limit (input ++ rest)) ⊎ ((length (input ++ rest) < input_limit) × EndsWithEnd (input ++ rest)) → ⊥
 served_cut input rest cut within (inl has) = cut.2 (line_taken input rest has within (inl cut.0.met))
 served_cut input rest cut within (inr ends) = cut.3 (subst (λ (text : List ℕ). EndsWithEnd text) (at_end input rest cut.0.met) ends.1)
 
-served_much : (input rest : List ℕ) → Stopped (Some rest) input stops.TooMuch → length input ≤ input_limit → HasEnd (take input_limit (input ++ rest)) ⊎ ((length (input ++ rest) < input_limit) × EndsWithEnd (input ++ rest)) → ⊥
+served_much : (input rest : List ℕ) → EndedEarly (Some rest) input early.TooMuch → length input ≤ input_limit → HasEnd (take input_limit (input ++ rest)) ⊎ ((length (input ++ rest) < input_limit) × EndsWithEnd (input ++ rest)) → ⊥
 served_much input rest much within (inl has) = much.2 (line_taken input rest has within (inr much.0))
 served_much input rest much within (inr ends) = text_short input rest ends.0 much.0
 
-served_stop : (stop : Stop) (input rest : List ℕ) → Stopped (Some rest) input stop → length input ≤ input_limit → IsSessionText (input ++ rest) → (stop ≡ stops.ReadFault → ⊥) → status_of stop ≡ Memory
+-- an early end of it is a read fault
+served_early : (end : EarlyEnd) (input rest : List ℕ) → EndedEarly (Some rest) input end → length input ≤ input_limit → IsSessionText (input ++ rest) → end ≡ early.ReadFault
+served_early early.Cut input rest cut within is = absurd (served_cut input rest cut within is.ended)
+served_early early.ReadFault input rest fault within is = refl
+served_early early.TooMuch input rest much within is = absurd (served_much input rest much within is.ended)
+
+served_stop : (stop : Stop) (input rest : List ℕ) → Stopped (Some rest) input stop → length input ≤ input_limit → IsSessionText (input ++ rest) → (status_of stop ≡ ReadFault → ⊥) → status_of stop ≡ Memory
 served_stop (stops.Header line reason) input rest fault within is reads =
     absurd (HasSession-no_fault (input ++ rest) is.session line reason is.header (HasFault-more input rest line reason fault))
-served_stop stops.Cut input rest cut within is reads = absurd (served_cut input rest cut within is.ended)
-served_stop stops.ReadFault input rest fault within is reads = absurd (reads refl)
-served_stop stops.TooMuch input rest much within is reads = absurd (served_much input rest much within is.ended)
+served_stop (stops.Early end) input rest stopped within is reads = absurd (reads (ap (λ (e : EarlyEnd). status_at (Early e)) (served_early end input rest stopped.1 within is)))
 served_stop stops.Memory input rest stopped within is reads = refl
+
+served_end : (end : TextEnd) (input rest : List ℕ) → TextEnded (Some rest) input end → length input ≤ input_limit → IsSessionText (input ++ rest) → (status_at end ≡ ReadFault → ⊥) → status_at end ≡ Done
+served_end EndLine input rest ended within is reads = refl
+served_end (Early end) input rest ended within is reads = absurd (reads (ap (λ (e : EarlyEnd). status_at (Early e)) (served_early end input rest ended within is)))
 
 memory_alone : (result : Status) (stop : Stop) → Among result (status_of stop ∷ Memory ∷ []) → status_of stop ≡ Memory → Among result (Done ∷ Memory ∷ [])
 memory_alone result stop (inl one) is = inr (inl (one ∙ is))
@@ -174,231 +259,246 @@ memory_alone result stop (inr (inl one)) is = inr (inl one)
 memory_alone result stop (inr (inr none)) is = absurd none
 
 module _ (IsRight : Header → List Sent → List Entry → Type 0) {K : Type 0} (written : K → Option (List ℕ)) (faults : K → ℕ) (out out' : K) where
+  abbrev Whole : TextEnd → List ℕ → Option (List ℕ) → Type 0
+  Whole end input left = GotOutput IsRight written faults out out' end input left
+
+  abbrev Part : TextEnd → List ℕ → Option (List ℕ) → Type 0
+  Part end input left = GotPartOf IsRight written faults out out' end input left
+
+  abbrev Text : TextEnd → List ℕ → Option (List ℕ) → Status → Type 0
+  Text end input left status = RanText IsRight written faults out out' end input left status
+
   -- what was done at the status that was told; want of memory may have taken a status' place
-  abbrev pub After : Result Script Stop → Status → Type 0
-  After (Ok script) status = RanScript IsRight written faults out out' script status
-  After (Err stop) status = Among status (status_of stop ∷ Memory ∷ []) × (out' ≡ out)
+  abbrev pub After : List ℕ → Option (List ℕ) → Result TextEnd Stop → Status → Type 0
+  After input left (Ok end) status = RanText IsRight written faults out out' end input left status
+  After input left (Err stop) status = Among status (status_of stop ∷ Memory ∷ []) × (out' ≡ out)
 
-  whole_part : (script : Script) → WroteAll IsRight written faults out out' script → WrotePart IsRight written faults out out' script
-  whole_part script all = record {
-    history = all.history;
-    right = all.right;
-    text = all.text;
-    is_output = all.is_output;
-    lists = all.lists;
-    part = AppendedPart-whole all.all;
+  whole_part : (end : TextEnd) (input : List ℕ) (left : Option (List ℕ)) → Whole end input left → Part end input left
+  whole_part end input left (text, is, all) = (text, is, AppendedPart-whole all)
+
+  text_memory : (end : TextEnd) (input : List ℕ) (left : Option (List ℕ)) (status : Status) → Text end input left status → Text end input left Memory
+  text_memory end input left status (inl (is, all)) = inr (inr (refl, inr (whole_part end input left all)))
+  text_memory end input left status (inr (inl (is, part, rose))) = inr (inr (refl, inr part))
+  text_memory end input left status (inr (inr (is, some))) = inr (inr (refl, some))
+
+  pub After-told : (input : List ℕ) (left : Option (List ℕ)) (read : Result TextEnd Stop) (status result : Status) → Followed IsRight written faults out out' input left read status → Among result (status ∷ Memory ∷ []) → After input left read result
+  After-told input left (Ok end) status result ran (inl same) = subst (λ (s : Status). Text end input left s) (sym same) ran
+  After-told input left (Ok end) status result ran (inr (inl same)) = subst (λ (s : Status). Text end input left s) (sym same) (text_memory end input left status ran)
+  After-told input left (Ok end) status result ran (inr (inr none)) = absurd none
+  After-told input left (Err stop) status result ran is = (subst (λ (s : Status). Among result (s ∷ Memory ∷ [])) ran.0 is, ran.1)
+
+  -- a status of an end of the text is that of its own end
+  text_end : (end other : TextEnd) (input : List ℕ) (left : Option (List ℕ)) (result : Status) → Text end input left result → result ≡ status_at other → (end ≡ other) × Whole end input left
+  text_end end other input left result (inl (is, all)) same = (same_end end other (sym is ∙ same), all)
+  text_end end other input left result (inr (inl (is, part, rose))) same = absurd (no_end other WriteFault write_no_end (sym same ∙ is))
+  text_end end other input left result (inr (inr (is, some))) same = absurd (no_end other Memory memory_no_end (sym same ∙ is))
+
+  -- another is want of memory or a fault of writing
+  text_other : (end : TextEnd) (input : List ℕ) (left : Option (List ℕ)) (result status : Status) → IsNoEnd status → Text end input left result → result ≡ status → (status ≡ WriteFault) ⊎ (status ≡ Memory)
+  text_other end input left result status none (inl (is, all)) same = absurd (no_end end status none (sym is ∙ same))
+  text_other end input left result status none (inr (inl (is, part, rose))) same = inl (sym same ∙ is)
+  text_other end input left result status none (inr (inr (is, more))) same = inr (sym same ∙ is)
+
+  text_among : (end : TextEnd) (input : List ℕ) (left : Option (List ℕ)) (result other : Status) (earlier : List Status) → Text end input left result → Among (status_at end) (other ∷ Memory ∷ earlier) → Among WriteFault (other ∷ Memory ∷ earlier) → Among result (other ∷ Memory ∷ earlier)
+  text_among end input left result other earlier (inl (is, all)) there faulted = subst (λ (s : Status). Among s (other ∷ Memory ∷ earlier)) (sym is) there
+  text_among end input left result other earlier (inr (inl (is, part, rose))) there faulted = subst (λ (s : Status). Among s (other ∷ Memory ∷ earlier)) (sym is) faulted
+  text_among end input left result other earlier (inr (inr (is, more))) there faulted = inr (inl is)
+
+  pub header_exactly : (read : Result TextEnd Stop) (result : Status) (input rest : List ℕ) (line : ℕ) (reason : HeadReason) → After input (Some rest) read result → ReadCame (Some rest) input read → EndsExactly result (HeadFault line reason) [] (HasFault input line reason)
+  header_exactly (Ok end) result input rest line reason ran came = record {
+    only = λ is. absurd (header_never (text_other end input (Some rest) result (HeadFault line reason) (header_no_end line reason) ran is));
+    always = λ fault. absurd (HasSession-no_fault input came.0.0 line reason came.0.1 fault);
+  }
+    where
+      header_never : (HeadFault line reason ≡ WriteFault) ⊎ (HeadFault line reason ≡ Memory) → ⊥
+      header_never (inl is) = cc
+      header_never (inr is) = cc
+  header_exactly (Err stop) result input rest line reason ran came = record {
+    only = λ is. subst (Stopped (Some rest) input) (stop_told stop (stops.Header line reason) result (λ same. cc) ran.0 is) came;
+    always = λ fault. among_stop result (status_of stop) (HeadFault line reason) [] ran.0 (header_stop input rest line reason stop came fault);
   }
 
-  script_memory : (script : Script) (status : Status) → RanScript IsRight written faults out out' script status → RanScript IsRight written faults out out' script Memory
-  script_memory script Done ran = inr (whole_part script ran)
-  script_memory script WriteFault ran = inr ran.0
-  script_memory script Memory ran = ran
-  script_memory script status ran = absurd ran
+  -- an early end that was told
+  pub early_told : (read : Result TextEnd Stop) (result : Status) (input rest : List ℕ) (end : EarlyEnd) → After input (Some rest) read result → ReadCame (Some rest) input read → result ≡ status_at (Early end)
+      → EndedEarly (Some rest) input end × GotSoFar IsRight written faults out out' end input (Some rest)
+  early_told (Ok found) result input rest end ran came is =
+      let told = text_end found (Early end) input (Some rest) result ran is in (
+        subst (TextEnded (Some rest) input) told.0 came.1,
+        inl (came.0, subst (λ (e : TextEnd). Whole e input (Some rest)) told.0 told.1),
+      )
+  early_told (Err stop) result input rest end ran came is =
+      let stopped : Stopped (Some rest) input (stops.Early end) = subst (Stopped (Some rest) input) (stop_told stop (stops.Early end) result (λ same. cc) ran.0 is) came in
+      (stopped.1, inr (stopped.0, nothing_of ran.1))
+    where
+      nothing_of : out' ≡ out → GotNothing written faults out out'
+      nothing_of same = subst (λ (k : K). Appended written faults out k []) (sym same) (Appended-nil written faults out)
 
-  pub After-told : (read : Result Script Stop) (status result : Status) → Followed IsRight written faults out out' read status → Among result (status ∷ Memory ∷ []) → After read result
-  After-told (Ok script) status result ran (inl same) = subst (λ (s : Status). RanScript IsRight written faults out out' script s) (sym same) ran
-  After-told (Ok script) status result ran (inr (inl same)) = subst (λ (s : Status). RanScript IsRight written faults out out' script s) (sym same) (script_memory script status ran)
-  After-told (Ok script) status result ran (inr (inr none)) = absurd none
-  After-told (Err stop) status result ran is = (subst (λ (s : Status). Among result (s ∷ Memory ∷ [])) ran.0 is, ran.1)
-
-  no_script : (script : Script) (other : Stop) → (other ≡ stops.Memory → ⊥) → RanScript IsRight written faults out out' script (status_of other) → ⊥
-  no_script script (stops.Header line reason) unlike ran = ran
-  no_script script stops.Cut unlike ran = ran
-  no_script script stops.ReadFault unlike ran = ran
-  no_script script stops.TooMuch unlike ran = ran
-  no_script script stops.Memory unlike ran = unlike refl
-
-  -- so the reading stopped as the status tells
-  pub stopped : (read : Result Script Stop) (result : Status) (other : Stop) → (other ≡ stops.Memory → ⊥) → After read result → result ≡ status_of other → read ≡ Err other
-  stopped (Ok script) result other unlike ran is = absurd (no_script script other unlike (subst (λ (s : Status). RanScript IsRight written faults out out' script s) is ran))
-  stopped (Err stop) result other unlike ran is = ap (λ (s : Stop). Err s) (stop_same stop other result unlike ran.0 is)
-
-  pub stop_only : (read : Result Script Stop) (result : Status) (other : Stop) (known : Option (List ℕ)) (input : List ℕ) → (other ≡ stops.Memory → ⊥) → After read result → Ended known input read → result ≡ status_of other → Stopped known input other
-  stop_only read result other known input unlike ran ended is = subst (Ended known input) (stopped read result other unlike ran is) ended
-
-  pub header_exactly : (read : Result Script Stop) (result : Status) (input rest : List ℕ) (line : ℕ) (reason : HeadReason) → After read result → Ended (Some rest) input read → EndsExactly result (HeadFault line reason) [] (HasFault input line reason)
-  header_exactly (Ok script) result input rest line reason ran ended = record {
-    only = λ is. stop_only (Ok script) result (stops.Header line reason) (Some rest) input (λ same. cc) ran ended is;
-    always = λ fault. absurd (HasSession-no_fault input script.session line reason ended.1.session fault);
+  pub cut_exactly : (read : Result TextEnd Stop) (result : Status) (input rest : List ℕ) → After input (Some rest) read result → ReadCame (Some rest) input read → EndsExactly result Cut (ReadFault ∷ WriteFault ∷ []) (EndedEarly (Some rest) input early.Cut)
+  cut_exactly (Ok end) result input rest ran came = record {
+    only = λ is. (early_told (Ok end) result input rest early.Cut ran came is).0;
+    always = λ cut. text_among end input (Some rest) result Cut (ReadFault ∷ WriteFault ∷ []) ran (cut_text input rest end came.1 cut) (inr (inr (inr (inl refl))));
   }
-  header_exactly (Err stop) result input rest line reason ran ended = record {
-    only = λ is. stop_only (Err stop) result (stops.Header line reason) (Some rest) input (λ same. cc) ran ended is;
-    always = λ fault. among_stop result (status_of stop) (HeadFault line reason) [] ran.0 (header_stop input rest line reason stop ended fault);
+  cut_exactly (Err stop) result input rest ran came = record {
+    only = λ is. (early_told (Err stop) result input rest early.Cut ran came is).0;
+    always = λ cut. among_stop result (status_of stop) Cut (ReadFault ∷ WriteFault ∷ []) ran.0 (cut_stop input rest stop came cut);
   }
 
-  pub cut_exactly : (read : Result Script Stop) (result : Status) (input rest : List ℕ) → After read result → Ended (Some rest) input read → EndsExactly result Cut (ReadFault ∷ []) (Stopped (Some rest) input stops.Cut)
-  cut_exactly (Ok script) result input rest ran ended = record {
-    only = λ is. stop_only (Ok script) result stops.Cut (Some rest) input (λ same. cc) ran ended is;
-    always = λ cut. absurd (not_ended input rest ended.0 cut.2 cut.3);
+  pub much_exactly : (read : Result TextEnd Stop) (result : Status) (input rest : List ℕ) → After input (Some rest) read result → ReadCame (Some rest) input read → EndsExactly result TooMuch (WriteFault ∷ []) (EndedEarly (Some rest) input early.TooMuch)
+  much_exactly (Ok end) result input rest ran came = record {
+    only = λ is. (early_told (Ok end) result input rest early.TooMuch ran came is).0;
+    always = λ much. text_among end input (Some rest) result TooMuch (WriteFault ∷ []) ran (much_text input rest end came.1 much) (inr (inr (inl refl)));
   }
-  cut_exactly (Err stop) result input rest ran ended = record {
-    only = λ is. stop_only (Err stop) result stops.Cut (Some rest) input (λ same. cc) ran ended is;
-    always = λ cut. among_stop result (status_of stop) Cut (ReadFault ∷ []) ran.0 (cut_stop input rest stop ended cut);
-  }
-
-  pub much_exactly : (read : Result Script Stop) (result : Status) (input rest : List ℕ) → After read result → Ended (Some rest) input read → EndsExactly result TooMuch [] (Stopped (Some rest) input stops.TooMuch)
-  much_exactly (Ok script) result input rest ran ended = record {
-    only = λ is. stop_only (Ok script) result stops.TooMuch (Some rest) input (λ same. cc) ran ended is;
-    always = λ much. absurd (not_full input rest ended.0 much.2 much.0);
-  }
-  much_exactly (Err stop) result input rest ran ended = record {
-    only = λ is. stop_only (Err stop) result stops.TooMuch (Some rest) input (λ same. cc) ran ended is;
-    always = λ much. among_stop result (status_of stop) TooMuch [] ran.0 (much_stop input rest stop ended much);
+  much_exactly (Err stop) result input rest ran came = record {
+    only = λ is. (early_told (Err stop) result input rest early.TooMuch ran came is).0;
+    always = λ much. among_stop result (status_of stop) TooMuch (WriteFault ∷ []) ran.0 (much_stop input rest stop came much);
   }
 
-  output_of : (script : Script) (input rest text : List ℕ) (history : List Entry) → IsEnded (Some rest) input → Says input script → IsRight script.session script.sent.items history → IsOutput script.session history script.strays endings.End text
-      → listed text ≡ Ok (record { session = script.session; commands = map sent_by history }) → IsOutputOf IsRight input rest text
-  output_of script input rest text history ended says right output lists = record {
-    at_its_end = ended;
-    session = script.session;
-    of_its_header = says.session;
-    history = history;
-    of_its_commands = subst (λ (sent : List Sent). IsRight script.session sent history) says.sent right;
-    exactly = subst (λ (strays : ℕ). IsOutput script.session history strays endings.End text) says.strays output;
-    as_listed = lists;
-  }
+  pub done_whole : (read : Result TextEnd Stop) (result : Status) (input rest : List ℕ) → After input (Some rest) read result → result ≡ Done → GotOutput IsRight written faults out out' EndLine input (Some rest)
+  done_whole (Ok end) result input rest ran is =
+      let told = text_end end EndLine input (Some rest) result ran is in subst (λ (e : TextEnd). Whole e input (Some rest)) told.0 told.1
+  done_whole (Err stop) result input rest ran is = absurd (no_stop stop result Done done_no_stop ran.0 is)
 
-  part_of : (script : Script) (input rest : List ℕ) → Ended (Some rest) input (Ok script) → WrotePart IsRight written faults out out' script → GotPart IsRight written faults out out' input rest
-  part_of script input rest ended part =
-      (part.text, output_of script input rest part.text part.history ended.0 ended.1 part.right part.is_output part.lists, part.part)
+  text_fault : (end : TextEnd) (input : List ℕ) (left : Option (List ℕ)) (result : Status) → Text end input left result → result ≡ WriteFault → Part end input left × Rose (faults out) (faults out')
+  text_fault end input left result (inl (is, all)) same = absurd (no_end end WriteFault write_no_end (sym is ∙ same))
+  text_fault end input left result (inr (inl (is, part, rose))) same = (part, rose)
+  text_fault end input left result (inr (inr (is, some))) same = absurd (let e : Memory ≡ WriteFault = sym is ∙ same in cc)
 
-  pub done_whole : (read : Result Script Stop) (result : Status) (input rest : List ℕ) → After read result → Ended (Some rest) input read → result ≡ Done → GotOutput IsRight written faults out out' input rest
-  done_whole (Ok script) result input rest ran ended is =
-      let done : RanScript IsRight written faults out out' script Done = subst (λ (s : Status). RanScript IsRight written faults out out' script s) is ran in
-      (done.text, output_of script input rest done.text done.history ended.0 ended.1 done.right done.is_output done.lists, done.all)
-  done_whole (Err stop) result input rest ran ended is = absurd (no_stop stop result Done no_done ran.0 is)
+  pub fault_rose : (input : List ℕ) (left : Option (List ℕ)) (read : Result TextEnd Stop) (result : Status) → After input left read result → result ≡ WriteFault → Rose (faults out) (faults out')
+  fault_rose input left (Ok end) result ran is = (text_fault end input left result ran is).1
+  fault_rose input left (Err stop) result ran is = absurd (no_stop stop result WriteFault write_no_stop ran.0 is)
 
-  pub fault_rose : (read : Result Script Stop) (result : Status) → After read result → result ≡ WriteFault → Rose (faults out) (faults out')
-  fault_rose (Ok script) result ran is =
-      let wrote : RanScript IsRight written faults out out' script WriteFault = subst (λ (s : Status). RanScript IsRight written faults out out' script s) is ran in wrote.1
-  fault_rose (Err stop) result ran is = absurd (no_stop stop result WriteFault no_write_fault ran.0 is)
+  some_text : (end : TextEnd) (input : List ℕ) (left : Option (List ℕ)) → Part end input left → GotPart IsRight written faults out out' input left
+  some_text end input left part = (end, part.0, part.1, part.2)
 
-  pub fault_part : (read : Result Script Stop) (result : Status) (input rest : List ℕ) → After read result → Ended (Some rest) input read → result ≡ WriteFault → GotPart IsRight written faults out out' input rest
-  fault_part (Ok script) result input rest ran ended is =
-      let wrote : RanScript IsRight written faults out out' script WriteFault = subst (λ (s : Status). RanScript IsRight written faults out out' script s) is ran in
-      part_of script input rest ended wrote.0
-  fault_part (Err stop) result input rest ran ended is = absurd (no_stop stop result WriteFault no_write_fault ran.0 is)
+  pub fault_part : (read : Result TextEnd Stop) (result : Status) (input rest : List ℕ) → After input (Some rest) read result → result ≡ WriteFault → GotPart IsRight written faults out out' input (Some rest)
+  fault_part (Ok end) result input rest ran is = some_text end input (Some rest) (text_fault end input (Some rest) result ran is).0
+  fault_part (Err stop) result input rest ran is = absurd (no_stop stop result WriteFault write_no_stop ran.0 is)
 
-  pub nothing_of : out' ≡ out → GotNothing written faults out out'
-  nothing_of same = subst (λ (k : K). Appended written faults out k []) (sym same) (Appended-nil written faults out)
+  nothing_so : out' ≡ out → GotNothing written faults out out'
+  nothing_so same = subst (λ (k : K). Appended written faults out k []) (sym same) (Appended-nil written faults out)
 
-  memory_script : (script : Script) (input rest : List ℕ) → Ended (Some rest) input (Ok script) → RanScript IsRight written faults out out' script Memory → GotNothing written faults out out' ⊎ GotPart IsRight written faults out out' input rest
-  memory_script script input rest ended (inl none) = inl (nothing_of none)
-  memory_script script input rest ended (inr part) = inr (part_of script input rest ended part)
+  some_part : (end : TextEnd) (input : List ℕ) (left : Option (List ℕ)) → (out' ≡ out) ⊎ Part end input left → GotNothing written faults out out' ⊎ GotPart IsRight written faults out out' input left
+  some_part end input left (inl none) = inl (nothing_so none)
+  some_part end input left (inr part) = inr (some_text end input left part)
 
-  pub memory_part : (read : Result Script Stop) (result : Status) (input rest : List ℕ) → After read result → Ended (Some rest) input read → result ≡ Memory → GotNothing written faults out out' ⊎ GotPart IsRight written faults out out' input rest
-  memory_part (Ok script) result input rest ran ended is =
-      memory_script script input rest ended (subst (λ (s : Status). RanScript IsRight written faults out out' script s) is ran)
-  memory_part (Err stop) result input rest ran ended is = inl (nothing_of ran.1)
+  text_part : (end : TextEnd) (input : List ℕ) (left : Option (List ℕ)) (result : Status) → Text end input left result → result ≡ Memory → GotNothing written faults out out' ⊎ GotPart IsRight written faults out out' input left
+  text_part end input left result (inl (is, all)) same = inr (some_text end input left (whole_part end input left all))
+  text_part end input left result (inr (inl (is, part, rose))) same = inr (some_text end input left part)
+  text_part end input left result (inr (inr (is, some))) same = some_part end input left some
 
-  script_nothing : (script : Script) (result : Status) → RanScript IsRight written faults out out' script result → WritesNothing result → GotNothing written faults out out'
-  script_nothing script Done ran none = absurd none
-  script_nothing script WriteFault ran none = absurd none
-  script_nothing script Differs ran none = absurd none
-  script_nothing script Memory ran none = absurd none
-  script_nothing script result ran none = absurd ran
+  pub memory_part : (read : Result TextEnd Stop) (result : Status) (input rest : List ℕ) → After input (Some rest) read result → result ≡ Memory → GotNothing written faults out out' ⊎ GotPart IsRight written faults out out' input (Some rest)
+  memory_part (Ok end) result input rest ran is = text_part end input (Some rest) result ran is
+  memory_part (Err stop) result input rest ran is = inl (nothing_so ran.1)
 
-  pub wrote_nothing : (read : Result Script Stop) (result : Status) → After read result → WritesNothing result → GotNothing written faults out out'
-  wrote_nothing (Ok script) result ran none = script_nothing script result ran none
-  wrote_nothing (Err stop) result ran none = nothing_of ran.1
+  pub header_nothing : (input : List ℕ) (left : Option (List ℕ)) (read : Result TextEnd Stop) (result : Status) (line : ℕ) (reason : HeadReason) → After input left read result → result ≡ HeadFault line reason → GotNothing written faults out out'
+  header_nothing input left (Ok end) result line reason ran is = absurd (header_never (text_other end input left result (HeadFault line reason) (header_no_end line reason) ran is))
+    where
+      header_never : (HeadFault line reason ≡ WriteFault) ⊎ (HeadFault line reason ≡ Memory) → ⊥
+      header_never (inl is) = cc
+      header_never (inr is) = cc
+  header_nothing input left (Err stop) result line reason ran is = nothing_so ran.1
+
+  -- a read fault that was told is the reading's
+  pub read_told : (input : List ℕ) (left : Option (List ℕ)) (read : Result TextEnd Stop) (result : Status) → After input left read result → result ≡ ReadFault → status_read read ≡ ReadFault
+  read_told input left (Ok end) result ran is = ap status_at (text_end end (Early early.ReadFault) input left result ran is).0
+  read_told input left (Err stop) result ran is = ap status_of (stop_told stop (stops.Early early.ReadFault) result (λ same. cc) ran.0 is)
+
+  -- a status that is never told
+  never : (input : List ℕ) (left : Option (List ℕ)) (read : Result TextEnd Stop) (result status : Status) → IsNoEnd status → IsNoStop status → (status ≡ WriteFault → ⊥) → (status ≡ Memory → ⊥) → After input left read result → result ≡ status → ⊥
+  never input left (Ok end) result status none stopless write memory ran is =
+      elim (text_other end input left result status none ran is) [
+        | inl fault ↦ write fault
+        | inr want ↦ memory want
+      ]
+  never input left (Err stop) result status none stopless write memory ran is = no_stop stop result status stopless ran.0 is
 
   -- Completeness
 
-  served_script : (script : Script) (result : Status) → RanScript IsRight written faults out out' script result → ¬ (Rose (faults out) (faults out')) → Among result (Done ∷ Memory ∷ [])
-  served_script script Done ran writes = inl refl
-  served_script script WriteFault ran writes = absurd (writes ran.1)
-  served_script script Memory ran writes = inr (inl refl)
-  served_script script result ran writes = absurd ran
+  served_text : (end : TextEnd) (input : List ℕ) (left : Option (List ℕ)) (result : Status) → Text end input left result → status_at end ≡ Done → ¬ (Rose (faults out) (faults out')) → Among result (Done ∷ Memory ∷ [])
+  served_text end input left result (inl (is, all)) done writes = inl (is ∙ done)
+  served_text end input left result (inr (inl (is, part, rose))) done writes = absurd (writes rose)
+  served_text end input left result (inr (inr (is, some))) done writes = inr (inl is)
 
-  pub served : (read : Result Script Stop) (result : Status) (input rest : List ℕ) → After read result → Ended (Some rest) input read → length input ≤ input_limit → IsSessionText (input ++ rest)
-      → (read ≡ Err stops.ReadFault → ⊥) → ¬ (Rose (faults out) (faults out')) → Among result (Done ∷ Memory ∷ [])
-  served (Ok script) result input rest ran ended within is reads writes =
-      served_script script result ran writes
-  served (Err stop) result input rest ran ended within is reads writes =
-      memory_alone result stop ran.0 (served_stop stop input rest ended within is (λ same. reads (ap (λ (s : Stop). Err s) same)))
-
-failed : Stop → Result Script Stop
-failed stop = Err stop
+  pub served : (read : Result TextEnd Stop) (result : Status) (input rest : List ℕ) → After input (Some rest) read result → ReadCame (Some rest) input read → length input ≤ input_limit → IsSessionText (input ++ rest)
+      → (status_read read ≡ ReadFault → ⊥) → ¬ (Rose (faults out) (faults out')) → Among result (Done ∷ Memory ∷ [])
+  served (Ok end) result input rest ran came within is reads writes =
+      served_text end input (Some rest) result ran (served_end end input rest came.1 within is reads) writes
+  served (Err stop) result input rest ran came within is reads writes =
+      memory_alone result stop ran.0 (served_stop stop input rest came within is reads)
 
 -- What was done with a word that runs a session
 
-no_differs : stop_of Differs ≡ None
-unfolding stop_of
-no_differs = refl
+module _ (IsRight : Header → List Sent → List Entry → Type 0) {S K : Type 0} (left : S → Option (List ℕ)) (failed : S → ℕ) (written : K → Option (List ℕ)) (faults : K → ℕ) (source source' : S) (out out' : K) where
+  abbrev TheRun : Status → Type 0
+  TheRun status = Ran IsRight left failed written faults source source' out out' status
 
-no_usage : stop_of Usage ≡ None
-unfolding stop_of
-no_usage = refl
+  after_told : (status result : Status) (ran : TheRun status) → Among result (status ∷ Memory ∷ []) → After IsRight written faults out out' ran.input (left source') ran.read result
+  after_told status result ran tells = After-told IsRight written faults out out' ran.input (left source') ran.read status result ran.followed tells
 
-module _ (IsRight : Header → List Sent → List Entry → Type 0) {S K : Type 0} (left : S → Option (List ℕ)) (taken : S → ℕ) (written : K → Option (List ℕ)) (faults : K → ℕ) (source source' : S) (out out' : K) where
-  ended_at : (read : Result Script Stop) (input rest : List ℕ) → HasRead left taken source source' read → left source ≡ Some (input ++ rest) → left source' ≡ Some rest → Ended (Some rest) input read
-  ended_at read input rest has had now =
-      subst (λ (known : Option (List ℕ)). Ended known input read) now
-      (subst (λ (bytes : List ℕ). Ended (left source') bytes read) (Took-is left taken source source' has.input input rest has.took had now) has.ended)
+  -- where the source tells its bytes
+  after_at : (status result : Status) (ran : TheRun status) (input rest : List ℕ) → Among result (status ∷ Memory ∷ []) → left source ≡ Some (input ++ rest) → left source' ≡ Some rest → After IsRight written faults out out' input (Some rest) ran.read result
+  after_at status result ran input rest tells had now =
+      subst (λ (bytes : List ℕ). After IsRight written faults out out' bytes (Some rest) ran.read result) (Took-is left failed source source' ran.input input rest ran.took had now)
+      (subst (λ (known : Option (List ℕ)). After IsRight written faults out out' ran.input known ran.read result) now (after_told status result ran tells))
 
-  complete_ran : (read : Result Script Stop) (result : Status) (bytes : List ℕ) → HasRead left taken source source' read → After IsRight written faults out out' read result → left source ≡ Some bytes → IsSessionText bytes → ¬ (Rose (taken source) (taken source')) → ¬ (Rose (faults out) (faults out')) → Among result (Done ∷ Memory ∷ [])
-  complete_ran read result bytes has ran had is reads writes =
-      let split = told_bytes bytes has.input (left source') (sym had ∙ has.took.moved) in
-      served IsRight written faults out out' read result has.input split.0 ran (subst (λ (known : Option (List ℕ)). Ended known has.input read) split.1 has.ended) has.within
-      (subst (λ (text : List ℕ). IsSessionText text) split.2 is) (λ failed. reads (has.cause failed)) writes
+  came_at : (status : Status) (ran : TheRun status) (input rest : List ℕ) → left source ≡ Some (input ++ rest) → left source' ≡ Some rest → ReadCame (Some rest) input ran.read
+  came_at status ran input rest had now =
+      subst (λ (bytes : List ℕ). ReadCame (Some rest) bytes ran.read) (Took-is left failed source source' ran.input input rest ran.took had now)
+      (subst (λ (known : Option (List ℕ)). ReadCame known ran.input ran.read) now ran.came)
 
-  complete_known : (read : Result Script Stop) (result : Status) (known : Option (List ℕ)) → HasRead left taken source source' read → After IsRight written faults out out' read result → left source ≡ known
-      → IfSome known (λ bytes. IsSessionText bytes → ¬ (Rose (taken source) (taken source')) → ¬ (Rose (faults out) (faults out')) → Among result (Done ∷ Memory ∷ []))
-  complete_known read result None has ran had = tt
-  complete_known read result (Some bytes) has ran had = complete_ran read result bytes has ran had
+  complete_ran : (status result : Status) (bytes : List ℕ) (ran : TheRun status) → Among result (status ∷ Memory ∷ []) → left source ≡ Some bytes → IsSessionText bytes → ¬ (Rose (failed source) (failed source')) → ¬ (Rose (faults out) (faults out')) → Among result (Done ∷ Memory ∷ [])
+  complete_ran status result bytes ran tells had is reads writes =
+      let split = told_bytes bytes ran.input (left source') (sym had ∙ ran.took.moved) in
+      let had' : left source ≡ Some (ran.input ++ split.0) = had ∙ ap (λ (text : List ℕ). Some text) split.2 in
+      served IsRight written faults out out' ran.read result ran.input split.0 (after_at status result ran ran.input split.0 tells had' split.1) (came_at status ran ran.input split.0 had' split.1) ran.within
+      (subst (λ (text : List ℕ). IsSessionText text) split.2 is) (λ fault. reads (ran.cause fault)) writes
 
-  never : (read : Result Script Stop) (result status : Status) → stop_of status ≡ None → ((script : Script) → RanScript IsRight written faults out out' script status → ⊥) → After IsRight written faults out out' read result → result ≡ status → ⊥
-  never (Ok script) result status none unlike ran is = unlike script (subst (λ (s : Status). RanScript IsRight written faults out out' script s) is ran)
-  never (Err stop) result status none unlike ran is = no_stop stop result status none ran.0 is
+  complete_known : (status result : Status) (known : Option (List ℕ)) (ran : TheRun status) → Among result (status ∷ Memory ∷ []) → left source ≡ known
+      → IfSome known (λ bytes. IsSessionText bytes → ¬ (Rose (failed source) (failed source')) → ¬ (Rose (faults out) (faults out')) → Among result (Done ∷ Memory ∷ []))
+  complete_known status result None ran tells had = tt
+  complete_known status result (Some bytes) ran tells had = complete_ran status result bytes ran tells had
+
+  before_fault : (input rest : List ℕ) → EndedEarly (Some rest) input early.ReadFault → HasNoFault input × ¬ (HasEnd input)
+  before_fault input rest ended = (ended.1, ended.2)
 
   -- the run, and the status that was told of it
-  pub session_did : (status result : Status) → Ran IsRight left taken written faults source source' out out' status → Among result (status ∷ Memory ∷ []) → DidSession IsRight left taken written faults source source' out out' result
-  session_did status result ran tells =
-      let read : Result Script Stop = ran.read in
-      let has : HasRead left taken source source' read = ran.has_read in
-      let after : After IsRight written faults out out' read result = After-told IsRight written faults out out' read status result ran.followed tells in
-      record {
-        taken = record { bytes = has.input; took = has.took; within = has.within };
-        prompt = λ input rest had now. subst (λ (bytes : List ℕ). IsPrompt bytes) (Took-is left taken source source' has.input input rest has.took had now) has.prompt;
-        header = λ input rest had now line reason. header_exactly IsRight written faults out out' read result input rest line reason after (ended_at read input rest has had now);
-        cut = λ input rest had now. cut_exactly IsRight written faults out out' read result input rest after (ended_at read input rest has had now);
-        too_much = λ input rest had now. much_exactly IsRight written faults out out' read result input rest after (ended_at read input rest has had now);
-        read_fault = λ is. has.cause (stopped IsRight written faults out out' read result stops.ReadFault (λ same. cc) after is);
-        read_before = λ is input rest had now.
-            let before : Stopped (Some rest) input stops.ReadFault = stop_only IsRight written faults out out' read result stops.ReadFault (Some rest) input (λ same. cc) after (ended_at read input rest has had now) is in
-            (before.1, before.2);
-        done = λ is input rest had now. done_whole IsRight written faults out out' read result input rest after (ended_at read input rest has had now) is;
-        write_fault = λ is. fault_rose IsRight written faults out out' read result after is;
-        part = λ is input rest had now. fault_part IsRight written faults out out' read result input rest after (ended_at read input rest has had now) is;
-        memory = λ is input rest had now. memory_part IsRight written faults out out' read result input rest after (ended_at read input rest has had now) is;
-        nothing = λ none. wrote_nothing IsRight written faults out out' read result after none;
-        no_verdict = λ is. never read result Differs no_differs (λ script ran_so. ran_so) after is;
-        complete = complete_known read result (left source) has after refl;
-      }
+  pub session_did : (status result : Status) → TheRun status → Among result (status ∷ Memory ∷ []) → DidSession IsRight left failed written faults source source' out out' result
+  session_did status result ran tells = record {
+    taken = record { bytes = ran.input; took = ran.took; within = ran.within };
+    prompt = λ input rest had now. subst (λ (bytes : List ℕ). IsPrompt bytes) (Took-is left failed source source' ran.input input rest ran.took had now) ran.prompt;
+    header = λ input rest had now line reason. header_exactly IsRight written faults out out' ran.read result input rest line reason (after_at status result ran input rest tells had now) (came_at status ran input rest had now);
+    cut = λ input rest had now. cut_exactly IsRight written faults out out' ran.read result input rest (after_at status result ran input rest tells had now) (came_at status ran input rest had now);
+    too_much = λ input rest had now. much_exactly IsRight written faults out out' ran.read result input rest (after_at status result ran input rest tells had now) (came_at status ran input rest had now);
+    read_fault = λ is. ran.cause (read_told IsRight written faults out out' ran.input (left source') ran.read result (after_told status result ran tells) is);
+    read_before = λ is input rest had now.
+        before_fault input rest (early_told IsRight written faults out out' ran.read result input rest early.ReadFault (after_at status result ran input rest tells had now) (came_at status ran input rest had now) is).0;
+    done = λ is input rest had now. done_whole IsRight written faults out out' ran.read result input rest (after_at status result ran input rest tells had now) is;
+    so_far = λ end is input rest had now. (early_told IsRight written faults out out' ran.read result input rest end (after_at status result ran input rest tells had now) (came_at status ran input rest had now) is).1;
+    write_fault = λ is. fault_rose IsRight written faults out out' ran.input (left source') ran.read result (after_told status result ran tells) is;
+    part = λ is input rest had now. fault_part IsRight written faults out out' ran.read result input rest (after_at status result ran input rest tells had now) is;
+    memory = λ is input rest had now. memory_part IsRight written faults out out' ran.read result input rest (after_at status result ran input rest tells had now) is;
+    nothing = λ line reason is. header_nothing IsRight written faults out out' ran.input (left source') ran.read result line reason (after_told status result ran tells) is;
+    no_verdict = λ is. never IsRight written faults out out' ran.input (left source') ran.read result Differs differs_no_end differs_no_stop (λ same. cc) (λ same. cc) (after_told status result ran tells) is;
+    complete = complete_known status result (left source) ran tells refl;
+  }
 
   -- a run is no refusal of the words
-  pub session_accepts : (status : Status) → Ran IsRight left taken written faults source source' out out' status → status ≡ Usage → ⊥
+  pub session_accepts : (status : Status) → TheRun status → status ≡ Usage → ⊥
   session_accepts status ran is =
-      never ran.read status Usage no_usage (λ script ran_so. ran_so) (After-told IsRight written faults out out' ran.read status status ran.followed (inl refl)) is
+      never IsRight written faults out out' ran.input (left source') ran.read status Usage usage_no_end usage_no_stop (λ same. cc) (λ same. cc) (after_told status status ran (inl refl)) is
 
   -- a run that did not begin, for want of memory
-  pub not_begun : source' ≡ source → out' ≡ out → Ran IsRight left taken written faults source source' out out' Memory
-  unfolding failed
+  pub not_begun : source' ≡ source → out' ≡ out → TheRun Memory
   not_begun unread unwritten = record {
+    input = [];
+    took = subst (λ (s : S). Took left failed source s []) (sym unread) (Took-nil left failed source);
+    within = omega arith;
+    prompt = prompt_here [] GoesOn-nil;
     read = Err stops.Memory;
-    has_read = record {
-      input = [];
-      took = subst (λ (s : S). Took left taken source s []) (sym unread) (Took-nil left taken source);
-      within = omega arith;
-      prompt = prompt_here [] GoesOn-nil;
-      ended = tt;
-      cause = λ is. absurd (memory_no_fault is);
-    };
+    came = tt;
+    cause = λ is. absurd cc;
     followed = (refl, unwritten);
   }
-    where
-      memory_no_fault : failed stops.Memory ≡ failed stops.ReadFault → ⊥
-      memory_no_fault is = cc
 
 -- the refusal of words, told
 pub told_usage : (status result : Status) {other : Type 0} → Among result (status ∷ Memory ∷ []) → (status ≡ Usage → other) → (other → Among status (Usage ∷ Memory ∷ [])) → EndsExactly result Usage [] other

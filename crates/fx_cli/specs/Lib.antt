@@ -1,5 +1,6 @@
 pub mod Status
 pub mod Headline
+pub mod Rounds
 pub mod Run
 pub mod Check
 pub mod TopCall

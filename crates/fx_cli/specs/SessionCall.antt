@@ -8,10 +8,13 @@ use Rattle.fx_rules.specs.Session.{Header as SessionHeader}
 use Rattle.fx_rules.specs.Lists.{Among}
 use Rattle.session_head.specs.declared.reason.HeadReason.{HeadReason}
 use Rattle.session_script.specs.Input.{input_limit, TookAtMost, OfTaken}
-use Rattle.session_script.specs.Reading.{HasNoFault, IsPrompt, Stopped}
+use Rattle.session_script.specs.Reading.{HasNoFault, IsPrompt, EndedEarly}
 use Rattle.session_script.specs.Script.{HasFault, HasEnd}
-use Rattle.fx_cli.specs.TopCall.{EndsExactly, GotOutput, GotPart, GotNothing, WritesNothing, IsSessionText}
-use Rattle.session_script.specs.declared.reading.Stop.TheVariants as stops
+use Rattle.session_script.specs.declared.ends.EarlyEnd.{EarlyEnd}
+use Rattle.session_script.specs.declared.ends.EarlyEnd.TheVariants as early
+use Rattle.session_script.specs.declared.ends.TextEnd.TheVariants.{EndLine, Early}
+use Rattle.fx_cli.specs.Status.{status_at}
+use Rattle.fx_cli.specs.TopCall.{EndsExactly, GotOutput, GotPart, GotSoFar, GotNothing, IsSessionText}
 use Rattle.fx_cli.specs.declared.status.Status.{Status}
 use Rattle.fx_cli.specs.declared.status.Status.TheVariants.{Done, Header, Cut, ReadFault, WriteFault, Memory, TooMuch, Differs}
 
@@ -21,16 +24,18 @@ pub record DidSession (IsRight : SessionHeader → List Sent → List Entry → 
   pub taken : TookAtMost input_limit left failed source source'
   pub prompt : OfTaken left source source' (λ input _. IsPrompt input)
   pub header : OfTaken left source source' (λ input _. (line : ℕ) (reason : HeadReason) → EndsExactly status (Header line reason) [] (HasFault input line reason))
-  pub cut : OfTaken left source source' (λ input rest. EndsExactly status Cut (ReadFault ∷ []) (Stopped (Some rest) input stops.Cut))
-  pub too_much : OfTaken left source source' (λ input rest. EndsExactly status TooMuch [] (Stopped (Some rest) input stops.TooMuch))
+  pub cut : OfTaken left source source' (λ input rest. EndsExactly status Cut (ReadFault ∷ WriteFault ∷ []) (EndedEarly (Some rest) input early.Cut))
+  pub too_much : OfTaken left source source' (λ input rest. EndsExactly status TooMuch (WriteFault ∷ []) (EndedEarly (Some rest) input early.TooMuch))
   pub read_fault : status ≡ ReadFault → Rose (failed source) (failed source')
   pub read_before : status ≡ ReadFault → OfTaken left source source' (λ input _. HasNoFault input × ¬ (HasEnd input))
-  -- standard output: the whole output of the input's session and commands, which is the headline; a prefix of it; or nothing
-  pub done : status ≡ Done → OfTaken left source source' (λ input rest. GotOutput IsRight written faults out out' input rest)
+  -- standard output: the whole output of the input's session and commands, which is the headline; the same of the whole
+  -- lines so far, where the input ended early; a prefix of it; or nothing
+  pub done : status ≡ Done → OfTaken left source source' (λ input rest. GotOutput IsRight written faults out out' EndLine input (Some rest))
+  pub so_far : (end : EarlyEnd) → status ≡ status_at (Early end) → OfTaken left source source' (λ input rest. GotSoFar IsRight written faults out out' end input (Some rest))
   pub write_fault : status ≡ WriteFault → Rose (faults out) (faults out')
-  pub part : status ≡ WriteFault → OfTaken left source source' (λ input rest. GotPart IsRight written faults out out' input rest)
-  pub memory : status ≡ Memory → OfTaken left source source' (λ input rest. GotNothing written faults out out' ⊎ GotPart IsRight written faults out out' input rest)
-  pub nothing : WritesNothing status → GotNothing written faults out out'
+  pub part : status ≡ WriteFault → OfTaken left source source' (λ input rest. GotPart IsRight written faults out out' input (Some rest))
+  pub memory : status ≡ Memory → OfTaken left source source' (λ input rest. GotNothing written faults out out' ⊎ GotPart IsRight written faults out out' input (Some rest))
+  pub nothing : (line : ℕ) (reason : HeadReason) → status ≡ Header line reason → GotNothing written faults out out'
   pub no_verdict : status ≡ Differs → ⊥
   -- completeness: the text of a session, over ends without faults, is served
   pub complete : IfSome (left source) (λ bytes. IsSessionText bytes

@@ -1,19 +1,44 @@
 -- The statuses that the program ends with: the code of each, and what it writes on standard error.
-use Rattle.std.specs.Prelude.{ℕ, List, [], ◌∷◌, ◌++◌, codes}
+use Rattle.std.specs.Prelude.{ℕ, List, [], ◌∷◌, ◌++◌, codes, Result, Ok, Err}
 use Rattle.fx_amounts.specs.Numeral.{numeral}
 use Rattle.session_head.specs.declared.reason.HeadReason.{HeadReason}
 use Rattle.session_head.specs.Reason.{reason_code}
-use Rattle.session_script.specs.declared.reading.Stop.{Stop}
-use Rattle.session_script.specs.declared.reading.Stop.TheVariants as stops
+use Rattle.reply_lines.specs.declared.output.Ending.{Ending}
+use Rattle.reply_lines.specs.declared.output.Ending.TheVariants as endings
+use Rattle.reply_lines.specs.declared.output.OutFault.{OutFault}
+use Rattle.reply_lines.specs.declared.output.OutFault.TheVariants as faults
+use Rattle.session_script.specs.declared.ends.EarlyEnd.TheVariants as early
+use Rattle.session_script.specs.declared.ends.TextEnd.{TextEnd}
+use Rattle.session_script.specs.declared.ends.TextEnd.TheVariants.{EndLine, Early}
+use Rattle.session_script.specs.declared.ends.Stop.{Stop}
+use Rattle.session_script.specs.declared.ends.Stop.TheVariants as stops
 use Rattle.fx_cli.specs.declared.status.Status.{Status}
 use Rattle.fx_cli.specs.declared.status.Status.TheVariants.{Done, Usage, Header, Cut, ReadFault, WriteFault, Memory, TooMuch, Differs}
 
--- what the program ends with where the reading stopped
+-- what the program ends with where the text of a session ended so, and its output was written
+abbrev pub status_at : TextEnd → Status
+status_at EndLine = Done
+status_at (Early early.Cut) = Cut
+status_at (Early early.ReadFault) = ReadFault
+status_at (Early early.TooMuch) = TooMuch
+
+-- and the last line of that output
+abbrev pub ending_of : TextEnd → Ending
+ending_of EndLine = endings.End
+ending_of (Early early.Cut) = endings.Cut
+ending_of (Early early.ReadFault) = endings.Read
+ending_of (Early early.TooMuch) = endings.Much
+
+-- what it ends with where the output was written so
+abbrev pub written_status : {T : Type 0} → TextEnd → Result T OutFault → Status
+written_status end (Ok done) = status_at end
+written_status end (Err faults.Write) = WriteFault
+written_status end (Err faults.Memory) = Memory
+
+-- what it ends with where the reading stopped before START
 abbrev pub status_of : Stop → Status
 status_of (stops.Header line reason) = Header line reason
-status_of stops.Cut = Cut
-status_of stops.ReadFault = ReadFault
-status_of stops.TooMuch = TooMuch
+status_of (stops.Early end) = status_at (Early end)
 status_of stops.Memory = Memory
 
 abbrev pub code_of : Status → ℕ

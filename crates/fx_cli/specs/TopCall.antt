@@ -1,5 +1,5 @@
 -- What the top call says of its status and of what the streams got.
-use Rattle.std.specs.Prelude.{◌≡◌, ◌<◌, ℕ, Bool, true, false, List, [], ◌∷◌, length, map, take, Option, Some, Ok, ◌⊎◌}
+use Rattle.std.specs.Prelude.{◌≡◌, ◌<◌, ℕ, List, [], ◌∷◌, length, map, take, Option, Ok, ◌⊎◌}
 use Rattle.fx_edges.specs.Faults.{Rose}
 use Rattle.fx_edges.specs.Writing.{Appended, AppendedPart}
 use Rattle.fx_rules.specs.declared.outcome.Entry.{Entry}
@@ -8,12 +8,14 @@ use Rattle.fx_rules.specs.Lists.{Among}
 use Rattle.fx_rules.specs.Sending.{sent_by}
 use Rattle.fx_rules.specs.Session.{Header}
 use Rattle.reply_lines.specs.Output.{IsOutput}
-use Rattle.reply_lines.specs.declared.output.Ending.TheVariants as endings
 use Rattle.journal_check.specs.Listed.{listed}
 use Rattle.session_script.specs.Input.{input_limit}
-use Rattle.session_script.specs.Reading.{IsEnded}
+use Rattle.session_script.specs.Reading.{HasStarted, HasNotStarted, TextEnded}
 use Rattle.session_script.specs.Script.{HasSession, HasEnd, EndsWithEnd, sent_in, strays_of}
-use Rattle.fx_cli.specs.Status.{err_text}
+use Rattle.session_script.specs.declared.ends.EarlyEnd.{EarlyEnd}
+use Rattle.session_script.specs.declared.ends.TextEnd.{TextEnd}
+use Rattle.session_script.specs.declared.ends.TextEnd.TheVariants.{Early}
+use Rattle.fx_cli.specs.Status.{ending_of, err_text}
 use Rattle.fx_cli.specs.declared.status.Status.{Status}
 use Rattle.fx_cli.specs.declared.status.Status.TheVariants.{Done, Usage, Differs, WriteFault, Memory}
 
@@ -23,33 +25,40 @@ pub record EndsExactly (result status : Status) (earlier : List Status) (cause :
   pub only : result ≡ status → cause
   pub always : cause → Among result (status ∷ Memory ∷ earlier)
 
--- The headline. The input that was taken, where the source has `rest` left, reached its END line, and a text is exactly
--- the output of one history: one of the session of the input's own header and of its commands. What `IsRight` says of that
+-- The headline. The input that was taken, where the source has `left` still, ended so: at status 0 it reached its END line.
+-- And a text is exactly the output of one history: one of the session of the input's own header and of its commands, those
+-- of its whole lines where it has no END line, when the last line names the early end. What `IsRight` says of that
 -- history is `IsHeadline`: it is legal and has each bank's commands once and in its order, and what this says of replies,
 -- fills, lines and resting orders; or `IsSerial`, where the commands went in the order of their lines besides. Session and
 -- history are those that the text itself lists, and that a check of it reads: no other was run than is printed.
-pub record IsOutputOf (IsRight : Header → List Sent → List Entry → Type 0) (input rest text : List ℕ) : Type 0 where
-  pub at_its_end : IsEnded (Some rest) input
+pub record IsOutputOf (IsRight : Header → List Sent → List Entry → Type 0) (end : TextEnd) (input : List ℕ) (left : Option (List ℕ)) (text : List ℕ) : Type 0 where
+  pub at_its_end : TextEnded left input end
   pub session : Header
   pub of_its_header : HasSession input session
   pub history : List Entry
   pub of_its_commands : IsRight session (sent_in session input) history
-  pub exactly : IsOutput session history (strays_of session input) endings.End text
+  pub exactly : IsOutput session history (strays_of session input) (ending_of end) text
   pub as_listed : listed text ≡ Ok (record { session = session; commands = map sent_by history })
 
 -- a sink got exactly that output
-abbrev pub GotOutput : (IsRight : Header → List Sent → List Entry → Type 0) {K : Type 0} (written : K → Option (List ℕ)) (faults : K → ℕ) (before now : K) → List ℕ → List ℕ → Type 0
-GotOutput IsRight written faults before now input rest = (text : List ℕ) × IsOutputOf IsRight input rest text × Appended written faults before now text
+abbrev pub GotOutput : (IsRight : Header → List Sent → List Entry → Type 0) {K : Type 0} (written : K → Option (List ℕ)) (faults : K → ℕ) (before now : K) → TextEnd → List ℕ → Option (List ℕ) → Type 0
+GotOutput IsRight written faults before now end input left = (text : List ℕ) × IsOutputOf IsRight end input left text × Appended written faults before now text
 
--- a sink got a prefix of it
-abbrev pub GotPart : (IsRight : Header → List Sent → List Entry → Type 0) {K : Type 0} (written : K → Option (List ℕ)) (faults : K → ℕ) (before now : K) → List ℕ → List ℕ → Type 0
-GotPart IsRight written faults before now input rest = (text : List ℕ) × IsOutputOf IsRight input rest text × AppendedPart written faults before now text
+-- a sink got a prefix of it, however the input ended
+abbrev pub GotPart : (IsRight : Header → List Sent → List Entry → Type 0) {K : Type 0} (written : K → Option (List ℕ)) (faults : K → ℕ) (before now : K) → List ℕ → Option (List ℕ) → Type 0
+GotPart IsRight written faults before now input left = (end : TextEnd) × (text : List ℕ) × IsOutputOf IsRight end input left text × AppendedPart written faults before now text
 
 -- a sink got nothing
 abbrev pub GotNothing : {K : Type 0} (written : K → Option (List ℕ)) (faults : K → ℕ) (before now : K) → Type 0
 GotNothing written faults before now = Appended written faults before now []
 
--- the statuses at which nothing is written on standard output
+-- Where an input ended before its END line: a sink got the output of its whole lines so far, or nothing where START was not
+-- read.
+abbrev pub GotSoFar : (IsRight : Header → List Sent → List Entry → Type 0) {K : Type 0} (written : K → Option (List ℕ)) (faults : K → ℕ) (before now : K) → EarlyEnd → List ℕ → Option (List ℕ) → Type 0
+GotSoFar IsRight written faults before now end input left =
+    (HasStarted input × GotOutput IsRight written faults before now (Early end) input left) ⊎ (HasNotStarted input × GotNothing written faults before now)
+
+-- the statuses at which a check writes nothing on standard output
 abbrev pub WritesNothing : Status → Type 0
 WritesNothing Done = ⊥
 WritesNothing Differs = ⊥

@@ -2,6 +2,7 @@
 #![tactic(auto)]
 
 mod check;
+mod ending;
 mod load;
 mod process;
 mod run;

@@ -1,17 +1,26 @@
-ghost use Rattle.std.specs.Prelude.{◌≤◌, ◌^◌, length};
-ghost use Rattle.fx_rules.specs.Lists.{Each};
-ghost use Rattle.fx_rules.specs.Sending.{IsSentOf};
+ghost use Rattle.std.specs.Prelude.{◌≡◌, ◌≤◌, ◌++◌, Some, List};
+ghost use Rattle.fx_rules.specs.declared.command.Sent.{Sent as SentCommand};
+ghost use Rattle.fx_rules.specs.Session.{Header as SessionHeader};
+ghost use Rattle.session_script.specs.Stage.{session_at, sent_at};
+ghost use Rattle.session_script.specs.Rounds.{HasRead};
+ghost use Rattle.threaded_run.specs.Recorded.{key_count};
+ghost use Rattle.threaded_run.specs.Lanes.{HaveServed};
 ghost use Rattle.fx_cli.specs.Headline.{IsHeadline};
-ghost use Rattle.fx_cli.specs.Run.{Ran, RanScript};
+ghost use Rattle.fx_cli.specs.Rounds.{AreServing, LanesServedText, ThreadsServedText};
+ghost use Rattle.fx_cli.specs.Run.{Ran};
 
+use crate::ending::{ending_of, written_status};
 use crate::status::Status;
+use fx_amounts::Memory;
+use fx_chronicle::{Blank, Naming};
 use fx_edges::{Sink, Source};
-use fx_rules::Gate;
-use reply_lines::{Ending, write_output};
-use session_script::{Script, read_script};
+use fx_rules::{Entry, Gate};
+use reply_lines::write_output;
+use session_script::{Reading, TextEnd};
+use std::marker::Brand;
 use std::sync::Wait;
 use std::thread::Threads;
-use threaded_run::run_on_threads;
+use threaded_run::{ThreadedRun, keys_of};
 
 /// Runs the session of the source's bytes, each bank's commands in its order, in at most `workers` threads (1 or more), and
 /// answers the status that the run ends with. It may wait.
@@ -25,34 +34,94 @@ pub fn run<R: AllocGlobal + Threads + Wait + Sync, S: Source, K: Sink, G: Gate +
     requires workers { 1 ≤ workers }
     ensures ran { Ran IsHeadline S.left S.faults K.written K.faults source.old source.new out.old out.new result }
 {
-    match read_script(rt.alloc(), source) {
-        Ok(script) => run_script(rt, workers, &script, out, gate),
+    match Reading::begin(rt.alloc(), source) {
+        Ok(mut reading) => serve_text(rt, workers, &mut reading, source, out, gate),
         Err(stop) => Status::from(stop),
     }
 }
 
-/// Runs a script and writes its output.
-fn run_script<R: AllocGlobal + Threads + Wait + Sync, K: Sink, G: Gate + Sync>(
+/// Runs the session of a reading and writes its output.
+fn serve_text<R: AllocGlobal + Threads + Wait + Sync, S: Source, K: Sink, G: Gate + Sync>(
     rt: &R,
     workers: u32,
-    script: &Script,
+    reading: &mut Reading,
+    source: &mut S,
     out: &mut K,
     gate: &G,
 ) -> Status
     requires workers { 1 ≤ workers }
-    requires valid { Each (IsSentOf script.now.session) script.now.sent.items }
-    requires few { length script.now.sent.items ≤ 2 ^ 26 }
-    ensures ran { RanScript IsHeadline K.written K.faults out.old out.new script.now result }
+    requires begun { (before : S) × (h : SessionHeader) × HasRead S.left S.faults before source.old reading.old h (sent_at reading.old.intake.stage) }
+    ensures ran { (before : S) (h : SessionHeader) → HasRead S.left S.faults before source.old reading.old h (sent_at reading.old.intake.stage) → Ran IsHeadline S.left S.faults K.written K.faults before source.new out.old out.new result }
 {
-    let Ok(history) = run_on_threads(rt, &script.session, &script.sent, workers, gate) else {
+    let Ok(blank) = Blank::new(rt.alloc(), keys_of(&reading.script().session)) else {
         return Status::Memory;
     };
-    Status::of_writing(write_output(
+    let Ok((end, history)) = serve_at::<Brand, R, S, G>(rt, blank, workers, reading, source, gate)
+    else {
+        return Status::Memory;
+    };
+    let script = reading.script();
+    let written = write_output(
         rt.alloc(),
         &script.session,
         &history,
         script.strays,
-        Ending::End,
+        ending_of(end),
         out,
-    ))
+    );
+    written_status(end, written)
+}
+
+/// Runs the session of a reading at a host of this blank, and answers how the text ended and the history.
+fn serve_at<
+    N: Naming + Send + Sync,
+    R: AllocGlobal + Threads + Wait + Sync,
+    S: Source,
+    G: Gate + Sync,
+>(
+    rt: &R,
+    blank: Blank<Entry>,
+    workers: u32,
+    reading: &mut Reading,
+    source: &mut S,
+    gate: &G,
+) -> Result<(TextEnd, Vec<Entry>), Memory>
+    requires table { blank.table ≡ N.table }
+    requires keys { blank.keys ≡ key_count N.session }
+    requires workers { 1 ≤ workers }
+    requires session { session_at reading.old.intake.stage ≡ Some N.session }
+    requires begun { (before : S) × HasRead S.left S.faults before source.old reading.old N.session (sent_at reading.old.intake.stage) }
+    ensures served { (before : S) → HasRead S.left S.faults before source.old reading.old N.session (sent_at reading.old.intake.stage) → ThreadsServedText S.left S.faults before source.new reading.new N.session result }
+{
+    let mut run = ThreadedRun::<N>::open(rt.alloc(), blank, &reading.script().session)?;
+    let end = serve_rounds(rt, workers, &mut run, reading, source, gate)?;
+    let history = run.close(rt.alloc())?;
+    Ok((end, history))
+}
+
+/// Serves the commands of a reading, round by round, and answers how the text ended.
+fn serve_rounds<
+    N: Naming + Send + Sync,
+    R: AllocGlobal + Threads + Wait + Sync,
+    S: Source,
+    G: Gate + Sync,
+>(
+    rt: &R,
+    workers: u32,
+    run: &mut ThreadedRun<N>,
+    reading: &mut Reading,
+    source: &mut S,
+    gate: &G,
+) -> Result<TextEnd, Memory>
+    requires workers { 1 ≤ workers }
+    requires serving { AreServing S.left S.faults source.old reading.old N.session run.old.lanes.items }
+    ensures served { (before : S) (all : List SentCommand) → HasRead S.left S.faults before source.old reading.old N.session (all ++ sent_at reading.old.intake.stage) → HaveServed N.session all run.old.lanes.items → LanesServedText S.left S.faults before source.new reading.new N.session run.new.lanes.items result }
+{
+    loop {
+        run.serve_round(rt, &reading.script().sent, workers, gate)?;
+        if let Some(end) = reading.end() {
+            return Ok(end);
+        }
+        reading.read_round(source)?;
+    }
 }

@@ -1,42 +1,79 @@
-ghost use Rattle.std.specs.Prelude.{◌≤◌, ◌^◌, length};
-ghost use Rattle.fx_rules.specs.Lists.{Each};
-ghost use Rattle.fx_rules.specs.Sending.{IsSentOf};
+ghost use Rattle.std.specs.Prelude.{◌++◌, map};
+ghost use Rattle.fx_rules.specs.Session.{Header as SessionHeader};
+ghost use Rattle.fx_rules.specs.Sending.{sent_by};
+ghost use Rattle.market_run.specs.Running.{HasRun};
+ghost use Rattle.pair_host.specs.Standing.{stands};
+ghost use Rattle.session_script.specs.Stage.{sent_at};
+ghost use Rattle.session_script.specs.Rounds.{HasRead};
 ghost use Rattle.fx_cli.specs.Headline.{IsSerial};
-ghost use Rattle.fx_cli.specs.Run.{Ran, RanScript};
+ghost use Rattle.fx_cli.specs.Rounds.{IsServing, ServedText};
+ghost use Rattle.fx_cli.specs.Run.{Ran};
 
+use crate::ending::{ending_of, written_status};
 use crate::status::Status;
+use fx_amounts::Memory;
 use fx_edges::{Sink, Source};
-use reply_lines::{Ending, write_output_from};
-use serial_run::run_in_order;
-use session_script::{Script, read_script};
+use market_run::Run;
+use pair_host::PairHost;
+use reply_lines::write_output_from;
+use serial_run::open_run;
+use session_script::{Reading, TextEnd};
 use std::alloc::Global;
 
-/// Runs the session of the source's bytes in the order of its lines, and answers the status that the run ends with.
+/// Runs the session of the source's bytes in the order of its lines, as they are read, and answers the status that the run
+/// ends with.
 pub fn serial<S: Source, K: Sink>(alloc: Global, source: &mut S, out: &mut K) -> Status
     ensures ran { Ran IsSerial S.left S.faults K.written K.faults source.old source.new out.old out.new result }
 {
-    match read_script(alloc, source) {
-        Ok(script) => run_script(alloc, &script, out),
+    match Reading::begin(alloc, source) {
+        Ok(mut reading) => serve_text(alloc, &mut reading, source, out),
         Err(stop) => Status::from(stop),
     }
 }
 
-/// Runs a script and writes its output.
-fn run_script<K: Sink>(alloc: Global, script: &Script, out: &mut K) -> Status
-    requires valid { Each (IsSentOf script.now.session) script.now.sent.items }
-    requires few { length script.now.sent.items ≤ 2 ^ 26 }
-    ensures ran { RanScript IsSerial K.written K.faults out.old out.new script.now result }
+/// Runs the session of a reading and writes its output.
+fn serve_text<S: Source, K: Sink>(
+    alloc: Global,
+    reading: &mut Reading,
+    source: &mut S,
+    out: &mut K,
+) -> Status
+    requires begun { (before : S) × (h : SessionHeader) × HasRead S.left S.faults before source.old reading.old h (sent_at reading.old.intake.stage) }
+    ensures ran { (before : S) (h : SessionHeader) → HasRead S.left S.faults before source.old reading.old h (sent_at reading.old.intake.stage) → Ran IsSerial S.left S.faults K.written K.faults before source.new out.old out.new result }
 {
-    let Ok(run) = run_in_order(alloc, &script.session, &script.sent) else {
+    let Ok(mut run) = open_run(alloc, &reading.script().session) else {
         return Status::Memory;
     };
-    Status::of_writing(write_output_from(
+    let Ok(end) = serve_rounds(reading, source, &mut run) else {
+        return Status::Memory;
+    };
+    let script = reading.script();
+    let written = write_output_from(
         alloc,
         &script.session,
         run.entries(),
         run.market(),
         script.strays,
-        Ending::End,
+        ending_of(end),
         out,
-    ))
+    );
+    written_status(end, written)
+}
+
+/// Serves the commands of a reading, round by round, and answers how the text ended.
+fn serve_rounds<S: Source>(
+    reading: &mut Reading,
+    source: &mut S,
+    run: &mut Run<PairHost>,
+) -> Result<TextEnd, Memory>
+    requires serving { IsServing S.left S.faults source.old reading.old run.old }
+    ensures served { (before : S) (h : SessionHeader) → HasRead S.left S.faults before source.old reading.old h (map sent_by run.old.entries ++ sent_at reading.old.intake.stage) → HasRun stands h run.old → ServedText S.left S.faults before source.new reading.new h run.new result }
+{
+    loop {
+        run.serve_all(&reading.script().sent)?;
+        if let Some(end) = reading.end() {
+            return Ok(end);
+        }
+        reading.read_round(source)?;
+    }
 }

@@ -1,14 +1,13 @@
 ghost use Rattle.std.specs.Prelude.{◌≡◌, IfOk};
 ghost use Rattle.fx_edges.specs.Writing.{Wrote};
-ghost use Rattle.fx_cli.specs.Run.{written_status};
 ghost use Rattle.fx_cli.specs.Status.{code_of, err_text, fault_text, status_of};
 
+use crate::ending::status_at;
 use fx_amounts::Memory;
 use fx_edges::{Sink, SinkFault, write_all};
 use fx_text::push_number;
-use reply_lines::OutFault;
 use session_head::HeadReason;
-use session_script::Stop;
+use session_script::{Stop, TextEnd};
 use std::alloc::Global;
 
 /// How the program ended.
@@ -21,15 +20,16 @@ pub enum Status {
     /// The input's header has a fault: the number of its line, counted from 1 with all lines that are passed over, and the
     /// reason.
     Header { line: u64, reason: HeadReason },
-    /// The input ended before its END line.
+    /// The input ended before its END line. With START read, the output of its whole lines was written.
     Cut,
-    /// The source failed.
+    /// The source failed. With a session whose START was read, the output of its whole lines so far was written.
     ReadFault,
     /// Standard output failed; a prefix of the output was written.
     WriteFault,
     /// A growth of memory was refused.
     Memory,
     /// The input's end did not come within what is taken of it: for a session its END line, for an output the source's end.
+    /// With a session whose START was read, the output of its whole lines so far was written.
     TooMuch,
     /// The input is not the output of a legal history.
     Differs,
@@ -50,17 +50,6 @@ impl Status {
             Status::Memory => 6,
             Status::TooMuch => 7,
             Status::Differs => 8,
-        }
-    }
-
-    /// What a run ends with whose output was written so.
-    pub(crate) fn of_writing(written: Result<(), OutFault>) -> Status
-        ensures { result ≡ written_status written }
-    {
-        match written {
-            Ok(()) => Status::Done,
-            Err(OutFault::Write) => Status::WriteFault,
-            Err(OutFault::Memory) => Status::Memory,
         }
     }
 
@@ -92,9 +81,7 @@ impl From<Stop> for Status {
     fn from(stop: Stop) -> Self {
         match stop {
             Stop::Header { line, reason } => Status::Header { line, reason },
-            Stop::Cut => Status::Cut,
-            Stop::ReadFault => Status::ReadFault,
-            Stop::TooMuch => Status::TooMuch,
+            Stop::Early(early) => status_at(TextEnd::Early(early)),
             Stop::Memory => Status::Memory,
         }
     }

@@ -4,7 +4,7 @@ use crate::fx_main;
 use crate::process::serve;
 use fx_amounts::{BankId, PairId};
 use fx_edges::{MemorySink, MemorySource};
-use fx_rules::Gate;
+use fx_rules::{Gate, OpenGate};
 use samples::Sample;
 use std::alloc::{AllocError, Global};
 use std::env::Args;
@@ -55,13 +55,21 @@ fn done<'a>(out: &'a [u8]) -> Ending<'a> {
     Ending { code: 0, out, err }
 }
 
-// A gate that counts how often it is asked.
+// A gate that counts how often it is asked about a command, and how often inside a pair.
 #[derive(Drop)]
 struct CountingGate {
     asked: AtomicU64,
+    inside: AtomicU64,
 }
 
 impl CountingGate {
+    fn new() -> CountingGate {
+        CountingGate {
+            asked: AtomicU64::new(0),
+            inside: AtomicU64::new(0),
+        }
+    }
+
     fn ask(&self) {
         self.asked.fetch_add(1, SeqCst);
     }
@@ -77,7 +85,7 @@ impl Gate for CountingGate {
     }
 
     fn inside<R: Wait>(&self, _rt: &R, _pair: PairId) {
-        self.ask();
+        self.inside.fetch_add(1, SeqCst);
     }
 }
 
@@ -108,9 +116,7 @@ fn expect<R: Abort + AllocGlobal + Threads + Wait + Sync>(
     let mut source = MemorySource::new(input.to_vec(alloc)?, most, source_fails);
     let mut out = MemorySink::new(1, fails.out.to_vec(alloc)?);
     let mut err = MemorySink::new(128, fails.err.to_vec(alloc)?);
-    let gate = CountingGate {
-        asked: AtomicU64::new(0),
-    };
+    let gate = CountingGate::new();
     let status = fx_main(rt, &program_words, &mut source, &mut out, &mut err, &gate);
     assert!(rt;
         status.code() == ending.code,
@@ -119,6 +125,7 @@ fn expect<R: Abort + AllocGlobal + Threads + Wait + Sync>(
     assert!(rt; out.written() == ending.out, "{words:?} {input:?}");
     assert!(rt; err.written() == ending.err, "{words:?} {input:?}");
     assert!(rt; gate.asked.load(SeqCst) == 0, "{words:?} {input:?}");
+    assert!(rt; gate.inside.load(SeqCst) == 0, "{words:?} {input:?}");
     Ok(())
 }
 
@@ -276,14 +283,24 @@ fn expect_lines<R: Abort + AllocGlobal + Threads + Wait + Sync>(
     Ok(())
 }
 
+// An output with this last line in the place of its END.
+fn with_ending(alloc: Global, output: &[u8], last: &[u8]) -> Result<Vec<u8>, Fail> {
+    let whole = output.strip_suffix(b"END\n").ok_or("no output")?;
+    let mut text = whole.to_vec(alloc)?;
+    text.extend_from_slice(last)?;
+    Ok(text)
+}
+
 #[test]
 fn inputs_without_their_end(rt: HostRuntime) -> Result<(), Fail> {
     let cut = refusal(3, b"input ended before END\n");
     for input in [&b""[..], b"\n# END\n", b"FXBOOK 1\nBANK ALFA\n"] {
         expect(&rt, &["serial"], input, 64, &NONE, &cut)?;
     }
-    for lines in [&b""[..], b"END now", b"ALFA END\n", b"BETA SHOW AL", b"EN"] {
-        expect_lines(&rt, lines, &cut)?;
+    let out = with_ending(rt.alloc(), NO_COMMANDS, b"CUT\n")?;
+    let written = Ending { out: &out, ..cut };
+    for lines in [&b""[..], b"END now", b"# END\n", b"BETA SHOW AL", b"EN"] {
+        expect_lines(&rt, lines, &written)?;
     }
     Ok(())
 }
@@ -321,40 +338,88 @@ fn other_words(rt: HostRuntime) -> Result<(), Fail> {
     expect(&rt, &["Serial"], input, 64, &fails, &refusal(1, b""))
 }
 
-// The reading stops at the END line, so the third of three pieces is the last call; without a line end behind END it is
-// the fourth, which meets the end.
+// What is written of the whole lines among these bytes, with this last line.
+fn written_of<R: Abort + AllocGlobal + Threads + Wait + Sync>(
+    rt: &R,
+    bytes: &[u8],
+    last: &[u8],
+) -> Result<Vec<u8>, Fail> {
+    let alloc = rt.alloc();
+    let whole = match bytes.iter().rposition(|byte| *byte == b'\n') {
+        Some(at) => &bytes[..at + 1],
+        None => b"",
+    };
+    let mut input = whole.to_vec(alloc)?;
+    input.extend_from_slice(b"END\n")?;
+    let words = owned(alloc, &["serial"])?;
+    let mut source = MemorySource::new(input, 4096, Vec::new(alloc));
+    let mut out = MemorySink::new(4096, Vec::new(alloc));
+    let mut err = MemorySink::new(128, Vec::new(alloc));
+    let status = fx_main(rt, &words, &mut source, &mut out, &mut err, &OpenGate);
+    assert!(rt; status.code() == 0);
+    with_ending(alloc, out.written(), last)
+}
+
+// One sell and one buy, where START ends at byte 112.
+const STARTED: usize = 112;
+
+// 50 bytes come at a call. Before START nothing is written, and the END line comes with the fourth.
 #[test]
 fn a_source_that_fails_at_each_call(rt: HostRuntime) -> Result<(), Fail> {
-    let read_fault = refusal(4, b"read failed\n");
     let sample = samples::ONE_SELL_ONE_BUY;
-    for call in [1, 2, 3] {
+    let read_fault = refusal(4, b"read failed\n");
+    for call in [1, 2, 3, 4] {
         let fails = Fails {
             source: &[call],
             ..NONE
         };
-        expect(&rt, &["serial"], sample.input, 64, &fails, &read_fault)?;
+        let taken = 50 * (call as usize - 1);
+        let out = if taken < STARTED {
+            Vec::new(rt.alloc())
+        } else {
+            written_of(
+                &rt,
+                &sample.input[..taken.min(sample.input.len())],
+                b"READ\n",
+            )?
+        };
+        let ending = Ending {
+            out: &out,
+            ..read_fault
+        };
+        expect(&rt, &["serial"], sample.input, 50, &fails, &ending)?;
     }
     let late = Fails {
-        source: &[4],
+        source: &[5],
         ..NONE
     };
-    expect(
-        &rt,
-        &["serial"],
-        sample.input,
-        64,
-        &late,
-        &done(sample.output),
-    )?;
-    let unended = samples::COMMENTS_AND_LINE_ENDS.input;
-    for call in [1, 2, 3] {
-        let fails = Fails {
-            source: &[call],
-            ..NONE
+    let whole = done(sample.output);
+    expect(&rt, &["serial"], sample.input, 50, &late, &whole)
+}
+
+// Behind the last byte but one the rest is an END line without a line feed.
+#[test]
+fn an_input_cut_at_every_byte(rt: HostRuntime) -> Result<(), Fail> {
+    let sample = samples::ONE_SELL_ONE_BUY;
+    let cut = refusal(3, b"input ended before END\n");
+    for taken in 0..sample.input.len() - 1 {
+        let input = &sample.input[..taken];
+        let out = if taken < STARTED {
+            Vec::new(rt.alloc())
+        } else {
+            written_of(&rt, input, b"CUT\n")?
         };
-        expect(&rt, &["serial"], unended, 64, &fails, &read_fault)?;
+        expect(
+            &rt,
+            &["serial"],
+            input,
+            64,
+            &NONE,
+            &Ending { out: &out, ..cut },
+        )?;
     }
-    Ok(())
+    let bare = &sample.input[..sample.input.len() - 1];
+    expect(&rt, &["serial"], bare, 64, &NONE, &done(sample.output))
 }
 
 // Each byte of the output is one call.
@@ -387,29 +452,38 @@ fn an_output_that_fails_at_each_call(rt: HostRuntime) -> Result<(), Fail> {
     )
 }
 
-// The header, 262,143 comments of 256 bytes and one of `last` bytes, and END.
+// The header, 16,383 comments of 4,096 bytes and one of `last` bytes, and END.
 fn long_input(alloc: Global, last: usize) -> Result<Vec<u8>, Fail>
-    requires { last ≤ 256 }
+    requires { last ≤ 4096 }
 {
-    let mut comment = [b'#'; 256];
-    comment[255] = b'\n';
+    let mut comment = [b'#'; 4096];
+    comment[4095] = b'\n';
     let mut input = HEADER.to_vec(alloc)?;
-    for _ in 0..262_143 {
+    for _ in 0..16_383 {
         input.extend_from_slice(&comment)?;
     }
-    input.extend_from_slice(&comment[256 - last..])?;
+    input.extend_from_slice(&comment[4096 - last..])?;
     input.extend_from_slice(b"END\n")?;
     Ok(input)
 }
 
-// The line feed of the END line is the last byte that is taken, or the first that is not.
+// The line feed of the END line is the last byte that is taken.
 #[test]
-fn inputs_up_to_the_limit(rt: HostRuntime) -> Result<(), Fail> {
-    let input = long_input(rt.alloc(), 190)?;
+fn an_input_that_ends_at_the_limit(rt: HostRuntime) -> Result<(), Fail> {
+    let input = long_input(rt.alloc(), 4030)?;
     assert!(&rt; input.len() == 1 << 26);
-    expect(&rt, &["serial"], &input, 4096, &NONE, &done(NO_COMMANDS))?;
-    let input = long_input(rt.alloc(), 191)?;
-    let too_much = refusal(7, b"too much input\n");
+    expect(&rt, &["serial"], &input, 4096, &NONE, &done(NO_COMMANDS))
+}
+
+// It is the first that is not.
+#[test]
+fn an_input_that_passes_the_limit(rt: HostRuntime) -> Result<(), Fail> {
+    let input = long_input(rt.alloc(), 4031)?;
+    let out = with_ending(rt.alloc(), NO_COMMANDS, b"MUCH\n")?;
+    let too_much = Ending {
+        out: &out,
+        ..refusal(7, b"too much input\n")
+    };
     expect(&rt, &["serial"], &input, 4096, &NONE, &too_much)
 }
 

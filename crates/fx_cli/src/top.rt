@@ -22,15 +22,18 @@ use std::thread::Threads;
 /// Does what the words ask for, over the streams that it is handed, and answers how it ended.
 ///
 /// - `run`, `run --workers N`: runs the session of the source's bytes, of which at most 2^26 are taken, in N threads at
-///   most (1 to 64, 4 where it is not said). The gate is called before and after each command.
-/// - `serial`: runs it in the order of its lines.
+///   most (1 to 64, 4 where it is not said), round by round: each is run before more bytes are asked for. The gate is
+///   called before and after each command.
+/// - `serial`: runs it in the order of its lines, round by round too.
 /// - `check`: takes the source's bytes to its end, of which there have to be fewer than 2^28, and writes `YES` where they
 ///   are the output of a legal history, else `NO` and the offset at which they are not.
 /// - `load SEED BANKS PAIRS COMMANDS`, also followed by `--workers N`: makes a session from a number, runs it both ways and
 ///   writes a summary. It reads nothing.
 ///
-/// Refusals come in the order `Usage`; `Header`; the first of `ReadFault`, `Cut` and `TooMuch` that the reading meets;
-/// `WriteFault`, in the place of `Done` or `Differs`. `Memory` takes the place of any. With `run` and `load` it may wait;
+/// Refusals come in the order `Usage`; `Header`; the first of `ReadFault`, `Cut` and `TooMuch` that the reading meets. Where
+/// START was read by then, `run` and `serial` write the output of the whole lines so far, with a last line that names the
+/// refusal; else nothing. `WriteFault` takes the place of `Done`, `Differs` and of these three where it comes while the
+/// output is written, and `Memory` that of any. With `run` and `load` it may wait;
 /// `serial` and `check` are handed nothing by which they could.
 pub fn fx_main<R: AllocGlobal + Threads + Wait + Sync, S: Source, K: Sink, E: Sink, G: Gate + Sync>(
     rt: &R,

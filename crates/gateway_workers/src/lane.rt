@@ -1,4 +1,4 @@
-ghost use Rattle.std.specs.Prelude.{Decides};
+ghost use Rattle.std.specs.Prelude.{◌≡◌, ◌+◌, ◌<◌, ◌^◌, Decides};
 ghost use Rattle.gateway_workers.specs.Lanes.{IsBehind};
 
 use fx_amounts::BankId;
@@ -25,5 +25,16 @@ impl<P> Lane<P> {
         ensures value { Decides result (IsBehind self.now) }
     {
         self.done < self.stream.as_slice().len()
+    }
+
+    /// Makes it ready for the next round, in which its bank sends this: what was carried out is sent, and nothing of the new
+    /// stream is done. Bank and pass stay.
+    pub fn next_round(&mut self, stream: CommandList)
+        requires numbers { self.old.sent + self.old.done < 2 ^ 32 }
+        ensures next { self.new ≡ record self.old { sent = self.old.sent + self.old.done; stream = stream; done = 0 } }
+    {
+        self.sent += self.done as u32;
+        self.done = 0;
+        self.stream = stream;
     }
 }

@@ -8,11 +8,10 @@ use Rattle.session_head.specs.Head as heads
 use Rattle.session_head.specs.Head.{Head, read_head, session_of}
 use Rattle.session_head.specs.declared.reason.HeadReason.{HeadReason}
 use Rattle.session_script.specs.Script.{spoken_of, spoken_in, up_to_end, has_end, strays_in, HasSession, HasFault, HasEnd, EndsWithEnd, sent_in, strays_of}
-use Rattle.session_script.specs.Reading.{HasNoFault, GoesOn, Says}
+use Rattle.session_script.specs.Reading.{HasNoFault, HasNotStarted, GoesOn, Says}
 use Rattle.session_script.specs.Stage.{Tells, goes_on, most_strays}
 use Rattle.session_script.specs.Intake.{IsSettled}
 use Rattle.fx_rules.specs.declared.command.Sent.{Sent}
-use Rattle.session_script.specs.declared.script.Script.{Script}
 use Rattle.session_script.proofs.ScriptLaws.{HasSession-one, HasSession-no_fault, length-spoken_of, length-commands_in, strays_in-few}
 
 -- a header that goes on
@@ -30,7 +29,7 @@ pub heading-no_fault : (text : List ℕ) (head : Head) → head ≡ read_head (l
 unfolding HasFault
 heading-no_fault text head is going = λ line reason fault. no_fault head line reason going (is ∙ fault)
 
-pub heading-no_session : (text : List ℕ) (head : Head) → head ≡ read_head (lines_of text) → goes_on head ≡ true → (h : Header) → HasSession text h → ⊥
+pub heading-no_session : (text : List ℕ) (head : Head) → head ≡ read_head (lines_of text) → goes_on head ≡ true → HasNotStarted text
 unfolding HasSession
 heading-no_session text head is going = λ h session. no_session head h going (ap session_of is ∙ session)
 
@@ -48,7 +47,7 @@ faulted-has text line reason is = is
 
 -- commands
 
-told_session : (text : List ℕ) (h : Header) (sent : List Sent) (strays : ℕ) (ended : Bool) → Tells (lines_of text) h sent strays ended → HasSession text h
+pub told_session : (text : List ℕ) (h : Header) (sent : List Sent) (strays : ℕ) (ended : Bool) → Tells (lines_of text) h sent strays ended → HasSession text h
 unfolding HasSession
 told_session text h sent strays ended tells = tells.session
 
@@ -77,26 +76,22 @@ told-settled text h sent strays false tells = (told_no_fault text h sent strays 
 fewer : (a n : ℕ) → a ≤ n → n < 2 ^ 64 → min a most_strays ≡ a
 fewer a n few small = omega arith
 
-told_says : (text : List ℕ) (script : Script) (ended : Bool) → length text < 2 ^ 64 → Tells (lines_of text) script.session script.sent.items script.strays ended → Says text script
+pub told_says : (text : List ℕ) (h : Header) (sent : List Sent) (strays : ℕ) (ended : Bool) → length text < 2 ^ 64 → Tells (lines_of text) h sent strays ended → Says text h sent strays
 unfolding HasSession sent_in strays_of spoken_in
-told_says text script ended small tells =
-    let said = spoken_of script.session (lines_of text) in
-    let few : length said ≤ length text = omega (arith, length-spoken_of script.session (lines_of text), length-lines_of text) in
+told_says text h sent strays ended small tells =
+    let said = spoken_of h (lines_of text) in
+    let few : length said ≤ length text = omega (arith, length-spoken_of h (lines_of text), length-lines_of text) in
     record {
       session = tells.session;
-      sent = tells.commands;
-      strays = tells.count ∙ fewer (strays_in (up_to_end said)) (length text) (omega (arith, strays_in-few said)) small;
+      sent_is = tells.commands;
+      strays_is = tells.count ∙ fewer (strays_in (up_to_end said)) (length text) (omega (arith, strays_in-few said)) small;
       valid = tells.valid;
-      few = omega (arith, ap (λ (sent : List Sent). length sent) tells.commands, length-commands_in said);
+      few = omega (arith, ap (λ (all : List Sent). length all) tells.commands, length-commands_in said);
     }
 
-told_ends : (text : List ℕ) (h : Header) (sent : List Sent) (strays : ℕ) (ended : Bool) → Tells (lines_of text) h sent strays ended → (ended ≡ true) ⊎ (is_end_rest (rest_of text) ≡ true) → HasEnd text ⊎ EndsWithEnd text
-told_ends text h sent strays ended tells (inl is) = inl (told_has_end text h sent strays (subst (λ (b : Bool). Tells (lines_of text) h sent strays b) is tells))
-told_ends text h sent strays ended tells (inr is) = inr (h, told_session text h sent strays ended tells, is)
-
-pub told-script : (text : List ℕ) (script : Script) (ended : Bool) → length text < 2 ^ 64 → Tells (lines_of text) script.session script.sent.items script.strays ended
-    → (ended ≡ true) ⊎ (is_end_rest (rest_of text) ≡ true) → (HasEnd text ⊎ EndsWithEnd text) × Says text script
-told-script text script ended small tells ends = (told_ends text script.session script.sent.items script.strays ended tells ends, told_says text script ended small tells)
+pub told-ends : (text : List ℕ) (h : Header) (sent : List Sent) (strays : ℕ) (ended : Bool) → Tells (lines_of text) h sent strays ended → (ended ≡ true) ⊎ (is_end_rest (rest_of text) ≡ true) → HasEnd text ⊎ EndsWithEnd text
+told-ends text h sent strays ended tells (inl is) = inl (told_has_end text h sent strays (subst (λ (b : Bool). Tells (lines_of text) h sent strays b) is tells))
+told-ends text h sent strays ended tells (inr is) = inr (h, told_session text h sent strays ended tells, is)
 
 no_end_rest : (text : List ℕ) → is_end_rest (rest_of text) ≡ false → EndsWithEnd text → ⊥
 no_end_rest text not (h, session, end) = let e : false ≡ true = sym not ∙ end in cc

@@ -1,5 +1,6 @@
 pub mod Input
 pub mod Script
 pub mod Stage
-pub mod Intake
 pub mod Reading
+pub mod Intake
+pub mod Rounds

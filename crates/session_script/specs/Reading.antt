@@ -1,16 +1,19 @@
--- What the reading of a session's text took from its source, and how it ended.
-use Rattle.std.specs.Prelude.{ℕ, ◌≡◌, ◌≤◌, ◌<◌, ◌⊎◌, List, ◌++◌, length, Option, Result, Ok, Err}
+-- How the input of a session ended, or that it goes on.
+use Rattle.std.specs.Prelude.{ℕ, ◌≡◌, ◌≤◌, ◌<◌, ◌⊎◌, List, ◌++◌, length, Option, Some, None, Result, Ok, Err}
 use Rattle.std.specs.Io.KnownBytes.{IsAtEnd}
-use Rattle.fx_edges.specs.Faults.{Rose}
-use Rattle.fx_edges.specs.Reading.{Took}
+use Rattle.fx_rules.specs.declared.command.Sent.{Sent}
 use Rattle.fx_rules.specs.Lists.{Each}
+use Rattle.fx_rules.specs.Sending.{IsSentOf}
+use Rattle.fx_rules.specs.Session.{Header as SessionHeader}
 use Rattle.session_head.specs.declared.reason.HeadReason.{HeadReason}
 use Rattle.session_script.specs.Input.{input_limit}
 use Rattle.session_script.specs.Script.{HasSession, HasFault, HasEnd, EndsWithEnd, sent_in, strays_of}
-use Rattle.fx_rules.specs.Sending.{IsSentOf}
-use Rattle.session_script.specs.declared.script.Script.{Script}
-use Rattle.session_script.specs.declared.reading.Stop.{Stop}
-use Rattle.session_script.specs.declared.reading.Stop.TheVariants.{Header, Cut, ReadFault, TooMuch, Memory}
+use Rattle.session_script.specs.declared.ends.EarlyEnd.{EarlyEnd}
+use Rattle.session_script.specs.declared.ends.EarlyEnd.TheVariants.{Cut, ReadFault, TooMuch}
+use Rattle.session_script.specs.declared.ends.TextEnd.{TextEnd}
+use Rattle.session_script.specs.declared.ends.TextEnd.TheVariants.{EndLine, Early}
+use Rattle.session_script.specs.declared.ends.Stop.{Stop}
+use Rattle.session_script.specs.declared.ends.Stop.TheVariants.{Header, Early as EarlyStop, Memory}
 
 -- the header so far has no fault
 abbrev pub HasNoFault : List ℕ → Type 0
@@ -20,6 +23,13 @@ HasNoFault input = (line : ℕ) (reason : HeadReason) → ¬ (HasFault input lin
 abbrev pub GoesOn : List ℕ → Type 0
 GoesOn input = HasNoFault input × ¬ (HasEnd input)
 
+-- START was read, and was not
+abbrev pub HasStarted : List ℕ → Type 0
+HasStarted input = (h : SessionHeader) × HasSession input h
+
+abbrev pub HasNotStarted : List ℕ → Type 0
+HasNotStarted input = (h : SessionHeader) → ¬ (HasSession input h)
+
 -- the reading stopped with the read that ended it, which asked for 4,096 bytes at most: the input before went on
 pub record IsPrompt (input : List ℕ) : Type 0 where
   pub before : List ℕ
@@ -28,13 +38,13 @@ pub record IsPrompt (input : List ℕ) : Type 0 where
   pub short : length last ≤ 4096
   pub goes_on : GoesOn before
 
--- the input says what the script does
-pub record Says (input : List ℕ) (script : Script) : Type 0 where
-  pub session : HasSession input script.session
-  pub sent : script.sent.items ≡ sent_in script.session input
-  pub strays : script.strays ≡ strays_of script.session input
-  pub valid : Each (IsSentOf script.session) script.sent.items
-  pub few : length script.sent.items ≤ length input
+-- the input so far has this session, these commands and so many strays
+pub record Says (input : List ℕ) (h : SessionHeader) (sent : List Sent) (strays : ℕ) : Type 0 where
+  pub session : HasSession input h
+  pub sent_is : sent ≡ sent_in h input
+  pub strays_is : strays ≡ strays_of h input
+  pub valid : Each (IsSentOf h) sent
+  pub few : length sent ≤ length input
 
 -- a read met the source's end, behind this input
 pub record MetEnd (known : Option (List ℕ)) (input : List ℕ) : Type 0 where
@@ -45,23 +55,30 @@ pub record MetEnd (known : Option (List ℕ)) (input : List ℕ) : Type 0 where
 abbrev pub IsEnded : Option (List ℕ) → List ℕ → Type 0
 IsEnded known input = HasEnd input ⊎ (MetEnd known input × EndsWithEnd input)
 
--- how the reading ended, by the input that it took and what the source has left then
+-- how the input ended before its END line, by what the source has left then
+abbrev pub EndedEarly : Option (List ℕ) → List ℕ → EarlyEnd → Type 0
+EndedEarly known input Cut = MetEnd known input × HasNoFault input × ¬ (HasEnd input) × ¬ (EndsWithEnd input)
+EndedEarly known input ReadFault = (length input < input_limit) × HasNoFault input × ¬ (HasEnd input)
+EndedEarly known input TooMuch = (length input ≡ input_limit) × HasNoFault input × ¬ (HasEnd input)
+
+abbrev pub TextEnded : Option (List ℕ) → List ℕ → TextEnd → Type 0
+TextEnded known input EndLine = IsEnded known input
+TextEnded known input (Early early) = EndedEarly known input early
+
+-- how the input ended, if it did
+abbrev pub Progressed : Option (List ℕ) → List ℕ → Option TextEnd → Type 0
+Progressed known input None = GoesOn input
+Progressed known input (Some end) = TextEnded known input end
+
+-- what a round came to
+abbrev pub RoundCame : Option (List ℕ) → List ℕ → Result (Option TextEnd) Stop → Type 0
+RoundCame known input (Ok progress) = Progressed known input progress
+RoundCame known input (Err (Header line reason)) = HasFault input line reason
+RoundCame known input (Err (EarlyStop early)) = ⊥
+RoundCame known input (Err Memory) = Unit {0}
+
+-- why the reading of a text stopped before START
 abbrev pub Stopped : Option (List ℕ) → List ℕ → Stop → Type 0
 Stopped known input (Header line reason) = HasFault input line reason
-Stopped known input Cut = MetEnd known input × HasNoFault input × ¬ (HasEnd input) × ¬ (EndsWithEnd input)
-Stopped known input ReadFault = (length input < input_limit) × HasNoFault input × ¬ (HasEnd input)
-Stopped known input TooMuch = (length input ≡ input_limit) × HasNoFault input × ¬ (HasEnd input)
+Stopped known input (EarlyStop early) = HasNotStarted input × EndedEarly known input early
 Stopped known input Memory = Unit {0}
-
-abbrev pub Ended : Option (List ℕ) → List ℕ → Result Script Stop → Type 0
-Ended known input (Ok script) = IsEnded known input × Says input script
-Ended known input (Err stop) = Stopped known input stop
-
--- the reading took some input, at most the limit, and ended by what that says; a read fault is the source's
-pub record HasRead {S : Type 0} (left : S → Option (List ℕ)) (faults : S → ℕ) (before now : S) (result : Result Script Stop) : Type 0 where
-  pub input : List ℕ
-  pub took : Took left faults before now input
-  pub within : length input ≤ input_limit
-  pub prompt : IsPrompt input
-  pub ended : Ended (left now) input result
-  pub cause : result ≡ Err ReadFault → Rose (faults before) (faults now)

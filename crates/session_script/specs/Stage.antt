@@ -1,5 +1,5 @@
 -- What the lines of a text have come to, as they are taken one after another.
-use Rattle.std.specs.Prelude.{ℕ, ◌≡◌, ◌+◌, ◌-◌, ◌^◌, min, Bool, true, false, List, [], ◌∷◌, ◌++◌, Some}
+use Rattle.std.specs.Prelude.{ℕ, ◌≡◌, ◌+◌, ◌-◌, ◌^◌, min, Bool, true, false, List, [], ◌∷◌, ◌++◌, Option, Some, None}
 use Rattle.fx_rules.specs.Lists.{Each}
 use Rattle.fx_rules.specs.Session.{Header}
 use Rattle.fx_text.specs.declared.line.Line.{Line}
@@ -54,8 +54,24 @@ is_open (Heading reader) = goes_on reader
 is_open (Commanding script ended) = true
 is_open (Faulted line reason) = true
 
--- these lines lead to the stage
-abbrev pub StandsAt : Stage → List Line → Type 0
-StandsAt (Heading reader) lines = reader ≡ read_head lines
-StandsAt (Commanding script ended) lines = Tells lines script.session script.sent.items script.strays ended
-StandsAt (Faulted line reason) lines = read_head lines ≡ heads.Faulted line reason
+-- the session of a text whose START was read, the commands of the last round, and the strays so far
+abbrev pub session_at : Stage → Option Header
+session_at (Heading reader) = None
+session_at (Commanding script ended) = Some script.session
+session_at (Faulted line reason) = None
+
+abbrev pub sent_at : Stage → List Sent
+sent_at (Heading reader) = []
+sent_at (Commanding script ended) = script.sent.items
+sent_at (Faulted line reason) = []
+
+abbrev pub strays_at : Stage → ℕ
+strays_at (Heading reader) = 0
+strays_at (Commanding script ended) = script.strays
+strays_at (Faulted line reason) = 0
+
+-- these lines lead to the stage, where the commands of former rounds were these
+abbrev pub StandsAt : Stage → List Line → List Sent → Type 0
+StandsAt (Heading reader) lines former = (reader ≡ read_head lines) × (former ≡ [])
+StandsAt (Commanding script ended) lines former = Tells lines script.session (former ++ script.sent.items) script.strays ended
+StandsAt (Faulted line reason) lines former = read_head lines ≡ heads.Faulted line reason

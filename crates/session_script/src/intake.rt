@@ -1,55 +1,109 @@
 mod stage;
 
-ghost use Rattle.std.specs.Prelude.{ℕ, ◌≡◌, ◌<◌, ◌^◌, ◌++◌, [], List, OnOk, IsTrue, length};
+ghost use Rattle.std.specs.Prelude.{ℕ, ◌≡◌, ◌≢◌, ◌<◌, ◌≤◌, ◌+◌, ◌^◌, ◌++◌, [], List, Ok, Some, None, OnOk, IsTrue, length};
 ghost use Rattle.std.specs.Bool.{MatchBool};
+ghost use Rattle.fx_rules.specs.declared.command.Sent.{Sent as SentCommand};
+ghost use Rattle.fx_rules.specs.Session.{Header as SessionHeader};
 ghost use Rattle.session_script.specs.Stage.{is_open};
 
-use crate::reading::Stop;
-use crate::script::Script;
+use crate::ends::{EarlyEnd, Stop, TextEnd};
 use fx_amounts::Memory;
+use fx_edges::Source;
 use fx_text::{Line, LineCutter};
-use stage::Stage;
+pub(crate) use stage::Stage;
 use std::alloc::Global;
+
+/// The most bytes that are taken of an input.
+pub const INPUT_LIMIT: usize = 1 << 26;
+
+/// The bytes that a round takes of it at most.
+pub const ROUND: usize = 65_536;
+
+/// The bytes that one read asks for.
+const PIECE: usize = 4096;
 
 /// Takes the text of a session piece by piece, however it is cut.
 #[derive(Drop)]
 pub(crate) struct Intake {
+    /// It holds the line that the last piece cut, also from one round to the next.
     cutter: LineCutter,
     /// The lines of one piece. They stay until the next piece, which uses their room again.
     lines: Vec<Line>,
-    stage: Stage,
+    pub(crate) stage: Stage,
+    /// The bytes taken so far.
+    taken: usize,
 
     ghost readable: { IsTrue (is_open stage) },
+    ghost within: { taken ≤ 2 ^ 26 },
 }
 
 impl Intake {
+    ghost use Rattle.session_script.specs.Stage.{sent_at, session_at};
     ghost use Rattle.session_script.specs.Intake.{StandsFor, IsSettled, Closed};
     ghost use Rattle.session_script.specs.Reading.{GoesOn};
+    ghost use Rattle.session_script.specs.Rounds.{ReadsOn, TookRound};
 
     /// An intake of no bytes. It takes no memory.
     pub(crate) fn new(alloc: Global) -> Intake
-        ensures { StandsFor result [] }
+        ensures begun { StandsFor result [] [] }
+        ensures heading { session_at result.stage ≡ None }
     {
         Intake {
             cutter: LineCutter::new(),
             lines: Vec::new(alloc),
             stage: Stage::new(alloc),
+            taken: 0,
         }
     }
 
+    /// Takes a round of the source's bytes, up to the END line, a fault of the header, the source's end or a read that fails;
+    /// 65,536 bytes at most, and 2^26 of all rounds. Each read asks for 4,096 bytes, or for what the round leaves where that
+    /// is less. Answers how the text ended, if it did. After `Err` the intake is good for nothing more.
+    pub(crate) fn read_round<S: Source>(&mut self, source: &mut S) -> Result<Option<TextEnd>, Stop>
+        ensures took { (before : S) (former : List SentCommand) (input : List ℕ) → ReadsOn S.left S.faults before source.old self.old former input → TookRound S.left S.faults before source.new self.new (former ++ sent_at self.old.stage) input result }
+        ensures session { (h : SessionHeader) → session_at self.old.stage ≡ Some h → session_at self.new.stage ≡ Some h }
+        ensures further { result ≡ Ok None → self.old.taken < self.new.taken }
+    {
+        self.stage.begin_round();
+        let end = INPUT_LIMIT.min(self.taken + ROUND);
+        let mut piece = [0; PIECE];
+        while self.taken < end {
+            let room = PIECE.min(end - self.taken);
+            let Ok(count) = source.read(&mut piece[..room]) else {
+                return Ok(Some(TextEnd::Early(EarlyEnd::ReadFault)));
+            };
+            if count == 0 {
+                return self.close();
+            }
+            self.feed(&piece[..count])?;
+            if self.is_settled() {
+                return self.close();
+            }
+        }
+        if end == INPUT_LIMIT {
+            return Ok(Some(TextEnd::Early(EarlyEnd::TooMuch)));
+        }
+        Ok(None)
+    }
+
     /// Takes the next piece. After `Err` some of its lines may be taken, and the intake is good for nothing more.
-    pub(crate) fn feed(&mut self, piece: &[u8]) -> Result<(), Memory>
-        ensures { OnOk result ((text : List ℕ) → StandsFor self.old text → StandsFor self.new (text ++ piece.now)) }
+    fn feed(&mut self, piece: &[u8]) -> Result<(), Memory>
+        requires room { self.old.taken + length piece.now ≤ 2 ^ 26 }
+        ensures fed { OnOk result ((text : List ℕ) (former : List SentCommand) → StandsFor self.old text former → StandsFor self.new (text ++ piece.now) former) }
+        ensures taken { OnOk result (self.new.taken ≡ self.old.taken + length piece.now) }
+        ensures session { (h : SessionHeader) → session_at self.old.stage ≡ Some h → session_at self.new.stage ≡ Some h }
     {
         let alloc = *self.lines.allocator();
         self.lines.clear();
         self.cutter.feed(piece, &mut self.lines)?;
-        self.stage.take_all(alloc, &self.lines)
+        self.stage.take_all(alloc, &self.lines)?;
+        self.taken += piece.len();
+        Ok(())
     }
 
     /// Whether no further byte changes what the text says: its header has a fault, or its END line was read.
-    pub(crate) fn is_settled(&self) -> bool
-        ensures { (text : List ℕ) → StandsFor self.now text → MatchBool result (IsSettled text) (GoesOn text) }
+    fn is_settled(&self) -> bool
+        ensures { (text : List ℕ) (former : List SentCommand) → StandsFor self.now text former → MatchBool result (IsSettled text) (GoesOn text) }
     {
         match &self.stage {
             Stage::Heading(_) => false,
@@ -58,21 +112,24 @@ impl Intake {
         }
     }
 
-    /// What the text says where nothing follows: what is left over behind the last line feed may be its END line.
-    pub(crate) fn close(self) -> Result<Script, Stop>
-        ensures { (text : List ℕ) → StandsFor self text → length text < 2 ^ 64 → Closed text result }
+    /// How the text ends where nothing follows: what is left over behind the last line feed may be its END line.
+    fn close(&self) -> Result<Option<TextEnd>, Stop>
+        ensures closed { (text : List ℕ) (former : List SentCommand) → StandsFor self.now text former → Closed text result }
+        ensures ended { result ≢ Ok None }
     {
-        let Intake { cutter, stage, .. } = self;
-        match stage {
-            Stage::Heading(_) => Err(Stop::Cut),
-            Stage::Commanding { script, ended } => {
-                if ended || cutter.rest_is_end() {
-                    Ok(script)
+        match &self.stage {
+            Stage::Heading(_) => Ok(Some(TextEnd::Early(EarlyEnd::Cut))),
+            Stage::Commanding { ended, .. } => {
+                if *ended || self.cutter.rest_is_end() {
+                    Ok(Some(TextEnd::EndLine))
                 } else {
-                    Err(Stop::Cut)
+                    Ok(Some(TextEnd::Early(EarlyEnd::Cut)))
                 }
             }
-            Stage::Faulted { line, reason } => Err(Stop::Header { line, reason }),
+            Stage::Faulted { line, reason } => Err(Stop::Header {
+                line: *line,
+                reason: *reason,
+            }),
         }
     }
 }

@@ -1,9 +1,13 @@
-//! The text of a whole session: its header, its commands in the order of their lines, and its strays, read from a source.
+//! The text of a whole session, read from a source in rounds: its header, its commands in the order of their lines, and its
+//! strays.
 #![tactic(auto)]
 
+mod ends;
 mod intake;
 mod reading;
 mod script;
 
-pub use reading::{INPUT_LIMIT, Stop, read_script};
+pub use ends::{EarlyEnd, Stop, TextEnd};
+pub use intake::{INPUT_LIMIT, ROUND};
+pub use reading::Reading;
 pub use script::Script;

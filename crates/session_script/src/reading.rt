@@ -1,65 +1,87 @@
-ghost use Rattle.std.specs.Prelude.{◌≡◌};
-ghost use Rattle.session_script.specs.Reading.{HasRead};
-ghost use Rattle.session_script.specs.declared.reading.Stop.TheVariants.{Memory as WantOfMemory};
+ghost use Rattle.std.specs.Prelude.{◌≡◌, ◌<◌, ◌++◌, Some, None, IsSome, OnOk, OnErr, List};
+ghost use Rattle.fx_rules.specs.declared.command.Sent.{Sent as SentCommand};
+ghost use Rattle.fx_rules.specs.Session.{Header as SessionHeader};
+ghost use Rattle.session_script.specs.Stage.{session_at};
 
-use crate::intake::Intake;
+use crate::ends::{Stop, TextEnd};
+use crate::intake::{Intake, Stage};
 use crate::script::Script;
 use fx_amounts::Memory;
 use fx_edges::Source;
-use session_head::HeadReason;
 use std::alloc::Global;
 
-/// The most bytes that are taken of an input.
-pub const INPUT_LIMIT: usize = 1 << 26;
+/// The text of a session whose START was read, as it is taken from its source in rounds.
+///
+/// A round takes bytes up to the END line, the source's end or a read that fails, and 65,536 at most; a line that its end
+/// cuts is of the round in which it ends. Of all rounds 2^26 bytes are taken. Each read asks for 4,096 bytes, or for what the
+/// round or the limit leaves where that is less. The text of former rounds is not kept, nor are their commands.
+#[derive(Drop)]
+pub struct Reading {
+    intake: Intake,
+    end: Option<TextEnd>,
 
-/// The bytes that one read asks for.
-const PIECE: usize = 4096;
-
-/// Why the reading of a session's text ended without its END line.
-#[derive(Clone, Copy, Debug, PartialEq, Eq)]
-pub enum Stop {
-    /// The header has a fault: the number of its line, counted from 1 with all lines that are passed over, and the reason.
-    Header { line: u64, reason: HeadReason },
-    /// The source ended before.
-    Cut,
-    /// The source failed before.
-    ReadFault,
-    /// There was more than is taken before.
-    TooMuch,
-    /// A growth of memory was refused.
-    Memory,
+    ghost started: { IsSome (session_at intake.stage) },
 }
 
-impl From<Memory> for Stop {
-    ghost from_gives = { λ _ stop. stop ≡ WantOfMemory };
+impl Reading {
+    ghost use Rattle.session_script.specs.Stage.{sent_at, strays_at};
+    ghost use Rattle.session_script.specs.Rounds.{HasBegun, HasRead, TookPromptly};
 
-    fn from(_: Memory) -> Self {
-        Stop::Memory
-    }
-}
-
-/// Reads the text of a session up to its END line, which may also be what is left over where the source ends. The reading
-/// stops at the first fault of the header too, and at the first of these that it meets: 2^26 bytes, the source's end,
-/// and a read that fails. Each read asks for 4,096 bytes, or for what the limit leaves where that is less.
-pub fn read_script<S: Source>(alloc: Global, source: &mut S) -> Result<Script, Stop>
-    ensures read { HasRead S.left S.faults source.old source.new result }
-{
-    let mut intake = Intake::new(alloc);
-    let mut piece = [0; PIECE];
-    let mut taken = 0;
-    while taken < INPUT_LIMIT {
-        let room = PIECE.min(INPUT_LIMIT - taken);
-        let Ok(count) = source.read(&mut piece[..room]) else {
-            return Err(Stop::ReadFault);
-        };
-        if count == 0 {
-            return intake.close();
-        }
-        intake.feed(&piece[..count])?;
-        taken += count;
-        if intake.is_settled() {
-            return intake.close();
+    /// Reads the rounds up to the one with START. The reading stops at the first fault of the header too.
+    pub fn begin<S: Source>(alloc: Global, source: &mut S) -> Result<Reading, Stop>
+        ensures begun { HasBegun S.left S.faults source.old source.new result }
+    {
+        let mut intake = Intake::new(alloc);
+        loop {
+            let end = match intake.read_round(source) {
+                Ok(end) => end,
+                Err(stop) => return Err(stop),
+            };
+            if intake.stage.has_started() {
+                return Ok(Reading { intake, end });
+            }
+            match end {
+                None => {}
+                Some(TextEnd::Early(early)) => return Err(Stop::Early(early)),
+                // An END line stands behind START.
+                Some(TextEnd::EndLine) => unreachable!(),
+            }
         }
     }
-    Err(Stop::TooMuch)
+
+    /// Reads the next round of a text that has not ended. After `Memory` the reading is good for nothing more.
+    pub fn read_round<S: Source>(&mut self, source: &mut S) -> Result<(), Memory>
+        requires goes_on { self.old.end ≡ None }
+        ensures read { OnOk result ((before : S) (h : SessionHeader) (all : List SentCommand) → HasRead S.left S.faults before source.old self.old h all → HasRead S.left S.faults before source.new self.new h (all ++ sent_at self.new.intake.stage)) }
+        ensures further { OnOk result (self.new.end ≡ None → self.old.intake.taken < self.new.intake.taken) }
+        ensures memory { OnErr result ((before : S) (h : SessionHeader) (all : List SentCommand) → HasRead S.left S.faults before source.old self.old h all → TookPromptly S.left S.faults before source.new) }
+    {
+        match self.intake.read_round(source) {
+            Ok(end) => {
+                self.end = end;
+                Ok(())
+            }
+            // Behind START no fault is a header's, so memory was wanting.
+            Err(_) => Err(Memory),
+        }
+    }
+
+    /// What the text says so far: its session, the commands of the last round, and the strays of all.
+    pub fn script(&self) -> &Script
+        ensures session { session_at self.now.intake.stage ≡ Some result.now.session }
+        ensures sent { sent_at self.now.intake.stage ≡ result.now.sent.items }
+        ensures strays { strays_at self.now.intake.stage ≡ result.now.strays }
+    {
+        match &self.intake.stage {
+            Stage::Commanding { script, .. } => script,
+            _ => unreachable!(),
+        }
+    }
+
+    /// How the text ended; none where it goes on.
+    pub fn end(&self) -> Option<TextEnd>
+        ensures end { result ≡ self.now.end }
+    {
+        self.end
+    }
 }

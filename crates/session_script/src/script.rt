@@ -1,4 +1,4 @@
-ghost use Rattle.std.specs.Prelude.{IfOk};
+ghost use Rattle.std.specs.Prelude.{◌≡◌, IfOk};
 ghost use Rattle.order_lines.specs.Grammar.{command_line};
 
 use fx_amounts::Memory;
@@ -6,8 +6,8 @@ use fx_rules::{Sent, Session};
 use fx_text::Line;
 use order_lines::{Spoken, command_from};
 
-/// What the text of a session says: the session of its header, the commands behind START in the order of their lines,
-/// and how many of the lines there were strays.
+/// What the text of a session says: the session of its header, the commands of the last round in the order of their lines,
+/// and how many of the lines behind START were strays so far.
 #[derive(Debug, Drop)]
 pub struct Script {
     pub session: Session,
@@ -20,7 +20,8 @@ impl Script {
 
     /// Adds what a line behind START says, and answers whether it is the END line. After `Err` the line is not added.
     pub(crate) fn add(&mut self, line: &Line) -> Result<bool, Memory>
-        ensures { IfOk result (λ ended. Adds self.old self.new (command_line self.old.session line.now) ended) }
+        ensures adds { IfOk result (λ ended. Adds self.old self.new (command_line self.old.session line.now) ended) }
+        ensures session { self.new.session ≡ self.old.session }
     {
         match command_from(&self.session, line) {
             Spoken::Of(bank, command) => self.sent.push(Sent { bank, command })?,

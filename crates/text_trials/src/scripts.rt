@@ -4,7 +4,7 @@ use fx_amounts::{BankId, Lots, Memory, PairId, Price, Side};
 use fx_edges::MemorySource;
 use fx_rules::{Command, Life, Reject, Sent};
 use session_head::HeadReason;
-use session_script::{Script, Stop, read_script};
+use session_script::{EarlyEnd, Reading, Stop, TextEnd};
 use std::alloc::Global;
 use std::process::Abort;
 use std::test::Fail;
@@ -29,30 +29,74 @@ fn joined(alloc: Global, parts: &[&[u8]]) -> Result<Vec<u8>, Memory> {
     Ok(text)
 }
 
+// A text read to its end, with the commands of all its rounds.
+#[derive(Drop)]
+struct Whole {
+    reading: Reading,
+    sent: Vec<Sent>,
+}
+
+// In so many rounds 2^26 bytes are taken.
+const MOST_ROUNDS: u32 = 1024;
+
 // Reads a text from a source that gives at most `most` bytes at a call, and fails at these calls.
 fn read(
     alloc: Global,
     text: &[u8],
     most: usize,
     fails: &[u64],
-) -> Result<Result<Script, Stop>, Memory>
+) -> Result<Result<Whole, Stop>, Memory>
     requires { 1 ≤ most }
 {
     let mut source = MemorySource::new(text.to_vec(alloc)?, most, fails.to_vec(alloc)?);
-    Ok(read_script(alloc, &mut source))
+    match Reading::begin(alloc, &mut source) {
+        Ok(reading) => Ok(Ok(read_on(alloc, &mut source, reading)?)),
+        Err(stop) => Ok(Err(stop)),
+    }
 }
 
-// Wants a script of the header's session with these commands and so many strays.
-fn expect_script(rt: &impl Abort, got: &Result<Script, Stop>, sent: &[Sent], strays: u64) {
+// The rest of the rounds.
+fn read_on(
+    alloc: Global,
+    source: &mut MemorySource,
+    mut reading: Reading,
+) -> Result<Whole, Memory> {
+    let mut sent = Vec::new(alloc);
+    sent.extend_from_slice(&reading.script().sent)?;
+    for _round in 0..MOST_ROUNDS {
+        if reading.end().is_some() {
+            break;
+        }
+        reading.read_round(source)?;
+        sent.extend_from_slice(&reading.script().sent)?;
+    }
+    Ok(Whole { reading, sent })
+}
+
+// Wants the header's session with these commands and so many strays, and this end.
+fn expect_text(
+    rt: &impl Abort,
+    got: &Result<Whole, Stop>,
+    sent: &[Sent],
+    strays: u64,
+    end: TextEnd,
+) {
     match got {
-        Ok(script) => {
+        Ok(whole) => {
+            let script = whole.reading.script();
             assert!(rt; script.session.banks().len() == 2);
             assert!(rt; script.session.pairs().len() == 1);
-            assert!(rt; script.sent.as_slice() == sent);
+            assert!(rt; whole.sent.as_slice() == sent);
             assert!(rt; script.strays == strays);
+            assert!(rt; whole.reading.end() == Some(end));
         }
         Err(stop) => assert!(rt; false, "{stop:?}"),
     }
+}
+
+// Wants a text that ended with its END line.
+fn expect_script(rt: &impl Abort, got: &Result<Whole, Stop>, sent: &[Sent], strays: u64) {
+    expect_text(rt, got, sent, strays, TextEnd::EndLine);
 }
 
 // Wants it in whatever pieces the source gives.
@@ -69,10 +113,18 @@ fn expect_in_pieces(
     Ok(())
 }
 
-fn expect_stop(rt: &impl Abort, got: &Result<Script, Stop>, stop: Stop) {
+fn expect_stop(rt: &impl Abort, got: &Result<Whole, Stop>, stop: Stop) {
     match got {
-        Ok(script) => assert!(rt; false, "{script:?}"),
+        Ok(whole) => assert!(rt; false, "{:?}", whole.sent),
         Err(got) => assert!(rt; *got == stop),
+    }
+}
+
+// Wants a text that ended so before its END line, with START read.
+fn expect_early(rt: &impl Abort, got: &Result<Whole, Stop>, early: EarlyEnd) {
+    match got {
+        Ok(whole) => assert!(rt; whole.reading.end() == Some(TextEnd::Early(early))),
+        Err(stop) => assert!(rt; false, "{stop:?}"),
     }
 }
 
@@ -134,16 +186,19 @@ fn long_lines_are_read(rt: HostRuntime) -> Result<(), Fail> {
     )?;
     expect_in_pieces(&rt, alloc, &text, &[bad(1, Reject::Long)?], 2)?;
     let text = joined(alloc, &[HEADER, b"END", &blanks])?;
-    expect_stop(&rt, &read(alloc, &text, 64, &[])?, Stop::Cut);
+    expect_early(&rt, &read(alloc, &text, 64, &[])?, EarlyEnd::Cut);
     Ok(())
 }
 
+// The whole lines of a text that is cut are read.
 #[test]
-fn a_text_that_is_cut_has_no_script(rt: HostRuntime) -> Result<(), Fail> {
+fn a_text_that_is_cut_has_its_lines(rt: HostRuntime) -> Result<(), Fail> {
     let alloc = rt.alloc();
-    for rest in [b"".as_slice(), b"EN", b"END x", b"BETA WAIT\n", b"# END"] {
+    let sent = commands()?;
+    let cut = TextEnd::Early(EarlyEnd::Cut);
+    for rest in [b"".as_slice(), b"EN", b"END x", b"BETA WAIT", b"# END"] {
         let text = joined(alloc, &[HEADER, LINES, rest])?;
-        expect_stop(&rt, &read(alloc, &text, 64, &[])?, Stop::Cut);
+        expect_text(&rt, &read(alloc, &text, 64, &[])?, &sent, 2, cut);
     }
 
     // Without START there is no END line.
@@ -153,7 +208,11 @@ fn a_text_that_is_cut_has_no_script(rt: HostRuntime) -> Result<(), Fail> {
         b"FXBOOK 1\nEND",
         b"FXBOOK 1\nBANK ALFA\nBANK BETA\nSTART",
     ] {
-        expect_stop(&rt, &read(alloc, text, 64, &[])?, Stop::Cut);
+        expect_stop(
+            &rt,
+            &read(alloc, text, 64, &[])?,
+            Stop::Early(EarlyEnd::Cut),
+        );
     }
     Ok(())
 }
@@ -196,12 +255,18 @@ fn a_read_that_fails_stops(rt: HostRuntime) -> Result<(), Fail> {
     let sent = commands()?;
     let text = joined(alloc, &[HEADER, LINES, b"END\n", BEHIND])?;
     let bare = joined(alloc, &[HEADER, LINES, b"END"])?;
-    for call in 1..15 {
-        expect_stop(&rt, &read(alloc, &text, 16, &[call])?, Stop::ReadFault);
-        expect_stop(&rt, &read(alloc, &bare, 16, &[call])?, Stop::ReadFault);
+    for text in [&text, &bare] {
+        // START ends with the sixth piece.
+        for call in 1..7 {
+            let got = read(alloc, text, 16, &[call])?;
+            expect_stop(&rt, &got, Stop::Early(EarlyEnd::ReadFault));
+        }
+        for call in 7..15 {
+            expect_early(&rt, &read(alloc, text, 16, &[call])?, EarlyEnd::ReadFault);
+        }
     }
     expect_script(&rt, &read(alloc, &text, 16, &[15])?, &sent, 2);
-    expect_stop(&rt, &read(alloc, &bare, 16, &[15])?, Stop::ReadFault);
+    expect_early(&rt, &read(alloc, &bare, 16, &[15])?, EarlyEnd::ReadFault);
     expect_script(&rt, &read(alloc, &bare, 16, &[16])?, &sent, 2);
     Ok(())
 }

@@ -1,12 +1,13 @@
 -- What a history at its close has of the banks whose lanes are done.
-use Rattle.std.proofs.Common.{ℕ, zero, suc, ◌≡◌, ◌<◌, ◌≤◌, ◌^◌, eqb, List, [], ◌∷◌, ◌++◌, length, map, take, drop, append-nil, get_or, All, refl, ap, sym, subst, ◌∙◌, arith, inl, inr}
-use Rattle.std.specs.List.{AllZip}
+use Rattle.std.proofs.Common.{ℕ, zero, suc, ◌≡◌, ◌+◌, ◌<◌, ◌≤◌, ◌^◌, eqb, Bool, List, [], ◌∷◌, ◌++◌, length, map, take, drop, append-nil, get_or, All, refl, ap, ap₂, sym, subst, ◌∙◌, arith, inl, inr}
+use Rattle.std.specs.List.{AllZip, slice_get, filter}
+use Rattle.std.specs.Prelude.{Some, Result, Ok, Err, OnOk, IfOk}
 use Rattle.std.proofs.Math.ListN.{drop_of_length-le}
 use Rattle.std.proofs.Math.Seq.{take-length}
-use Rattle.std.proofs.lemmas.List.{take_all}
+use Rattle.std.proofs.lemmas.List.{take_all, length-map, map-append, length-append}
 use Rattle.std.proofs.lemmas.Bool.{cases_lt, cases_Bool, eqb-true}
-use Rattle.std.proofs.lemmas.List.Elements.{AllZip-get_or, All-get_or, length_all_zip}
-use Rattle.std.proofs.lemmas.Option.{slice_get-get_or}
+use Rattle.std.proofs.lemmas.List.Elements.{AllZip-get_or, All-get_or, length_all_zip, filter-append}
+use Rattle.std.proofs.lemmas.Option.{slice_get-get_or, slice_get_within, get_or_from_slice_get}
 use Rattle.fx_rules.specs.declared.command.Command.{Command}
 use Rattle.fx_rules.specs.declared.command.Sent.{Sent}
 use Rattle.fx_rules.specs.declared.outcome.Entry.{Entry}
@@ -16,13 +17,14 @@ use Rattle.fx_rules.specs.Sending.{IsSentOf}
 use Rattle.fx_rules.specs.State.{State, opening}
 use Rattle.fx_rules.specs.Step.{IsCommand}
 use Rattle.fx_rules.specs.History.{Steps, IsLegal, after_entry, own}
-use Rattle.fx_rules.proofs.ListLemmas.{filter_cons_true, filter_cons_false}
-use Rattle.fx_chronicle.specs.Faces.{Witness}
+use Rattle.fx_rules.proofs.ListLemmas.{Each-append, filter_cons_true, filter_cons_false}
+use Rattle.fx_chronicle.specs.Faces.{Witness, witness}
 use Rattle.fx_desk.specs.Submitting.{IsWholeOf}
 use Rattle.fx_desk.specs.Streams.{stream_of, HasStreams}
 use Rattle.gateway_workers.specs.declared.lane.Lane.{Lane}
 use Rattle.gateway_workers.specs.Lanes.{IsReadyLane, LaneRan, IsDone}
-use Rattle.threaded_run.specs.Lanes.{AreLanes, lane_of}
+use Rattle.threaded_run.proofs.Making.{AreFilledTo}
+use Rattle.threaded_run.specs.Lanes.{AreFilled, CanServe, HaveServed, IsLaneOf, next_lane}
 
 among_at : {X : Type 0} (xs : List X) (k : ℕ) (d : X) → k < length xs → Among (get_or xs k d) xs
 among_at [] k d within = absurd (omega arith)
@@ -33,6 +35,10 @@ among_mapped : {X Y : Type 0} (f : X → Y) (xs : List X) (x : X) → Among x xs
 among_mapped f [] x among = absurd among
 among_mapped f (y ∷ xs) x (inl is) = inl (ap f is)
 among_mapped f (y ∷ xs) x (inr later) = inr (among_mapped f xs x later)
+
+-- nobody's lane
+no_lane : Lane (Witness Entry)
+no_lane = record { pass = witness 0 []; bank = 0; sent = 0; stream = []; done = 0 }
 
 -- who is no sender of the session has no entry, and sends nothing
 own_none : (h : Header) (S : State) (bank : ℕ) (entries : List Entry) → sender_count h ≤ bank → Steps h S entries → own bank entries ≡ []
@@ -60,43 +66,32 @@ seen_by pass = pass.seen
 abbrev pub mine_of : Witness Entry → List Entry
 mine_of pass = own pass.key pass.met
 
--- what a bank's lane did is what the history has of the bank
-own_stream : (h : Header) (bank : ℕ) (sent : List Sent) (was now : Lane (Witness Entry)) (history : List Entry) → was ≡ lane_of bank sent → LaneRan h key_of seen_by mine_of was now → IsDone now
-    → IsWholeOf now.pass.key now.pass.seen (mine_of now.pass) history → map (λ (e : Entry). e.command) (own bank history) ≡ stream_of bank sent
-own_stream h bank sent was now history was_is ran done whole =
-    let key_is : now.pass.key ≡ bank = ran.same_bank ∙ ap (λ (lane : Lane (Witness Entry)). lane.pass.key) was_is in
-    let mine_is : mine_of now.pass ≡ ran.entries = ran.mine_grew ∙ ap (λ (lane : Lane (Witness Entry)). mine_of lane.pass ++ ran.entries) was_is in
-    let stream_is : now.stream ≡ was.stream = ap (λ (lane : Lane (Witness Entry)). lane.stream) ran.same_lane in
-    let all : now.done ≡ length was.stream = done ∙ ap (λ (cs : List Command). length cs) stream_is in
-    ap (λ b. map (λ (e : Entry). e.command) (own b history)) (sym key_is)
-    ∙ ap (map (λ (e : Entry). e.command)) (whole.own_are_mine ∙ mine_is)
-    ∙ ran.in_order ∙ ap (λ n. take n was.stream) all ∙ take-length was.stream
-    ∙ ap (λ (lane : Lane (Witness Entry)). lane.stream) was_is
+-- what a history has of a bank is what its lane was to send
+own_stream : (bank : ℕ) (sent : List Sent) (lane : Lane (Witness Entry)) (history : List Entry) → IsLaneOf bank sent lane → IsWholeOf lane.pass.key lane.pass.seen (mine_of lane.pass) history
+    → map (λ (e : Entry). e.command) (own bank history) ≡ stream_of bank sent
+own_stream bank sent lane history is whole =
+    ap (λ b. map (λ (e : Entry). e.command) (own b history)) (sym is.key_is)
+    ∙ ap (map (λ (e : Entry). e.command)) whole.own_are_mine
+    ∙ is.commands
 
 -- so the history has each bank's commands once and in its order
-pub has-streams : (h : Header) (banks : ℕ) (sent : List Sent) (was now : List (Lane (Witness Entry))) (passes : List (Witness Entry)) (history : List Entry)
-    → IsLegal h history → sender_count h ≡ banks → Each (IsSentOf h) sent → AreLanes banks sent was → AllZip (LaneRan h key_of seen_by mine_of) was now → All IsDone now
-    → passes ≡ map (λ (lane : Lane (Witness Entry)). lane.pass) now → ((pass : Witness Entry) → Among pass passes → IsWholeOf pass.key pass.seen (mine_of pass) history)
+pub has-streams : (h : Header) (sent : List Sent) (lanes : List (Lane (Witness Entry))) (passes : List (Witness Entry)) (history : List Entry)
+    → IsLegal h history → HaveServed h sent lanes → passes ≡ map (λ (lane : Lane (Witness Entry)). lane.pass) lanes → ((pass : Witness Entry) → Among pass passes → IsWholeOf pass.key pass.seen (mine_of pass) history)
     → HasStreams sent history
-has-streams h banks sent was now passes history legal count valid lanes ran done passes_are whole = λ bank.
-    elim (cases_lt bank banks) [
+has-streams h sent lanes passes history legal served passes_are whole = λ bank.
+    elim (cases_lt bank (sender_count h)) [
       | inl below ↦
-          let d : Lane (Witness Entry) = lane_of bank sent in
-          let within : bank < length was = omega (arith, below, lanes.all) in
-          let as_many : bank < length now = omega (arith, within, length_all_zip (LaneRan h key_of seen_by mine_of) was now ran) in
-          let here : Among (get_or now bank d).pass passes =
-          subst (Among (get_or now bank d).pass) (sym passes_are) (among_mapped (λ (lane : Lane (Witness Entry)). lane.pass) now (get_or now bank d) (among_at now bank d as_many)) in
-          own_stream h bank sent (get_or was bank d) (get_or now bank d) history
-          (lanes.each bank (get_or was bank d) (slice_get-get_or was bank d within))
-          (AllZip-get_or (LaneRan h key_of seen_by mine_of) was now bank d d ran within)
-          (All-get_or IsDone now bank d as_many done)
-          (whole (get_or now bank d).pass here)
+          let d : Lane (Witness Entry) = no_lane in
+          let within : bank < length lanes = omega (arith, below, served.all) in
+          let here : Among (get_or lanes bank d).pass passes =
+          subst (Among (get_or lanes bank d).pass) (sym passes_are) (among_mapped (λ (lane : Lane (Witness Entry)). lane.pass) lanes (get_or lanes bank d) (among_at lanes bank d within)) in
+          own_stream bank sent (get_or lanes bank d) history (served.each bank (get_or lanes bank d) (slice_get-get_or lanes bank d within)) (whole (get_or lanes bank d).pass here)
       | inr beyond ↦
-          ap (map (λ (e : Entry). e.command)) (own_none h (opening h) bank history (omega (arith, beyond, count)) legal.steps)
-          ∙ sym (stream_none h bank sent (omega (arith, beyond, count)) valid)
+          ap (map (λ (e : Entry). e.command)) (own_none h (opening h) bank history beyond legal.steps)
+          ∙ sym (stream_none h bank sent beyond served.valid)
     ]
 
--- ---- the lanes as they begin
+-- ---- the lanes of a round as they begin
 
 may_send : (h : Header) (bank : ℕ) (sent : List Sent) → Each (IsSentOf h) sent → Each (IsCommand h bank) (stream_of bank sent)
 may_send h bank [] valid = tt
@@ -118,21 +113,106 @@ stream_shorter bank (s ∷ sent) =
       | inr other ↦ omega (arith, stream_shorter bank sent, ap (λ (ss : List Sent). length (map (λ (t : Sent). t.command) ss)) (filter_cons_false (λ (t : Sent). eqb t.bank bank) s sent other))
     ]
 
-ready_lane : (h : Header) (bank : ℕ) (sent : List Sent) → Each (IsSentOf h) sent → length sent < 2 ^ 32 → IsReadyLane h key_of mine_of (lane_of bank sent)
-ready_lane h bank sent valid few = record {
-  bank_of_pass = refl;
-  sent_by_pass = refl;
-  none_done = refl;
-  may_send = may_send h bank sent valid;
-  numbers = omega (arith, few, stream_shorter bank sent);
-}
+ready_lane : (h : Header) (bank : ℕ) (sent more : List Sent) (lane : Lane (Witness Entry)) → IsLaneOf bank sent lane → Each (IsSentOf h) more → length sent + length more < 2 ^ 32
+    → IsReadyLane h key_of mine_of (next_lane lane (stream_of bank more))
+ready_lane h bank sent more lane is valid few =
+    let as_many : length (mine_of lane.pass) ≡ length (stream_of bank sent) = sym (length-map (mine_of lane.pass) (λ (e : Entry). e.command)) ∙ ap (λ (cs : List Command). length cs) is.commands in
+    record {
+      bank_of_pass = is.bank_is ∙ sym is.key_is;
+      sent_by_pass = is.counted;
+      none_done = refl;
+      may_send = subst (λ b. Each (IsCommand h b) (stream_of bank more)) (sym is.bank_is) (may_send h bank more valid);
+      numbers = omega (arith, few, is.counted, as_many, stream_shorter bank sent, stream_shorter bank more);
+    }
 
-pub ready-lanes : (h : Header) (banks : ℕ) (sent : List Sent) (lanes : List (Lane (Witness Entry))) → AreLanes banks sent lanes → Each (IsSentOf h) sent → length sent < 2 ^ 32 → All (IsReadyLane h key_of mine_of) lanes
-ready-lanes h banks sent lanes are valid few = λ k d within.
-    subst (IsReadyLane h key_of mine_of) (sym (are.each k (get_or lanes k d) (slice_get-get_or lanes k d within))) (ready_lane h k sent valid few)
+pub ready-lanes : (h : Header) (more : List Sent) (was now : List (Lane (Witness Entry))) → CanServe h was more → AreFilled more was now → All (IsReadyLane h key_of mine_of) now
+ready-lanes h more was now can filled = λ k d within.
+    let within' : k < length was = omega (arith, within, filled.long) in
+    let lane : Lane (Witness Entry) = get_or was k d in
+    let there : slice_get was k ≡ Some lane = slice_get-get_or was k d within' in
+    let next : slice_get now k ≡ Some (next_lane lane (stream_of k more)) = filled.each k lane there in
+    subst (IsReadyLane h key_of mine_of) (sym (get_or_from_slice_get now k (next_lane lane (stream_of k more)) d next))
+    (ready_lane h k can.sent more lane (can.served.each k lane there) can.valid can.few)
+
+-- the numbers of a lane's round fit
+pub next-numbers : (h : Header) (more : List Sent) (was now : List (Lane (Witness Entry))) (n : ℕ) (d : Lane (Witness Entry)) → CanServe h was more → AreFilledTo more was now n → n < length now
+    → (get_or now n d).sent + (get_or now n d).done < 2 ^ 32
+next-numbers h more was now n d can filled within =
+    let lane : Lane (Witness Entry) = get_or was n d in
+    let there : slice_get was n ≡ Some lane = slice_get-get_or was n d (omega (arith, within, filled.long)) in
+    let lane_is : get_or now n d ≡ lane = get_or_from_slice_get now n lane d (filled.to_come n lane (omega arith) there) in
+    let its = can.served.each n lane there in
+    let as_many : length (mine_of lane.pass) ≡ length (stream_of n can.sent) = sym (length-map (mine_of lane.pass) (λ (e : Entry). e.command)) ∙ ap (λ (cs : List Command). length cs) its.commands in
+    subst (λ (l : Lane (Witness Entry)). l.sent + l.done < 2 ^ 32) (sym lane_is) (omega (arith, its.counted, as_many, stream_shorter n can.sent, can.few))
+
+pub some-lanes : (h : Header) (more : List Sent) (was now : List (Lane (Witness Entry))) → CanServe h was more → AreFilled more was now → 0 < length now
+some-lanes h more was now can filled = omega (arith, filled.long, can.served.all, can.served.session.banks_least)
+
+-- ---- the lanes of a round that is done
+
+stream_joined : (bank : ℕ) (sent more : List Sent) → stream_of bank (sent ++ more) ≡ stream_of bank sent ++ stream_of bank more
+stream_joined bank sent more =
+    let test : Sent → Bool = λ (t : Sent). eqb t.bank bank in
+    ap (map (λ (t : Sent). t.command)) (filter-append test sent more) ∙ map-append (λ (t : Sent). t.command) (filter test sent) (filter test more)
+
+ran_lane : (h : Header) (bank : ℕ) (sent more : List Sent) (lane now : Lane (Witness Entry)) → IsLaneOf bank sent lane → LaneRan h key_of seen_by mine_of (next_lane lane (stream_of bank more)) now → IsDone now
+    → IsLaneOf bank (sent ++ more) now
+ran_lane h bank sent more lane now is ran done =
+    let stream_is : now.stream ≡ stream_of bank more = ap (λ (l : Lane (Witness Entry)). l.stream) ran.same_lane in
+    let all : now.done ≡ length (stream_of bank more) = done ∙ ap (λ (cs : List Command). length cs) stream_is in
+    let new : map (λ (e : Entry). e.command) ran.entries ≡ stream_of bank more = ran.in_order ∙ ap (λ n. take n (stream_of bank more)) all ∙ take-length (stream_of bank more) in
+    let as_many : length ran.entries ≡ length (stream_of bank more) = sym (length-map ran.entries (λ (e : Entry). e.command)) ∙ ap (λ (cs : List Command). length cs) new in
+    let sent_is : now.sent ≡ lane.sent + lane.done = ap (λ (l : Lane (Witness Entry)). l.sent) ran.same_lane in
+    let grown : length (mine_of now.pass) ≡ length (mine_of lane.pass) + length ran.entries = ap (λ (es : List Entry). length es) ran.mine_grew ∙ length-append (mine_of lane.pass) ran.entries in
+    record {
+      bank_is = ap (λ (l : Lane (Witness Entry)). l.bank) ran.same_lane ∙ is.bank_is;
+      key_is = ran.same_bank ∙ is.key_is;
+      counted = omega (arith, sent_is, all, as_many, grown, is.counted);
+      commands = ap (map (λ (e : Entry). e.command)) ran.mine_grew ∙ map-append (λ (e : Entry). e.command) (mine_of lane.pass) ran.entries
+          ∙ ap₂ (λ (front back : List Command). front ++ back) is.commands new ∙ sym (stream_joined bank sent more);
+    }
+
+pub served-on : (h : Header) (so_far more : List Sent) (was mid now : List (Lane (Witness Entry))) → HaveServed h so_far was → Each (IsSentOf h) more → AreFilled more was mid → AllZip (LaneRan h key_of seen_by mine_of) mid now → All IsDone now
+    → HaveServed h (so_far ++ more) now
+served-on h so_far more was mid now served valid filled ran done =
+    let long : length mid ≡ length now = length_all_zip (LaneRan h key_of seen_by mine_of) mid now ran in
+    record {
+      session = served.session;
+      valid = Each-append (IsSentOf h) so_far more served.valid valid;
+      all = omega (arith, long, filled.long, served.all);
+      each = λ k lane is.
+          let within : k < length now = slice_get_within now k lane is in
+          let within' : k < length was = omega (arith, within, long, filled.long) in
+          let old : Lane (Witness Entry) = get_or was k lane in
+          let there : slice_get was k ≡ Some old = slice_get-get_or was k lane within' in
+          let next : get_or mid k lane ≡ next_lane old (stream_of k more) = get_or_from_slice_get mid k (next_lane old (stream_of k more)) lane (filled.each k old there) in
+          let here : get_or now k lane ≡ lane = get_or_from_slice_get now k lane lane is in
+          let its = AllZip-get_or (LaneRan h key_of seen_by mine_of) mid now k lane lane ran (omega (arith, within, long)) in
+          ran_lane h k so_far more old lane (served.each k old there)
+          (subst (λ (l : Lane (Witness Entry)). LaneRan h key_of seen_by mine_of l lane) next (subst (λ (l : Lane (Witness Entry)). LaneRan h key_of seen_by mine_of (get_or mid k lane) l) here its))
+          (subst IsDone here (All-get_or IsDone now k lane within done));
+    }
+
+pub served-none : (h : Header) (so_far more : List Sent) (lanes : List (Lane (Witness Entry))) → HaveServed h so_far lanes → more ≡ [] → HaveServed h (so_far ++ more) lanes
+served-none h so_far more lanes served none =
+    subst (λ (sent : List Sent). HaveServed h sent lanes) (sym (ap (λ (ss : List Sent). so_far ++ ss) none ∙ append-nil so_far)) served
 
 -- a row of lanes that were all handed out and came back is what came back
 pub came_back : {X : Type 0} (n : ℕ) (was now : List X) → n ≡ length was → length was ≡ length now → take n (now ++ drop (length now) was) ≡ now
 came_back n was now all same =
     ap (λ (rest : List _). take n (now ++ rest)) (drop_of_length-le was (omega (arith, same)))
     ∙ ap (take n) (append-nil now) ∙ take_all n now (omega (arith, all, same))
+
+pub served_back : (h : Header) (so_far more : List Sent) (n : ℕ) (was now : List (Lane (Witness Entry))) → n ≡ length was → HaveServed h so_far was → HaveServed h (so_far ++ more) now
+    → HaveServed h (so_far ++ more) (take n (now ++ drop (length now) was))
+served_back h so_far more n was now all before served =
+    subst (λ (lanes : List (Lane (Witness Entry))). HaveServed h (so_far ++ more) lanes) (sym (came_back n was now all (omega (arith, before.all, served.all)))) served
+
+-- what follows from what an answer that is Ok has told
+pub ok_then : {T E P Q : Type 0} (r : Result T E) → (P → Q) → OnOk r P → OnOk r Q
+ok_then (Ok x) leads told = leads told
+ok_then (Err e) leads told = tt
+
+pub if_ok_then : {T E : Type 0} {P Q : T → Type 0} (r : Result T E) → ((x : T) → P x → Q x) → IfOk r P → IfOk r Q
+if_ok_then (Ok x) leads told = leads x told
+if_ok_then (Err e) leads told = tt

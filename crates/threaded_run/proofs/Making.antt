@@ -1,6 +1,6 @@
 -- The lanes as they are made.
-use Rattle.std.proofs.Common.{ℕ, zero, suc, ◌≡◌, ◌≢◌, ◌+◌, ◌<◌, eqb, Bool, List, [], ◌∷◌, ◌++◌, length, map, take, get_or, set, length-set, option_map, refl, ap, sym, subst, ◌∙◌, arith, inl, inr, append-nil, eq-eqb, ne_eqb}
-use Rattle.std.specs.Prelude.{Option, Some, None}
+use Rattle.std.proofs.Common.{ℕ, zero, suc, ◌≡◌, ◌≢◌, ◌+◌, ◌<◌, ◌≤◌, eqb, Bool, List, [], ◌∷◌, ◌++◌, length, map, take, get_or, set, length-set, option_map, refl, ap, sym, subst, ◌∙◌, arith, inl, inr, append-nil, eq-eqb, ne_eqb}
+use Rattle.std.specs.Prelude.{Some}
 use Rattle.std.specs.List.{slice_get, filter}
 use Rattle.std.specs.declared.alloc.Global.{Global}
 use Rattle.std.specs.declared.vec.Vec.{Vec}
@@ -8,16 +8,17 @@ use Rattle.std.proofs.Math.Seq.{take-suc}
 use Rattle.std.proofs.lemmas.Bool.{cases_eq}
 use Rattle.std.proofs.lemmas.List.{get_or-set_same, length-map, map-append}
 use Rattle.std.proofs.lemmas.List.Elements.{filter-append}
-use Rattle.std.proofs.lemmas.Option.{slice_get_within, slice_get_read, slice_get-map, get_or_from_slice_get}
+use Rattle.std.proofs.lemmas.Option.{slice_get_within, slice_get_read, slice_get-map, slice_get-get_or, get_or_from_slice_get}
 use Rattle.fx_rules.specs.declared.command.Command.{Command}
 use Rattle.fx_rules.specs.declared.command.Sent.{Sent}
 use Rattle.fx_rules.specs.declared.outcome.Entry.{Entry}
 use Rattle.fx_rules.specs.Lists.{Each}
+use Rattle.fx_rules.specs.Session.{Header, IsSession, sender_count}
 use Rattle.fx_rules.proofs.ListLemmas.{filter_cons_true, filter_cons_false}
 use Rattle.fx_chronicle.specs.Faces.{Witness, witness, AreNew}
 use Rattle.fx_desk.specs.Streams.{stream_of}
 use Rattle.gateway_workers.specs.declared.lane.Lane.{Lane}
-use Rattle.threaded_run.specs.Lanes.{AreStreams, AreLanes, IsFresh, lane_of}
+use Rattle.threaded_run.specs.Lanes.{AreStreams, AreFilled, HaveServed, IsLaneOf, IsFresh, next_lane}
 
 -- one more command of a bank, and of another
 pushed : (bank : ℕ) (sent : List Sent) (s : Sent) → stream_of bank (sent ++ s ∷ []) ≡ stream_of bank sent ++ stream_of bank (s ∷ [])
@@ -85,28 +86,76 @@ stream_pushed banks i place sent s streams stream new are within s_is place_is s
     more : take (i + 1) sent ≡ take i sent ++ s ∷ []
     more = ap (λ n. take n sent) one_more ∙ take-suc sent i s within ∙ ap (λ (t : Sent). take i sent ++ t ∷ []) (sym s_is)
 
-lane_same : (lane : Lane (Witness Entry)) (bank : ℕ) (sent : List Sent) → IsFresh lane → lane.pass ≡ witness bank [] → lane.stream ≡ stream_of bank sent → lane ≡ lane_of bank sent
-lane_same lane bank sent fresh pass_is stream_is =
-    fresh
-    ∙ ap (λ (pass : Witness Entry). record { pass = pass; bank = pass.key; sent = 0; stream = lane.stream; done = 0 }) pass_is
-    ∙ ap (λ (stream : List Command). record { pass = witness bank []; bank = bank; sent = 0; stream = stream; done = 0 }) stream_is
+-- a lane of a new pass has served nothing
+fresh_lane : (bank : ℕ) (lane : Lane (Witness Entry)) → IsFresh lane → lane.pass ≡ witness bank [] → IsLaneOf bank [] lane
+fresh_lane bank lane fresh pass_is =
+    let lane_is : lane ≡ record { pass = witness bank []; bank = bank; sent = 0; stream = lane.stream; done = 0 } =
+    fresh ∙ ap (λ (pass : Witness Entry). record { pass = pass; bank = pass.key; sent = 0; stream = lane.stream; done = 0 }) pass_is in
+    subst (IsLaneOf bank []) (sym lane_is) (record { bank_is = refl; key_is = refl; counted = refl; commands = refl })
 
--- the lanes of new passes and of what their banks send
-pub lanes_are : (banks : ℕ) (sent : List Sent) (passes : List (Witness Entry)) (streams : List (Vec Command Global)) (lanes : List (Lane (Witness Entry))) → AreNew banks passes → AreStreams banks sent streams → map (λ (lane : Lane (Witness Entry)). lane.pass) lanes ≡ passes → map (λ (lane : Lane (Witness Entry)). lane.stream) lanes ≡ map (λ (stream : Vec Command Global). stream.items) streams → Each IsFresh lanes → AreLanes banks sent lanes
-lanes_are banks sent passes streams lanes new are passes_are streams_are fresh = record {
+-- the lanes of new passes
+pub lanes_open : (h : Header) (passes : List (Witness Entry)) (lanes : List (Lane (Witness Entry))) → IsSession h → AreNew (sender_count h) passes → map (λ (lane : Lane (Witness Entry)). lane.pass) lanes ≡ passes → Each IsFresh lanes → HaveServed h [] lanes
+lanes_open h passes lanes valid new passes_are fresh = record {
+  session = valid;
+  valid = tt;
   all = sym (length-map lanes (λ (lane : Lane (Witness Entry)). lane.pass)) ∙ ap (λ (ps : List (Witness Entry)). length ps) passes_are ∙ new.0;
   each = λ k lane is.
       let pass_at : slice_get passes k ≡ Some lane.pass =
       subst (λ (ps : List (Witness Entry)). slice_get ps k ≡ Some lane.pass) passes_are
       (slice_get-map (λ (lane : Lane (Witness Entry)). lane.pass) lanes k ∙ ap (option_map (λ (lane : Lane (Witness Entry)). lane.pass)) is) in
-      let below : k < banks = omega (arith, slice_get_within passes k lane.pass pass_at, new.0) in
-      let pass_is : lane.pass ≡ witness k [] = some_is lane.pass (witness k []) (sym pass_at ∙ new.1 k below) in
-      let stream_at : option_map (λ (stream : Vec Command Global). stream.items) (slice_get streams k) ≡ Some lane.stream =
-      sym (slice_get-map (λ (stream : Vec Command Global). stream.items) streams k) ∙ ap (λ (ss : List (List Command)). slice_get ss k) (sym streams_are)
-      ∙ slice_get-map (λ (lane : Lane (Witness Entry)). lane.stream) lanes k ∙ ap (option_map (λ (lane : Lane (Witness Entry)). lane.stream)) is in
-      lane_same lane k sent (Each-at IsFresh lanes k lane fresh is) pass_is (stream_of_at (slice_get streams k) k lane.stream refl stream_at);
+      let below : k < sender_count h = omega (arith, slice_get_within passes k lane.pass pass_at, new.0) in
+      fresh_lane k lane (Each-at IsFresh lanes k lane fresh is) (some_is lane.pass (witness k []) (sym pass_at ∙ new.1 k below));
 }
-  where
-    stream_of_at : (found : Option (Vec Command Global)) (k : ℕ) (stream : List Command) → slice_get streams k ≡ found → option_map (λ (s : Vec Command Global). s.items) found ≡ Some stream → stream ≡ stream_of k sent
-    stream_of_at None k stream found is = absurd (cc is)
-    stream_of_at (Some s) k stream found is = sym (some_is s.items stream is) ∙ are.each k s found
+
+-- the first so many lanes are in the next round, and the others as they were
+pub record AreFilledTo (more : List Sent) (was now : List (Lane (Witness Entry))) (n : ℕ) : Type 0 where
+  pub long : length now ≡ length was
+  pub so_far : (place : ℕ) (lane : Lane (Witness Entry)) → place < n → slice_get was place ≡ Some lane → slice_get now place ≡ Some (next_lane lane (stream_of place more))
+  pub to_come : (place : ℕ) (lane : Lane (Witness Entry)) → n ≤ place → slice_get was place ≡ Some lane → slice_get now place ≡ Some lane
+
+pub none_filled : (more : List Sent) (was : List (Lane (Witness Entry))) → AreFilledTo more was was 0
+none_filled more was = record { long = refl; so_far = λ place lane below is. absurd (omega (arith, below)); to_come = λ place lane past is. is }
+
+pub all_filled : (more : List Sent) (was now : List (Lane (Witness Entry))) (n : ℕ) → AreFilledTo more was now n → length now ≤ n → AreFilled more was now
+all_filled more was now n filled all = record {
+  long = filled.long;
+  each = λ place lane is. filled.so_far place lane (omega (arith, filled.long, all, slice_get_within was place lane is)) is;
+}
+
+-- the next one is filled too
+pub one_filled : (more : List Sent) (was now : List (Lane (Witness Entry))) (n : ℕ) (d new : Lane (Witness Entry)) → AreFilledTo more was now n → n < length now
+    → new ≡ next_lane (get_or now n d) (stream_of n more) → AreFilledTo more was (set now n new) (n + 1)
+one_filled more was now n d new filled within new_is = record {
+  long = length-set now n new ∙ filled.long;
+  so_far = λ place lane below is.
+      elim (cases_eq place n) [
+        | inl same ↦
+            let here : slice_get was n ≡ Some lane = subst (λ (k : ℕ). slice_get was k ≡ Some lane) same is in
+            let item_at : slice_get now n ≡ Some (get_or now n d) = slice_get-get_or now n d within in
+            let lane_is : get_or now n d ≡ lane = some_is (get_or now n d) lane (sym item_at ∙ filled.to_come n lane (omega arith) here) in
+            let new' : new ≡ next_lane lane (stream_of n more) = new_is ∙ ap (λ (l : Lane (Witness Entry)). next_lane l (stream_of n more)) lane_is in
+            let there : slice_get (set now n new) n ≡ Some (next_lane lane (stream_of n more)) =
+            slice_get-get_or (set now n new) n new (omega (arith, within, length-set now n new)) ∙ ap (λ (l : Lane (Witness Entry)). Some l) (get_or-set_same now n new new within ∙ new') in
+            subst (λ (k : ℕ). slice_get (set now n new) k ≡ Some (next_lane lane (stream_of k more))) (sym same) there
+        | inr apart ↦ set_there now n place new apart ∙ filled.so_far place lane (omega (arith, below, apart)) is
+      ];
+  to_come = λ place lane past is. set_there now n place new (λ same. absurd (omega (arith, same, past))) ∙ filled.to_come place lane (omega (arith, past)) is;
+}
+
+-- the streams that are left are those of the banks from a place on
+pub record AreLeft (banks place : ℕ) (more : List Sent) (streams : List (Vec Command Global)) : Type 0 where
+  pub many : place + length streams ≡ banks
+  pub each : (k : ℕ) (stream : Vec Command Global) → slice_get streams k ≡ Some stream → stream.items ≡ stream_of (place + k) more
+
+pub all_left : (banks : ℕ) (more : List Sent) (streams : List (Vec Command Global)) → AreStreams banks more streams → AreLeft banks 0 more streams
+all_left banks more streams are = record { many = omega (arith, are.all); each = λ k stream is. subst (λ (j : ℕ). stream.items ≡ stream_of j more) (omega arith) (are.each k stream is) }
+
+pub first_left : (banks place : ℕ) (more : List Sent) (stream : Vec Command Global) (streams : List (Vec Command Global)) → AreLeft banks place more (stream ∷ streams)
+    → (stream.items ≡ stream_of place more) × AreLeft banks (place + 1) more streams
+first_left banks place more stream streams left = (
+  subst (λ (k : ℕ). stream.items ≡ stream_of k more) (omega arith) (left.each 0 stream refl),
+  record {
+    many = omega (arith, left.many);
+    each = λ k next is. subst (λ (j : ℕ). next.items ≡ stream_of j more) (omega arith) (left.each (suc k) next is);
+  },
+)

@@ -1,1 +1,2 @@
 pub mod Lanes
+pub use Rattle.credit_book.specs.Recorded

@@ -1,10 +1,8 @@
-ghost use Rattle.std.specs.Prelude.{◌≡◌, ◌<◌, ◌^◌, length, map, IfOk, All};
+ghost use Rattle.std.specs.Prelude.{◌≡◌, ◌<◌, [], map, IfOk, OnOk};
 ghost use Rattle.fx_rules.specs.Lists.{Each};
 ghost use Rattle.fx_rules.specs.Session.{IsSession, sender_count};
-ghost use Rattle.fx_rules.specs.Sending.{IsSentOf};
-ghost use Rattle.fx_rules.specs.History.{own};
 ghost use Rattle.fx_chronicle.specs.Faces.{AreNew};
-ghost use Rattle.threaded_run.specs.Lanes.{AreStreams, AreLanes};
+ghost use Rattle.threaded_run.specs.Lanes.{AreFilled, AreStreams, CanServe, HaveServed};
 
 use fx_amounts::Memory;
 use fx_chronicle::Naming;
@@ -13,30 +11,43 @@ use fx_rules::{Command, CommandList, Sent};
 use gateway_workers::Lane;
 use std::alloc::Global;
 
-/// A lane for each pass, with what its bank sends.
+/// A lane for each pass, in which nothing is sent yet.
 pub(crate) fn lanes_of<N: Naming>(
     alloc: Global,
     passes: Vec<Pass<N>>,
-    sent: &[Sent],
 ) -> Result<Vec<Lane<Pass<N>>>, Memory>
     requires passes { AreNew (sender_count N.session) passes.items }
     requires session { IsSession N.session }
-    requires valid { Each (IsSentOf N.session) sent.now }
-    ensures lanes { IfOk result (λ lanes. AreLanes (sender_count N.session) sent.now lanes.items) }
+    ensures lanes { IfOk result (λ lanes. HaveServed N.session [] lanes.items) }
 {
-    let mut streams = streams_of(alloc, passes.len(), sent)?.into_iter();
     let mut lanes = Vec::new(alloc);
     for pass in passes {
-        let stream = CommandList::from_vec(streams.next().unwrap());
         lanes.push(Lane {
             bank: pass.bank(),
             pass,
             sent: 0,
-            stream,
+            stream: CommandList::from_vec(Vec::new(alloc)),
             done: 0,
         })?;
     }
     Ok(lanes)
+}
+
+/// Gives each lane what its bank sends in the next round.
+pub(crate) fn fill_lanes<N: Naming>(
+    alloc: Global,
+    lanes: &mut [Lane<Pass<N>>],
+    sent: &[Sent],
+) -> Result<(), Memory>
+    requires can_serve { CanServe N.session lanes.old sent.now }
+    ensures filled { OnOk result (AreFilled sent.now lanes.old lanes.new) }
+{
+    let mut streams = streams_of(alloc, lanes.len(), sent)?.into_iter();
+    for lane in lanes.iter_mut() {
+        let stream = streams.next().unwrap();
+        lane.next_round(CommandList::from_vec(stream));
+    }
+    Ok(())
 }
 
 /// What each of so many banks sends, in its order.

@@ -1,7 +1,10 @@
-//! A session's commands run on threads: one lane for each bank, in workers, at the host with a lock for each pair.
+//! A session's commands run on threads, round by round: one lane for each bank, in workers, at the host with a lock for each pair.
 #![tactic(auto)]
 
 mod lanes;
 mod run;
+mod whole;
 
-pub use run::run_on_threads;
+pub use fx_host::keys_of;
+pub use run::ThreadedRun;
+pub use whole::run_on_threads;

@@ -1,62 +1,91 @@
-ghost use Rattle.std.specs.Prelude.{◌≡◌, ◌<◌, ◌≤◌, ◌^◌, length, IfOk};
-ghost use Rattle.fx_rules.specs.Lists.{Each};
-ghost use Rattle.fx_rules.specs.Sending.{IsSentOf};
+ghost use Rattle.std.specs.Prelude.{◌≡◌, ◌≤◌, ◌++◌, [], IfOk, OnOk, List};
+ghost use Rattle.fx_rules.specs.declared.command.Sent.{Sent as SentCommand};
 ghost use Rattle.fx_rules.specs.History.{IsLegal};
 ghost use Rattle.credit_book.specs.Recorded.{key_count};
 ghost use Rattle.fx_desk.specs.Streams.{HasStreams};
+ghost use Rattle.threaded_run.specs.Lanes.{CanServe, HaveServed};
 
-use crate::lanes::{lanes_of, passes_of};
+use crate::lanes::{fill_lanes, lanes_of, passes_of};
 use fx_amounts::Memory;
 use fx_chronicle::{Blank, Naming};
-use fx_host::{close_host, keys_of, open_host};
+use fx_desk::Pass;
+use fx_host::{Host, close_host, open_host};
 use fx_rules::{Entry, Gate, Sent, Session};
-use gateway_workers::run_round;
+use gateway_workers::{Lane, run_round};
 use std::alloc::Global;
-use std::marker::Brand;
 use std::sync::Wait;
 use std::thread::Threads;
 
-/// Runs a session's commands, each bank's in its order, in at most `workers` threads (1 or more), and answers the history
-/// that they made. There are fewer than 2^32 commands. It may wait.
-pub fn run_on_threads<R: AllocGlobal + Threads + Wait + Sync, G: Gate + Sync>(
-    rt: &R,
-    session: &Session,
-    sent: &[Sent],
-    workers: u32,
-    gate: &G,
-) -> Result<Vec<Entry>, Memory>
-    requires valid { Each (IsSentOf session.now) sent.now }
-    requires few { length sent.now < 2 ^ 32 }
-    requires workers { 1 ≤ workers }
-    ensures legal { IfOk result (λ history. IsLegal session.now history.items) }
-    ensures streams { IfOk result (λ history. HasStreams sent.now history.items) }
-{
-    let blank = Blank::new(rt.alloc(), keys_of(session))?;
-    run_at::<Brand, R, G>(rt, blank, session, sent, workers, gate)
+/// A session that is run on threads. Its lanes keep passes and counts from round to round.
+#[derive(Drop)]
+pub struct ThreadedRun<N: Naming> {
+    host: Host<N>,
+    lanes: Vec<Lane<Pass<N>>>,
 }
 
-/// The same, at a host of this blank.
-fn run_at<N: Naming + Send + Sync, R: AllocGlobal + Threads + Wait + Sync, G: Gate + Sync>(
+impl<N: Naming + Send + Sync> ThreadedRun<N> {
+    /// The run as it opens, at a host of this blank. It has served nothing.
+    pub fn open(
+        alloc: Global,
+        blank: Blank<Entry>,
+        session: &Session,
+    ) -> Result<ThreadedRun<N>, Memory>
+        requires table { blank.table ≡ N.table }
+        requires keys { blank.keys ≡ key_count N.session }
+        requires session { session.now ≡ N.session }
+        ensures opened { IfOk result (λ run. HaveServed N.session [] run.lanes.items) }
+    {
+        // A legal history rests on a valid session, as each is.
+        let _banks = session.banks();
+        let (host, passes) = open_host::<N>(alloc, blank, session)?;
+        let lanes = lanes_of(alloc, passes)?;
+        Ok(ThreadedRun { host, lanes })
+    }
+
+    /// Serves a round's commands, each bank's in its order, in at most `workers` threads (1 or more). A round without
+    /// commands is not run. After `Memory` some of them are served, and the run is good for nothing more. It may wait.
+    pub fn serve_round<R: AllocGlobal + Threads + Wait + Sync, G: Gate + Sync>(
+        &mut self,
+        rt: &R,
+        sent: &[Sent],
+        workers: u32,
+        gate: &G,
+    ) -> Result<(), Memory>
+        requires can_serve { CanServe N.session self.old.lanes.items sent.now }
+        requires workers { 1 ≤ workers }
+        ensures served { OnOk result ((so_far : List SentCommand) → HaveServed N.session so_far self.old.lanes.items → HaveServed N.session (so_far ++ sent.now) self.new.lanes.items) }
+    {
+        if sent.is_empty() {
+            return Ok(());
+        }
+        serve_lanes(rt, &self.host, &mut self.lanes, sent, workers, gate)
+    }
+
+    /// The history of all that was served.
+    pub fn close(self, alloc: Global) -> Result<Vec<Entry>, Memory>
+        ensures legal { IfOk result (λ history. IsLegal N.session history.items) }
+        ensures streams { IfOk result (λ history. (sent : List SentCommand) → HaveServed N.session sent self.lanes.items → HasStreams sent history.items) }
+    {
+        let ThreadedRun { host, lanes } = self;
+        let passes = passes_of(alloc, lanes)?;
+        let (history, _shards) = close_host(host, passes);
+        Ok(history)
+    }
+}
+
+/// Serves a round's commands in these lanes.
+fn serve_lanes<N: Naming + Send + Sync, R: AllocGlobal + Threads + Wait + Sync, G: Gate + Sync>(
     rt: &R,
-    blank: Blank<Entry>,
-    session: &Session,
+    host: &Host<N>,
+    lanes: &mut [Lane<Pass<N>>],
     sent: &[Sent],
     workers: u32,
     gate: &G,
-) -> Result<Vec<Entry>, Memory>
-    requires table { blank.table ≡ N.table }
-    requires keys { blank.keys ≡ key_count N.session }
-    requires session { session.now ≡ N.session }
-    requires valid { Each (IsSentOf session.now) sent.now }
-    requires few { length sent.now < 2 ^ 32 }
+) -> Result<(), Memory>
+    requires can_serve { CanServe N.session lanes.old sent.now }
     requires workers { 1 ≤ workers }
-    ensures legal { IfOk result (λ history. IsLegal session.now history.items) }
-    ensures streams { IfOk result (λ history. HasStreams sent.now history.items) }
+    ensures served { OnOk result ((so_far : List SentCommand) → HaveServed N.session so_far lanes.old → HaveServed N.session (so_far ++ sent.now) lanes.new) }
 {
-    let (host, passes) = open_host::<N>(rt.alloc(), blank, session)?;
-    let mut lanes = lanes_of(rt.alloc(), passes, sent)?;
-    run_round(rt, &host, gate, workers, &mut lanes)?;
-    let passes = passes_of(rt.alloc(), lanes)?;
-    let (history, _shards) = close_host(host, passes);
-    Ok(history)
+    fill_lanes(rt.alloc(), lanes, sent)?;
+    run_round(rt, host, gate, workers, lanes)
 }

@@ -90,9 +90,7 @@ fn a_load_of_two_commands(rt: HostRuntime) -> Result<(), Fail> {
     let mut source = MemorySource::new(Vec::new(alloc), 4096, Vec::new(alloc));
     let mut out = MemorySink::new(4096, Vec::new(alloc));
     let mut err = MemorySink::new(4096, Vec::new(alloc));
-    let gate = CountingGate {
-        asked: AtomicU64::new(0),
-    };
+    let gate = CountingGate::new();
     let status = fx_main(&rt, &words, &mut source, &mut out, &mut err, &gate);
     assert!(&rt; status.code() == 0);
     assert!(&rt; out.written() == b"LOAD 1 2 1 2\nSERIAL 2 1 8 1\nTHREADS 2 YES\n".as_slice());

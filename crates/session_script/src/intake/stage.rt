@@ -1,4 +1,7 @@
-ghost use Rattle.std.specs.Prelude.{◌≡◌, ◌++◌, ◌∷◌, [], List, IsTrue, OnOk, IsSome, Some};
+ghost use Rattle.std.specs.Prelude.{◌≡◌, ◌++◌, ◌∷◌, [], List, IsTrue, OnOk, IsSome, Some, None};
+ghost use Rattle.std.specs.Bool.{MatchBool};
+ghost use Rattle.fx_rules.specs.declared.command.Sent.{Sent as SentCommand};
+ghost use Rattle.fx_rules.specs.Session.{Header as SessionHeader};
 ghost use Rattle.fx_text.specs.declared.line.Line.{Line as TextLine};
 ghost use Rattle.session_head.specs.Head.{session_of};
 
@@ -21,21 +24,42 @@ pub(crate) enum Stage {
 }
 
 impl Stage {
-    ghost use Rattle.session_script.specs.Stage.{StandsAt, is_open};
+    ghost use Rattle.session_script.specs.Stage.{StandsAt, is_open, sent_at, session_at};
 
     /// The stage before the first line. It takes no memory.
     pub(crate) fn new(alloc: Global) -> Stage
-        ensures begun { StandsAt result [] }
+        ensures begun { StandsAt result [] [] }
         ensures readable { IsTrue (is_open result) }
+        ensures heading { session_at result ≡ None }
     {
         Stage::Heading(HeadReader::new(alloc))
+    }
+
+    /// Whether START was read.
+    pub(crate) fn has_started(&self) -> bool
+        ensures { MatchBool result (IsSome (session_at self.now)) (session_at self.now ≡ None) }
+    {
+        matches!(self, Stage::Commanding { .. })
+    }
+
+    /// Lets go of the commands so far, which were a former round's.
+    pub(crate) fn begin_round(&mut self)
+        requires { IsTrue (is_open self.old) }
+        ensures begun { (lines : List TextLine) (former : List SentCommand) → StandsAt self.old lines former → StandsAt self.new lines (former ++ sent_at self.old) }
+        ensures readable { IsTrue (is_open self.new) }
+        ensures session { (h : SessionHeader) → session_at self.old ≡ Some h → session_at self.new ≡ Some h }
+    {
+        if let Stage::Commanding { script, .. } = self {
+            script.sent.clear();
+        }
     }
 
     /// Takes one line more. After `Err` it is not taken.
     pub(crate) fn take(&mut self, alloc: Global, line: &Line) -> Result<(), Memory>
         requires { IsTrue (is_open self.old) }
-        ensures taken { OnOk result ((lines : List TextLine) → StandsAt self.old lines → StandsAt self.new (lines ++ line.now ∷ [])) }
+        ensures taken { OnOk result ((lines : List TextLine) (former : List SentCommand) → StandsAt self.old lines former → StandsAt self.new (lines ++ line.now ∷ []) former) }
         ensures readable { IsTrue (is_open self.new) }
+        ensures session { (h : SessionHeader) → session_at self.old ≡ Some h → session_at self.new ≡ Some h }
     {
         match self {
             Stage::Heading(reader) => match reader.line(line) {
@@ -63,8 +87,9 @@ impl Stage {
     /// Takes further lines, one after another. After `Err` some of them may be taken.
     pub(crate) fn take_all(&mut self, alloc: Global, more: &[Line]) -> Result<(), Memory>
         requires { IsTrue (is_open self.old) }
-        ensures taken { OnOk result ((lines : List TextLine) → StandsAt self.old lines → StandsAt self.new (lines ++ more.now)) }
+        ensures taken { OnOk result ((lines : List TextLine) (former : List SentCommand) → StandsAt self.old lines former → StandsAt self.new (lines ++ more.now) former) }
         ensures readable { IsTrue (is_open self.new) }
+        ensures session { (h : SessionHeader) → session_at self.old ≡ Some h → session_at self.new ≡ Some h }
     {
         for line in more {
             self.take(alloc, line)?;

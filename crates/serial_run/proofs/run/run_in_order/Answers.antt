@@ -14,14 +14,14 @@ pub serve_all-requires : goal.serve_all-requires
 serve_all-requires c = record {
   can_serve = record {
     session = c.args.session.now;
-    has_run = c.new-run.ensures.opens c.args.session.now c.banks-banks.ensures.valid c.in_ok-host.ensures.opens;
+    has_run = c.in_ok-run.ensures.run;
     valid = c.requires.valid;
-    few = omega (arith, c.requires.few, ap length c.new-run.ensures.none);
+    few = omega (arith, c.requires.few, ap length c.in_ok-run.ensures.none);
   };
 }
 
 pub returns : goal.returns
 returns c = record {
-  run = c.serve_all.ensures.run c.args.session.now (c.new-run.ensures.opens c.args.session.now c.banks-banks.ensures.valid c.in_ok-host.ensures.opens);
-  in_order = in_order c.new-run.result c.serve_all.new.self c.args.sent.now c.new-run.ensures.none c.in_ok-serve_all.ensures.served;
+  run = c.serve_all.ensures.run c.args.session.now c.in_ok-run.ensures.run;
+  in_order = in_order c.in_ok-run.run' c.serve_all.new.self c.args.sent.now c.in_ok-run.ensures.none c.in_ok-serve_all.ensures.served;
 }

@@ -1,4 +1,4 @@
-use Rattle.std.proofs.Common.{◌≡◌, ◌++◌, map, length}
+use Rattle.std.proofs.Common.{◌≡◌, ◌++◌, map}
 use Rattle.fx_rules.specs.declared.outcome.Entry.{Entry}
 use Rattle.fx_rules.specs.Lists.{Each}
 use Rattle.fx_chronicle.specs.Faces.{Witness}
@@ -6,13 +6,11 @@ use Rattle.gateway_workers.specs.declared.lane.Lane.{Lane}
 use Rattle.threaded_run.specs.Lanes.{IsFresh}
 use Rattle.threaded_run.proofs.lanes.lanes_of.Given as goal
 
--- the lanes so far have the first passes and streams, in order, and there are as many of both left
+-- the lanes so far have the first passes, in order
 abbrev pub invariant-loop-pass : goal.invariant-loop-pass
 invariant-loop-pass g l = record {
   can : (goal.iterator-loop-pass g).can_next l.pass-iterator;
   ends : (goal.iterator-loop-pass g).is_finite l.pass-iterator;
   passes : map (λ (lane : Lane (Witness Entry)). lane.pass) l.lanes.items ++ l.pass-iterator.rest.items ≡ l.initial.pass-iterator.rest.items;
-  streams : map (λ (lane : Lane (Witness Entry)). lane.stream) l.lanes.items ++ map (λ stream. stream.items) l.streams.rest.items ≡ map (λ stream. stream.items) l.initial.streams.rest.items;
   fresh : Each IsFresh l.lanes.items;
-  as_many : length l.pass-iterator.rest.items ≡ length l.streams.rest.items;
 }

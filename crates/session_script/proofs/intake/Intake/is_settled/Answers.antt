@@ -1,4 +1,4 @@
-use Rattle.std.proofs.Common.{inr, subst, true, ◌≡◌}
+use Rattle.std.proofs.Common.{inr, subst, true, ◌≡◌, ◌++◌}
 use Rattle.fx_text.specs.Lines.{lines_of}
 use Rattle.session_script.specs.Stage.{StandsAt, is_open}
 use Rattle.session_script.specs.declared.intake.stage.Stage.{Stage}
@@ -6,15 +6,15 @@ use Rattle.session_script.proofs.Closing.{heading-goes_on, faulted-has, told-set
 use Rattle.session_script.proofs.intake.Intake.is_settled.Goals as goal
 
 pub returns-in-Heading : goal.returns-in-Heading
-returns-in-Heading c = λ text stands.
-    heading-goes_on text c.in-Heading.field-0 (subst (λ (stage : Stage). StandsAt stage (lines_of text)) c.in-Heading.is stands.stage)
+returns-in-Heading c = λ text former stands.
+    heading-goes_on text c.in-Heading.field-0 (subst (λ (stage : Stage). StandsAt stage (lines_of text) former) c.in-Heading.is stands.stage).0
     (subst (λ (stage : Stage). is_open stage ≡ true) c.in-Heading.is c.args.self.now.readable)
 
 pub returns-in-Commanding : goal.returns-in-Commanding
-returns-in-Commanding c = λ text stands.
+returns-in-Commanding c = λ text former stands.
     let script = c.in-Commanding.script in
-    told-settled text script.session script.sent.items script.strays c.in-Commanding.ended (subst (λ (stage : Stage). StandsAt stage (lines_of text)) c.in-Commanding.is stands.stage)
+    told-settled text script.session (former ++ script.sent.items) script.strays c.in-Commanding.ended (subst (λ (stage : Stage). StandsAt stage (lines_of text) former) c.in-Commanding.is stands.stage)
 
 pub returns-in-Faulted : goal.returns-in-Faulted
-returns-in-Faulted c = λ text stands.
-    inr (c.in-Faulted.line, c.in-Faulted.reason, faulted-has text c.in-Faulted.line c.in-Faulted.reason (subst (λ (stage : Stage). StandsAt stage (lines_of text)) c.in-Faulted.is stands.stage))
+returns-in-Faulted c = λ text former stands.
+    inr (c.in-Faulted.line, c.in-Faulted.reason, faulted-has text c.in-Faulted.line c.in-Faulted.reason (subst (λ (stage : Stage). StandsAt stage (lines_of text) former) c.in-Faulted.is stands.stage))

@@ -2,12 +2,12 @@ use Rattle.std.proofs.Common.{true, false, refl, sym, subst, append-nil}
 use Rattle.session_script.specs.Stage.{Adds}
 use Rattle.session_script.proofs.script.Script.add.Goals as goal
 
-pub returns-in-End : goal.returns-in-End
-returns-in-End c = subst (λ said. Adds c.args.self.now c.args.self.now said true) c.in-End.ensures.reads
+pub returns-in-End-clause-adds : goal.returns-in-End-clause-adds
+returns-in-End-clause-adds c = subst (λ said. Adds c.args.self.now c.args.self.now said true) c.in-End.ensures.reads
     (record { session = refl; sent = sym (append-nil c.args.self.now.sent.items); strays = refl; ended = refl; valid = tt })
 
-pub returns-in_ok-push-in-Of : goal.returns-in_ok-push-in-Of
-returns-in_ok-push-in-Of c = subst (λ said. Adds c.args.self.now (record c.args.self.now { sent = c.push.new.self }) said false) c.in-Of.ensures.reads
+pub returns-in_ok-push-in-Of-clause-adds : goal.returns-in_ok-push-in-Of-clause-adds
+returns-in_ok-push-in-Of-clause-adds c = subst (λ said. Adds c.args.self.now (record c.args.self.now { sent = c.push.new.self }) said false) c.in-Of.ensures.reads
     (record {
       session = refl;
       sent = c.in_ok-push-in-Of.ensures.items;
@@ -16,6 +16,6 @@ returns-in_ok-push-in-Of c = subst (λ said. Adds c.args.self.now (record c.args
       valid = (record { sender = c.in-Of.ensures.bank; command = c.in-Of.ensures.range }, tt);
     })
 
-pub returns-in-Passed : goal.returns-in-Passed
-returns-in-Passed c = subst (λ said. Adds c.args.self.now c.args.self.now said false) c.in-Passed.ensures.reads
+pub returns-in-Passed-clause-adds : goal.returns-in-Passed-clause-adds
+returns-in-Passed-clause-adds c = subst (λ said. Adds c.args.self.now c.args.self.now said false) c.in-Passed.ensures.reads
     (record { session = refl; sent = sym (append-nil c.args.self.now.sent.items); strays = refl; ended = refl; valid = tt })

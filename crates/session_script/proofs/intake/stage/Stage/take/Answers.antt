@@ -1,38 +1,50 @@
-use Rattle.std.proofs.Common.{◌≡◌, ◌∙◌, ◌++◌, ◌∷◌, [], Bool, true, sym, subst}
+use Rattle.std.proofs.Common.{◌≡◌, ◌∙◌, ◌++◌, ◌∷◌, [], List, Bool, true, sym, ap, subst, append_assoc}
+use Rattle.fx_rules.specs.declared.command.Sent.{Sent}
+use Rattle.order_lines.specs.Grammar.{command_line}
 use Rattle.session_head.specs.Head.{read_head}
+use Rattle.session_script.specs.Script.{commands_in}
 use Rattle.session_script.specs.Stage.{StandsAt, Tells, goes_on, is_open}
 use Rattle.session_script.specs.declared.intake.stage.Stage.{Stage}
 use Rattle.session_script.proofs.ScriptLaws.{read_head-faulted}
 use Rattle.session_script.proofs.Taking.{Tells-start, Tells-line, Tells-behind}
 use Rattle.session_script.proofs.intake.stage.Stage.take.Goals as goal
 
+-- the commands of all rounds grow as the last one's do
+grown : (former old new more : List Sent) → new ≡ old ++ more → former ++ new ≡ (former ++ old) ++ more
+grown former old new more is = ap (λ (sent : List Sent). former ++ sent) is ∙ sym (append_assoc former old more)
+
 pub returns-in-Ok-Start-clause-taken : goal.returns-in-Ok-Start-clause-taken
-returns-in-Ok-Start-clause-taken c = λ lines at.
-    let before : c.in-Heading.reader ≡ read_head lines = subst (λ (stage : Stage). StandsAt stage lines) c.in-Heading.is at in
+returns-in-Ok-Start-clause-taken c = λ lines former at.
+    let heading = subst (λ (stage : Stage). StandsAt stage lines former) c.in-Heading.is at in
+    let before : c.in-Heading.reader ≡ read_head lines = heading.0 in
     let readable : goes_on c.in-Heading.reader ≡ true = subst (λ (stage : Stage). is_open stage ≡ true) c.in-Heading.is c.requires in
-    Tells-start lines c.args.line.now c.in-Heading.reader c.line.new.self c.started-script.result.session c.started-script.result.sent.items c.started-script.result.strays
+    let started = c.started-script.result in
+    let none : former ++ started.sent.items ≡ [] = ap (λ (sent : List Sent). former ++ sent) c.started-script.ensures.sent ∙ ap (λ (sent : List Sent). sent ++ []) heading.1 in
+    Tells-start lines c.args.line.now c.in-Heading.reader c.line.new.self started.session (former ++ started.sent.items) started.strays
     before readable (c.in-Ok-Start.ensures.read ∙ c.line.ensures.whole lines before)
-    c.started-script.ensures.session c.started-script.ensures.sent c.started-script.ensures.strays
+    c.started-script.ensures.session none c.started-script.ensures.strays
 
 pub returns-in_ok-ended-in-Commanding-clause-taken : goal.returns-in_ok-ended-in-Commanding-clause-taken
-returns-in_ok-ended-in-Commanding-clause-taken c = λ lines at.
+returns-in_ok-ended-in-Commanding-clause-taken c = λ lines former at.
     let old = c.in-Commanding.script in
     let new = c.add.new.self in
-    let added = c.in_ok-ended-in-Commanding.ensures in
-    let before : Tells lines old.session old.sent.items old.strays c.in-Commanding.ended = subst (λ (stage : Stage). StandsAt stage lines) c.in-Commanding.is at in
-    Tells-line lines c.args.line.now old.session new.session old.sent.items new.sent.items old.strays new.strays c.in_ok-ended-in-Commanding.field-0
-    (subst (λ (ended : Bool). Tells lines old.session old.sent.items old.strays ended) c.if-not-ended.true before)
-    added.session added.sent added.strays added.ended added.valid
+    let added = c.in_ok-ended-in-Commanding.ensures.adds in
+    let before : Tells lines old.session (former ++ old.sent.items) old.strays c.in-Commanding.ended = subst (λ (stage : Stage). StandsAt stage lines former) c.in-Commanding.is at in
+    let more : former ++ new.sent.items ≡ (former ++ old.sent.items) ++ commands_in (command_line old.session c.args.line.now ∷ []) = grown former old.sent.items new.sent.items _ added.sent in
+    Tells-line lines c.args.line.now old.session new.session (former ++ old.sent.items) (former ++ new.sent.items) old.strays new.strays c.in_ok-ended-in-Commanding.field-0
+    (subst (λ (ended : Bool). Tells lines old.session (former ++ old.sent.items) old.strays ended) c.if-not-ended.true before)
+    added.session more added.strays added.ended added.valid
 
 pub returns-else-not-ended-clause-taken : goal.returns-else-not-ended-clause-taken
-returns-else-not-ended-clause-taken c = λ lines at.
+returns-else-not-ended-clause-taken c = λ lines former at.
     let script = c.in-Commanding.script in
-    let before : Tells lines script.session script.sent.items script.strays c.in-Commanding.ended = subst (λ (stage : Stage). StandsAt stage lines) c.in-Commanding.is at in
-    subst (λ (ended : Bool). Tells (lines ++ c.args.line.now ∷ []) script.session script.sent.items script.strays ended) (sym c.if-not-ended.false)
-    (Tells-behind lines c.args.line.now script.session script.sent.items script.strays
-    (subst (λ (ended : Bool). Tells lines script.session script.sent.items script.strays ended) c.if-not-ended.false before))
+    let sent : List Sent = former ++ script.sent.items in
+    let before : Tells lines script.session sent script.strays c.in-Commanding.ended = subst (λ (stage : Stage). StandsAt stage lines former) c.in-Commanding.is at in
+    subst (λ (ended : Bool). Tells (lines ++ c.args.line.now ∷ []) script.session sent script.strays ended) (sym c.if-not-ended.false)
+    (Tells-behind lines c.args.line.now script.session sent script.strays
+    (subst (λ (ended : Bool). Tells lines script.session sent script.strays ended) c.if-not-ended.false before))
 
 pub returns-in-Faulted-clause-taken : goal.returns-in-Faulted-clause-taken
-returns-in-Faulted-clause-taken c = λ lines at.
-    subst (λ (stage : Stage). StandsAt stage (lines ++ c.args.line.now ∷ [])) (sym c.in-Faulted.is)
-    (read_head-faulted lines (c.args.line.now ∷ []) c.in-Faulted.line c.in-Faulted.reason (subst (λ (stage : Stage). StandsAt stage lines) c.in-Faulted.is at))
+returns-in-Faulted-clause-taken c = λ lines former at.
+    subst (λ (stage : Stage). StandsAt stage (lines ++ c.args.line.now ∷ []) former) (sym c.in-Faulted.is)
+    (read_head-faulted lines (c.args.line.now ∷ []) c.in-Faulted.line c.in-Faulted.reason (subst (λ (stage : Stage). StandsAt stage lines former) c.in-Faulted.is at))

@@ -1,4 +1,4 @@
-use Rattle.threaded_run.proofs.run.run_on_threads.Given as goal
+use Rattle.threaded_run.proofs.whole.run_on_threads.Given as goal
 
 -- the host is of this blank, and trades this session
 abbrev pub ghosts-run_at : goal.ghosts-run_at

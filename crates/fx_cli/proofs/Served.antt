@@ -1,0 +1,248 @@
+-- A text that is served round by round.
+use Rattle.std.proofs.Common.{◌≡◌, ℕ, suc, ◌+◌, ◌-◌, ◌^◌, ◌<◌, ◌≤◌, List, [], ◌∷◌, ◌++◌, length, map, Option, Some, None, Result, Ok, Err, refl, sym, ap, ◌∙◌, subst, arith, inl, inr, length-append}
+use Rattle.std.specs.Prelude.{IsErrAnd}
+use Rattle.std.proofs.lemmas.List.{length-map}
+use Rattle.fx_amounts.specs.declared.memory.Memory.{Memory as AmountsMemory}
+use Rattle.fx_rules.specs.declared.command.Sent.{Sent}
+use Rattle.fx_rules.specs.declared.outcome.Entry.{Entry}
+use Rattle.fx_rules.specs.Lists.{Each}
+use Rattle.fx_rules.specs.Session.{Header}
+use Rattle.fx_rules.specs.Sending.{IsSentOf, sent_by}
+use Rattle.fx_rules.specs.History.{IsLegal}
+use Rattle.fx_desk.proofs.Streams.{streams-length}
+use Rattle.reply_lines.specs.Output.{IsOutput}
+use Rattle.reply_lines.specs.Faults.{WroteOutput}
+use Rattle.reply_lines.specs.declared.output.OutFault.{OutFault}
+use Rattle.reply_lines.specs.declared.output.OutFault.TheVariants as outs
+use Rattle.reply_lines.specs.declared.output.Ending.{Ending}
+use Rattle.journal_check.proofs.Exactly.{outputs_list}
+use Rattle.session_script.specs.Input.{input_limit}
+use Rattle.session_script.specs.Reading.{Progressed}
+use Rattle.session_script.specs.Stage.{session_at, sent_at, strays_at}
+use Rattle.session_script.specs.Rounds.{HasRead, HasStopped, TookPromptly}
+use Rattle.session_script.specs.declared.ends.EarlyEnd.TheVariants as early
+use Rattle.session_script.specs.declared.ends.TextEnd.{TextEnd}
+use Rattle.session_script.specs.declared.ends.TextEnd.TheVariants.{EndLine, Early}
+use Rattle.session_script.specs.declared.ends.Stop.{Stop}
+use Rattle.session_script.specs.declared.ends.Stop.TheVariants as stops
+use Rattle.session_script.specs.declared.reading.Reading.{Reading}
+use Rattle.market_run.specs.Ran.{Ran as MarketRan}
+use Rattle.market_run.specs.Running.{HasRun, CanServe, Served}
+use Rattle.pair_host.specs.Standing.{HostState, stands}
+use Rattle.fx_chronicle.specs.Faces.{Witness, no_session}
+use Rattle.gateway_workers.specs.declared.lane.Lane.{Lane}
+use Rattle.threaded_run.specs.Lanes.{HaveServed, CanServe as CanServeLanes}
+use Rattle.fx_cli.specs.Headline.{IsHeadline, IsSerial}
+use Rattle.fx_cli.specs.Rounds.{IsServed, IsHistoryOfText}
+use Rattle.fx_cli.specs.Run.{RanText, Ran}
+use Rattle.fx_cli.specs.Status.{status_at, status_of, ending_of, written_status}
+use Rattle.fx_cli.specs.TopCall.{IsOutputOf}
+use Rattle.fx_cli.specs.declared.status.Status.{Status}
+use Rattle.fx_cli.specs.declared.status.Status.TheVariants.{ReadFault, Memory}
+use Rattle.fx_cli.proofs.HeadlineLaws.{headline_of, serial_of}
+
+Each-back : {X : Type 0} (P : X → Type 0) (xs ys : List X) → Each P (xs ++ ys) → Each P ys
+Each-back P [] ys each = each
+Each-back P (x ∷ xs) ys each = Each-back P xs ys each.1
+
+-- the commands of a round may be sent, and are few
+pub round_valid : (h : Header) (served sent : List Sent) → Each (IsSentOf h) (served ++ sent) → Each (IsSentOf h) sent
+round_valid h served sent each = Each-back (IsSentOf h) served sent each
+
+pub round_few : {S : Type 0} {left : S → Option (List ℕ)} {faults : S → ℕ} {a b : S} {reading : Reading} {h : Header} (served sent : List Sent) → HasRead left faults a b reading h (served ++ sent) → length served + length sent < 2 ^ 32
+round_few served sent has = omega (arith, has.says.few, has.within, length-append served sent)
+
+pub promptly : {S : Type 0} {left : S → Option (List ℕ)} {faults : S → ℕ} {a b : S} {reading : Reading} {h : Header} {all : List Sent} → HasRead left faults a b reading h all → TookPromptly left faults a b
+promptly has = record { input = has.input; took = has.took; within = has.within; prompt = has.prompt }
+
+some_header : (g h : Header) → Some g ≡ Some h → g ≡ h
+some_header g h same = cc
+
+-- the session of a reading
+pub same_session : {S : Type 0} {left : S → Option (List ℕ)} {faults : S → ℕ} {a b : S} {reading : Reading} {h : Header} {all : List Sent} (g : Header) → HasRead left faults a b reading h all → session_at reading.intake.stage ≡ Some g → g ≡ h
+same_session {h = h} g has is = some_header g h (sym is ∙ has.session)
+
+read_status : (end : TextEnd) → status_at end ≡ ReadFault → Some end ≡ Some (Early early.ReadFault)
+read_status EndLine is = cc
+read_status (Early early.Cut) is = cc
+read_status (Early early.ReadFault) is = refl
+read_status (Early early.TooMuch) is = cc
+
+module _ (IsRight : Header → List Sent → List Entry → Type 0) {S K : Type 0} (left : S → Option (List ℕ)) (failed : S → ℕ) (written : K → Option (List ℕ)) (faults : K → ℕ) where
+  -- want of memory before anything was written
+  pub ran-memory : (a b : S) (out out' : K) → TookPromptly left failed a b → out' ≡ out → Ran IsRight left failed written faults a b out out' Memory
+  ran-memory a b out out' took unwritten = record {
+    input = took.input;
+    took = took.took;
+    within = took.within;
+    prompt = took.prompt;
+    read = Err stops.Memory;
+    came = tt;
+    cause = λ is. absurd cc;
+    followed = (refl, unwritten);
+  }
+
+  -- the reading stopped before START
+  stop_fault : (stop : Stop) → status_of stop ≡ ReadFault → stop ≡ stops.Early early.ReadFault
+  stop_fault (stops.Header line reason) is = absurd cc
+  stop_fault (stops.Early early.Cut) is = absurd cc
+  stop_fault (stops.Early early.ReadFault) is = refl
+  stop_fault (stops.Early early.TooMuch) is = absurd cc
+  stop_fault stops.Memory is = absurd cc
+
+  pub ran-stopped : (a b : S) (out : K) (stop : Stop) (status : Status) → HasStopped left failed a b stop → status ≡ status_of stop → Ran IsRight left failed written faults a b out out status
+  ran-stopped a b out stop status has is = record {
+    input = has.input;
+    took = has.took;
+    within = has.within;
+    prompt = has.prompt;
+    read = Err stop;
+    came = has.stopped;
+    cause = λ fault. has.cause (stop_fault stop fault);
+    followed = (is, refl);
+  }
+
+  -- the text was served to its end, and its output written
+  output_of : (a b : S) (reading : Reading) (h : Header) (sent : List Sent) (end : TextEnd) (history : List Entry) (text : List ℕ) (has : HasRead left failed a b reading h sent) → reading.end ≡ Some end
+      → IsRight h sent history → IsLegal h history → length history ≤ 2 ^ 26 → IsOutput h history (strays_at reading.intake.stage) (ending_of end) text → IsOutputOf IsRight end has.input (left b) text
+  output_of a b reading h sent end history text has ended right legal few output = record {
+    at_its_end = subst (Progressed (left b) has.input) ended has.ended;
+    session = h;
+    of_its_header = has.says.session;
+    history = history;
+    of_its_commands = subst (λ (all : List Sent). IsRight h all history) has.says.sent_is right;
+    exactly = subst (λ (strays : ℕ). IsOutput h history strays (ending_of end) text) has.says.strays_is output;
+    as_listed = outputs_list h history (strays_at reading.intake.stage) (ending_of end) text legal (omega (arith, few)) output;
+  }
+
+  written_so : {T : Type 0} (result : Result T OutFault) (before now : K) (end : TextEnd) (input : List ℕ) (known : Option (List ℕ)) (is_output : List ℕ → Type 0) → ((text : List ℕ) → is_output text → IsOutputOf IsRight end input known text)
+      → WroteOutput written faults before now is_output result → RanText IsRight written faults before now end input known (written_status end result)
+  written_so (Ok done) before now end input known is_output outputs wrote = inl (refl, (wrote.text, outputs wrote.text wrote.is_text, wrote.ok))
+  written_so (Err outs.Write) before now end input known is_output outputs wrote = inr (inl (refl, (wrote.text, outputs wrote.text wrote.is_text, wrote.fault), wrote.cause refl))
+  written_so (Err outs.Memory) before now end input known is_output outputs wrote = inr (inr (refl, inr (wrote.text, outputs wrote.text wrote.is_text, wrote.fault)))
+
+  pub ran-written : {T : Type 0} (result : Result T OutFault) (a b : S) (out out' : K) (reading : Reading) (h : Header) (sent : List Sent) (end : TextEnd) (history : List Entry) (strays : ℕ) (status : Status) → HasRead left failed a b reading h sent → reading.end ≡ Some end
+      → strays ≡ strays_at reading.intake.stage → IsRight h sent history → IsLegal h history → length history ≤ 2 ^ 26 → WroteOutput written faults out out' (IsOutput h history strays (ending_of end)) result
+      → status ≡ written_status end result → Ran IsRight left failed written faults a b out out' status
+  ran-written result a b out out' reading h sent end history strays status has ended strays_is right legal few wrote is = record {
+    input = has.input;
+    took = has.took;
+    within = has.within;
+    prompt = has.prompt;
+    read = Ok end;
+    came = ((h, has.says.session), subst (Progressed (left b) has.input) ended has.ended);
+    cause = λ fault. has.cause (ended ∙ read_status end fault);
+    followed = subst (RanText IsRight written faults out out' end has.input (left b)) (sym is)
+        (written_so result out out' end has.input (left b) (IsOutput h history strays (ending_of end))
+        (λ text output. output_of a b reading h sent end history text has ended right legal few (subst (λ (n : ℕ). IsOutput h history n (ending_of end) text) strays_is output)) wrote);
+  }
+
+-- Rounds
+
+-- how many rounds there may be still
+abbrev pub to_read : Option TextEnd → ℕ → ℕ
+to_read None taken = suc (input_limit - taken)
+to_read (Some end) taken = 0
+
+pub less_to_read : (end end' : Option TextEnd) (was now : ℕ) → end ≡ None → (end' ≡ None → was < now) → now ≤ input_limit → to_read end' now < to_read end was
+less_to_read None None was now goes_on further within = omega (arith, further refl, within)
+less_to_read None (Some later) was now goes_on further within = omega arith
+less_to_read (Some end) end' was now goes_on further within = absurd cc
+
+pub taken_within : {S : Type 0} {left : S → Option (List ℕ)} {faults : S → ℕ} {a b : S} {reading : Reading} {h : Header} {all : List Sent} → HasRead left faults a b reading h all → reading.intake.taken ≤ input_limit
+taken_within has = omega (arith, has.stands.taken, has.within)
+
+-- where memory was wanting
+pub for_want : {T : Type 0} (result : Result T AmountsMemory) (why : AmountsMemory → Type 0) (P : Result T AmountsMemory → Type 0) → IsErrAnd result why → ((memory : AmountsMemory) → P (Err memory)) → P result
+for_want (Ok end) why P is then = absurd is
+for_want (Err memory) why P is then = then memory
+
+-- an output by the names that its parts have
+wrote_of : {K T : Type 0} (written : K → Option (List ℕ)) (faults : K → ℕ) (out out' : K) (result : Result T OutFault) (session h : Header) (entries history : List Entry) (strays : ℕ) (ending named : Ending) → session ≡ h → entries ≡ history → ending ≡ named
+    → WroteOutput written faults out out' (IsOutput session entries strays ending) result → WroteOutput written faults out out' (IsOutput h history strays named) result
+wrote_of written faults out out' result session h entries history strays ending named same are is wrote =
+    subst (λ (g : Header). WroteOutput written faults out out' (IsOutput g history strays named) result) same
+    (subst (λ (es : List Entry). WroteOutput written faults out out' (IsOutput session es strays named) result) are
+    (subst (λ (e : Ending). WroteOutput written faults out out' (IsOutput session entries strays e) result) is wrote))
+
+-- In the order of the lines
+
+-- a run that opens has served nothing
+pub read_open : {S : Type 0} {left : S → Option (List ℕ)} {faults : S → ℕ} {a b : S} {reading : Reading} {h : Header} (entries : List Entry) → entries ≡ [] → HasRead left faults a b reading h (sent_at reading.intake.stage)
+    → HasRead left faults a b reading h (map sent_by entries ++ sent_at reading.intake.stage)
+read_open {left = left} {faults = faults} {a = a} {b = b} {reading = reading} {h = h} entries none has =
+    subst (λ (es : List Entry). HasRead left faults a b reading h (map sent_by es ++ sent_at reading.intake.stage)) (sym none) has
+
+-- it is one of the session of the text
+pub run_of : {S : Type 0} {left : S → Option (List ℕ)} {faults : S → ℕ} {a b : S} {reading : Reading} {h : Header} {all : List Sent} (session : Header) (run : MarketRan HostState) → HasRead left faults a b reading h all → session_at reading.intake.stage ≡ Some session
+    → HasRun stands session run → HasRun stands h run
+run_of session run has is has_run = subst (λ (g : Header). HasRun stands g run) (same_session session has is) has_run
+
+-- it has served the text, and its output was written
+pub serial_ran : {S K T : Type 0} (left : S → Option (List ℕ)) (failed : S → ℕ) (written : K → Option (List ℕ)) (faults : K → ℕ) (result : Result T OutFault) (a b : S) (out out' : K) (reading : Reading) (h session : Header) (run : MarketRan HostState) (end : TextEnd) (entries : List Entry) (strays : ℕ) (ending : Ending) (status : Status)
+    → IsServed left failed a b reading h run end → session_at reading.intake.stage ≡ Some session → entries ≡ run.entries → strays_at reading.intake.stage ≡ strays → ending ≡ ending_of end
+    → WroteOutput written faults out out' (IsOutput session entries strays ending) result → status ≡ written_status end result → Ran IsSerial left failed written faults a b out out' status
+serial_ran left failed written faults result a b out out' reading h session run end entries strays ending status served is are strays_is ending_is wrote status_is =
+    ran-written IsSerial left failed written faults result a b out out' reading h (map sent_by run.entries) end run.entries strays status served.has_read served.ended (sym strays_is)
+    (serial_of h (map sent_by run.entries) run.entries served.has_run.legal refl) served.has_run.legal
+    (omega (arith, served.has_read.says.few, served.has_read.within, length-map run.entries sent_by))
+    (wrote_of written faults out out' result session h entries run.entries strays ending (ending_of end) (same_session session served.has_read is) are ending_is wrote) status_is
+
+pub can_serve : {S : Type 0} {left : S → Option (List ℕ)} {faults : S → ℕ} {a b : S} {reading : Reading} (h : Header) (run : MarketRan HostState) (sent : List Sent) → HasRead left faults a b reading h (map sent_by run.entries ++ sent_at reading.intake.stage) → HasRun stands h run
+    → sent ≡ sent_at reading.intake.stage → CanServe stands run sent
+can_serve {reading = reading} h run sent has has_run is =
+    let valid : Each (IsSentOf h) (sent_at reading.intake.stage) = round_valid h (map sent_by run.entries) (sent_at reading.intake.stage) has.says.valid in
+    record {
+      session = h;
+      has_run = has_run;
+      valid = subst (Each (IsSentOf h)) (sym is) valid;
+      few = omega (arith, round_few (map sent_by run.entries) (sent_at reading.intake.stage) has, length-map run.entries sent_by, ap (λ (all : List Sent). length all) is);
+    }
+
+pub round_served : {S : Type 0} {left : S → Option (List ℕ)} {faults : S → ℕ} {a b : S} {reading : Reading} {h : Header} (was now : MarketRan HostState) (sent : List Sent) → HasRead left faults a b reading h (map sent_by was.entries ++ sent_at reading.intake.stage)
+    → sent ≡ sent_at reading.intake.stage → Served was now sent → HasRead left faults a b reading h (map sent_by now.entries)
+round_served {left = left} {faults = faults} {a = a} {b = b} {reading = reading} {h = h} was now sent has is served =
+    subst (λ (all : List Sent). HasRead left faults a b reading h all) (sym (served ∙ ap (λ (more : List Sent). map sent_by was.entries ++ more) is)) has
+
+-- On threads
+
+-- the session that a host of a text trades
+abbrev pub header_or_none : Option Header → Header
+header_or_none None = no_session
+header_or_none (Some h) = h
+
+pub header_same : (session : Option Header) (h : Header) → session ≡ Some h → h ≡ header_or_none session
+header_same None h is = absurd cc
+header_same (Some g) h is = some_header h g (sym is)
+
+pub can_serve_lanes : {S : Type 0} {left : S → Option (List ℕ)} {faults : S → ℕ} {a b : S} {reading : Reading} (h : Header) (served sent : List Sent) (lanes : List (Lane (Witness Entry))) → HasRead left faults a b reading h (served ++ sent_at reading.intake.stage) → HaveServed h served lanes
+    → sent ≡ sent_at reading.intake.stage → CanServeLanes h lanes sent
+can_serve_lanes {reading = reading} h served sent lanes has are is = record {
+  sent = served;
+  served = are;
+  valid = subst (Each (IsSentOf h)) (sym is) (round_valid h served (sent_at reading.intake.stage) has.says.valid);
+  few = omega (arith, round_few served (sent_at reading.intake.stage) has, ap (λ (all : List Sent). length all) is);
+}
+
+-- the text of a host that trades its session
+pub read_here : {S : Type 0} {left : S → Option (List ℕ)} {faults : S → ℕ} {a b : S} {reading : Reading} {h : Header} {all : List Sent} → HasRead left faults a b reading h all → HasRead left faults a b reading (header_or_none (session_at reading.intake.stage)) all
+read_here {left = left} {faults = faults} {a = a} {b = b} {reading = reading} {h = h} {all = all} has =
+    subst (λ (g : Header). HasRead left faults a b reading g all) (header_same (session_at reading.intake.stage) h has.session) has
+
+-- the history that threads made of the text, and its output was written
+pub history_legal : {S : Type 0} {left : S → Option (List ℕ)} {failed : S → ℕ} {a b : S} {reading : Reading} {h : Header} {end : TextEnd} {history : List Entry} (session : Header) (entries : List Entry) → IsHistoryOfText left failed a b reading h end history → session_at reading.intake.stage ≡ Some session → entries ≡ history → IsLegal session entries
+history_legal {history = history} session entries is session_is are =
+    subst (λ (es : List Entry). IsLegal session es) (sym are) (subst (λ (g : Header). IsLegal g history) (sym (same_session session is.has_read session_is)) is.legal)
+
+pub threads_ran : {S K T : Type 0} (left : S → Option (List ℕ)) (failed : S → ℕ) (written : K → Option (List ℕ)) (faults : K → ℕ) (result : Result T OutFault) (a b : S) (out out' : K) (reading : Reading) (h session : Header) (end : TextEnd) (history entries : List Entry) (strays : ℕ) (ending : Ending) (status : Status)
+    → IsHistoryOfText left failed a b reading h end history → session_at reading.intake.stage ≡ Some session → entries ≡ history → strays_at reading.intake.stage ≡ strays → ending ≡ ending_of end
+    → WroteOutput written faults out out' (IsOutput session entries strays ending) result → status ≡ written_status end result → Ran IsHeadline left failed written faults a b out out' status
+threads_ran left failed written faults result a b out out' reading h session end history entries strays ending status is session_is are strays_is ending_is wrote status_is =
+    ran-written IsHeadline left failed written faults result a b out out' reading h is.sent end history strays status is.has_read is.ended (sym strays_is)
+    (headline_of h is.sent history is.legal is.streams) is.legal
+    (omega (arith, is.has_read.says.few, is.has_read.within, streams-length is.sent history is.streams))
+    (wrote_of written faults out out' result session h entries history strays ending (ending_of end) (same_session session is.has_read session_is) are ending_is wrote) status_is
+
+-- lanes that served a round's commands
+pub lanes_served : (h : Header) (all sent round : List Sent) (lanes : List (Lane (Witness Entry))) → sent ≡ round → HaveServed h (all ++ sent) lanes → HaveServed h (all ++ round) lanes
+lanes_served h all sent round lanes is are = subst (λ (more : List Sent). HaveServed h (all ++ more) lanes) is are

@@ -1,0 +1,70 @@
+-- A text served round by round, and what came of it.
+use Rattle.std.specs.Prelude.{ℕ, ◌≡◌, List, ◌++◌, map, Option, Some, Result, Ok, Err}
+use Rattle.std.specs.declared.alloc.Global.{Global}
+use Rattle.std.specs.declared.vec.Vec.{Vec}
+use Rattle.fx_amounts.specs.declared.memory.Memory.{Memory}
+use Rattle.fx_rules.specs.declared.command.Sent.{Sent}
+use Rattle.fx_rules.specs.declared.outcome.Entry.{Entry}
+use Rattle.fx_rules.specs.Session.{Header}
+use Rattle.fx_rules.specs.Sending.{sent_by}
+use Rattle.fx_rules.specs.History.{IsLegal}
+use Rattle.fx_chronicle.specs.Faces.{Witness}
+use Rattle.fx_desk.specs.Streams.{HasStreams}
+use Rattle.gateway_workers.specs.declared.lane.Lane.{Lane}
+use Rattle.market_run.specs.Ran.{Ran}
+use Rattle.market_run.specs.Running.{HasRun}
+use Rattle.pair_host.specs.Standing.{HostState, stands}
+use Rattle.session_script.specs.Stage.{sent_at}
+use Rattle.session_script.specs.Rounds.{HasRead, TookPromptly}
+use Rattle.session_script.specs.declared.ends.TextEnd.{TextEnd}
+use Rattle.session_script.specs.declared.reading.Reading.{Reading}
+use Rattle.threaded_run.specs.Lanes.{HaveServed}
+
+module _ {S : Type 0} (left : S → Option (List ℕ)) (faults : S → ℕ) where
+  -- a run has served what was read of its session in former rounds, in the order of the lines
+  pub record IsServing (now : S) (reading : Reading) (run : Ran HostState) : Type 0 where
+    pub before : S
+    pub session : Header
+    pub has_read : HasRead left faults before now reading session (map sent_by run.entries ++ sent_at reading.intake.stage)
+    pub has_run : HasRun stands session run
+
+  -- and so have lanes, each bank's in its order
+  pub record AreServing (now : S) (reading : Reading) (h : Header) (lanes : List (Lane (Witness Entry))) : Type 0 where
+    pub before : S
+    pub sent : List Sent
+    pub has_read : HasRead left faults before now reading h (sent ++ sent_at reading.intake.stage)
+    pub served : HaveServed h sent lanes
+
+  module _ (before now : S) (reading : Reading) (h : Header) where
+    -- the text ended so, and the run has served all its commands in the order of the lines
+    pub record IsServed (run : Ran HostState) (end : TextEnd) : Type 0 where
+      pub ended : reading.end ≡ Some end
+      pub has_read : HasRead left faults before now reading h (map sent_by run.entries)
+      pub has_run : HasRun stands h run
+
+    abbrev pub ServedText : Ran HostState → Result TextEnd Memory → Type 0
+    ServedText run (Ok end) = IsServed run end
+    ServedText run (Err memory) = TookPromptly left faults before now
+
+    -- so have the lanes, each bank's in its order
+    pub record AreServed (lanes : List (Lane (Witness Entry))) (end : TextEnd) : Type 0 where
+      pub ended : reading.end ≡ Some end
+      pub sent : List Sent
+      pub has_read : HasRead left faults before now reading h sent
+      pub served : HaveServed h sent lanes
+
+    abbrev pub LanesServedText : List (Lane (Witness Entry)) → Result TextEnd Memory → Type 0
+    LanesServedText lanes (Ok end) = AreServed lanes end
+    LanesServedText lanes (Err memory) = TookPromptly left faults before now
+
+    -- and this is the history that they made
+    pub record IsHistoryOfText (end : TextEnd) (history : List Entry) : Type 0 where
+      pub ended : reading.end ≡ Some end
+      pub sent : List Sent
+      pub has_read : HasRead left faults before now reading h sent
+      pub legal : IsLegal h history
+      pub streams : HasStreams sent history
+
+    abbrev pub ThreadsServedText : Result (TextEnd × Vec Entry Global) Memory → Type 0
+    ThreadsServedText (Ok done) = IsHistoryOfText done.0 done.1.items
+    ThreadsServedText (Err memory) = TookPromptly left faults before now

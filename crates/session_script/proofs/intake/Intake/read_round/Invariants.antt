@@ -1,0 +1,18 @@
+use Rattle.std.proofs.Common.{◌-◌, ℕ, ◌≡◌, ◌++◌, List, Some}
+use Rattle.fx_rules.specs.declared.command.Sent.{Sent}
+use Rattle.fx_rules.specs.Session.{Header}
+use Rattle.session_script.specs.Stage.{sent_at, session_at}
+use Rattle.session_script.specs.Rounds.{ReadsOn}
+use Rattle.session_script.proofs.ScriptReading.{InRound}
+use Rattle.session_script.proofs.intake.Intake.read_round.Given as goal
+
+-- what was taken so far does not end the text
+abbrev pub invariant-loop-self : goal.invariant-loop-self
+invariant-loop-self g l = record {
+  round : (before : _) (former : List Sent) (input : List ℕ) → ReadsOn g.S.Source.left g.S.Source.faults before l.fn.source l.fn.self former input
+      → InRound g.S.Source.left g.S.Source.faults before l.source l.self (former ++ sent_at l.fn.self.stage) input;
+  session : (h : Header) → session_at l.fn.self.stage ≡ Some h → session_at l.self.stage ≡ Some h;
+}
+
+abbrev pub decreases-loop-self : goal.decreases-loop-self
+decreases-loop-self g l = l.end - l.self.taken

@@ -1,0 +1,14 @@
+use Rattle.std.proofs.Common.{◌++◌, ap, refl}
+use Rattle.session_script.specs.Stage.{sent_at}
+use Rattle.session_script.proofs.ScriptReading.{ReadsOn-reading, HasRead-round, TookPromptly-round}
+use Rattle.session_script.proofs.reading.Reading.read_round.Goals as goal
+
+pub returns-in-Ok-clause-read : goal.returns-in-Ok-clause-read
+returns-in-Ok-clause-read g c = λ before h all has.
+    let round = c.in-Ok.ensures.took before has.former has.input (ReadsOn-reading has c.requires.goes_on) in
+    HasRead-round c.read_round.new.self c.in-Ok.end _ h (all ++ sent_at c.read_round.new.self.stage) round (c.in-Ok.ensures.session h has.session) refl refl
+    (ap (λ sent. sent ++ sent_at c.read_round.new.self.stage) has.all_is)
+
+pub returns-in-Err-clause-memory : goal.returns-in-Err-clause-memory
+returns-in-Err-clause-memory g c = λ before h all has.
+    TookPromptly-round (c.read_round.ensures.took before has.former has.input (ReadsOn-reading has c.requires.goes_on))
