@@ -9,9 +9,11 @@ use Rattle.fx_amounts.specs.declared.side.Side.{Side}
 use Rattle.fx_amounts.specs.declared.side.Side.TheVariants.{Buy, Sell}
 use Rattle.price_levels.specs.declared.place.Place.{Place}
 use Rattle.access_index.specs.Sides.{OwnRows, row_of, RowGains, RowGrows}
-use Rattle.access_index.specs.Owned.{no_rows, row_at, AreEmpty, AreOwned}
+use Rattle.access_index.specs.Owned.{no_rows, row_at, AreOwned}
+use Rattle.access_index.specs.inside.Owned.{AreEmpty}
 use Rattle.access_index.proofs.Rows.{bank_within}
-use Rattle.access_index.specs.Listed.{has_any, has_places, listed_from, listed, with_bank, IsIndex}
+use Rattle.access_index.specs.Listed.{has_any, has_places, listed_from, listed}
+use Rattle.access_index.specs.inside.Listed.{with_bank, IsIndex}
 
 yes_from : (n : ℕ) (rows : OwnRows) (owners : List OwnRows) → has_places rows ≡ true → listed_from n (rows ∷ owners) ≡ n ∷ listed_from (suc n) owners
 yes_from n rows owners has = ap (λ (b : Bool). if b then n ∷ listed_from (suc n) owners else listed_from (suc n) owners) has

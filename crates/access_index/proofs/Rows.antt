@@ -10,7 +10,8 @@ use Rattle.fx_amounts.specs.declared.side.Side.TheVariants.{Buy, Sell}
 use Rattle.price_levels.specs.declared.place.Place.{Place}
 use Rattle.price_levels.specs.Ladder.{Ladder}
 use Rattle.access_index.specs.Sides.{OwnRows, row_of, RowGains, RowLoses, RowGrows}
-use Rattle.access_index.specs.Owned.{no_rows, row_at, AreEmpty, AreOwned, KeepsOthers, OwnerGains, OwnerLoses, OwnersGrow}
+use Rattle.access_index.specs.Owned.{no_rows, row_at, AreOwned, KeepsOthers, OwnerGains, OwnerLoses, OwnersGrow}
+use Rattle.access_index.specs.inside.Owned.{AreEmpty}
 
 -- what holds of a side and of the other one holds of both
 pub both : (P : Side → Type 0) (side : Side) → P side → P (opposite side) → (one : Side) → P one

@@ -8,7 +8,7 @@ use Rattle.price_levels.specs.Ladder.{sorts_before, IsSorted, IsFirst, IsFirstOf
 use Rattle.price_levels.proofs.Sorting.{before_self, before_trans, Contains_cases}
 use Rattle.price_levels.proofs.Firsts.{first_found, first_none, front_found, front_none}
 use Rattle.access_index.specs.Owned.{is_ahead, stands_behind}
-use Rattle.access_index.specs.Search.{Walks, left_in}
+use Rattle.access_index.specs.inside.Search.{Walks, left_in}
 
 behind_later : (side : Side) (past : Option Place) (p q : Place) → stands_behind side past p ≡ true → sorts_before side p q ≡ true → stands_behind side past q ≡ true
 behind_later side None p q behind before = refl

@@ -13,7 +13,7 @@ use Rattle.price_levels.proofs.Sorting.{before_cases, before_self, before_trans}
 use Rattle.access_index.specs.Sides.{OwnRows}
 use Rattle.access_index.specs.Owned.{row_at, allows, is_ahead, is_wanted, IsBestOf}
 use Rattle.access_index.specs.Listed.{listed}
-use Rattle.access_index.specs.Search.{IsBestPlaceAmong, IsBestAmong, leads}
+use Rattle.access_index.specs.inside.Search.{IsBestPlaceAmong, IsBestAmong, leads}
 use Rattle.access_index.proofs.Rows.{bank_within}
 use Rattle.access_index.proofs.Listing.{row_listed}
 

@@ -2,3 +2,4 @@ pub mod Sides
 pub mod Owned
 pub mod Listed
 pub mod Search
+pub mod inside

@@ -17,13 +17,6 @@ no_rows = record { bids = record { side = Buy; places = []; room = 0 }; asks = r
 abbrev pub row_at : List OwnRows → ℕ → Side → Ladder
 row_at owners bank side = row_of (slice_index_or owners bank no_rows) side
 
--- the rows of an owner with no places
-pub record AreEmpty (rows : OwnRows) : Type 0 where
-  pub bids : rows.bids.side ≡ Buy
-  pub asks : rows.asks.side ≡ Sell
-  pub no_bids : rows.bids.places ≡ []
-  pub no_asks : rows.asks.places ≡ []
-
 -- the rows are those of their sides, of 64 banks at most
 pub record AreOwned (owners : List OwnRows) : Type 0 where
   pub few : length owners ≤ 64

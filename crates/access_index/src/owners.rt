@@ -4,8 +4,10 @@ ghost use Rattle.std.specs.List.Sorted.{IsPartitionedBy};
 ghost use Rattle.std.specs.Option.{option_copied};
 ghost use Rattle.fx_amounts.specs.declared.side.Side.{Side as OneSide};
 ghost use Rattle.price_levels.specs.Ladder.{IsFirstOf, IsNewArrival};
-ghost use Rattle.access_index.specs.Listed.{listed, with_bank};
-ghost use Rattle.access_index.specs.Owned.{AreEmpty, AreInTime, AreOwned, OwnerGains, OwnerLoses, OwnersGrow, is_ahead, row_at, stands_behind};
+ghost use Rattle.access_index.specs.Listed.{listed};
+ghost use Rattle.access_index.specs.inside.Listed.{with_bank};
+ghost use Rattle.access_index.specs.Owned.{AreInTime, AreOwned, OwnerGains, OwnerLoses, OwnersGrow, is_ahead, row_at, stands_behind};
+ghost use Rattle.access_index.specs.inside.Owned.{AreEmpty};
 
 use crate::search::{first_in_time, first_place_behind};
 use crate::sides::Sides;
@@ -26,7 +28,7 @@ pub struct Owners {
 impl Model for Owners {
     ghost use Rattle.std.specs.Prelude.{List, vec_capacity};
     ghost use Rattle.access_index.specs.Sides.{OwnRows};
-    ghost use Rattle.access_index.specs.Listed.{IsIndex};
+    ghost use Rattle.access_index.specs.inside.Listed.{IsIndex};
 
     ghost Value = { List OwnRows };
 

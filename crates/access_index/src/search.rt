@@ -4,7 +4,8 @@ ghost use Rattle.fx_amounts.specs.Side.{opposite};
 ghost use Rattle.price_levels.specs.Ladder.{IsFirstOf, IsSorted};
 ghost use Rattle.access_index.specs.Listed.{listed};
 ghost use Rattle.access_index.specs.Owned.{AreInTime, AreOwned, IsBestOf, allows, is_ahead, is_wanted, row_at, stands_behind};
-ghost use Rattle.access_index.specs.Search.{AllInTime, IsBestAmong, leads, wants};
+ghost use Rattle.access_index.specs.Search.{AllInTime};
+ghost use Rattle.access_index.specs.inside.Search.{IsBestAmong, leads, wants};
 
 use crate::owners::Owners;
 use fx_amounts::{BankId, Price, Side};

@@ -4,7 +4,8 @@ use Rattle.std.proofs.lemmas.Bool.{cases_eq}
 use Rattle.std.proofs.lemmas.List.{length-set, get_or-set_same, get_or-set_other}
 use Rattle.std.proofs.lemmas.Nat.{mul-add-lt, same_from_place, mul-le, div-add-mod'}
 use Rattle.fx_amounts.specs.Quantity.{IsUnits}
-use Rattle.credit_lines.specs.Credit.{Credit, place, shared_place, limit_in, used_in, line_in, reach_in, lined, taken, limited, IsCredit, AreLines}
+use Rattle.credit_lines.specs.Credit.{Credit, place, shared_place, limit_in, used_in, line_in, reach_in, taken, limited, IsCredit}
+use Rattle.credit_lines.specs.inside.Credit.{lined, AreLines}
 
 pub place_below : (banks i j : ℕ) → i < banks → j < banks → place banks i j < banks * banks
 place_below banks i j first second = mul-add-lt i banks j banks first second

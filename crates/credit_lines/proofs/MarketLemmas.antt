@@ -12,7 +12,8 @@ use Rattle.fx_rules.specs.Sweep.{filled, filled_all}
 use Rattle.fx_rules.specs.Raise as raise
 use Rattle.fx_rules.proofs.Credit.{used-filled, cost_between-one, cost_between-other, between_cases, is_between-swap}
 use Rattle.credit_lines.specs.Credit.{Credit, shared_place, limit_in, used_in, line_in, reach_in, opened, taken, limited, IsCredit}
-use Rattle.credit_lines.specs.Market.{StandsFor, IsBetweenBanks, taken_by, taken_by_all}
+use Rattle.credit_lines.specs.Market.{StandsFor, taken_by, taken_by_all}
+use Rattle.credit_lines.specs.inside.Market.{IsBetweenBanks}
 use Rattle.credit_lines.proofs.CreditLemmas.{same_two, same_banks, shared_place-swap, used_in-swap, used_in-taken_same, used_in-taken_back, used_in-taken_other, limit_in-limited_same, limit_in-limited_other}
 use Rattle.credit_lines.proofs.OpeningLemmas.{used_in-opened}
 

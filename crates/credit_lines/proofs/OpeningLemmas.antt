@@ -3,7 +3,8 @@ use Rattle.std.proofs.Common.{ℕ, ◌≡◌, ◌+◌, ◌*◌, ◌/◌, ◌%◌
 use Rattle.std.proofs.lemmas.List.{get_or_append_left, get_or_push, length-replicate, get_or-replicate}
 use Rattle.std.proofs.lemmas.Nat.{div-mul-add, mod-mul-add}
 use Rattle.fx_rules.specs.Session.{Header, IsSession, bank_count, opening_limit}
-use Rattle.credit_lines.specs.Credit.{place, shared_place, used_in, line_in, opened, IsCredit, AreLines}
+use Rattle.credit_lines.specs.Credit.{place, shared_place, used_in, line_in, opened, IsCredit}
+use Rattle.credit_lines.specs.inside.Credit.{AreLines}
 use Rattle.credit_lines.proofs.CreditLemmas.{place_below, shared_below}
 
 pub used_in-opened : (h : Header) (i j : ℕ) → i < bank_count h → j < bank_count h → used_in (opened h) i j ≡ 0

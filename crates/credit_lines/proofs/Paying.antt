@@ -19,7 +19,8 @@ use Rattle.fx_rules.proofs.Made.{AreMade, limit_made, swept-made, turned-made, o
 use Rattle.fx_rules.proofs.Soundness.{legal-sound}
 use Rattle.fx_rules.proofs.SweepSound.{limits-filled_all}
 use Rattle.credit_lines.specs.Credit.{Credit, line_in, used_in, shared_place, limited, IsCredit}
-use Rattle.credit_lines.specs.Market.{StandsFor, IsBetweenBanks, taken_by, taken_by_all, ArePaid, line_set, followed, IsNextOf, FollowsOn}
+use Rattle.credit_lines.specs.Market.{StandsFor, taken_by, taken_by_all, ArePaid, line_set, followed, IsNextOf, FollowsOn}
+use Rattle.credit_lines.specs.inside.Market.{IsBetweenBanks}
 use Rattle.credit_lines.specs.Laws.{SweepsArePaid, TurnsArePaid, StepsArePaid}
 use Rattle.credit_lines.proofs.MarketLemmas.{line_in-line, StandsFor-same, StandsFor-taken_by, StandsFor-limited}
 

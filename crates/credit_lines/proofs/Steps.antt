@@ -2,7 +2,8 @@
 use Rattle.std.proofs.Common.{ℕ, ◌≡◌, ◌≢◌, ◌+◌, ◌-◌, ◌≤◌, ◌<◌, min, max, List, get_or, set, ap, sym, subst, ◌∙◌, arith}
 use Rattle.std.proofs.lemmas.List.{get_or_read}
 use Rattle.fx_amounts.specs.Quantity.{IsUnits}
-use Rattle.credit_lines.specs.Credit.{Credit, place, shared_place, limit_in, used_in, line_in, lined, IsCredit, AreLines}
+use Rattle.credit_lines.specs.Credit.{Credit, place, shared_place, limit_in, used_in, line_in, IsCredit}
+use Rattle.credit_lines.specs.inside.Credit.{lined, AreLines}
 use Rattle.credit_lines.proofs.CreditLemmas.{place_below, shared_below, used_in-swap, IsCredit-taken, AreLines-taken, IsCredit-limited, AreLines-limited}
 
 -- the cell that was read at a shared place

@@ -1,3 +1,4 @@
 pub mod Credit
 pub mod Market
 pub mod Laws
+pub mod inside

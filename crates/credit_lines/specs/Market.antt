@@ -17,12 +17,6 @@ pub record StandsFor (h : Header) (S : State) (credit : Credit) : Type 0 where
   pub limits : (i j : ℕ) → i < bank_count h → j < bank_count h → i ≢ j → limit_in credit i j ≡ S.limits i j
   pub uses : (i j : ℕ) → i < bank_count h → j < bank_count h → i ≢ j → used_in credit i j ≡ used h S i j
 
--- a fill is between two different banks of the session
-pub record IsBetweenBanks (h : Header) (fill : Fill) : Type 0 where
-  pub taker : fill.taker < bank_count h
-  pub maker : fill.maker < bank_count h
-  pub differ : fill.taker ≢ fill.maker
-
 -- the credit that a fill leaves: its cost is used between its two banks
 abbrev pub taken_by : Header → Credit → Fill → Credit
 taken_by h credit fill = taken credit fill.taker fill.maker (cost h fill)
@@ -50,11 +44,6 @@ ArePaid h credit (fill ∷ fills) = IsPaid h credit fill × ArePaid h (taken_by 
 abbrev pub line_set : Credit → ℕ → Command → Credit
 line_set credit bank (Line other asked) = limited credit bank other (max asked (used_in credit bank other))
 line_set credit bank _ = credit
-
--- a command asks for no limit, or for one that its bank can set on another
-abbrev pub CanSet : Credit → ℕ → Command → Type 0
-CanSet credit bank (Line other asked) = (bank < credit.banks) × (other < credit.banks) × (bank ≢ other)
-CanSet credit bank _ = Unit {0}
 
 -- the credit that an entry leaves: the limit that its command asks for, and then the cost of each of its fills
 abbrev pub followed : Header → Credit → Entry → Credit

@@ -1,7 +1,8 @@
 //! What an entry of a history does to the lines, in two steps.
 ghost use Rattle.std.specs.Prelude.{◌≡◌};
 ghost use Rattle.credit_lines.specs.Credit.{IsCredit};
-ghost use Rattle.credit_lines.specs.Market.{ArePaid, taken_by_all, line_set, CanSet};
+ghost use Rattle.credit_lines.specs.Market.{ArePaid, taken_by_all, line_set};
+ghost use Rattle.credit_lines.specs.inside.Market.{CanSet};
 
 use crate::CreditLines;
 use fx_amounts::BankId;

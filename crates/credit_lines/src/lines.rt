@@ -1,6 +1,7 @@
 ghost use Rattle.std.specs.Prelude.{◌≡◌, ◌≢◌, ◌≤◌, ◌<◌, ◌*◌, ◌^◌, IfOk, length, max};
 ghost use Rattle.fx_amounts.specs.Quantity.{IsWeight};
-ghost use Rattle.credit_lines.specs.Credit.{IsCredit, AreLines, limit_in, used_in, line_in, reach_in, lined, opened, taken, limited};
+ghost use Rattle.credit_lines.specs.Credit.{IsCredit, limit_in, used_in, line_in, reach_in, opened, taken, limited};
+ghost use Rattle.credit_lines.specs.inside.Credit.{AreLines, lined};
 ghost use Rattle.credit_lines.specs.Market.{followed, IsNextOf, FollowsOn};
 
 use crate::amounts::{difference, greater, lesser, sum};
@@ -25,7 +26,8 @@ pub struct CreditLines {
 }
 
 impl Model for CreditLines {
-    ghost use Rattle.credit_lines.specs.Credit.{Credit, IsCredit, AreLines};
+    ghost use Rattle.credit_lines.specs.Credit.{Credit, IsCredit};
+    ghost use Rattle.credit_lines.specs.inside.Credit.{AreLines};
 
     ghost Value = { Credit };
 

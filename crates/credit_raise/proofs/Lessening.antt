@@ -13,7 +13,7 @@ use Rattle.fx_rules.proofs.ListLemmas.{Each-among, Each-weaker, filter_cons_true
 use Rattle.fx_rules.proofs.Lowering.{is_order-says, is_order-from}
 use Rattle.fx_rules.proofs.Planning.{orders_in-here, orders_in-there}
 use Rattle.global_book.specs.Book.{relotted}
-use Rattle.credit_raise.specs.Playing.{lessened, lessened_all}
+use Rattle.credit_raise.specs.inside.Playing.{lessened, lessened_all}
 
 -- ---- by the place where it stands
 

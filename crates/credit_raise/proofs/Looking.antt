@@ -13,7 +13,7 @@ use Rattle.fx_rules.specs.Sweep.{is_open, is_opposite, open_in}
 use Rattle.fx_rules.specs.Raise.{taker_of_resting}
 use Rattle.fx_rules.proofs.ListLemmas.{filter_agree_on}
 use Rattle.global_book.specs.Book.{is_sought, sought}
-use Rattle.credit_raise.specs.Playing.{only}
+use Rattle.credit_raise.specs.inside.Playing.{only}
 
 -- ---- the table of what can be reached
 

@@ -24,7 +24,7 @@ use Rattle.fx_rules.proofs.Following.{filled-follows, filled_all-follows, reach_
 use Rattle.fx_rules.proofs.ViewHidden.{match_none, match_some}
 use Rattle.fx_rules.proofs.ViewLists.{find-filter}
 use Rattle.credit_raise.specs.Two.{is_of_two, are_the_two, NoCrossBut}
-use Rattle.credit_raise.specs.Playing.{only, other_of, lessened, lessened_all, joined, paid, SweptAmong, Played}
+use Rattle.credit_raise.specs.inside.Playing.{only, other_of, lessened, lessened_all, joined, paid, SweptAmong, Played}
 use Rattle.credit_raise.proofs.Lessening.{OfPair, own_order, cut, lessened_here, lessened-front, lessened-behind, Each-lessened, orders_in-lowered, filter-lessened}
 use Rattle.credit_raise.proofs.Playing.{IsMaker, maker-of}
 use Rattle.credit_raise.proofs.Looking.{reached_is}

@@ -18,7 +18,8 @@ use Rattle.global_book.specs.Book.{Book}
 use Rattle.credit_lines.specs.Credit.{Credit, limit_in, used_in}
 use Rattle.credit_lines.specs.Market.{StandsFor}
 use Rattle.credit_raise.specs.Two.{IsRaised, IsFillOf, lots_of}
-use Rattle.credit_raise.specs.UnderWay.{Raise, fills_of_all, command_of, outcome_of, opened, with_plan, begun, reached, IsPairOf, Makes, EachMakes, IsUnderWay}
+use Rattle.credit_raise.specs.UnderWay.{Raise, fills_of_all, command_of, outcome_of, opened, begun, reached, IsPairOf, Makes, EachMakes, IsUnderWay}
+use Rattle.credit_raise.specs.inside.UnderWay.{with_plan}
 use Rattle.credit_raise.proofs.Going.{turned-elsewhere, raised-first, raised-next}
 
 -- ---- one plan more

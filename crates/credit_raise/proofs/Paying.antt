@@ -9,7 +9,7 @@ use Rattle.fx_rules.specs.Sweep.{Taker, less}
 use Rattle.fx_rules.specs.Raise.{taker_of_resting}
 use Rattle.fx_rules.proofs.ListLemmas.{Each-append, total-append}
 use Rattle.credit_raise.specs.Two.{IsFillOf, lots_of}
-use Rattle.credit_raise.specs.Playing.{only, other_of, lessened, lessened_all, joined, paid, SweptAmong, Played}
+use Rattle.credit_raise.specs.inside.Playing.{only, other_of, lessened, lessened_all, joined, paid, SweptAmong, Played}
 use Rattle.credit_raise.proofs.Playing.{maker-of}
 use Rattle.credit_raise.proofs.Looking.{reached_is}
 use Rattle.credit_raise.proofs.Meeting.{fill-between}

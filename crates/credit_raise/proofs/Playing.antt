@@ -8,7 +8,7 @@ use Rattle.fx_rules.specs.Sweep.{Taker, is_open, open_in, IsBest, fill_with, les
 use Rattle.fx_rules.specs.Raise.{taker_of_resting}
 use Rattle.fx_rules.proofs.ListLemmas.{Among-filter}
 use Rattle.fx_rules.proofs.Opens.{IsOpen, is_open-says}
-use Rattle.credit_raise.specs.Playing.{only, other_of, lessened, lessened_all, joined, paid, SweptAmong, Played}
+use Rattle.credit_raise.specs.inside.Playing.{only, other_of, lessened, lessened_all, joined, paid, SweptAmong, Played}
 
 pub paid-append : (weight line : ℕ) (xs ys : List Fill) → paid weight line (xs ++ ys) ≡ paid weight (paid weight line xs) ys
 paid-append weight line [] ys = refl

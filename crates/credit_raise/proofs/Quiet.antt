@@ -15,9 +15,9 @@ use Rattle.fx_rules.specs.Raise.{taker_of_resting}
 use Rattle.fx_rules.proofs.ListLemmas.{Each-append, Each-among, Each-of, Among-filter, among_filter, filter_cons_false}
 use Rattle.fx_rules.proofs.Opens.{is_open-says}
 use Rattle.global_book.specs.Book.{Book, IsBook, IsHeld, is_of_from, is_sought, sought, first}
-use Rattle.credit_raise.specs.Two.{is_of_two_from, turns}
-use Rattle.credit_raise.specs.Playing.{only, other_of, joined, Played}
-use Rattle.credit_raise.specs.Prices.{IsOf, IsTop, AreBelow, AreEarly, AreApart}
+use Rattle.credit_raise.specs.inside.Two.{is_of_two_from, turns}
+use Rattle.credit_raise.specs.inside.Playing.{only, other_of, joined, Played}
+use Rattle.credit_raise.specs.inside.Prices.{IsOf, IsTop, AreBelow, AreEarly, AreApart}
 use Rattle.credit_raise.proofs.Looking.{reached_is}
 use Rattle.credit_raise.proofs.Raised.{turns-owners}
 

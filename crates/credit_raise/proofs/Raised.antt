@@ -10,8 +10,9 @@ use Rattle.fx_rules.specs.State.{State}
 use Rattle.fx_rules.specs.Raise.{Turned}
 use Rattle.fx_rules.proofs.ListLemmas.{Each-among, Each-of, Among-filter, filter_agree_on}
 use Rattle.global_book.specs.Book.{Book, IsHeld, IsBook}
-use Rattle.credit_raise.specs.Two.{is_of_two, is_of_two_from, turns, IsRaised}
-use Rattle.credit_raise.specs.Playing.{Played}
+use Rattle.credit_raise.specs.Two.{is_of_two, IsRaised}
+use Rattle.credit_raise.specs.inside.Two.{is_of_two_from, turns}
+use Rattle.credit_raise.specs.inside.Playing.{Played}
 use Rattle.credit_raise.proofs.Apart.{two-owner}
 use Rattle.credit_raise.proofs.Meeting.{Meets, played-turned, turned-two}
 

@@ -12,8 +12,9 @@ use Rattle.fx_rules.proofs.ListLemmas.{Each-among, Each-both, Each-weaker, Each-
 use Rattle.fx_rules.proofs.Lowering.{is_order-says}
 use Rattle.fx_rules.proofs.Preference.{command_same}
 use Rattle.global_book.specs.Book.{first, is_of_from}
-use Rattle.credit_raise.specs.Two.{is_of_two, is_of_two_from, turns}
-use Rattle.credit_raise.specs.Playing.{earlier_of, other_of, joined, lessened_all}
+use Rattle.credit_raise.specs.Two.{is_of_two}
+use Rattle.credit_raise.specs.inside.Two.{is_of_two_from, turns}
+use Rattle.credit_raise.specs.inside.Playing.{earlier_of, other_of, joined, lessened_all}
 use Rattle.credit_raise.proofs.Lessening.{Each-lessened_all}
 
 some_same : (a b : Resting) → Some a ≡ Some b → a ≡ b

@@ -1,5 +1,4 @@
 pub mod Two
-pub mod Playing
 pub mod Laws
-pub mod Prices
 pub mod UnderWay
+pub mod inside

@@ -1,5 +1,5 @@
 -- Two banks whose line was raised: their orders, and what a pair's book has to be like for a plan from their orders alone.
-use Rattle.std.specs.Prelude.{ℕ, ◌≡◌, ◌≤◌, ◌<◌, Bool, true, false, ◌&&◌, ◌||◌, ◌==◌, ◌^◌, nat_le, nat_lt, List, filter}
+use Rattle.std.specs.Prelude.{ℕ, ◌≡◌, ◌≤◌, ◌<◌, Bool, true, false, ◌&&◌, ◌||◌, ◌==◌, List}
 use Rattle.fx_amounts.specs.declared.side.Side.TheVariants.{Buy, Sell}
 use Rattle.fx_rules.specs.declared.orders.Resting.{Resting}
 use Rattle.fx_rules.specs.declared.orders.Fill.{Fill}
@@ -12,14 +12,6 @@ use Rattle.global_book.specs.Book.{Book}
 -- an order of one of two banks
 abbrev pub is_of_two : ℕ → ℕ → Resting → Bool
 is_of_two i j order = (order.bank == i) || (order.bank == j)
-
--- an order of one of two banks that arrived at or after this
-abbrev pub is_of_two_from : ℕ → ℕ → ℕ → Resting → Bool
-is_of_two_from i j arrival order = is_of_two i j order && nat_le arrival order.arrival
-
--- the orders of two banks that arrived at or after this, so far as 64 bits can tell an arrival
-abbrev pub turns : ℕ → ℕ → ℕ → List Resting → List Resting
-turns i j arrival orders = filter (λ order. nat_lt order.arrival (2 ^ 64) && is_of_two_from i j arrival order) orders
 
 -- two banks are these two
 abbrev pub are_the_two : ℕ → ℕ → ℕ → ℕ → Bool

@@ -1,5 +1,5 @@
 -- A credit change under way: a limit is set, and some of the pairs have had their turns, in the order of the header.
-use Rattle.std.specs.Prelude.{ℕ, ◌≡◌, ◌+◌, ◌-◌, ◌*◌, ◌≤◌, min, max, List, [], ◌∷◌, ◌++◌, length}
+use Rattle.std.specs.Prelude.{ℕ, ◌≡◌, ◌+◌, ◌-◌, ◌≤◌, min, max, List, [], ◌∷◌, ◌++◌, length}
 use Rattle.fx_rules.specs.declared.orders.Fill.{Fill}
 use Rattle.fx_rules.specs.declared.orders.Plan.{Plan}
 use Rattle.fx_rules.specs.declared.outcome.Outcome.{Outcome}
@@ -14,7 +14,7 @@ use Rattle.fx_rules.specs.Raise.{limit_set, limited, PairsTurned}
 use Rattle.fx_rules.specs.Sound.{Rises}
 use Rattle.global_book.specs.Book.{Book}
 use Rattle.credit_lines.specs.Credit.{Credit, limit_in, used_in}
-use Rattle.credit_raise.specs.Two.{IsRaised, lots_of}
+use Rattle.credit_raise.specs.Two.{IsRaised}
 
 -- The bank that asks, the other one, and what it asks; the limit that is set; what the fills so far leave of the line between
 -- the two; and the plan of each pair that had its turn.
@@ -47,13 +47,6 @@ opened credit bank other asked = record {
   limit = max asked (used_in credit bank other);
   line = min (max asked (used_in credit bank other)) (limit_in credit other bank) - used_in credit bank other;
   plans = [];
-}
-
--- once the next pair had its turn, by its plan and what a lot costs there
-abbrev pub with_plan : Raise → Plan → ℕ → Raise
-with_plan raise plan weight = record raise {
-  line = raise.line - lots_of plan.fills * weight;
-  plans = raise.plans ++ plan ∷ [];
 }
 
 -- a state with the limit set, and with the fills so far

@@ -10,7 +10,8 @@ ghost use Rattle.fx_rules.specs.Step.{IsOutcome};
 ghost use Rattle.fx_rules.specs.History.{IsLegal, state};
 ghost use Rattle.credit_lines.specs.Market.{StandsFor};
 ghost use Rattle.credit_raise.specs.Two.{IsFillOf, IsRaised, lots_of};
-ghost use Rattle.credit_raise.specs.UnderWay.{IsPairOf, IsUnderWay, Makes, command_of, fills_of_all, opened, outcome_of, reached, with_plan};
+ghost use Rattle.credit_raise.specs.UnderWay.{IsPairOf, IsUnderWay, Makes, command_of, fills_of_all, opened, outcome_of, reached};
+ghost use Rattle.credit_raise.specs.inside.UnderWay.{with_plan};
 
 use crate::raise::plan_raise;
 use credit_lines::CreditLines;

@@ -1,6 +1,6 @@
 ghost use Rattle.std.specs.Prelude.{◌≡◌, ◌≤◌, true, false};
 ghost use Rattle.global_book.specs.Book.{IsBook};
-ghost use Rattle.credit_raise.specs.Prices.{AreApart, AreBelow, AreEarly, IsTop};
+ghost use Rattle.credit_raise.specs.inside.Prices.{AreApart, AreBelow, AreEarly, IsTop};
 
 use crate::replay::reach_of;
 use fx_amounts::{BankId, Side};

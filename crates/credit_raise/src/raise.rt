@@ -6,8 +6,9 @@ ghost use Rattle.fx_rules.specs.Session.{Header};
 ghost use Rattle.fx_rules.specs.State.{State};
 ghost use Rattle.fx_rules.specs.Raise.{Turned};
 ghost use Rattle.global_book.specs.Book.{IsBook};
-ghost use Rattle.credit_raise.specs.Two.{IsFillOf, IsRaised, lots_of, turns};
-ghost use Rattle.credit_raise.specs.Playing.{Played, other_of};
+ghost use Rattle.credit_raise.specs.Two.{IsFillOf, IsRaised, lots_of};
+ghost use Rattle.credit_raise.specs.inside.Two.{turns};
+ghost use Rattle.credit_raise.specs.inside.Playing.{Played, other_of};
 
 use crate::prices::are_apart;
 use crate::replay::Replay;

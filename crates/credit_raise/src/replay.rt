@@ -5,7 +5,7 @@ ghost use Rattle.fx_rules.specs.Lists.{Among, Each};
 ghost use Rattle.fx_rules.specs.Sweep.{fill_with, is_order, open_in};
 ghost use Rattle.fx_rules.specs.Raise.{taker_of_resting};
 ghost use Rattle.global_book.specs.Book.{IsBook};
-ghost use Rattle.credit_raise.specs.Playing.{IsBestOf, SweptAmong, joined, lessened, lessened_all, only, paid};
+ghost use Rattle.credit_raise.specs.inside.Playing.{IsBestOf, SweptAmong, joined, lessened, lessened_all, only, paid};
 
 use fx_amounts::{BankId, Lots, Memory, PairId};
 use fx_rules::{Fill, Resting, SweptOrder};

@@ -1,7 +1,7 @@
 ghost use Rattle.std.specs.Prelude.{◌≡◌, filter};
 ghost use Rattle.global_book.specs.Book.{IsBook, first};
-ghost use Rattle.credit_raise.specs.Two.{is_of_two_from};
-ghost use Rattle.credit_raise.specs.Playing.{earlier_of};
+ghost use Rattle.credit_raise.specs.inside.Two.{is_of_two_from};
+ghost use Rattle.credit_raise.specs.inside.Playing.{earlier_of};
 
 use fx_amounts::BankId;
 use fx_rules::Resting;

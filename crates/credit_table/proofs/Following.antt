@@ -8,7 +8,8 @@ use Rattle.fx_rules.specs.History.{after_entry}
 use Rattle.fx_rules.proofs.Staying.{changed-counts}
 use Rattle.credit_lines.specs.Credit.{Credit, opened}
 use Rattle.credit_lines.specs.Market as lines
-use Rattle.credit_table.specs.Table.{Table, Stands, IsTable, IsNextOf, FollowsOn}
+use Rattle.credit_table.specs.Table.{Table, Stands, IsNextOf, FollowsOn}
+use Rattle.credit_table.specs.inside.Table.{IsTable}
 
 -- it is the next of the lines
 pub lines_next : (table : Table) (entry : Entry) → IsSession table.session → IsNextOf table entry → lines.IsNextOf table.session table.lines entry

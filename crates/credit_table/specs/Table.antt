@@ -1,11 +1,11 @@
 -- The credit side of the market, and the states that it stands for.
-use Rattle.std.specs.Prelude.{ℕ, ◌≡◌, ◌+◌, ◌<◌, ◌^◌, Bool, true, false, List, length, slice_index, slice_set}
+use Rattle.std.specs.Prelude.{ℕ, ◌≡◌, ◌+◌, Bool, true, false, List, slice_index, slice_set}
 use Rattle.fx_rules.specs.declared.command.Command.{Command}
 use Rattle.fx_rules.specs.declared.command.Command.TheVariants.{Show, Bad}
 use Rattle.fx_rules.specs.declared.outcome.Outcome.{Outcome}
 use Rattle.fx_rules.specs.declared.outcome.Entry.{Entry}
-use Rattle.fx_rules.specs.Lists.{Each, total}
-use Rattle.fx_rules.specs.Session.{Header, IsSession, bank_count, sender_count}
+use Rattle.fx_rules.specs.Lists.{total}
+use Rattle.fx_rules.specs.Session.{Header}
 use Rattle.fx_rules.specs.State.{State}
 use Rattle.fx_rules.specs.Step.{IsOutcome}
 use Rattle.fx_rules.specs.History.{IsStep, after_entry}
@@ -69,12 +69,3 @@ pub record IsNextOf (table : Table) (entry : Entry) : Type 0 where
 abbrev pub FollowsOn : Table → Table → Entry → Type 0
 FollowsOn old new entry =
     (h : Header) (S : State) → IsSound h S → Stands h S old → IsStep h S entry → Stands h (after_entry S entry) new
-
--- The rest is for this crate's own functions.
-
--- the tables are of one valid session, and numbers fit
-pub record IsTable (table : Table) : Type 0 where
-  pub session : IsSession table.session
-  pub banks : table.lines.banks ≡ bank_count table.session
-  pub senders : length table.counts ≡ sender_count table.session
-  pub counts : Each (λ count. count < 2 ^ 32) table.counts

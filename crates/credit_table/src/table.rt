@@ -30,7 +30,8 @@ pub struct CreditTable {
 impl Model for CreditTable {
     ghost use Rattle.std.specs.Prelude.{◌≡◌};
     ghost use Rattle.fx_rules.specs.Lists.{total};
-    ghost use Rattle.credit_table.specs.Table.{Table, IsTable};
+    ghost use Rattle.credit_table.specs.Table.{Table};
+    ghost use Rattle.credit_table.specs.inside.Table.{IsTable};
 
     ghost Value = { Table };
 

@@ -15,7 +15,7 @@ use Rattle.fx_rules.specs.Lists.{below}
 use Rattle.fx_rules.proofs.ListLemmas.{filter_cons_true, filter_cons_false}
 use Rattle.day_report.specs.declared.rows.Net.{Net}
 use Rattle.day_report.specs.Report.{base_of, quote_of, base_code, quote_code, currencies, by_side, buyer, seller, share, received, paid, net_of, nets_of, sum_of, balance}
-use Rattle.fx_rules.specs.Trade.{IsTrade}
+use Rattle.fx_rules.specs.inside.Trade.{IsTrade}
 use Rattle.day_report.proofs.Sums.{when, total_agree, total_add, total_swap, pick_below, total_zero}
 
 joins : (a b c d : ℕ) (z : ℤ) → z ≡ pos c -ℤ pos d → (pos a -ℤ pos b) +ℤ z ≡ pos (a + c) -ℤ pos (b + d)

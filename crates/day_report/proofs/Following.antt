@@ -8,7 +8,7 @@ use Rattle.fx_rules.specs.Session.{Header}
 use Rattle.fx_rules.specs.State.{State, opening}
 use Rattle.fx_rules.specs.Step.{fills_of}
 use Rattle.fx_rules.specs.History.{IsLegal, state}
-use Rattle.fx_rules.specs.Trade.{IsTrade}
+use Rattle.fx_rules.specs.inside.Trade.{IsTrade}
 use Rattle.fx_rules.proofs.ListLemmas.{Each-first, total-append}
 use Rattle.fx_rules.proofs.Soundness.{legal-sound, after_all-push}
 use Rattle.fx_rules.proofs.Continuing.{legal-last}
@@ -16,8 +16,9 @@ use Rattle.fx_rules.proofs.Trading.{step-fills}
 use Rattle.credit_lines.specs.Credit.{Credit, IsCredit}
 use Rattle.credit_lines.specs.Market.{StandsFor, FollowsOn}
 use Rattle.day_report.specs.declared.day.Day.{Day}
-use Rattle.day_report.specs.Trades.{AreTrades, lots_in}
-use Rattle.day_report.specs.Parts.{AreVolumes, AreFlows, HasFills, IsDayOf}
+use Rattle.day_report.specs.Trades.{lots_in}
+use Rattle.day_report.specs.inside.Trades.{AreTrades}
+use Rattle.day_report.specs.inside.Parts.{AreVolumes, AreFlows, HasFills, IsDayOf}
 use Rattle.day_report.proofs.Trading.{legal-fits}
 
 -- the fills before a place, the one there, and those behind

@@ -10,8 +10,9 @@ use Rattle.fx_rules.specs.Sound.{IsSound}
 use Rattle.fx_rules.specs.Lists.{below}
 use Rattle.fx_rules.proofs.ListLemmas.{Each-weaker}
 use Rattle.fx_rules.proofs.SweepSound.{weight_of-least}
-use Rattle.fx_rules.specs.Trade.{IsTrade}
-use Rattle.day_report.specs.Trades.{AreTrades, lots_in}
+use Rattle.fx_rules.specs.inside.Trade.{IsTrade}
+use Rattle.day_report.specs.Trades.{lots_in}
+use Rattle.day_report.specs.inside.Trades.{AreTrades}
 use Rattle.day_report.proofs.Sums.{when, when_most, total_agree, total_le, total_zero, total_swap, total_filter, pick_below, total_most_below}
 
 lots_cost : (lots weight : ℕ) → 0 < weight → lots ≤ lots * weight

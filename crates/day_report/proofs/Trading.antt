@@ -7,7 +7,7 @@ use Rattle.fx_rules.specs.State.{State, opening}
 use Rattle.fx_rules.specs.History.{Steps, IsLegal, after_entry, state}
 use Rattle.fx_rules.proofs.Soundness.{legal-sound}
 use Rattle.fx_rules.proofs.Trading.{legal-trades}
-use Rattle.day_report.specs.Trades.{AreTrades}
+use Rattle.day_report.specs.inside.Trades.{AreTrades}
 use Rattle.day_report.proofs.LotsFit.{trades-fit}
 
 pub legal-fits : (h : Header) (entries : List Entry) → IsLegal h entries → AreTrades h (state h entries).fills

@@ -1,31 +1,8 @@
 -- Fills of a day, and that their sums fit.
-use Rattle.std.specs.Prelude.{ℕ, ◌≤◌, List, [], ◌∷◌, ◌++◌}
+use Rattle.std.specs.Prelude.{ℕ, List}
 use Rattle.fx_rules.specs.declared.orders.Fill.{Fill}
-use Rattle.fx_rules.specs.Lists.{Each, total}
-use Rattle.fx_rules.specs.Session.{Header, IsSession}
-use Rattle.fx_rules.specs.State.{State, opening}
-use Rattle.fx_rules.specs.Trade.{IsTrade}
+use Rattle.fx_rules.specs.Lists.{total}
 
 -- the lots of some fills
 abbrev pub lots_in : List Fill → ℕ
 lots_in fills = total (λ fill. fill.lots) fills
-
--- Fills of a session's day. Their lots fit: each lot uses a credit unit at least, use only rises, and between each two of
--- 64 banks it is at most the greatest limit, 10^15. So all sums fit: fills are no more than lots, a lot is at most 10^9
--- units of base and 10^18 of quote.
-pub record AreTrades (h : Header) (fills : List Fill) : Type 0 where
-  pub session : IsSession h
-  pub each : Each (IsTrade h) fills
-  pub lots : lots_in fills ≤ 4096000000000000000
-
--- A fill can be added to what is known of the fills so far.
-abbrev pub CanAdd : Header → (List Fill → Type 0) → Fill → Type 0
-CanAdd h Of fill = (fills : List Fill) × Of fills × AreTrades h (fills ++ fill ∷ [])
-
--- Fills were added to what is known of those before.
-abbrev pub Adds : (List Fill → Type 0) → (List Fill → Type 0) → List Fill → Type 0
-Adds Of Of' more = (fills : List Fill) → Of fills → Of' (fills ++ more)
-
--- a state with these fills
-abbrev pub with_fills : Header → List Fill → State
-with_fills h fills = record (opening h) { fills = fills }

@@ -3,9 +3,9 @@ ghost use Rattle.fx_rules.specs.State.{State, opening};
 ghost use Rattle.fx_rules.specs.History.{IsLegal, state};
 ghost use Rattle.fx_rules.specs.declared.outcome.Entry.{Entry};
 ghost use Rattle.day_report.specs.Report.{volumes_of, uses_of, nets_of, balance, NetsBalance};
-ghost use Rattle.day_report.specs.Parts.{HasFills, IsDayOf};
-ghost use Rattle.day_report.specs.Trades.{Adds};
-ghost use Rattle.day_report.specs.Day.{CanAddAll, CanFollow, CanReport, IsReportOf};
+ghost use Rattle.day_report.specs.inside.Parts.{HasFills, IsDayOf};
+ghost use Rattle.day_report.specs.inside.Trades.{Adds};
+ghost use Rattle.day_report.specs.inside.Day.{CanAddAll, CanFollow, CanReport, IsReportOf};
 
 use crate::flows::Flows;
 use crate::rows::{NetList, Report, UseList, Volume, VolumeList};

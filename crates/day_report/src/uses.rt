@@ -1,5 +1,5 @@
 ghost use Rattle.std.specs.Prelude.{ℕ, ◌≡◌, ◌≤◌, ◌<◌, ◌++◌, IfOk, OnOk};
-ghost use Rattle.day_report.specs.Lists.{uses_behind, uses_in};
+ghost use Rattle.day_report.specs.inside.Lists.{uses_behind, uses_in};
 
 use crate::places::bank_at;
 use crate::rows::Use;

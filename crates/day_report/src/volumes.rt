@@ -1,6 +1,6 @@
 ghost use Rattle.std.specs.Prelude.{◌≡◌, [], ◌∷◌, ◌<◌, IfOk};
-ghost use Rattle.day_report.specs.Trades.{CanAdd, Adds};
-ghost use Rattle.day_report.specs.Parts.{no_volume, AreVolumes};
+ghost use Rattle.day_report.specs.inside.Trades.{CanAdd, Adds};
+ghost use Rattle.day_report.specs.inside.Parts.{no_volume, AreVolumes};
 
 use crate::amounts::amounts_of;
 use crate::places::pair_at;

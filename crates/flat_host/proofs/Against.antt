@@ -14,7 +14,8 @@ use Rattle.fx_rules.specs.Sweep.{Taker, is_open, is_opposite, IsBest, less}
 use Rattle.fx_rules.specs.Plan.{Planned, is_behind, open_behind, spend}
 use Rattle.fx_rules.proofs.ListLemmas.{filter_filter, filter_agree_on}
 use Rattle.fx_rules.proofs.Opens.{is_open-says}
-use Rattle.flat_host.specs.Walks.{against_in, IsLevelled}
+use Rattle.flat_host.specs.Walks.{IsLevelled}
+use Rattle.flat_host.specs.inside.Walks.{against_in}
 use Rattle.flat_host.proofs.Searching.{chosen, chosen-both}
 
 -- a test that follows from another adds nothing to it

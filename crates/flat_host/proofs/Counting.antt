@@ -2,7 +2,8 @@
 use Rattle.std.proofs.Common.{ℕ, zero, suc, ◌≡◌, ◌+◌, ◌-◌, ◌*◌, ◌≤◌, ◌<◌, ◌^◌, List, [], ◌∷◌, arith, length, get_or}
 use Rattle.std.proofs.Math.ListN.{set, length-set}
 use Rattle.fx_rules.specs.Lists.{Each, total}
-use Rattle.flat_host.specs.FlatState.{FlatState, IsFlatState}
+use Rattle.flat_host.specs.FlatState.{FlatState}
+use Rattle.flat_host.specs.inside.FlatState.{IsFlatState}
 
 pub total-bounded : (counts : List ℕ) → Each (λ c. c < 2 ^ 32) counts → total (λ c. c) counts ≤ length counts * 2 ^ 32
 total-bounded [] all = omega arith

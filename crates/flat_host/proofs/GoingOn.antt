@@ -13,7 +13,8 @@ use Rattle.fx_rules.proofs.Soundness.{legal-sound, legal-push, after_all-push}
 use Rattle.fx_rules.proofs.Uncrossed.{legal-uncrossed}
 use Rattle.flat_host.proofs.Sendable.{sendable, sendable-of, pairs_of}
 use Rattle.flat_host.specs.FlatState.{FlatState, StandsFor}
-use Rattle.flat_host.specs.Steps.{IsCommandOf, StepsEach, FollowsEach, KeepsLines, StaysUncrossed, FollowsOn, IsNextOf, ShowsEach, stands}
+use Rattle.flat_host.specs.Steps.{IsCommandOf, StepsEach, KeepsLines, StaysUncrossed, FollowsOn, IsNextOf, ShowsEach, stands}
+use Rattle.flat_host.specs.inside.Steps.{FollowsEach}
 
 -- What is a step of each sound state goes on each legal history.
 pub goes-on : (old new : FlatState) (bank : ℕ) (command : Command) (outcome : Outcome) → bank < old.banks → get_or old.counts bank 0 < 2 ^ 32 - 1 → IsCommandOf old bank command → StepsEach old new bank command outcome → GoesOn (stands old) (stands new) bank command outcome

@@ -4,7 +4,7 @@ use Rattle.std.proofs.Math.ListN.{set}
 use Rattle.std.proofs.lemmas.Bool.{cond-true, cond-false, lt-ltb, le-ltb}
 use Rattle.std.specs.List.{remove}
 use Rattle.fx_rules.specs.declared.orders.ActiveOrder.{ActiveOrder}
-use Rattle.flat_host.specs.Parts.{StandsAt}
+use Rattle.flat_host.specs.inside.Parts.{StandsAt}
 use Rattle.fx_rules.specs.Sweep.{lowered, is_order, with_left}
 
 tail_at : (bank number : ℕ) (b : ActiveOrder) (rest : List ActiveOrder) (i : ℕ) (a : ActiveOrder) → StandsAt bank number (b ∷ rest) (suc i) a → StandsAt bank number rest i a

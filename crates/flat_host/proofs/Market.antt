@@ -17,7 +17,7 @@ use Rattle.fx_rules.proofs.SweepSound.{swept-sound, weight_of-least}
 use Rattle.fx_rules.proofs.RaiseSound.{match_cases, turn_of, turn-sender, turned-sound}
 use Rattle.fx_rules.proofs.Planning.{orders_in-rising, open_own}
 use Rattle.fx_rules.proofs.PlanSwept.{planned-swept}
-use Rattle.flat_host.specs.FlatState.{TablesFor}
+use Rattle.flat_host.specs.inside.FlatState.{TablesFor}
 use Rattle.flat_host.specs.Parts.{PlannedOver, both_lowered, uses_after}
 use Rattle.flat_host.specs.Turns.{in_pair, TurnedIn, RaisedIn}
 use Rattle.flat_host.proofs.Carrying.{length-uses_after}

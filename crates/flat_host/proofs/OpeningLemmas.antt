@@ -7,8 +7,9 @@ use Rattle.fx_rules.specs.declared.session.PairRule.{PairRule}
 use Rattle.fx_rules.specs.Lists.{Each, total}
 use Rattle.fx_rules.specs.Session.{Header, IsSession, IsPairRule, bank_count, opening_limit}
 use Rattle.fx_rules.specs.State.{opening}
-use Rattle.flat_host.specs.FlatState.{FlatState, IsFlatState, StandsFor, limit_place}
-use Rattle.flat_host.specs.Opening.{limit_at, OpensWith}
+use Rattle.flat_host.specs.FlatState.{FlatState, StandsFor, limit_place}
+use Rattle.flat_host.specs.inside.FlatState.{IsFlatState}
+use Rattle.flat_host.specs.inside.Opening.{limit_at, OpensWith}
 
 each_zero : (n : ℕ) → Each (λ count. count < 2 ^ 32) (replicate n 0)
 each_zero zero = tt

@@ -13,7 +13,7 @@ use Rattle.fx_rules.specs.Sweep.{Taker, is_open, IsBest, amount, fill_with, less
 use Rattle.fx_rules.specs.Plan.{Planned, is_behind, open_behind, spend}
 use Rattle.fx_rules.proofs.ListLemmas.{filter_cons_true, filter_cons_false, Among-filter}
 use Rattle.fx_rules.proofs.Opens.{is_open-says}
-use Rattle.flat_host.specs.Search.{is_candidate, candidates}
+use Rattle.flat_host.specs.inside.Search.{is_candidate, candidates}
 
 true_and : (a b : Bool) → a ≡ true → (a && b) ≡ b
 true_and true b is = refl

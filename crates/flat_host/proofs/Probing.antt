@@ -15,7 +15,7 @@ use Rattle.fx_rules.specs.Depth.{any_price, unlimited, with_fill, levels_of, Sho
 use Rattle.fx_rules.specs.Sound.{IsSound}
 use Rattle.flat_host.specs.FlatState.{FlatState, StandsFor}
 use Rattle.flat_host.specs.Parts.{PlannedOver}
-use Rattle.flat_host.specs.Levels.{unlimited_in, ProbedIn}
+use Rattle.flat_host.specs.inside.Levels.{unlimited_in, ProbedIn}
 use Rattle.flat_host.proofs.Tables.{tables_of}
 use Rattle.flat_host.proofs.Market.{swept-planned}
 

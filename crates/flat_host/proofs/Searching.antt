@@ -11,7 +11,7 @@ use Rattle.fx_rules.specs.Lists.{Among, Each}
 use Rattle.fx_rules.specs.Sweep.{is_preferred, IsBest}
 use Rattle.fx_rules.proofs.ListLemmas.{Each-append, Each-weaker, filter_cons_true, filter_cons_false}
 use Rattle.fx_rules.proofs.Preference.{preferred_self, preferred_trans}
-use Rattle.flat_host.specs.Search.{preferred_of, IsBestOf}
+use Rattle.flat_host.specs.inside.Search.{preferred_of, IsBestOf}
 
 -- the orders that pass a test
 abbrev pub chosen : (ActiveOrder → Bool) → List ActiveOrder → List Resting

@@ -28,11 +28,15 @@ use Rattle.fx_rules.specs.Step.{IsCommand, IsOrdered, IsOutcome, cancel_answer, 
 use Rattle.fx_rules.specs.Sound.{IsSound}
 use Rattle.fx_rules.proofs.SweepSound.{weight_of-least, counts-filled_all}
 use Rattle.fx_rules.proofs.RaiseSound.{limited-sound}
-use Rattle.flat_host.specs.FlatState.{FlatState, IsFlatState, IsWithin, TablesFor, StandsFor, limit_place, limit_in, use_in, line_in}
-use Rattle.flat_host.specs.Parts.{PlannedOver, PlannedIn, OrderedIn, taker_from, both_lowered, uses_after, with_rest, rests_of, is_done, order_carried, limits_with, counted_in, cancelled_in, reduced_in, shown_in}
-use Rattle.flat_host.specs.Turns.{in_pair, RaisedIn, LineSetIn, raised_in}
-use Rattle.flat_host.specs.Levels.{ProbedIn}
-use Rattle.flat_host.specs.Steps.{IsCommandOf, AnswersEach, ChangesEach, FollowsEach, StepsEach, ShowsEach}
+use Rattle.flat_host.specs.FlatState.{FlatState, IsWithin, StandsFor, limit_place, limit_in, use_in, line_in}
+use Rattle.flat_host.specs.inside.FlatState.{IsFlatState, TablesFor}
+use Rattle.flat_host.specs.Parts.{PlannedOver, both_lowered, uses_after, rests_of, is_done}
+use Rattle.flat_host.specs.inside.Parts.{PlannedIn, OrderedIn, taker_from, with_rest, order_carried, limits_with, counted_in, cancelled_in, reduced_in, shown_in}
+use Rattle.flat_host.specs.Turns.{in_pair, RaisedIn}
+use Rattle.flat_host.specs.inside.Turns.{LineSetIn, raised_in}
+use Rattle.flat_host.specs.inside.Levels.{ProbedIn}
+use Rattle.flat_host.specs.Steps.{IsCommandOf, AnswersEach, StepsEach, ShowsEach}
+use Rattle.flat_host.specs.inside.Steps.{ChangesEach, FollowsEach}
 use Rattle.flat_host.proofs.Carrying.{places_same}
 use Rattle.flat_host.proofs.Tables.{tables_of, line-same, tables-swept, tables-pairs}
 use Rattle.flat_host.proofs.Market.{swept-planned, raised-market}

@@ -12,7 +12,8 @@ use Rattle.fx_rules.proofs.Credit.{IsAllowed, used-filled, cost_between-one, cos
 use Rattle.fx_rules.proofs.Opens.{allowed-open}
 use Rattle.fx_rules.proofs.SweepSound.{filled-sound, swept-sound, filled_all-append, weight_of-least}
 use Rattle.fx_rules.proofs.RaiseSound.{match_cases, turn_of, turn-sender, turned-sound}
-use Rattle.flat_host.specs.FlatState.{use_place, limit_in, use_in, line_in, TablesFor, StandsFor, FlatState}
+use Rattle.flat_host.specs.FlatState.{use_place, limit_in, use_in, line_in, StandsFor, FlatState}
+use Rattle.flat_host.specs.inside.FlatState.{TablesFor}
 use Rattle.flat_host.specs.Parts.{use_added, uses_after}
 use Rattle.flat_host.proofs.Carrying.{use_place-swap, places_same, use_place-same, raised, raised_here, raised_there, length-added, length-uses_after, uses_after-append}
 

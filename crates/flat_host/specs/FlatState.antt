@@ -1,5 +1,5 @@
 -- What the plain host keeps, and the states of the market that it stands for.
-use Rattle.std.specs.Prelude.{ℕ, ◌≡◌, ◌≢◌, ◌≤◌, ◌<◌, ◌+◌, ◌*◌, ◌-◌, ◌^◌, min, max, List, length, map, slice_index}
+use Rattle.std.specs.Prelude.{ℕ, ◌≡◌, ◌≢◌, ◌≤◌, ◌<◌, ◌+◌, ◌*◌, ◌-◌, ◌^◌, min, max, List, map, slice_index}
 use Rattle.fx_rules.specs.declared.orders.ActiveOrder.{ActiveOrder}
 use Rattle.fx_rules.specs.Lists.{Each}
 use Rattle.fx_rules.specs.Session.{Header, bank_count}
@@ -41,24 +41,6 @@ IsWithin limits uses = (i j : ℕ) → i < 64 → j < 64 → i ≢ j → use_in 
 -- numbers that weights can be
 abbrev pub AreWeights : List ℕ → Type 0
 AreWeights weights = Each (λ weight. (1 ≤ weight) × (weight ≤ 10 ^ 6)) weights
-
--- what holds of every flat state: full tables, no use above a limit, numbers that fit
-pub record IsFlatState (l : FlatState) : Type 0 where
-  pub limits_full : length l.limits ≡ 4096
-  pub uses_full : length l.uses ≡ 4096
-  pub within : IsWithin l.limits l.uses
-  pub banks : l.banks ≤ 64
-  pub senders : length l.counts ≤ 64
-  pub counted : l.banks ≤ length l.counts
-  pub counts : Each (λ count. count < 2 ^ 32) l.counts
-  pub pairs : length l.weights ≤ 32
-  pub weights : AreWeights l.weights
-
--- tables of weights, limits and uses that are those of a state, for each two different banks
-pub record TablesFor (h : Header) (S : State) (weights limits uses : List ℕ) : Type 0 where
-  pub weighs : weights ≡ map (λ rule. rule.weight) h.pairs
-  pub limit : (i j : ℕ) → i < bank_count h → j < bank_count h → i ≢ j → limit_in limits i j ≡ S.limits i j
-  pub spent : (i j : ℕ) → i < bank_count h → j < bank_count h → i ≢ j → use_in uses i j ≡ used h S i j
 
 -- the flat state stands for a state: it has its orders and counts, the weights of its session, and the limit and the use of
 -- each two different banks

@@ -2,9 +2,6 @@ pub mod FlatState
 pub mod Steps
 pub mod Parts
 pub mod Turns
-pub mod Levels
-pub mod Search
 pub mod Walks
-pub mod Host
-pub mod Opening
 pub mod Views
+pub mod inside

@@ -1,19 +1,13 @@
 -- What the host's parts do to its orders and tables.
-use Rattle.std.specs.Prelude.{ℕ, Bool, ◌≡◌, ◌≤◌, ◌<◌, ◌+◌, ◌*◌, ◌-◌, List, [], ◌∷◌, slice_index, slice_index_or, slice_set, length, true, false, nat_lt, nat_le, if◌then◌else◌, ◌++◌, None}
-use Rattle.fx_amounts.specs.declared.side.Side.{Side}
-use Rattle.fx_rules.specs.declared.command.Life.{Life}
-use Rattle.fx_rules.specs.declared.command.Life.TheVariants.{Day, Ioc, Fok}
+use Rattle.std.specs.Prelude.{ℕ, Bool, ◌≡◌, ◌<◌, ◌+◌, ◌*◌, List, [], ◌∷◌, slice_index, slice_set, true, false, nat_le, if◌then◌else◌, None}
 use Rattle.fx_rules.specs.declared.outcome.Outcome.{Outcome}
-use Rattle.fx_rules.specs.declared.outcome.Outcome.TheVariants.{Ordered, Killed, Cancelled, Reduced, Shown}
+use Rattle.fx_rules.specs.declared.outcome.Outcome.TheVariants.{Ordered, Cancelled, Reduced}
 use Rattle.fx_rules.specs.declared.orders.ActiveOrder.{ActiveOrder}
 use Rattle.fx_rules.specs.declared.orders.Resting.{Resting}
 use Rattle.fx_rules.specs.declared.orders.Fill.{Fill}
-use Rattle.fx_rules.specs.Lists.{total}
-use Rattle.fx_rules.specs.State.{orders_in}
-use Rattle.fx_rules.specs.Sweep.{Taker, lowered, is_order, at_rest}
-use Rattle.fx_rules.specs.Step.{without_order, reduced}
+use Rattle.fx_rules.specs.Sweep.{Taker, lowered}
 use Rattle.fx_rules.specs.Plan.{Planned}
-use Rattle.flat_host.specs.FlatState.{FlatState, limit_place, use_place, limit_in, use_in, line_in}
+use Rattle.flat_host.specs.FlatState.{use_place, use_in, line_in}
 
 -- both orders of each of these fills are lowered, in order, where they rest
 abbrev pub both_lowered : List ActiveOrder → List Fill → List ActiveOrder
@@ -33,64 +27,11 @@ abbrev pub uses_after : List ℕ → List ℕ → List ℕ → List Fill → Lis
 uses_after weights limits uses [] = uses
 uses_after weights limits uses (fill ∷ fills) = uses_after weights limits (use_added weights limits uses fill) fills
 
--- the first order of a command stands at a place
-pub record StandsAt (bank number : ℕ) (orders : List ActiveOrder) (i : ℕ) (a : ActiveOrder) : Type 0 where
-  pub within : i < length orders
-  pub is : is_order bank number (slice_index_or orders i a).order ≡ true
-  pub first : (k : ℕ) → k < i → is_order bank number (slice_index_or orders k a).order ≡ false
-
--- a command's order as it is swept: its number is the sender's next, and it arrives after all commands so far
-abbrev pub taker_from : FlatState → ℕ → Side → ℕ → ℕ → ℕ → Taker
-taker_from l bank side pair price lots = record {
-  bank = bank;
-  number = slice_index l.counts bank + 1;
-  pair = pair;
-  side = side;
-  price = price;
-  left = lots;
-  arrival = total (λ count. count) l.counts;
-}
-
 -- a sweep planned over a book, with the lines that tables of limits and uses leave
 pub record PlannedOver (weights limits uses : List ℕ) (book : List Resting) (t : Taker) (fills : List Fill) (left : ℕ) : Type 0 where
   pub lines : ℕ → ℕ
   pub lines_are : (bank : ℕ) → bank < 64 → lines bank ≡ line_in limits uses t.bank bank
   pub planned : Planned (slice_index weights t.pair) lines book t None fills left
-
--- a sweep planned over a flat state
-abbrev pub PlannedIn : FlatState → Taker → List Fill → ℕ → Type 0
-PlannedIn l t fills left = PlannedOver l.weights l.limits l.uses (orders_in t.pair l.orders) t fills left
-
--- an order's outcome by its life, of the sweep that was planned in the flat state
-abbrev pub OrderedIn : FlatState → Taker → Life → Outcome → Type 0
-OrderedIn l t Day (Ordered done rests fills) = PlannedIn l t fills rests × (done ≡ t.left - rests) × (rests ≤ t.left)
-OrderedIn l t Ioc (Ordered done rests fills) = PlannedIn l t fills (t.left - done) × (done ≤ t.left) × (rests ≡ 0)
-OrderedIn l t Fok (Ordered done rests fills) = PlannedIn l t fills 0 × (done ≡ t.left) × (rests ≡ 0)
-OrderedIn l t Fok Killed = (fills : List Fill) × (left : ℕ) × PlannedIn l t fills left × (1 ≤ left)
-OrderedIn _ _ _ _ = ⊥
-
--- the orders with what is left of a taker at their end, where anything is
-abbrev pub with_rest : Taker → ℕ → List ActiveOrder → List ActiveOrder
-with_rest t rests orders = if nat_lt 0 rests then orders ++ at_rest t rests ∷ [] else orders
-
--- the flat state with these fills made: their orders are lowered, and their cost is used
-abbrev pub filled_in : FlatState → List Fill → FlatState
-filled_in l fills = record l {
-  orders = both_lowered l.orders fills;
-  uses = uses_after l.weights l.limits l.uses fills;
-}
-
--- the flat state after an order: its fills are made, and its rest stands
-abbrev pub order_carried : FlatState → Taker → ℕ → List Fill → FlatState
-order_carried l t rests fills = record (filled_in l fills) { orders = with_rest t rests (both_lowered l.orders fills) }
-
--- the limits with one set
-abbrev pub limits_with : List ℕ → ℕ → ℕ → ℕ → List ℕ
-limits_with limits bank other limit = slice_set limits (limit_place bank other) limit
-
--- the flat state with one more command of a bank
-abbrev pub counted_in : FlatState → ℕ → FlatState
-counted_in l bank = record l { counts = slice_set l.counts bank (slice_index l.counts bank + 1) }
 
 -- the lots of an order that rest by its outcome
 abbrev pub rests_of : Outcome → ℕ
@@ -102,15 +43,3 @@ abbrev pub is_done : Outcome → Bool
 is_done (Cancelled left) = true
 is_done (Reduced left) = true
 is_done _ = false
-
--- the flat state without an order, where its cancel was done
-abbrev pub cancelled_in : FlatState → ℕ → ℕ → Bool → FlatState
-cancelled_in l bank number done = record l { orders = if done then without_order bank number l.orders else l.orders }
-
--- the flat state with an order lowered to so many lots, where that was done
-abbrev pub reduced_in : FlatState → ℕ → ℕ → ℕ → Bool → FlatState
-reduced_in l bank number left done = record l { orders = if done then reduced bank number left l.orders else l.orders }
-
--- the line of a bank with another
-abbrev pub shown_in : FlatState → ℕ → ℕ → Outcome
-shown_in l bank other = Shown (limit_in l.limits bank other) (use_in l.uses bank other) (line_in l.limits l.uses bank other)

@@ -8,7 +8,7 @@ use Rattle.fx_rules.specs.Session.{Header, IsSession, bank_count}
 use Rattle.fx_rules.specs.State.{State, Within}
 use Rattle.fx_rules.specs.NoCross.{NoCross}
 use Rattle.fx_rules.specs.Depth.{IsDepth}
-use Rattle.fx_rules.specs.Step.{IsCommand, IsOutcome, changed, after}
+use Rattle.fx_rules.specs.Step.{IsCommand, IsOutcome, after}
 use Rattle.fx_rules.specs.History.{IsLegal, state}
 use Rattle.fx_rules.specs.Sound.{IsSound}
 use Rattle.fx_rules.specs.Market.{next_entry}
@@ -25,19 +25,6 @@ pub record IsCommandOf (l : FlatState) (bank : ℕ) (command : Command) : Type 0
 abbrev pub AnswersEach : FlatState → ℕ → Command → Outcome → Type 0
 AnswersEach l bank command outcome =
     (h : Header) (S : State) → IsSession h → IsSound h S → StandsFor h S l → IsOutcome h S bank command outcome
-
--- Each sound state that the host stood for and of which this is an outcome: the host stands for the state that it makes,
--- but for the sender's count.
-abbrev pub ChangesEach : FlatState → FlatState → ℕ → Command → Outcome → Type 0
-ChangesEach old new bank command outcome =
-    (h : Header) (S : State) → IsSession h → IsSound h S → StandsFor h S old →
-    IsOutcome h S bank command outcome → StandsFor h (changed S bank command outcome) new
-
--- the same, with the sender's count
-abbrev pub FollowsEach : FlatState → FlatState → ℕ → Command → Outcome → Type 0
-FollowsEach old new bank command outcome =
-    (h : Header) (S : State) → IsSession h → IsSound h S → StandsFor h S old →
-    IsOutcome h S bank command outcome → StandsFor h (after S bank command outcome) new
 
 -- Each sound state that the host stood for: the outcome is one of it, and the host stands for the state after it.
 abbrev pub StepsEach : FlatState → FlatState → ℕ → Command → Outcome → Type 0

@@ -1,12 +1,11 @@
 -- A sweep as it goes, from one best order to the next.
-use Rattle.std.specs.Prelude.{ℕ, ◌≡◌, ◌≤◌, ◌+◌, List, [], ◌∷◌, Option, Some, None, slice_index, take, filter, ◌==◌, ◌&&◌}
-use Rattle.fx_amounts.specs.declared.side.Side.{Side}
+use Rattle.std.specs.Prelude.{ℕ, ◌≡◌, ◌≤◌, ◌+◌, List, [], ◌∷◌, Option, Some, None, slice_index, take}
 use Rattle.fx_rules.specs.declared.orders.ActiveOrder.{ActiveOrder}
 use Rattle.fx_rules.specs.declared.orders.Fill.{Fill}
 use Rattle.fx_rules.specs.declared.orders.Level.{Level}
 use Rattle.fx_rules.specs.Lists.{total}
 use Rattle.fx_rules.specs.State.{orders_in}
-use Rattle.fx_rules.specs.Sweep.{Taker, is_opposite}
+use Rattle.fx_rules.specs.Sweep.{Taker}
 use Rattle.fx_rules.specs.Plan.{Planned}
 use Rattle.fx_rules.specs.Depth.{levels_of}
 use Rattle.flat_host.specs.declared.sweep.Walk.{Walk}
@@ -28,10 +27,6 @@ pub record LeadsOn (weight : ℕ) (orders : List ActiveOrder) (old new : Walk) (
 abbrev pub StepsOn : ℕ → List ActiveOrder → Walk → Walk → Option Fill → Type 0
 StepsOn weight orders old new None = (new ≡ old) × FromHere weight orders old [] old.taker.left
 StepsOn weight orders old new (Some fill) = LeadsOn weight orders old new fill
-
--- the orders of the other side of a pair
-abbrev pub against_in : ℕ → Side → List ActiveOrder → List ActiveOrder
-against_in pair side orders = filter (λ active. active.pair == pair && is_opposite side active.order.side) orders
 
 -- levels are the first ten of a taker's planned sweep
 abbrev pub IsLevelled : ℕ → List ℕ → List ActiveOrder → Taker → List Level → Type 0

@@ -3,7 +3,8 @@ ghost use Rattle.fx_rules.specs.Lists.{total};
 ghost use Rattle.fx_rules.specs.Sweep.{lowered, is_order};
 ghost use Rattle.fx_rules.specs.declared.orders.ActiveOrder.{ActiveOrder};
 ghost use Rattle.flat_host.specs.FlatState.{limit_place, use_place, limit_in, use_in, line_in, IsWithin};
-ghost use Rattle.flat_host.specs.Parts.{both_lowered, uses_after, StandsAt};
+ghost use Rattle.flat_host.specs.Parts.{both_lowered, uses_after};
+ghost use Rattle.flat_host.specs.inside.Parts.{StandsAt};
 
 use fx_amounts::{BankId, Lots, PairId, Units};
 use fx_rules::{ActiveOrder, Fill, Resting};

@@ -2,7 +2,8 @@ ghost use Rattle.std.specs.Prelude.{◌&&◌, ◌==◌, ◌≡◌, ◌≤◌, �
 ghost use Rattle.fx_rules.specs.Lists.{total};
 ghost use Rattle.fx_rules.specs.State.{orders_in};
 ghost use Rattle.fx_rules.specs.Sweep.{is_opposite};
-ghost use Rattle.flat_host.specs.Walks.{IsLevelled, against_in};
+ghost use Rattle.flat_host.specs.Walks.{IsLevelled};
+ghost use Rattle.flat_host.specs.inside.Walks.{against_in};
 
 use crate::sweep::Walk;
 use fx_amounts::{Memory, PairId, Side};

@@ -5,12 +5,14 @@ ghost use Rattle.fx_rules.specs.State.{opening, orders_in};
 ghost use Rattle.fx_rules.specs.Step.{without_orders};
 ghost use Rattle.fx_rules.specs.History.{IsLegal, state};
 ghost use Rattle.fx_rules.specs.Market.{GoesOn};
-ghost use Rattle.flat_host.specs.FlatState.{FlatState, IsFlatState, IsWithin, StandsFor, limit_in, use_in, line_in};
-ghost use Rattle.flat_host.specs.Parts.{taker_from, PlannedIn, OrderedIn, order_carried, filled_in, counted_in, cancelled_in, reduced_in, shown_in};
-ghost use Rattle.flat_host.specs.Turns.{LineSetIn, limited_in, raised_in};
-ghost use Rattle.flat_host.specs.Levels.{ProbedIn};
-ghost use Rattle.flat_host.specs.Opening.{OpensWith, limit_at};
-ghost use Rattle.flat_host.specs.Steps.{IsCommandOf, AnswersEach, ChangesEach, FollowsEach, StepsEach, KeepsLines, StaysUncrossed, ShowsEach, IsNextOf, FollowsOn, stands};
+ghost use Rattle.flat_host.specs.FlatState.{FlatState, IsWithin, StandsFor, limit_in, use_in, line_in};
+ghost use Rattle.flat_host.specs.inside.FlatState.{IsFlatState};
+ghost use Rattle.flat_host.specs.inside.Parts.{taker_from, PlannedIn, OrderedIn, order_carried, filled_in, counted_in, cancelled_in, reduced_in, shown_in};
+ghost use Rattle.flat_host.specs.inside.Turns.{LineSetIn, limited_in, raised_in};
+ghost use Rattle.flat_host.specs.inside.Levels.{ProbedIn};
+ghost use Rattle.flat_host.specs.inside.Opening.{OpensWith, limit_at};
+ghost use Rattle.flat_host.specs.Steps.{IsCommandOf, AnswersEach, StepsEach, KeepsLines, StaysUncrossed, ShowsEach, IsNextOf, FollowsOn, stands};
+ghost use Rattle.flat_host.specs.inside.Steps.{ChangesEach, FollowsEach};
 ghost use Rattle.flat_host.specs.Views.{TellsByView, FillsByView, ShowsByView, ShowsTruly};
 
 use crate::changes::{
@@ -53,7 +55,7 @@ impl Model for FlatHost {
 
     ghost Value = { FlatState };
 
-    ghost use Rattle.flat_host.specs.Host.{flat_state_of, IsHost};
+    ghost use Rattle.flat_host.specs.inside.Host.{flat_state_of, IsHost};
 
     ghost view = { flat_state_of };
 

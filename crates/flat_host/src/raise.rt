@@ -3,7 +3,8 @@ ghost use Rattle.fx_rules.specs.State.{orders_in};
 ghost use Rattle.fx_rules.specs.Sweep.{is_order};
 ghost use Rattle.flat_host.specs.FlatState.{AreWeights};
 ghost use Rattle.flat_host.specs.Parts.{both_lowered, uses_after};
-ghost use Rattle.flat_host.specs.Turns.{in_pair, TurnedIn, RaisedIn, TurnOf};
+ghost use Rattle.flat_host.specs.Turns.{in_pair, TurnedIn, RaisedIn};
+ghost use Rattle.flat_host.specs.inside.Turns.{TurnOf};
 
 use crate::changes::order_of;
 use crate::credit::{lines_of, make_fills, weight_of};

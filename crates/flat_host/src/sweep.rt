@@ -3,7 +3,7 @@ ghost use Rattle.fx_rules.specs.Lists.{total};
 ghost use Rattle.fx_rules.specs.State.{orders_in};
 ghost use Rattle.fx_rules.specs.Sweep.{is_open, is_preferred};
 ghost use Rattle.fx_rules.specs.Plan.{Planned, is_behind};
-ghost use Rattle.flat_host.specs.Search.{is_candidate, candidates, preferred_of, IsBestOf};
+ghost use Rattle.flat_host.specs.inside.Search.{is_candidate, candidates, preferred_of, IsBestOf};
 ghost use Rattle.flat_host.specs.Walks.{StepsOn};
 
 use fx_amounts::{Memory, Side};

@@ -25,12 +25,6 @@ pub record Unopened : Type 0 where
   pub table : TableId
   pub keys : ℕ
 
--- a table and a seat at it are those that were named, and there is a word
-pub record AtNamed (named table seat : TableId) : Type 0 where
-  pub table_is : table ≡ named
-  pub seat_is : seat ≡ named
-  pub word : 0 < named.words
-
 -- one front for each key below a number, in the order of the keys, that have seen nothing
 abbrev pub AreNew : {E : Type 0} → ℕ → List (Witness E) → Type 0
 AreNew keys fronts = (length fronts ≡ keys) × ((key : ℕ) → key < keys → slice_get fronts key ≡ Some (witness key []))

@@ -30,8 +30,10 @@ pub struct Writer<N: Naming, E: Keyed + Drop> {
 impl<N: Naming, E: Keyed + Drop> Model for Writer<N, E> {
     ghost use Rattle.std.specs.Prelude.{◌≡◌, ◌-◌, [], ◌∷◌, vec_len, vec_capacity};
     ghost use Rattle.std.specs.Arc.{arc_value};
-    ghost use Rattle.fx_chronicle.specs.Faces.{Chronicle, AtNamed};
-    ghost use Rattle.fx_chronicle.specs.Views.{writer, pending_of};
+    ghost use Rattle.fx_chronicle.specs.Faces.{Chronicle};
+    ghost use Rattle.fx_chronicle.specs.inside.Faces.{AtNamed};
+    ghost use Rattle.fx_chronicle.specs.Views.{writer};
+    ghost use Rattle.fx_chronicle.specs.inside.Views.{pending_of};
 
     ghost Value = { Chronicle E };
 

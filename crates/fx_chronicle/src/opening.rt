@@ -24,7 +24,8 @@ pub struct Blank<E: Keyed + Drop> {
 impl<E: Keyed + Drop> Model for Blank<E> {
     ghost use Rattle.std.specs.Prelude.{◌≡◌, ◌≤◌, [], ◌∷◌};
     ghost use Rattle.std.specs.Arc.{arc_value};
-    ghost use Rattle.fx_chronicle.specs.Faces.{Unopened, AtNamed};
+    ghost use Rattle.fx_chronicle.specs.Faces.{Unopened};
+    ghost use Rattle.fx_chronicle.specs.inside.Faces.{AtNamed};
     ghost use Rattle.fx_chronicle.specs.Views.{writer};
 
     ghost Value = { Unopened };

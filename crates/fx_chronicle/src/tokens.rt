@@ -30,8 +30,10 @@ impl<N: Naming, E: Keyed + Drop> Model for Front<N, E> {
     ghost use Rattle.std.specs.Prelude.{◌≡◌, [], ◌∷◌, length};
     ghost use mathlib.Core.List.{IsPrefix};
     ghost use Rattle.std.specs.Arc.{arc_value};
-    ghost use Rattle.fx_chronicle.specs.Faces.{Witness, AtNamed};
-    ghost use Rattle.fx_chronicle.specs.Views.{front, seen_of, met_of};
+    ghost use Rattle.fx_chronicle.specs.Faces.{Witness};
+    ghost use Rattle.fx_chronicle.specs.inside.Faces.{AtNamed};
+    ghost use Rattle.fx_chronicle.specs.Views.{front};
+    ghost use Rattle.fx_chronicle.specs.inside.Views.{seen_of, met_of};
 
     ghost Value = { Witness E };
 
@@ -117,7 +119,8 @@ pub struct Slip<N: Naming, E> {
 
 impl<N: Naming, E> Model for Slip<N, E> {
     ghost use Rattle.std.specs.Prelude.{◌≡◌, [], ◌∷◌, List, length};
-    ghost use Rattle.fx_chronicle.specs.Views.{slip, seen_of};
+    ghost use Rattle.fx_chronicle.specs.Views.{slip};
+    ghost use Rattle.fx_chronicle.specs.inside.Views.{seen_of};
 
     ghost Value = { List E };
 

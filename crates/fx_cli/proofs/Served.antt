@@ -33,9 +33,10 @@ use Rattle.fx_chronicle.specs.Faces.{Witness, no_session}
 use Rattle.gateway_workers.specs.declared.lane.Lane.{Lane}
 use Rattle.threaded_run.specs.Lanes.{HaveServed, CanServe as CanServeLanes}
 use Rattle.fx_cli.specs.Headline.{IsHeadline, IsSerial}
-use Rattle.fx_cli.specs.Rounds.{IsServed, IsHistoryOfText}
+use Rattle.fx_cli.specs.inside.Rounds.{IsServed, IsHistoryOfText}
 use Rattle.fx_cli.specs.Run.{RanText, Ran}
-use Rattle.fx_cli.specs.Status.{status_at, status_of, ending_of, written_status}
+use Rattle.fx_cli.specs.Status.{status_at, status_of, ending_of}
+use Rattle.fx_cli.specs.inside.Status.{written_status}
 use Rattle.fx_cli.specs.TopCall.{IsOutputOf}
 use Rattle.fx_cli.specs.declared.status.Status.{Status}
 use Rattle.fx_cli.specs.declared.status.Status.TheVariants.{ReadFault, Memory}

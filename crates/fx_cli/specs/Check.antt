@@ -24,11 +24,6 @@ unfoldable pub verdict_text : Verdict → List ℕ
 verdict_text Yes = codes "YES\n"
 verdict_text (No offset) = codes "NO " ++ numeral offset ++ 10 ∷ []
 
--- the status that a verdict ends with
-abbrev pub status_for : Verdict → Status
-status_for Yes = Done
-status_for (No offset) = Differs
-
 -- the status where the source was not read to its end
 abbrev pub halted : Halt → Status
 halted halts.ReadFault = ReadFault

@@ -1,6 +1,5 @@
 pub mod Status
 pub mod Headline
-pub mod Rounds
 pub mod Run
 pub mod Check
 pub mod TopCall
@@ -10,3 +9,4 @@ pub mod LoadCall
 pub mod CheckCall
 pub mod Answered
 pub mod Process
+pub mod inside

@@ -1,12 +1,10 @@
 -- The statuses that the program ends with: the code of each, and what it writes on standard error.
-use Rattle.std.specs.Prelude.{ℕ, List, [], ◌∷◌, ◌++◌, codes, Result, Ok, Err}
+use Rattle.std.specs.Prelude.{ℕ, List, [], ◌∷◌, ◌++◌, codes}
 use Rattle.fx_amounts.specs.Numeral.{numeral}
 use Rattle.session_head.specs.declared.reason.HeadReason.{HeadReason}
 use Rattle.session_head.specs.Reason.{reason_code}
 use Rattle.reply_lines.specs.declared.output.Ending.{Ending}
 use Rattle.reply_lines.specs.declared.output.Ending.TheVariants as endings
-use Rattle.reply_lines.specs.declared.output.OutFault.{OutFault}
-use Rattle.reply_lines.specs.declared.output.OutFault.TheVariants as faults
 use Rattle.session_script.specs.declared.ends.EarlyEnd.TheVariants as early
 use Rattle.session_script.specs.declared.ends.TextEnd.{TextEnd}
 use Rattle.session_script.specs.declared.ends.TextEnd.TheVariants.{EndLine, Early}
@@ -28,12 +26,6 @@ ending_of EndLine = endings.End
 ending_of (Early early.Cut) = endings.Cut
 ending_of (Early early.ReadFault) = endings.Read
 ending_of (Early early.TooMuch) = endings.Much
-
--- what it ends with where the output was written so
-abbrev pub written_status : {T : Type 0} → TextEnd → Result T OutFault → Status
-written_status end (Ok done) = status_at end
-written_status end (Err faults.Write) = WriteFault
-written_status end (Err faults.Memory) = Memory
 
 -- what it ends with where the reading stopped before START
 abbrev pub status_of : Stop → Status

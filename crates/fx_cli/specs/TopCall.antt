@@ -17,7 +17,7 @@ use Rattle.session_script.specs.declared.ends.TextEnd.{TextEnd}
 use Rattle.session_script.specs.declared.ends.TextEnd.TheVariants.{Early}
 use Rattle.fx_cli.specs.Status.{ending_of, err_text}
 use Rattle.fx_cli.specs.declared.status.Status.{Status}
-use Rattle.fx_cli.specs.declared.status.Status.TheVariants.{Done, Usage, Differs, WriteFault, Memory}
+use Rattle.fx_cli.specs.declared.status.Status.TheVariants.{Done, Differs, WriteFault, Memory}
 
 -- The run ended with this status exactly where the cause stands, unless it ended with one of `earlier`, whose causes
 -- come first, or for want of memory.
@@ -72,12 +72,6 @@ pub record IsSessionText (bytes : List ℕ) : Type 0 where
   pub session : Header
   pub header : HasSession bytes session
   pub ended : HasEnd (take input_limit bytes) ⊎ ((length bytes < input_limit) × EndsWithEnd bytes)
-
--- the words were refused, or not read for want of memory: nothing was read or written
-pub record Refused {S K : Type 0} (source source' : S) (out out' : K) (status : Status) : Type 0 where
-  pub usage : Among status (Usage ∷ Memory ∷ [])
-  pub unread : source' ≡ source
-  pub unwritten : out' ≡ out
 
 -- Standard error got the text of the status, or where its count of faults rose a prefix of it. At want of memory it got
 -- a prefix of the text of some status.

@@ -1,5 +1,6 @@
 ghost use Rattle.std.specs.Prelude.{◌≡◌, IfOk};
-ghost use Rattle.fx_cli.specs.Check.{HasTaken, Checked, ToldVerdict, verdict_text, status_for};
+ghost use Rattle.fx_cli.specs.Check.{HasTaken, Checked, ToldVerdict, verdict_text};
+ghost use Rattle.fx_cli.specs.inside.Check.{status_for};
 ghost use Rattle.fx_cli.specs.declared.check.Halt.TheVariants.{Memory as WantOfMemory};
 
 use crate::status::Status;

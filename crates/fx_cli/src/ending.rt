@@ -1,5 +1,6 @@
 ghost use Rattle.std.specs.Prelude.{◌≡◌};
-ghost use Rattle.fx_cli.specs.Status.{ending_of, status_at, written_status};
+ghost use Rattle.fx_cli.specs.Status.{ending_of, status_at};
+ghost use Rattle.fx_cli.specs.inside.Status.{written_status};
 
 use crate::status::Status;
 use reply_lines::{Ending, OutFault};

@@ -6,7 +6,7 @@ ghost use Rattle.session_script.specs.Rounds.{HasRead};
 ghost use Rattle.threaded_run.specs.Recorded.{key_count};
 ghost use Rattle.threaded_run.specs.Lanes.{HaveServed};
 ghost use Rattle.fx_cli.specs.Headline.{IsHeadline};
-ghost use Rattle.fx_cli.specs.Rounds.{AreServing, LanesServedText, ThreadsServedText};
+ghost use Rattle.fx_cli.specs.inside.Rounds.{AreServing, LanesServedText, ThreadsServedText};
 ghost use Rattle.fx_cli.specs.Run.{Ran};
 
 use crate::ending::{ending_of, written_status};

@@ -6,7 +6,7 @@ ghost use Rattle.pair_host.specs.Standing.{stands};
 ghost use Rattle.session_script.specs.Stage.{sent_at};
 ghost use Rattle.session_script.specs.Rounds.{HasRead};
 ghost use Rattle.fx_cli.specs.Headline.{IsSerial};
-ghost use Rattle.fx_cli.specs.Rounds.{IsServing, ServedText};
+ghost use Rattle.fx_cli.specs.inside.Rounds.{IsServing, ServedText};
 ghost use Rattle.fx_cli.specs.Run.{Ran};
 
 use crate::ending::{ending_of, written_status};

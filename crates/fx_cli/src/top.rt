@@ -5,7 +5,8 @@ ghost use Rattle.fx_cli.specs.Headline.{IsHeadline, IsSerial};
 ghost use Rattle.fx_cli.specs.Check.{Checked};
 ghost use Rattle.fx_cli.specs.Load.{Loaded};
 ghost use Rattle.fx_cli.specs.Run.{Ran};
-ghost use Rattle.fx_cli.specs.TopCall.{Refused, ToldErr};
+ghost use Rattle.fx_cli.specs.TopCall.{ToldErr};
+ghost use Rattle.fx_cli.specs.inside.TopCall.{Refused};
 
 use crate::check::check;
 use crate::load::load;

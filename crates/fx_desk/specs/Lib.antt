@@ -1,4 +1,4 @@
 pub mod Along
 pub mod Submitting
-pub mod Passing
 pub mod Streams
+pub mod inside

@@ -21,7 +21,7 @@ pub struct Pass<N: Naming> {
 impl<N: Naming> Model for Pass<N> {
     ghost use Rattle.fx_rules.specs.declared.outcome.Entry.{Entry};
     ghost use Rattle.fx_chronicle.specs.Faces.{Witness};
-    ghost use Rattle.fx_desk.specs.Passing.{IsPass};
+    ghost use Rattle.fx_desk.specs.inside.Passing.{IsPass};
 
     ghost Value = { Witness Entry };
 

@@ -9,7 +9,8 @@ use Rattle.fx_disk.specs.declared.disk.DiskStop.TheVariants.{Failed, Memory}
 use Rattle.fx_disk.specs.declared.call.Call.{Call}
 use Rattle.fx_disk.specs.declared.call.Call.TheVariants.{Wrote, Broke, Synced}
 use Rattle.fx_disk.specs.Disk.{with_piece, Torn, TornBy, NoMore, Only, Called}
-use Rattle.fx_disk.specs.Model.{State, greatest_end, MayLeave, after_call, after_calls, Tape, start_of, state_now, state_at, MayLeaveIn, LeftSince, Added, AddedWrite}
+use Rattle.fx_disk.specs.Model.{State, greatest_end, MayLeave, after_call, after_calls, Tape, start_of, state_now, state_at, MayLeaveIn, LeftSince}
+use Rattle.fx_disk.specs.inside.Model.{Added, AddedWrite}
 use Rattle.fx_disk.specs.ModelLaws.{reads_may_leave}
 use Rattle.fx_disk.proofs.Images.{restored, restored_may_leave, restored_torn, torn_may_leave}
 

@@ -3,3 +3,4 @@ pub mod InMemory
 pub mod Model
 pub mod ModelLaws
 pub mod Untold
+pub mod inside

@@ -1,5 +1,5 @@
 -- A disk in memory: its calls since it was made, and what a crash may leave after each of them.
-use Rattle.std.specs.Prelude.{◌≡◌, ◌⊎◌, ℕ, ◌+◌, ◌<◌, ◌≤◌, max, List, [], ◌∷◌, ◌++◌, length, take, slice_index}
+use Rattle.std.specs.Prelude.{◌≡◌, ◌⊎◌, ℕ, ◌+◌, ◌<◌, ◌≤◌, max, List, [], ◌∷◌, length, take, slice_index}
 use Rattle.fx_disk.specs.declared.call.Call.{Call}
 use Rattle.fx_disk.specs.declared.call.Call.TheVariants.{Wrote, Broke, Synced}
 use Rattle.fx_disk.specs.Disk.{with_piece}
@@ -63,11 +63,3 @@ MayLeaveIn s image = MayLeave s.synced s.ranges image
 -- at some moment since `t`, a number of calls, a crash may have left this image
 abbrev pub LeftSince : Tape → ℕ → List ℕ → Type 0
 LeftSince tape t image = (n : ℕ) × (t ≤ n) × (n ≤ length tape.calls) × MayLeaveIn (state_at tape n) image
-
--- one call more
-abbrev pub Added : Tape → Call → Tape → Type 0
-Added before call now = now ≡ record before { calls = before.calls ++ call ∷ [] }
-
--- one write more, of these bytes
-abbrev pub AddedWrite : Tape → ℕ → List ℕ → Tape → Type 0
-AddedWrite before at bytes now = (piece : _) × (piece.items ≡ bytes) × Added before (Wrote at piece) now

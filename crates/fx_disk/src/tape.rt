@@ -1,6 +1,7 @@
 ghost use Rattle.std.specs.Prelude.{◌≡◌, ◌+◌, ◌<◌, ◌≤◌, ◌++◌, [], ◌∷◌, length, take, drop, IfOk, OnOk, OnErr, MatchOption, min};
 ghost use Rattle.fx_disk.specs.Disk.{with_piece};
-ghost use Rattle.fx_disk.specs.Model.{state_now, Added, AddedWrite};
+ghost use Rattle.fx_disk.specs.Model.{state_now};
+ghost use Rattle.fx_disk.specs.inside.Model.{Added, AddedWrite};
 
 use crate::call::Call;
 use std::alloc::{AllocError, Global};

@@ -21,9 +21,10 @@ use Rattle.pair_steps.specs.Carries.{entry_of}
 use Rattle.credit_book.specs.Recorded.{Recorded, IsCreditBook, key_count, recorded, signed_by}
 use Rattle.credit_book.specs.Serving.{IsServed}
 use Rattle.credit_book.proofs.Entering.{goes_on}
-use Rattle.pair_shards.specs.Shards.{AreOfLast, PairsPend}
+use Rattle.pair_shards.specs.Shards.{AreOfLast}
+use Rattle.pair_shards.specs.inside.Shards.{PairsPend}
 use Rattle.pair_shards.proofs.Lines.{line_pends, pair_signs, of_last}
-use Rattle.fx_host.specs.Changing.{IsLast, IsPlanned}
+use Rattle.fx_host.specs.inside.Changing.{IsLast, IsPlanned}
 
 -- ---- planned
 

@@ -4,7 +4,7 @@ use Rattle.std.proofs.lemmas.List.{length-take-le, length-drop}
 use Rattle.fx_rules.specs.declared.outcome.Entry.{Entry}
 use Rattle.fx_rules.specs.Keyed.{pair_key}
 use Rattle.fx_chronicle.specs.Faces.{Witness, witness, AreNew}
-use Rattle.fx_host.specs.Opening.{ArePairFronts}
+use Rattle.fx_host.specs.inside.Opening.{ArePairFronts}
 
 get-take : {X : Type 0} (xs : List X) (n k : ℕ) → k < n → slice_get (take n xs) k ≡ slice_get xs k
 get-take [] zero k below = refl

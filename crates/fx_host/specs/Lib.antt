@@ -1,3 +1,2 @@
-pub mod Changing
 pub mod Closing
-pub mod Opening
+pub mod inside

@@ -9,8 +9,8 @@ ghost use Rattle.fx_chronicle.specs.Touching.{pends};
 ghost use Rattle.credit_raise.specs.UnderWay.{IsUnderWay, command_of};
 ghost use Rattle.credit_book.specs.Recorded.{IsCreditBook, signed_by};
 ghost use Rattle.credit_book.specs.Serving.{IsServed};
-ghost use Rattle.pair_shards.specs.Shards.{PairsPend};
-ghost use Rattle.fx_host.specs.Changing.{IsLast, IsPlanned};
+ghost use Rattle.pair_shards.specs.inside.Shards.{PairsPend};
+ghost use Rattle.fx_host.specs.inside.Changing.{IsLast, IsPlanned};
 
 use crate::locks::{lock_pair, pair_at};
 use credit_book::{CreditBook, Pass};

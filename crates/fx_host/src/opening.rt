@@ -2,7 +2,7 @@ ghost use Rattle.std.specs.Prelude.{◌≡◌, ◌+◌, length, IfOk};
 ghost use Rattle.fx_rules.specs.Session.{IsSession, pair_count, sender_count};
 ghost use Rattle.fx_chronicle.specs.Faces.{AreNew};
 ghost use Rattle.credit_book.specs.Recorded.{key_count};
-ghost use Rattle.fx_host.specs.Opening.{ArePairFronts};
+ghost use Rattle.fx_host.specs.inside.Opening.{ArePairFronts};
 
 use crate::host::{Host, ShardRoom};
 use crate::locks::pair_at;

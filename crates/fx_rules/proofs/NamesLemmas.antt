@@ -1,7 +1,8 @@
 -- How a name is stored.
 use Rattle.std.proofs.Common.{◌≡◌, ◌++◌, ◌-◌, ℕ, List, length, take, drop, replicate, IsTrue, ap, ◌∙◌}
 use Rattle.std.proofs.lemmas.List.{take_at, drop-replicate}
-use Rattle.fx_rules.specs.Names.{StoresName, padded, is_name}
+use Rattle.fx_rules.specs.Names.{padded, is_name}
+use Rattle.fx_rules.specs.inside.Names.{StoresName}
 
 zeros_behind : (text : List ℕ) → drop (length text) (replicate {A = ℕ} 8 0) ≡ replicate (8 - length text) 0
 zeros_behind text = drop-replicate (length text) 8 0

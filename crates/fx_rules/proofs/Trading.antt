@@ -10,7 +10,7 @@ use Rattle.fx_rules.specs.Sweep.{filled}
 use Rattle.fx_rules.specs.Step.{fills_of}
 use Rattle.fx_rules.specs.History.{IsStep, Steps, IsLegal, after_entry, after_all, state}
 use Rattle.fx_rules.specs.Sound.{IsSound}
-use Rattle.fx_rules.specs.Trade.{IsTrade}
+use Rattle.fx_rules.specs.inside.Trade.{IsTrade}
 use Rattle.fx_rules.proofs.ListLemmas.{Each-append}
 use Rattle.fx_rules.proofs.Soundness.{after-sound, opening-sound}
 use Rattle.fx_rules.proofs.Falling.{changed-fills}

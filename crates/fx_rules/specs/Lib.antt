@@ -10,7 +10,6 @@ pub mod Step
 pub mod Truthful
 pub mod History
 pub mod Sound
-pub mod Trade
 pub mod Plan
 pub mod NoCross
 pub mod View
@@ -18,3 +17,4 @@ pub mod Market
 pub mod Sending
 pub mod Laws
 pub mod Keyed
+pub mod inside

@@ -38,13 +38,6 @@ HasSent bank count h S = count_of S bank ≡ count
 abbrev pub next_entry : State → ℕ → Command → Outcome → Entry
 next_entry S bank command outcome = record { bank = bank; number = count_of S bank + 1; command = command; outcome = outcome }
 
--- Each legal history that led to a state for which it stood goes on, legally, with these entries, and it stands for the state
--- after them.
-abbrev pub EntriesGoOn : (Header → State → Type 0) → (Header → State → Type 0) → List Entry → Type 0
-EntriesGoOn stood stands entries =
-    (h : Header) (H : List Entry) → IsLegal h H → stood h (state h H) →
-    IsLegal h (H ++ entries) × stands h (state h (H ++ entries))
-
 -- the same of the one entry that a sender's next command makes
 abbrev pub GoesOn : (Header → State → Type 0) → (Header → State → Type 0) → ℕ → Command → Outcome → Type 0
 GoesOn stood stands bank command outcome =

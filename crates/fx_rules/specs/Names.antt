@@ -1,5 +1,5 @@
 -- The texts of banks' names and of currency codes, as lists of bytes.
-use Rattle.std.specs.Prelude.{ℕ, Bool, false, ◌&&◌, ◌||◌, ◌-◌, not, nat_le, List, [], ◌∷◌, ◌++◌, ◌≡◌, IsTrue, length, slice_index, replicate, take, codes, bytes_eq}
+use Rattle.std.specs.Prelude.{ℕ, Bool, false, ◌&&◌, ◌||◌, ◌-◌, not, nat_le, List, [], ◌∷◌, ◌++◌, length, slice_index, replicate, codes, bytes_eq}
 use Rattle.std.specs.Char.{is_ascii_digit, is_ascii_uppercase}
 use Rattle.std.specs.List.{list_all}
 
@@ -26,9 +26,3 @@ is_code _ = false
 -- a text with zeros behind it, up to eight bytes
 abbrev pub padded : List ℕ → List ℕ
 padded text = text ++ replicate (8 - length text) 0
-
--- the first `len` bytes are a name, and zeros stand behind it
-pub record StoresName (bytes : List ℕ) (len : ℕ) : Type 0 where
-  pub size : length (take len bytes) ≡ len
-  pub padding : padded (take len bytes) ≡ bytes
-  pub name : IsTrue (is_name (take len bytes))

@@ -15,7 +15,8 @@ pub struct Name {
 
 impl Model for Name {
     ghost use Rattle.std.specs.Prelude.{ℕ, List, take, length};
-    ghost use Rattle.fx_rules.specs.Names.{padded, StoresName};
+    ghost use Rattle.fx_rules.specs.Names.{padded};
+    ghost use Rattle.fx_rules.specs.inside.Names.{StoresName};
 
     ghost Value = { List ℕ };
 

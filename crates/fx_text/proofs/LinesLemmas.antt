@@ -8,7 +8,7 @@ use Rattle.std.proofs.lemmas.List.Sums.{count_by-le-length}
 use Rattle.std.specs.Str.Lines.{strip_carriage_return}
 use Rattle.fx_text.specs.Fields.{first_field}
 use Rattle.fx_text.specs.Lines.{parts_of, all_but_last, last_of, line_of, lines_of, rest_of, held_of, is_end_rest}
-use Rattle.fx_text.specs.Held.{IsHeld}
+use Rattle.fx_text.specs.inside.Held.{IsHeld}
 use Rattle.fx_text.specs.declared.line.Line.{Line}
 use Rattle.fx_text.specs.declared.line.Line.TheVariants.{Long}
 use Rattle.fx_text.proofs.PartsLemmas.{Unbroken, Unbroken-last, all_but_last-split_append, last_of-split_append, slice_split-last_passes, slice_split-last_fails, slice_split-onto_front, slice_split-put_back, onto_front}

@@ -12,7 +12,8 @@ use Rattle.std.specs.List.{list_all}
 use Rattle.std.specs.Str.Parse.{digits_value}
 use Rattle.fx_amounts.specs.Numeral.{numeral, is_numeral}
 use Rattle.fx_amounts.proofs.NumeralLemmas.{is_numeral-numeral, digits_value-numeral, numeral-digits_value, byte-digit_value, decimal-numeral}
-use Rattle.fx_text.specs.Number.{number_of, begins_a_numeral, signed_numeral}
+use Rattle.fx_text.specs.Number.{number_of, signed_numeral}
+use Rattle.fx_text.specs.inside.Number.{begins_a_numeral}
 
 -- a numeral in the range is read as its number
 pub number_of-numeral : (least most value : ℕ) → least ≤ value → value ≤ most → number_of least most (numeral value) ≡ Some value

@@ -1,4 +1,4 @@
 pub mod Fields
-pub mod Held
 pub mod Lines
 pub mod Number
+pub mod inside

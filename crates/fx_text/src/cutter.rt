@@ -1,6 +1,6 @@
 ghost use Rattle.std.specs.Prelude.{◌≡◌, ◌≤◌, [], ◌∷◌, ◌++◌, List, ℕ, take, vec_len, IfOk, OnOk, OnErr};
 ghost use Rattle.fx_text.specs.Lines.{lines_of, held_of, is_end_rest, rest_of};
-ghost use Rattle.fx_text.specs.Held.{IsHeld};
+ghost use Rattle.fx_text.specs.inside.Held.{IsHeld};
 
 use crate::field::Fields;
 use crate::line::{Line, MOST_BYTES};
@@ -22,7 +22,7 @@ impl Model for LineCutter {
 
     ghost Value = { List ℕ };
 
-    ghost use Rattle.fx_text.specs.Held.{IsHeld};
+    ghost use Rattle.fx_text.specs.inside.Held.{IsHeld};
 
     ghost view = { λ c. c.held };
 

@@ -1,7 +1,8 @@
 ghost use Rattle.std.specs.Prelude.{◌≡◌, ℕ, ◌+◌, ◌-◌, ◌*◌, ◌^◌, ◌<◌, ◌≤◌, IfSome, IsTrue, SomeIff};
 ghost use Rattle.std.specs.Char.{is_ascii_digit};
 ghost use Rattle.fx_amounts.specs.Numeral.{numeral};
-ghost use Rattle.fx_text.specs.Number.{number_of, begins_a_numeral};
+ghost use Rattle.fx_text.specs.Number.{number_of};
+ghost use Rattle.fx_text.specs.inside.Number.{begins_a_numeral};
 
 /// The number from `least` to `most` that a text writes: decimal digits, without a leading zero other than in
 /// `0` itself. `None` where the text is no such number. The text may be of any length.

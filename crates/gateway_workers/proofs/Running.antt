@@ -13,7 +13,7 @@ use Rattle.fx_chronicle.proofs.Prefixes.{prefix_self, prefix_trans}
 use Rattle.fx_desk.specs.Submitting.{next_own, Submitted}
 use Rattle.gateway_workers.specs.declared.lane.Lane.{Lane}
 use Rattle.gateway_workers.specs.Lanes.{IsReadyLane, AreNumbered, LaneRan, IsDone, IsBehind}
-use Rattle.gateway_workers.specs.Serving.{IsUnderWay, RunsOn, AllRunOn, AllLanesRan}
+use Rattle.gateway_workers.specs.inside.Serving.{IsUnderWay, RunsOn, AllRunOn, AllLanesRan}
 
 numbered-push : (bank before : ℕ) (entries : List Entry) (e : Entry) → AreNumbered bank before entries → e.bank ≡ bank → e.number ≡ before + length entries + 1 → AreNumbered bank before (entries ++ e ∷ [])
 numbered-push bank before [] e numbered its number = (its, omega (arith, number), tt)

@@ -1,2 +1,2 @@
 pub mod Lanes
-pub mod Serving
+pub mod inside

@@ -1,7 +1,7 @@
 ghost use Rattle.std.specs.Prelude.{◌≡◌, ◌<◌, ◌≤◌, ◌↔◌, IsTrue, length, All, Any, OnOk, OnErr};
 ghost use Rattle.std.specs.List.{AllZip};
 ghost use Rattle.gateway_workers.specs.Lanes.{IsReadyLane, LaneRan, IsDone, IsBehind};
-ghost use Rattle.gateway_workers.specs.Serving.{IsUnderWay, RunsOn, AllRunOn, AllLanesRan};
+ghost use Rattle.gateway_workers.specs.inside.Serving.{IsUnderWay, RunsOn, AllRunOn, AllLanesRan};
 
 use crate::lane::Lane;
 use fx_amounts::Memory;

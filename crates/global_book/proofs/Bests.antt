@@ -9,8 +9,8 @@ use Rattle.fx_rules.specs.Sweep.{is_preferred, IsBest}
 use Rattle.fx_rules.proofs.ListLemmas.{Among-filter, among_filter, filter_cons_false}
 use Rattle.price_levels.specs.declared.place.Place.{Place}
 use Rattle.order_store.specs.Orders.{Orders}
-use Rattle.global_book.specs.Rows.{flat}
-use Rattle.global_book.specs.Search.{IsFoundAt, IsFoundIn}
+use Rattle.global_book.specs.inside.Rows.{flat}
+use Rattle.global_book.specs.inside.Search.{IsFoundAt, IsFoundIn}
 use Rattle.global_book.proofs.Flat.{among_flat, flat_among}
 use Rattle.global_book.proofs.Lifting.{each_from}
 

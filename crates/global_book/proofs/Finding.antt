@@ -11,7 +11,7 @@ use Rattle.access_index.specs.Sides.{OwnRows}
 use Rattle.order_store.specs.declared.store.OrderKey.{OrderKey}
 use Rattle.order_store.specs.Orders.{Orders, order_at, IsOf, Lacks}
 use Rattle.global_book.specs.Book.{Book, IsBook, first}
-use Rattle.global_book.specs.Rows.{flat, AreResting, IsKept}
+use Rattle.global_book.specs.inside.Rows.{flat, AreResting, IsKept}
 use Rattle.global_book.proofs.Flat.{among_flat, flat_among}
 use Rattle.global_book.proofs.Rowing.{some_same}
 use Rattle.global_book.proofs.Lifting.{IsBook-resting, is_order-yes, yes-is_order, first-found, first-none}

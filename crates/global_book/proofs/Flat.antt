@@ -5,7 +5,7 @@ use Rattle.fx_rules.specs.declared.orders.Resting.{Resting}
 use Rattle.fx_rules.specs.Lists.{Among, Each, EachPair}
 use Rattle.fx_rules.specs.Sound.{ArrivesBefore}
 use Rattle.fx_rules.proofs.ListLemmas.{Each-among, Each-weaker}
-use Rattle.global_book.specs.Rows.{placed, flat}
+use Rattle.global_book.specs.inside.Rows.{placed, flat}
 
 some_same : (a b : Resting) → Some a ≡ Some b → a ≡ b
 some_same a b same = cc

@@ -16,7 +16,7 @@ use Rattle.access_index.specs.Sides.{OwnRows, RowGains, RowLoses, RowGrows}
 use Rattle.access_index.specs.Owned.{row_at, OwnerGains, OwnerLoses, OwnersGrow}
 use Rattle.access_index.proofs.Rows.{both}
 use Rattle.global_book.specs.Book.{is_of}
-use Rattle.global_book.specs.Rows.{place_in, its_price, no_price, AreResting, is_own, IsOwnRow, IsBankRow, IsKept}
+use Rattle.global_book.specs.inside.Rows.{place_in, its_price, no_price, AreResting, is_own, IsOwnRow, IsBankRow, IsKept}
 use Rattle.global_book.proofs.Rowing.{row_gained, row_passed, row_lowered, row_lost, row_left, row_same, row_new_arrival, resting_added, resting_lowered, resting_removed, resting_same}
 
 -- the rows of all banks

@@ -19,8 +19,8 @@ use Rattle.access_index.proofs.Rows.{bank_within}
 use Rattle.order_store.specs.Levels.{is_at, slot_lots, lots_where}
 use Rattle.order_store.specs.Orders.{Orders, order_at}
 use Rattle.global_book.specs.Book.{IsLevel, IsLevelOf, is_level, is_of, is_worse, is_worse_of, level_lots}
-use Rattle.global_book.specs.Rows.{flat, placed, place_in, its_price, is_own, IsKept}
-use Rattle.global_book.specs.Search.{end_of}
+use Rattle.global_book.specs.inside.Rows.{flat, placed, place_in, its_price, is_own, IsKept}
+use Rattle.global_book.specs.inside.Search.{end_of}
 use Rattle.global_book.proofs.Flat.{among_flat, flat_among}
 use Rattle.global_book.proofs.Lifting.{each_from}
 use Rattle.global_book.proofs.Searching.{better_same, order_of}

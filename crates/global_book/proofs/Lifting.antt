@@ -9,7 +9,7 @@ use Rattle.fx_rules.specs.Sweep.{is_order}
 use Rattle.fx_rules.proofs.ListLemmas.{Each-among, EachPair-push, EachPair-filter, Among-filter, among_filter, Among-map}
 use Rattle.order_store.specs.Orders.{Orders, order_at, Changes, IsOf}
 use Rattle.global_book.specs.Book.{Book, IsHeld, IsBook, first, relotted}
-use Rattle.global_book.specs.Rows.{flat, AreResting}
+use Rattle.global_book.specs.inside.Rows.{flat, AreResting}
 use Rattle.global_book.proofs.Flat.{AreApart, Rises, Rises-arrives, among_flat, flat_among, flat_rises, flat_is}
 use Rattle.global_book.proofs.Rowing.{some_same, not_vacant, changed_is}
 

@@ -14,7 +14,7 @@ use Rattle.access_index.specs.Sides.{OwnRows}
 use Rattle.access_index.specs.Owned.{row_at, OwnerGains, OwnerLoses}
 use Rattle.access_index.proofs.Rows.{both}
 use Rattle.global_book.specs.Book.{Book, room_for, HasRoom, KeepsRoom, TakesRoom}
-use Rattle.global_book.specs.Rows.{room_in, rooms_from}
+use Rattle.global_book.specs.inside.Rows.{room_in, rooms_from}
 
 -- the rooms of all banks
 abbrev pub rooms : Orders → List OwnRows → List Ladder → List (ℕ × ℕ)

@@ -8,7 +8,7 @@ use Rattle.price_levels.specs.declared.place.Place.{Place}
 use Rattle.price_levels.specs.Ladder.{Ladder, IsNewArrival}
 use Rattle.order_store.specs.Orders.{Orders, order_at, AreOrders, Changes}
 use Rattle.access_index.specs.Sides.{RowGains, RowLoses, RowGrows}
-use Rattle.global_book.specs.Rows.{place_in, IsPlaced, IsRow, AreResting}
+use Rattle.global_book.specs.inside.Rows.{place_in, IsPlaced, IsRow, AreResting}
 
 pub some_same : (a b : Resting) → Some a ≡ Some b → a ≡ b
 some_same a b same = cc

@@ -24,8 +24,8 @@ use Rattle.access_index.proofs.Listing.{listed-few, listed-rises, listed_has, ro
 use Rattle.order_store.specs.Orders.{Orders, order_at}
 use Rattle.global_book.specs.Book as book
 use Rattle.global_book.specs.Book.{AreOwners, is_of, is_owned, is_sought, standing_at}
-use Rattle.global_book.specs.Rows.{flat, place_in, its_price, IsKept}
-use Rattle.global_book.specs.Search.{IsFoundIn}
+use Rattle.global_book.specs.inside.Rows.{flat, place_in, its_price, IsKept}
+use Rattle.global_book.specs.inside.Search.{IsFoundIn}
 use Rattle.global_book.proofs.Flat.{among_flat, flat_among}
 use Rattle.global_book.proofs.Rowing.{some_same}
 use Rattle.global_book.proofs.Keeping.{own_there}

@@ -10,7 +10,7 @@ use Rattle.price_levels.specs.Ladder.{Ladder, sorts_before, IsSorted, first_wher
 use Rattle.price_levels.proofs.Firsts.{first_found, first_none}
 use Rattle.order_store.specs.Orders.{Orders, order_at}
 use Rattle.global_book.specs.Book.{first, is_of, is_of_from}
-use Rattle.global_book.specs.Rows.{flat, place_in, no_price, AreResting, IsBankRow}
+use Rattle.global_book.specs.inside.Rows.{flat, place_in, no_price, AreResting, IsBankRow}
 use Rattle.global_book.proofs.Rowing.{some_same}
 use Rattle.global_book.proofs.Lifting.{first-found, first-none}
 

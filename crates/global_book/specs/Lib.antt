@@ -1,3 +1,2 @@
 pub mod Book
-pub mod Rows
-pub mod Search
+pub mod inside

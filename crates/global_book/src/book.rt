@@ -5,8 +5,8 @@ ghost use Rattle.fx_amounts.specs.Side.{opposite};
 ghost use Rattle.fx_rules.specs.Lists.{Each};
 ghost use Rattle.fx_rules.specs.Sweep.{IsBest, is_order};
 ghost use Rattle.global_book.specs.Book.{AreInTime, AreOwners, HasRoom, IsLevelOf, KeepsRoom, IsBook, IsPlaceOf, Rests, RestsAbove, first, is_of, is_of_from, TakesRoom, owned, relotted, sought};
-ghost use Rattle.global_book.specs.Search.{end_of};
-ghost use Rattle.global_book.specs.Rows.{IsEmptyRow, place_in, its_price};
+ghost use Rattle.global_book.specs.inside.Search.{end_of};
+ghost use Rattle.global_book.specs.inside.Rows.{IsEmptyRow, place_in, its_price};
 
 use access_index::{Owners, best_of};
 use fx_amounts::{BankId, Lots, Memory, PairId, Price, Side};
@@ -31,7 +31,7 @@ pub struct PairBook {
 
 impl Model for PairBook {
     ghost use Rattle.global_book.specs.Book.{Book};
-    ghost use Rattle.global_book.specs.Rows.{IsKept, flat, rooms_from};
+    ghost use Rattle.global_book.specs.inside.Rows.{IsKept, flat, rooms_from};
 
     ghost Value = { Book };
 

@@ -6,7 +6,7 @@ ghost use Rattle.fx_rules.specs.Lists.{Each};
 ghost use Rattle.fx_rules.specs.Sending.{IsSentOf};
 ghost use Rattle.fx_rules.specs.Session.{Header, bank_count, pair_count, sender_count};
 ghost use Rattle.credit_book.specs.Recorded.{key_count};
-ghost use Rattle.host_trials.specs.Passes.{AreOfBanks};
+ghost use Rattle.host_trials.specs.inside.Passes.{AreOfBanks};
 
 use crate::fixture::{ALFA, BETA, EURUSD, GAMA, GBPUSD, bank, lots, pair, price, session};
 use flat_host::FlatHost;

@@ -11,8 +11,8 @@ use Rattle.reply_lines.specs.Output.{IsDayText}
 use Rattle.reply_lines.specs.declared.output.OutFault.{OutFault}
 use Rattle.reply_lines.specs.declared.output.OutFault.TheVariants.{Write}
 use Rattle.journal_check.specs.Compared.{beginning}
-use Rattle.journal_check.specs.Comparing.{Comparing, taken, told, IsComparing, Differs}
-use Rattle.journal_check.specs.Stops.{end_of, Answers, IsComparedWith}
+use Rattle.journal_check.specs.inside.Comparing.{Comparing, taken, told, IsComparing, Differs}
+use Rattle.journal_check.specs.inside.Stops.{end_of, Answers, IsComparedWith}
 
 -- A text beside another one
 

@@ -9,7 +9,7 @@ use Rattle.session_head.specs.declared.reason.HeadStep.TheVariants.{More, Start}
 use Rattle.session_head.specs.declared.reason.HeadStop.TheVariants.{Fault}
 use Rattle.journal_check.specs.Lines.{LineAt, behind, is_long, lines_from}
 use Rattle.journal_check.specs.Listed.{headed, header_in}
-use Rattle.journal_check.specs.Stops.{IsReadAt, IsStopAt, Missing, TooLong, ReadsLine, Answers}
+use Rattle.journal_check.specs.inside.Stops.{IsReadAt, IsStopAt, Missing, TooLong, ReadsLine, Answers}
 use Rattle.journal_check.specs.declared.header.Headed.{Headed}
 use Rattle.journal_check.specs.declared.line.ReadLine.{ReadLine}
 use Rattle.journal_check.specs.declared.stop.Stop.{Stop}

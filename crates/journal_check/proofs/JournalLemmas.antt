@@ -11,7 +11,7 @@ use Rattle.journal_check.specs.Lines.{LineAt, is_long, lines_from}
 use Rattle.fx_rules.specs.declared.command.Command.{Command}
 use Rattle.fx_rules.specs.declared.command.Sent.{Sent}
 use Rattle.journal_check.specs.Listed.{counted, count_told, count_of, said_by, sent_in, commands_in}
-use Rattle.journal_check.specs.Stops.{IsReadAt, IsStopAt, Missing, TooLong, ReadsLine, Answers, AnswersBy}
+use Rattle.journal_check.specs.inside.Stops.{IsReadAt, IsStopAt, Missing, TooLong, ReadsLine, Answers, AnswersBy}
 use Rattle.journal_check.specs.declared.line.ReadLine.{ReadLine}
 use Rattle.journal_check.specs.declared.stop.Stop.{Stop}
 use Rattle.journal_check.specs.declared.stop.Stop.TheVariants.{Wrong, Memory}

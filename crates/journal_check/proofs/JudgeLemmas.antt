@@ -9,7 +9,7 @@ use Rattle.journal_check.specs.Listed.{Listed, ◌>>=◌, header_in, count_of, c
 use Rattle.journal_check.specs.Compared.{beginning}
 use Rattle.fx_rules.specs.Sending.{sent_by}
 use Rattle.journal_check.specs.Verdict.{last_in, last_behind, day_verdict, IsJudged, IsVerdict, IsVerdictOn}
-use Rattle.journal_check.specs.Stops.{Answers, AnswersBy, IsComparedWith, Judges}
+use Rattle.journal_check.specs.inside.Stops.{Answers, AnswersBy, IsComparedWith, Judges}
 use Rattle.journal_check.specs.declared.check.Verdict.{Verdict}
 use Rattle.journal_check.specs.declared.check.Verdict.TheVariants.{No}
 use Rattle.journal_check.specs.declared.header.Headed.{Headed}

@@ -10,7 +10,7 @@ use Rattle.fx_text.specs.Lines.{parts_of, all_but_last, line_of}
 use Rattle.fx_text.specs.declared.line.Line.TheVariants.{Whole}
 use Rattle.session_head.proofs.StatementLemmas.{none_passes}
 use Rattle.journal_check.specs.Lines.{placed, lines_from}
-use Rattle.journal_check.specs.Stops.{IsLineAt}
+use Rattle.journal_check.specs.inside.Stops.{IsLineAt}
 
 abbrev pub is_line_feed : ℕ → Bool
 is_line_feed byte = eqb byte 10

@@ -1,7 +1,6 @@
 pub mod Lines
 pub mod Listed
 pub mod Compared
-pub mod Comparing
 pub mod Verdict
-pub mod Stops
 pub mod Laws
+pub mod inside

@@ -1,6 +1,6 @@
 ghost use Rattle.std.specs.Prelude.{◌≡◌, IfOk};
 ghost use Rattle.journal_check.specs.Verdict.{IsVerdict, IsSomeOutput};
-ghost use Rattle.journal_check.specs.Stops.{Judges};
+ghost use Rattle.journal_check.specs.inside.Stops.{Judges};
 
 use crate::compare::compare_day;
 use crate::header::read_header;

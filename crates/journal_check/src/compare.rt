@@ -1,7 +1,7 @@
 ghost use Rattle.std.specs.Prelude.{◌≡◌, ◌≢◌, ◌≤◌, ◌<◌, length, take, slice_get, Some, None, IfOk};
 ghost use Rattle.fx_rules.specs.History.{IsLegal, state};
-ghost use Rattle.journal_check.specs.Comparing.{told};
-ghost use Rattle.journal_check.specs.Stops.{IsComparedWith, end_of};
+ghost use Rattle.journal_check.specs.inside.Comparing.{told};
+ghost use Rattle.journal_check.specs.inside.Stops.{IsComparedWith, end_of};
 ghost use Rattle.pair_host.specs.Standing.{stands};
 
 use crate::stop::Stop;
@@ -25,7 +25,7 @@ struct Comparison<'a> {
 }
 
 impl<'a> Model for Comparison<'a> {
-    ghost use Rattle.journal_check.specs.Comparing.{Comparing, IsComparing};
+    ghost use Rattle.journal_check.specs.inside.Comparing.{Comparing, IsComparing};
 
     ghost Value = { Comparing };
 
@@ -35,7 +35,7 @@ impl<'a> Model for Comparison<'a> {
 }
 
 impl<'a> Comparison<'a> {
-    ghost use Rattle.journal_check.specs.Comparing.{IsComparing};
+    ghost use Rattle.journal_check.specs.inside.Comparing.{IsComparing};
 
     fn new(text: &'a [u8]) -> Comparison<'a>
         ensures { result ≡ record { text = text.now; at = 0; wrong = None; faults = 0 } }

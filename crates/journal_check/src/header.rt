@@ -2,7 +2,7 @@ ghost use Rattle.std.specs.Prelude.{◌≡◌, ◌≤◌, length, IfOk, Some};
 ghost use Rattle.session_head.specs.Head.{Begun, IsStarted, session_of};
 ghost use Rattle.journal_check.specs.Lines.{lines_from};
 ghost use Rattle.journal_check.specs.Listed.{header_in};
-ghost use Rattle.journal_check.specs.Stops.{Answers};
+ghost use Rattle.journal_check.specs.inside.Stops.{Answers};
 
 use crate::line::read_line;
 use crate::stop::Stop;

@@ -3,7 +3,7 @@ ghost use Rattle.market_run.specs.Running.{HasRun};
 ghost use Rattle.pair_host.specs.Standing.{stands};
 ghost use Rattle.journal_check.specs.Lines.{lines_from};
 ghost use Rattle.journal_check.specs.Listed.{count_of, count_told, commands_in, most_entries};
-ghost use Rattle.journal_check.specs.Stops.{Answers, AnswersBy};
+ghost use Rattle.journal_check.specs.inside.Stops.{Answers, AnswersBy};
 ghost use Rattle.fx_rules.specs.Sending.{sent_by};
 
 use crate::line::read_line;

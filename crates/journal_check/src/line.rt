@@ -2,7 +2,7 @@ ghost use Rattle.std.specs.Prelude.{◌≡◌, ◌≤◌, [], ◌==◌, length, 
 ghost use Rattle.std.specs.Str.Lines.{strip_carriage_return};
 ghost use Rattle.fx_text.specs.Lines.{line_of};
 ghost use Rattle.journal_check.specs.Lines.{lines_from};
-ghost use Rattle.journal_check.specs.Stops.{IsLineAt, ReadsLine};
+ghost use Rattle.journal_check.specs.inside.Stops.{IsLineAt, ReadsLine};
 
 use crate::stop::Stop;
 use fx_amounts::Memory;

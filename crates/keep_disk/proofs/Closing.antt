@@ -4,7 +4,7 @@ use Rattle.std.proofs.lemmas.List.{drop_at, drop_more, drop_all, length-take, ge
 use Rattle.std.proofs.lemmas.Bool.{cases_eq, cases_lt}
 use Rattle.fx_disk.specs.Disk.{with_piece, Torn, Only}
 use Rattle.keep_disk.specs.Blocks.{blocks_from, whole_blocks, space, IsClosedAt}
-use Rattle.keep_disk.specs.Keeping.{TornFrom}
+use Rattle.keep_disk.specs.inside.Keeping.{TornFrom}
 use Rattle.keep_disk.proofs.Reading.{blocks_closed, blocks_short, blocks_behind}
 
 module _ (file : List ℕ) (place : ℕ) (behind : place ≡ space (whole_blocks file)) (le : place ≤ length file) (end : blocks_from 0 (drop place file) ≡ []) where

@@ -7,7 +7,7 @@ use Rattle.fx_disk.specs.declared.disk.DiskStop.{DiskStop}
 use Rattle.fx_disk.specs.Disk.{WhereTold, with_piece, Torn, TornBy, NoMore, Only, Called, LeavesOnly}
 use Rattle.fx_disk.proofs.Leaving.{Torn-refl, leaves_at_start, leaves_weaker, leaves_then, leaves_call}
 use Rattle.keep_disk.specs.Blocks.{whole_blocks, IsClosedAt, HasOrLacks}
-use Rattle.keep_disk.specs.Keeping.{TornFrom, Untouched}
+use Rattle.keep_disk.specs.inside.Keeping.{TornFrom, Untouched}
 use Rattle.keep_disk.proofs.Appending.{staged, staged_torn, gate_torn}
 
 -- A write, and then a sync

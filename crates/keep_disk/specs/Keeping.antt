@@ -1,7 +1,7 @@
 -- A disk between two calls of a keeper.
-use Rattle.std.specs.Prelude.{◌≡◌, ℕ, ◌≤◌, List, Option, Result, IsErrOf}
+use Rattle.std.specs.Prelude.{ℕ, ◌≤◌, List, Option, Result, IsErrOf}
 use Rattle.fx_edges.specs.Faults.{Rose}
-use Rattle.fx_disk.specs.Disk.{WhereTold, NoMore, Only, Torn, LeavesOnly}
+use Rattle.fx_disk.specs.Disk.{WhereTold, Only}
 use Rattle.keep_disk.specs.declared.write.KeepFault.{KeepFault}
 use Rattle.keep_disk.specs.declared.write.KeepFault.TheVariants.{Disk}
 use Rattle.keep_disk.specs.Blocks.{IsClosedAt}
@@ -10,19 +10,7 @@ use Rattle.keep_disk.specs.Blocks.{IsClosedAt}
 abbrev pub AtRest : {D : Type 0} → (D → Option (List ℕ)) → (D → List ℕ → Type 0) → D → ℕ → Type 0
 AtRest bytes may_leave disk place = WhereTold (bytes disk) (λ file. IsClosedAt file place × Only file (may_leave disk))
 
--- one of these images, after a write of n bytes that a crash cut short
-abbrev pub TornFrom : ℕ → ℕ → (List ℕ → Type 0) → List ℕ → Type 0
-TornFrom at n images image = (old : List ℕ) × images old × Torn at n old image
-
 -- the count didn't fall, and rose where the call answers a fault of the disk
 pub record HasCause {D T : Type 0} (faults : D → ℕ) (before now : D) (result : Result T KeepFault) : Type 0 where
   pub count : faults before ≤ faults now
   pub cause : IsErrOf result Disk → Rose (faults before) (faults now)
-
--- Calls since `before` left the bytes as they were and added no image.
-pub record Untouched {D : Type 0} (bytes : D → Option (List ℕ)) (may_leave : D → List ℕ → Type 0) (moment : D → ℕ)
-    (left_since : D → ℕ → List ℕ → Type 0) (faults : D → ℕ) (before now : D) : Type 0 where
-  pub same : bytes now ≡ bytes before
-  pub no_more : NoMore (may_leave before) (may_leave now)
-  pub every_moment : LeavesOnly moment left_since before now (may_leave before)
-  pub count : faults before ≤ faults now

@@ -1,3 +1,4 @@
 pub mod Blocks
 pub mod Keeping
 pub mod Rounds
+pub mod inside

@@ -1,7 +1,8 @@
 ghost use Rattle.std.specs.Prelude.{◌≡◌, ℕ, ◌+◌, ◌<◌, ◌≤◌, [], ◌∷◌, List, length, take, drop, Option, IfSome, IfNone, IfOk, OnOk};
 ghost use Rattle.fx_disk.specs.Disk.{WhereTold, LeavesOnly};
 ghost use Rattle.keep_disk.specs.Blocks.{blocks_from, whole_blocks, space};
-ghost use Rattle.keep_disk.specs.Keeping.{Untouched, HasCause};
+ghost use Rattle.keep_disk.specs.Keeping.{HasCause};
+ghost use Rattle.keep_disk.specs.inside.Keeping.{Untouched};
 
 use crate::body::Body;
 use crate::keeper::OPEN;

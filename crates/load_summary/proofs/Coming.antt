@@ -13,7 +13,7 @@ use Rattle.market_run.specs.Running.{HasRun}
 use Rattle.made_session.specs.Totals.{fills_told, lots_told}
 use Rattle.pair_host.specs.Standing.{HostState, StandsFor, stands}
 use Rattle.load_summary.specs.declared.serial.SerialTotals.{SerialTotals}
-use Rattle.load_summary.specs.Summary.{ComesTo}
+use Rattle.load_summary.specs.inside.Summary.{ComesTo}
 
 pub comes-to : (h : Header) (sent : List Sent) (run : Ran HostState) (commands fills lots resting : ℕ) → HasRun stands h run → map sent_by run.entries ≡ sent
     → commands ≡ length run.entries → fills ≡ fills_told run.entries → lots ≡ lots_told run.entries

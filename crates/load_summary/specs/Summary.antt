@@ -1,36 +1,13 @@
 -- The summary of a load.
 use Rattle.std.specs.Prelude.{ℕ, ◌≡◌, List, [], ◌∷◌, length, map}
-use Rattle.fx_rules.specs.declared.command.Sent.{Sent}
 use Rattle.fx_rules.specs.declared.outcome.Entry.{Entry}
-use Rattle.fx_rules.specs.Session.{Header}
 use Rattle.fx_rules.specs.History.{IsLegal, state}
 use Rattle.fx_rules.specs.Sending.{sent_by}
 use Rattle.journal_check.specs.declared.check.Verdict.TheVariants.{Yes}
 use Rattle.made_session.specs.Session.{made_header}
 use Rattle.made_session.specs.Commands.{made_commands}
 use Rattle.made_session.specs.Totals.{fills_told, lots_told}
-use Rattle.load_summary.specs.declared.serial.SerialTotals.{SerialTotals}
 use Rattle.load_summary.specs.Lines.{three_lines}
-
--- as they are told
-abbrev pub counts_of : SerialTotals → List ℕ
-counts_of serial = serial.commands ∷ serial.fills ∷ serial.lots ∷ serial.resting ∷ []
-
--- what a history comes to
-abbrev pub told_of : Header → List Entry → SerialTotals
-told_of h history = record {
-  commands = length history;
-  fills = fills_told history;
-  lots = lots_told history;
-  resting = length (state h history).orders;
-}
-
--- so it came out of a legal history of these commands, in their order
-pub record ComesTo (h : Header) (sent : List Sent) (serial : SerialTotals) : Type 0 where
-  pub history : List Entry
-  pub legal : IsLegal h history
-  pub in_order : map sent_by history ≡ sent
-  pub tells : serial ≡ told_of h history
 
 -- The text of a load whose commands make so many fills of so many lots, and leave so many orders. On threads it has as many
 -- entries as commands, and the check says yes.

@@ -1,7 +1,7 @@
 ghost use Rattle.std.specs.Prelude.{◌≡◌, ◌∷◌, ◌++◌, IfOk, OnOk};
 ghost use Rattle.fx_amounts.specs.Numeral.{numeral};
 ghost use Rattle.load_summary.specs.Lines.{counts_line, verdict_word, threads_line, three_lines};
-ghost use Rattle.load_summary.specs.Summary.{counts_of};
+ghost use Rattle.load_summary.specs.inside.Summary.{counts_of};
 
 use crate::serial::SerialTotals;
 use crate::threaded::ThreadedCheck;

@@ -1,7 +1,7 @@
 ghost use Rattle.std.specs.Prelude.{◌≡◌, ◌<◌, ◌^◌, IfOk, length};
 ghost use Rattle.fx_rules.specs.Lists.{Each};
 ghost use Rattle.fx_rules.specs.Sending.{IsSentOf};
-ghost use Rattle.load_summary.specs.Summary.{counts_of, ComesTo};
+ghost use Rattle.load_summary.specs.inside.Summary.{counts_of, ComesTo};
 
 use fx_amounts::Memory;
 use fx_rules::{Sent, Session};

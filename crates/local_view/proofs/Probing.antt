@@ -33,7 +33,7 @@ use Rattle.global_book.specs.Book.{Book}
 use Rattle.credit_lines.specs.Credit.{Credit}
 use Rattle.match_sweep.specs.Reaches.{IsReached, IsUnlimited}
 use Rattle.match_sweep.specs.Sweeps.{Fits, IsLevelled}
-use Rattle.local_view.specs.LocalBook.{IsShown}
+use Rattle.local_view.specs.inside.LocalBook.{IsShown}
 
 -- ---- orders of no command that rests
 

@@ -1,1 +1,2 @@
 pub mod LocalBook
+pub mod inside

@@ -1,6 +1,7 @@
 ghost use Rattle.std.specs.Prelude.{◌≡◌, ◌<◌, IfOk};
 ghost use Rattle.fx_amounts.specs.Quantity.{IsWeight};
-ghost use Rattle.local_view.specs.LocalBook.{IsLegalLocalBook, IsLocalBook, IsShown};
+ghost use Rattle.local_view.specs.LocalBook.{IsLegalLocalBook, IsLocalBook};
+ghost use Rattle.local_view.specs.inside.LocalBook.{IsShown};
 
 use credit_lines::CreditLines;
 use fx_amounts::{BankId, Memory, Side};

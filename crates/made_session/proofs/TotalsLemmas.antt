@@ -8,7 +8,7 @@ use Rattle.fx_rules.specs.Session.{Header}
 use Rattle.fx_rules.specs.State.{State, opening}
 use Rattle.fx_rules.specs.Step.{fills_of}
 use Rattle.fx_rules.specs.History.{IsLegal, Steps, after_entry, after_all, state}
-use Rattle.fx_rules.specs.Trade.{IsTrade}
+use Rattle.fx_rules.specs.inside.Trade.{IsTrade}
 use Rattle.fx_rules.proofs.ListLemmas.{total-append}
 use Rattle.fx_rules.proofs.Trading.{step-fills}
 use Rattle.day_report.specs.Trades.{lots_in}

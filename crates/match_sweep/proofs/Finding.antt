@@ -8,7 +8,7 @@ use Rattle.fx_rules.specs.Sweep.{Taker, IsBest}
 use Rattle.price_levels.specs.declared.place.Place.{Place}
 use Rattle.global_book.specs.Book.{IsPlaceOf, owned, standing_at}
 use Rattle.global_book.proofs.Sought.{opposite-opposite}
-use Rattle.match_sweep.specs.Heads.{IsFound, to_come}
+use Rattle.match_sweep.specs.inside.Heads.{IsFound, to_come}
 
 found_of : (side : Side) (orders : List Resting) (result : Option (Resting × Place)) → (result ≡ None → orders ≡ []) → IfSome result (λ found. IsBest side orders found.0) → IfSome result (λ found. IsPlaceOf found.0 found.1) → IsFound side orders result
 found_of side orders None none best place = none refl

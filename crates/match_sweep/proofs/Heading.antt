@@ -10,7 +10,7 @@ use Rattle.fx_rules.specs.Sweep.{Taker}
 use Rattle.fx_rules.proofs.ListLemmas.{Each-among}
 use Rattle.price_levels.specs.declared.place.Place.{Place}
 use Rattle.global_book.specs.Book.{AreOwners, Book}
-use Rattle.match_sweep.specs.Heads.{IsFound, to_come, AreHeads}
+use Rattle.match_sweep.specs.inside.Heads.{IsFound, to_come, AreHeads}
 use Rattle.match_sweep.proofs.Picking.{among_to_come}
 
 -- one entry of a table is written, and what holds of the others stays

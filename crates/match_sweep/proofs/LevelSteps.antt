@@ -20,7 +20,8 @@ use Rattle.fx_rules.proofs.Planning.{open_parts}
 use Rattle.global_book.specs.Book.{Book, IsBook, IsHeld, IsLevelOf, is_of, is_worse, is_worse_of}
 use Rattle.credit_lines.specs.Credit.{Credit, line_in}
 use Rattle.match_sweep.specs.declared.reached.LevelWalk.{LevelWalk}
-use Rattle.match_sweep.specs.Reaches.{AreTaken, BeginsAt, HaveLevels, IsBestPrice, IsReached, IsUnlimited, TakesLevel, at_end, head_of, line_behind, past_order, price_of}
+use Rattle.match_sweep.specs.Reaches.{IsReached, IsUnlimited}
+use Rattle.match_sweep.specs.inside.Reaches.{AreTaken, BeginsAt, HaveLevels, IsBestPrice, TakesLevel, at_end, head_of, line_behind, past_order, price_of}
 use Rattle.match_sweep.specs.Sweeps.{IsLevelled}
 use Rattle.match_sweep.proofs.Levelling.{Going, IsEager, Taken, lots_of, less_less, less_none, once_more, takes}
 use Rattle.match_sweep.proofs.Picking.{none_among}

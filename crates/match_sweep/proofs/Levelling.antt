@@ -18,7 +18,7 @@ use Rattle.fx_rules.proofs.Opens.{IsOpen, is_open-says}
 use Rattle.fx_rules.proofs.Planning.{open_parts}
 use Rattle.fx_rules.proofs.Preference.{preferred_self}
 use Rattle.global_book.specs.Book.{is_of, is_level, level_lots}
-use Rattle.match_sweep.specs.Reaches.{at_end, line_behind}
+use Rattle.match_sweep.specs.inside.Reaches.{at_end, line_behind}
 use Rattle.match_sweep.proofs.Tables.{total-changed, none-kept}
 use Rattle.match_sweep.proofs.Planning.{lots_cost, walk-step, within_table}
 use Rattle.match_sweep.proofs.Picking.{not_back, same_tests, still_behind}

@@ -16,7 +16,7 @@ use Rattle.fx_rules.proofs.Planning.{open_parts}
 use Rattle.fx_rules.proofs.Preference.{preferred_self, preferred_trans, preferred_either, rising_same}
 use Rattle.price_levels.specs.declared.place.Place.{Place}
 use Rattle.global_book.specs.Book.{is_of}
-use Rattle.match_sweep.specs.Heads.{IsFound, is_to_come, to_come, AreHeads}
+use Rattle.match_sweep.specs.inside.Heads.{IsFound, is_to_come, to_come, AreHeads}
 
 -- What it says that a taker may come to an order.
 

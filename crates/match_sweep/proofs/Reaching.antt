@@ -15,7 +15,7 @@ use Rattle.fx_rules.specs.Sweep.{is_better, is_opposite}
 use Rattle.fx_rules.proofs.ListLemmas.{Each-among, Each-of, filter_cons_false}
 use Rattle.global_book.specs.Book.{Book, IsLevel, IsLevelOf, is_level, is_of, is_worse, is_worse_of, level_lots}
 use Rattle.match_sweep.specs.declared.reached.LevelWalk.{LevelWalk}
-use Rattle.match_sweep.specs.Reaches.{AreTaken, HaveLevels, IsBestPrice, IsLeft, IsPaid, IsTakenOf, TakesOf, better_price, head_of, line_behind, price_of}
+use Rattle.match_sweep.specs.inside.Reaches.{AreTaken, HaveLevels, IsBestPrice, IsLeft, IsPaid, IsTakenOf, TakesOf, better_price, head_of, line_behind, price_of}
 use Rattle.match_sweep.proofs.Tables.{total-changed}
 use Rattle.match_sweep.proofs.Levelling.{level_parts}
 use Rattle.match_sweep.proofs.Planning.{lots_cost}

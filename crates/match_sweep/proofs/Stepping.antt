@@ -18,8 +18,8 @@ use Rattle.fx_rules.proofs.Preference.{preferred_self, preferred_trans}
 use Rattle.price_levels.specs.declared.place.Place.{Place}
 use Rattle.global_book.specs.Book.{AreOwners, Book, IsBook, IsHeld, IsPlaceOf}
 use Rattle.match_sweep.specs.declared.walk.Walk.{Walk}
-use Rattle.match_sweep.specs.Heads.{IsFound, to_come, AreHeads}
-use Rattle.match_sweep.specs.Walks.{FromHere, LeadsOn, StepsOn, IsReady, IsRenewed, IsPicked, Takes, IsPickedAt, may_take, may_take_head, is_ahead, leads, head_of, last_of, reach_of, steps_behind}
+use Rattle.match_sweep.specs.inside.Heads.{IsFound, to_come, AreHeads}
+use Rattle.match_sweep.specs.inside.Walks.{FromHere, LeadsOn, StepsOn, IsReady, IsRenewed, IsPicked, Takes, IsPickedAt, may_take, may_take_head, is_ahead, leads, head_of, last_of, reach_of, steps_behind}
 use Rattle.match_sweep.proofs.Tables.{none-kept}
 use Rattle.match_sweep.proofs.Planning.{walk-step, within_table}
 use Rattle.match_sweep.proofs.Picking.{Picks, picked-best, picked-none, heads-stay, among_to_come}

@@ -15,7 +15,7 @@ use Rattle.global_book.specs.Book.{Book}
 use Rattle.credit_lines.specs.Credit.{Credit}
 use Rattle.match_sweep.specs.declared.walk.Walk.{Walk}
 use Rattle.match_sweep.specs.Sweeps.{IsSweep, IsLevelled}
-use Rattle.match_sweep.specs.Walks.{FromHere, LeadsOn, IsReady, Begins, last_of}
+use Rattle.match_sweep.specs.inside.Walks.{FromHere, LeadsOn, IsReady, Begins, last_of}
 use Rattle.match_sweep.proofs.Planning.{planned-sum, planned-paid, planned-sweep}
 
 -- A walk made these fills since it was another: whatever it makes from here the other makes, behind them.

@@ -1,7 +1,6 @@
 pub mod Takers
 pub mod Sweeps
-pub mod Walks
-pub mod Heads
 pub mod Reaches
 pub mod Carries
 pub mod Laws
+pub mod inside

@@ -1,15 +1,12 @@
 -- What a bank reaches of a book's side, price by price.
-use Rattle.std.specs.Prelude.{ℕ, ◌≡◌, ◌≢◌, ◌≤◌, ◌<◌, ◌+◌, ◌-◌, ◌*◌, ◌/◌, ◌^◌, min, true, false, nat_le, if◌then◌else◌, List, length, Option, Some, None, slice_index, slice_index_or, option_map}
+use Rattle.std.specs.Prelude.{ℕ, ◌≡◌, ◌<◌, ◌*◌, ◌^◌, true, List}
 use Rattle.fx_amounts.specs.Price.{crosses}
 use Rattle.fx_amounts.specs.declared.side.Side.{Side}
-use Rattle.fx_amounts.specs.declared.side.Side.TheVariants.{Buy}
 use Rattle.fx_rules.specs.declared.orders.Level.{Level}
-use Rattle.fx_rules.specs.declared.orders.Resting.{Resting}
-use Rattle.fx_rules.specs.Lists.{Each, total}
-use Rattle.fx_rules.specs.Sweep.{Taker, is_better}
-use Rattle.global_book.specs.Book.{Book, IsBook, IsLevelOf, level_lots}
-use Rattle.credit_lines.specs.Credit.{Credit, line_in}
-use Rattle.match_sweep.specs.declared.reached.LevelWalk.{LevelWalk}
+use Rattle.fx_rules.specs.Lists.{Each}
+use Rattle.fx_rules.specs.Sweep.{Taker}
+use Rattle.global_book.specs.Book.{Book}
+use Rattle.credit_lines.specs.Credit.{Credit}
 use Rattle.match_sweep.specs.Sweeps.{IsLevelled}
 
 -- An order takes all that its lines allow: it takes each price of the book, came after all of its orders, and wants more lots
@@ -24,86 +21,3 @@ abbrev pub IsReached : Book → Credit → ℕ → ℕ → Side → List Level �
 IsReached book credit weight bank side levels =
     (order : Taker) → order.bank ≡ bank → order.pair ≡ book.pair → order.side ≡ side → IsUnlimited book order →
     IsLevelled book credit weight order levels
-
--- The walk from price to price: for this crate's own functions.
-
--- an order behind all others of a price
-abbrev pub at_end : ℕ → Resting
-at_end price = record { bank = 0; number = 0; side = Buy; price = price; left = 0; arrival = 2 ^ 64 }
-
-abbrev pub past_order : Option ℕ → Option Resting
-past_order past = option_map at_end past
-
--- what is left of the line with a bank, once as many of its lots at a price are taken as the line pays for
-abbrev pub line_behind : ℕ → Side → ℕ → List Resting → ℕ → ℕ → ℕ
-line_behind weight taker price orders bank line = line - min (level_lots taker bank price orders) (line / weight) * weight
-
--- the head of a bank, and the price of one with which the line pays for a lot
-abbrev pub head_of : LevelWalk → ℕ → Option (ℕ × ℕ)
-head_of walk bank = slice_index_or walk.heads bank None
-
-abbrev pub price_of : LevelWalk → ℕ → Option ℕ
-price_of walk bank = if nat_le walk.weight (slice_index walk.lines bank) then option_map (λ head. head.0) (head_of walk bank) else None
-
--- of each bank with which a line pays for a lot, the best price behind the last level is at its head
-abbrev pub HaveLevels : Book → LevelWalk → Type 0
-HaveLevels book walk =
-    (bank : ℕ) → bank < 64 → 1 ≤ slice_index walk.lines bank / walk.weight → IsLevelOf walk.taker bank walk.last book.orders (head_of walk bank)
-
--- the better of two prices, where there are any
-abbrev pub better_price : Side → Option ℕ → Option ℕ → Option ℕ
-better_price taker None other = other
-better_price taker (Some price) None = Some price
-better_price taker (Some price) (Some other) = if is_better taker other price then Some other else Some price
-
--- the best price of the heads of so many banks, or there is none
-abbrev pub IsBestPrice : LevelWalk → ℕ → Option ℕ → Type 0
-IsBestPrice walk banks None = (bank : ℕ) → bank < banks → price_of walk bank ≡ None
-IsBestPrice walk banks (Some price) =
-    ((bank : ℕ) × (bank < banks) × (price_of walk bank ≡ Some price))
-    × ((bank other : ℕ) → bank < banks → price_of walk bank ≡ Some other → is_better walk.taker other price ≡ false)
-
--- what is left of a bank once its lots at a price are taken
-pub record IsTakenOf (book : Book) (old new : LevelWalk) (price bank : ℕ) : Type 0 where
-  pub line : slice_index new.lines bank ≡ line_behind old.weight old.taker price book.orders bank (slice_index old.lines bank)
-  pub head : 1 ≤ slice_index new.lines bank / old.weight → IsLevelOf old.taker bank (Some price) book.orders (head_of new bank)
-
--- a bank is as it was
-pub record IsLeft (old new : LevelWalk) (bank : ℕ) : Type 0 where
-  pub line : slice_index new.lines bank ≡ slice_index old.lines bank
-  pub head : head_of new bank ≡ head_of old bank
-
--- nothing but lines and heads changed, and the lots are what the lines paid for
-pub record IsPaid (old new : LevelWalk) (lots : ℕ) : Type 0 where
-  pub same : new ≡ record old { lines = new.lines; heads = new.heads }
-  pub long : length new.lines ≡ length old.lines
-  pub paid : lots * old.weight + total (λ line. line) new.lines ≡ total (λ line. line) old.lines
-
--- the lots of one bank are taken
-pub record TakesOf (book : Book) (old new : LevelWalk) (bank price lots : ℕ) : Type 0 where
-  pub taken : IsTakenOf book old new price bank
-  pub others : (other : ℕ) → other ≢ bank → IsLeft old new other
-  pub sum : IsPaid old new lots
-
--- the lots of all banks
-pub record AreTaken (book : Book) (old new : LevelWalk) (price lots : ℕ) : Type 0 where
-  pub taken : (bank : ℕ) → bank < 64 → IsTakenOf book old new price bank
-  pub sum : IsPaid old new lots
-
--- a level is taken, at the best price; or there is none
-abbrev pub TakesLevel : Book → LevelWalk → LevelWalk → Option Level → Type 0
-TakesLevel book old new None = (new ≡ old) × IsBestPrice old 64 None
-TakesLevel book old new (Some level) =
-    IsBestPrice old 64 (Some level.price)
-    × ((taken : LevelWalk) × AreTaken book old taken level.price level.lots × (new ≡ record taken { last = Some level.price }))
-
--- a walk before its first level, by the lines of a bank
-pub record BeginsAt (book : Book) (credit : Credit) (weight bank : ℕ) (taker : Side) (walk : LevelWalk) : Type 0 where
-  pub valid : IsBook book
-  pub few : book.banks ≤ 64
-  pub long : length walk.lines ≡ 64
-  pub heads : HaveLevels book walk
-  pub is : walk ≡ record walk { weight = weight; taker = taker; last = None }
-  pub own : slice_index walk.lines bank ≡ 0
-  pub line : (other : ℕ) → other < book.banks → other ≢ bank → slice_index walk.lines other ≡ line_in credit bank other
-  pub most : total (λ line. line) walk.lines ≤ 64 * 10 ^ 15

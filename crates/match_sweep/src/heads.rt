@@ -4,7 +4,7 @@ ghost use Rattle.fx_amounts.specs.Quantity.{IsWeight};
 ghost use Rattle.fx_rules.specs.Lists.{Among};
 ghost use Rattle.fx_rules.specs.Sweep.{is_better, is_preferred};
 ghost use Rattle.global_book.specs.Book.{standing_at};
-ghost use Rattle.match_sweep.specs.Heads.{AreHeads, CameBefore, IsFound, to_come};
+ghost use Rattle.match_sweep.specs.inside.Heads.{AreHeads, CameBefore, IsFound, to_come};
 
 use fx_amounts::{BankId, Price, Side};
 use fx_rules::{Resting, SweptOrder};

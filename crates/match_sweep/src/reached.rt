@@ -3,7 +3,8 @@ ghost use Rattle.fx_amounts.specs.Quantity.{IsWeight};
 ghost use Rattle.fx_rules.specs.Lists.{total};
 ghost use Rattle.fx_rules.specs.Sweep.{is_better};
 ghost use Rattle.global_book.specs.Book.{IsLevelOf, is_worse};
-ghost use Rattle.match_sweep.specs.Reaches.{AreTaken, BeginsAt, HaveLevels, IsBestPrice, IsReached, TakesLevel, TakesOf, better_price, price_of};
+ghost use Rattle.match_sweep.specs.Reaches.{IsReached};
+ghost use Rattle.match_sweep.specs.inside.Reaches.{AreTaken, BeginsAt, HaveLevels, IsBestPrice, TakesLevel, TakesOf, better_price, price_of};
 
 use crate::heads::is_better;
 use crate::walk::lines_of;

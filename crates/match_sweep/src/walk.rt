@@ -2,8 +2,8 @@ ghost use Rattle.std.specs.Prelude.{ℕ, ◌≡◌, ◌≢◌, ◌≤◌, ◌<�
 ghost use Rattle.fx_amounts.specs.Quantity.{IsWeight};
 ghost use Rattle.fx_rules.specs.Lists.{total};
 ghost use Rattle.credit_lines.specs.Credit.{line_in};
-ghost use Rattle.match_sweep.specs.Heads.{CameBefore};
-ghost use Rattle.match_sweep.specs.Walks.{Begins, IsPicked, IsReady, IsRenewed, StepsOn, Takes, head_of, is_ahead, leads, may_take_head, steps_behind};
+ghost use Rattle.match_sweep.specs.inside.Heads.{CameBefore};
+ghost use Rattle.match_sweep.specs.inside.Walks.{Begins, IsPicked, IsReady, IsRenewed, StepsOn, Takes, head_of, is_ahead, leads, may_take_head, steps_behind};
 
 use crate::heads::{first_heads, head_behind, is_preferred};
 use credit_lines::CreditLines;

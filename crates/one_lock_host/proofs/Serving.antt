@@ -22,7 +22,7 @@ use Rattle.flat_host.specs.Steps.{AnswersEach}
 use Rattle.fx_desk.specs.Submitting.{next_own, Submitted}
 use Rattle.fx_desk.proofs.Owning.{own-append}
 use Rattle.fx_desk.proofs.Submits.{submits}
-use Rattle.one_lock_host.specs.Floor.{IsFloor}
+use Rattle.one_lock_host.specs.inside.Floor.{IsFloor}
 
 -- the host's count of a bank is the number of the commands that its pass submitted
 pub count_is : (h : Header) (host : FlatState) (writer : Chronicle Entry) (bank key count : ℕ) (met : List Entry) → IsFloor h host writer → bank ≡ key → count ≡ slice_index host.counts bank → own key writer.entries ≡ own key met → count ≡ length (own key met)

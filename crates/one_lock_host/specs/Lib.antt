@@ -1,1 +1,1 @@
-pub mod Floor
+pub mod inside

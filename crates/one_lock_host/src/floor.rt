@@ -28,7 +28,7 @@ pub(crate) struct Floor<N: Naming> {
 impl<N: Naming> Model for Floor<N> {
     ghost use Rattle.std.specs.Prelude.{List};
     ghost use Rattle.fx_rules.specs.declared.outcome.Entry.{Entry};
-    ghost use Rattle.one_lock_host.specs.Floor.{IsFloor};
+    ghost use Rattle.one_lock_host.specs.inside.Floor.{IsFloor};
 
     ghost Value = { List Entry };
 

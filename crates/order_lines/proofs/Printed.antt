@@ -7,7 +7,7 @@ use Rattle.std.specs.List.{join_with_byte, flat_map}
 use Rattle.fx_rules.specs.Session.{Header, bank_name}
 use Rattle.fx_rules.specs.declared.command.Command.{Command}
 use Rattle.fx_rules.specs.declared.command.Command.TheVariants as command
-use Rattle.order_lines.specs.Printing.{field_text, fields_text, second_field, third_field, details}
+use Rattle.order_lines.specs.inside.Printing.{field_text, fields_text, second_field, third_field, details}
 use Rattle.order_lines.specs.Spelling.{command_fields, command_text_of}
 use Rattle.order_lines.specs.declared.writing.Field.{Field}
 

@@ -1,5 +1,5 @@
 pub mod Grammar
-pub mod Printing
 pub mod Reading
 pub mod Spelling
 pub mod Words
+pub mod inside

@@ -1,7 +1,7 @@
 ghost use Rattle.std.specs.Prelude.{◌≡◌, ◌<◌, ◌≤◌, ◌++◌, take, vec_len, All, OnOk, OnErr};
 ghost use Rattle.fx_rules.specs.Session.{bank_count};
 ghost use Rattle.fx_rules.specs.Step.{IsCommand};
-ghost use Rattle.order_lines.specs.Printing.{field_text, fields_text, second_field, third_field, details, IsFieldOf, AreFieldsOf};
+ghost use Rattle.order_lines.specs.inside.Printing.{field_text, fields_text, second_field, third_field, details, IsFieldOf, AreFieldsOf};
 ghost use Rattle.fx_text.specs.Fields.{fields_of};
 ghost use Rattle.fx_text.specs.Lines.{line_of};
 ghost use Rattle.order_lines.specs.Grammar.{journal_line};

@@ -6,7 +6,8 @@ use Rattle.std.proofs.lemmas.Bool.{cases_Bool, cases_eq, cases_lt, cond-true, co
 use Rattle.std.specs.Option.{IsSomeAnd}
 use Rattle.std.specs.Result.{IsOk, OnOk}
 use Rattle.fx_rules.specs.declared.orders.Resting.{Resting}
-use Rattle.order_store.specs.Orders.{Orders, order_at, AreOrders, Lacks, name_of, IsIndexed}
+use Rattle.order_store.specs.Orders.{Orders, order_at, AreOrders, Lacks}
+use Rattle.order_store.specs.inside.Orders.{name_of, IsIndexed}
 
 -- a bank and a number have a name of their own
 name_of-injective : (bank number bank' number' : ℕ) → number < 2 ^ 32 → number' < 2 ^ 32 → name_of bank number ≡ name_of bank' number' → (bank ≡ bank') × (number ≡ number')

@@ -9,7 +9,8 @@ use Rattle.fx_amounts.specs.declared.side.Side.{Side}
 use Rattle.fx_amounts.specs.declared.side.Side.TheVariants.{Buy, Sell}
 use Rattle.fx_rules.specs.declared.orders.Resting.{Resting}
 use Rattle.fx_rules.specs.Sweep.{is_opposite}
-use Rattle.order_store.specs.Levels.{is_at, slot_lots, lots_where, side_number, level_number, is_numbered, entry_of, lots_in, Tallies, IsSummed}
+use Rattle.order_store.specs.Levels.{is_at, slot_lots, lots_where}
+use Rattle.order_store.specs.inside.Levels.{side_number, level_number, is_numbered, entry_of, lots_in, Tallies, IsSummed}
 use Rattle.order_store.proofs.Indexing.{some_same, within_slots}
 
 abbrev Slots : Type 0

@@ -1,5 +1,5 @@
 -- The orders that are kept, as contracts see them: a finite map from keys to orders.
-use Rattle.std.specs.Prelude.{ℕ, ◌≡◌, ◌≢◌, ◌+◌, ◌*◌, ◌<◌, ◌^◌, List, Option, Some, None, slice_index_or}
+use Rattle.std.specs.Prelude.{ℕ, ◌≡◌, ◌≢◌, ◌<◌, ◌^◌, List, Option, Some, None, slice_index_or}
 use Rattle.fx_rules.specs.declared.orders.Resting.{Resting}
 
 -- the order or nothing at each key from 0 on, and how many orders more can be added
@@ -30,13 +30,3 @@ pub record AreOrders (orders : Orders) : Type 0 where
 pub record Changes (old new : Orders) (key : ℕ) (slot : Option Resting) : Type 0 where
   pub changed : order_at new key ≡ slot
   pub others : (other : ℕ) → other ≢ key → order_at new other ≡ order_at old other
-
--- the number that stands for a bank and a number of its stream
-abbrev pub name_of : ℕ → ℕ → ℕ
-name_of bank number = bank * 2 ^ 32 + number
-
--- `names` finds the key of each order by its name, and of nothing else
-pub record IsIndexed (slot_at : ℕ → Option Resting) (names : ℕ → Option ℕ) : Type 0 where
-  pub named : (key : ℕ) (order : Resting) → slot_at key ≡ Some order → names (name_of order.bank order.number) ≡ Some key
-  pub owned : (name key : ℕ) → names name ≡ Some key → (order : Resting) × (slot_at key ≡ Some order) × (name ≡ name_of order.bank order.number)
-  pub numbered : (key : ℕ) (order : Resting) → slot_at key ≡ Some order → (order.bank < 64) × (order.number < 2 ^ 32)

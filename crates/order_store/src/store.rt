@@ -1,7 +1,8 @@
 ghost use Rattle.std.specs.Prelude.{◌≡◌, ◌+◌, ◌<◌, ◌≤◌, ◌^◌, [], Some, None, OnOk, IfSome, IsSome, IsSomeAnd};
-ghost use Rattle.order_store.specs.Levels.{is_at, level_number, lots_where};
+ghost use Rattle.order_store.specs.Levels.{is_at, lots_where};
+ghost use Rattle.order_store.specs.inside.Levels.{level_number};
 ghost use Rattle.order_store.specs.Orders.{AreOrders, Changes, IsOf, Lacks, order_at};
-ghost use Rattle.order_store.specs.Orders as orders;
+ghost use Rattle.order_store.specs.inside.Orders as orders;
 
 use crate::sums::LevelSums;
 use fx_amounts::{BankId, Lots, Memory, Price, Side};
@@ -30,7 +31,7 @@ impl Model for OrderStore {
     ghost use Rattle.std.specs.HashMap.{get, spare};
     ghost use Rattle.slab.specs.Slab.{slab_len};
     ghost use Rattle.order_store.specs.Orders.{Orders};
-    ghost use Rattle.order_store.specs.Levels.{IsStored};
+    ghost use Rattle.order_store.specs.inside.Levels.{IsStored};
 
     ghost Value = { Orders };
 

@@ -1,6 +1,6 @@
 ghost use Rattle.std.specs.Prelude.{ℕ, ◌≡◌, ◌+◌, ◌*◌, ◌≤◌, ◌<◌, ◌^◌, ◌==◌, None, if◌then◌else◌, nat_eq, OnOk};
 ghost use Rattle.std.specs.HashMap.{get, spare};
-ghost use Rattle.order_store.specs.Levels.{Tallies, lots_in};
+ghost use Rattle.order_store.specs.inside.Levels.{Tallies, lots_in};
 
 use fx_amounts::{Lots, Memory};
 use std::alloc::Global;

@@ -9,7 +9,7 @@ use Rattle.fx_rules.specs.State.{State, orders_in}
 use Rattle.global_book.specs.Book.{Book}
 use Rattle.credit_table.specs.Table.{Table, Stands}
 use Rattle.pair_host.specs.Standing.{HostState, StandsFor}
-use Rattle.pair_host.specs.Books.{IsBookAt, AreBooks, AreHosted, AreEmpty, HaveOrders, EachBook, host_of}
+use Rattle.pair_host.specs.inside.Books.{IsBookAt, AreBooks, AreHosted, AreEmpty, HaveOrders, EachBook, host_of}
 
 no_book : Book
 no_book = record { pair = 0; banks = 0; orders = []; room = [] }

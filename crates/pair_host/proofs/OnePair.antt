@@ -14,7 +14,7 @@ use Rattle.pair_steps.specs.declared.sender.Sender.{Sender}
 use Rattle.pair_steps.specs.Sending.{IsNextIn, pair_of}
 use Rattle.pair_steps.specs.Answers.{AnswersEach}
 use Rattle.pair_steps.specs.Carries.{IsStepOf, entry_of}
-use Rattle.pair_host.specs.OnePair.{AreOf, MayServe, IsFollowed}
+use Rattle.pair_host.specs.inside.OnePair.{AreOf, MayServe, IsFollowed}
 use Rattle.pair_host.proofs.Sending.{pair_in}
 
 -- ---- who sends

@@ -28,8 +28,8 @@ use Rattle.credit_table.specs.Table.{Table, Stands}
 use Rattle.pair_steps.specs.Turns.{fills_in}
 use Rattle.pair_steps.specs.Sending.{pair_of}
 use Rattle.pair_host.specs.Standing.{HostState, StandsFor, IsNextOf, FollowsOn, stands}
-use Rattle.pair_host.specs.Books.{AreBooks, HaveOrders, EachBook, IsCarried, IsRecorded, PlansEach, host_of}
-use Rattle.pair_host.specs.OnePair.{AreOf, MayServe, ServesEach, FollowsEach}
+use Rattle.pair_host.specs.inside.Books.{AreBooks, HaveOrders, EachBook, IsCarried, IsRecorded, PlansEach, host_of}
+use Rattle.pair_host.specs.inside.OnePair.{AreOf, MayServe, ServesEach, FollowsEach}
 use Rattle.pair_host.proofs.Holding.{BooksOf, books-of, stands-by, have-orders-set}
 use Rattle.pair_host.proofs.Sending.{changes_none, pair_in}
 

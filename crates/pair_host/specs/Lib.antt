@@ -1,3 +1,2 @@
 pub mod Standing
-pub mod Books
-pub mod OnePair
+pub mod inside

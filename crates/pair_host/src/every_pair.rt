@@ -2,7 +2,7 @@
 ghost use Rattle.std.specs.Prelude.{◌≡◌, ◌<◌, ◌≤◌, [], length, All, IfOk, OnOk};
 ghost use Rattle.fx_rules.specs.Session.{bank_count, pair_count};
 ghost use Rattle.credit_raise.specs.UnderWay.{command_of};
-ghost use Rattle.pair_host.specs.Books.{AreBooks, AreEmpty, EachBook, IsCarried, IsRecorded, PlansEach, RestsIn};
+ghost use Rattle.pair_host.specs.inside.Books.{AreBooks, AreEmpty, EachBook, IsCarried, IsRecorded, PlansEach, RestsIn};
 
 use credit_raise::Raising;
 use credit_table::CreditTable;

@@ -30,7 +30,7 @@ pub struct PairHost {
 
 impl Model for PairHost {
     ghost use Rattle.pair_host.specs.Standing.{HostState};
-    ghost use Rattle.pair_host.specs.Books.{AreHosted, host_of};
+    ghost use Rattle.pair_host.specs.inside.Books.{AreHosted, host_of};
 
     ghost Value = { HostState };
 

@@ -20,7 +20,8 @@ use Rattle.fx_chronicle.specs.Touching.{touched, pends, without}
 use Rattle.fx_chronicle.proofs.Pending.{nothing_pends, pends-touched, pends-touched_above, pends-without, pends-without_same}
 use Rattle.credit_raise.specs.UnderWay.{Makes, Raise, command_of, outcome_of, reached}
 use Rattle.credit_book.specs.Recorded.{Recorded, key_count, recorded, signed_by}
-use Rattle.pair_shards.specs.Shards.{AreOfLast, PairsPend}
+use Rattle.pair_shards.specs.Shards.{AreOfLast}
+use Rattle.pair_shards.specs.inside.Shards.{PairsPend}
 
 -- ---- which keys have still to sign
 

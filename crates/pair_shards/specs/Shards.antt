@@ -1,12 +1,11 @@
 -- A pair as it lies behind its lock: its book, and what it has seen of the history.
-use Rattle.std.specs.Prelude.{ℕ, ◌≡◌, ◌≢◌, ◌≤◌, ◌<◌, ◌++◌, true, false, List, [], ◌∷◌}
+use Rattle.std.specs.Prelude.{ℕ, ◌≡◌, ◌<◌, ◌++◌, List, [], ◌∷◌}
 use Rattle.fx_rules.specs.declared.orders.Fill.{Fill}
 use Rattle.fx_rules.specs.declared.outcome.Entry.{Entry}
 use Rattle.fx_rules.specs.Session.{Header, bank_count, pair_count}
 use Rattle.fx_rules.specs.State.{orders_in}
 use Rattle.fx_rules.specs.Keyed.{pair_key}
 use Rattle.fx_rules.specs.History.{IsLegal, state}
-use Rattle.fx_chronicle.specs.Touching.{pends}
 use Rattle.fx_chronicle.specs.Faces.{Witness}
 use Rattle.global_book.specs.Book.{Book}
 use Rattle.credit_raise.specs.UnderWay.{Makes}
@@ -33,9 +32,3 @@ pub record AreOfLast (h : Header) (entries : List Entry) (pair : ℕ) (fills : L
   pub last : Entry
   pub ends : entries ≡ before ++ last ∷ []
   pub makes : Makes (state h before) (state h entries) pair fills
-
--- Of all keys just those of the pairs from one on have still to sign: a command over all pairs was recorded, and the pairs before
--- have signed.
-pub record PairsPend (h : Header) (from : ℕ) (pending : List ℕ) : Type 0 where
-  pub these : (pair : ℕ) → from ≤ pair → pair < pair_count h → pends pending (pair_key pair) ≡ true
-  pub no_others : (key : ℕ) → ((pair : ℕ) → from ≤ pair → pair < pair_count h → key ≢ pair_key pair) → pends pending key ≡ false

@@ -2,3 +2,4 @@ pub mod Sending
 pub mod Answers
 pub mod Carries
 pub mod Turns
+pub mod inside

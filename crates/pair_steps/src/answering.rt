@@ -3,7 +3,8 @@ ghost use Rattle.fx_amounts.specs.Quantity.{IsWeight};
 ghost use Rattle.fx_rules.specs.Step as step;
 ghost use Rattle.match_sweep.specs.Takers.{swept_in};
 ghost use Rattle.pair_steps.specs.Sending.{pair_of};
-ghost use Rattle.pair_steps.specs.Answers.{AnswersEach, OrdersEach, IsOrderedBy};
+ghost use Rattle.pair_steps.specs.Answers.{AnswersEach};
+ghost use Rattle.pair_steps.specs.inside.Answers.{OrdersEach, IsOrderedBy};
 
 use crate::counting::count_of;
 use crate::sender::Sender;

@@ -7,8 +7,8 @@ use Rattle.std.proofs.lemmas.List.Concat.{flat_map-append}
 use Rattle.std.proofs.lemmas.List.Edits.{insert-append_left, insert-append_right, remove-append_left, remove-append_right}
 use Rattle.std.specs.List.{insert, remove}
 use Rattle.price_levels.specs.declared.place.Place.{Place}
-use Rattle.price_levels.specs.Held.{Held}
-use Rattle.price_levels.specs.Layout.{places_of, no_chunk, chunk_at, FitsNext}
+use Rattle.price_levels.specs.inside.Held.{Held}
+use Rattle.price_levels.specs.inside.Layout.{places_of, no_chunk, chunk_at, FitsNext}
 
 pub places_of-append : (xs ys : List Held) → places_of (xs ++ ys) ≡ places_of xs ++ places_of ys
 places_of-append xs ys = flat_map-append (λ (c : Held). c.places) xs ys

@@ -11,8 +11,8 @@ use Rattle.std.specs.Slice.{IsItemAt}
 use Rattle.price_levels.specs.declared.place.Place.{Place}
 use Rattle.price_levels.specs.declared.spot.Spot.{Spot}
 use Rattle.price_levels.specs.declared.chunks.Chunks.{Chunks}
-use Rattle.price_levels.specs.Held.{Held}
-use Rattle.price_levels.specs.Layout.{places_of, offset, no_chunk, chunk_at, IsSpot, IsChunk, IsSpare, IsLaidOut, FitsNext, IsHalved, AreWidened}
+use Rattle.price_levels.specs.inside.Held.{Held}
+use Rattle.price_levels.specs.inside.Layout.{places_of, offset, no_chunk, chunk_at, IsSpot, IsChunk, IsSpare, IsLaidOut, FitsNext, IsHalved, AreWidened}
 use Rattle.price_levels.proofs.Chunking.{start, halved_at, joined_at, places_of-halved, ends_within, crowded}
 use Rattle.price_levels.proofs.Parting.{place_at}
 

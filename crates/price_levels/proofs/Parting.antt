@@ -11,8 +11,8 @@ use Rattle.price_levels.specs.declared.place.Place.{Place}
 use Rattle.price_levels.specs.declared.cut.Cut.{Cut}
 use Rattle.price_levels.specs.declared.cut.Cut.TheVariants.{Before, Behind}
 use Rattle.price_levels.specs.Ladder.{InOrder, IsSorted, Sorts}
-use Rattle.price_levels.specs.Held.{Held, in_front, passes}
-use Rattle.price_levels.specs.Layout.{places_of, no_chunk, chunk_at}
+use Rattle.price_levels.specs.inside.Held.{Held, in_front, passes}
+use Rattle.price_levels.specs.inside.Layout.{places_of, no_chunk, chunk_at}
 use Rattle.price_levels.proofs.Sorting.{IsPartitionedBy-before, IsPartitionedBy-after}
 use Rattle.price_levels.proofs.Chunking.{start, start-next, start-rises, ends_within, around_at}
 

@@ -1,3 +1,2 @@
 pub mod Ladder
-pub mod Held
-pub mod Layout
+pub mod inside

@@ -2,7 +2,7 @@ ghost use Rattle.std.specs.Prelude.{◌≡◌, ◌+◌, ◌-◌, ◌≤◌, ◌<
 ghost use Rattle.std.specs.List.{insert, remove};
 ghost use Rattle.std.specs.List.Sorted.{IsPartitionPoint};
 ghost use Rattle.price_levels.specs.Ladder.{IsSorted};
-ghost use Rattle.price_levels.specs.Held.{in_front, last_is_in_front};
+ghost use Rattle.price_levels.specs.inside.Held.{in_front, last_is_in_front};
 
 use crate::cut::Cut;
 use crate::place::Place;
@@ -18,7 +18,7 @@ pub(crate) struct Chunk {
 
 impl Model for Chunk {
     ghost use Rattle.std.specs.Prelude.{vec_capacity};
-    ghost use Rattle.price_levels.specs.Held.{Held};
+    ghost use Rattle.price_levels.specs.inside.Held.{Held};
 
     ghost Value = { Held };
 

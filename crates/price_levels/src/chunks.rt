@@ -2,8 +2,8 @@ ghost use Rattle.std.specs.Prelude.{ℕ, ◌≡◌, ◌+◌, ◌*◌, ◌≤◌,
 ghost use Rattle.std.specs.List.{All, insert, remove};
 ghost use Rattle.std.specs.List.Sorted.{IsPartitionPoint};
 ghost use Rattle.price_levels.specs.Ladder.{IsSorted};
-ghost use Rattle.price_levels.specs.Held.{in_front};
-ghost use Rattle.price_levels.specs.Layout.{AreWidened, FitsNext, HasSeats, HasSpare, IsHalved, IsLaidOut, IsSeat, IsSpot, chunk_at, count_of, offset, places_of};
+ghost use Rattle.price_levels.specs.inside.Held.{in_front};
+ghost use Rattle.price_levels.specs.inside.Layout.{AreWidened, FitsNext, HasSeats, HasSpare, IsHalved, IsLaidOut, IsSeat, IsSpot, chunk_at, count_of, offset, places_of};
 
 use crate::chunk::Chunk;
 use crate::cut::Cut;

@@ -1,5 +1,5 @@
 ghost use Rattle.std.specs.Prelude.{◌≡◌};
-ghost use Rattle.price_levels.specs.Held as held;
+ghost use Rattle.price_levels.specs.inside.Held as held;
 
 use crate::place::{Place, sorts_before};
 use fx_amounts::Side;

@@ -23,7 +23,7 @@ pub struct Levels {
 impl Model for Levels {
     ghost use Rattle.std.specs.Prelude.{◌-◌};
     ghost use Rattle.price_levels.specs.Ladder.{Ladder};
-    ghost use Rattle.price_levels.specs.Layout.{IsRow, places_of};
+    ghost use Rattle.price_levels.specs.inside.Layout.{IsRow, places_of};
 
     ghost Value = { Ladder };
 

@@ -9,8 +9,8 @@ use Rattle.std.proofs.lemmas.Bool.Decides.{nat_tests}
 use Rattle.fx_text.specs.Number.{number_of}
 use Rattle.fx_text.proofs.NumberLemmas.{number_of-begins_otherwise, number_of-other_byte}
 use Rattle.clap.specs.Words.{Row, Text, takes, subcommand_of}
-use Rattle.program_words.specs.Tool.{tool}
-use Rattle.program_words.specs.Printed.{printed, matched_words}
+use Rattle.program_words.specs.inside.Tool.{tool}
+use Rattle.program_words.specs.inside.Printed.{printed, matched_words}
 use Rattle.program_words.specs.declared.matched.Matched.{Matched}
 use Rattle.program_words.specs.declared.reading.WordsFault.{WordsFault}
 use Rattle.program_words.specs.declared.reading.WordsFault.TheVariants.{Usage, Memory}

@@ -4,8 +4,8 @@ use Rattle.clap.specs.Walk.{Held, Text, Walk, idle, arg_by_index, finished, noth
 use Rattle.clap.specs.Simple.{Shape, built, is_simple, names_of, new_shape, subcommand_of}
 use Rattle.clap.specs.Takes.{level_passes, takes, turn_passes, walk_passes}
 use Rattle.clap.proofs.OnLiterals.{clap_on_literals}
-use Rattle.program_words.specs.Tool.{tool}
-use Rattle.program_words.specs.Printed.{printed, printed_of}
+use Rattle.program_words.specs.inside.Tool.{tool}
+use Rattle.program_words.specs.inside.Printed.{printed, printed_of}
 use Rattle.program_words.proofs.Walking.{IsPlain, at_place, at_option, step, turn, option_turn, option_step, goes_on, no_more, level, takes-by, subcommand-by}
 
 -- The command line itself: the walk over its words ends at the subcommand.

@@ -1,3 +1,2 @@
 pub mod Forms
-pub mod Tool
-pub mod Printed
+pub mod inside

@@ -1,7 +1,7 @@
 ghost use Rattle.std.specs.Prelude.{◌≡◌, IfOk, false};
 ghost use Rattle.clap.specs.Words.{app_of, rule_of};
 ghost use Rattle.clap.specs.declared.builder.command.Command.TheViews.{out-Command};
-ghost use Rattle.program_words.specs.Tool.{tool, run_app, load_app, workers_rule, number_rule};
+ghost use Rattle.program_words.specs.inside.Tool.{tool, run_app, load_app, workers_rule, number_rule};
 
 use clap::{Arg, Command};
 use fx_amounts::Memory;

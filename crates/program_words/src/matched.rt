@@ -1,7 +1,7 @@
 ghost use Rattle.std.specs.Prelude.{◌≡◌, ◌++◌, IfOk, OnOk, map, option_map};
 ghost use Rattle.clap.specs.Words.{first_of, found_of, rows_of, subcommand_rows_of};
 ghost use Rattle.program_words.specs.Forms.{workers_of, task_of};
-ghost use Rattle.program_words.specs.Printed.{matched_words, option_words, printed, printed_load};
+ghost use Rattle.program_words.specs.inside.Printed.{matched_words, option_words, printed, printed_load};
 
 use crate::task::{DEFAULT_WORKERS, Task};
 use clap::ArgMatches;

@@ -1,7 +1,7 @@
 ghost use Rattle.std.specs.Prelude.{◌≡◌, IfOk, IfErr, None, Some, map, string_bytes, IsTrue, ◌↔◌, true};
 ghost use Rattle.clap.specs.Words.{subcommand_of, subcommand_rows_of, takes};
 ghost use Rattle.program_words.specs.Forms.{task_of, IsTask};
-ghost use Rattle.program_words.specs.Tool.{tool};
+ghost use Rattle.program_words.specs.inside.Tool.{tool};
 
 use crate::line::command_line;
 use crate::matched::Matched;

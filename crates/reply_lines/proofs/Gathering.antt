@@ -6,7 +6,7 @@ use Rattle.std.specs.List.{flat_map}
 use Rattle.fx_rules.specs.declared.outcome.Entry.{Entry}
 use Rattle.fx_rules.specs.Session.{Header, bank_count}
 use Rattle.reply_lines.specs.Rows.{row, fields_text}
-use Rattle.reply_lines.specs.Desks.{DeskSoFar, desk_with, nothing_yet, with_notice, with_notices, HaveGot, AreDesksOf}
+use Rattle.reply_lines.specs.inside.Desks.{DeskSoFar, desk_with, nothing_yet, with_notice, with_notices, HaveGot, AreDesksOf}
 use Rattle.reply_lines.specs.Notices.{Notice, notice_line, notice_lines, notices}
 use Rattle.reply_lines.proofs.Items.{flat_more}
 

@@ -17,7 +17,7 @@ use Rattle.fx_rules.specs.Sweep.{Taker}
 use Rattle.fx_rules.specs.Raise.{order_of}
 use Rattle.fx_rules.specs.Step.{IsCommand, IsOrdered, IsOutcome, taker_of, fills_of, cancel_answer, reduce_answer}
 use Rattle.fx_rules.specs.History.{IsLegal}
-use Rattle.fx_rules.specs.Trade.{IsTrade}
+use Rattle.fx_rules.specs.inside.Trade.{IsTrade}
 use Rattle.fx_rules.proofs.ListLemmas.{Each-weaker}
 use Rattle.fx_rules.proofs.Trading.{Each-legal, step-trades}
 use Rattle.reply_lines.specs.Prints.{IsAnswerOf, IsFillOf, IsEntryOf}

@@ -11,7 +11,8 @@ use Rattle.day_report.specs.declared.rows.Volume.{Volume}
 use Rattle.day_report.specs.declared.rows.Use.{Use}
 use Rattle.day_report.specs.declared.rows.Net.{Net}
 use Rattle.day_report.specs.declared.rows.Report.{Report}
-use Rattle.reply_lines.specs.Report.{AreUsesOf, IsReportOf, report_of, report_text}
+use Rattle.reply_lines.specs.Report.{report_of, report_text}
+use Rattle.reply_lines.specs.inside.Report.{AreUsesOf, IsReportOf}
 
 each_below : (n : ℕ) → Each (λ k. k < n) (below n)
 each_below zero = tt

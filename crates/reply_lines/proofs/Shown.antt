@@ -11,7 +11,8 @@ use Rattle.fx_rules.specs.Market.{InEach, IsDepthOf}
 use Rattle.fx_rules.proofs.Determined.{shows-same}
 use Rattle.fx_rules.proofs.Soundness.{legal-sound}
 use Rattle.fx_rules.proofs.SweepSound.{weight_of-least}
-use Rattle.reply_lines.specs.Books.{LocalBook, AreBooksOf, book_line}
+use Rattle.reply_lines.specs.Books.{LocalBook, book_line}
+use Rattle.reply_lines.specs.inside.Books.{AreBooksOf}
 use Rattle.reply_lines.specs.Notices.{book_fields}
 use Rattle.reply_lines.specs.Rows.{fields_text}
 

@@ -2,8 +2,6 @@
 use Rattle.std.specs.Prelude.{ℕ, zero, suc, ◌<◌, List, [], ◌++◌, codes}
 use Rattle.fx_rules.specs.declared.orders.Level.{Level}
 use Rattle.fx_rules.specs.Depth.{IsDepth}
-use Rattle.fx_rules.specs.declared.outcome.Entry.{Entry}
-use Rattle.fx_rules.specs.History.{IsLegal, state}
 use Rattle.fx_rules.specs.Session.{Header, bank_count, pair_count, bank_name}
 use Rattle.fx_rules.specs.State.{State}
 use Rattle.reply_lines.specs.Rows.{row}
@@ -35,16 +33,3 @@ books_below h books (suc bank) = books_below h books bank ++ book_lines_below h 
 -- the local books of each bank in each pair
 unfoldable pub books_text : Header → (ℕ → ℕ → LocalBook) → List ℕ
 books_text h books = codes "BOOKS\n" ++ books_below h books (bank_count h)
-
--- a legal history of the session led to a state that a market stands for
-pub record IsMarketOf {M : Type 0} (stands : M → Header → State → Type 0) (h : Header) (market : M) : Type 0 where
-  pub entries : List Entry
-  pub legal : IsLegal h entries
-  pub at_the_end : stands market h (state h entries)
-
--- `books` has the local books of such a state
-pub record AreBooksOf {M : Type 0} (stands : M → Header → State → Type 0) (h : Header) (market : M) (books : ℕ → ℕ → LocalBook) : Type 0 where
-  pub entries : List Entry
-  pub legal : IsLegal h entries
-  pub at_the_end : stands market h (state h entries)
-  pub are_books : AreBooks h (state h entries) books

@@ -1,10 +1,9 @@
 pub mod Rows
 pub mod Notices
-pub mod Desks
 pub mod Books
 pub mod Report
 pub mod Output
-pub mod Day
 pub mod Prints
 pub mod Faults
 pub mod Laws
+pub mod inside

@@ -1,15 +1,13 @@
 -- The text of the day report.
-use Rattle.std.specs.Prelude.{ℕ, ◌<◌, List, [], ◌∷◌, ◌++◌, codes}
+use Rattle.std.specs.Prelude.{ℕ, List, [], ◌∷◌, ◌++◌, codes}
 use Rattle.std.specs.List.{flat_map}
 use Rattle.fx_amounts.specs.Numeral.{numeral}
 use Rattle.fx_text.specs.Number.{signed_numeral}
-use Rattle.fx_rules.specs.Lists.{Each}
-use Rattle.fx_rules.specs.Session.{Header, bank_count, pair_count, bank_name, pair_name}
+use Rattle.fx_rules.specs.Session.{Header, bank_name, pair_name}
 use Rattle.fx_rules.specs.State.{State}
 use Rattle.day_report.specs.declared.rows.Volume.{Volume}
 use Rattle.day_report.specs.declared.rows.Use.{Use}
 use Rattle.day_report.specs.declared.rows.Net.{Net}
-use Rattle.day_report.specs.declared.rows.Report.{Report}
 use Rattle.day_report.specs.Report.{volumes_of, uses_of, nets_of}
 use Rattle.reply_lines.specs.Rows.{row}
 
@@ -37,12 +35,3 @@ report_of h volumes uses nets =
 -- the report as it stands in a state
 abbrev pub report_text : Header → State → List ℕ
 report_text h S = report_of h (volumes_of h S) (uses_of h S) (nets_of h S)
-
--- its rows name the session's pairs and banks
-abbrev pub AreUsesOf : Header → List Use → Type 0
-AreUsesOf h uses = Each (λ credit. (credit.a < bank_count h) × (credit.b < bank_count h)) uses
-
-pub record IsReportOf (h : Header) (report : Report) : Type 0 where
-  pub pairs : Each (λ volume. volume.pair < pair_count h) report.volumes
-  pub banks : AreUsesOf h report.uses
-  pub owners : Each (λ net. net.bank < bank_count h) report.nets

@@ -1,7 +1,8 @@
 ghost use Rattle.std.specs.Prelude.{◌≡◌, ◌<◌, ℕ, OnOk};
 ghost use Rattle.fx_pieces.specs.Gathered.{Gathered};
 ghost use Rattle.fx_rules.specs.Session.{bank_count, pair_count};
-ghost use Rattle.reply_lines.specs.Books.{LocalBook, IsMarketOf, AreBooksOf, book_line, book_lines_below, books_below, books_text};
+ghost use Rattle.reply_lines.specs.Books.{LocalBook, book_line, book_lines_below, books_below, books_text};
+ghost use Rattle.reply_lines.specs.inside.Books.{IsMarketOf, AreBooksOf};
 
 use crate::lines::write_made;
 use crate::notices::{name_of, push_book};

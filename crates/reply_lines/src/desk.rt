@@ -4,7 +4,7 @@ ghost use Rattle.std.specs.List.{flat_map};
 ghost use Rattle.fx_pieces.specs.Gathered.{Gathered};
 ghost use Rattle.fx_rules.specs.Lists.{Each};
 ghost use Rattle.fx_rules.specs.Session.{bank_count};
-ghost use Rattle.reply_lines.specs.Desks.{nothing_yet, with_line, HaveGot, AreDesksOf};
+ghost use Rattle.reply_lines.specs.inside.Desks.{nothing_yet, with_line, HaveGot, AreDesksOf};
 ghost use Rattle.reply_lines.specs.Notices.{reply_notices, taken_notices, given_notices, fill_notices, notices_in, desk_line, desk_text};
 ghost use Rattle.reply_lines.specs.Output.{desks_text};
 ghost use Rattle.reply_lines.specs.Prints.{IsAnswerOf, IsFillOf, IsEntryOf};
@@ -27,7 +27,7 @@ pub(crate) struct Desk {
 
 impl Model for Desk {
     ghost use Rattle.std.specs.Prelude.{◌≤◌, vec_len};
-    ghost use Rattle.reply_lines.specs.Desks.{DeskSoFar, desk_with};
+    ghost use Rattle.reply_lines.specs.inside.Desks.{DeskSoFar, desk_with};
 
     ghost Value = { DeskSoFar };
 

@@ -1,7 +1,8 @@
 ghost use Rattle.std.specs.Prelude.{◌<◌};
 ghost use Rattle.fx_pieces.specs.Gathered.{Gathered};
 ghost use Rattle.fx_rules.specs.Session.{bank_count, pair_count};
-ghost use Rattle.reply_lines.specs.Report.{IsReportOf, volume_line, use_line, net_line, report_of};
+ghost use Rattle.reply_lines.specs.Report.{volume_line, use_line, net_line, report_of};
+ghost use Rattle.reply_lines.specs.inside.Report.{IsReportOf};
 
 use crate::lines::{Print, write_lines};
 use crate::notices::name_of;

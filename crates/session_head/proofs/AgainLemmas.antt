@@ -10,8 +10,10 @@ use Rattle.fx_text.proofs.NumberLemmas.{number_of-numeral}
 use Rattle.fx_rules.specs.Names.{is_name, is_code}
 use Rattle.fx_rules.specs.Session.{IsPairRule}
 use Rattle.fx_rules.specs.declared.session.PairRule.{PairRule}
-use Rattle.session_head.specs.Draft.{Draft, IsDraft}
-use Rattle.session_head.specs.Statement.{field_at, bank_in, new_name, pair_codes, is_new_pair, new_pair, lot_of, bank_statement, pair_statement, line_statement, start_statement, statement_of, CanState, spelling}
+use Rattle.session_head.specs.Draft.{Draft}
+use Rattle.session_head.specs.inside.Draft.{IsDraft}
+use Rattle.session_head.specs.Statement.{field_at, bank_in, new_name, pair_codes, is_new_pair, new_pair, lot_of, bank_statement, pair_statement, line_statement, start_statement, statement_of, spelling}
+use Rattle.session_head.specs.inside.Statement.{CanState}
 use Rattle.session_head.specs.declared.statement.Statement.{Statement}
 use Rattle.session_head.specs.declared.statement.Statement.TheVariants as statements
 

@@ -10,8 +10,9 @@ use Rattle.std.proofs.lemmas.Nat.{mul-add-lt, mod-mul-add, div-mul-add}
 use Rattle.fx_rules.specs.Names.{is_name}
 use Rattle.fx_rules.specs.Session.{Header, IsSession, IsPairRule, AreSamePair}
 use Rattle.fx_rules.specs.declared.session.PairRule.{PairRule}
-use Rattle.session_head.specs.Draft.{Draft, IsDraft, limit_place, no_limits, table, square, header_of}
-use Rattle.session_head.specs.Statement.{CanState}
+use Rattle.session_head.specs.Draft.{Draft, limit_place, no_limits, table, square, header_of}
+use Rattle.session_head.specs.inside.Draft.{IsDraft}
+use Rattle.session_head.specs.inside.Statement.{CanState}
 use Rattle.session_head.specs.declared.statement.Statement.{Statement}
 use Rattle.session_head.specs.declared.statement.Statement.TheVariants as statements
 

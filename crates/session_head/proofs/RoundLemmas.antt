@@ -18,8 +18,10 @@ use Rattle.fx_rules.specs.Session.{Header, IsSession, IsPairRule, AreSamePair, b
 use Rattle.fx_rules.specs.declared.session.PairRule.{PairRule}
 use Rattle.fx_rules.specs.Lists.{Each}
 use Rattle.fx_rules.proofs.ListLemmas.{Each-append}
-use Rattle.session_head.specs.Draft.{Draft, IsDraft, empty_draft, no_limits, limit_place, square}
-use Rattle.session_head.specs.Statement.{statement_of, CanState, spelling}
+use Rattle.session_head.specs.Draft.{Draft, empty_draft, no_limits, limit_place, square}
+use Rattle.session_head.specs.inside.Draft.{IsDraft}
+use Rattle.session_head.specs.Statement.{statement_of, spelling}
+use Rattle.session_head.specs.inside.Statement.{CanState}
 use Rattle.session_head.specs.Head.{Head, Begun, Drafting, Started, next, stated, with_line, with_lines, read_head, session_of}
 use Rattle.session_head.specs.HeadText.{each_below, limit_statement, limits_of, statements_of, lines_text, head_text_of}
 use Rattle.session_head.specs.declared.statement.Statement.{Statement}

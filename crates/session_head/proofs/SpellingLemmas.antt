@@ -11,8 +11,10 @@ use Rattle.fx_rules.specs.Names.{is_name}
 use Rattle.fx_rules.specs.Session.{IsPairRule, pair_text}
 use Rattle.fx_rules.specs.declared.session.PairRule.{PairRule}
 use Rattle.fx_rules.proofs.NameTexts.{HasNameBytes-name, HasPairBytes-pair_text}
-use Rattle.session_head.specs.Draft.{Draft, IsDraft}
-use Rattle.session_head.specs.Statement.{field_at, CanState, spelling}
+use Rattle.session_head.specs.Draft.{Draft}
+use Rattle.session_head.specs.inside.Draft.{IsDraft}
+use Rattle.session_head.specs.Statement.{field_at, spelling}
+use Rattle.session_head.specs.inside.Statement.{CanState}
 use Rattle.session_head.specs.declared.statement.Statement.{Statement}
 use Rattle.session_head.specs.declared.statement.Statement.TheVariants as statements
 use Rattle.session_head.proofs.LineTexts.{IsLine}

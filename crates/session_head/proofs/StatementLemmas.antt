@@ -15,7 +15,8 @@ use Rattle.fx_rules.specs.Session.{pair_text}
 use Rattle.fx_rules.specs.declared.session.PairRule.{PairRule}
 use Rattle.fx_rules.proofs.SessionLemmas.{missing_from_place}
 use Rattle.session_head.specs.Draft.{Draft}
-use Rattle.session_head.specs.Statement.{◌>>=◌, field_at, bank_in, new_name, pair_codes, is_new_pair, new_pair, lot_of, bank_statement, pair_statement, line_statement, start_statement, statement_of, CanState, spelling}
+use Rattle.session_head.specs.Statement.{◌>>=◌, field_at, bank_in, new_name, pair_codes, is_new_pair, new_pair, lot_of, bank_statement, pair_statement, line_statement, start_statement, statement_of, spelling}
+use Rattle.session_head.specs.inside.Statement.{CanState}
 use Rattle.session_head.specs.declared.reason.HeadReason.{HeadReason}
 use Rattle.session_head.specs.declared.reason.HeadReason.TheVariants as reasons
 use Rattle.session_head.specs.declared.statement.Statement.{Statement}

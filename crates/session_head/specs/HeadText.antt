@@ -1,5 +1,5 @@
 -- The text of a header, in its one spelling.
-use Rattle.std.specs.Prelude.{ℕ, zero, suc, ◌<◌, nat_lt, if◌then◌else◌, List, [], ◌∷◌, ◌++◌, map, flat_map, codes}
+use Rattle.std.specs.Prelude.{ℕ, zero, suc, nat_lt, if◌then◌else◌, List, [], ◌∷◌, ◌++◌, map, flat_map, codes}
 use Rattle.fx_rules.specs.Session.{Header, bank_count, opening_limit}
 use Rattle.session_head.specs.Statement.{spelling}
 use Rattle.session_head.specs.declared.statement.Statement.{Statement}
@@ -14,11 +14,6 @@ each_below f (suc count) = each_below f count ++ f count
 abbrev pub limit_statement : Header → ℕ → ℕ → List Statement
 limit_statement h from to =
     if nat_lt 0 (opening_limit h from to) then statements.Line from to (opening_limit h from to) ∷ [] else []
-
--- the banks that a statement names by their places are among so many
-abbrev pub AreNamed : ℕ → Statement → Type 0
-AreNamed count (statements.Line from to limit) = (from < count) × (to < count)
-AreNamed count _ = Unit {0}
 
 -- the limits above 0 that a bank sets on the first so many banks
 abbrev pub limits_of : Header → ℕ → ℕ → List Statement

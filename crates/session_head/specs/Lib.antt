@@ -2,5 +2,5 @@ pub mod Reason
 pub mod Draft
 pub mod Statement
 pub mod Head
-pub mod Stage
 pub mod HeadText
+pub mod inside

@@ -1,9 +1,9 @@
 -- What a line of a header says, by its fields and what was declared above it: a statement, or the line's first fault.
-use Rattle.std.specs.Prelude.{ℕ, ◌≢◌, ◌<◌, ◌≤◌, ◌%◌, ◌^◌, Bool, not, ◌&&◌, ◌||◌, ◌==◌, nat_lt, nat_le, is_none, if◌then◌else◌, IsTrue, List, [], ◌∷◌, ◌++◌, length, take, drop, slice_index, slice_index_or, slice_set, position, codes, bytes_eq, All, Option, Some, None, ok_or, option_and_then, Result, Ok, Err}
+use Rattle.std.specs.Prelude.{ℕ, ◌%◌, ◌^◌, Bool, not, ◌&&◌, ◌||◌, ◌==◌, nat_lt, nat_le, is_none, if◌then◌else◌, List, [], ◌∷◌, ◌++◌, length, take, drop, slice_index, slice_index_or, slice_set, position, codes, bytes_eq, Option, Some, None, ok_or, option_and_then, Result, Ok, Err}
 use Rattle.fx_amounts.specs.Numeral.{numeral}
 use Rattle.fx_text.specs.Number.{number_of}
 use Rattle.fx_rules.specs.Names.{is_name, is_code}
-use Rattle.fx_rules.specs.Session.{IsPairRule, AreSamePair, pair_text}
+use Rattle.fx_rules.specs.Session.{pair_text}
 use Rattle.fx_rules.specs.declared.session.PairRule.{PairRule}
 use Rattle.session_head.specs.Draft.{Draft, limit_place}
 use Rattle.session_head.specs.declared.reason.HeadReason.{HeadReason}
@@ -13,6 +13,7 @@ use Rattle.session_head.specs.declared.statement.Statement.TheVariants as statem
 
 -- the first of two readings, and then the second; the first fault ends both
 infixl 10 ◌>>=◌
+
 abbrev pub ◌>>=◌ : {A B : Type 0} → Result A HeadReason → (A → Result B HeadReason) → Result B HeadReason
 (Ok x) >>= f = f x
 (Err reason) >>= f = Err reason
@@ -97,15 +98,6 @@ statement_of draft fields =
     else if bytes_eq (field_at fields 0) (codes "LINE") then line_statement draft fields
     else if bytes_eq (field_at fields 0) (codes "START") then start_statement draft fields
     else Err reasons.Word
-
--- a statement can be made of a draft
-abbrev pub CanState : Draft → Statement → Type 0
-CanState draft (statements.Bank name) =
-    (length draft.banks < 64) × IsTrue (is_name name) × All (λ standing. standing ≢ name) draft.banks
-CanState draft (statements.Pair rule) = (length draft.pairs < 32) × IsPairRule rule × All (λ standing. ¬ (AreSamePair standing rule)) draft.pairs
-CanState draft (statements.Line from to limit) =
-    (from < length draft.banks) × (to < length draft.banks) × (from ≢ to) × (limit ≤ 1000000000000000)
-CanState draft statements.Start = (2 ≤ length draft.banks) × (1 ≤ length draft.pairs)
 
 -- the fields of a statement in their one spelling, where these banks are declared
 abbrev pub spelling : List (List ℕ) → Statement → List (List ℕ)

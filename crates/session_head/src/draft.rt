@@ -1,6 +1,7 @@
 ghost use Rattle.std.specs.Prelude.{◌≡◌, ◌≢◌, ◌<◌, ◌≤◌, ◌&&◌, length, bytes_eq, position, slice_set, IfOk, IfSome, OnOk, OnErr};
 ghost use Rattle.session_head.specs.Draft.{no_limits, empty_draft, header_of, square, limit_place};
-ghost use Rattle.session_head.specs.Statement.{bank_in, new_name, with_statement, CanState, is_new_pair};
+ghost use Rattle.session_head.specs.Statement.{bank_in, new_name, with_statement, is_new_pair};
+ghost use Rattle.session_head.specs.inside.Statement.{CanState};
 
 use crate::statement::Statement;
 use fx_amounts::{BankId, Memory, Units};
@@ -22,7 +23,8 @@ pub(crate) struct Draft {
 }
 
 impl Model for Draft {
-    ghost use Rattle.session_head.specs.Draft.{Draft, IsDraft};
+    ghost use Rattle.session_head.specs.Draft.{Draft};
+    ghost use Rattle.session_head.specs.inside.Draft.{IsDraft};
 
     ghost Value = { Draft };
 

@@ -25,7 +25,7 @@ impl Model for HeadReader {
 
     ghost Value = { Head };
 
-    ghost use Rattle.session_head.specs.Stage.{head_of};
+    ghost use Rattle.session_head.specs.inside.Stage.{head_of};
 
     ghost view = { λ r. head_of r.lines r.stage };
 }
@@ -89,7 +89,7 @@ impl HeadReader {
 }
 
 impl Stage {
-    ghost use Rattle.session_head.specs.Stage.{head_of, taken, IsTaken, is_open};
+    ghost use Rattle.session_head.specs.inside.Stage.{head_of, taken, IsTaken, is_open};
 
     // Reads the line of that number.
     fn read(&mut self, alloc: Global, number: u64, line: &Line) -> Result<HeadStep, HeadStop>

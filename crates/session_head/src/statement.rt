@@ -1,8 +1,9 @@
 ghost use Rattle.std.specs.Prelude.{◌≡◌, ◌≤◌, Ok, IfOk, IfSome};
 ghost use Rattle.fx_text.specs.Number.{number_of};
-ghost use Rattle.session_head.specs.Draft.{IsDraft};
+ghost use Rattle.session_head.specs.inside.Draft.{IsDraft};
 ghost use Rattle.session_head.specs.declared.statement.Statement.{Statement as Declared};
-ghost use Rattle.session_head.specs.Statement.{statement_of, bank_statement, pair_statement, line_statement, start_statement, is_version, pair_codes, new_pair, lot_of, spelling, CanState};
+ghost use Rattle.session_head.specs.Statement.{statement_of, bank_statement, pair_statement, line_statement, start_statement, is_version, pair_codes, new_pair, lot_of, spelling};
+ghost use Rattle.session_head.specs.inside.Statement.{CanState};
 
 use crate::draft::Draft;
 use crate::reason::HeadReason;

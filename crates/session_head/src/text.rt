@@ -1,6 +1,7 @@
 ghost use Rattle.std.specs.Prelude.{◌≡◌, ◌<◌, ◌++◌, ◌∷◌, [], OnOk, OnErr, Some, map, length};
 ghost use Rattle.fx_rules.specs.Session.{IsSession, bank_count};
-ghost use Rattle.session_head.specs.HeadText.{head_text_of, lines_text, line_text, limits_of, each_below, AreNamed};
+ghost use Rattle.session_head.specs.HeadText.{head_text_of, lines_text, line_text, limits_of, each_below};
+ghost use Rattle.session_head.specs.inside.HeadText.{AreNamed};
 ghost use Rattle.fx_text.specs.Lines.{lines_of, rest_of};
 ghost use Rattle.session_head.specs.Head.{read_head, session_of};
 ghost use Rattle.session_head.specs.Statement.{spelling};

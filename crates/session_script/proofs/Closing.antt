@@ -9,8 +9,9 @@ use Rattle.session_head.specs.Head.{Head, read_head, session_of}
 use Rattle.session_head.specs.declared.reason.HeadReason.{HeadReason}
 use Rattle.session_script.specs.Script.{spoken_of, spoken_in, up_to_end, has_end, strays_in, HasSession, HasFault, HasEnd, EndsWithEnd, sent_in, strays_of}
 use Rattle.session_script.specs.Reading.{HasNoFault, HasNotStarted, GoesOn, Says}
-use Rattle.session_script.specs.Stage.{Tells, goes_on, most_strays}
-use Rattle.session_script.specs.Intake.{IsSettled}
+use Rattle.session_script.specs.Stage.{Tells, most_strays}
+use Rattle.session_script.specs.inside.Stage.{goes_on}
+use Rattle.session_script.specs.inside.Intake.{IsSettled}
 use Rattle.fx_rules.specs.declared.command.Sent.{Sent}
 use Rattle.session_script.proofs.ScriptLaws.{HasSession-one, HasSession-no_fault, length-spoken_of, length-commands_in, strays_in-few}
 

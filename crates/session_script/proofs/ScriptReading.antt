@@ -11,10 +11,14 @@ use Rattle.fx_text.specs.Lines.{lines_of}
 use Rattle.session_head.specs.Head as heads
 use Rattle.session_head.specs.Head.{read_head}
 use Rattle.session_script.specs.Input.{input_limit}
-use Rattle.session_script.specs.Stage.{StandsAt, is_open, session_at, sent_at, strays_at}
-use Rattle.session_script.specs.Intake.{StandsFor, IsSettled, Closed}
-use Rattle.session_script.specs.Reading.{GoesOn, HasNotStarted, IsPrompt, MetEnd, Says, Progressed, RoundCame, IsEnded, TextEnded, Stopped}
-use Rattle.session_script.specs.Rounds.{TookPromptly, ReadsOn, TookRound, HasRead, HasStopped}
+use Rattle.session_script.specs.Stage.{StandsAt, session_at, sent_at, strays_at}
+use Rattle.session_script.specs.inside.Stage.{is_open}
+use Rattle.session_script.specs.Intake.{StandsFor}
+use Rattle.session_script.specs.inside.Intake.{IsSettled, Closed}
+use Rattle.session_script.specs.Reading.{GoesOn, HasNotStarted, IsPrompt, MetEnd, Says, Progressed, IsEnded, TextEnded, Stopped}
+use Rattle.session_script.specs.inside.Reading.{RoundCame}
+use Rattle.session_script.specs.Rounds.{TookPromptly, HasRead, HasStopped}
+use Rattle.session_script.specs.inside.Rounds.{ReadsOn, TookRound}
 use Rattle.session_script.specs.declared.ends.EarlyEnd.{EarlyEnd}
 use Rattle.session_script.specs.declared.ends.EarlyEnd.TheVariants.{Cut, ReadFault, TooMuch}
 use Rattle.session_script.specs.declared.ends.TextEnd.{TextEnd}

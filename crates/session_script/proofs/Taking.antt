@@ -11,7 +11,8 @@ use Rattle.order_lines.specs.declared.spoken.Spoken.{Spoken}
 use Rattle.order_lines.specs.declared.spoken.Spoken.TheVariants.{Of, Stray, End, Passed}
 use Rattle.session_script.specs.Script.{is_started, spoken_of, up_to_end, has_end, commands_in, strays_in}
 use Rattle.fx_rules.specs.Sending.{IsSentOf}
-use Rattle.session_script.specs.Stage.{Tells, goes_on, counted, most_strays}
+use Rattle.session_script.specs.Stage.{Tells, most_strays}
+use Rattle.session_script.specs.inside.Stage.{goes_on, counted}
 use Rattle.fx_rules.specs.declared.command.Sent.{Sent}
 use Rattle.session_script.proofs.ScriptLaws.{session_of-more, spoken_of-append, spoken_of-start, has_end-more, up_to_end-more, has_end-append, up_to_end-append, commands_in-append, strays_in-append, commands_in-one, strays_in-one}
 

@@ -4,3 +4,4 @@ pub mod Stage
 pub mod Reading
 pub mod Intake
 pub mod Rounds
+pub mod inside

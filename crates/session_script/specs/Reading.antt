@@ -1,5 +1,5 @@
 -- How the input of a session ended, or that it goes on.
-use Rattle.std.specs.Prelude.{ℕ, ◌≡◌, ◌≤◌, ◌<◌, ◌⊎◌, List, ◌++◌, length, Option, Some, None, Result, Ok, Err}
+use Rattle.std.specs.Prelude.{ℕ, ◌≡◌, ◌≤◌, ◌<◌, ◌⊎◌, List, ◌++◌, length, Option, Some, None}
 use Rattle.std.specs.Io.KnownBytes.{IsAtEnd}
 use Rattle.fx_rules.specs.declared.command.Sent.{Sent}
 use Rattle.fx_rules.specs.Lists.{Each}
@@ -69,13 +69,6 @@ TextEnded known input (Early early) = EndedEarly known input early
 abbrev pub Progressed : Option (List ℕ) → List ℕ → Option TextEnd → Type 0
 Progressed known input None = GoesOn input
 Progressed known input (Some end) = TextEnded known input end
-
--- what a round came to
-abbrev pub RoundCame : Option (List ℕ) → List ℕ → Result (Option TextEnd) Stop → Type 0
-RoundCame known input (Ok progress) = Progressed known input progress
-RoundCame known input (Err (Header line reason)) = HasFault input line reason
-RoundCame known input (Err (EarlyStop early)) = ⊥
-RoundCame known input (Err Memory) = Unit {0}
 
 -- why the reading of a text stopped before START
 abbrev pub Stopped : Option (List ℕ) → List ℕ → Stop → Type 0

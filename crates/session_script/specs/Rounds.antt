@@ -1,5 +1,5 @@
 -- What a reading took of its source, round by round.
-use Rattle.std.specs.Prelude.{ℕ, ◌≡◌, ◌≤◌, List, ◌++◌, length, Option, Some, Result, Ok, Err, OnOk}
+use Rattle.std.specs.Prelude.{ℕ, ◌≡◌, ◌≤◌, List, ◌++◌, length, Some, Result, Ok, Err}
 use Rattle.fx_edges.specs.Faults.{Rose}
 use Rattle.fx_edges.specs.Reading.{Took}
 use Rattle.fx_rules.specs.declared.command.Sent.{Sent}
@@ -7,17 +7,16 @@ use Rattle.fx_rules.specs.Session.{Header}
 use Rattle.session_script.specs.Input.{input_limit}
 use Rattle.session_script.specs.Stage.{session_at, sent_at, strays_at}
 use Rattle.session_script.specs.Intake.{StandsFor}
-use Rattle.session_script.specs.Reading.{GoesOn, IsPrompt, Says, Progressed, RoundCame, Stopped}
+use Rattle.session_script.specs.Reading.{IsPrompt, Says, Progressed, Stopped}
 use Rattle.session_script.specs.declared.ends.EarlyEnd.TheVariants.{ReadFault}
-use Rattle.session_script.specs.declared.ends.TextEnd.{TextEnd}
 use Rattle.session_script.specs.declared.ends.TextEnd.TheVariants.{Early}
 use Rattle.session_script.specs.declared.ends.Stop.{Stop}
 use Rattle.session_script.specs.declared.ends.Stop.TheVariants.{Early as EarlyStop}
-use Rattle.session_script.specs.declared.intake.Intake.{Intake}
 use Rattle.session_script.specs.declared.reading.Reading.{Reading}
 
 module _ {S : Type 0} (left : S → Option (List ℕ)) (faults : S → ℕ) (before now : S) where
   -- some input was taken, at most the limit, by reads that stop where the text ends
+
   pub record TookPromptly : Type 0 where
     pub input : List ℕ
     pub took : Took left faults before now input
@@ -25,23 +24,7 @@ module _ {S : Type 0} (left : S → Option (List ℕ)) (faults : S → ℕ) (bef
     pub prompt : IsPrompt input
 
   -- the intake was given this input, which goes on
-  pub record ReadsOn (intake : Intake) (former : List Sent) (input : List ℕ) : Type 0 where
-    pub took : Took left faults before now input
-    pub stands : StandsFor intake input former
-    pub goes_on : GoesOn input
 
-  -- a round took more of it, and came to this; a read fault is the source's
-  pub record TookRound (intake : Intake) (former : List Sent) (begun : List ℕ) (result : Result (Option TextEnd) Stop) : Type 0 where
-    pub more : List ℕ
-    pub took : Took left faults before now (begun ++ more)
-    pub within : length (begun ++ more) ≤ input_limit
-    pub prompt : IsPrompt (begun ++ more)
-    pub stands : OnOk result (StandsFor intake (begun ++ more) former)
-    pub came : RoundCame (left now) (begun ++ more) result
-    pub cause : result ≡ Ok (Some (Early ReadFault)) → Rose (faults before) (faults now)
-
-  -- The rounds so far took some input, at most the limit. It says this session and, up to the END line, all these commands,
-  -- the last round's at their end. How it ended is by what it says, and a read fault is the source's.
   pub record HasRead (reading : Reading) (h : Header) (all : List Sent) : Type 0 where
     pub input : List ℕ
     pub took : Took left faults before now input
@@ -57,6 +40,7 @@ module _ {S : Type 0} (left : S → Option (List ℕ)) (faults : S → ℕ) (bef
     pub stands : StandsFor reading.intake input former
 
   -- the reading stopped before START
+
   pub record HasStopped (stop : Stop) : Type 0 where
     pub input : List ℕ
     pub took : Took left faults before now input
@@ -66,6 +50,7 @@ module _ {S : Type 0} (left : S → Option (List ℕ)) (faults : S → ℕ) (bef
     pub cause : stop ≡ EarlyStop ReadFault → Rose (faults before) (faults now)
 
   -- the rounds up to START
+
   abbrev pub HasBegun : Result Reading Stop → Type 0
   HasBegun (Ok reading) = (h : Header) × HasRead reading h (sent_at reading.intake.stage)
   HasBegun (Err stop) = HasStopped stop

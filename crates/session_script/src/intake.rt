@@ -4,7 +4,7 @@ ghost use Rattle.std.specs.Prelude.{ℕ, ◌≡◌, ◌≢◌, ◌<◌, ◌≤�
 ghost use Rattle.std.specs.Bool.{MatchBool};
 ghost use Rattle.fx_rules.specs.declared.command.Sent.{Sent as SentCommand};
 ghost use Rattle.fx_rules.specs.Session.{Header as SessionHeader};
-ghost use Rattle.session_script.specs.Stage.{is_open};
+ghost use Rattle.session_script.specs.inside.Stage.{is_open};
 
 use crate::ends::{EarlyEnd, Stop, TextEnd};
 use fx_amounts::Memory;
@@ -39,9 +39,10 @@ pub(crate) struct Intake {
 
 impl Intake {
     ghost use Rattle.session_script.specs.Stage.{sent_at, session_at};
-    ghost use Rattle.session_script.specs.Intake.{StandsFor, IsSettled, Closed};
+    ghost use Rattle.session_script.specs.Intake.{StandsFor};
+    ghost use Rattle.session_script.specs.inside.Intake.{IsSettled, Closed};
     ghost use Rattle.session_script.specs.Reading.{GoesOn};
-    ghost use Rattle.session_script.specs.Rounds.{ReadsOn, TookRound};
+    ghost use Rattle.session_script.specs.inside.Rounds.{ReadsOn, TookRound};
 
     /// An intake of no bytes. It takes no memory.
     pub(crate) fn new(alloc: Global) -> Intake

@@ -16,7 +16,7 @@ pub struct Script {
 }
 
 impl Script {
-    ghost use Rattle.session_script.specs.Stage.{Adds};
+    ghost use Rattle.session_script.specs.inside.Stage.{Adds};
 
     /// Adds what a line behind START says, and answers whether it is the END line. After `Err` the line is not added.
     pub(crate) fn add(&mut self, line: &Line) -> Result<bool, Memory>

@@ -24,7 +24,8 @@ use Rattle.fx_desk.specs.Streams.{stream_of, HasStreams}
 use Rattle.gateway_workers.specs.declared.lane.Lane.{Lane}
 use Rattle.gateway_workers.specs.Lanes.{IsReadyLane, LaneRan, IsDone}
 use Rattle.threaded_run.proofs.Making.{AreFilledTo}
-use Rattle.threaded_run.specs.Lanes.{AreFilled, CanServe, HaveServed, IsLaneOf, next_lane}
+use Rattle.threaded_run.specs.Lanes.{CanServe, HaveServed, IsLaneOf}
+use Rattle.threaded_run.specs.inside.Lanes.{AreFilled, next_lane}
 
 among_at : {X : Type 0} (xs : List X) (k : ℕ) (d : X) → k < length xs → Among (get_or xs k d) xs
 among_at [] k d within = absurd (omega arith)

@@ -18,7 +18,8 @@ use Rattle.fx_rules.proofs.ListLemmas.{filter_cons_true, filter_cons_false}
 use Rattle.fx_chronicle.specs.Faces.{Witness, witness, AreNew}
 use Rattle.fx_desk.specs.Streams.{stream_of}
 use Rattle.gateway_workers.specs.declared.lane.Lane.{Lane}
-use Rattle.threaded_run.specs.Lanes.{AreStreams, AreFilled, HaveServed, IsLaneOf, IsFresh, next_lane}
+use Rattle.threaded_run.specs.Lanes.{HaveServed, IsLaneOf}
+use Rattle.threaded_run.specs.inside.Lanes.{AreStreams, AreFilled, IsFresh, next_lane}
 
 -- one more command of a bank, and of another
 pushed : (bank : ℕ) (sent : List Sent) (s : Sent) → stream_of bank (sent ++ s ∷ []) ≡ stream_of bank sent ++ stream_of bank (s ∷ [])

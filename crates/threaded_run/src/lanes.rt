@@ -2,7 +2,8 @@ ghost use Rattle.std.specs.Prelude.{◌≡◌, ◌<◌, [], map, IfOk, OnOk};
 ghost use Rattle.fx_rules.specs.Lists.{Each};
 ghost use Rattle.fx_rules.specs.Session.{IsSession, sender_count};
 ghost use Rattle.fx_chronicle.specs.Faces.{AreNew};
-ghost use Rattle.threaded_run.specs.Lanes.{AreFilled, AreStreams, CanServe, HaveServed};
+ghost use Rattle.threaded_run.specs.Lanes.{CanServe, HaveServed};
+ghost use Rattle.threaded_run.specs.inside.Lanes.{AreFilled, AreStreams};
 
 use fx_amounts::Memory;
 use fx_chronicle::Naming;

@@ -24,7 +24,8 @@ pub(crate) enum Stage {
 }
 
 impl Stage {
-    ghost use Rattle.session_script.specs.Stage.{StandsAt, is_open, sent_at, session_at};
+    ghost use Rattle.session_script.specs.Stage.{StandsAt, sent_at, session_at};
+    ghost use Rattle.session_script.specs.inside.Stage.{is_open};
 
     /// The stage before the first line. It takes no memory.
     pub(crate) fn new(alloc: Global) -> Stage

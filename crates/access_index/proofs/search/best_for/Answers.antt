@@ -2,7 +2,7 @@ use Rattle.std.proofs.Common.{ℕ, ◌≡◌, ◌+◌, List, [], ◌∷◌, ◌+
 use Rattle.std.proofs.lemmas.List.{take_all, take_more}
 use Rattle.std.specs.List.{Contains}
 use Rattle.access_index.specs.Listed.{listed}
-use Rattle.access_index.specs.Search.{IsBestAmong, wants}
+use Rattle.access_index.specs.inside.Search.{IsBestAmong, wants}
 use Rattle.access_index.proofs.Listing.{listed_within}
 use Rattle.access_index.proofs.Wanting.{listed_best, none_among}
 use Rattle.access_index.proofs.search.best_for.Goals as goal

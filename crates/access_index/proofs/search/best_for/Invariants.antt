@@ -1,5 +1,6 @@
 use Rattle.std.proofs.Common.{◌≤◌, ◌+◌, take}
-use Rattle.access_index.specs.Search.{AllInTime, IsBestAmong, wants}
+use Rattle.access_index.specs.Search.{AllInTime}
+use Rattle.access_index.specs.inside.Search.{IsBestAmong, wants}
 use Rattle.access_index.proofs.search.best_for.Given as goal
 
 -- the best of the banks so far

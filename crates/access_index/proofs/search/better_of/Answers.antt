@@ -2,7 +2,7 @@ use Rattle.std.proofs.Common.{Option, sym, subst}
 use Rattle.price_levels.specs.declared.place.Place.{Place}
 use Rattle.price_levels.specs.Ladder.{IsFirstOf}
 use Rattle.access_index.specs.Owned.{row_at}
-use Rattle.access_index.specs.Search.{wants}
+use Rattle.access_index.specs.inside.Search.{wants}
 use Rattle.access_index.proofs.Wanting.{best_stays-none, best_changes, best_stays}
 use Rattle.access_index.proofs.search.better_of.Goals as goal
 

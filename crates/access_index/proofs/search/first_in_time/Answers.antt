@@ -2,7 +2,7 @@ use Rattle.std.proofs.Common.{◌<◌, Option, Some, ap, sym, subst, ◌∙◌, 
 use Rattle.std.specs.Option.{option_copied}
 use Rattle.price_levels.specs.declared.place.Place.{Place}
 use Rattle.access_index.specs.Owned.{is_ahead}
-use Rattle.access_index.specs.Search.{Walks, left_in}
+use Rattle.access_index.specs.inside.Search.{Walks, left_in}
 use Rattle.access_index.proofs.Walking.{left_falls, walk_begins, walk_ends, walk_finds, walk_goes}
 use Rattle.access_index.proofs.search.first_in_time.Goals as goal
 

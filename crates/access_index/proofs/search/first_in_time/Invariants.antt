@@ -1,7 +1,7 @@
 use Rattle.std.proofs.Common.{◌≡◌, ◌+◌}
 use Rattle.std.specs.Option.{option_copied}
 use Rattle.access_index.specs.Owned.{AreInTime, is_ahead}
-use Rattle.access_index.specs.Search.{Walks, left_in}
+use Rattle.access_index.specs.inside.Search.{Walks, left_in}
 use Rattle.access_index.proofs.search.first_in_time.Given as goal
 
 -- all that are looked for are still ahead

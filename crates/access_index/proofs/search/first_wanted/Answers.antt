@@ -3,7 +3,7 @@ use Rattle.std.specs.Option.{option_copied}
 use Rattle.price_levels.specs.declared.place.Place.{Place}
 use Rattle.price_levels.specs.Ladder.{IsFirstOf}
 use Rattle.access_index.specs.Owned.{row_at}
-use Rattle.access_index.specs.Search.{wants}
+use Rattle.access_index.specs.inside.Search.{wants}
 use Rattle.access_index.proofs.Wanting.{wants_none-reach, wants_none-ahead, wants_none-allowed, wants_first}
 use Rattle.access_index.proofs.search.first_wanted.Goals as goal
 

@@ -1,6 +1,6 @@
 -- The best of those that the book seeks is the best of the bank's.
 use Rattle.std.proofs.Common.{refl, sym, subst, take}
-use Rattle.credit_raise.specs.Prices.{IsTop}
+use Rattle.credit_raise.specs.inside.Prices.{IsTop}
 use Rattle.credit_raise.proofs.Quiet.{top-some, top-none, reach_held}
 use Rattle.credit_raise.proofs.prices.best_of.Goals as goal
 

@@ -3,7 +3,8 @@ use Rattle.std.proofs.Common.{[], List, sym, subst, ◌*◌, ◌≤◌}
 use Rattle.fx_rules.specs.declared.orders.Fill.{Fill}
 use Rattle.fx_rules.specs.Lists.{Each}
 use Rattle.fx_rules.specs.Raise.{Turned}
-use Rattle.credit_raise.specs.Two.{IsFillOf, lots_of, turns}
+use Rattle.credit_raise.specs.Two.{IsFillOf, lots_of}
+use Rattle.credit_raise.specs.inside.Two.{turns}
 use Rattle.credit_raise.proofs.Paying.{played-cost, played-parties}
 use Rattle.credit_raise.proofs.Raised.{raised-turned, turns-owners}
 use Rattle.credit_raise.proofs.raise.plan_raise.Goals as goal

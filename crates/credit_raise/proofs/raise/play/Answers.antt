@@ -8,8 +8,8 @@ use Rattle.fx_rules.specs.declared.orders.Resting.{Resting}
 use Rattle.fx_rules.specs.Lists.{Each}
 use Rattle.fx_rules.proofs.ListLemmas.{Each-among, Each-weaker}
 use Rattle.global_book.specs.Book.{IsHeld, first}
-use Rattle.credit_raise.specs.Two.{is_of_two_from, turns}
-use Rattle.credit_raise.specs.Playing.{Played, joined, lessened_all}
+use Rattle.credit_raise.specs.inside.Two.{is_of_two_from, turns}
+use Rattle.credit_raise.specs.inside.Playing.{Played, joined, lessened_all}
 use Rattle.credit_raise.proofs.Playing.{played-turn}
 use Rattle.credit_raise.proofs.Walking.{turn-of, turns-next, turns-none, turns-past, fewer, none_waits, StoodIn, stood-joined, earlier-joined}
 use Rattle.credit_raise.proofs.raise.play.Goals as goal

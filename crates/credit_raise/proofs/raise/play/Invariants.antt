@@ -2,8 +2,8 @@ use Rattle.std.proofs.Common.{◌≡◌, ◌<◌, ◌++◌, [], List, length}
 use Rattle.std.specs.List.{filter}
 use Rattle.fx_rules.specs.declared.orders.Fill.{Fill}
 use Rattle.fx_rules.specs.Lists.{Each}
-use Rattle.credit_raise.specs.Two.{is_of_two_from, turns}
-use Rattle.credit_raise.specs.Playing.{Played}
+use Rattle.credit_raise.specs.inside.Two.{is_of_two_from, turns}
+use Rattle.credit_raise.specs.inside.Playing.{Played}
 use Rattle.credit_raise.proofs.Walking.{StoodIn}
 use Rattle.credit_raise.proofs.raise.play.Given as goal
 

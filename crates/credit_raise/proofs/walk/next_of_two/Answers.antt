@@ -2,7 +2,7 @@ use Rattle.std.proofs.Common.{ap, ◌∙◌}
 use Rattle.global_book.specs.Book.{first}
 use Rattle.std.specs.List.{filter}
 use Rattle.global_book.specs.Book.{is_of_from}
-use Rattle.credit_raise.specs.Playing.{earlier_of}
+use Rattle.credit_raise.specs.inside.Playing.{earlier_of}
 use Rattle.credit_raise.proofs.Walking.{first_of_two}
 use Rattle.credit_raise.proofs.walk.next_of_two.Goals as goal
 

@@ -4,8 +4,8 @@ use Rattle.fx_rules.specs.State.{State}
 use Rattle.fx_rules.specs.History.{state}
 use Rattle.day_report.specs.declared.rows.Report.{Report}
 use Rattle.day_report.specs.Report.{volumes_of, uses_of, nets_of, balance}
-use Rattle.day_report.specs.Parts.{IsDayOf}
-use Rattle.day_report.specs.Day.{IsReportOf}
+use Rattle.day_report.specs.inside.Parts.{IsDayOf}
+use Rattle.day_report.specs.inside.Day.{IsReportOf}
 use Rattle.day_report.proofs.Balance.{nets-balance}
 use Rattle.fx_rules.proofs.Trading.{legal-trades}
 use Rattle.day_report.proofs.Trading.{legal-fits, legal-to, state-to}

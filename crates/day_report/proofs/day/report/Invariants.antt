@@ -1,6 +1,6 @@
 use Rattle.std.proofs.Common.{take}
 use Rattle.fx_rules.specs.History.{state}
-use Rattle.day_report.specs.Parts.{IsDayOf}
+use Rattle.day_report.specs.inside.Parts.{IsDayOf}
 use Rattle.day_report.proofs.day.report.Given as goal
 
 -- the day is that of the entries that were passed

@@ -2,7 +2,7 @@ use Rattle.std.proofs.Common.{◌+◌, ◌++◌, map, nat_lt, refl, ap, sym, ◌
 use Rattle.std.proofs.lemmas.List.{append-nil}
 use Rattle.std.specs.List.{filter}
 use Rattle.fx_rules.specs.Lists.{below}
-use Rattle.day_report.specs.Lists.{use_in}
+use Rattle.day_report.specs.inside.Lists.{use_in}
 use Rattle.day_report.proofs.Listing.{uses-none, uses-step, use-made}
 use Rattle.day_report.proofs.uses.push_uses.Goals as goal
 

@@ -1,7 +1,7 @@
 use Rattle.std.proofs.Common.{◌≡◌, ◌++◌, map, nat_lt}
 use Rattle.std.specs.List.{filter}
 use Rattle.fx_rules.specs.Lists.{below}
-use Rattle.day_report.specs.Lists.{use_in}
+use Rattle.day_report.specs.inside.Lists.{use_in}
 use Rattle.day_report.proofs.uses.push_uses.Given as goal
 
 -- the credit with the banks behind `a` that were passed

@@ -1,7 +1,7 @@
 use Rattle.std.proofs.Common.{◌≡◌}
 use Rattle.std.specs.List.{flat_map}
 use Rattle.fx_rules.specs.Lists.{below}
-use Rattle.day_report.specs.Lists.{uses_behind}
+use Rattle.day_report.specs.inside.Lists.{uses_behind}
 use Rattle.day_report.proofs.uses.uses.Given as goal
 
 -- the credit of the banks that were passed with those behind them

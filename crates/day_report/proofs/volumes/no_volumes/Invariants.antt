@@ -1,6 +1,6 @@
 use Rattle.std.proofs.Common.{ℕ, ◌≡◌, ◌<◌, length, get_or}
 use Rattle.day_report.specs.declared.rows.Volume.{Volume}
-use Rattle.day_report.specs.Parts.{no_volume}
+use Rattle.day_report.specs.inside.Parts.{no_volume}
 use Rattle.day_report.proofs.volumes.no_volumes.Given as goal
 
 -- the pairs that were passed have no volume

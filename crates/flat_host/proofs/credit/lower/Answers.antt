@@ -3,7 +3,7 @@ use Rattle.std.proofs.Common.{ℕ, ◌≡◌, ◌≤◌, ◌^◌, true, false, L
 use Rattle.std.proofs.lemmas.Bool.{false≢true, cases_lt}
 use Rattle.fx_rules.specs.declared.orders.ActiveOrder.{ActiveOrder}
 use Rattle.fx_rules.specs.Sweep.{is_order}
-use Rattle.flat_host.specs.Parts.{StandsAt}
+use Rattle.flat_host.specs.inside.Parts.{StandsAt}
 use Rattle.flat_host.proofs.Lowered.{lowered-set, lowered-removed, lowered-none}
 use Rattle.flat_host.proofs.credit.lower.Goals as goal
 

@@ -1,5 +1,5 @@
 use Rattle.std.proofs.Common.{◌≡◌, take}
-use Rattle.flat_host.specs.Walks.{against_in}
+use Rattle.flat_host.specs.inside.Walks.{against_in}
 use Rattle.flat_host.proofs.depth.orders_against.Given as goal
 
 -- those of the orders that were passed

@@ -1,5 +1,5 @@
 use Rattle.std.proofs.Common.{ℕ, ◌≡◌, ◌<◌, slice_index, vec_len}
-use Rattle.flat_host.specs.Opening.{limit_at}
+use Rattle.flat_host.specs.inside.Opening.{limit_at}
 use Rattle.flat_host.proofs.host.opening_limits.Given as goal
 
 -- the limits at the places that were passed

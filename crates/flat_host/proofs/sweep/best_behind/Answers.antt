@@ -1,6 +1,6 @@
 -- The best so far stays the best, or the next order takes its place.
 use Rattle.std.proofs.Common.{◌+◌, Some, sym, ap, ◌∙◌, subst, take}
-use Rattle.flat_host.specs.Search.{is_candidate, candidates, IsBestOf}
+use Rattle.flat_host.specs.inside.Search.{is_candidate, candidates, IsBestOf}
 use Rattle.flat_host.proofs.Searching.{best-yes, best-no}
 use Rattle.flat_host.proofs.sweep.best_behind.Goals as goal
 use Rattle.flat_host.proofs.sweep.best_behind.Goals.{then-is_candidate, else-is_candidate}

@@ -1,5 +1,5 @@
 use Rattle.std.proofs.Common.{take}
-use Rattle.flat_host.specs.Search.{candidates, IsBestOf}
+use Rattle.flat_host.specs.inside.Search.{candidates, IsBestOf}
 use Rattle.flat_host.proofs.sweep.best_behind.Given as goal
 
 -- the best so far is the best of the orders that were passed

@@ -5,7 +5,7 @@ use Rattle.std.specs.declared.vec.Vec.{Vec}
 use Rattle.fx_amounts.specs.declared.memory.Memory.{Memory}
 use Rattle.fx_rules.specs.declared.outcome.Entry.{Entry}
 use Rattle.session_script.specs.declared.ends.TextEnd.{TextEnd}
-use Rattle.fx_cli.specs.Rounds.{ThreadsServedText}
+use Rattle.fx_cli.specs.inside.Rounds.{ThreadsServedText}
 use Rattle.fx_cli.proofs.Served.{for_want, promptly}
 use Rattle.fx_cli.proofs.run.serve_at.Goals as goal
 

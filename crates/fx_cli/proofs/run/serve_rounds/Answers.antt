@@ -3,7 +3,7 @@ use Rattle.std.proofs.Common.{rules, ◌≡◌, ◌++◌, Some, None, Result, sy
 use Rattle.fx_amounts.specs.declared.memory.Memory.{Memory}
 use Rattle.session_script.specs.declared.ends.TextEnd.{TextEnd}
 use Rattle.session_script.specs.Stage.{sent_at}
-use Rattle.fx_cli.specs.Rounds.{LanesServedText}
+use Rattle.fx_cli.specs.inside.Rounds.{LanesServedText}
 use Rattle.fx_cli.proofs.Served.{can_serve_lanes, for_want, lanes_served, less_to_read, promptly, taken_within}
 use Rattle.fx_cli.proofs.run.serve_rounds.Goals as goal
 

@@ -3,7 +3,7 @@ use Rattle.std.proofs.Common.{rules, ◌≡◌, map, Some, None, Result, sym, �
 use Rattle.fx_amounts.specs.declared.memory.Memory.{Memory}
 use Rattle.fx_rules.specs.Sending.{sent_by}
 use Rattle.session_script.specs.declared.ends.TextEnd.{TextEnd}
-use Rattle.fx_cli.specs.Rounds.{ServedText}
+use Rattle.fx_cli.specs.inside.Rounds.{ServedText}
 use Rattle.fx_cli.proofs.Served.{can_serve, for_want, less_to_read, promptly, round_served, taken_within}
 use Rattle.fx_cli.proofs.serial.serve_rounds.Goals as goal
 

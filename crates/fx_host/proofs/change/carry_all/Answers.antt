@@ -2,7 +2,7 @@ use Rattle.std.proofs.Common.{◌≡◌, ap, subst, ◌∙◌, arith}
 use Rattle.fx_rules.specs.Session.{pair_count}
 use Rattle.fx_rules.specs.Keyed.{pair_key}
 use Rattle.credit_book.specs.Recorded.{Recorded, signed_by}
-use Rattle.pair_shards.specs.Shards.{PairsPend}
+use Rattle.pair_shards.specs.inside.Shards.{PairsPend}
 use Rattle.pair_shards.proofs.Lines.{all_signed}
 use Rattle.fx_host.proofs.Changing.{signs-pair}
 use Rattle.fx_host.proofs.change.carry_all.Goals as goal

@@ -1,5 +1,5 @@
 use Rattle.std.proofs.Common.{◌≡◌}
-use Rattle.pair_shards.specs.Shards.{PairsPend}
+use Rattle.pair_shards.specs.inside.Shards.{PairsPend}
 use Rattle.fx_host.proofs.change.carry_all.Given as goal
 
 -- the pairs so far have signed, and the others still have to

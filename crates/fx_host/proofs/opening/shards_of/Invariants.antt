@@ -1,5 +1,5 @@
 use Rattle.std.proofs.Common.{◌≡◌, ◌+◌, length}
-use Rattle.fx_host.specs.Opening.{ArePairFronts}
+use Rattle.fx_host.specs.inside.Opening.{ArePairFronts}
 use Rattle.fx_host.proofs.opening.shards_of.Given as goal
 
 -- each front so far has its shard, and those that are left are of the pairs behind

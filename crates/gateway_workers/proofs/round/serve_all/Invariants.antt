@@ -1,5 +1,5 @@
 use Rattle.std.proofs.Common.{◌≡◌, length}
-use Rattle.gateway_workers.specs.Serving.{AllLanesRan}
+use Rattle.gateway_workers.specs.inside.Serving.{AllLanesRan}
 use Rattle.gateway_workers.proofs.round.serve_all.Given as goal
 
 -- each lane has run

@@ -1,5 +1,5 @@
 use Rattle.std.proofs.Common.{◌≡◌, length}
-use Rattle.host_trials.specs.Passes.{AreOfBanks}
+use Rattle.host_trials.specs.inside.Passes.{AreOfBanks}
 use Rattle.host_trials.proofs.day.submit_all.Given as goal
 
 -- each bank has submitted at most as many commands as were sent so far

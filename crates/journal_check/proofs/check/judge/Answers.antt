@@ -3,7 +3,7 @@ use Rattle.fx_rules.specs.declared.outcome.Entry.{Entry}
 use Rattle.pair_host.specs.Standing.{HostState, stands}
 use Rattle.market_run.specs.Ran.{Ran}
 use Rattle.journal_check.proofs.AtTheEnd.{at_the_end}
-use Rattle.journal_check.specs.Stops.{IsComparedWith}
+use Rattle.journal_check.specs.inside.Stops.{IsComparedWith}
 use Rattle.fx_rules.specs.Sending.{sent_by}
 use Rattle.std.proofs.lemmas.Result.{err_from_is_err_and}
 use Rattle.journal_check.proofs.JudgeLemmas.{judged_header, judged_count, judged_commands, judged_apart, judged_last}

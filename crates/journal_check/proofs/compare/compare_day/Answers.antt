@@ -1,5 +1,5 @@
 use Rattle.std.proofs.Common.{ℕ, Result, sym, subst}
-use Rattle.journal_check.specs.Stops.{IsComparedWith}
+use Rattle.journal_check.specs.inside.Stops.{IsComparedWith}
 use Rattle.journal_check.specs.declared.stop.Stop.{Stop}
 use Rattle.journal_check.proofs.CompareLemmas.{compared_whole, compared_part}
 use Rattle.journal_check.proofs.compare.compare_day.Goals as goal

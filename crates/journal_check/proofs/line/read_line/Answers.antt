@@ -1,5 +1,5 @@
 use Rattle.std.proofs.Common.{refl}
-use Rattle.journal_check.specs.Stops.{TooLong}
+use Rattle.journal_check.specs.inside.Stops.{TooLong}
 use Rattle.journal_check.proofs.line.read_line.Goals as goal
 
 pub returns-then-part-gt-MOST_BYTES : goal.returns-then-part-gt-MOST_BYTES

@@ -2,7 +2,7 @@ use Rattle.std.proofs.Common.{◌≡◌, ◌∙◌, ◌<◌, ◌∷◌, [], ℕ,
 use Rattle.fx_disk.specs.Disk.{with_piece, Only}
 use Rattle.fx_disk.proofs.Leaving.{leaves_at_start, leaves_weaker}
 use Rattle.keep_disk.specs.Blocks.{whole_blocks, IsClosedAt}
-use Rattle.keep_disk.specs.Keeping.{TornFrom}
+use Rattle.keep_disk.specs.inside.Keeping.{TornFrom}
 use Rattle.keep_disk.proofs.Closing.{closing, closed_blocks, closed_closed}
 use Rattle.keep_disk.proofs.Moments.{told_piece, told_before, at_rest_now, both_ok}
 use Rattle.keep_disk.proofs.open.close.Goals as goal

@@ -1,6 +1,6 @@
 use Rattle.std.proofs.Common.{◌≡◌, ◌-◌, ◌≤◌, length, take}
 use Rattle.fx_disk.specs.Disk.{WhereTold}
-use Rattle.keep_disk.specs.Keeping.{Untouched}
+use Rattle.keep_disk.specs.inside.Keeping.{Untouched}
 use Rattle.keep_disk.proofs.read.fill.Given as goal
 
 abbrev pub invariant-loop-at : goal.invariant-loop-at

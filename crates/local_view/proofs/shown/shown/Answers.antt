@@ -6,7 +6,7 @@ use Rattle.fx_rules.specs.declared.orders.Level.{Level}
 use Rattle.global_book.specs.Book.{Book}
 use Rattle.credit_lines.specs.Credit.{Credit}
 use Rattle.match_sweep.specs.Reaches.{IsReached}
-use Rattle.local_view.specs.LocalBook.{IsShown}
+use Rattle.local_view.specs.inside.LocalBook.{IsShown}
 use Rattle.local_view.proofs.Probing.{shown-reached}
 use Rattle.local_view.proofs.shown.shown.Goals as goal
 

@@ -6,7 +6,7 @@ use Rattle.std.specs.List.{Contains}
 use Rattle.fx_rules.specs.declared.orders.Resting.{Resting}
 use Rattle.fx_rules.specs.Lists.{Among}
 use Rattle.price_levels.specs.declared.place.Place.{Place}
-use Rattle.match_sweep.specs.Heads.{IsFound, to_come}
+use Rattle.match_sweep.specs.inside.Heads.{IsFound, to_come}
 use Rattle.match_sweep.proofs.Heading.{all_heads, none_at, one_set}
 use Rattle.match_sweep.proofs.heads.first_heads.Goals as goal
 

@@ -2,7 +2,7 @@ use Rattle.std.proofs.Common.{ℕ, ◌≡◌, ◌≤◌, ◌+◌, ◌/◌, None,
 use Rattle.std.specs.List.{Contains}
 use Rattle.std.specs.Option.{IfSome}
 use Rattle.fx_rules.specs.Lists.{Among}
-use Rattle.match_sweep.specs.Heads.{CameBefore, IsFound, to_come}
+use Rattle.match_sweep.specs.inside.Heads.{CameBefore, IsFound, to_come}
 use Rattle.match_sweep.proofs.heads.first_heads.Given as goal
 
 -- the heads of the banks that were passed, a step for each; of the others there are none

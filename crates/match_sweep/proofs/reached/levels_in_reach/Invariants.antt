@@ -1,5 +1,5 @@
 use Rattle.std.proofs.Common.{◌-◌, length}
-use Rattle.match_sweep.specs.Reaches.{BeginsAt}
+use Rattle.match_sweep.specs.inside.Reaches.{BeginsAt}
 use Rattle.match_sweep.proofs.LevelSteps.{OnTheWay}
 use Rattle.match_sweep.proofs.reached.levels_in_reach.Given as goal
 

@@ -4,7 +4,7 @@ use Rattle.fx_rules.specs.declared.orders.Fill.{Fill}
 use Rattle.fx_rules.specs.Sweep.{Taker}
 use Rattle.global_book.specs.Book.{Book}
 use Rattle.match_sweep.specs.declared.walk.Walk.{Walk}
-use Rattle.match_sweep.specs.Walks.{FromHere, StepsOn}
+use Rattle.match_sweep.specs.inside.Walks.{FromHere, StepsOn}
 use Rattle.match_sweep.proofs.Walking.{Went, went-whole, begun-sweep, begun-sum, begun-lots}
 use Rattle.match_sweep.proofs.sweeping.sweep.Goals as goal
 

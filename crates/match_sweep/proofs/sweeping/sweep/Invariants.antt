@@ -1,6 +1,6 @@
 use Rattle.std.proofs.Common.{◌≤◌, ◌+◌, length}
-use Rattle.match_sweep.specs.Heads.{CameBefore}
-use Rattle.match_sweep.specs.Walks.{steps_behind}
+use Rattle.match_sweep.specs.inside.Heads.{CameBefore}
+use Rattle.match_sweep.specs.inside.Walks.{steps_behind}
 use Rattle.match_sweep.proofs.Walking.{Went}
 use Rattle.match_sweep.proofs.sweeping.sweep.Given as goal
 

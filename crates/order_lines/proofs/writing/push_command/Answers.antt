@@ -1,7 +1,7 @@
 use Rattle.std.proofs.Common.{◌++◌, [], ◌∷◌}
 use Rattle.std.proofs.lemmas.Result.{on_ok_weaker, on_err_weaker}
 use Rattle.fx_rules.specs.Session.{bank_name}
-use Rattle.order_lines.specs.Printing.{fields_text}
+use Rattle.order_lines.specs.inside.Printing.{fields_text}
 use Rattle.order_lines.proofs.Printed.{kept_before, worded_line, whole_line}
 use Rattle.order_lines.proofs.writing.push_command.Goals as goal
 

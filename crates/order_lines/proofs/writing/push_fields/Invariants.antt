@@ -1,5 +1,5 @@
 use Rattle.std.proofs.Common.{◌≡◌, ◌++◌, take}
-use Rattle.order_lines.specs.Printing.{fields_text}
+use Rattle.order_lines.specs.inside.Printing.{fields_text}
 use Rattle.order_lines.proofs.writing.push_fields.Given as goal
 
 -- the fields so far are appended

@@ -1,4 +1,4 @@
-use Rattle.pair_host.specs.Books.{IsRecorded}
+use Rattle.pair_host.specs.inside.Books.{IsRecorded}
 use Rattle.pair_host.proofs.Holding.{HaveTurned}
 use Rattle.pair_host.proofs.every_pair.carry_all_recorded.Given as goal
 

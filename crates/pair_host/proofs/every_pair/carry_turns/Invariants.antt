@@ -1,4 +1,4 @@
-use Rattle.pair_host.specs.Books.{IsCarried}
+use Rattle.pair_host.specs.inside.Books.{IsCarried}
 use Rattle.pair_host.proofs.Holding.{HaveTurned}
 use Rattle.pair_host.proofs.every_pair.carry_turns.Given as goal
 

@@ -1,6 +1,6 @@
 use Rattle.std.proofs.Common.{◌≡◌, List, ◌++◌, [], ◌∷◌, length, ap, sym, subst, ◌∙◌, arith, length-append}
 use Rattle.global_book.specs.Book.{Book}
-use Rattle.pair_host.specs.Books.{AreBooks, AreEmpty}
+use Rattle.pair_host.specs.inside.Books.{AreBooks, AreEmpty}
 use Rattle.pair_host.proofs.Holding.{are-books-push, are-empty-push}
 use Rattle.pair_host.proofs.every_pair.empty_books.Goals as goal
 

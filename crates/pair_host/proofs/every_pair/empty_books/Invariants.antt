@@ -1,5 +1,5 @@
 use Rattle.std.proofs.Common.{◌≡◌, length}
-use Rattle.pair_host.specs.Books.{AreBooks, AreEmpty}
+use Rattle.pair_host.specs.inside.Books.{AreBooks, AreEmpty}
 use Rattle.pair_host.proofs.every_pair.empty_books.Given as goal
 
 -- the books of the pairs so far

@@ -1,6 +1,6 @@
 use Rattle.std.proofs.Common.{◌≡◌, length}
 use Rattle.credit_raise.specs.UnderWay.{command_of}
-use Rattle.pair_host.specs.Books.{PlansEach}
+use Rattle.pair_host.specs.inside.Books.{PlansEach}
 use Rattle.pair_host.proofs.every_pair.plan_turns.Given as goal
 
 -- the pairs so far had their turns

@@ -1,6 +1,6 @@
 use Rattle.std.proofs.Common.{ℕ, ◌<◌, ◌≤◌, get_or}
-use Rattle.price_levels.specs.Held.{Held}
-use Rattle.price_levels.specs.Layout.{AreWidened}
+use Rattle.price_levels.specs.inside.Held.{Held}
+use Rattle.price_levels.specs.inside.Layout.{AreWidened}
 use Rattle.price_levels.proofs.chunks.widen_each.Given as goal
 
 abbrev pub invariant-loop-chunk : goal.invariant-loop-chunk

@@ -1,6 +1,6 @@
 use Rattle.std.proofs.Common.{◌≡◌, ◌∙◌, ap, map, string_bytes, true}
 use Rattle.clap.specs.Words.{App, takes}
-use Rattle.program_words.specs.Tool.{tool}
+use Rattle.program_words.specs.inside.Tool.{tool}
 use Rattle.program_words.specs.declared.reading.WordsFault.{WordsFault}
 use Rattle.program_words.specs.declared.reading.WordsFault.TheVariants.{Memory}
 use Rattle.program_words.proofs.MatchedLemmas.{passed}

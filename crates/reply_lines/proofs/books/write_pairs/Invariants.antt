@@ -1,6 +1,7 @@
 use Rattle.std.proofs.Common.{ℕ}
 use Rattle.fx_pieces.specs.Gathered.{Kept}
-use Rattle.reply_lines.specs.Books.{LocalBook, AreBooksOf, book_lines_below}
+use Rattle.reply_lines.specs.Books.{LocalBook, book_lines_below}
+use Rattle.reply_lines.specs.inside.Books.{AreBooksOf}
 use Rattle.reply_lines.proofs.books.write_pairs.Given as goal
 
 -- the bank's local books of the pairs so far are written

@@ -1,7 +1,7 @@
 -- Each turn adds one entry's notices; at the end all are there.
 use Rattle.std.proofs.Common.{◌∙◌, ◌≡◌, arith, ap, length, replicate}
 use Rattle.fx_rules.specs.Session.{bank_count}
-use Rattle.reply_lines.specs.Desks.{nothing_yet}
+use Rattle.reply_lines.specs.inside.Desks.{nothing_yet}
 use Rattle.reply_lines.specs.Notices.{notices_in}
 use Rattle.reply_lines.specs.Prints.{IsEntryOf}
 use Rattle.reply_lines.proofs.Gathering.{got-more, got-all, desks-all}

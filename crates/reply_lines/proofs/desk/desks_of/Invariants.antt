@@ -1,7 +1,7 @@
 use Rattle.std.proofs.Common.{◌≡◌, length, take, drop}
 use Rattle.fx_rules.specs.Lists.{Each}
 use Rattle.fx_rules.specs.Session.{bank_count}
-use Rattle.reply_lines.specs.Desks.{HaveGot}
+use Rattle.reply_lines.specs.inside.Desks.{HaveGot}
 use Rattle.reply_lines.specs.Notices.{notices}
 use Rattle.reply_lines.specs.Prints.{IsEntryOf}
 use Rattle.reply_lines.proofs.desk.desks_of.Given as goal

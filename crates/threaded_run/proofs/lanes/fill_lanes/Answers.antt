@@ -1,5 +1,5 @@
 use Rattle.std.proofs.Common.{rules, ◌≡◌, ◌∷◌, ◌∙◌, ap, subst, arith, length, get_or}
-use Rattle.threaded_run.specs.Lanes.{next_lane}
+use Rattle.threaded_run.specs.inside.Lanes.{next_lane}
 use Rattle.threaded_run.proofs.Making.{AreLeft, one_filled, first_left, all_filled}
 use Rattle.threaded_run.proofs.Closing.{next-numbers}
 use Rattle.threaded_run.proofs.lanes.fill_lanes.Goals as goal

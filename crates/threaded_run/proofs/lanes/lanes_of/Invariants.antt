@@ -3,7 +3,7 @@ use Rattle.fx_rules.specs.declared.outcome.Entry.{Entry}
 use Rattle.fx_rules.specs.Lists.{Each}
 use Rattle.fx_chronicle.specs.Faces.{Witness}
 use Rattle.gateway_workers.specs.declared.lane.Lane.{Lane}
-use Rattle.threaded_run.specs.Lanes.{IsFresh}
+use Rattle.threaded_run.specs.inside.Lanes.{IsFresh}
 use Rattle.threaded_run.proofs.lanes.lanes_of.Given as goal
 
 -- the lanes so far have the first passes, in order

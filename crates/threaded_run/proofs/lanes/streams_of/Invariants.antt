@@ -1,5 +1,5 @@
 use Rattle.std.proofs.Common.{[], take}
-use Rattle.threaded_run.specs.Lanes.{AreStreams}
+use Rattle.threaded_run.specs.inside.Lanes.{AreStreams}
 use Rattle.threaded_run.proofs.lanes.streams_of.Given as goal
 
 -- so many banks have a stream, with nothing in it yet

@@ -2,7 +2,8 @@ use Rattle.std.proofs.Common.{◌≡◌, Result, Ok, Err, OnOk, sym, subst}
 use Rattle.fx_amounts.specs.declared.memory.Memory.{Memory}
 use Rattle.fx_rules.specs.Session.{Header}
 use Rattle.fx_rules.specs.State.{State}
-use Rattle.credit_raise.specs.UnderWay.{IsPairOf, IsUnderWay, with_plan}
+use Rattle.credit_raise.specs.UnderWay.{IsPairOf, IsUnderWay}
+use Rattle.credit_raise.specs.inside.UnderWay.{with_plan}
 use Rattle.credit_raise.proofs.Pairs.{goes_on}
 use Rattle.credit_raise.proofs.all_pairs.Raising.pair.Goals as goal
 

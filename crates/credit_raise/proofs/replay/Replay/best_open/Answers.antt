@@ -5,7 +5,7 @@ use Rattle.fx_amounts.specs.declared.side.Side.{Side}
 use Rattle.fx_rules.specs.declared.orders.Resting.{Resting}
 use Rattle.fx_rules.specs.Sweep.{IsBest, open_in}
 use Rattle.fx_rules.specs.Raise.{taker_of_resting}
-use Rattle.credit_raise.specs.Playing.{IsBestOf, only}
+use Rattle.credit_raise.specs.inside.Playing.{IsBestOf, only}
 use Rattle.credit_raise.proofs.Looking.{reach_taken, sought-open, opposite_twice}
 use Rattle.credit_raise.proofs.replay.Replay.best_open.Goals as goal
 

@@ -4,7 +4,7 @@ use Rattle.fx_rules.specs.declared.orders.Fill.{Fill}
 use Rattle.fx_rules.specs.declared.orders.Resting.{Resting}
 use Rattle.fx_rules.specs.Sweep.{Taker, fill_with}
 use Rattle.fx_rules.specs.Raise.{taker_of_resting}
-use Rattle.credit_raise.specs.Playing.{SweptAmong, lessened}
+use Rattle.credit_raise.specs.inside.Playing.{SweptAmong, lessened}
 use Rattle.credit_raise.proofs.Playing.{paid-append, lessened_all-append, maker-of, sweep-step, one_more}
 use Rattle.credit_raise.proofs.replay.Replay.sweep.Goals as goal
 

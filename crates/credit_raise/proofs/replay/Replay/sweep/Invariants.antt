@@ -1,7 +1,7 @@
 use Rattle.std.proofs.Common.{ℕ, ◌≡◌, ◌≤◌, ◌^◌, ◌++◌, List}
 use Rattle.fx_rules.specs.declared.orders.Fill.{Fill}
 use Rattle.fx_rules.specs.Raise.{taker_of_resting}
-use Rattle.credit_raise.specs.Playing.{SweptAmong, lessened_all, paid}
+use Rattle.credit_raise.specs.inside.Playing.{SweptAmong, lessened_all, paid}
 use Rattle.credit_raise.proofs.replay.Replay.sweep.Given as goal
 
 -- the sweep's own fills so far, which were paid for and taken from those that wait; whatever fills make a sweep from here

@@ -5,7 +5,8 @@ use Rattle.std.proofs.lemmas.List.{get_or_default}
 use Rattle.fx_rules.specs.Lists.{total}
 use Rattle.fx_rules.specs.Session.{sender_count}
 use Rattle.fx_rules.proofs.ListLemmas.{total-set}
-use Rattle.credit_table.specs.Table.{Table, IsTable}
+use Rattle.credit_table.specs.Table.{Table}
+use Rattle.credit_table.specs.inside.Table.{IsTable}
 use Rattle.credit_table.proofs.Following.{total-bounded, counted-table}
 use Rattle.credit_table.proofs.table.CreditTable.count_command.Goals as goal
 

@@ -1,7 +1,7 @@
 use Rattle.std.proofs.Common.{List, ◌++◌, refl, sym, subst, take, append-nil}
 use Rattle.std.proofs.lemmas.List.{take_all}
 use Rattle.fx_rules.specs.declared.orders.Fill.{Fill}
-use Rattle.day_report.specs.Parts.{AreVolumes, AreFlows, HasFills}
+use Rattle.day_report.specs.inside.Parts.{AreVolumes, AreFlows, HasFills}
 use Rattle.day_report.proofs.Following.{trades-at, one-more}
 use Rattle.day_report.proofs.day.Day.add_all.Goals as goal
 

@@ -1,5 +1,5 @@
 use Rattle.std.proofs.Common.{ℕ, List, length, ap, sym, subst, ◌∙◌}
-use Rattle.day_report.specs.Lists.{nets_in, HaveNets}
+use Rattle.day_report.specs.inside.Lists.{nets_in, HaveNets}
 use Rattle.day_report.proofs.Listing.{volumes-listed, uses-listed, nets-listed, flows-small}
 use Rattle.day_report.proofs.day.Day.into_report.Goals as goal
 

@@ -1,6 +1,6 @@
 use Rattle.std.proofs.Common.{◌≡◌, ◌++◌, map}
 use Rattle.fx_rules.specs.Lists.{below}
-use Rattle.day_report.specs.Lists.{net_in}
+use Rattle.day_report.specs.inside.Lists.{net_in}
 use Rattle.day_report.proofs.flows.Flows.push_nets.Given as goal
 
 -- the bank's nets of the currencies that were passed

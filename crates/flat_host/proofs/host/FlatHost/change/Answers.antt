@@ -1,9 +1,10 @@
 -- What is made of an outcome leads to the state that the outcome makes.
 use Rattle.std.proofs.Common.{◌≡◌, ◌≤◌, ◌^◌, Result, Ok, Err, OnOk, sym, ap, subst, ◌∙◌}
 use Rattle.fx_amounts.specs.declared.memory.Memory.{Memory}
-use Rattle.flat_host.specs.Parts.{rests_of, order_carried}
-use Rattle.flat_host.specs.Turns.{raised_in}
-use Rattle.flat_host.specs.Steps.{ChangesEach}
+use Rattle.flat_host.specs.Parts.{rests_of}
+use Rattle.flat_host.specs.inside.Parts.{order_carried}
+use Rattle.flat_host.specs.inside.Turns.{raised_in}
+use Rattle.flat_host.specs.inside.Steps.{ChangesEach}
 use Rattle.flat_host.proofs.Stepping.{order-changes, line-changes}
 use Rattle.flat_host.proofs.host.FlatHost.change.Goals as goal
 

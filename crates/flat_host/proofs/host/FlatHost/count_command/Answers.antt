@@ -4,8 +4,9 @@ use Rattle.std.proofs.Math.ListN.{set}
 use Rattle.std.proofs.lemmas.List.{get_or_default}
 use Rattle.fx_rules.specs.Lists.{total}
 use Rattle.fx_rules.proofs.ListLemmas.{total-set}
-use Rattle.flat_host.specs.FlatState.{FlatState, IsFlatState}
-use Rattle.flat_host.specs.Host.{flat_state_of}
+use Rattle.flat_host.specs.FlatState.{FlatState}
+use Rattle.flat_host.specs.inside.FlatState.{IsFlatState}
+use Rattle.flat_host.specs.inside.Host.{flat_state_of}
 use Rattle.flat_host.proofs.Counting.{total-bounded, counted-state}
 use Rattle.flat_host.proofs.host.FlatHost.count_command.Goals as goal
 

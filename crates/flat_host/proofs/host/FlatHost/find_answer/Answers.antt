@@ -7,9 +7,10 @@ use Rattle.fx_rules.specs.declared.outcome.Outcome.{Outcome}
 use Rattle.fx_rules.specs.State.{orders_in}
 use Rattle.fx_rules.specs.Sweep.{Taker, is_order}
 use Rattle.fx_rules.specs.Step.{cancel_answer, reduce_answer}
-use Rattle.flat_host.specs.FlatState.{FlatState, IsFlatState}
-use Rattle.flat_host.specs.Parts.{OrderedIn}
-use Rattle.flat_host.specs.Turns.{LineSetIn}
+use Rattle.flat_host.specs.FlatState.{FlatState}
+use Rattle.flat_host.specs.inside.FlatState.{IsFlatState}
+use Rattle.flat_host.specs.inside.Parts.{OrderedIn}
+use Rattle.flat_host.specs.inside.Turns.{LineSetIn}
 use Rattle.flat_host.specs.Steps.{AnswersEach, ShowsEach}
 use Rattle.flat_host.proofs.Stepping.{order-answers, cancel-answers, reduce-answers, pull-answers, line-answers, show-answers, book-answers, bad-answers}
 use Rattle.flat_host.proofs.Sendable.{order-pair, line-other, book-pair}

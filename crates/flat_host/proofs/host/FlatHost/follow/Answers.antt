@@ -2,7 +2,8 @@
 use Rattle.std.proofs.Common.{ℕ, ◌≡◌, ◌+◌, List, Result, Ok, Err, OnOk, sym, ap, ◌∙◌, get_or}
 use Rattle.std.proofs.Math.ListN.{set}
 use Rattle.fx_amounts.specs.declared.memory.Memory.{Memory}
-use Rattle.flat_host.specs.Steps.{FollowsEach, FollowsOn}
+use Rattle.flat_host.specs.Steps.{FollowsOn}
+use Rattle.flat_host.specs.inside.Steps.{FollowsEach}
 use Rattle.flat_host.proofs.GoingOn.{due, follows-on}
 use Rattle.flat_host.proofs.host.FlatHost.follow.Goals as goal
 

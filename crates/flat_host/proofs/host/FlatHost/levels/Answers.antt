@@ -12,7 +12,7 @@ use Rattle.fx_rules.specs.Sweep.{Taker, is_opposite}
 use Rattle.fx_rules.specs.Plan.{Planned}
 use Rattle.fx_rules.specs.Depth.{any_price}
 use Rattle.flat_host.specs.FlatState.{FlatState, line_in}
-use Rattle.flat_host.specs.Levels.{unlimited_in, ProbedIn}
+use Rattle.flat_host.specs.inside.Levels.{unlimited_in, ProbedIn}
 use Rattle.flat_host.specs.Walks.{IsLevelled}
 use Rattle.flat_host.proofs.host.FlatHost.levels.Goals as goal
 

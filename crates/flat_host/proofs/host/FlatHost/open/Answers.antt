@@ -2,7 +2,7 @@
 use Rattle.std.proofs.Common.{ℕ, List, ◌≡◌, sym, ap, subst, ◌∙◌, length, arith, replicate, map}
 use Rattle.fx_rules.specs.declared.session.PairRule.{PairRule}
 use Rattle.fx_rules.specs.Lists.{total}
-use Rattle.flat_host.specs.Host.{flat_state_of}
+use Rattle.flat_host.specs.inside.Host.{flat_state_of}
 use Rattle.flat_host.proofs.OpeningLemmas.{IsOpening, opening-state, opening-stands, total_zero}
 use Rattle.flat_host.proofs.host.FlatHost.open.Goals as goal
 

@@ -1,7 +1,7 @@
 use Rattle.std.proofs.Common.{◌≡◌, length, max, ap, ap₂, sym, ◌∙◌, rules, subst}
 use mathlib.Core.List.{IsPrefix}
 use Rattle.fx_chronicle.specs.Faces.{longer}
-use Rattle.fx_chronicle.specs.Views.{seen_of, met_of}
+use Rattle.fx_chronicle.specs.inside.Views.{seen_of, met_of}
 use Rattle.fx_chronicle.proofs.Prefixes.{length-longer, prefix_trans}
 use Rattle.fx_chronicle.proofs.tokens.Front.learn.Goals as goal
 

@@ -1,7 +1,8 @@
 use Rattle.std.proofs.Common.{◌≡◌, ◌∙◌, ap, subst, arith}
 use Rattle.fx_disk.specs.declared.call.Call.TheVariants.{Synced}
 use Rattle.fx_disk.specs.InMemory.{FailingDisk}
-use Rattle.fx_disk.specs.Model.{Tape, Added}
+use Rattle.fx_disk.specs.Model.{Tape}
+use Rattle.fx_disk.specs.inside.Model.{Added}
 use Rattle.fx_disk.proofs.Moments.{synced_reads, synced_only, synced_leaves, synced_no_more, Called-added}
 use Rattle.fx_disk.proofs.memory_disk.MemoryDiskDisk.sync.Goals as goal
 

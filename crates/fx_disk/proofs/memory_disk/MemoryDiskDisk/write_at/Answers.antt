@@ -1,7 +1,8 @@
 use Rattle.std.proofs.Common.{◌≡◌, ◌∙◌, length, ap, subst, arith}
 use Rattle.fx_disk.specs.declared.call.Call.TheVariants.{Broke}
 use Rattle.fx_disk.specs.InMemory.{FailingDisk}
-use Rattle.fx_disk.specs.Model.{Tape, Added, AddedWrite}
+use Rattle.fx_disk.specs.Model.{Tape}
+use Rattle.fx_disk.specs.inside.Model.{Added, AddedWrite}
 use Rattle.fx_disk.specs.declared.call.Call.TheVariants.{Wrote}
 use Rattle.fx_disk.proofs.Moments.{written_reads, written_torn, written_torn_by, broken_reads, broken_torn, broken_torn_by, Called-added}
 use Rattle.fx_disk.proofs.memory_disk.MemoryDiskDisk.write_at.Goals as goal

@@ -1,5 +1,6 @@
 use Rattle.std.proofs.Common.{List, ℕ, Some, ap, subst, ◌∙◌}
-use Rattle.fx_disk.specs.Model.{Tape, Added}
+use Rattle.fx_disk.specs.Model.{Tape}
+use Rattle.fx_disk.specs.inside.Model.{Added}
 use Rattle.fx_disk.specs.declared.call.Call.TheVariants.{Synced}
 use Rattle.fx_disk.proofs.Moments.{synced_reads, synced_only, synced_no_more}
 use Rattle.fx_disk.proofs.steady_disk.SteadyDiskDisk.sync.Goals as goal

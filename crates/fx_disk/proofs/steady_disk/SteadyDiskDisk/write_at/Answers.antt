@@ -1,5 +1,6 @@
 use Rattle.std.proofs.Common.{List, ℕ, Some, ap, refl, subst}
-use Rattle.fx_disk.specs.Model.{Tape, AddedWrite}
+use Rattle.fx_disk.specs.Model.{Tape}
+use Rattle.fx_disk.specs.inside.Model.{AddedWrite}
 use Rattle.fx_disk.proofs.Moments.{written_reads, written_torn_by}
 use Rattle.fx_disk.proofs.steady_disk.SteadyDiskDisk.write_at.Goals as goal
 

@@ -1,5 +1,5 @@
 use Rattle.std.proofs.Common.{◌∙◌, ap, sym, subst, List, ℕ, ◌++◌}
-use Rattle.fx_text.specs.Held.{IsHeld}
+use Rattle.fx_text.specs.inside.Held.{IsHeld}
 use Rattle.fx_text.specs.Lines.{lines_of, held_of}
 use Rattle.fx_text.proofs.LinesLemmas.{IsHeld-held_of, lines_of-cut, held_of-cut}
 use Rattle.fx_text.proofs.cutter.LineCutter.feed.Goals as goal

@@ -1,5 +1,5 @@
 use Rattle.std.proofs.Common.{sym, subst}
-use Rattle.fx_text.specs.Held.{IsHeld}
+use Rattle.fx_text.specs.inside.Held.{IsHeld}
 use Rattle.fx_text.proofs.LinesLemmas.{IsHeld-nil}
 use Rattle.fx_text.proofs.cutter.LineCutter.new.Goals as goal
 

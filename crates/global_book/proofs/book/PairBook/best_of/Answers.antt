@@ -4,7 +4,7 @@ use Rattle.fx_amounts.specs.Side.{opposite}
 use Rattle.fx_rules.specs.declared.orders.Resting.{Resting}
 use Rattle.price_levels.specs.declared.place.Place.{Place}
 use Rattle.global_book.specs.Book.{Book, is_owned}
-use Rattle.global_book.specs.Search.{IsFoundIn}
+use Rattle.global_book.specs.inside.Search.{IsFoundIn}
 use Rattle.global_book.proofs.Bests.{best_listed, none_listed}
 use Rattle.global_book.proofs.Finding.{kept_book}
 use Rattle.global_book.proofs.Searching.{none_owned, first_owned, first_lives, places_in_time}

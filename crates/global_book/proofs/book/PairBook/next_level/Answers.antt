@@ -5,7 +5,7 @@ use Rattle.price_levels.specs.declared.place.Place.{Place}
 use Rattle.price_levels.specs.Ladder.{IsFirstOf}
 use Rattle.access_index.specs.Owned.{row_at, stands_behind}
 use Rattle.global_book.specs.Book.{Book, IsLevelOf}
-use Rattle.global_book.specs.Search.{end_of}
+use Rattle.global_book.specs.inside.Search.{end_of}
 use Rattle.global_book.proofs.Finding.{kept_book}
 use Rattle.global_book.proofs.Levelling.{next_found, no_level}
 use Rattle.global_book.proofs.book.PairBook.next_level.Goals as goal

@@ -4,7 +4,7 @@ use Rattle.std.specs.List.{Contains, filter}
 use Rattle.fx_rules.specs.declared.orders.Resting.{Resting}
 use Rattle.fx_rules.specs.Sweep.{is_order}
 use Rattle.global_book.specs.Book.{Book}
-use Rattle.global_book.specs.Rows.{AreResting}
+use Rattle.global_book.specs.inside.Rows.{AreResting}
 use Rattle.access_index.specs.Owned.{row_at}
 use Rattle.global_book.proofs.Finding.{kept_book, finds, found_order}
 use Rattle.global_book.proofs.Keeping.{kept_removed_at, own_there}

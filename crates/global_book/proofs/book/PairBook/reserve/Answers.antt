@@ -3,7 +3,7 @@ use Rattle.std.proofs.Math.ListN.{set, length-set}
 use Rattle.std.proofs.lemmas.List.{get_or-set_same}
 use Rattle.price_levels.specs.Ladder.{Ladder}
 use Rattle.global_book.specs.Book.{Book}
-use Rattle.global_book.specs.Rows.{flat}
+use Rattle.global_book.specs.inside.Rows.{flat}
 use Rattle.access_index.specs.Sides.{RowGrows}
 use Rattle.global_book.proofs.Finding.{kept_book}
 use Rattle.global_book.proofs.Keeping.{kept_grown, own_self, grown_self, grown_set}

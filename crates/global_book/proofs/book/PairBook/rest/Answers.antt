@@ -5,7 +5,7 @@ use Rattle.fx_rules.specs.Lists.{Each}
 use Rattle.price_levels.specs.declared.place.Place.{Place}
 use Rattle.price_levels.specs.Ladder.{Ladder, IsNewArrival}
 use Rattle.global_book.specs.Book.{Book}
-use Rattle.global_book.specs.Rows.{AreResting}
+use Rattle.global_book.specs.inside.Rows.{AreResting}
 use Rattle.access_index.specs.Owned.{row_at}
 use Rattle.global_book.proofs.Finding.{kept_book, lacks_from, all_before}
 use Rattle.global_book.proofs.Keeping.{kept_rested_at, own_new, owner_new}

@@ -1,5 +1,5 @@
 use Rattle.std.proofs.Common.{sym, ◌∙◌}
-use Rattle.journal_check.specs.Comparing.{Comparing}
+use Rattle.journal_check.specs.inside.Comparing.{Comparing}
 use Rattle.journal_check.proofs.CompareLemmas.{appended_more}
 use Rattle.journal_check.proofs.compare.ComparisonSink.write.Goals as goal
 

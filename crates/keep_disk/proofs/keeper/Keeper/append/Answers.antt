@@ -2,7 +2,7 @@ use Rattle.std.proofs.Common.{◌≡◌, ◌∙◌, ◌+◌, ◌++◌, ◌∷◌
 use Rattle.std.specs.Int.{to_be_bytes}
 use Rattle.fx_disk.proofs.Leaving.{leaves_weaker, leaves_then}
 use Rattle.keep_disk.specs.Blocks.{whole_blocks, IsClosedAt, HasOrLacks}
-use Rattle.keep_disk.specs.Keeping.{TornFrom}
+use Rattle.keep_disk.specs.inside.Keeping.{TornFrom}
 use Rattle.keep_disk.proofs.Appending.{opened, opened_blocks, opened_closed}
 use Rattle.keep_disk.proofs.Moments.{told_piece, told_before, at_rest_now, first_write, second_write}
 use Rattle.keep_disk.proofs.keeper.Keeper.append.Goals as goal

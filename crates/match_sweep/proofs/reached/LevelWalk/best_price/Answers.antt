@@ -1,5 +1,5 @@
 use Rattle.std.proofs.Common.{◌+◌, sym, subst}
-use Rattle.match_sweep.specs.Reaches.{IsBestPrice}
+use Rattle.match_sweep.specs.inside.Reaches.{IsBestPrice}
 use Rattle.match_sweep.proofs.Reaching.{better-on}
 use Rattle.match_sweep.proofs.reached.LevelWalk.best_price.Goals as goal
 

@@ -1,4 +1,4 @@
-use Rattle.match_sweep.specs.Reaches.{IsBestPrice}
+use Rattle.match_sweep.specs.inside.Reaches.{IsBestPrice}
 use Rattle.match_sweep.proofs.reached.LevelWalk.best_price.Given as goal
 
 -- the best of the banks that were passed

@@ -1,7 +1,7 @@
 use Rattle.std.proofs.Common.{ℕ, Some, None, ◌≡◌, ◌≤◌, ◌<◌, ◌-◌, ◌*◌, ◌/◌, ap, sym, subst, ◌∙◌, arith, get_or, length, slice_index, slice_set}
 use Rattle.global_book.specs.Book.{IsLevelOf}
 use Rattle.match_sweep.specs.declared.reached.LevelWalk.{LevelWalk}
-use Rattle.match_sweep.specs.Reaches.{TakesOf, head_of}
+use Rattle.match_sweep.specs.inside.Reaches.{TakesOf, head_of}
 use Rattle.match_sweep.proofs.Reaching.{IsWorseHead, equal, head_lots, not_equal, read_at, takes_none-head, takes_none-line, takes_some, worse_head}
 use Rattle.match_sweep.proofs.Stepping.{pays}
 use Rattle.match_sweep.proofs.reached.LevelWalk.take_of.Goals as goal

@@ -1,7 +1,7 @@
 -- One more bank is looked at.
 use Rattle.std.proofs.Common.{ℕ, List, [], ◌∷◌, ◌++◌, ◌≡◌, take, ap, sym, subst, ◌∙◌, ◌+◌, arith}
 use Rattle.std.proofs.lemmas.List.{take_more}
-use Rattle.match_sweep.specs.Walks.{IsPickedAt}
+use Rattle.match_sweep.specs.inside.Walks.{IsPickedAt}
 use Rattle.match_sweep.proofs.Stepping.{picked-lead, picked-stay}
 use Rattle.match_sweep.proofs.walk.Walk.best_head.Goals as goal
 use Rattle.match_sweep.proofs.walk.Walk.best_head.Goals.{then-leads, else-leads}

@@ -1,5 +1,5 @@
 use Rattle.std.proofs.Common.{take}
-use Rattle.match_sweep.specs.Walks.{IsPickedAt}
+use Rattle.match_sweep.specs.inside.Walks.{IsPickedAt}
 use Rattle.match_sweep.proofs.walk.Walk.best_head.Given as goal
 
 -- the best of the banks that were passed

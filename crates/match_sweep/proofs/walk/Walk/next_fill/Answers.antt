@@ -4,7 +4,7 @@ use Rattle.fx_rules.specs.declared.orders.Resting.{Resting}
 use Rattle.price_levels.specs.declared.place.Place.{Place}
 use Rattle.global_book.specs.Book.{AreOwners, Book, IsBook}
 use Rattle.match_sweep.specs.declared.walk.Walk.{Walk}
-use Rattle.match_sweep.specs.Walks.{IsReady, IsRenewed, IsPicked}
+use Rattle.match_sweep.specs.inside.Walks.{IsReady, IsRenewed, IsPicked}
 use Rattle.match_sweep.proofs.Stepping.{Chosen, renewed-set, set-chosen, set-none, taken-leads, taken-ready, renewed-leads, renewed-ends, renewed-left}
 use Rattle.match_sweep.proofs.walk.Walk.next_fill.Goals as goal
 

@@ -3,7 +3,7 @@ use Rattle.std.specs.Option.{option_copied, option_copied_mut}
 use Rattle.std.specs.HashMap as map
 use Rattle.slab.specs.Slab.{slab_len, with_value}
 use Rattle.fx_rules.specs.declared.orders.Resting.{Resting}
-use Rattle.order_store.specs.Levels.{level_number, lots_in}
+use Rattle.order_store.specs.inside.Levels.{level_number, lots_in}
 use Rattle.order_store.specs.Orders.{Orders}
 use Rattle.order_store.proofs.Indexing.{AreOrders-seen, Indexes-lowered, if_some_and, some_same}
 use Rattle.order_store.proofs.Summing.{count_set, Summed-lowered-at, Summed-there}

@@ -1,6 +1,6 @@
 use Rattle.std.proofs.Common.{◌-◌, None, nat_eq, ap, sym, arith}
 use Rattle.std.specs.HashMap as map
-use Rattle.order_store.specs.Levels.{entry_of}
+use Rattle.order_store.specs.inside.Levels.{entry_of}
 use Rattle.order_store.proofs.Summing.{taken_entry}
 use Rattle.order_store.proofs.sums.LevelSums.take.Goals as goal
 

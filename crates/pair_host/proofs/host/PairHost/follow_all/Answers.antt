@@ -6,7 +6,7 @@ use Rattle.fx_rules.specs.Step.{fills_of}
 use Rattle.global_book.specs.Book.{Book}
 use Rattle.credit_table.specs.Table.{Table}
 use Rattle.pair_host.specs.Standing.{HostState, FollowsOn}
-use Rattle.pair_host.specs.Books.{EachBook, IsRecorded, host_of}
+use Rattle.pair_host.specs.inside.Books.{EachBook, IsRecorded, host_of}
 use Rattle.pair_host.proofs.Holding.{written}
 use Rattle.pair_host.proofs.Serving.{all-follow_on}
 use Rattle.pair_host.proofs.host.PairHost.follow_all.Goals as goal

@@ -6,8 +6,8 @@ use Rattle.global_book.specs.Book.{Book}
 use Rattle.credit_table.specs.Table.{Table}
 use Rattle.pair_steps.specs.Sending.{pair_of}
 use Rattle.pair_host.specs.Standing.{HostState, IsNextOf, FollowsOn}
-use Rattle.pair_host.specs.Books.{host_of}
-use Rattle.pair_host.specs.OnePair.{FollowsEach}
+use Rattle.pair_host.specs.inside.Books.{host_of}
+use Rattle.pair_host.specs.inside.OnePair.{FollowsEach}
 use Rattle.pair_host.proofs.Holding.{same-host}
 use Rattle.pair_host.proofs.Serving.{next-within, one-follows_on}
 use Rattle.pair_host.proofs.host.PairHost.follow_in.Goals as goal

@@ -7,7 +7,7 @@ use Rattle.global_book.specs.Book.{Book}
 use Rattle.credit_table.specs.Table.{Table}
 use Rattle.pair_steps.specs.declared.sender.Sender.{Sender}
 use Rattle.pair_host.specs.Standing.{HostState, stands}
-use Rattle.pair_host.specs.Books.{AreHosted, EachBook, IsCarried, host_of}
+use Rattle.pair_host.specs.inside.Books.{AreHosted, EachBook, IsCarried, host_of}
 use Rattle.pair_host.proofs.Sending.{may-send}
 use Rattle.pair_host.proofs.Holding.{written, hosted-by}
 use Rattle.pair_host.proofs.Serving.{IsPlanned, planned-by, planned-answers, raise-goes_on, table-next, table-follows}

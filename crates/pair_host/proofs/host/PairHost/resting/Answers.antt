@@ -4,7 +4,7 @@ use Rattle.fx_rules.specs.declared.orders.ActiveOrder.{ActiveOrder}
 use Rattle.fx_rules.specs.Sound.{IsKept}
 use Rattle.fx_rules.proofs.ListLemmas.{Each-weaker}
 use Rattle.global_book.specs.Book.{Book}
-use Rattle.pair_host.specs.Books.{HaveOrders}
+use Rattle.pair_host.specs.inside.Books.{HaveOrders}
 use Rattle.pair_host.proofs.Holding.{BooksOf, books-of}
 use Rattle.pair_host.specs.Standing.{StandsFor}
 use Rattle.pair_host.proofs.host.PairHost.resting.Goals as goal

@@ -8,8 +8,8 @@ use Rattle.global_book.specs.Book.{Book}
 use Rattle.credit_table.specs.Table.{Table}
 use Rattle.pair_steps.specs.Sending.{pair_of}
 use Rattle.pair_host.specs.Standing.{HostState, stands}
-use Rattle.pair_host.specs.Books.{host_of}
-use Rattle.pair_host.specs.OnePair.{ServesEach}
+use Rattle.pair_host.specs.inside.Books.{host_of}
+use Rattle.pair_host.specs.inside.OnePair.{ServesEach}
 use Rattle.pair_host.proofs.Sending.{may-send}
 use Rattle.pair_host.proofs.Holding.{same-host}
 use Rattle.pair_host.proofs.Serving.{may-serve, within-books, one-goes_on}

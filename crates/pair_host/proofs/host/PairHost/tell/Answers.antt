@@ -8,7 +8,7 @@ use Rattle.fx_rules.specs.Market.{GoesOn, InSome, MaySend}
 use Rattle.credit_table.specs.Table.{is_of_no_pair}
 use Rattle.pair_steps.specs.declared.sender.Sender.{Sender}
 use Rattle.pair_host.specs.Standing.{HostState, stands}
-use Rattle.pair_host.specs.Books.{host_of}
+use Rattle.pair_host.specs.inside.Books.{host_of}
 use Rattle.pair_host.proofs.Sending.{may-send}
 use Rattle.pair_host.proofs.Serving.{told-goes_on, table-next, table-follows}
 use Rattle.pair_host.proofs.host.PairHost.tell.Goals as goal

@@ -3,7 +3,7 @@ use Rattle.std.specs.List.Sorted.{IsPartitionPoint}
 use Rattle.std.proofs.lemmas.List.Sorted.{IsPartitionPoint-from_clause}
 use Rattle.price_levels.specs.declared.place.Place.{Place}
 use Rattle.price_levels.specs.Ladder.{IsSorted}
-use Rattle.price_levels.specs.Held.{Held, in_front}
+use Rattle.price_levels.specs.inside.Held.{Held, in_front}
 use Rattle.price_levels.proofs.Parting.{IsPartitionedBy-front}
 use Rattle.price_levels.proofs.chunk.Chunk.count_passed.Goals as goal
 

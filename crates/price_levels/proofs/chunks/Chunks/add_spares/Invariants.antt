@@ -1,7 +1,7 @@
 use Rattle.std.proofs.Common.{◌≡◌, ◌≤◌}
 use Rattle.std.specs.List.{All}
-use Rattle.price_levels.specs.Held.{Held}
-use Rattle.price_levels.specs.Layout.{HasSeats, IsLaidOut, count_of}
+use Rattle.price_levels.specs.inside.Held.{Held}
+use Rattle.price_levels.specs.inside.Layout.{HasSeats, IsLaidOut, count_of}
 use Rattle.price_levels.proofs.chunks.Chunks.add_spares.Given as goal
 
 abbrev pub invariant-loop-chunk : goal.invariant-loop-chunk

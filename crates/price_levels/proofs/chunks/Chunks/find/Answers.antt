@@ -9,8 +9,8 @@ use Rattle.price_levels.specs.declared.place.Place.{Place}
 use Rattle.price_levels.specs.declared.cut.Cut.{Cut}
 use Rattle.price_levels.specs.declared.chunks.Chunks.{Chunks}
 use Rattle.price_levels.specs.Ladder.{IsSorted}
-use Rattle.price_levels.specs.Held.{Held, in_front, last_is_in_front, passes}
-use Rattle.price_levels.specs.Layout.{IsLaidOut, chunk_at, no_chunk, places_of}
+use Rattle.price_levels.specs.inside.Held.{Held, in_front, last_is_in_front, passes}
+use Rattle.price_levels.specs.inside.Layout.{IsLaidOut, chunk_at, no_chunk, places_of}
 use Rattle.price_levels.proofs.Parting.{IsPartitionedBy-front, chunks_parted, chunk_sorted, parted_within, parted_behind}
 use Rattle.price_levels.proofs.Laying.{have_places}
 use Rattle.price_levels.proofs.Chunking.{start, ends_within}

@@ -1,6 +1,6 @@
 use Rattle.std.proofs.Common.{ℕ, List, subst}
-use Rattle.price_levels.specs.Held.{Held}
-use Rattle.price_levels.specs.Layout.{FitsNext}
+use Rattle.price_levels.specs.inside.Held.{Held}
+use Rattle.price_levels.specs.inside.Layout.{FitsNext}
 use Rattle.price_levels.proofs.Laying.{spare_left}
 use Rattle.price_levels.proofs.chunks.Chunks.make_spare.Goals as goal
 

@@ -1,6 +1,6 @@
 use Rattle.std.proofs.Common.{◌≡◌, length, ap, arith}
-use Rattle.price_levels.specs.Held.{Held}
-use Rattle.price_levels.specs.Layout.{chunk_at}
+use Rattle.price_levels.specs.inside.Held.{Held}
+use Rattle.price_levels.specs.inside.Layout.{chunk_at}
 use Rattle.price_levels.proofs.Laying.{many, read_chunk}
 use Rattle.price_levels.proofs.chunks.Chunks.part.Goals as goal
 

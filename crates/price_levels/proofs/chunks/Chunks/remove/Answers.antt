@@ -1,6 +1,6 @@
 use Rattle.std.proofs.Common.{ℕ, ◌≡◌, ◌+◌, ◌<◌, List, ◌∷◌, [], length, refl, ap, sym, subst, ◌∙◌, arith}
-use Rattle.price_levels.specs.Held.{Held}
-use Rattle.price_levels.specs.Layout.{IsChunk, IsSpare, chunk_at, no_chunk, places_of, offset}
+use Rattle.price_levels.specs.inside.Held.{Held}
+use Rattle.price_levels.specs.inside.Layout.{IsChunk, IsSpare, chunk_at, no_chunk, places_of, offset}
 use Rattle.std.proofs.lemmas.List.Edits.{length-remove}
 use Rattle.std.proofs.lemmas.List.Elements.{All-get_or, All-push}
 use Rattle.std.proofs.lemmas.List.{get_or-set_same}

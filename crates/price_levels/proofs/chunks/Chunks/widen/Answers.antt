@@ -1,7 +1,7 @@
 use Rattle.std.proofs.Common.{List, ◌≡◌, ◌++◌, length, take, drop, ap, sym, subst, ◌∙◌, arith}
 use Rattle.std.specs.List.{All}
-use Rattle.price_levels.specs.Held.{Held}
-use Rattle.price_levels.specs.Layout.{AreWidened, IsChunk, IsSpare, places_of}
+use Rattle.price_levels.specs.inside.Held.{Held}
+use Rattle.price_levels.specs.inside.Layout.{AreWidened, IsChunk, IsSpare, places_of}
 use Rattle.price_levels.proofs.Laying.{all_spares_widened, all_widened, places_of-widened, refilled}
 use Rattle.price_levels.proofs.chunks.Chunks.widen.Goals as goal
 

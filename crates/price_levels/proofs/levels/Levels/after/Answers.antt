@@ -1,6 +1,6 @@
 use Rattle.std.proofs.Common.{ap, ◌∙◌}
 use Rattle.price_levels.specs.Ladder.{Ladder, first_where, sorts_before}
-use Rattle.price_levels.specs.Layout.{places_of, offset}
+use Rattle.price_levels.specs.inside.Layout.{places_of, offset}
 use Rattle.price_levels.proofs.Edits.{read_after}
 use Rattle.price_levels.proofs.levels.Levels.after.Goals as goal
 

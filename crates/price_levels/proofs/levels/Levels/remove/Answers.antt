@@ -2,7 +2,7 @@ use Rattle.std.proofs.Common.{List, ap, sym, subst}
 use Rattle.std.specs.List.{Contains, remove}
 use Rattle.price_levels.specs.declared.place.Place.{Place}
 use Rattle.price_levels.specs.Ladder.{Ladder, IsSorted, Loses}
-use Rattle.price_levels.specs.Layout.{places_of, offset}
+use Rattle.price_levels.specs.inside.Layout.{places_of, offset}
 use Rattle.price_levels.proofs.Sorting.{IsSorted-remove, Loses-remove, found_within}
 use Rattle.price_levels.proofs.levels.Levels.remove.Goals as goal
 

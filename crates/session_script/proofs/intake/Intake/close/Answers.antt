@@ -1,6 +1,7 @@
 use Rattle.std.proofs.Common.{◌≡◌, ◌∙◌, ◌++◌, true, false, inl, inr, sym, subst}
 use Rattle.fx_text.specs.Lines.{lines_of}
-use Rattle.session_script.specs.Stage.{StandsAt, is_open, goes_on}
+use Rattle.session_script.specs.Stage.{StandsAt}
+use Rattle.session_script.specs.inside.Stage.{is_open, goes_on}
 use Rattle.session_head.specs.Head.{read_head}
 use Rattle.session_script.specs.declared.intake.stage.Stage.{Stage}
 use Rattle.session_script.proofs.Closing.{heading-no_fault, heading-goes_on, heading-no_end, faulted-has, told-ends, told-cut}

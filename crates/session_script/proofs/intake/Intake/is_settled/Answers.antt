@@ -1,6 +1,7 @@
 use Rattle.std.proofs.Common.{inr, subst, true, ◌≡◌, ◌++◌}
 use Rattle.fx_text.specs.Lines.{lines_of}
-use Rattle.session_script.specs.Stage.{StandsAt, is_open}
+use Rattle.session_script.specs.Stage.{StandsAt}
+use Rattle.session_script.specs.inside.Stage.{is_open}
 use Rattle.session_script.specs.declared.intake.stage.Stage.{Stage}
 use Rattle.session_script.proofs.Closing.{heading-goes_on, faulted-has, told-settled}
 use Rattle.session_script.proofs.intake.Intake.is_settled.Goals as goal

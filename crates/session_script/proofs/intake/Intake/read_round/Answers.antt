@@ -7,7 +7,7 @@ use Rattle.fx_rules.specs.declared.command.Sent.{Sent}
 use Rattle.fx_text.specs.Lines.{lines_of}
 use Rattle.session_script.specs.Stage.{sent_at}
 use Rattle.session_script.specs.Intake.{StandsFor}
-use Rattle.session_script.specs.Rounds.{TookRound}
+use Rattle.session_script.specs.inside.Rounds.{TookRound}
 use Rattle.session_script.specs.declared.ends.TextEnd.{TextEnd}
 use Rattle.session_script.specs.declared.ends.Stop.{Stop}
 use Rattle.session_script.specs.declared.ends.Stop.TheVariants.{Memory}

@@ -2,7 +2,7 @@ use Rattle.std.proofs.Common.{◌-◌, ℕ, ◌≡◌, ◌++◌, List, Some}
 use Rattle.fx_rules.specs.declared.command.Sent.{Sent}
 use Rattle.fx_rules.specs.Session.{Header}
 use Rattle.session_script.specs.Stage.{sent_at, session_at}
-use Rattle.session_script.specs.Rounds.{ReadsOn}
+use Rattle.session_script.specs.inside.Rounds.{ReadsOn}
 use Rattle.session_script.proofs.ScriptReading.{InRound}
 use Rattle.session_script.proofs.intake.Intake.read_round.Given as goal
 

@@ -1,7 +1,7 @@
 use Rattle.std.proofs.Common.{rules, ◌≡◌, Some, None, Ok, Err, [], refl, subst}
 use Rattle.std.specs.Prelude.{Option}
 use Rattle.session_script.specs.Stage.{session_at, sent_at}
-use Rattle.session_script.specs.Rounds.{TookRound}
+use Rattle.session_script.specs.inside.Rounds.{TookRound}
 use Rattle.session_script.specs.declared.ends.TextEnd.{TextEnd}
 use Rattle.session_script.specs.declared.ends.TextEnd.TheVariants.{EndLine, Early}
 use Rattle.session_script.proofs.ScriptReading.{ReadsOn-nil, ReadsOn-round, HasRead-round, HasStopped-early, HasStopped-err, no_end_line, first_none, known_session}

@@ -1,7 +1,7 @@
 use Rattle.std.proofs.Common.{◌-◌, ℕ, ◌≡◌, [], List, None}
 use Rattle.session_script.specs.Input.{input_limit}
 use Rattle.session_script.specs.Stage.{session_at}
-use Rattle.session_script.specs.Rounds.{ReadsOn}
+use Rattle.session_script.specs.inside.Rounds.{ReadsOn}
 use Rattle.session_script.proofs.reading.Reading.begin.Given as goal
 
 -- START was not read so far

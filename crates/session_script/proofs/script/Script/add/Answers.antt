@@ -1,5 +1,5 @@
 use Rattle.std.proofs.Common.{true, false, refl, sym, subst, append-nil}
-use Rattle.session_script.specs.Stage.{Adds}
+use Rattle.session_script.specs.inside.Stage.{Adds}
 use Rattle.session_script.proofs.script.Script.add.Goals as goal
 
 pub returns-in-End-clause-adds : goal.returns-in-End-clause-adds

@@ -3,7 +3,8 @@ use Rattle.fx_rules.specs.declared.command.Sent.{Sent}
 use Rattle.order_lines.specs.Grammar.{command_line}
 use Rattle.session_head.specs.Head.{read_head}
 use Rattle.session_script.specs.Script.{commands_in}
-use Rattle.session_script.specs.Stage.{StandsAt, Tells, goes_on, is_open}
+use Rattle.session_script.specs.Stage.{StandsAt, Tells}
+use Rattle.session_script.specs.inside.Stage.{goes_on, is_open}
 use Rattle.session_script.specs.declared.intake.stage.Stage.{Stage}
 use Rattle.session_script.proofs.ScriptLaws.{read_head-faulted}
 use Rattle.session_script.proofs.Taking.{Tells-start, Tells-line, Tells-behind}

@@ -3,7 +3,8 @@ use Rattle.std.specs.Prelude.{IsTrue, Some}
 use Rattle.fx_rules.specs.declared.command.Sent.{Sent}
 use Rattle.fx_rules.specs.Session.{Header}
 use Rattle.fx_text.specs.declared.line.Line.{Line}
-use Rattle.session_script.specs.Stage.{StandsAt, is_open, session_at}
+use Rattle.session_script.specs.Stage.{StandsAt, session_at}
+use Rattle.session_script.specs.inside.Stage.{is_open}
 use Rattle.session_script.proofs.intake.stage.Stage.take_all.Given as goal
 
 -- with the lines up to here the stage is that of all lines so far

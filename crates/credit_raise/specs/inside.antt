@@ -1,0 +1,4 @@
+pub mod Playing
+pub mod Prices
+pub mod Two
+pub mod UnderWay

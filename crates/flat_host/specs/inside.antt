@@ -1,0 +1,9 @@
+pub mod FlatState
+pub mod Host
+pub mod Levels
+pub mod Opening
+pub mod Parts
+pub mod Search
+pub mod Steps
+pub mod Turns
+pub mod Walks

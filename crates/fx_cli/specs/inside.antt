@@ -1,0 +1,4 @@
+pub mod Check
+pub mod Rounds
+pub mod Status
+pub mod TopCall

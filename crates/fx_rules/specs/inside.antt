@@ -1,0 +1,3 @@
+pub mod Market
+pub mod Names
+pub mod Trade

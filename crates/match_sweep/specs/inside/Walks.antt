@@ -1,0 +1,131 @@
+-- A sweep as it goes, from one best order to the next, over a pair's book. All of this is for this crate's own functions,
+-- which plan.
+use Rattle.std.specs.Prelude.{ℕ, ◌≡◌, ◌≢◌, ◌≤◌, ◌<◌, ◌-◌, ◌*◌, ◌/◌, ◌^◌, Bool, true, false, ◌&&◌, nat_le, List, [], ◌∷◌, Option, Some, None, IfSome, slice_index, slice_index_or, slice_set, option_map}
+use Rattle.std.specs.List.{Contains}
+use Rattle.fx_amounts.specs.declared.side.Side.{Side}
+use Rattle.fx_amounts.specs.Price.{crosses}
+use Rattle.fx_amounts.specs.Quantity.{IsWeight}
+use Rattle.fx_rules.specs.declared.orders.Fill.{Fill}
+use Rattle.fx_rules.specs.declared.orders.Resting.{Resting}
+use Rattle.fx_rules.specs.Lists.{total}
+use Rattle.fx_rules.specs.Sweep.{Taker, is_preferred, amount, fill_with, less}
+use Rattle.fx_rules.specs.Plan.{Planned}
+use Rattle.price_levels.specs.declared.place.Place.{Place}
+use Rattle.global_book.specs.Book.{Book, IsBook, IsPlaceOf}
+use Rattle.credit_lines.specs.Credit.{Credit, line_in}
+use Rattle.match_sweep.specs.declared.walk.Walk.{Walk}
+use Rattle.match_sweep.specs.inside.Heads.{IsFound, to_come, AreHeads}
+
+-- the order that a walk took last
+abbrev pub last_of : Walk → Option Resting
+last_of walk = option_map (λ found. found.0) walk.last
+
+-- the steps that it takes to find all heads behind the order taken last
+abbrev pub steps_behind : Option (Resting × Place) → ℕ
+steps_behind None = 0
+steps_behind (Some taken) = 1
+
+-- the head of a bank
+abbrev pub head_of : Walk → ℕ → Option (Resting × Place)
+head_of walk bank = slice_index_or walk.heads bank None
+
+-- the lots that what is left of the line with a bank pays for
+abbrev pub reach_of : Walk → ℕ → ℕ
+reach_of walk bank = slice_index walk.lines bank / walk.weight
+
+-- the fills that a walk still makes over a book, and what they leave of its order
+abbrev pub FromHere : Book → Walk → List Fill → ℕ → Type 0
+FromHere book walk fills left = Planned walk.weight (slice_index walk.lines) book.orders walk.order (last_of walk) fills left
+
+-- A fill leads a walk on: what it makes from there it makes behind the fill from here, and its order wants less.
+pub record LeadsOn (book : Book) (old new : Walk) (fill : Fill) : Type 0 where
+  pub goes_on : (more : List Fill) (left : ℕ) → FromHere book new more left → FromHere book old (fill ∷ more) left
+  pub wants : new.order.left < old.order.left
+  pub arrival : new.order.arrival ≡ old.order.arrival
+  pub counted : steps_behind new.last ≡ 1
+
+-- a step of a walk: a fill leads it on, or it is at its end
+abbrev pub StepsOn : Book → Walk → Walk → Option Fill → Type 0
+StepsOn book old new None = (new.order ≡ old.order) × FromHere book old [] old.order.left
+StepsOn book old new (Some fill) = LeadsOn book old new fill
+
+-- The bank of a walk's order is one of the book's, of which there are 64 at most, and there is no line with it. The heads are those
+-- behind the order that was taken last, but for that of its bank.
+pub record IsReady (book : Book) (walk : Walk) : Type 0 where
+  pub banks : book.banks ≤ 64
+  pub bank : walk.order.bank < book.banks
+  pub weight : IsWeight walk.weight
+  pub own : slice_index walk.lines walk.order.bank ≡ 0
+  pub placed : IfSome walk.last (λ taken. IsPlaceOf taken.0 taken.1)
+  pub heads : (bank : ℕ) → bank < book.banks → IfSome walk.last (λ taken. bank ≢ taken.0.bank) → 1 ≤ reach_of walk bank →
+      IsFound walk.order.side (to_come walk.order bank (last_of walk) book.orders) (head_of walk bank)
+
+-- a walk with all its heads found, and nothing else changed
+pub record IsRenewed (book : Book) (old new : Walk) : Type 0 where
+  pub same : new ≡ record old { heads = new.heads }
+  pub heads : AreHeads (reach_of new) new.order (last_of new) book.orders book.banks (head_of new)
+
+-- the head of a bank may be taken: the line with the bank pays for a lot, and the order takes its price
+abbrev pub may_take : Walk → ℕ → Resting → Bool
+may_take walk bank head =
+    nat_le walk.weight (slice_index walk.lines bank) && crosses walk.order.side walk.order.price head.price
+
+-- a head of one of these banks that may be taken
+pub record IsTakable (walk : Walk) (banks : List ℕ) (found : Resting × Place) : Type 0 where
+  pub at : ℕ
+  pub within : Contains banks at
+  pub is : head_of walk at ≡ Some found
+  pub may : may_take walk at found.0 ≡ true
+
+-- the best of the heads of these banks that may be taken, or there is none
+abbrev pub IsPicked : Walk → List ℕ → Option (Resting × Place) → Type 0
+IsPicked walk banks None =
+    (bank : ℕ) (head : Resting × Place) → Contains banks bank → head_of walk bank ≡ Some head → may_take walk bank head.0 ≡ false
+IsPicked walk banks (Some best) =
+    IsTakable walk banks best
+    × ((bank : ℕ) (head : Resting × Place) → Contains banks bank → head_of walk bank ≡ Some head → may_take walk bank head.0 ≡ true →
+    is_preferred walk.order.side head.0 best.0 ≡ false)
+
+-- The best is looked for by the numbers of banks: a bank has a head that may be taken, one head is preferred to another, and a
+-- bank's head is the best of all so far.
+
+abbrev pub may_take_head : Walk → ℕ → Option (Resting × Place) → Bool
+may_take_head walk bank None = false
+may_take_head walk bank (Some head) = may_take walk bank head.0
+
+abbrev pub is_ahead : Side → Option (Resting × Place) → Option (Resting × Place) → Bool
+is_ahead side (Some head) (Some other) = is_preferred side head.0 other.0
+is_ahead side _ _ = false
+
+abbrev pub leads : Walk → ℕ → Option ℕ → Bool
+leads walk bank None = may_take_head walk bank (head_of walk bank)
+leads walk bank (Some best) =
+    may_take_head walk bank (head_of walk bank) && is_ahead walk.order.side (head_of walk bank) (head_of walk best)
+
+-- the bank, of these, with the best of the heads that may be taken, or there is none
+abbrev pub IsPickedAt : Walk → List ℕ → Option ℕ → Type 0
+IsPickedAt walk banks None = (bank : ℕ) → Contains banks bank → may_take_head walk bank (head_of walk bank) ≡ false
+IsPickedAt walk banks (Some best) =
+    Contains banks best × (best < 64) × (may_take_head walk best (head_of walk best) ≡ true)
+    × ((bank : ℕ) → Contains banks bank → may_take_head walk bank (head_of walk bank) ≡ true →
+    is_ahead walk.order.side (head_of walk bank) (head_of walk best) ≡ false)
+
+-- an order is taken: of its lots as many as are wanted and as the line pays for
+pub record Takes (old new : Walk) (found : Resting × Place) (fill : Fill) : Type 0 where
+  pub is : fill ≡ fill_with old.order found.0 (amount old.order found.0 (reach_of old found.0.bank))
+  pub some : 1 ≤ fill.lots
+  pub now : new ≡ record old {
+    order = less old.order fill.lots;
+    lines = slice_set old.lines found.0.bank (slice_index old.lines found.0.bank - fill.lots * old.weight);
+    last = Some found;
+  }
+
+-- a walk of an order before its first fill, by the lines of the order's bank
+pub record Begins (book : Book) (credit : Credit) (weight : ℕ) (taker : Taker) (walk : Walk) : Type 0 where
+  pub ready : IsReady book walk
+  pub valid : IsBook book
+  pub order : walk.order ≡ taker
+  pub weighs : walk.weight ≡ weight
+  pub last : walk.last ≡ None
+  pub line : (other : ℕ) → other < book.banks → other ≢ taker.bank → slice_index walk.lines other ≡ line_in credit taker.bank other
+  pub most : total (λ line. line) walk.lines ≤ 64 * 10 ^ 15

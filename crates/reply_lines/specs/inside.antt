@@ -1,0 +1,4 @@
+pub mod Books
+pub mod Day
+pub mod Desks
+pub mod Report

@@ -1,0 +1,4 @@
+pub mod Draft
+pub mod HeadText
+pub mod Stage
+pub mod Statement

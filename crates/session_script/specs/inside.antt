@@ -1,0 +1,4 @@
+pub mod Intake
+pub mod Reading
+pub mod Rounds
+pub mod Stage

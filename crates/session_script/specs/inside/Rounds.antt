@@ -1,0 +1,36 @@
+-- What private functions and proofs alone say of it, beside `specs/Rounds.antt`.
+use Rattle.std.specs.Prelude.{ℕ, ◌≡◌, ◌≤◌, List, ◌++◌, length, Option, Some, Result, Ok, OnOk}
+use Rattle.fx_edges.specs.Faults.{Rose}
+use Rattle.fx_edges.specs.Reading.{Took}
+use Rattle.fx_rules.specs.declared.command.Sent.{Sent}
+use Rattle.session_script.specs.Input.{input_limit}
+use Rattle.session_script.specs.Intake.{StandsFor}
+use Rattle.session_script.specs.Reading.{GoesOn, IsPrompt}
+use Rattle.session_script.specs.inside.Reading.{RoundCame}
+use Rattle.session_script.specs.declared.ends.EarlyEnd.TheVariants.{ReadFault}
+use Rattle.session_script.specs.declared.ends.TextEnd.{TextEnd}
+use Rattle.session_script.specs.declared.ends.TextEnd.TheVariants.{Early}
+use Rattle.session_script.specs.declared.ends.Stop.{Stop}
+use Rattle.session_script.specs.declared.intake.Intake.{Intake}
+
+module _ {S : Type 0} (left : S → Option (List ℕ)) (faults : S → ℕ) (before now : S) where
+  -- some input was taken, at most the limit, by reads that stop where the text ends
+
+  pub record ReadsOn (intake : Intake) (former : List Sent) (input : List ℕ) : Type 0 where
+    pub took : Took left faults before now input
+    pub stands : StandsFor intake input former
+    pub goes_on : GoesOn input
+
+  -- a round took more of it, and came to this; a read fault is the source's
+
+  pub record TookRound (intake : Intake) (former : List Sent) (begun : List ℕ) (result : Result (Option TextEnd) Stop) : Type 0 where
+    pub more : List ℕ
+    pub took : Took left faults before now (begun ++ more)
+    pub within : length (begun ++ more) ≤ input_limit
+    pub prompt : IsPrompt (begun ++ more)
+    pub stands : OnOk result (StandsFor intake (begun ++ more) former)
+    pub came : RoundCame (left now) (begun ++ more) result
+    pub cause : result ≡ Ok (Some (Early ReadFault)) → Rose (faults before) (faults now)
+
+  -- The rounds so far took some input, at most the limit. It says this session and, up to the END line, all these commands,
+  -- the last round's at their end. How it ended is by what it says, and a read fault is the source's.

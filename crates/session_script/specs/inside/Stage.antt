@@ -1,0 +1,41 @@
+-- What private functions and proofs alone say of it, beside `specs/Stage.antt`.
+use Rattle.std.specs.Prelude.{ℕ, ◌≡◌, ◌+◌, min, Bool, true, false, [], ◌∷◌, ◌++◌}
+use Rattle.fx_rules.specs.Lists.{Each}
+use Rattle.session_head.specs.Head as heads
+use Rattle.session_head.specs.Head.{Head}
+use Rattle.order_lines.specs.declared.spoken.Spoken.{Spoken}
+use Rattle.order_lines.specs.declared.spoken.Spoken.TheVariants.{Of, Stray, End, Passed}
+use Rattle.session_script.specs.Script.{has_end, commands_in}
+use Rattle.fx_rules.specs.Sending.{IsSentOf}
+use Rattle.session_script.specs.declared.script.Script.{Script}
+use Rattle.session_script.specs.declared.intake.stage.Stage.{Stage}
+use Rattle.session_script.specs.declared.intake.stage.Stage.TheVariants.{Heading, Commanding, Faulted}
+use Rattle.session_script.specs.Stage.{most_strays}
+
+-- a count of strays, once this is said too
+abbrev pub counted : ℕ → Spoken → ℕ
+counted strays Stray = min (strays + 1) most_strays
+counted strays (Of bank command) = strays
+counted strays End = strays
+counted strays Passed = strays
+
+-- what is said makes a script of another
+pub record Adds (old new : Script) (said : Spoken) (is_end : Bool) : Type 0 where
+  pub session : new.session ≡ old.session
+  pub sent : new.sent.items ≡ old.sent.items ++ commands_in (said ∷ [])
+  pub strays : new.strays ≡ counted old.strays said
+  pub ended : is_end ≡ has_end (said ∷ [])
+  pub valid : Each (IsSentOf old.session) (commands_in (said ∷ []))
+
+-- the header goes on: neither START nor a fault has come
+abbrev pub goes_on : Head → Bool
+goes_on (heads.Begun lines) = true
+goes_on (heads.Drafting lines draft) = true
+goes_on (heads.Started lines header) = false
+goes_on (heads.Faulted line reason) = false
+
+-- a reader that is kept can read on
+abbrev pub is_open : Stage → Bool
+is_open (Heading reader) = goes_on reader
+is_open (Commanding script ended) = true
+is_open (Faulted line reason) = true
