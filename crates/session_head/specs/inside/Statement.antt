@@ -6,8 +6,6 @@ use Rattle.session_head.specs.Draft.{Draft}
 use Rattle.session_head.specs.declared.statement.Statement.{Statement}
 use Rattle.session_head.specs.declared.statement.Statement.TheVariants as statements
 
-infixl 10 ◌>>=◌
-
 -- a statement can be made of a draft
 abbrev pub CanState : Draft → Statement → Type 0
 CanState draft (statements.Bank name) =
