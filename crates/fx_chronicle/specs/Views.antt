@@ -6,27 +6,22 @@ use Rattle.fx_chronicle.specs.Faces.{longer}
 
 module _ {E : Type 0} where
   -- the writer's: all entries, the keys that have still to sign, the number of keys dealt
-
   abbrev pub writer : List E → List ℕ → ℕ → View E
   writer entries pending keys = record { writes = true; keyed = false; key = 0; seen = entries; told = []; met = []; pending = pending; keys = keys }
 
   -- a front's
-
   abbrev pub front : ℕ → List E → List E → View E
   front key seen met = record { writes = false; keyed = true; key = key; seen = seen; told = []; met = met; pending = []; keys = 0 }
 
   -- the writer's, with a front's seat taken in
-
   abbrev pub holder : List E → List ℕ → ℕ → ℕ → List E → List E → View E
   holder entries pending keys key told met = record { writes = true; keyed = true; key = key; seen = entries; told = told; met = met; pending = pending; keys = keys }
 
   -- a front's, with a slip taken in
-
   abbrev pub learner : ℕ → List E → List E → List E → View E
   learner key seen met told = record { writes = false; keyed = true; key = key; seen = seen; told = told; met = met; pending = []; keys = 0 }
 
   -- a slip's
-
   abbrev pub slip : List E → View E
   slip seen = record { writes = false; keyed = false; key = 0; seen = seen; told = []; met = []; pending = []; keys = 0 }
 
@@ -40,7 +35,6 @@ module _ {E : Type 0} where
   IsSlip v = v ≡ slip v.seen
 
   -- the writer deals the next key
-
   abbrev pub dealt : View E → View E
   dealt v = writer v.seen v.pending (v.keys + 1)
 
@@ -48,17 +42,14 @@ module _ {E : Type 0} where
   next_front v = front v.keys v.seen v.seen
 
   -- the writer takes a front in
-
   abbrev pub taken_in : View E → View E → View E
   taken_in v w = holder v.seen v.pending v.keys w.key w.seen w.met
 
   -- the front that was taken in has met all entries
-
   abbrev pub met_all : View E → View E
   met_all v = holder v.seen (without v.key v.pending) v.keys v.key [] v.seen
 
   -- the two parts again
-
   abbrev pub let_go : View E → View E
   let_go v = writer v.seen v.pending v.keys
 
@@ -66,12 +57,10 @@ module _ {E : Type 0} where
   front_again v = front v.key v.seen v.met
 
   -- a front gives a slip
-
   abbrev pub slip_of : View E → View E
   slip_of v = slip v.seen
 
   -- a front takes a slip in, and keeps the longer list
-
   abbrev pub told : View E → View E → View E
   told v w = learner v.key v.seen v.met w.seen
 
@@ -79,8 +68,6 @@ module _ {E : Type 0} where
   learned v = front v.key (longer v.seen v.told) v.met
 
   -- a seat that knows nothing
-
   abbrev pub nobody : View E
   nobody = slip []
-
   -- the view of a badge that has one

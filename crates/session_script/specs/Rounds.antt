@@ -16,15 +16,14 @@ use Rattle.session_script.specs.declared.reading.Reading.{Reading}
 
 module _ {S : Type 0} (left : S → Option (List ℕ)) (faults : S → ℕ) (before now : S) where
   -- some input was taken, at most the limit, by reads that stop where the text ends
-
   pub record TookPromptly : Type 0 where
     pub input : List ℕ
     pub took : Took left faults before now input
     pub within : length input ≤ input_limit
     pub prompt : IsPrompt input
 
-  -- the intake was given this input, which goes on
-
+  -- The rounds so far took some input, at most the limit. It says this session and, up to the END line, all these commands,
+  -- the last round's at their end. How it ended is by what it says, and a read fault is the source's.
   pub record HasRead (reading : Reading) (h : Header) (all : List Sent) : Type 0 where
     pub input : List ℕ
     pub took : Took left faults before now input
@@ -40,7 +39,6 @@ module _ {S : Type 0} (left : S → Option (List ℕ)) (faults : S → ℕ) (bef
     pub stands : StandsFor reading.intake input former
 
   -- the reading stopped before START
-
   pub record HasStopped (stop : Stop) : Type 0 where
     pub input : List ℕ
     pub took : Took left faults before now input
@@ -50,7 +48,6 @@ module _ {S : Type 0} (left : S → Option (List ℕ)) (faults : S → ℕ) (bef
     pub cause : stop ≡ EarlyStop ReadFault → Rose (faults before) (faults now)
 
   -- the rounds up to START
-
   abbrev pub HasBegun : Result Reading Stop → Type 0
   HasBegun (Ok reading) = (h : Header) × HasRead reading h (sent_at reading.intake.stage)
   HasBegun (Err stop) = HasStopped stop

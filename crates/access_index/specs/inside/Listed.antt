@@ -4,8 +4,6 @@ use Rattle.access_index.specs.Sides.{OwnRows}
 use Rattle.access_index.specs.Owned.{AreOwned}
 use Rattle.access_index.specs.Listed.{listed}
 
--- How the list is kept: for this crate's own functions.
-
 -- a bank put among others, in the order of their numbers
 abbrev pub with_bank : ℕ → List ℕ → List ℕ
 with_bank bank [] = bank ∷ []

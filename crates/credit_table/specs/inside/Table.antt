@@ -5,8 +5,6 @@ use Rattle.fx_rules.specs.Session.{IsSession, bank_count, sender_count}
 use Rattle.credit_lines.specs.Market as lines
 use Rattle.credit_table.specs.Table.{Table}
 
--- The rest is for this crate's own functions.
-
 -- the tables are of one valid session, and numbers fit
 pub record IsTable (table : Table) : Type 0 where
   pub session : IsSession table.session

@@ -3,8 +3,6 @@ use Rattle.std.specs.Prelude.{ℕ, List, [], ◌∷◌}
 use Rattle.fx_chronicle.specs.declared.rule.View.{View}
 
 module _ {E : Type 0} where
-  -- the writer's: all entries, the keys that have still to sign, the number of keys dealt
-
   abbrev pub seen_of : List (View E) → List E
   seen_of [] = []
   seen_of (v ∷ vs) = v.seen

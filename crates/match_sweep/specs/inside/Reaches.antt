@@ -10,8 +10,6 @@ use Rattle.global_book.specs.Book.{Book, IsBook, IsLevelOf, level_lots}
 use Rattle.credit_lines.specs.Credit.{Credit, line_in}
 use Rattle.match_sweep.specs.declared.reached.LevelWalk.{LevelWalk}
 
--- The walk from price to price: for this crate's own functions.
-
 -- an order behind all others of a price
 abbrev pub at_end : ℕ → Resting
 at_end price = record { bank = 0; number = 0; side = Buy; price = price; left = 0; arrival = 2 ^ 64 }

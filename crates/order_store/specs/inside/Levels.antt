@@ -6,8 +6,6 @@ use Rattle.fx_rules.specs.declared.orders.Resting.{Resting}
 use Rattle.order_store.specs.inside.Orders.{IsIndexed}
 use Rattle.order_store.specs.Levels.{lots_where}
 
--- How the sums are kept: for this crate's own functions.
-
 -- the number that stands for a bank, a side and a price
 abbrev pub side_number : Side → ℕ
 side_number Buy = 0

@@ -12,8 +12,6 @@ use Rattle.global_book.specs.Book.{Book}
 use Rattle.credit_lines.specs.Credit.{Credit}
 use Rattle.match_sweep.specs.Sweeps.{Fits}
 
--- The rest is for this crate's own functions.
-
 -- the outcome is an order's, by its life, in every sound state that the book and the credit are of
 abbrev pub OrdersEach : Book → Credit → ℕ → Taker → Life → Outcome → Type 0
 OrdersEach book credit weight order life outcome =

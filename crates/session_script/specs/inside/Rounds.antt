@@ -14,15 +14,13 @@ use Rattle.session_script.specs.declared.ends.Stop.{Stop}
 use Rattle.session_script.specs.declared.intake.Intake.{Intake}
 
 module _ {S : Type 0} (left : S → Option (List ℕ)) (faults : S → ℕ) (before now : S) where
-  -- some input was taken, at most the limit, by reads that stop where the text ends
-
+  -- the intake was given this input, which goes on
   pub record ReadsOn (intake : Intake) (former : List Sent) (input : List ℕ) : Type 0 where
     pub took : Took left faults before now input
     pub stands : StandsFor intake input former
     pub goes_on : GoesOn input
 
   -- a round took more of it, and came to this; a read fault is the source's
-
   pub record TookRound (intake : Intake) (former : List Sent) (begun : List ℕ) (result : Result (Option TextEnd) Stop) : Type 0 where
     pub more : List ℕ
     pub took : Took left faults before now (begun ++ more)
@@ -31,6 +29,3 @@ module _ {S : Type 0} (left : S → Option (List ℕ)) (faults : S → ℕ) (bef
     pub stands : OnOk result (StandsFor intake (begun ++ more) former)
     pub came : RoundCame (left now) (begun ++ more) result
     pub cause : result ≡ Ok (Some (Early ReadFault)) → Rose (faults before) (faults now)
-
-  -- The rounds so far took some input, at most the limit. It says this session and, up to the END line, all these commands,
-  -- the last round's at their end. How it ended is by what it says, and a read fault is the source's.
