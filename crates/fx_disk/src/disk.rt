@@ -1,4 +1,4 @@
-ghost use Rattle.std.specs.Prelude.{◌≡◌, ℕ, ◌+◌, ◌<◌, ◌≤◌, List, length, take, drop, Option, option_map, IfOk, OnOk};
+ghost use Rattle.std.specs.Prelude.{◌≡◌, ℕ, ◌+◌, ◌<◌, ◌≤◌, List, length, take, drop, Option, option_map, IfOk, OnOk, OnErr};
 ghost use Rattle.fx_disk.specs.Disk.{WhereTold, with_piece, TornBy, NoMore, Only, Called};
 
 /// Why a disk didn't do what it was asked.
@@ -35,7 +35,8 @@ pub trait Disk {
         ensures images { NoMore (may_leave self.old) (may_leave self.new) };
 
     /// Moves bytes of the file from the place `at` on into the front of `into`, and answers how many: at
-    /// least 1 where the file has a byte there and `into` has room. The rest of `into` stays.
+    /// least 1 where the file has a byte there and `into` has room. The rest of `into` stays, and after a
+    /// stop all of it.
     fn read_at(&mut self, at: u64, into: &mut [u8]) -> Result<usize, DiskStop>
         ensures called { Called bytes may_leave moment left_since faults self.old self.new result }
         ensures room { IfOk result (λ count. count ≤ length into.old) }
@@ -46,6 +47,7 @@ pub trait Disk {
         ensures least { IfOk result (λ count. WhereTold (bytes self.old) (λ file.
             at < length file → 0 < length into.old → 0 < count)) }
         ensures rest { IfOk result (λ count. drop count into.new ≡ drop count into.old) }
+        ensures untouched { OnErr result (into.new ≡ into.old) }
         ensures bytes { OnOk result (bytes self.new ≡ bytes self.old) }
         ensures images { NoMore (may_leave self.old) (may_leave self.new) };
 

@@ -108,6 +108,7 @@ impl Disk for MemoryDisk {
         ensures fails { IsErrOf result DiskStop.Failed ↔ Contains self.old.fails (one_more self.old.made) }
         ensures count { IfOk result (λ count. count ≡ min (length into.old) (length (drop at (reads_of self.old)))) }
         ensures into { IfOk result (λ count. into.new ≡ take count (drop at (reads_of self.old)) ++ drop count into.old) }
+        ensures untouched { OnErr result (into.new ≡ into.old) }
         ensures tape { self.new.tape ≡ self.old.tape }
         ensures called { CalledFailing self.old self.new result }
     {
