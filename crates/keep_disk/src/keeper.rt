@@ -1,4 +1,4 @@
-ghost use Rattle.std.specs.Prelude.{◌≡◌, ℕ, ◌+◌, ◌<◌, ◌^◌, ◌++◌, [], ◌∷◌, List, length, Option, is_some, IfSome, IfOk, OnOk};
+ghost use Rattle.std.specs.Prelude.{◌≡◌, ℕ, ◌+◌, ◌<◌, ◌^◌, ◌++◌, [], ◌∷◌, List, length, Option, is_some, IfSome, IfOk, OnOk, OnErr};
 ghost use Rattle.std.specs.Int.{to_be_bytes};
 ghost use Rattle.std.proofs.Common.{w64};
 ghost use Rattle.fx_disk.specs.Disk.{WhereTold, LeavesOnly};
@@ -57,7 +57,8 @@ impl Keeper {
     /// those are synced, that gate's 1. It takes its memory before the first write.
     ///
     /// At every moment of the call a crash leaves the blocks from before it, with the new one or
-    /// without, and after `Ok` with it. After a fault the file is to be opened again.
+    /// without, and after `Ok` with it. After a fault the keeper is as it was, and the file is to be
+    /// opened again.
     pub fn append<D: Disk>(&mut self, disk: &mut D, body: &[u8]) -> Result<(), KeepFault>
         requires { AtRest D.bytes D.may_leave disk.old self.old.place }
         ensures every_moment { WhereTold (D.bytes disk.old) (λ file.
@@ -67,6 +68,7 @@ impl Keeper {
         ensures at_rest { OnOk result (AtRest D.bytes D.may_leave disk.new self.new.place) }
         ensures tells { OnOk result (is_some (D.bytes disk.new) ≡ is_some (D.bytes disk.old)) }
         ensures bodies { self.new.bodies ≡ self.old.bodies }
+        ensures memory { OnErr result (self.new ≡ self.old) }
         ensures cause { HasCause D.faults disk.old disk.new result }
     {
         let Some(next) = place_behind(self.place, body) else {

@@ -1,7 +1,9 @@
-ghost use Rattle.std.specs.Prelude.{◌≡◌, ◌<◌, ℕ, [], ◌∷◌, Option, None, is_some, IfSome, IfOk, OnOk, OnErr};
+ghost use Rattle.std.specs.Prelude.{◌≡◌, ◌<◌, ℕ, List, [], ◌∷◌, Option, None, is_some, IfSome, IfOk, OnOk, OnErr};
+ghost use Rattle.std.specs.Iterator.{Yields};
 ghost use Rattle.fx_edges.specs.Writing.{Appended};
 ghost use Rattle.fx_disk.specs.Disk.{WhereTold, LeavesOnly};
 ghost use Rattle.keep_disk.specs.Blocks.{whole_blocks, HasOrLacks};
+ghost use Rattle.keep_disk.specs.declared.rounds.Round.{Round as KeptRound};
 ghost use Rattle.keep_disk.specs.Keeping.{AtRest};
 ghost use Rattle.keep_disk.specs.Rounds.{KeptBlocks, KeptBeforeTold, KeptAll, KeptPart, RunCauses};
 
@@ -82,10 +84,11 @@ pub trait Rounds {
     /// From the first state it gives this round, or none any more, and goes on as the last.
     ghost gives: { Self → Option Round → Self → Type 0 };
 
-    /// The next round, or `None` at the end. After `Memory` the run is over.
+    /// The next round, or `None` at the end. After `Memory` no round was given, and the run is over.
     fn next(&mut self) -> Result<Option<Round>, Memory>
         ensures gives { IfOk result (λ round. gives self.old round self.new) }
-        ensures fewer { IfOk result (λ round. IfSome round (λ _. left self.new < left self.old)) };
+        ensures fewer { IfOk result (λ round. IfSome round (λ _. left self.new < left self.old)) }
+        ensures memory { OnErr result (self.new ≡ self.old) };
 }
 
 /// Keeps a round and tells of it: its block is appended, and when that is on the disk its text goes to `out`.
@@ -120,7 +123,8 @@ pub fn keep_round<D: Disk, K: Sink>(
 ///
 /// At every moment a crash leaves the blocks from before and the first so many of the rounds'. Of each
 /// round of which a byte was told it leaves the block, whatever the answer. After a fault the file is to be
-/// opened again, and `out` has a prefix of what is told of the rounds that are kept.
+/// opened again, `out` has a prefix of what is told of the rounds that are kept, and `rounds` stands behind the
+/// last round that it gave.
 pub fn keep_rounds<D: Disk, K: Sink, N: Rounds>(
     keeper: &mut Keeper,
     disk: &mut D,
@@ -131,6 +135,7 @@ pub fn keep_rounds<D: Disk, K: Sink, N: Rounds>(
     ensures all { OnOk result ((last : N) × N.gives last None rounds.new
         × KeptAll D.bytes D.may_leave D.moment D.left_since K.written K.faults N.gives disk.old disk.new out.old out.new rounds.old last) }
     ensures part { OnErr result (KeptPart D.bytes D.may_leave D.moment D.left_since K.written K.faults N.gives disk.old disk.new out.old out.new rounds.old) }
+    ensures given { OnErr result ((given : List KeptRound) × Yields N.gives rounds.old given rounds.new) }
     ensures at_rest { OnOk result (AtRest D.bytes D.may_leave disk.new keeper.new.place) }
     ensures bodies { keeper.new.bodies ≡ keeper.old.bodies }
     ensures causes { RunCauses D.faults K.faults disk.old disk.new out.old out.new result }

@@ -1,4 +1,6 @@
-use Rattle.std.proofs.Common.{Option, refl, subst, arith}
+use Rattle.std.proofs.Common.{Option, [], ◌∷◌, ◌++◌, refl, sym, subst, arith}
+use Rattle.std.specs.Iterator.{Yields}
+use Rattle.std.proofs.iter.Next.{Yields-more}
 use Rattle.keep_disk.specs.declared.rounds.Round.{Round}
 use Rattle.keep_disk.proofs.Telling.{kept_none, kept_stopped, kept_more, kept_cut, on_err_always}
 use Rattle.keep_disk.proofs.rounds.keep_rounds.Goals as goal
@@ -17,6 +19,21 @@ returns-in_err-round-clause-part g c =
     on_err_always c.from_residual.result
     (kept_stopped g.D.Disk.bytes g.D.Disk.may_leave g.D.Disk.moment g.D.Disk.left_since g.K.Sink.written g.K.Sink.faults g.N.Rounds.gives
     c.args.disk.now c.loop-round.disk c.args.out.now c.loop-round.out c.args.rounds.now c.loop-round.rounds c.loop-round.invariant.kept)
+
+pub returns-in_err-round-clause-given : goal.returns-in_err-round-clause-given
+returns-in_err-round-clause-given g c =
+    let kept = c.loop-round.invariant.kept in
+    on_err_always c.from_residual.result
+    (kept.rounds, subst (Yields g.N.Rounds.gives c.args.rounds.now kept.rounds) (sym c.in_err-round.ensures.memory) kept.came)
+
+pub returns-in_err-keep_round-clause-given : goal.returns-in_err-keep_round-clause-given
+returns-in_err-keep_round-clause-given g c =
+    let kept = c.loop-round.invariant.kept in
+    on_err_always c.from_residual-in_err-keep_round.result (
+      kept.rounds ++ c.in-Some.round ∷ [],
+      Yields-more g.N.Rounds.gives c.args.rounds.now kept.rounds c.loop-round.rounds c.in-Some.round c.next.new.self kept.came
+          (subst (λ (round : Option Round). g.N.Rounds.gives c.loop-round.rounds round c.next.new.self) c.in-Some.is c.in_ok-round.ensures.gives),
+    )
 
 pub returns-in_err-keep_round-clause-part : goal.returns-in_err-keep_round-clause-part
 returns-in_err-keep_round-clause-part g c =
