@@ -70,6 +70,13 @@ impl Held {
         self.bytes.split_at(self.len).0
     }
 
+    // Forgets all bytes.
+    fn clear(&mut self)
+        ensures { self.new ≡ [] }
+    {
+        self.len = 0;
+    }
+
     // Adds a byte, where there is room.
     fn push(&mut self, byte: u8)
         ensures { self.new ≡ take 258 (self.old ++ byte ∷ []) }
@@ -142,7 +149,7 @@ fn cut(mut held: Held, piece: &[u8], out: &mut Vec<Line>) -> Result<Held, Memory
         if *byte == b'\n' {
             let line = Line::of(*out.allocator(), held.as_slice())?;
             out.push(line)?;
-            held = Held::new();
+            held.clear();
         } else {
             held.push(*byte);
         }

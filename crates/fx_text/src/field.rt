@@ -1,6 +1,6 @@
-ghost use Rattle.std.specs.Prelude.{◌≡◌, ◌<◌, [], length, nat_lt, if◌then◌else◌, slice_get, slice_index_or};
+ghost use Rattle.std.specs.Prelude.{◌≡◌, ◌==◌, ◌||◌, ◌<◌, [], length, nat_lt, if◌then◌else◌, slice_get, slice_index_or};
 ghost use Rattle.std.specs.Option.{option_copied};
-ghost use Rattle.fx_text.specs.Fields.{fields_of, is_blank, is_end};
+ghost use Rattle.fx_text.specs.Fields.{fields_of, is_blank, is_comment, is_end};
 
 use std::marker::Model;
 
@@ -24,6 +24,12 @@ impl<'a> Model for Fields<'a> {
     ghost view = { λ f. fields_of f.line.now };
 
     ghost invariant = { λ f. (f.count ≡ length (fields_of f.line.now)) × (map (λ part. part.now) (take f.count f.kept) ≡ take 8 (fields_of f.line.now)) };
+}
+
+pub(crate) fn is_comment(field: &[u8]) -> bool
+    ensures { result ≡ is_comment field.now }
+{
+    field.first() == Some(&b'#')
 }
 
 fn is_blank(byte: u8) -> bool
@@ -75,6 +81,13 @@ impl<'a> Fields<'a> {
         ensures { result.now ≡ slice_index_or self.now at [] }
     {
         self.kept[at]
+    }
+
+    /// Whether the line is passed over: it has no field, or its first field begins with `#`.
+    pub fn is_passed_over(&self) -> bool
+        ensures { result ≡ (length self.now == 0) || is_comment (slice_index_or self.now 0 []) }
+    {
+        self.count == 0 || is_comment(self.field(0))
     }
 
     /// Whether `END` is the only field.

@@ -1,8 +1,7 @@
 ghost use Rattle.std.specs.Prelude.{◌≡◌, IfOk};
 ghost use Rattle.std.specs.Str.Lines.{strip_carriage_return};
-ghost use Rattle.fx_text.specs.Fields.{is_comment};
 
-use crate::field::Fields;
+use crate::field::{Fields, is_comment};
 use fx_amounts::Memory;
 use std::alloc::Global;
 use std::marker::Model;
@@ -78,19 +77,10 @@ impl Line {
         ensures { result ≡ is_passed_over self.now }
     {
         match self {
-            Line::Whole(text) => {
-                let fields = Fields::of(text.as_slice());
-                fields.count() == 0 || is_comment(fields.first())
-            }
+            Line::Whole(text) => Fields::of(text.as_slice()).is_passed_over(),
             Line::Long(field) => is_comment(field.as_slice()),
         }
     }
-}
-
-fn is_comment(field: &[u8]) -> bool
-    ensures { result ≡ is_comment field.now }
-{
-    field.first() == Some(&b'#')
 }
 
 fn without_carriage_return(part: &[u8]) -> &[u8]

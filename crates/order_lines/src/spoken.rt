@@ -1,4 +1,6 @@
-ghost use Rattle.std.specs.Prelude.{◌≡◌, ◌<◌, ℕ, IsFalse, IfSome};
+ghost use Rattle.std.specs.Prelude.{◌≡◌, ◌<◌, ℕ, List, IsFalse, IfSome};
+ghost use Rattle.fx_text.specs.Fields.{fields_of};
+ghost use Rattle.fx_text.specs.declared.line.Line.TheVariants.{Whole as WholeLine};
 ghost use Rattle.fx_rules.specs.Session.{bank_count};
 ghost use Rattle.fx_rules.specs.Step.{IsCommand};
 ghost use Rattle.fx_rules.specs.declared.command.Command.{Command};
@@ -9,7 +11,7 @@ use crate::reading::read_command;
 use crate::word::{BAD, fault_from};
 use fx_amounts::BankId;
 use fx_rules::{Command, Reject, Session};
-use fx_text::{Line, fields, number};
+use fx_text::{Fields, Line, fields, number};
 
 /// What a line after the header's `START` says.
 #[derive(Clone, Copy, Debug, PartialEq, Eq)]
@@ -49,23 +51,9 @@ pub fn command_from(session: &Session, line: &Line) -> Spoken
 fn spoken_by(session: &Session, line: &Line) -> Spoken
     ensures { result ≡ command_line session.now line.now }
 {
-    if line.is_passed_over() {
-        return Spoken::Passed;
-    }
     match line {
-        Line::Whole(text) => {
-            let fields = fields(text.as_slice());
-            if fields.is_end() {
-                return Spoken::End;
-            }
-            match session.bank_named(fields.first()) {
-                Some(bank) => Spoken::Of(
-                    bank,
-                    command_or_bad(read_command(session, bank, &fields)),
-                ),
-                None => Spoken::Stray,
-            }
-        }
+        Line::Whole(text) => spoken_in(session, &fields(text.as_slice())),
+        Line::Long(_) if line.is_passed_over() => Spoken::Passed,
         Line::Long(first) => match session.bank_named(first.as_slice()) {
             Some(bank) => Spoken::Of(
                 bank,
@@ -75,6 +63,23 @@ fn spoken_by(session: &Session, line: &Line) -> Spoken
             ),
             None => Spoken::Stray,
         },
+    }
+}
+
+/// The same of the fields of a line that is not long.
+#[tactic(auto, unfolding(crate::specs::Grammar::command_line))]
+fn spoken_in(session: &Session, fields: &Fields<'_>) -> Spoken
+    ensures { (text : List ℕ) → fields.now ≡ fields_of text → result ≡ command_line session.now (WholeLine text) }
+{
+    if fields.is_passed_over() {
+        return Spoken::Passed;
+    }
+    if fields.is_end() {
+        return Spoken::End;
+    }
+    match session.bank_named(fields.first()) {
+        Some(bank) => Spoken::Of(bank, command_or_bad(read_command(session, bank, fields))),
+        None => Spoken::Stray,
     }
 }
 

@@ -14,7 +14,7 @@ loop-byte-preserved c =
           let line : w.in_ok-line.line ≡ line_of c.loop-byte.held = w.in_ok-line.ensures ∙ ap line_of w.as_slice.ensures in (
             lines ++ line_of c.loop-byte.held ∷ [],
             ap (λ (out : Vec Line Global). out.items) w.out-is ∙ w.in_ok-push.ensures.items ∙ pushed_line c.args.out.now.items lines c.loop-byte.out.items w.in_ok-line.line (line_of c.loop-byte.held) items line,
-            subst (λ (held : List ℕ). CutsOn c.args.held c.args.piece.now (i + 1) held (lines ++ line_of c.loop-byte.held ∷ [])) (sym (w.held-is ∙ w.new-held.ensures))
+            subst (λ (held : List ℕ). CutsOn c.args.held c.args.piece.now (i + 1) held (lines ++ line_of c.loop-byte.held ∷ [])) (sym (w.held-is ∙ w.clear.ensures))
                 (CutsOn-line_feed c.args.held c.args.piece.now i c.loop-byte.held lines c.loop-byte-test.true w.if-byte-eq10.true cuts),
           )
       | else-byte-eq10 w ↦ (
