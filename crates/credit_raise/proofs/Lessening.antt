@@ -171,13 +171,13 @@ orders_in-lowered pair bank number lots (a ∷ rest) all =
     ]
 
 -- the orders that pass a test which the order's command passes, however much is left of it
-pub filter-lessened : (test : Resting → Bool) (bank number lots : ℕ) (orders : List Resting) → ((o : Resting) → is_order bank number o ≡ true → test o ≡ true) → ((o : Resting) (left : ℕ) → test (record o { left = left }) ≡ test o) → filter test (lessened bank number lots orders) ≡ lessened bank number lots (filter test orders)
+pub filter-lessened : (test : Resting → Bool) (bank number lots : ℕ) (orders : List Resting) → Each (λ (o : Resting). is_order bank number o ≡ true → test o ≡ true) orders → ((o : Resting) (left : ℕ) → test (record o { left = left }) ≡ test o) → filter test (lessened bank number lots orders) ≡ lessened bank number lots (filter test orders)
 filter-lessened test bank number lots [] passes same = refl
 filter-lessened test bank number lots (o ∷ orders) passes same =
     let low : List Resting = lessened bank number lots (o ∷ orders) in
     elim (cases_Bool (is_order bank number o)) [
       | inl is ↦
-          let kept : test o ≡ true = passes o is in
+          let kept : test o ≡ true = passes.0 is in
           ap (filter test) (lessened_here bank number lots o orders is)
           ∙ cond_both (ltb lots o.left) (record o { left = o.left - lots } ∷ filter test orders) (filter test orders)
           (λ (os : List Resting). filter test (cut lots o orders) ≡ os)
@@ -187,7 +187,7 @@ filter-lessened test bank number lots (o ∷ orders) passes same =
           ∙ sym (lessened_here bank number lots o (filter test orders) is)
           ∙ ap (lessened bank number lots) (sym (filter_cons_true test o orders kept))
       | inr is_not ↦
-          let later : filter test (lessened bank number lots orders) ≡ lessened bank number lots (filter test orders) = filter-lessened test bank number lots orders passes same in
+          let later : filter test (lessened bank number lots orders) ≡ lessened bank number lots (filter test orders) = filter-lessened test bank number lots orders passes.1 same in
           let walked : filter test low ≡ filter test (o ∷ lessened bank number lots orders) = ap (filter test) (lessened_later bank number lots o orders is_not) in
           elim (cases_Bool (test o)) [
             | inl kept ↦ walked ∙ filter_cons_true test o (lessened bank number lots orders) kept

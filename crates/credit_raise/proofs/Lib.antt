@@ -7,5 +7,7 @@ pub mod Meeting
 pub mod Paying
 pub mod Raised
 pub mod Going
+pub mod Living
+pub mod Facing
 pub mod Quiet
 pub mod Pairs

@@ -245,6 +245,8 @@ orders-filled h X pair weight i j credit waiting rest order best left lots diffe
     let two : Resting → Bool = is_of_two i j in
     let os : List Resting = orders_in pair X.orders in
     let once : List ActiveOrder = lowered best.bank best.number lots X.orders in
+    let two_pass : (bank number : ℕ) (among : List Resting) → (bank ≡ i) ⊎ (bank ≡ j) → Each (λ (o : Resting). is_order bank number o ≡ true → is_of_two i j o ≡ true) among
+    = λ bank number among owner. Each-of (λ (o : Resting). is_order bank number o ≡ true → is_of_two i j o ≡ true) among (λ o _ is. key_two i j bank number o owner is) in
     let rising = meets_rising h X pair weight i j credit waiting (now ∷ rest) meets in
     let maker = meets_among h X pair weight i j credit waiting (now ∷ rest) best meets (among_front waiting (now ∷ rest) best waits) in
     let taker = meets_among h X pair weight i j credit waiting (now ∷ rest) now meets (among_middle waiting now rest) in
@@ -256,10 +258,10 @@ orders-filled h X pair weight i j credit waiting rest order best left lots diffe
     (λ o before. false_from_ne_true (is_order order.bank order.number o) (λ is.
     let says = is_order-says order.bank order.number o is in before.number says.0 says.1)) waiting (before_it waiting now rest rising) in
     ap (filter two) (orders_in-lowered pair order.bank order.number lots once takers)
-    ∙ filter-lessened two order.bank order.number lots (orders_in pair once) (λ o is. key_two i j order.bank order.number o (two-owner i j now taker.1) is) (λ o n. refl)
+    ∙ filter-lessened two order.bank order.number lots (orders_in pair once) (two_pass order.bank order.number (orders_in pair once) (two-owner i j now taker.1)) (λ o n. refl)
     ∙ ap (λ (xs : List Resting). lessened order.bank order.number lots (filter two xs)) (orders_in-lowered pair best.bank best.number lots X.orders makers)
     ∙ ap (lessened order.bank order.number lots)
-    (filter-lessened two best.bank best.number lots os (λ o is. key_two i j best.bank best.number o (two-owner i j best maker.1) is) (λ o n. refl)
+    (filter-lessened two best.bank best.number lots os (two_pass best.bank best.number os (two-owner i j best maker.1)) (λ o n. refl)
     ∙ ap (lessened best.bank best.number lots) meets.orders
     ∙ lessened-front best.bank best.number lots best waiting (now ∷ rest) waits (own_order best))
     ∙ lessened-behind order.bank order.number lots (lessened best.bank best.number lots waiting) (now ∷ rest)

@@ -1,14 +1,19 @@
 -- A sweep among waiting orders, one fill after another, and what it leaves.
-use Rattle.std.proofs.Common.{ℕ, ◌≡◌, ◌-◌, ◌*◌, ◌/◌, ◌≤◌, min, eqb, List, [], ◌∷◌, ◌++◌, refl, ap, subst, ◌∙◌, arith, append_assoc}
-use Rattle.std.proofs.lemmas.Bool.{cond_both}
+use Rattle.std.proofs.Common.{ℕ, suc, ◌≡◌, ◌+◌, ◌-◌, ◌*◌, ◌/◌, ◌≤◌, ◌<◌, min, false, eqb, List, [], ◌∷◌, ◌++◌, drop, length, get_or, refl, ap, sym, subst, ◌∙◌, arith, append_assoc, add-one}
+use Rattle.std.proofs.Math.Seq.{drop-cons}
+use Rattle.std.proofs.lemmas.Bool.{cond_both, false_from_ne_true}
 use Rattle.fx_rules.specs.declared.orders.Resting.{Resting}
 use Rattle.fx_rules.specs.declared.orders.Fill.{Fill}
-use Rattle.fx_rules.specs.Lists.{Among}
-use Rattle.fx_rules.specs.Sweep.{Taker, is_open, open_in, IsBest, fill_with, less}
+use Rattle.fx_rules.specs.Lists.{Among, Each}
+use Rattle.fx_rules.specs.Sound.{ArrivesBefore}
+use Rattle.fx_rules.specs.Sweep.{Taker, is_order, is_open, open_in, IsBest, fill_with, less}
 use Rattle.fx_rules.specs.Raise.{taker_of_resting}
-use Rattle.fx_rules.proofs.ListLemmas.{Among-filter}
+use Rattle.fx_rules.proofs.ListLemmas.{Among-filter, Each-weaker}
+use Rattle.fx_rules.proofs.Lowering.{is_order-says}
 use Rattle.fx_rules.proofs.Opens.{IsOpen, is_open-says}
-use Rattle.credit_raise.specs.inside.Playing.{only, other_of, lessened, lessened_all, joined, paid, SweptAmong, Played}
+use Rattle.credit_raise.specs.inside.Playing.{only, other_of, lessened, lessened_all, joined, paid, SweptAmong, AreTurns, Played}
+use Rattle.credit_raise.proofs.Lessening.{Each-lessened_all}
+use Rattle.credit_raise.proofs.Walking.{Each-joined}
 
 pub paid-append : (weight line : ℕ) (xs ys : List Fill) → paid weight line (xs ++ ys) ≡ paid weight (paid weight line xs) ys
 paid-append weight line [] ys = refl
@@ -24,7 +29,7 @@ pub record IsMaker (lots other : ℕ) (t : Taker) (waiting : List Resting) (best
   pub opens : IsOpen t (only other lots best.bank) best
   pub reached : 1 ≤ lots
 
-only_most : (other lots bank : ℕ) → only other lots bank ≤ lots
+pub only_most : (other lots bank : ℕ) → only other lots bank ≤ lots
 only_most other lots bank = cond_both (eqb bank other) lots 0 (λ n. n ≤ lots) (λ _. omega arith) (λ _. omega arith)
 
 pub maker-of : (lots other : ℕ) (t : Taker) (waiting : List Resting) (best : Resting) → Among best (open_in (only other lots) t waiting) → IsMaker lots other t waiting best
@@ -67,3 +72,51 @@ played-turn pair weight i j line waiting order rest own more left other w p line
   subst (λ n. Played pair weight i j n (joined order left (lessened_all waiting own)) rest more) (line_is ∙ ap (λ n. paid n line own) weight_is)
       (subst (λ (os : List Resting). Played pair weight i j line' os rest more) waiting_is played),
 )
+
+-- ---- what waits came before the turns that are still to come
+
+-- a list from a place on
+dropped : (orders : List Resting) (n : ℕ) (order : Resting) → n < length orders → order ≡ get_or orders n order → drop n orders ≡ order ∷ drop (n + 1) orders
+dropped orders n order within is =
+    drop-cons orders n order within ∙ ap (λ (o : Resting). o ∷ drop (suc n) orders) (sym is) ∙ ap (λ m. order ∷ drop m orders) (sym (add-one n))
+
+-- the turn that comes next, where so many were had
+pub record IsNext (i j n : ℕ) (turns : List Resting) (order : Resting) (waiting : List Resting) : Type 0 where
+  pub here : drop n turns ≡ order ∷ drop (n + 1) turns
+  pub are : AreTurns i j (order ∷ drop (n + 1) turns)
+  pub before : Each (λ w. Each (ArrivesBefore w) (order ∷ drop (n + 1) turns)) waiting
+
+pub turn-next : (i j n : ℕ) (turns : List Resting) (order : Resting) (waiting : List Resting) → n < length turns → order ≡ get_or turns n order → AreTurns i j (drop n turns) → Each (λ w. Each (ArrivesBefore w) (drop n turns)) waiting → IsNext i j n turns order waiting
+turn-next i j n turns order waiting within is are before =
+    let here : drop n turns ≡ order ∷ drop (n + 1) turns = dropped turns n order within is in
+    record {
+      here = here;
+      are = subst (AreTurns i j) here are;
+      before = subst (λ (os : List Resting). Each (λ w. Each (ArrivesBefore w) os) waiting) here before;
+    }
+
+pub turns-behind : (i j : ℕ) (order : Resting) (rest : List Resting) → AreTurns i j (order ∷ rest) → AreTurns i j rest
+turns-behind i j order rest are = record { owners = are.owners.1; numbers = are.numbers.1; rising = are.rising.1 }
+
+-- an order comes before others, whatever it has left
+before_left : (rest : List Resting) (order : Resting) (left : ℕ) → Each (ArrivesBefore order) rest → Each (ArrivesBefore (record order { left = left })) rest
+before_left rest order left before =
+    Each-weaker (ArrivesBefore order) (ArrivesBefore (record order { left = left })) (λ q is. record { arrival = is.arrival; number = is.number }) rest before
+
+pub before-earlier : (waiting : List Resting) (order : Resting) (rest : List Resting) → Each (λ w. Each (ArrivesBefore w) (order ∷ rest)) waiting → Each (λ w. w.arrival < order.arrival) waiting
+before-earlier waiting order rest before =
+    Each-weaker (λ (w : Resting). Each (ArrivesBefore w) (order ∷ rest)) (λ (w : Resting). w.arrival < order.arrival) (λ w is. is.0.arrival) waiting before
+
+pub before-absent : (waiting : List Resting) (order : Resting) (rest : List Resting) → Each (λ w. Each (ArrivesBefore w) (order ∷ rest)) waiting → Each (λ w. is_order order.bank order.number w ≡ false) waiting
+before-absent waiting order rest before =
+    Each-weaker (λ (w : Resting). Each (ArrivesBefore w) (order ∷ rest)) (λ (w : Resting). is_order order.bank order.number w ≡ false)
+    (λ w is. false_from_ne_true (is_order order.bank order.number w) (λ own.
+    let says = is_order-says order.bank order.number w own in is.0.number says.0 says.1)) waiting before
+
+pub before-joined : (waiting : List Resting) (order : Resting) (rest : List Resting) (left : ℕ) (own : List Fill) → Each (ArrivesBefore order) rest → Each (λ w. Each (ArrivesBefore w) (order ∷ rest)) waiting → Each (λ w. Each (ArrivesBefore w) rest) (joined order left (lessened_all waiting own))
+before-joined waiting order rest left own behind before =
+    let Before : Resting → Type 0 = λ w. Each (ArrivesBefore w) rest in
+    Each-joined Before order left (lessened_all waiting own)
+    (Each-lessened_all Before (before_left rest) waiting own
+    (Each-weaker (λ (w : Resting). Each (ArrivesBefore w) (order ∷ rest)) Before (λ w is. is.1) waiting before))
+    (before_left rest order left behind)

@@ -6,16 +6,11 @@ use Rattle.std.specs.List.{filter}
 use Rattle.fx_rules.specs.declared.orders.Resting.{Resting}
 use Rattle.fx_rules.specs.Lists.{Among, Each, EachPair}
 use Rattle.fx_rules.specs.Sound.{ArrivesBefore}
-use Rattle.fx_rules.specs.Sweep.{is_order}
-use Rattle.fx_rules.specs.declared.orders.Fill.{Fill}
-use Rattle.fx_rules.proofs.ListLemmas.{Each-among, Each-both, Each-weaker, Each-append, Among-filter, filter_agree_on, filter_filter, filter_cons_true, filter_cons_false}
-use Rattle.fx_rules.proofs.Lowering.{is_order-says}
-use Rattle.fx_rules.proofs.Preference.{command_same}
+use Rattle.fx_rules.proofs.ListLemmas.{Each-among, Each-append, Among-filter, filter_agree_on, filter_filter, filter_cons_true, filter_cons_false}
 use Rattle.global_book.specs.Book.{first, is_of_from}
 use Rattle.credit_raise.specs.Two.{is_of_two}
 use Rattle.credit_raise.specs.inside.Two.{is_of_two_from, turns}
-use Rattle.credit_raise.specs.inside.Playing.{earlier_of, other_of, joined, lessened_all}
-use Rattle.credit_raise.proofs.Lessening.{Each-lessened_all}
+use Rattle.credit_raise.specs.inside.Playing.{earlier_of, other_of, joined}
 
 some_same : (a b : Resting) → Some a ≡ Some b → a ≡ b
 some_same a b same = cc
@@ -170,42 +165,11 @@ fewer i j after orders o rising is = omega (arith, ap (λ (os : List Resting). l
 
 -- ---- who waits
 
--- a waiting order is one of the book's, whatever it has left
-pub record StoodIn (orders : List Resting) (waiting : Resting) : Type 0 where
-  pub was : Resting
-  pub rests : Among was orders
-  pub bank : waiting.bank ≡ was.bank
-  pub number : waiting.number ≡ was.number
-  pub arrival : waiting.arrival ≡ was.arrival
-
--- of an order that did not have its turn none waits
-pub none_waits : (orders waiting : List Resting) (after : ℕ) (order : Resting) → EachPair ArrivesBefore orders → Among order orders → after ≤ order.arrival → Each (StoodIn orders) waiting → Each (λ (o : Resting). o.arrival < after) waiting → Each (λ (o : Resting). is_order order.bank order.number o ≡ false) waiting
-none_waits orders waiting after order rising rests in_time stood earlier =
-    Each-both (StoodIn orders) (λ (o : Resting). o.arrival < after) (λ (o : Resting). is_order order.bank order.number o ≡ false)
-    (λ o was before. false_from_ne_true (is_order order.bank order.number o) (λ is.
-    let says = is_order-says order.bank order.number o is in
-    let same : was.was ≡ order = command_same orders was.was order rising was.rests rests (sym was.bank ∙ says.0) (sym was.number ∙ says.1) in
-    omega (arith, before, in_time, was.arrival, ap (λ (q : Resting). q.arrival) same)))
-    waiting stood earlier
-
 -- what waits after a turn
 pub Each-joined : (P : Resting → Type 0) (order : Resting) (left : ℕ) (waiting : List Resting) → Each P waiting → P (record order { left = left }) → Each P (joined order left waiting)
 Each-joined P order left waiting all last =
     cond_both (ltb 0 left) (waiting ++ record order { left = left } ∷ []) waiting (Each P)
     (λ _. Each-append P waiting (record order { left = left } ∷ []) all (last, tt)) (λ _. all)
-
-pub stood-joined : (orders waiting : List Resting) (order : Resting) (left : ℕ) (own : List Fill) → Among order orders → Each (StoodIn orders) waiting → Each (StoodIn orders) (joined order left (lessened_all waiting own))
-stood-joined orders waiting order left own rests stood =
-    Each-joined (StoodIn orders) order left (lessened_all waiting own)
-    (Each-lessened_all (StoodIn orders) (λ o n was. record { was = was.was; rests = was.rests; bank = was.bank; number = was.number; arrival = was.arrival }) waiting own stood)
-    (record { was = order; rests = rests; bank = refl; number = refl; arrival = refl })
-
-pub earlier-joined : (waiting : List Resting) (after : ℕ) (order : Resting) (left : ℕ) (own : List Fill) → after ≤ order.arrival → Each (λ (o : Resting). o.arrival < after) waiting → Each (λ (o : Resting). o.arrival < order.arrival + 1) (joined order left (lessened_all waiting own))
-earlier-joined waiting after order left own in_time earlier =
-    Each-joined (λ (o : Resting). o.arrival < order.arrival + 1) order left (lessened_all waiting own)
-    (Each-lessened_all (λ (o : Resting). o.arrival < order.arrival + 1) (λ o n before. before) waiting own
-    (Each-weaker (λ (o : Resting). o.arrival < after) (λ (o : Resting). o.arrival < order.arrival + 1) (λ o before. omega (arith, before)) waiting earlier))
-    (omega arith)
 
 -- ---- the two banks
 

@@ -3,6 +3,8 @@ use Rattle.std.specs.Prelude.{ℕ, ◌≡◌, ◌≤◌, ◌-◌, ◌*◌, ◌/�
 use Rattle.fx_amounts.specs.declared.side.Side.{Side}
 use Rattle.fx_rules.specs.declared.orders.Resting.{Resting}
 use Rattle.fx_rules.specs.declared.orders.Fill.{Fill}
+use Rattle.fx_rules.specs.Lists.{Each, EachPair}
+use Rattle.fx_rules.specs.Sound.{ArrivesBefore}
 use Rattle.fx_rules.specs.Sweep.{Taker, is_order, open_in, IsBest, amount, fill_with, less}
 use Rattle.fx_rules.specs.Raise.{taker_of_resting}
 
@@ -55,6 +57,12 @@ SweptAmong weight other line waiting t (fill ∷ fills) left =
     (best : Resting) × (1 ≤ t.left) × IsBest t.side (open_in (only other (line / weight)) t waiting) best
     × (fill ≡ fill_with t best (amount t best (line / weight)))
     × SweptAmong weight other (line - fill.lots * weight) (lessened fill.maker fill.maker_number fill.lots waiting) (less t fill.lots) fills left
+
+-- orders of two banks in arrival order, no two of one command
+pub record AreTurns (i j : ℕ) (orders : List Resting) : Type 0 where
+  pub owners : Each (λ order. (order.bank ≡ i) ⊎ (order.bank ≡ j)) orders
+  pub numbers : Each (λ order. 1 ≤ order.number) orders
+  pub rising : EachPair ArrivesBefore orders
 
 -- some orders of two banks have their turns: each is swept among those that wait, and waits with what it has left
 abbrev pub Played : ℕ → ℕ → ℕ → ℕ → ℕ → List Resting → List Resting → List Fill → Type 0

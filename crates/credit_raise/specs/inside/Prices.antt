@@ -1,36 +1,49 @@
--- The best prices of two banks, so far as their orders' arrivals are before the last that 64 bits can tell.
-use Rattle.std.specs.Prelude.{ℕ, ◌≡◌, ◌<◌, ◌-◌, ◌^◌, false, List, Option, Some, None}
+-- The best prices of two banks, and the orders that cross the other bank's.
+use Rattle.std.specs.Prelude.{ℕ, ◌≡◌, ◌==◌, if◌then◌else◌, Bool, false, List, filter, Option, Some, None}
+use Rattle.fx_amounts.specs.Price.{crosses}
 use Rattle.fx_amounts.specs.Side.{opposite}
 use Rattle.fx_amounts.specs.declared.side.Side.{Side}
 use Rattle.fx_amounts.specs.declared.side.Side.TheVariants.{Buy, Sell}
 use Rattle.fx_rules.specs.declared.orders.Resting.{Resting}
 use Rattle.fx_rules.specs.Lists.{Among}
 use Rattle.fx_rules.specs.Sweep.{is_better}
+use Rattle.credit_raise.specs.declared.prices.Tops.{Tops}
+use Rattle.credit_raise.specs.inside.Two.{turns}
 
--- an order of a bank and a side, in time
+-- an order of a bank and a side
 pub record IsOf (bank : ℕ) (side : Side) (orders : List Resting) (order : Resting) : Type 0 where
   pub rests : Among order orders
   pub owner : order.bank ≡ bank
   pub side_is : order.side ≡ side
-  pub early : order.arrival < 2 ^ 64 - 1
 
 -- no order of a bank and a side has a better price than this one, or there is none
-abbrev pub IsTop : ℕ → Side → List Resting → Option Resting → Type 0
+abbrev pub IsTop : ℕ → Side → List Resting → Option ℕ → Type 0
 IsTop bank side orders None = (order : Resting) → IsOf bank side orders order → ⊥
-IsTop bank side orders (Some top) = (order : Resting) → IsOf bank side orders order → is_better (opposite side) order.price top.price ≡ false
+IsTop bank side orders (Some top) = (order : Resting) → IsOf bank side orders order → is_better (opposite side) order.price top ≡ false
 
--- each buy of one bank is below each sell of another
-abbrev pub AreBelow : ℕ → ℕ → List Resting → Type 0
-AreBelow buyer seller orders =
-    (buy sell : Resting) → IsOf buyer Buy orders buy → IsOf seller Sell orders sell → buy.price < sell.price
+-- the best prices of a bank's orders
+pub record AreTops (bank : ℕ) (orders : List Resting) (tops : Tops) : Type 0 where
+  pub buy : IsTop bank Buy orders tops.buy
+  pub sell : IsTop bank Sell orders tops.sell
 
--- all orders of a bank are in time
-abbrev pub AreEarly : ℕ → List Resting → Type 0
-AreEarly bank orders = (order : Resting) → Among order orders → order.bank ≡ bank → order.arrival < 2 ^ 64 - 1
+-- the best price of a side
+abbrev pub top_of : Tops → Side → Option ℕ
+top_of tops Buy = tops.buy
+top_of tops Sell = tops.sell
 
--- no orders of two banks cross one another
-pub record AreApart (i j : ℕ) (orders : List Resting) : Type 0 where
-  pub early_i : AreEarly i orders
-  pub early_j : AreEarly j orders
-  pub one : AreBelow i j orders
-  pub other : AreBelow j i orders
+-- an order of this side and price crosses a best price, where there is one
+abbrev pub crosses_top : Side → ℕ → Option ℕ → Bool
+crosses_top side price None = false
+crosses_top side price (Some top) = crosses side price top
+
+-- an order crosses the best price of a bank's other side
+abbrev pub crosses_tops : Tops → Resting → Bool
+crosses_tops tops order = crosses_top order.side order.price (top_of tops (opposite order.side))
+
+-- an order of one of two banks crosses the best price of the other's
+abbrev pub is_live : ℕ → Tops → Tops → Resting → Bool
+is_live i tops_i tops_j order = crosses_tops (if order.bank == i then tops_j else tops_i) order
+
+-- the turns of those orders
+abbrev pub live_turns : ℕ → ℕ → Tops → Tops → ℕ → List Resting → List Resting
+live_turns i j tops_i tops_j arrival orders = filter (is_live i tops_i tops_j) (turns i j arrival orders)

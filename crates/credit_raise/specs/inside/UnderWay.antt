@@ -1,5 +1,5 @@
 -- What private functions and proofs alone say of it, beside `specs/UnderWay.antt`.
-use Rattle.std.specs.Prelude.{ℕ, ◌+◌, ◌-◌, ◌*◌, [], ◌∷◌, ◌++◌}
+use Rattle.std.specs.Prelude.{ℕ, ◌-◌, ◌*◌, [], ◌∷◌, ◌++◌}
 use Rattle.fx_rules.specs.declared.orders.Plan.{Plan}
 use Rattle.credit_raise.specs.Two.{lots_of}
 use Rattle.credit_raise.specs.UnderWay.{Raise}
