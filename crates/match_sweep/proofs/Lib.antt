@@ -1,3 +1,4 @@
+mod Passed
 pub mod Tables
 pub mod Finding
 pub mod Planning

@@ -1,10 +1,11 @@
 -- The walk from price to price: its best price, what it takes of a bank and of all, and the sweep that its levels are of.
-use Rattle.std.proofs.Common.{ℕ, ◌≡◌, ◌≢◌, ◌+◌, ◌-◌, ◌*◌, ◌/◌, ◌≤◌, ◌<◌, min, Bool, true, false, not, ◌&&◌, if◌then◌else◌, leb, eqb, List, [], ◌∷◌, length, ◌⊎◌, inl, inr, refl, ap, sym, subst, ◌∙◌, arith, Option, Some, None, IfSome, get_or, get_or-set_same, get_or-set_other, slice_index}
+use Rattle.std.proofs.Common.{ℕ, ◌≡◌, ◌≢◌, ◌+◌, ◌++◌, ◌-◌, ◌*◌, ◌/◌, ◌≤◌, ◌<◌, min, Bool, true, false, not, ◌&&◌, if◌then◌else◌, leb, eqb, List, [], ◌∷◌, length, ◌⊎◌, inl, inr, refl, ap, sym, subst, ◌∙◌, arith, Option, Some, None, IfSome, get_or, get_or-set_same, get_or-set_other, slice_index, take}
 use Rattle.std.proofs.Math.ListN.{set, length-set}
 use Rattle.std.proofs.Math.Nat.{add-mul}
 use Rattle.std.proofs.lemmas.Bool.{cases_Bool, cases_eq, cases_lt, and_parts, and_from, both_ways, false_from_ne_true, eq-eqb, eqb-true, le-leb, lt-ltb, le-ltb, ltb-true, ltb-false, leb-true}
 use Rattle.std.proofs.lemmas.List.{get_or_default}
-use Rattle.std.specs.List.{filter}
+use Rattle.std.proofs.lemmas.List.Elements.{Contains-append_left, Contains-push, Contains-push_cases}
+use Rattle.std.specs.List.{Contains, filter}
 use Rattle.std.specs.Option.{option_map}
 use Rattle.fx_amounts.specs.Quantity.{IsWeight}
 use Rattle.fx_amounts.specs.declared.side.Side.{Side}
@@ -13,12 +14,13 @@ use Rattle.fx_rules.specs.declared.orders.Resting.{Resting}
 use Rattle.fx_rules.specs.Lists.{Among, Each, total}
 use Rattle.fx_rules.specs.Sweep.{is_better, is_opposite}
 use Rattle.fx_rules.proofs.ListLemmas.{Each-among, Each-of, filter_cons_false}
-use Rattle.global_book.specs.Book.{Book, IsLevel, IsLevelOf, is_level, is_of, is_worse, is_worse_of, level_lots}
+use Rattle.global_book.specs.Book.{AreOwners, Book, IsLevel, IsLevelOf, is_level, is_of, is_worse, is_worse_of, level_lots}
 use Rattle.match_sweep.specs.declared.reached.LevelWalk.{LevelWalk}
-use Rattle.match_sweep.specs.inside.Reaches.{AreTaken, HaveLevels, IsBestPrice, IsLeft, IsPaid, IsTakenOf, TakesOf, better_price, head_of, line_behind, price_of}
+use Rattle.match_sweep.specs.inside.Reaches.{AreTaken, HaveLevels, IsBestAmong, IsBestPrice, IsLeft, IsPaid, IsTakenOf, TakesOf, better_price, head_of, line_behind, price_of}
 use Rattle.match_sweep.proofs.Tables.{total-changed}
+use Rattle.match_sweep.proofs.Passed.{contains_or}
 use Rattle.match_sweep.proofs.Levelling.{level_parts}
-use Rattle.match_sweep.proofs.Planning.{lots_cost}
+use Rattle.match_sweep.proofs.Planning.{lots_cost, within_table}
 use Rattle.match_sweep.proofs.Stepping.{paid_for, pays}
 
 -- Prices.
@@ -47,49 +49,49 @@ none_differs : {P : Type 0} (a : ℕ) → None ≡ Some a → P
 none_differs a same = cc
 
 -- one bank more
-pub better-on : (walk : LevelWalk) (n : ℕ) (best found : Option ℕ) → price_of walk n ≡ found → IsBestPrice walk n best → IsBestPrice walk (n + 1) (better_price walk.taker best found)
-better-on walk n None None is so_far = λ bank below.
-    elim (cases_eq bank n) [
-      | inl same ↦ ap (price_of walk) same ∙ is
-      | inr differ ↦ so_far bank (omega arith)
+pub better-on : (walk : LevelWalk) (banks : List ℕ) (n : ℕ) (best found : Option ℕ) → price_of walk n ≡ found → IsBestAmong walk banks best → IsBestAmong walk (banks ++ n ∷ []) (better_price walk.taker best found)
+better-on walk banks n None None is so_far = λ bank there.
+    elim (Contains-push_cases banks n bank there) [
+      | inr same ↦ ap (price_of walk) (sym same) ∙ is
+      | inl before ↦ so_far bank before
     ]
-better-on walk n None (Some q) is so_far = (
-  (n, omega arith, is),
-  λ bank other below at. elim (cases_eq bank n) [
-    | inl same ↦
-        let it : other ≡ q = some_equal other q (sym at ∙ ap (price_of walk) same ∙ is) in
+better-on walk banks n None (Some q) is so_far = (
+  (n, Contains-push banks n, is),
+  λ bank other there at. elim (Contains-push_cases banks n bank there) [
+    | inr same ↦
+        let it : other ≡ q = some_equal other q (sym at ∙ ap (price_of walk) (sym same) ∙ is) in
         ap (λ p. is_better walk.taker p q) it ∙ better-self walk.taker q
-    | inr differ ↦ none_differs other (sym (so_far bank (omega arith)) ∙ at)
+    | inl before ↦ none_differs other (sym (so_far bank before) ∙ at)
   ],
 )
-better-on walk n (Some p) None is so_far = (
-  (so_far.0.0, omega (arith, so_far.0.1), so_far.0.2),
-  λ bank other below at. elim (cases_eq bank n) [
-    | inl same ↦ none_differs other (sym is ∙ sym (ap (price_of walk) same) ∙ at)
-    | inr differ ↦ so_far.1 bank other (omega arith) at
+better-on walk banks n (Some p) None is so_far = (
+  (so_far.0.0, Contains-append_left banks (n ∷ []) so_far.0.0 so_far.0.1, so_far.0.2),
+  λ bank other there at. elim (Contains-push_cases banks n bank there) [
+    | inr same ↦ none_differs other (sym is ∙ ap (price_of walk) same ∙ at)
+    | inl before ↦ so_far.1 bank other before at
   ],
 )
-better-on walk n (Some p) (Some q) is so_far =
+better-on walk banks n (Some p) (Some q) is so_far =
     elim (cases_Bool (is_better walk.taker q p)) [
       | inl better ↦
-          subst (IsBestPrice walk (n + 1)) (sym (ap (λ b. if b then Some q else Some p) better)) (
-            (n, omega arith, is),
-            λ bank other below at. elim (cases_eq bank n) [
-              | inl same ↦
-                  let it : other ≡ q = some_equal other q (sym at ∙ ap (price_of walk) same ∙ is) in
+          subst (IsBestAmong walk (banks ++ n ∷ [])) (sym (ap (λ b. if b then Some q else Some p) better)) (
+            (n, Contains-push banks n, is),
+            λ bank other there at. elim (Contains-push_cases banks n bank there) [
+              | inr same ↦
+                  let it : other ≡ q = some_equal other q (sym at ∙ ap (price_of walk) (sym same) ∙ is) in
                   ap (λ r. is_better walk.taker r q) it ∙ better-self walk.taker q
-              | inr differ ↦ false_from_ne_true (is_better walk.taker other q) (λ above.
-                  both_ways (is_better walk.taker other p) (so_far.1 bank other (omega arith) at) (better-trans walk.taker other q p above better))
+              | inl before ↦ false_from_ne_true (is_better walk.taker other q) (λ above.
+                  both_ways (is_better walk.taker other p) (so_far.1 bank other before at) (better-trans walk.taker other q p above better))
             ],
           )
       | inr not_better ↦
-          subst (IsBestPrice walk (n + 1)) (sym (ap (λ b. if b then Some q else Some p) not_better)) (
-            (so_far.0.0, omega (arith, so_far.0.1), so_far.0.2),
-            λ bank other below at. elim (cases_eq bank n) [
-              | inl same ↦
-                  let it : other ≡ q = some_equal other q (sym at ∙ ap (price_of walk) same ∙ is) in
+          subst (IsBestAmong walk (banks ++ n ∷ [])) (sym (ap (λ b. if b then Some q else Some p) not_better)) (
+            (so_far.0.0, Contains-append_left banks (n ∷ []) so_far.0.0 so_far.0.1, so_far.0.2),
+            λ bank other there at. elim (Contains-push_cases banks n bank there) [
+              | inr same ↦
+                  let it : other ≡ q = some_equal other q (sym at ∙ ap (price_of walk) (sym same) ∙ is) in
                   ap (λ r. is_better walk.taker r p) it ∙ not_better
-              | inr differ ↦ so_far.1 bank other (omega arith) at
+              | inl before ↦ so_far.1 bank other before at
             ],
           )
     ]
@@ -260,14 +262,14 @@ head_lots walk book bank price head is price_is level =
 
 -- What is taken of all banks.
 
-pub record TakenSoFar (book : Book) (old now : LevelWalk) (price number lots : ℕ) : Type 0 where
-  pub taken : (bank : ℕ) → bank < number → IsTakenOf book old now price bank
-  pub left : (bank : ℕ) → number ≤ bank → IsLeft old now bank
+pub record TakenSoFar (book : Book) (old now : LevelWalk) (price : ℕ) (banks : List ℕ) (lots : ℕ) : Type 0 where
+  pub taken : (bank : ℕ) → Contains banks bank → IsTakenOf book old now price bank
+  pub left : (bank : ℕ) → (Contains banks bank → ⊥) → IsLeft old now bank
   pub sum : IsPaid old now lots
 
-pub taken-begins : (book : Book) (walk : LevelWalk) (price : ℕ) → TakenSoFar book walk walk price 0 0
-taken-begins book walk price = record {
-  taken = λ bank below. absurd (omega (arith, below));
+pub taken-begins : (book : Book) (walk : LevelWalk) (price : ℕ) (banks : List ℕ) → TakenSoFar book walk walk price (take 0 banks) 0
+taken-begins book walk price banks = record {
+  taken = λ bank there. absurd (omega (arith, there.1));
   left = λ bank _. record { line = refl; head = refl };
   sum = unpaid walk;
 }
@@ -308,52 +310,29 @@ taken_still book old now new price bank taken left = record {
   head = λ reach. subst (IsLevelOf old.taker bank (Some price) book.orders) (sym left.head) (taken.head (subst (λ (l : ℕ). 1 ≤ l / old.weight) left.line reach));
 }
 
-pub taken-on : (book : Book) (old now new : LevelWalk) (price number lots more : ℕ) → TakenSoFar book old now price number lots → TakesOf book now new number price more → TakenSoFar book old new price (number + 1) (lots + more)
-taken-on book old now new price number lots more so_far takes = record {
-  taken = λ bank below. elim (cases_eq bank number) [
-    | inl same ↦ subst (IsTakenOf book old new price) (sym same) (taken_here book old now new price number lots so_far.sum (so_far.left number (omega arith)) takes.taken)
-    | inr differ ↦ taken_still book old now new price bank (so_far.taken bank (omega arith)) (takes.others bank differ)
+pub taken-on : (book : Book) (old now new : LevelWalk) (price number lots more : ℕ) (banks : List ℕ) → (Contains banks number → ⊥) → TakenSoFar book old now price banks lots → TakesOf book now new number price more
+    → TakenSoFar book old new price (banks ++ number ∷ []) (lots + more)
+taken-on book old now new price number lots more banks fresh so_far takes = record {
+  taken = λ bank there. elim (cases_eq bank number) [
+    | inl same ↦ subst (IsTakenOf book old new price) (sym same) (taken_here book old now new price number lots so_far.sum (so_far.left number fresh) takes.taken)
+    | inr differ ↦
+        elim (Contains-push_cases banks number bank there) [
+          | inl before ↦ taken_still book old now new price bank (so_far.taken bank before) (takes.others bank differ)
+          | inr same ↦ absurd (differ (sym same))
+        ]
   ];
-  left = λ bank above.
-      let was = so_far.left bank (omega arith) in
-      let now_is = takes.others bank (λ same. omega (arith, same, above)) in
+  left = λ bank apart.
+      let was = so_far.left bank (λ there. apart (Contains-append_left banks (number ∷ []) bank there)) in
+      let now_is = takes.others bank (λ same. apart (subst (Contains (banks ++ number ∷ [])) (sym same) (Contains-push banks number))) in
       record { line = now_is.line ∙ was.line; head = now_is.head ∙ was.head };
   sum = paid_both old now new lots more so_far.sum takes.sum;
 }
 
-pub taken-whole : (book : Book) (old now : LevelWalk) (price lots : ℕ) → TakenSoFar book old now price 64 lots → AreTaken book old now price lots
-taken-whole book old now price lots so_far = record { taken = so_far.taken; sum = so_far.sum }
+-- a bank with which the line pays is one of 64
+within_lines : (walk : LevelWalk) (bank : ℕ) → IsWeight walk.weight → length walk.lines ≡ 64 → walk.weight ≤ slice_index walk.lines bank → bank < 64
+within_lines walk bank weighs long pays' = omega (arith, within_table walk.lines bank (omega (arith, pays', weighs.0)), long)
 
--- what the next bank is asked with
-pub head_left : (book : Book) (old now : LevelWalk) (price number lots : ℕ) → number < 64 → TakenSoFar book old now price number lots → HaveLevels book old
-    → 1 ≤ slice_index now.lines number / now.weight → IsLevelOf now.taker number now.last book.orders (head_of now number)
-head_left book old now price number lots below so_far have reach =
-    let left = so_far.left number (omega arith) in
-    let reach' : 1 ≤ slice_index old.lines number / old.weight
-    = subst (λ (w : ℕ). 1 ≤ slice_index old.lines number / w) (weight_same old now lots so_far.sum) (subst (λ (l : ℕ). 1 ≤ l / now.weight) left.line reach) in
-    subst (λ (s : Side). IsLevelOf s number now.last book.orders (head_of now number)) (sym (taker_same old now lots so_far.sum))
-    (subst (λ (p : Option ℕ). IsLevelOf old.taker number p book.orders (head_of now number)) (sym (last_same old now lots so_far.sum))
-    (subst (IsLevelOf old.taker number old.last book.orders) (sym left.head) (have number below reach')))
-
-price_left : (old now : LevelWalk) (number lots : ℕ) → IsPaid old now lots → IsLeft old now number → price_of now number ≡ price_of old number
-price_left old now number lots paid left =
-    ap (λ w. if leb w (slice_index now.lines number) then option_map (λ (h : ℕ × ℕ). h.0) (head_of now number) else None) (weight_same old now lots paid)
-    ∙ ap (λ l. if leb old.weight l then option_map (λ (h : ℕ × ℕ). h.0) (head_of now number) else None) left.line
-    ∙ ap (λ (h : Option (ℕ × ℕ)). if leb old.weight (slice_index old.lines number) then option_map (λ (h : ℕ × ℕ). h.0) h else None) left.head
-
-if_some : (found : Option ℕ) (P : ℕ → Type 0) → ((other : ℕ) → found ≡ Some other → P other) → IfSome found P
-if_some None P holds = tt
-if_some (Some other) P holds = holds other refl
-
-pub best_left : (book : Book) (old now : LevelWalk) (price number lots : ℕ) → number < 64 → TakenSoFar book old now price number lots → IsBestPrice old 64 (Some price)
-    → IfSome (price_of now number) (λ other. is_better now.taker other price ≡ false)
-best_left book old now price number lots below so_far best =
-    if_some (price_of now number) (λ other. is_better now.taker other price ≡ false) (λ other is.
-    ap (λ s. is_better s other price) (taker_same old now lots so_far.sum)
-    ∙ best.1 number other below (sym (price_left old now number lots so_far.sum (so_far.left number (omega arith))) ∙ is))
-
--- The best price is that of a level.
-
+-- the head with a bank's price
 pub record HasPrice (walk : LevelWalk) (bank price : ℕ) : Type 0 where
   pub pays : walk.weight ≤ slice_index walk.lines bank
   pub head : ℕ × ℕ
@@ -374,6 +353,37 @@ has_price walk bank price at =
           answer (head_of walk bank) refl headed
       | inr short ↦ none_differs price (sym (ap (λ b. if b then option_map (λ (h : ℕ × ℕ). h.0) (head_of walk bank) else None) short) ∙ at)
     ]
+
+-- what the next bank is asked with
+pub head_left : (book : Book) (old now : LevelWalk) (price number lots : ℕ) (banks : List ℕ) → IsWeight old.weight → length old.lines ≡ 64 → (Contains banks number → ⊥) → TakenSoFar book old now price banks lots → HaveLevels book old
+    → 1 ≤ slice_index now.lines number / now.weight → IsLevelOf now.taker number now.last book.orders (head_of now number)
+head_left book old now price number lots banks weighs long fresh so_far have reach =
+    let left = so_far.left number fresh in
+    let reach' : 1 ≤ slice_index old.lines number / old.weight
+    = subst (λ (w : ℕ). 1 ≤ slice_index old.lines number / w) (weight_same old now lots so_far.sum) (subst (λ (l : ℕ). 1 ≤ l / now.weight) left.line reach) in
+    subst (λ (s : Side). IsLevelOf s number now.last book.orders (head_of now number)) (sym (taker_same old now lots so_far.sum))
+    (subst (λ (p : Option ℕ). IsLevelOf old.taker number p book.orders (head_of now number)) (sym (last_same old now lots so_far.sum))
+    (subst (IsLevelOf old.taker number old.last book.orders) (sym left.head) (have number (within_lines old number weighs long (paid_for (slice_index old.lines number) old.weight weighs reach')) reach')))
+
+price_left : (old now : LevelWalk) (number lots : ℕ) → IsPaid old now lots → IsLeft old now number → price_of now number ≡ price_of old number
+price_left old now number lots paid left =
+    ap (λ w. if leb w (slice_index now.lines number) then option_map (λ (h : ℕ × ℕ). h.0) (head_of now number) else None) (weight_same old now lots paid)
+    ∙ ap (λ l. if leb old.weight l then option_map (λ (h : ℕ × ℕ). h.0) (head_of now number) else None) left.line
+    ∙ ap (λ (h : Option (ℕ × ℕ)). if leb old.weight (slice_index old.lines number) then option_map (λ (h : ℕ × ℕ). h.0) h else None) left.head
+
+if_some : (found : Option ℕ) (P : ℕ → Type 0) → ((other : ℕ) → found ≡ Some other → P other) → IfSome found P
+if_some None P holds = tt
+if_some (Some other) P holds = holds other refl
+
+pub best_left : (book : Book) (old now : LevelWalk) (price number lots : ℕ) (banks : List ℕ) → IsWeight old.weight → length old.lines ≡ 64 → (Contains banks number → ⊥) → TakenSoFar book old now price banks lots → IsBestPrice old 64 (Some price)
+    → IfSome (price_of now number) (λ other. is_better now.taker other price ≡ false)
+best_left book old now price number lots banks weighs long fresh so_far best =
+    if_some (price_of now number) (λ other. is_better now.taker other price ≡ false) (λ other is.
+    ap (λ s. is_better s other price) (taker_same old now lots so_far.sum)
+    ∙ (let at : price_of old number ≡ Some other = sym (price_left old now number lots so_far.sum (so_far.left number fresh)) ∙ is in
+    best.1 number other (within_lines old number weighs long (has_price old number other at).pays) at))
+
+-- The best price is that of a level.
 
 -- the level of a bank with the best price
 pub record HasLevel (book : Book) (walk : LevelWalk) (price : ℕ) : Type 0 where
@@ -401,6 +411,63 @@ best_worse book walk price weighs have best =
     let order : Resting = has.level.order in
     ap (is_worse walk.taker walk.last) (sym has.level.price)
     ∙ (and_parts (is_of has.bank order && is_opposite walk.taker order.side) (is_worse walk.taker walk.last order.price) has.level.passes).1
+
+-- The banks that have an order are all that matter.
+
+-- a bank of which a level is found has an order
+level_owned : (book : Book) (owners : List ℕ) (taker : Side) (bank : ℕ) (past : Option ℕ) (level : ℕ × ℕ) → AreOwners book owners → IsLevel taker bank past book.orders level → Contains owners bank
+level_owned book owners taker bank past level are is =
+    let two = and_parts (is_of bank is.order && is_opposite taker is.order.side) (is_worse taker past is.order.price) is.passes in
+    let one = and_parts (is_of bank is.order) (is_opposite taker is.order.side) two.0 in
+    subst (Contains owners) (eqb-true is.order.bank bank one.0) (Each-among (λ (o : Resting). Contains owners o.bank) book.orders is.order are.all is.there)
+
+-- another has none
+pub none_owned : (book : Book) (owners : List ℕ) (taker : Side) (bank : ℕ) (past : Option ℕ) → AreOwners book owners → (Contains owners bank → ⊥) → IsLevelOf taker bank past book.orders None
+none_owned book owners taker bank past are apart =
+    Each-of (λ o. is_worse_of taker bank past o ≡ false) book.orders (λ o there.
+    false_from_ne_true (is_worse_of taker bank past o) (λ passes.
+    let two = and_parts (is_of bank o && is_opposite taker o.side) (is_worse taker past o.price) passes in
+    let one = and_parts (is_of bank o) (is_opposite taker o.side) two.0 in
+    apart (subst (Contains owners) (eqb-true o.bank bank one.0) (Each-among (λ (q : Resting). Contains owners q.bank) book.orders o are.all there))))
+
+not_owned : (book : Book) (owners : List ℕ) (taker : Side) (bank price : ℕ) (past : Option ℕ) (head : Option (ℕ × ℕ)) → AreOwners book owners → (Contains owners bank → ⊥) → IsLevelOf taker bank past book.orders head → IsWorseHead taker price head
+not_owned book owners taker bank price past None are apart is = tt
+not_owned book owners taker bank price past (Some level) are apart is = absurd (apart (level_owned book owners taker bank past level are is))
+
+price_owned : (book : Book) (owners : List ℕ) (walk : LevelWalk) (bank price : ℕ) → AreOwners book owners → IsWeight walk.weight → HaveLevels book walk → bank < 64 → price_of walk bank ≡ Some price → Contains owners bank
+price_owned book owners walk bank price are weighs have below at =
+    let has = has_price walk bank price at in
+    let level = have bank below (pays (slice_index walk.lines bank) walk.weight weighs has.pays) in
+    level_owned book owners walk.taker bank walk.last has.head are (subst (IsLevelOf walk.taker bank walk.last book.orders) has.is level)
+
+none_from : (found : Option ℕ) → ((price : ℕ) → found ≡ Some price → found ≡ None) → found ≡ None
+none_from None holds = refl
+none_from (Some price) holds = holds price refl
+
+-- so the best price of theirs is that of all
+pub best_of_all : (book : Book) (owners : List ℕ) (walk : LevelWalk) (best : Option ℕ) → AreOwners book owners → IsWeight walk.weight → length walk.lines ≡ 64 → HaveLevels book walk → IsBestAmong walk owners best → IsBestPrice walk 64 best
+best_of_all book owners walk None are weighs long have best = λ bank below.
+    none_from (price_of walk bank) (λ price at. best bank (price_owned book owners walk bank price are weighs have below at))
+best_of_all book owners walk (Some price) are weighs long have best =
+    let bank : ℕ = best.0.0 in
+    let has = has_price walk bank price best.0.2 in (
+      (bank, within_lines walk bank weighs long has.pays, best.0.2),
+      λ bank' other below at. best.1 bank' other (price_owned book owners walk bank' other are weighs have below at) at,
+    )
+
+-- and once what is taken of them is taken, that of all is
+pub taken-whole : (book : Book) (owners : List ℕ) (old now : LevelWalk) (price lots : ℕ) → AreOwners book owners → IsWeight old.weight → HaveLevels book old → IsBestPrice old 64 (Some price) → TakenSoFar book old now price owners lots
+    → AreTaken book old now price lots
+taken-whole book owners old now price lots are weighs have best so_far = record {
+  taken = λ bank below. elim (contains_or owners bank) [
+    | inl there ↦ so_far.taken bank there
+    | inr apart ↦
+        let none = takes_none-head book old bank price weighs (best_worse book old price weighs have best) (have bank below)
+        (λ reach. not_owned book owners old.taker bank price old.last (head_of old bank) are apart (have bank below reach)) in
+        taken_still book old old now price bank none.taken (so_far.left bank apart)
+  ];
+  sum = so_far.sum;
+}
 
 -- the heads behind the level that was taken
 pub levels_behind : (book : Book) (old taken new : LevelWalk) (price lots : ℕ) → AreTaken book old taken price lots → new ≡ record taken { last = Some price } → HaveLevels book new

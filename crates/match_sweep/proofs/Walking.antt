@@ -1,20 +1,16 @@
 -- The fills of a walk so far, and what they come to at its end.
-use Rattle.std.proofs.Common.{ℕ, ◌≡◌, ◌+◌, ◌*◌, ◌^◌, ◌≤◌, ◌<◌, List, [], ◌∷◌, ◌++◌, None, refl, slice_index, take, length, ap, sym, subst, ◌∙◌, arith, append_assoc, append-nil}
+use Rattle.std.proofs.Common.{ℕ, ◌≡◌, ◌+◌, ◌*◌, ◌^◌, ◌≤◌, ◌<◌, List, [], ◌∷◌, ◌++◌, None, refl, slice_index, sym, subst, ◌∙◌, arith, append_assoc, append-nil}
 use Rattle.std.specs.Option.{option_map}
 use Rattle.fx_rules.specs.declared.orders.Fill.{Fill}
-use Rattle.fx_rules.specs.declared.orders.Level.{Level}
 use Rattle.fx_rules.specs.Lists.{total}
 use Rattle.fx_rules.specs.Sweep.{Taker}
 use Rattle.fx_rules.specs.Plan.{Planned}
-use Rattle.fx_rules.specs.Depth.{levels_of, fill_added}
 use Rattle.fx_rules.proofs.ListLemmas.{total-append}
-use Rattle.fx_rules.proofs.Levelling.{levels_of-push, total-levels}
-use Rattle.fx_rules.proofs.Levels.{first_levels-stay}
 use Rattle.fx_rules.proofs.Existing.{planned-exists}
 use Rattle.global_book.specs.Book.{Book}
 use Rattle.credit_lines.specs.Credit.{Credit}
 use Rattle.match_sweep.specs.declared.walk.Walk.{Walk}
-use Rattle.match_sweep.specs.Sweeps.{IsSweep, IsLevelled}
+use Rattle.match_sweep.specs.Sweeps.{IsSweep}
 use Rattle.match_sweep.specs.inside.Walks.{FromHere, LeadsOn, IsReady, Begins, last_of}
 use Rattle.match_sweep.proofs.Planning.{planned-sum, planned-paid, planned-sweep}
 

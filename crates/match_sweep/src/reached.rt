@@ -4,7 +4,7 @@ ghost use Rattle.fx_rules.specs.Lists.{total};
 ghost use Rattle.fx_rules.specs.Sweep.{is_better};
 ghost use Rattle.global_book.specs.Book.{IsLevelOf, is_worse};
 ghost use Rattle.match_sweep.specs.Reaches.{IsReached};
-ghost use Rattle.match_sweep.specs.inside.Reaches.{AreTaken, BeginsAt, HaveLevels, IsBestPrice, TakesLevel, TakesOf, better_price, price_of};
+ghost use Rattle.match_sweep.specs.inside.Reaches.{AreTaken, BeginsAt, HaveLevels, IsBestAmong, IsBestPrice, TakesLevel, TakesOf, better_price, price_of};
 
 use crate::heads::is_better;
 use crate::walk::lines_of;
@@ -92,7 +92,7 @@ impl LevelWalk {
         requires heads { HaveLevels book.now self.old }
         ensures level { TakesLevel book.now self.old self.new result }
     {
-        let price = self.best_price()?;
+        let price = self.best_price(book.owners())?;
         let lots = self.take_all(book, price, steps);
         self.last = Some(price);
         Some(Level { price, lots })
@@ -110,13 +110,13 @@ impl LevelWalk {
         Some(price)
     }
 
-    /// The best price of the heads of banks with which the line pays for a lot.
-    fn best_price(&self) -> Option<Price>
-        ensures best { IsBestPrice self.now 64 result }
+    /// The best price of the heads of those of these banks with which the line pays for a lot.
+    fn best_price(&self, owners: &[BankId]) -> Option<Price>
+        ensures best { IsBestAmong self.now owners.now result }
     {
         let mut best = None;
-        for number in 0..64 {
-            best = better_price(self.taker, best, self.price_at(number));
+        for owner in owners {
+            best = better_price(self.taker, best, self.price_at(owner.index()));
         }
         best
     }
@@ -130,31 +130,28 @@ impl LevelWalk {
         ensures taken { AreTaken book.now self.old self.new price result }
     {
         let mut lots = 0;
-        for number in 0..64u8 {
-            lots += self.take_of(book, number, price, steps);
+        let owners = book.owners();
+        for owner in owners {
+            lots += self.take_of(book, *owner, price, steps);
         }
         lots
     }
 
-    /// The same of the bank of this number.
+    /// The same of one bank.
     fn take_of<L: Ledger>(
         &mut self,
         book: &PairBook,
-        number: u8,
+        bank: BankId,
         price: Price,
         steps: &mut Steps<L>,
     ) -> u64
-        requires number { number < 64 }
         requires weight { IsWeight self.old.weight }
-        requires head { 1 ≤ slice_index self.old.lines number / self.old.weight → IsLevelOf self.old.taker number self.old.last book.now.orders (slice_index_or self.old.heads number None) }
+        requires head { 1 ≤ slice_index self.old.lines bank / self.old.weight → IsLevelOf self.old.taker bank self.old.last book.now.orders (slice_index_or self.old.heads bank None) }
         requires worse { is_worse self.old.taker self.old.last price ≡ true }
-        requires best { IfSome (price_of self.old number) (λ other. is_better self.old.taker other price ≡ false) }
-        ensures taken { TakesOf book.now self.old self.new number price result }
+        requires best { IfSome (price_of self.old bank) (λ other. is_better self.old.taker other price ≡ false) }
+        ensures taken { TakesOf book.now self.old self.new bank price result }
     {
-        let at = usize::from(number);
-        let Some(bank) = BankId::new(number) else {
-            return 0;
-        };
+        let at = bank.index();
         let Some((head, lots)) = self.heads[at] else {
             return 0;
         };
@@ -194,27 +191,25 @@ fn level_behind<L: Ledger>(
     book.next_level(bank, taker.opposite(), past, steps)
 }
 
-/// The first level of the bank of this number, where a line of `line` credit units pays for a lot.
+/// The first level of a bank, where a line of `line` credit units pays for a lot.
 fn first_level<L: Ledger>(
     book: &PairBook,
     taker: Side,
     line: u64,
     weight: u32,
-    number: u8,
+    bank: BankId,
     steps: &mut Steps<L>,
 ) -> Option<(Price, u128)>
-    requires number { number < 64 }
     requires weight { IsWeight weight }
-    ensures level { 1 ≤ line / weight → IsLevelOf taker number None book.now.orders result }
+    ensures level { 1 ≤ line / weight → IsLevelOf taker bank None book.now.orders result }
 {
-    let bank = BankId::new(number)?;
     if line < u64::from(weight) {
         return None;
     }
     level_behind(book, taker, bank, None, steps)
 }
 
-/// The first levels of all banks with which the line pays for a lot.
+/// The first levels of all banks with which the line pays for a lot. It looks only at the banks that have an order.
 fn first_of_each<L: Ledger>(
     book: &PairBook,
     taker: Side,
@@ -225,10 +220,11 @@ fn first_of_each<L: Ledger>(
     requires weight { IsWeight weight }
     ensures levels { (bank : ℕ) → bank < 64 → 1 ≤ slice_index lines.now bank / weight → IsLevelOf taker bank None book.now.orders (slice_index_or result bank None) }
 {
+    let owners = book.owners();
     let mut heads = [None; 64];
-    for number in 0..64u8 {
-        let at = usize::from(number);
-        heads[at] = first_level(book, taker, lines[at], weight, number, steps);
+    for owner in owners {
+        let number = owner.index();
+        heads[number] = first_level(book, taker, lines[number], weight, *owner, steps);
     }
     heads
 }

@@ -1,5 +1,6 @@
 -- What private functions and proofs alone say of it, beside `specs/Reaches.antt`.
 use Rattle.std.specs.Prelude.{ℕ, ◌≡◌, ◌≢◌, ◌≤◌, ◌<◌, ◌+◌, ◌-◌, ◌*◌, ◌/◌, ◌^◌, min, false, nat_le, if◌then◌else◌, List, length, Option, Some, None, slice_index, slice_index_or, option_map}
+use Rattle.std.specs.List.{Contains}
 use Rattle.fx_amounts.specs.declared.side.Side.{Side}
 use Rattle.fx_amounts.specs.declared.side.Side.TheVariants.{Buy}
 use Rattle.fx_rules.specs.declared.orders.Level.{Level}
@@ -45,6 +46,13 @@ IsBestPrice walk banks None = (bank : ℕ) → bank < banks → price_of walk ba
 IsBestPrice walk banks (Some price) =
     ((bank : ℕ) × (bank < banks) × (price_of walk bank ≡ Some price))
     × ((bank other : ℕ) → bank < banks → price_of walk bank ≡ Some other → is_better walk.taker other price ≡ false)
+
+-- the same of the heads of these banks
+abbrev pub IsBestAmong : LevelWalk → List ℕ → Option ℕ → Type 0
+IsBestAmong walk banks None = (bank : ℕ) → Contains banks bank → price_of walk bank ≡ None
+IsBestAmong walk banks (Some price) =
+    ((bank : ℕ) × Contains banks bank × (price_of walk bank ≡ Some price))
+    × ((bank other : ℕ) → Contains banks bank → price_of walk bank ≡ Some other → is_better walk.taker other price ≡ false)
 
 -- what is left of a bank once its lots at a price are taken
 pub record IsTakenOf (book : Book) (old new : LevelWalk) (price bank : ℕ) : Type 0 where

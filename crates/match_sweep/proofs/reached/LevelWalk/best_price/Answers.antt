@@ -1,9 +1,25 @@
-use Rattle.std.proofs.Common.{◌+◌, sym, subst}
-use Rattle.match_sweep.specs.inside.Reaches.{IsBestPrice}
+-- One more bank is looked at.
+use Rattle.std.proofs.Common.{ℕ, List, [], ◌∷◌, ◌++◌, ◌+◌, ◌≡◌, take, ap, sym, subst, ◌∙◌, arith}
+use Rattle.std.proofs.lemmas.List.{take_all, take_more}
+use Rattle.match_sweep.specs.inside.Reaches.{IsBestAmong}
 use Rattle.match_sweep.proofs.Reaching.{better-on}
 use Rattle.match_sweep.proofs.reached.LevelWalk.best_price.Goals as goal
 
-pub loop-number-preserved : goal.loop-number-preserved
-loop-number-preserved c =
-    subst (IsBestPrice c.args.self.now (c.loop-number.number + 1)) (sym c.better_price-best.ensures)
-    (better-on c.args.self.now c.loop-number.number c.loop-number.best c.price_at.result (sym c.price_at.ensures.price) c.loop-number.invariant)
+pub loop-owner-init : goal.loop-owner-init
+loop-owner-init c = λ bank there. absurd (omega (arith, there.1))
+
+pub loop-owner-preserved : goal.loop-owner-preserved
+loop-owner-preserved c =
+    let k = c.loop-owner.owner-index in
+    let banks : List ℕ = c.args.owners.now in
+    let n : ℕ = c.index.result in
+    let more : take k banks ++ n ∷ [] ≡ take (k + 1) banks
+    = ap (λ (bank : ℕ). take k banks ++ bank ∷ []) (c.index.ensures.value ∙ c.owner-item.is) ∙ sym (take_more banks k c.owner-item.result c.loop-owner-test.true) in
+    subst (λ (xs : List ℕ). IsBestAmong c.args.self.now xs c.better_price-best.result) more
+    (subst (IsBestAmong c.args.self.now (take k banks ++ n ∷ [])) (sym c.better_price-best.ensures)
+    (better-on c.args.self.now (take k banks) n c.loop-owner.best c.price_at.result (sym c.price_at.ensures.price) c.loop-owner.invariant))
+
+pub returns : goal.returns
+returns c = record {
+  best = subst (λ (xs : List ℕ). IsBestAmong c.args.self.now xs c.loop-owner.best) (take_all c.loop-owner.owner-index c.args.owners.now c.loop-owner-test.false) c.loop-owner.invariant;
+}
