@@ -4,7 +4,7 @@ use Rattle.fx_pieces.specs.Gathered.{Gathered}
 use Rattle.fx_pieces.proofs.Gathering.{Gathered-then}
 use Rattle.fx_rules.specs.History.{state}
 use Rattle.reply_lines.specs.Books.{books_text}
-use Rattle.reply_lines.specs.Desks.{AreDesksOf}
+use Rattle.reply_lines.specs.inside.Desks.{AreDesksOf}
 use Rattle.reply_lines.specs.Report.{report_text}
 use Rattle.reply_lines.specs.Output.{day_text, journal_text, desks_text}
 use Rattle.reply_lines.proofs.Outputs.{cut_short}
