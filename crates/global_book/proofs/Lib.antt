@@ -9,4 +9,5 @@ pub mod Pulling
 mod Finding
 mod Turns
 mod Bests
+pub mod Within
 mod Levelling

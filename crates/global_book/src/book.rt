@@ -1,6 +1,7 @@
-ghost use Rattle.std.specs.Prelude.{◌≡◌, ◌+◌, ◌≤◌, ◌<◌, ◌^◌, ◌↔◌, [], ◌∷◌, ◌++◌, None, not, map, filter, length, false, OnOk, IfOk, IfSome};
+ghost use Rattle.std.specs.Prelude.{◌≡◌, ◌+◌, ◌≤◌, ◌<◌, ◌^◌, ◌↔◌, [], ◌∷◌, ◌++◌, None, not, map, filter, length, true, false, OnOk, IfOk, IfSome};
 ghost use Rattle.std.specs.List.{All};
 ghost use Rattle.std.specs.Option.{option_copied, option_map};
+ghost use Rattle.fx_amounts.specs.Price.{crosses};
 ghost use Rattle.fx_amounts.specs.Side.{opposite};
 ghost use Rattle.fx_rules.specs.Lists.{Each};
 ghost use Rattle.fx_rules.specs.Sweep.{IsBest, is_order};
@@ -266,6 +267,31 @@ impl PairBook {
     {
         let place = self.price_rows.first_of(bank, side, before, past, steps)?;
         Some((self.orders.get(OrderKey(place.key)), place))
+    }
+
+    /// The same within a limit: `None` where the limit allows the price of none of these orders. It reads no order that the
+    /// limit does not allow.
+    pub fn best_within<L: Ledger>(
+        &self,
+        bank: BankId,
+        side: Side,
+        limit: Price,
+        before: u64,
+        past: Option<&Place>,
+        steps: &mut Steps<L>,
+    ) -> Option<(Resting, Place)>
+        ensures none { result ≡ None → Each (λ order. crosses (opposite side) limit order.price ≡ false) (owned side bank before (option_copied past.entry) self.now.orders) }
+        ensures best { IfSome result (λ found. IsBest (opposite side) (owned side bank before (option_copied past.entry) self.now.orders) found.0) }
+        ensures allowed { IfSome result (λ found. crosses (opposite side) limit found.0.price ≡ true) }
+        ensures place { IfSome result (λ found. IsPlaceOf found.0 found.1) }
+        ensures steps { AreInTime side before self.now.orders → steps.new ≤ steps.old + 1 }
+        ensures valid { IsBook self.now }
+    {
+        let front = self.price_rows.first_of(bank, side, before, past, steps)?;
+        if limit.crosses(front.price, side.opposite()) {
+            return Some((self.orders.get(OrderKey(front.key)), front));
+        }
+        None
     }
 
     /// The best price, worse than `past` where there is one, at which a bank has orders of a side, and all lots that they

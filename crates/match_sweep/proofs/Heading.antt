@@ -3,14 +3,13 @@ use Rattle.std.proofs.Common.{ℕ, zero, suc, ◌≡◌, ◌≢◌, ◌≤◌, �
 use Rattle.std.proofs.Math.ListN.{set}
 use Rattle.std.proofs.lemmas.Bool.{cases_eq}
 use Rattle.std.specs.List.{Contains}
-use Rattle.fx_amounts.specs.declared.side.Side.{Side}
 use Rattle.fx_rules.specs.declared.orders.Resting.{Resting}
 use Rattle.fx_rules.specs.Lists.{Among}
 use Rattle.fx_rules.specs.Sweep.{Taker}
 use Rattle.fx_rules.proofs.ListLemmas.{Each-among}
 use Rattle.price_levels.specs.declared.place.Place.{Place}
 use Rattle.global_book.specs.Book.{AreOwners, Book}
-use Rattle.match_sweep.specs.inside.Heads.{IsFound, to_come, AreHeads}
+use Rattle.match_sweep.specs.inside.Heads.{AreDear, IsFound, to_come, AreHeads}
 use Rattle.match_sweep.proofs.Picking.{among_to_come}
 
 -- one entry of a table is written, and what holds of the others stays
@@ -28,19 +27,19 @@ none_at zero k = refl
 none_at (suc n) zero = refl
 none_at {X} (suc n) (suc k) = none_at {X = X} n k
 
-none_found : (side : Side) (orders : List Resting) (head : Option (Resting × Place)) → orders ≡ [] → IfSome head (λ found. Among found.0 orders) → IsFound side orders head
-none_found side orders None none owned = none
-none_found side orders (Some found) none owned = absurd (subst (Among found.0) none owned)
+none_found : (t : Taker) (orders : List Resting) (head : Option (Resting × Place)) → orders ≡ [] → IfSome head (λ found. Among found.0 orders) → IsFound t orders head
+none_found t orders None none owned = subst (AreDear t) (sym none) tt
+none_found t orders (Some found) none owned = absurd (subst (Among found.0) none owned)
 
 pub all_heads : (reaches : ℕ → ℕ) (t : Taker) (book : Book) (owners : List ℕ) (heads : ℕ → Option (Resting × Place)) → AreOwners book owners
-    → ((bank : ℕ) → Contains owners bank → 1 ≤ reaches bank → IsFound t.side (to_come t bank None book.orders) (heads bank))
+    → ((bank : ℕ) → Contains owners bank → 1 ≤ reaches bank → IsFound t (to_come t bank None book.orders) (heads bank))
     → ((bank : ℕ) → IfSome (heads bank) (λ found. Among found.0 (to_come t bank None book.orders)))
     → AreHeads reaches t None book.orders book.banks heads
 all_heads reaches t book owners heads are found owned bank below reach =
     let coming : List Resting = to_come t bank None book.orders in
-    let answer : (orders : List Resting) → coming ≡ orders → IsFound t.side coming (heads bank) = λ orders.
-    elim orders as (λ (os : List Resting). coming ≡ os → IsFound t.side coming (heads bank)) [
-      | [] ↦ λ is. none_found t.side coming (heads bank) is (owned bank)
+    let answer : (orders : List Resting) → coming ≡ orders → IsFound t coming (heads bank) = λ orders.
+    elim orders as (λ (os : List Resting). coming ≡ os → IsFound t coming (heads bank)) [
+      | [] ↦ λ is. none_found t coming (heads bank) is (owned bank)
       | o ∷ os ↦ λ is.
           let it = among_to_come t bank None book.orders o (subst (Among o) (sym is) (inl refl)) in
           found bank (subst (Contains owners) it.1.owner (Each-among (λ (q : Resting). Contains owners q.bank) book.orders o are.all it.0)) reach

@@ -4,6 +4,7 @@ pub mod Finding
 pub mod Planning
 pub mod Picking
 mod Heading
+mod Shut
 pub mod Levelling
 pub mod Stepping
 pub mod Reaching

@@ -1,14 +1,13 @@
 -- The best of the heads that a taker may take is the best order that is open to it, and the other heads stay.
-use Rattle.std.proofs.Common.{ℕ, ◌≡◌, ◌≢◌, ◌≤◌, ◌<◌, Bool, true, false, ◌&&◌, eqb, ltb, List, [], ◌∷◌, ◌⊎◌, inl, inr, refl, ap, sym, subst, ◌∙◌, arith, Option, Some, None}
-use Rattle.std.proofs.lemmas.Bool.{or_left, cases_Bool, cases_eq, and_parts, and_from, both_ways, false_from_ne_true, eqb-true, eq-eqb, ltb-true, lt-ltb, ltb-false, leb-true, le-leb}
+use Rattle.std.proofs.Common.{ℕ, ◌≡◌, ◌≢◌, ◌≤◌, ◌<◌, Bool, true, false, ◌&&◌, ltb, List, [], ◌∷◌, ◌⊎◌, inl, inr, refl, ap, sym, subst, ◌∙◌, arith, Option, Some, None}
+use Rattle.std.proofs.lemmas.Bool.{cases_Bool, cases_eq, and_parts, and_from, both_ways, false_from_ne_true, eqb-true, eq-eqb, ltb-true, lt-ltb}
 use Rattle.std.specs.List.{Contains}
 use Rattle.fx_amounts.specs.Price.{crosses}
 use Rattle.fx_amounts.specs.declared.side.Side.{Side}
-use Rattle.fx_amounts.specs.declared.side.Side.TheVariants.{Buy, Sell}
 use Rattle.fx_rules.specs.declared.orders.Resting.{Resting}
 use Rattle.fx_rules.specs.Lists.{Among, EachPair}
 use Rattle.fx_rules.specs.Sound.{ArrivesBefore}
-use Rattle.fx_rules.specs.Sweep.{Taker, is_open, is_opposite, is_better, is_preferred, IsBest}
+use Rattle.fx_rules.specs.Sweep.{Taker, is_open, is_opposite, is_preferred, IsBest}
 use Rattle.fx_rules.specs.Plan.{is_behind, open_behind}
 use Rattle.fx_rules.proofs.ListLemmas.{Each-among, Each-of, Among-filter, among_filter, filter_agree_on}
 use Rattle.fx_rules.proofs.Opens.{IsOpen, is_open-says}
@@ -16,6 +15,7 @@ use Rattle.fx_rules.proofs.Planning.{open_parts}
 use Rattle.fx_rules.proofs.Preference.{preferred_self, preferred_trans, preferred_either, rising_same}
 use Rattle.price_levels.specs.declared.place.Place.{Place}
 use Rattle.global_book.specs.Book.{is_of}
+use Rattle.global_book.proofs.Within.{crosses_too}
 use Rattle.match_sweep.specs.inside.Heads.{IsFound, is_to_come, to_come, AreHeads}
 
 -- What it says that a taker may come to an order.
@@ -56,7 +56,7 @@ among_to_come t bank last book o there =
     (kept.0, to_come-says t bank last o kept.1)
 
 -- an open order behind the last is one that its bank's head is the best of
-open-to_come : (reaches : ℕ → ℕ) (t : Taker) (last : Option Resting) (book : List Resting) (o : Resting) → Among o (open_behind reaches t last book) → Among o (to_come t o.bank last book) × IsOpen t (reaches o.bank) o
+pub open-to_come : (reaches : ℕ → ℕ) (t : Taker) (last : Option Resting) (book : List Resting) (o : Resting) → Among o (open_behind reaches t last book) → Among o (to_come t o.bank last book) × IsOpen t (reaches o.bank) o
 open-to_come reaches t last book o there =
     let kept = Among-filter (λ (q : Resting). is_open t (reaches q.bank) q && is_behind t.side last q) book o there in
     let parts = and_parts (is_open t (reaches o.bank) o) (is_behind t.side last o) kept.1 in
@@ -101,17 +101,6 @@ not_before_first side book o h m rising o_in h_in m_in below above =
           ]
     ]
 
--- a price that is no worse than one that is taken is taken
-better_or_same : (side : Side) (price p q : ℕ) → is_better side q p ≡ false → crosses side price q ≡ true → crosses side price p ≡ true
-better_or_same Buy price p q not_worse taken = le-leb p price (omega (arith, ltb-false q p not_worse, leb-true q price taken))
-better_or_same Sell price p q not_worse taken = le-leb price p (omega (arith, ltb-false p q not_worse, leb-true price q taken))
-
-crosses_too : (side : Side) (price : ℕ) (h o : Resting) → is_preferred side o h ≡ false → crosses side price o.price ≡ true → crosses side price h.price ≡ true
-crosses_too side price h o below taken =
-    better_or_same side price h.price o.price
-    (false_from_ne_true (is_better side o.price h.price) (λ better. both_ways (is_preferred side o h) below (or_left (is_better side o.price h.price) (eqb o.price h.price && ltb o.arrival h.arrival) better)))
-    taken
-
 -- The best of the heads.
 
 -- no head that the taker may take is preferred to this order
@@ -138,9 +127,9 @@ record HasHead (side : Side) (orders : List Resting) (head : Option (Resting × 
   pub is : head ≡ Some found
   pub best : IsBest side orders found.0
 
-has_head : (side : Side) (orders : List Resting) (head : Option (Resting × Place)) (o : Resting) → Among o orders → IsFound side orders head → HasHead side orders head
-has_head side orders None o there found = absurd (subst (Among o) found there)
-has_head side orders (Some head) o there found = record { found = head; is = refl; best = found.0 }
+has_head : (t : Taker) (orders : List Resting) (head : Option (Resting × Place)) (o : Resting) → crosses t.side t.price o.price ≡ true → Among o orders → IsFound t orders head → HasHead t.side orders head
+has_head t orders None o taken there found = absurd (both_ways (crosses t.side t.price o.price) (Each-among (λ (q : Resting). crosses t.side t.price q.price ≡ false) orders o found there) taken)
+has_head t orders (Some head) o taken there found = record { found = head; is = refl; best = found.0 }
 
 -- the order that is picked stands before each that may still come, but for a bank that can't be reached
 before_open : (listed_now : List ℕ) (reaches : ℕ → ℕ) (t : Taker) (last : Option Resting) (book : List Resting) (banks : ℕ) (heads : ℕ → Option (Resting × Place)) (at : ℕ) (best o : Resting) → Picks listed_now reaches t last book banks heads at best → Among o (open_behind reaches t last book) → is_preferred t.side o best ≡ false
@@ -148,7 +137,7 @@ before_open listed_now reaches t last book banks heads at best o picks there =
     let opens = open-to_come reaches t last book o there in
     let o_in = among_to_come t o.bank last book o opens.0 in
     let within : o.bank < banks = picks.owners o o_in.0 in
-    let head = has_head t.side (to_come t o.bank last book) (heads o.bank) o opens.0 (picks.heads_are o.bank within opens.1.reach) in
+    let head = has_head t (to_come t o.bank last book) (heads o.bank) o opens.1.crosses opens.0 (picks.heads_are o.bank within opens.1.reach) in
     let below : is_preferred t.side o head.found.0 ≡ false =
     Each-among (λ (q : Resting). is_preferred t.side q head.found.0 ≡ false) (to_come t o.bank last book) o head.best.first opens.0 in
     let crossing : crosses t.side t.price head.found.0.price ≡ true = crosses_too t.side t.price head.found.0 o below opens.1.crosses in
@@ -176,7 +165,7 @@ picked-none listed_now reaches t last book banks heads owners listed heads_are n
     (λ o there.
     let opens = open-to_come reaches t last book o there in
     let within : o.bank < banks = owners o (among_to_come t o.bank last book o opens.0).0 in
-    let head = has_head t.side (to_come t o.bank last book) (heads o.bank) o opens.0 (heads_are o.bank within opens.1.reach) in
+    let head = has_head t (to_come t o.bank last book) (heads o.bank) o opens.1.crosses opens.0 (heads_are o.bank within opens.1.reach) in
     let below : is_preferred t.side o head.found.0 ≡ false =
     Each-among (λ (q : Resting). is_preferred t.side q head.found.0 ≡ false) (to_come t o.bank last book) o head.best.first opens.0 in
     both_ways (crosses t.side t.price head.found.0.price) (none o.bank head.found (listed o (among_to_come t o.bank last book o opens.0).0) head.is opens.1.reach)
@@ -185,9 +174,9 @@ picked-none listed_now reaches t last book banks heads owners listed heads_are n
 -- The other heads, once the best is taken.
 
 -- a bank with a head has an order
-head_listed : (listed_now : List ℕ) (t : Taker) (bank : ℕ) (last : Option Resting) (book : List Resting) (found : Option (Resting × Place)) (head : Resting × Place) → ((o : Resting) → Among o book → Contains listed_now o.bank) → found ≡ Some head → IsFound t.side (to_come t bank last book) found → Contains listed_now bank
+head_listed : (listed_now : List ℕ) (t : Taker) (bank : ℕ) (last : Option Resting) (book : List Resting) (found : Option (Resting × Place)) (head : Resting × Place) → ((o : Resting) → Among o book → Contains listed_now o.bank) → found ≡ Some head → IsFound t (to_come t bank last book) found → Contains listed_now bank
 head_listed listed_now t bank last book found head listed is found_is =
-    let best = subst (IsFound t.side (to_come t bank last book)) is found_is in
+    let best = subst (IsFound t (to_come t bank last book)) is found_is in
     let it = among_to_come t bank last book head.0 best.0.there in
     subst (Contains listed_now) it.1.owner (listed head.0 it.0)
 
@@ -206,15 +195,23 @@ all_behind : (listed_now : List ℕ) (reaches : ℕ → ℕ) (t : Taker) (last :
 all_behind listed_now reaches t last book banks heads at other best o picks within differ some there =
     let o_in = among_to_come t other last book o there in
     let best_in = among_to_come t at last book best picks.there in
-    let head = has_head t.side (to_come t other last book) (heads other) o there (picks.heads_are other within some) in
-    let head_in = among_to_come t other last book head.found.0 head.best.there in
-    let apart : (q : Resting) → q.bank ≡ other → best ≢ q = λ q owner same. differ (sym owner ∙ ap (λ (r : Resting). r.bank) (sym same) ∙ best_in.1.owner) in
-    let below : is_preferred t.side o head.found.0 ≡ false =
-    Each-among (λ (q : Resting). is_preferred t.side q head.found.0 ≡ false) (to_come t other last book) o head.best.first there in
-    let above : is_preferred t.side head.found.0 best ≡ false = behind_picked listed_now reaches t last book banks heads at other best head.found picks within some head.is in
-    elim (same_or_before t.side book best o picks.rising best_in.0 o_in.0 (not_before_first t.side book o head.found.0 best picks.rising o_in.0 head_in.0 best_in.0 below above)) [
-      | inl same ↦ absurd (apart o o_in.1.owner same)
-      | inr before ↦ before
+    elim (cases_Bool (crosses t.side t.price o.price)) [
+      | inr dear ↦
+          elim (cases_Bool (is_preferred t.side best o)) [
+            | inl before ↦ before
+            | inr after ↦ absurd (both_ways (crosses t.side t.price o.price) dear (crosses_too t.side t.price o best after picks.crosses))
+          ]
+      | inl taken ↦
+          let head = has_head t (to_come t other last book) (heads other) o taken there (picks.heads_are other within some) in
+          let head_in = among_to_come t other last book head.found.0 head.best.there in
+          let apart : (q : Resting) → q.bank ≡ other → best ≢ q = λ q owner same. differ (sym owner ∙ ap (λ (r : Resting). r.bank) (sym same) ∙ best_in.1.owner) in
+          let below : is_preferred t.side o head.found.0 ≡ false =
+          Each-among (λ (q : Resting). is_preferred t.side q head.found.0 ≡ false) (to_come t other last book) o head.best.first there in
+          let above : is_preferred t.side head.found.0 best ≡ false = behind_picked listed_now reaches t last book banks heads at other best head.found picks within some head.is in
+          elim (same_or_before t.side book best o picks.rising best_in.0 o_in.0 (not_before_first t.side book o head.found.0 best picks.rising o_in.0 head_in.0 best_in.0 below above)) [
+            | inl same ↦ absurd (apart o o_in.1.owner same)
+            | inr before ↦ before
+          ]
     ]
 
 pub still_behind : (side : Side) (last : Option Resting) (best o : Resting) → is_behind side last best ≡ true → is_preferred side best o ≡ true → is_behind side last o ≡ true
@@ -227,10 +224,10 @@ same_tests true false there back = absurd (both_ways false refl (there refl))
 same_tests false true there back = absurd (both_ways false refl (back refl))
 same_tests false false there back = refl
 
-pub heads-stay : (listed_now : List ℕ) (reaches : ℕ → ℕ) (t : Taker) (last : Option Resting) (book : List Resting) (banks : ℕ) (heads : ℕ → Option (Resting × Place)) (at other : ℕ) (best : Resting) → Picks listed_now reaches t last book banks heads at best → other < banks → other ≢ at → 1 ≤ reaches other → IsFound t.side (to_come t other (Some best) book) (heads other)
+pub heads-stay : (listed_now : List ℕ) (reaches : ℕ → ℕ) (t : Taker) (last : Option Resting) (book : List Resting) (banks : ℕ) (heads : ℕ → Option (Resting × Place)) (at other : ℕ) (best : Resting) → Picks listed_now reaches t last book banks heads at best → other < banks → other ≢ at → 1 ≤ reaches other → IsFound t (to_come t other (Some best) book) (heads other)
 heads-stay listed_now reaches t last book banks heads at other best picks within differ some =
     let best_in = among_to_come t at last book best picks.there in
-    subst (λ (os : List Resting). IsFound t.side os (heads other))
+    subst (λ (os : List Resting). IsFound t os (heads other))
     (filter_agree_on (is_to_come t other last) (is_to_come t other (Some best)) book
     (λ o there. same_tests (is_to_come t other last o) (is_to_come t other (Some best) o)
     (λ holds.

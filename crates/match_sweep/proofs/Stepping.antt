@@ -122,7 +122,7 @@ pub record Chosen (book : Book) (walk : Walk) (found : Resting × Place) : Type 
   pub line : walk.weight ≤ slice_index walk.lines found.0.bank
 
 -- a bank with an order is one of the book's
-owner_within : (book : Book) (owners_now : List ℕ) (bank : ℕ) → IsBook book → AreOwners book owners_now → Contains owners_now bank → bank < book.banks
+pub owner_within : (book : Book) (owners_now : List ℕ) (bank : ℕ) → IsBook book → AreOwners book owners_now → Contains owners_now bank → bank < book.banks
 owner_within book owners_now bank is are there =
     let it = are.owns bank there in
     omega (arith, owners book is it.0 it.1, it.2)
@@ -133,7 +133,7 @@ set-chosen book walk owners_now found is are set_is picked =
     let may = and_parts (leb walk.weight (slice_index walk.lines at)) (crosses walk.order.side walk.order.price found.0.price) picked.0.may in
     let fits : walk.weight ≤ slice_index walk.lines at = leb-true walk.weight (slice_index walk.lines at) may.0 in
     let some : 1 ≤ reach_of walk at = pays (slice_index walk.lines at) walk.weight set_is.weight fits in
-    let head = subst (IsFound walk.order.side (to_come walk.order at (last_of walk) book.orders)) picked.0.is (set_is.heads at (owner_within book owners_now at is are picked.0.within) some) in
+    let head = subst (IsFound walk.order (to_come walk.order at (last_of walk) book.orders)) picked.0.is (set_is.heads at (owner_within book owners_now at is are picked.0.within) some) in
     let there = head.0.there in
     let owner : found.0.bank ≡ at = (among_to_come walk.order at (last_of walk) book.orders found.0 there).1.owner in
     record {

@@ -5,6 +5,7 @@
 mod carrying;
 mod heads;
 mod laws;
+mod opening;
 mod reached;
 mod sweeping;
 mod taker;

@@ -5,6 +5,7 @@ ghost use Rattle.global_book.specs.Book.{IsBook};
 ghost use Rattle.match_sweep.specs.Takers.{swept_in};
 ghost use Rattle.match_sweep.specs.Sweeps.{IsSweep};
 
+use crate::opening::first_opening;
 use crate::taker::Taker;
 use crate::walk::Walk;
 use credit_lines::CreditLines;
@@ -71,8 +72,15 @@ pub fn sweep<L: Ledger>(
     ensures steps { Each (λ other. other.arrival < order.now.arrival) book.now.orders → IfOk result (λ sweep. steps.new ≤ steps.old + (length sweep.fills + 1) * book.now.banks) }
     ensures valid { IsBook book.now }
 {
-    let mut walk = Walk::new(book, lines, weight, order, steps);
+    let owners = book.owners();
     let mut fills = Vec::new(alloc);
+    let Some(opening) = first_opening(book, owners, lines, weight, order, steps) else {
+        return Ok(SweepPlan {
+            fills: FillList::from_vec(fills),
+            left: order.left,
+        });
+    };
+    let mut walk = Walk::new(book, owners, lines, weight, order, &opening, steps);
     while let Some(fill) = walk.next_fill(book, steps) {
         fills.push(fill)?;
     }

@@ -1,11 +1,13 @@
-ghost use Rattle.std.specs.Prelude.{ℕ, ◌≡◌, ◌≢◌, ◌≤◌, ◌<◌, ◌+◌, ◌*◌, ◌^◌, slice_index, IfSome};
+ghost use Rattle.std.specs.Prelude.{ℕ, ◌≡◌, ◌≢◌, ◌≤◌, ◌<◌, ◌+◌, ◌*◌, ◌^◌, length, slice_index, IfSome};
 ghost use Rattle.fx_amounts.specs.Quantity.{IsWeight};
 ghost use Rattle.fx_rules.specs.Lists.{total};
 ghost use Rattle.credit_lines.specs.Credit.{line_in};
-ghost use Rattle.match_sweep.specs.inside.Heads.{CameBefore};
+ghost use Rattle.global_book.specs.Book.{AreOwners, IsBook};
+ghost use Rattle.match_sweep.specs.inside.Heads.{CameBefore, IsOpening};
 ghost use Rattle.match_sweep.specs.inside.Walks.{Begins, IsPicked, IsReady, IsRenewed, StepsOn, Takes, head_of, is_ahead, leads, may_take_head, steps_behind};
 
-use crate::heads::{first_heads, head_behind, is_preferred};
+use crate::heads::{head_behind, heads_from, is_preferred};
+use crate::opening::Opening;
 use credit_lines::CreditLines;
 use fx_amounts::BankId;
 use fx_rules::{Fill, Resting, SweptOrder};
@@ -22,34 +24,40 @@ pub(crate) struct Walk {
     weight: u32,
     /// What is left of the lines with each bank, in credit units; nothing with the order's own.
     lines: [u64; 64],
-    /// Of each bank with which the line pays for a lot, the best order that the sweep may still come to, with its place. That
-    /// of the bank that was taken from last is out of date.
+    /// Of each bank with which the line pays for a lot, the best order that the sweep may still come to, with its place, where
+    /// the order takes its price. That of the bank that was taken from last is out of date.
     heads: [Option<(Resting, Place)>; 64],
     /// The order that was taken last, if there is one.
     last: Option<(Resting, Place)>,
 }
 
 impl Walk {
-    /// Before its first fill, by the lines of the order's bank, where a lot costs `weight` credit units.
+    /// Before its first fill, by the lines of the order's bank, where a lot costs `weight` credit units. The banks are those that
+    /// have an order.
     pub(crate) fn new<L: Ledger>(
         book: &PairBook,
+        owners: &[BankId],
         lines: &CreditLines,
         weight: u32,
         order: &SweptOrder,
+        opening: &Opening,
         steps: &mut Steps<L>,
     ) -> Walk
+        requires owners { AreOwners book.now owners.now }
+        requires valid { IsBook book.now }
+        requires opening { IsOpening book.now lines.now weight order.now owners.now opening.now }
         requires banks { book.now.banks ≡ lines.now.banks }
         requires bank { order.now.bank < lines.now.banks }
         requires weight { IsWeight weight }
         ensures begins { Begins book.now lines.now weight order.now result }
-        ensures steps { CameBefore book.now.orders order.now.arrival → steps.new ≤ steps.old + book.now.banks }
+        ensures steps { CameBefore book.now.orders order.now.arrival → steps.new + opening.now.passed + 1 ≤ steps.old + length owners.now }
     {
         let lines = lines_of(book.banks(), lines, order.bank);
         Walk {
             order: *order,
             weight,
             lines,
-            heads: first_heads(book, order, &lines, weight, steps),
+            heads: heads_from(book, owners, order, &lines, weight, opening, steps),
             last: None,
         }
     }

@@ -58,7 +58,7 @@ pub record IsReady (book : Book) (walk : Walk) : Type 0 where
   pub own : slice_index walk.lines walk.order.bank ≡ 0
   pub placed : IfSome walk.last (λ taken. IsPlaceOf taken.0 taken.1)
   pub heads : (bank : ℕ) → bank < book.banks → IfSome walk.last (λ taken. bank ≢ taken.0.bank) → 1 ≤ reach_of walk bank →
-      IsFound walk.order.side (to_come walk.order bank (last_of walk) book.orders) (head_of walk bank)
+      IsFound walk.order (to_come walk.order bank (last_of walk) book.orders) (head_of walk bank)
 
 -- a walk with all its heads found, and nothing else changed
 pub record IsRenewed (book : Book) (old new : Walk) : Type 0 where

@@ -8,8 +8,8 @@ use Rattle.match_sweep.proofs.heads.head_behind.Goals as goal
 
 pub returns : goal.returns
 returns g c = record {
-  head = found-head c.args.book.now.orders c.args.order.now c.args.bank (option_copied c.args.past) c.opposite-side.result c.best_of.result
-      c.opposite-side.ensures (λ none. c.best_of.ensures.none.0 none) c.best_of.ensures.best c.best_of.ensures.place;
-  steps = λ came. c.best_of.ensures.steps
+  head = found-head c.args.book.now.orders c.args.order.now c.args.bank (option_copied c.args.past) c.opposite-side.result c.best_within.result
+      c.opposite-side.ensures c.best_within.ensures.none c.best_within.ensures.best c.best_within.ensures.place;
+  steps = λ came. c.best_within.ensures.steps
       (Each-weaker (λ (o : Resting). o.arrival < c.args.order.now.arrival) _ (λ o before _. before) c.args.book.now.orders came);
 }
