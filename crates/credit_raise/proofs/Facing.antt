@@ -1,8 +1,6 @@
 -- The orders that cross the best price of the other bank are all that can take or be taken.
-use Rattle.std.proofs.Common.{ℕ, ◌≡◌, ◌≢◌, ◌≤◌, ◌<◌, ◌+◌, ◌^◌, true, false, ◌&&◌, eqb, ltb, List, [], ◌∷◌, ◌++◌, ◌⊎◌, inl, inr, Option, Some, None, refl, ap, sym, ◌∙◌, subst, arith}
+use Rattle.std.proofs.Common.{ℕ, ◌≡◌, ◌≢◌, ◌≤◌, ◌^◌, true, false, ◌&&◌, eqb, ltb, List, [], ◌⊎◌, inl, inr, Option, Some, None, refl, ap, sym, ◌∙◌, subst, arith}
 use Rattle.std.proofs.lemmas.Bool.{cond_both, cond-true, cond-false, eq-eqb, eqb-true, ne_eqb, le-leb, leb-true, ltb-false, and_from, false≢true, both_ways}
-use Rattle.std.proofs.lemmas.List.Elements.{filter-append}
-use Rattle.std.specs.List.{filter}
 use Rattle.fx_amounts.specs.Price.{crosses}
 use Rattle.fx_amounts.specs.Side.{opposite}
 use Rattle.fx_amounts.specs.declared.side.Side.{Side}
@@ -15,25 +13,24 @@ use Rattle.fx_rules.specs.Sweep.{is_opposite, is_better}
 use Rattle.fx_rules.specs.Raise.{taker_of_resting}
 use Rattle.fx_rules.proofs.ListLemmas.{Each-among, Each-of, Each-filter, EachPair-filter, Among-filter}
 use Rattle.fx_rules.proofs.Opens.{is_open-says}
-use Rattle.global_book.specs.Book.{Book, IsBook, IsHeld, first, IsLevelOf, is_of, is_worse_of}
+use Rattle.global_book.specs.Book.{Book, IsBook, IsHeld, IsLevelOf, is_of, is_worse_of}
 use Rattle.credit_raise.specs.declared.prices.Tops.{Tops}
 use Rattle.credit_raise.specs.inside.Two.{is_of_two_from, turns}
 use Rattle.credit_raise.specs.inside.Playing.{only, other_of, AreTurns, Played}
 use Rattle.credit_raise.specs.inside.Prices.{IsOf, IsTop, AreTops, top_of, crosses_top, crosses_tops, is_live, live_turns}
 use Rattle.credit_raise.proofs.Looking.{reached_is, opposite_twice}
-use Rattle.credit_raise.proofs.Walking.{turns-next}
 use Rattle.credit_raise.proofs.Living.{Spots, played-all}
 use Rattle.credit_raise.proofs.Raised.{turns-owners}
 
 -- ---- sides
 
-opposite_is : (a b : Side) → is_opposite a b ≡ true → b ≡ opposite a
+pub opposite_is : (a b : Side) → is_opposite a b ≡ true → b ≡ opposite a
 opposite_is Buy Buy is = absurd (false≢true is)
 opposite_is Buy Sell is = refl
 opposite_is Sell Buy is = refl
 opposite_is Sell Sell is = absurd (false≢true is)
 
-opposite_side : (side : Side) → is_opposite (opposite side) side ≡ true
+pub opposite_side : (side : Side) → is_opposite (opposite side) side ≡ true
 opposite_side Buy = refl
 opposite_side Sell = refl
 
@@ -114,13 +111,6 @@ pub live-played : (pair weight i j line : ℕ) (orders : List Resting) (tops_i t
 live-played pair weight i j line orders tops_i tops_j fills differ rising are_i are_j played =
     played-all (is_live i tops_i tops_j) pair i j weight orders (spots-live pair i j orders tops_i tops_j differ are_i are_j) rising line [] (turns i j 0 orders) fills
     (turns-among i j orders) (turns-owners i j orders) tt played
-
--- the next order, where it is live, and the live turns behind it
-pub live-next : (i j after : ℕ) (tops_i tops_j : Tops) (orders : List Resting) (o : Resting) → EachPair ArrivesBefore orders → first (filter (is_of_two_from i j after) orders) ≡ Some o → o.arrival < 2 ^ 64
-    → live_turns i j tops_i tops_j after orders ≡ filter (is_live i tops_i tops_j) (o ∷ []) ++ live_turns i j tops_i tops_j (o.arrival + 1) orders
-live-next i j after tops_i tops_j orders o rising found most =
-    ap (filter (is_live i tops_i tops_j)) (turns-next i j after orders o rising found most)
-    ∙ filter-append (is_live i tops_i tops_j) (o ∷ []) (turns i j (o.arrival + 1) orders)
 
 -- the live turns can be played
 pub live-turns : (book : Book) (i j : ℕ) (tops_i tops_j : Tops) → IsBook book → AreTurns i j (live_turns i j tops_i tops_j 0 book.orders)

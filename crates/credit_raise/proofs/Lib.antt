@@ -9,5 +9,6 @@ pub mod Raised
 pub mod Going
 pub mod Living
 pub mod Facing
+pub mod Gathering
 pub mod Quiet
 pub mod Pairs

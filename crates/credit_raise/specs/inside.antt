@@ -1,3 +1,4 @@
+pub mod Gathered
 pub mod Playing
 pub mod Prices
 pub mod Two

@@ -23,10 +23,11 @@ use std::sync::ledger::Ledger;
 /// costs `weight`, 1 to 10^6. Where nothing rests crossed but between the two, they are the fills of the full sweep, in
 /// which each order that rests is swept in arrival order against those that came before it. `left` is 0.
 ///
-/// It walks the two banks' orders alone, in arrival order, and leaves the book as it is. Those that cross the other bank's best
-/// price have turns, as long as the line pays for a lot. What they have left it keeps in a book of its own: each order is put
-/// in there at most once, each turn looks into it once, and once more for each fill. So it takes memory for these orders
-/// and for the fills. Where the line does not pay for a lot it answers at once. `Memory` for want of memory.
+/// It looks at the two banks' orders alone, and leaves the book as it is. Those that cross the other bank's best price are gathered
+/// from the best price on, and have their turns in arrival order, as long as the line pays for a lot. What they have left
+/// is kept in a book of its own: each order is put in there at most once, each turn looks into it once, and once more for
+/// each fill. So it takes memory for these orders and for the fills, and the time of that many searches. Where the line does
+/// not pay for a lot it answers at once. `Memory` for want of memory.
 pub fn plan_raise<L: Ledger>(
     alloc: Global,
     book: &PairBook,

@@ -16,12 +16,6 @@ only other lots bank = if bank == other then lots else 0
 abbrev pub other_of : ℕ → ℕ → ℕ → ℕ
 other_of i j bank = if bank == i then j else i
 
--- of two orders the one that arrived earlier, or the one that is there
-abbrev pub earlier_of : Option Resting → Option Resting → Option Resting
-earlier_of None other = other
-earlier_of (Some one) None = Some one
-earlier_of (Some one) (Some other) = Some (if nat_lt other.arrival one.arrival then other else one)
-
 -- the best of some orders, where there is one
 abbrev pub IsBestOf : Side → List Resting → Option Resting → Type 0
 IsBestOf side orders None = orders ≡ []

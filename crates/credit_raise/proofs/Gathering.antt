@@ -1,0 +1,426 @@
+-- Two banks' orders gathered from the best price on, and put in the order of their arrivals.
+use Rattle.std.proofs.Common.{ℕ, suc, ◌≡◌, ◌≢◌, ◌-◌, ◌^◌, ◌≤◌, ◌<◌, Bool, true, false, cond, ◌&&◌, eqb, leb, ltb, List, [], ◌∷◌, map, length, ◌⊎◌, inl, inr, Option, Some, None, refl, ap, sym, subst, ◌∙◌, arith}
+use Rattle.std.proofs.lemmas.Bool.{cases_Bool, cases_eq, cond-true, cond-false, both_ways, false≢true, false_from_ne_true, and_parts, and_from, and_right, or_left, eqb-true, eq-eqb, ne_eqb, lt-ltb, le-ltb, ltb-true, ltb-false, leb-true, le-leb}
+use Rattle.std.proofs.lemmas.Cmp.{nat_cmp_total, ranked}
+use Rattle.std.proofs.lemmas.Map.Keys.{sorted_head, sorted_tail}
+use Rattle.std.proofs.lemmas.Map.Views.{All-found}
+use Rattle.std.specs.List.{filter, All, AllByRecursion}
+use Rattle.std.specs.List.Sorted.{IsStrictlySortedBy}
+use Rattle.std.specs.Map.{lookup}
+use Rattle.std.specs.Option.{option_map}
+use Rattle.std.specs.Ordering.{nat_cmp, is_eq}
+use Rattle.std.specs.declared.cmp.Ordering.TheVariants.{Less, Equal, Greater}
+use Rattle.std.specs.BTreeMap.{BTreeMap, IsOrdered, get, values}
+use Rattle.fx_amounts.specs.Side.{opposite}
+use Rattle.fx_amounts.specs.declared.side.Side.{Side}
+use Rattle.fx_amounts.specs.declared.side.Side.TheVariants.{Buy, Sell}
+use Rattle.fx_rules.specs.declared.orders.Resting.{Resting}
+use Rattle.fx_rules.specs.Lists.{Among, Each, EachPair}
+use Rattle.fx_rules.specs.Sound.{ArrivesBefore}
+use Rattle.fx_rules.specs.Plan.{is_behind}
+use Rattle.fx_rules.specs.Sweep.{is_opposite, is_better, is_preferred, IsBest}
+use Rattle.fx_rules.proofs.ListLemmas.{Each-among, Each-weaker, Among-filter, Among-map, among_filter}
+use Rattle.fx_rules.proofs.Preference.{preferred_self, preferred_trans, preferred_neither, rising_same}
+use Rattle.price_levels.specs.declared.place.Place.{Place}
+use Rattle.global_book.specs.Book.{Book, IsBook, IsHeld, IsPlaceOf, first, is_of, is_of_from, is_owned, owned, standing_at}
+use Rattle.global_book.proofs.Sought.{behind-place}
+use Rattle.credit_raise.specs.declared.prices.Tops.{Tops}
+use Rattle.credit_raise.specs.inside.Prices.{crosses_top, crosses_tops, top_of, is_live, live_turns}
+use Rattle.credit_raise.specs.Two.{is_of_two}
+use Rattle.credit_raise.specs.inside.Two.{is_of_two_from, turns}
+use Rattle.credit_raise.proofs.Apart.{two-owner, owner-two}
+use Rattle.credit_raise.specs.inside.Gathered.{Gathers, IsLiveOf, IsEarlyOf, IsPassed, IsLateOf}
+use Rattle.credit_raise.proofs.Looking.{opposite_twice}
+use Rattle.credit_raise.proofs.Facing.{opposite_side, opposite_is, live-turns}
+use Rattle.credit_raise.proofs.Walking.{some_same, first_among}
+
+-- ---- what is gathered
+
+pub gathers-none : (P : Resting → Type 0) (orders : List Resting) (gathered : BTreeMap ℕ Resting) → ((o : Resting) → Among o orders → P o → ⊥) → Gathers P orders gathered gathered
+gathers-none P orders gathered none = record {
+  only = λ arrival o is. inl is;
+  grows = λ o there is. is;
+  all = λ o there is. absurd (none o there is);
+}
+
+pub gathers-both : (P Q R : Resting → Type 0) (orders : List Resting) (a b c : BTreeMap ℕ Resting) → ((o : Resting) → P o ⊎ Q o → R o) → ((o : Resting) → Among o orders → R o → P o ⊎ Q o) → Gathers P orders a b → Gathers Q orders b c → Gathers R orders a c
+gathers-both P Q R orders a b c there back one two = record {
+  only = λ arrival o is. elim (two.only arrival o is) [
+    | inl before ↦ elim (one.only arrival o before) [
+      | inl older ↦ inl older
+      | inr it ↦ inr (it.0, it.1, there o (inl it.2))
+    ]
+    | inr it ↦ inr (it.0, it.1, there o (inr it.2))
+  ];
+  grows = λ o here is. two.grows o here (one.grows o here is);
+  all = λ o here is. elim (back o here is) [
+    | inl p ↦ two.grows o here (one.all o here p)
+    | inr q ↦ two.all o here q
+  ];
+}
+
+pub gathers-same : (P Q : Resting → Type 0) (orders : List Resting) (a b : BTreeMap ℕ Resting) → ((o : Resting) → Among o orders → P o → Q o) → ((o : Resting) → Among o orders → Q o → P o) → Gathers P orders a b → Gathers Q orders a b
+gathers-same P Q orders a b there back one = record {
+  only = λ arrival o is. elim (one.only arrival o is) [
+    | inl older ↦ inl older
+    | inr it ↦ inr (it.0, it.1, there o it.1 it.2)
+  ];
+  grows = one.grows;
+  all = λ o here is. one.all o here (back o here is);
+}
+
+cmp_same : (a b : ℕ) → a ≡ b → is_eq (nat_cmp a b) ≡ true
+cmp_same a b same =
+    ap is_eq (cond-false (ltb a b) Less (cond (eqb a b) Equal Greater) (le-ltb a b (omega (arith, same)))
+    ∙ cond-true (eqb a b) Equal Greater (eq-eqb a b same))
+
+cmp_other : (a b : ℕ) → a ≢ b → is_eq (nat_cmp a b) ≡ false
+cmp_other a b differ =
+    elim (cases_Bool (ltb a b)) [
+      | inl less ↦ ap is_eq (cond-true (ltb a b) Less (cond (eqb a b) Equal Greater) less)
+      | inr more ↦ ap is_eq (cond-false (ltb a b) Less (cond (eqb a b) Equal Greater) more ∙ cond-false (eqb a b) Equal Greater (ne_eqb a b differ))
+    ]
+
+-- one order is put in by its arrival
+pub gathers-one : (orders : List Resting) (x : Resting) (old new : BTreeMap ℕ Resting) → EachPair ArrivesBefore orders → Among x orders → ((q : ℕ) → get nat_cmp new q ≡ cond (is_eq (nat_cmp x.arrival q)) (Some x) (get nat_cmp old q)) → Gathers (λ o. o ≡ x) orders old new
+gathers-one orders x old new rising here update =
+    let at : (q : ℕ) → x.arrival ≡ q → get nat_cmp new q ≡ Some x
+    = λ q same. update q ∙ cond-true (is_eq (nat_cmp x.arrival q)) (Some x) (get nat_cmp old q) (cmp_same x.arrival q same) in
+    let away : (q : ℕ) → x.arrival ≢ q → get nat_cmp new q ≡ get nat_cmp old q
+    = λ q differ. update q ∙ cond-false (is_eq (nat_cmp x.arrival q)) (Some x) (get nat_cmp old q) (cmp_other x.arrival q differ) in
+    record {
+      only = λ arrival o is. elim (cases_eq x.arrival arrival) [
+        | inl same ↦
+            let it : o ≡ x = some_same o x (sym is ∙ at arrival same) in
+            inr (ap (λ (q : Resting). q.arrival) it ∙ same, subst (λ (q : Resting). Among q orders) (sym it) here, it)
+        | inr differ ↦ inl (sym (away arrival differ) ∙ is)
+      ];
+      grows = λ o there is. elim (cases_eq x.arrival o.arrival) [
+        | inl same ↦ at o.arrival same ∙ ap Some (rising_same orders x o rising here there same)
+        | inr differ ↦ away o.arrival differ ∙ is
+      ];
+      all = λ o there is. at o.arrival (ap (λ (q : Resting). q.arrival) (sym is)) ∙ ap Some (sym is);
+    }
+
+-- ---- a row, from the best price on
+
+behind_still : (side : Side) (last : Option Resting) (best o : Resting) → is_behind side last best ≡ true → is_preferred side best o ≡ true → is_behind side last o ≡ true
+behind_still side None best o behind later = refl
+behind_still side (Some last) best o behind later = preferred_trans side last best o behind later
+
+-- an order that is no better crosses no more
+worse_crosses : (side : Side) (price best : ℕ) (top : Option ℕ) → is_better (opposite side) price best ≡ false → crosses_top side price top ≡ true → crosses_top side best top ≡ true
+worse_crosses side price best None worse cross = absurd (false≢true cross)
+worse_crosses Buy price best (Some top) worse cross = le-leb top best (omega (arith, ltb-false best price worse, leb-true top price cross))
+worse_crosses Sell price best (Some top) worse cross = le-leb best top (omega (arith, ltb-false price best worse, leb-true price top cross))
+
+-- a better order is preferred
+not_better : (side : Side) (o best : Resting) → is_preferred side o best ≡ false → is_better side o.price best.price ≡ false
+not_better side o best fails =
+    false_from_ne_true (is_better side o.price best.price)
+    (λ better. false≢true (sym fails ∙ or_left (is_better side o.price best.price) (eqb o.price best.price && ltb o.arrival best.arrival) better))
+
+filter_most : (p q : Resting → Bool) (xs : List Resting) → ((y : Resting) → p y ≡ true → q y ≡ true) → length (filter p xs) ≤ length (filter q xs)
+filter_most p q [] less = omega arith
+filter_most p q (y ∷ ys) less =
+    let rest : length (filter p ys) ≤ length (filter q ys) = filter_most p q ys less in
+    elim (cases_Bool (p y)) [
+      | inl p_yes ↦ let q_yes : q y ≡ true = less y p_yes in rw (p_yes, q_yes) (omega arith)
+      | inr p_no ↦ elim (cases_Bool (q y)) [ inl q_yes ↦ rw (p_no, q_yes) (omega arith) | inr q_no ↦ rw (p_no, q_no) rest ]
+    ]
+
+-- a test that passes fewer
+filter_fewer : (p q : Resting → Bool) (xs : List Resting) (x : Resting) → ((y : Resting) → p y ≡ true → q y ≡ true) → Among x xs → p x ≡ false → q x ≡ true → length (filter p xs) < length (filter q xs)
+filter_fewer p q [] x less there fails passes = absurd there
+filter_fewer p q (y ∷ ys) x less (inl is) fails passes =
+    let rest : length (filter p ys) ≤ length (filter q ys) = filter_most p q ys less in
+    let p_no : p y ≡ false = ap p (sym is) ∙ fails in
+    let q_yes : q y ≡ true = ap q (sym is) ∙ passes in
+    rw (p_no, q_yes) (omega arith)
+filter_fewer p q (y ∷ ys) x less (inr later) fails passes =
+    let rest : length (filter p ys) < length (filter q ys) = filter_fewer p q ys x less later fails passes in
+    elim (cases_Bool (p y)) [
+      | inl p_yes ↦ let q_yes : q y ≡ true = less y p_yes in rw (p_yes, q_yes) (omega arith)
+      | inr p_no ↦ elim (cases_Bool (q y)) [ inl q_yes ↦ rw (p_no, q_yes) (omega arith) | inr q_no ↦ rw (p_no, q_no) rest ]
+    ]
+
+module _ (bank before : ℕ) (side : Side) (tops : Tops) (orders : List Resting) (rising : EachPair ArrivesBefore orders) (last : before ≡ 2 ^ 64 - 1) where
+  row : Option Place → List Resting
+  row past = owned side bank before past orders
+
+  in_row : (past : Option Place) (o : Resting) → Among o orders → IsEarlyOf bank side tops o → is_behind (opposite side) (option_map standing_at past) o ≡ true → Among o (owned side bank before past orders)
+  in_row past o there is behind =
+      let a : Bool = is_opposite (opposite side) o.side in
+      let b : Bool = is_of bank o in
+      let e : Bool = ltb o.arrival before in
+      among_filter (is_owned (opposite side) bank before past) orders o there
+      (and_from (a && b && e) (is_behind (opposite side) (option_map standing_at past) o)
+      (and_from (a && b) e
+      (and_from a b (subst (λ (s : Side). is_opposite (opposite side) s ≡ true) (sym is.side_is) (opposite_side side)) (eq-eqb o.bank bank is.live.owner))
+      (lt-ltb o.arrival before (omega (arith, is.early, last)))) behind)
+
+  pub row-none : (gathered : BTreeMap ℕ Resting) → Gathers (IsPassed bank side tops None) orders gathered gathered
+  row-none gathered = gathers-none (IsPassed bank side tops None) orders gathered (λ o there is. false≢true (sym is.1))
+
+  pub row-all : (past : Option Place) (a b : BTreeMap ℕ Resting) → owned side bank before past orders ≡ [] → Gathers (IsPassed bank side tops past) orders a b → Gathers (IsEarlyOf bank side tops) orders a b
+  row-all past a b none =
+      gathers-same (IsPassed bank side tops past) (IsEarlyOf bank side tops) orders a b (λ o there is. is.0)
+      (λ o there is. (is, false_from_ne_true (is_behind (opposite side) (option_map standing_at past) o) (λ behind. subst (λ (os : List Resting). Among o os) none (in_row past o there is behind))))
+
+  -- what is known of the best one
+  record IsFirst (past : Option Place) (best : Resting) : Type 0 where
+    rests : Among best orders
+    side_is : best.side ≡ side
+    owner : best.bank ≡ bank
+    early : best.arrival < 2 ^ 64 - 1
+    behind : is_behind (opposite side) (option_map standing_at past) best ≡ true
+
+  first_is : (past : Option Place) (best : Resting) → Among best (owned side bank before past orders) → IsFirst past best
+  first_is past best there =
+      let a : Bool = is_opposite (opposite side) best.side in
+      let b : Bool = is_of bank best in
+      let e : Bool = ltb best.arrival before in
+      let found = Among-filter (is_owned (opposite side) bank before past) orders best there in
+      let three = and_parts (a && b && e) (is_behind (opposite side) (option_map standing_at past) best) found.1 in
+      let two = and_parts (a && b) e three.0 in
+      let one = and_parts a b two.0 in
+      record {
+        rests = found.0;
+        side_is = opposite_is (opposite side) best.side one.0 ∙ opposite_twice side;
+        owner = eqb-true best.bank bank one.1;
+        early = omega (arith, ltb-true best.arrival before two.1, last);
+        behind = three.1;
+      }
+
+  -- the best one does not cross, nor do those behind it
+  pub row-rest : (past : Option Place) (best : Resting) (a b : BTreeMap ℕ Resting) → IsBest (opposite side) (owned side bank before past orders) best → crosses_tops tops best ≡ false → Gathers (IsPassed bank side tops past) orders a b → Gathers (IsEarlyOf bank side tops) orders a b
+  row-rest past best a b is_best apart =
+      gathers-same (IsPassed bank side tops past) (IsEarlyOf bank side tops) orders a b (λ o there is. is.0)
+      (λ o there is. (
+        is,
+        false_from_ne_true (is_behind (opposite side) (option_map standing_at past) o) (λ behind.
+            let first = first_is past best is_best.there in
+            let worse : is_better (opposite side) o.price best.price ≡ false = not_better (opposite side) o best
+            (Each-among (λ other. is_preferred (opposite side) other best ≡ false) (owned side bank before past orders) o is_best.first (in_row past o there is behind)) in
+            let at : Side → ℕ → Bool = λ s price. crosses_top s price (top_of tops (opposite s)) in
+            both_ways (crosses_tops tops best) apart
+            (subst (λ (s : Side). at s best.price ≡ true) (sym first.side_is)
+            (worse_crosses side o.price best.price (top_of tops (opposite side)) worse (subst (λ (s : Side). at s o.price ≡ true) is.side_is is.live.crosses)))),
+      ))
+
+  -- the best one is put in
+  pub row-more : (past : Option Place) (best : Resting) (place : Place) (a b c : BTreeMap ℕ Resting) → IsBest (opposite side) (owned side bank before past orders) best → IsPlaceOf best place → crosses_tops tops best ≡ true
+      → ((q : ℕ) → get nat_cmp c q ≡ cond (is_eq (nat_cmp best.arrival q)) (Some best) (get nat_cmp b q))
+      → Gathers (IsPassed bank side tops past) orders a b → Gathers (IsPassed bank side tops (Some place)) orders a c
+  row-more past best place a b c is_best is_place cross update passed =
+      let taker : Side = opposite side in
+      let first = first_is past best is_best.there in
+      let beyond : (o : Resting) → is_behind taker (Some (standing_at place)) o ≡ is_preferred taker best o = λ o. behind-place taker best place o is_place in
+      gathers-both (IsPassed bank side tops past) (λ o. o ≡ best) (IsPassed bank side tops (Some place)) orders a b c
+      (λ o either. elim either [
+        | inl is ↦ (
+          is.0,
+          false_from_ne_true (is_behind taker (Some (standing_at place)) o) (λ behind.
+              both_ways (is_behind taker (option_map standing_at past) o) is.1
+              (behind_still taker (option_map standing_at past) best o first.behind (sym (beyond o) ∙ behind))),
+        )
+        | inr same ↦ subst (IsPassed bank side tops (Some place)) (sym same) (
+          record { live = record { owner = first.owner; crosses = cross }; side_is = first.side_is; early = first.early },
+          false_from_ne_true (is_behind taker (Some (standing_at place)) best) (λ behind. preferred_self taker best (sym (beyond best) ∙ behind)),
+        )
+      ])
+      (λ o there is. elim (cases_Bool (is_behind taker (option_map standing_at past) o)) [
+        | inl behind ↦
+            let no_better : is_preferred taker o best ≡ false =
+            Each-among (λ other. is_preferred taker other best ≡ false) (owned side bank before past orders) o is_best.first (in_row past o there is.0 behind) in
+            inr (rising_same orders o best rising there first.rests (preferred_neither taker o best no_better (sym (beyond o) ∙ is.1)))
+        | inr not_behind ↦ inl (is.0, not_behind)
+      ])
+      passed (gathers-one orders best b c rising first.rests update)
+
+  -- fewer are left behind the best one
+  pub row-fewer : (past : Option Place) (best : Resting) (place : Place) → IsBest (opposite side) (owned side bank before past orders) best → IsPlaceOf best place → length (owned side bank before (Some place) orders) < length (owned side bank before past orders)
+  row-fewer past best place is_best is_place =
+      let taker : Side = opposite side in
+      let first = first_is past best is_best.there in
+      let beyond : (o : Resting) → is_behind taker (Some (standing_at place)) o ≡ is_preferred taker best o = λ o. behind-place taker best place o is_place in
+      let front : Resting → Bool = λ o. is_opposite taker o.side && is_of bank o && ltb o.arrival before in
+      filter_fewer (is_owned taker bank before (Some place)) (is_owned taker bank before past) orders best
+      (λ o is.
+      let both = and_parts (front o) (is_behind taker (Some (standing_at place)) o) is in
+      and_from (front o) (is_behind taker (option_map standing_at past) o) both.0
+      (behind_still taker (option_map standing_at past) best o first.behind (sym (beyond o) ∙ both.1)))
+      first.rests
+      (and_right (front best) (is_behind taker (Some (standing_at place)) best)
+      (false_from_ne_true (is_behind taker (Some (standing_at place)) best) (λ behind. preferred_self taker best (sym (beyond best) ∙ behind))))
+      (Among-filter (is_owned taker bank before past) orders best is_best.there).1
+
+-- ---- a bank
+
+none_some : (o : Resting) → None ≡ Some o → ⊥
+none_some o is = cc
+
+first_there : (xs : List Resting) (o : Resting) → Among o xs → first xs ≡ None → ⊥
+first_there [] o there none = there
+first_there (x ∷ xs) o there none = absurd (cc)
+
+late_in : (bank last : ℕ) (tops : Tops) (orders : List Resting) (o : Resting) → last ≡ 2 ^ 64 - 1 → Among o orders → IsLateOf bank tops o → Among o (filter (is_of_from bank last) orders)
+late_in bank last tops orders o last_is there is =
+    among_filter (is_of_from bank last) orders o there
+    (and_from (eqb o.bank bank) (leb last o.arrival) (eq-eqb o.bank bank is.live.owner) (le-leb last o.arrival (omega (arith, is.late, last_is))))
+
+-- a bank's first order from an arrival on
+from_found : (bank last : ℕ) (orders : List Resting) (x : Resting) → first (filter (is_of_from bank last) orders) ≡ Some x → Among x orders × (x.bank ≡ bank) × (last ≤ x.arrival)
+from_found bank last orders x found =
+    let kept = Among-filter (is_of_from bank last) orders x (first_among (filter (is_of_from bank last) orders) x found) in
+    let both = and_parts (eqb x.bank bank) (leb last x.arrival) kept.1 in
+    (kept.0, eqb-true x.bank bank both.0, leb-true last x.arrival both.1)
+
+-- no two orders arrived last of all
+late_same : (bank last : ℕ) (tops : Tops) (book : Book) (x o : Resting) → last ≡ 2 ^ 64 - 1 → IsBook book → first (filter (is_of_from bank last) book.orders) ≡ Some x → Among o book.orders → IsLateOf bank tops o → o ≡ x
+late_same bank last tops book x o last_is valid found there is =
+    let of = from_found bank last book.orders x found in
+    let x_held : IsHeld book.banks x = Each-among (IsHeld book.banks) book.orders x valid.held of.0 in
+    let o_held : IsHeld book.banks o = Each-among (IsHeld book.banks) book.orders o valid.held there in
+    rising_same book.orders o x valid.rising there of.0 (omega (arith, of.2, last_is, is.late, x_held.arrival_most, o_held.arrival_most))
+
+-- the order that arrived last of all, if it is a bank's
+pub late-none : (bank last : ℕ) (tops : Tops) (orders : List Resting) (gathered : BTreeMap ℕ Resting) → last ≡ 2 ^ 64 - 1 → first (filter (is_of_from bank last) orders) ≡ None → Gathers (IsLateOf bank tops) orders gathered gathered
+late-none bank last tops orders gathered last_is none =
+    gathers-none (IsLateOf bank tops) orders gathered
+    (λ o there is. first_there (filter (is_of_from bank last) orders) o (late_in bank last tops orders o last_is there is) none)
+
+pub late-apart : (bank last : ℕ) (tops : Tops) (book : Book) (x : Resting) (gathered : BTreeMap ℕ Resting) → last ≡ 2 ^ 64 - 1 → IsBook book → first (filter (is_of_from bank last) book.orders) ≡ Some x → crosses_tops tops x ≡ false → Gathers (IsLateOf bank tops) book.orders gathered gathered
+late-apart bank last tops book x gathered last_is valid found apart =
+    gathers-none (IsLateOf bank tops) book.orders gathered
+    (λ o there is. both_ways (crosses_tops tops x) apart (ap (crosses_tops tops) (sym (late_same bank last tops book x o last_is valid found there is)) ∙ is.live.crosses))
+
+pub late-one : (bank last : ℕ) (tops : Tops) (book : Book) (x : Resting) (old new : BTreeMap ℕ Resting) → last ≡ 2 ^ 64 - 1 → IsBook book → first (filter (is_of_from bank last) book.orders) ≡ Some x → crosses_tops tops x ≡ true
+    → ((q : ℕ) → get nat_cmp new q ≡ cond (is_eq (nat_cmp x.arrival q)) (Some x) (get nat_cmp old q)) → Gathers (IsLateOf bank tops) book.orders old new
+late-one bank last tops book x old new last_is valid found cross update =
+    let is = from_found bank last book.orders x found in
+    gathers-same (λ o. o ≡ x) (IsLateOf bank tops) book.orders old new
+    (λ o there same. subst (IsLateOf bank tops) (sym same) (record { live = record { owner = is.1; crosses = cross }; late = omega (arith, is.2, last_is) }))
+    (λ o there late. late_same bank last tops book x o last_is valid found there late)
+    (gathers-one book.orders x old new valid.rising is.0 update)
+
+-- ---- in the order of their arrivals
+
+-- an order arrived before another
+abbrev Earlier : Resting → Resting → Type 0
+Earlier a b = a.arrival < b.arrival
+
+-- two lists by arrival that have the same orders
+same_rising : (xs ys : List Resting) → EachPair Earlier xs → EachPair Earlier ys → ((o : Resting) → Among o xs → Among o ys) → ((o : Resting) → Among o ys → Among o xs) → xs ≡ ys
+same_rising [] [] r s there back = refl
+same_rising [] (y ∷ ys) r s there back = absurd (back y (inl refl))
+same_rising (x ∷ xs) [] r s there back = absurd (there x (inl refl))
+same_rising (x ∷ xs) (y ∷ ys) r s there back =
+    let same : x ≡ y = elim (there x (inl refl)) [
+      | inl is ↦ is
+      | inr x_later ↦ elim (back y (inl refl)) [
+        | inl is ↦ sym is
+        | inr y_later ↦ absurd (omega (arith, Each-among (Earlier y) ys x s.0 x_later, Each-among (Earlier x) xs y r.0 y_later))
+      ]
+    ] in
+    ap (λ o. o ∷ xs) same
+    ∙ ap (λ (os : List Resting). y ∷ os)
+    (same_rising xs ys r.1 s.1
+    (λ o later. elim (there o (inr later)) [
+      | inl is ↦ absurd (omega (arith, Each-among (Earlier x) xs o r.0 later, ap (λ (q : Resting). q.arrival) (is ∙ sym same)))
+      | inr behind ↦ behind
+    ])
+    (λ o later. elim (back o (inr later)) [
+      | inl is ↦ absurd (omega (arith, Each-among (Earlier y) ys o s.0 later, ap (λ (q : Resting). q.arrival) (is ∙ same)))
+      | inr behind ↦ behind
+    ]))
+
+pairs_weaker : (P Q : Resting → Resting → Type 0) → ((a b : Resting) → P a b → Q a b) → (xs : List Resting) → EachPair P xs → EachPair Q xs
+pairs_weaker P Q weaker [] pairs = tt
+pairs_weaker P Q weaker (x ∷ xs) pairs = (Each-weaker (P x) (Q x) (weaker x) xs pairs.0, pairs_weaker P Q weaker xs pairs.1)
+
+each_all : (P : ℕ × Resting → Type 0) (es : List (ℕ × Resting)) → All P es → Each P es
+each_all P [] all = tt
+each_all P (e ∷ es) all = (all 0 e (omega arith), each_all P es (λ k d within. all (suc k) d (omega (arith, within))))
+
+less_of : (a b : ℕ) → nat_cmp a b ≡ Less → a < b
+less_of a b is = ranked a b Less (sym is)
+
+head_below : (k : ℕ) (es : List (ℕ × Resting)) → AllByRecursion (λ y. nat_cmp k y ≡ Less) (map (λ e. e.0) es) → Each (λ (e : ℕ × Resting). e.1.arrival ≡ e.0) es → Each (λ (o : Resting). k < o.arrival) (map (λ e. e.1) es)
+head_below k [] below keyed = tt
+head_below k (e ∷ es) below keyed = (omega (arith, less_of k e.0 below.0, keyed.0), head_below k es below.1 keyed.1)
+
+entries_rising : (es : List (ℕ × Resting)) → IsStrictlySortedBy nat_cmp (map (λ e. e.0) es) → Each (λ (e : ℕ × Resting). e.1.arrival ≡ e.0) es → EachPair Earlier (map (λ e. e.1) es)
+entries_rising [] sorted keyed = tt
+entries_rising (e ∷ es) sorted keyed = (
+  Each-weaker (λ (o : Resting). e.0 < o.arrival) (Earlier e.1) (λ o below. omega (arith, below, keyed.0)) (map (λ e. e.1) es)
+      (head_below e.0 es (sorted_head nat_cmp e.0 (map (λ e. e.0) es) sorted) keyed.1),
+  entries_rising es (sorted_tail nat_cmp e.0 (map (λ e. e.0) es) sorted) keyed.1,
+)
+
+-- what a look-up finds is a value
+found_value : (test : ℕ → Bool) (es : List (ℕ × Resting)) (o : Resting) → lookup test es ≡ Some o → Among o (map (λ e. e.1) es)
+found_value test [] o is = cc
+found_value test (e ∷ es) o is =
+    elim (cases_Bool (test e.0)) [
+      | inl here ↦ inl (sym (some_same e.1 o (sym (cond-true (test e.0) (Some e.1) (lookup test es) here) ∙ is)))
+      | inr later ↦ inr (found_value test es o (sym (cond-false (test e.0) (Some e.1) (lookup test es) later) ∙ is))
+    ]
+
+-- the live turns are the orders of the two banks that cross the other's best price
+live-among : (book : Book) (i j : ℕ) (tops_i tops_j : Tops) (o : Resting) → i ≢ j → IsBook book → Among o book.orders → IsLiveOf i tops_j o ⊎ IsLiveOf j tops_i o → Among o (live_turns i j tops_i tops_j 0 book.orders)
+live-among book i j tops_i tops_j o differ valid there is =
+    let held : IsHeld book.banks o = Each-among (IsHeld book.banks) book.orders o valid.held there in
+    let two : is_of_two i j o ≡ true = owner-two i j o (elim is [ inl one ↦ inl one.owner | inr other ↦ inr other.owner ]) in
+    let live : is_live i tops_i tops_j o ≡ true = elim is [
+      | inl one ↦ ap (λ (ts : Tops). crosses_tops ts o) (cond-true (eqb o.bank i) tops_j tops_i (eq-eqb o.bank i one.owner)) ∙ one.crosses
+      | inr other ↦ ap (λ (ts : Tops). crosses_tops ts o) (cond-false (eqb o.bank i) tops_j tops_i (ne_eqb o.bank i (λ same. differ (sym same ∙ other.owner)))) ∙ other.crosses
+    ] in
+    among_filter (is_live i tops_i tops_j) (turns i j 0 book.orders) o
+    (among_filter (λ (q : Resting). ltb q.arrival (2 ^ 64) && is_of_two_from i j 0 q) book.orders o there
+    (and_from (ltb o.arrival (2 ^ 64)) (is_of_two_from i j 0 o) (lt-ltb o.arrival (2 ^ 64) held.arrival_most)
+    (and_from (is_of_two i j o) (leb 0 o.arrival) two (le-leb 0 o.arrival (omega arith))))) live
+
+among-live : (book : Book) (i j : ℕ) (tops_i tops_j : Tops) (o : Resting) → i ≢ j → Among o (live_turns i j tops_i tops_j 0 book.orders) → Among o book.orders × (IsLiveOf i tops_j o ⊎ IsLiveOf j tops_i o)
+among-live book i j tops_i tops_j o differ there =
+    let live = Among-filter (is_live i tops_i tops_j) (turns i j 0 book.orders) o there in
+    let turn = Among-filter (λ (q : Resting). ltb q.arrival (2 ^ 64) && is_of_two_from i j 0 q) book.orders o live.0 in
+    let from = and_parts (ltb o.arrival (2 ^ 64)) (is_of_two_from i j 0 o) turn.1 in
+    let two = and_parts (is_of_two i j o) (leb 0 o.arrival) from.1 in (
+      turn.0,
+      elim (two-owner i j o two.0) [
+        | inl is ↦ inl (record {
+          owner = is;
+          crosses = ap (λ (ts : Tops). crosses_tops ts o) (sym (cond-true (eqb o.bank i) tops_j tops_i (eq-eqb o.bank i is))) ∙ live.1;
+        })
+        | inr is ↦ inr (record {
+          owner = is;
+          crosses = ap (λ (ts : Tops). crosses_tops ts o) (sym (cond-false (eqb o.bank i) tops_j tops_i (ne_eqb o.bank i (λ same. differ (sym same ∙ is))))) ∙ live.1;
+        })
+      ],
+    )
+
+-- what is gathered of two banks is, in order, the live turns
+pub gathered-turns : (i j : ℕ) (tops_i tops_j : Tops) (book : Book) (empty one gathered : BTreeMap ℕ Resting) → i ≢ j → IsBook book → IsOrdered nat_cmp gathered → ((q : ℕ) → get nat_cmp empty q ≡ None)
+    → Gathers (IsLiveOf i tops_j) book.orders empty one → Gathers (IsLiveOf j tops_i) book.orders one gathered → values gathered ≡ live_turns i j tops_i tops_j 0 book.orders
+gathered-turns i j tops_i tops_j book empty one gathered differ valid ordered none first_bank second_bank =
+    let orders : List Resting = book.orders in
+    let Live : Resting → Type 0 = λ o. IsLiveOf i tops_j o ⊎ IsLiveOf j tops_i o in
+    let all : Gathers Live orders empty gathered = gathers-both (IsLiveOf i tops_j) (IsLiveOf j tops_i) Live orders empty one gathered (λ o is. is) (λ o there is. is) first_bank second_bank in
+    let found : Each (λ (e : ℕ × Resting). get nat_cmp gathered e.0 ≡ Some e.1) gathered.entries = each_all (λ e. get nat_cmp gathered e.0 ≡ Some e.1) gathered.entries (All-found nat_cmp_total gathered ordered) in
+    let kept : (e : ℕ × Resting) → get nat_cmp gathered e.0 ≡ Some e.1 → (e.1.arrival ≡ e.0) × Among e.1 orders × Live e.1 = λ e is. elim (all.only e.0 e.1 is) [
+      | inl old ↦ absurd (none_some e.1 (sym (none e.0) ∙ old))
+      | inr new ↦ new
+    ] in
+    let keyed : Each (λ (e : ℕ × Resting). e.1.arrival ≡ e.0) gathered.entries =
+    Each-weaker (λ (e : ℕ × Resting). get nat_cmp gathered e.0 ≡ Some e.1) (λ (e : ℕ × Resting). e.1.arrival ≡ e.0) (λ e is. (kept e is).0) gathered.entries found in
+    same_rising (values gathered) (live_turns i j tops_i tops_j 0 orders)
+    (entries_rising gathered.entries ordered keyed)
+    (pairs_weaker ArrivesBefore Earlier (λ a b is. is.arrival) (live_turns i j tops_i tops_j 0 orders) (live-turns book i j tops_i tops_j valid).rising)
+    (λ o there.
+    let e = Among-map (λ (e : ℕ × Resting). e.1) gathered.entries o there in
+    let it = kept e.0 (Each-among (λ (e : ℕ × Resting). get nat_cmp gathered e.0 ≡ Some e.1) gathered.entries e.0 found e.1) in
+    subst (λ (q : Resting). Among q (live_turns i j tops_i tops_j 0 orders)) (sym e.2) (live-among book i j tops_i tops_j e.0.1 differ valid it.1 it.2))
+    (λ o there.
+    let it = among-live book i j tops_i tops_j o differ there in
+    found_value (λ q. is_eq (nat_cmp o.arrival q)) gathered.entries o (all.all o it.0 it.1))
