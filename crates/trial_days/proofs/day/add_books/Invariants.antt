@@ -1,0 +1,6 @@
+use Rattle.fx_rules.specs.Lists.{Each}
+use Rattle.fx_rules.specs.Sending.{IsSentOf}
+use Rattle.trial_days.proofs.day.add_books.Given as goal
+
+abbrev pub invariant-loop-number : goal.invariant-loop-number
+invariant-loop-number l = Each (IsSentOf l.session) l.sent.items
