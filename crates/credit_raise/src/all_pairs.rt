@@ -23,7 +23,7 @@ use std::alloc::Global;
 use std::marker::{Brand, Model};
 use std::sync::ledger::{Blank, Ledger};
 
-/// A bank's line command under way: its limit is set, and pairs have had their turns, in the order of the header. It
+/// A bank's credit change under way: its limit is set, and pairs have had their turns, in the order of the header. It
 /// changes no lines and no book, but holds what is to be made of them.
 #[derive(Drop)]
 pub struct Raising {
@@ -53,7 +53,7 @@ impl Model for Raising {
 }
 
 impl Raising {
-    /// A bank's line command on another bank before the first pair's turn, by the lines as they stand. It takes no memory.
+    /// A bank's credit change on another bank before the first pair's turn, by the lines as they stand. It takes no memory.
     /// In the state of every legal history that the lines are of it is under way.
     pub fn open(
         alloc: Global,

@@ -81,7 +81,7 @@ turned-made h pair S orders fills sound some =
 pairs-made : (h : Header) (pairs pair : ℕ) (S : State) (fills : List Fill) → IsSession h → pair + pairs ≤ pair_count h → IsSound h S → PairsTurned h pairs pair S fills → AreMade h S fills
 pairs-made h = pairs-walk h (AreMade h) (λ _ _. tt) (made-append h) (swept-made h)
 
--- The state in which a command's fills are made: a line command has set its limit.
+-- The state in which a command's fills are made: a credit change has set its limit.
 abbrev pub limit_made : State → ℕ → Command → Outcome → State
 limit_made S bank (Line other asked) (LineSet limit fills) = limited bank other limit S
 limit_made S _ _ _ = S

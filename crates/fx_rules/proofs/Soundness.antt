@@ -153,7 +153,7 @@ ordered-sound h S bank side pair price lots Fok (Ordered done rests fills) sessi
 ordered-sound h S bank side pair price lots Fok Killed session sound sender command ordered = counted-sound h S bank sound sender
 ordered-sound h S bank side pair price lots life outcome session sound sender command ordered = absurd ordered
 
--- a line command leaves a sound state
+-- a credit change leaves a sound state
 line-sound : (h : Header) (S : State) (bank other asked : ℕ) (outcome : Outcome) → IsSession h → IsSound h S → bank < bank_count h → IsCommand h bank (Line other asked) → IsOutcome h S bank (Line other asked) outcome → IsSound h (changed S bank (Line other asked) outcome)
 line-sound h S bank other asked (LineSet limit fills) session sound sender command is =
     raised-sound h (limited bank other limit S) fills session

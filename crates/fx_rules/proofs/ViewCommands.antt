@@ -194,7 +194,7 @@ book-told h S T b pair (Depth bids asks) (Depth bids' asks') session sound sound
 book-told h S T b pair (Depth bids asks) other session sound sound_other sender within same a c = absurd c
 book-told h S T b pair one other session sound sound_other sender within same a c = absurd a
 
--- ---- line commands
+-- ---- credit changes
 
 limit_same : (h : Header) (S T : State) (b k asked limit limit' : ℕ) → view h S b ≡ view h T b → k < bank_count h → k ≢ b → limit ≡ limit_set h S b k asked → limit' ≡ limit_set h T b k asked → limit ≡ limit'
 limit_same h S T b k asked limit limit' same within differ one other =

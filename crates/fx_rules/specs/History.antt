@@ -42,7 +42,7 @@ abbrev pub own : ℕ → List Entry → List Entry
 own bank entries = filter (λ e. e.bank == bank) entries
 
 -- By an entry what the limits of two banks leave falls by the cost of the entry's fills between them, from what those limits
--- leave as they stand behind the entry. (A line command sets a limit first, and its fills use what the new limits leave.)
+-- leave as they stand behind the entry. (A credit change sets a limit first, and its fills use what the new limits leave.)
 abbrev pub Falls : Header → State → Entry → Type 0
 Falls h S e =
     (i j : ℕ) → i < bank_count h → j < bank_count h → i ≢ j →

@@ -126,7 +126,7 @@ fills_of (Ordered done rests fills) = fills
 fills_of (LineSet limit fills) = fills
 fills_of _ = []
 
--- a command may change what rests in a pair: an order, a cancel, a reduction or a pull in that pair, and a line command,
+-- a command may change what rests in a pair: an order, a cancel, a reduction or a pull in that pair, and a credit change,
 -- which goes through all pairs
 abbrev pub may_change : ℕ → Command → Bool
 may_change pair (Order side its_pair price lots life) = its_pair == pair

@@ -47,7 +47,7 @@ view h S bank = record {
 abbrev pub told_fill : Fill → Fill
 told_fill fill = record fill { maker_number = 0 }
 
--- an outcome as the sender is told of it: fills without their makers' numbers, and of a line command the limit alone
+-- an outcome as the sender is told of it: fills without their makers' numbers, and of a credit change the limit alone
 abbrev pub told : Outcome → Outcome
 told (Ordered done rests fills) = Ordered done rests (map told_fill fills)
 told (LineSet limit fills) = LineSet limit []

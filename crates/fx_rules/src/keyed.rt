@@ -15,7 +15,7 @@ pub trait Keyed {
 }
 
 /// A key below 64 is the bank of that number, 64 is kept for an operator, and 65 and above are the pairs in the session's
-/// order. An entry touches its sender and the pair of its command; a line command touches every pair, a show command and a
+/// order. An entry touches its sender and the pair of its command; a credit change touches every pair, a show command and a
 /// line that could not be read touch none.
 impl Keyed for Entry {
     ghost use Rattle.fx_rules.specs.Keyed.{touches_key};

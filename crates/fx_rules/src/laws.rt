@@ -40,7 +40,7 @@ pub fn lines_fall()
 {}
 
 /// A step from a sound state leaves the orders of every pair but the one that its command names, and a show, a local
-/// book or a line that could not be read leaves those of every pair. (A line command goes through all pairs.)
+/// book or a line that could not be read leaves those of every pair. (A credit change goes through all pairs.)
 pub fn other_pairs_stay()
     ensures stay { OtherPairsStay }
 {}

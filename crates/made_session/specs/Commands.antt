@@ -18,7 +18,7 @@ drawn_order pairs side life x = Order side (draw 1 pairs x) (9950 + draw 2 101 x
 abbrev pub other_than : ℕ → ℕ → ℕ
 other_than sender n = if nat_lt n sender then n else n + 1
 
--- a line command: the other bank and a limit of 0 to 20000 are two draws
+-- a credit change: the other bank and a limit of 0 to 20000 are two draws
 abbrev pub drawn_line : ℕ → ℕ → ℕ → Command
 drawn_line banks sender x = Line (other_than sender (draw 1 (banks - 1) x)) (1000 * draw 2 21 x)
 

@@ -25,7 +25,7 @@ use Rattle.pair_shards.specs.inside.Shards.{PairsPend}
 
 -- ---- which keys have still to sign
 
--- a line command is about every pair
+-- a credit change is about every pair
 about_pairs : (command : Command) (other asked pair : ℕ) → command ≡ Line other asked → is_about command (pair_key pair) ≡ true
 about_pairs command other asked pair is = ap (λ (c : Command). is_about c (pair_key pair)) is ∙ le-leb (pair_key 0) (pair_key pair) (omega arith)
 

@@ -175,7 +175,7 @@ impl<N: Naming> Shard<N> {
         pair_steps::carry_out(&mut self.book, sender, command, outcome);
     }
 
-    /// Has its turn in a line command under way, as the next pair: it catches up, and what the orders of the command's two banks make in
+    /// Has its turn in a credit change under way, as the next pair: it catches up, and what the orders of the command's two banks make in
     /// its book is planned. The book stays as it is. After `Memory` the command is as before.
     pub fn turn(
         &mut self,

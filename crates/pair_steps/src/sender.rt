@@ -16,7 +16,7 @@ pub struct Sender {
 }
 
 /// The pair that a command is about, where it is about one alone: an order, a cancel, a reduction, a pull or a local book.
-/// `None` of a line command, which is about all pairs, of a show command and of a bad line.
+/// `None` of a credit change, which is about all pairs, of a show command and of a bad line.
 pub fn pair_of(command: &Command) -> Option<PairId>
     ensures value { result ≡ sending.pair_of command.now }
 {
