@@ -51,7 +51,7 @@ impl Chunks {
         self.count == 0
     }
 
-    /// Makes room for so many places more.
+    /// Makes room for so many places more, and for some beside them, so that the chunks are seldom looked through.
     pub(crate) fn reserve(&mut self, places: usize) -> Result<(), Memory>
         requires laid { IsLaidOut self.old }
         ensures laid { IsLaidOut self.new }
@@ -64,7 +64,8 @@ impl Chunks {
         if needed <= self.most {
             return Ok(());
         }
-        let most = needed.max(self.most.saturating_mul(2).min(CHUNK));
+        let more = self.most.min(CHUNK / 2);
+        let most = needed.max(self.most.saturating_add(more));
         self.widen(most.min(CHUNK))?;
         self.add_spares(chunks_for(most), most.min(CHUNK))?;
         self.most = most;
