@@ -18,7 +18,7 @@ use Rattle.access_index.specs.Owned.{row_at, stands_behind}
 use Rattle.access_index.proofs.Rows.{bank_within}
 use Rattle.order_store.specs.Levels.{is_at, slot_lots, lots_where}
 use Rattle.order_store.specs.Orders.{Orders, order_at}
-use Rattle.global_book.specs.Book.{IsLevel, IsLevelOf, is_level, is_of, is_worse, is_worse_of, level_lots}
+use Rattle.global_book.specs.Book.{IsLevel, IsLevelOf, IsPriceOf, is_level, is_of, is_worse, is_worse_of, level_lots}
 use Rattle.global_book.specs.inside.Rows.{flat, placed, place_in, its_price, is_own, IsKept}
 use Rattle.global_book.specs.inside.Search.{end_of}
 use Rattle.global_book.proofs.Flat.{among_flat, flat_among}
@@ -152,3 +152,11 @@ module _ (banks : ℕ) (orders : Orders) (own : List OwnRows) (owners : List Lad
             ]);
         lots = lots_are ∙ sym (flat_lots (is_at bank side first.price) orders.slots) ∙ ap (level_lots (opposite side) bank first.price) seen;
       }
+
+  -- the same of the price alone
+  pub price_found : (found : Option Place) (first : Place) (resting : List Resting) → found ≡ Some first → IsFirstOf (stands_behind side (option_map end_of past)) side (row_at own bank side).places found
+      → flat orders.slots ≡ resting → IsPriceOf (opposite side) bank past resting (Some first.price)
+  price_found found first resting is_found is seen =
+      let lots : ℕ = lots_where (is_at bank side first.price) orders.slots in
+      let level : IsLevel (opposite side) bank past resting (first.price, lots) = next_found found first lots resting is_found is seen refl in
+      subst (λ (n : ℕ). IsLevel (opposite side) bank past resting (first.price, n)) level.lots level

@@ -129,6 +129,14 @@ abbrev pub IsLevelOf : Side → ℕ → Option ℕ → List Resting → Option (
 IsLevelOf taker bank past orders None = Each (λ order. is_worse_of taker bank past order ≡ false) orders
 IsLevelOf taker bank past orders (Some level) = IsLevel taker bank past orders level
 
+-- the level at a price: with it all lots that the bank has there
+abbrev pub level_at : Side → ℕ → List Resting → ℕ → ℕ × ℕ
+level_at taker bank orders price = (price, level_lots taker bank price orders)
+
+-- the price of such a level, or there is none
+abbrev pub IsPriceOf : Side → ℕ → Option ℕ → List Resting → Option ℕ → Type 0
+IsPriceOf taker bank past orders price = IsLevelOf taker bank past orders (option_map (level_at taker bank orders) price)
+
 -- a bank has an order among these
 abbrev pub Owns : ℕ → List Resting → Type 0
 Owns bank orders = (order : Resting) × Among order orders × (order.bank ≡ bank)

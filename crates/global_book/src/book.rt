@@ -5,7 +5,7 @@ ghost use Rattle.fx_amounts.specs.Price.{crosses};
 ghost use Rattle.fx_amounts.specs.Side.{opposite};
 ghost use Rattle.fx_rules.specs.Lists.{Each};
 ghost use Rattle.fx_rules.specs.Sweep.{IsBest, is_order};
-ghost use Rattle.global_book.specs.Book.{AreInTime, AreOwners, HasRoom, IsLevelOf, KeepsRoom, IsBook, IsPlaceOf, Rests, RestsAbove, first, is_of, is_of_from, TakesRoom, owned, relotted, sought};
+ghost use Rattle.global_book.specs.Book.{AreInTime, AreOwners, HasRoom, IsLevelOf, KeepsRoom, IsBook, IsPlaceOf, IsPriceOf, Rests, RestsAbove, first, is_of, is_of_from, level_lots, TakesRoom, owned, relotted, sought};
 ghost use Rattle.global_book.specs.inside.Search.{end_of};
 ghost use Rattle.global_book.specs.inside.Rows.{IsEmptyRow, place_in, its_price};
 
@@ -292,6 +292,34 @@ impl PairBook {
             return Some((self.orders.get(OrderKey(front.key)), front));
         }
         None
+    }
+
+    /// The best price, worse than `past` where there is one, at which a bank has orders of a side; `None` where there is no
+    /// such price. One step at most.
+    pub fn next_price<L: Ledger>(
+        &self,
+        bank: BankId,
+        side: Side,
+        past: Option<Price>,
+        steps: &mut Steps<L>,
+    ) -> Option<Price>
+        ensures price { IsPriceOf (opposite side) bank past self.now.orders result }
+        ensures steps { steps.new ≤ steps.old + 1 }
+        ensures valid { IsBook self.now }
+    {
+        let end = end_of(past);
+        let place = self
+            .price_rows
+            .first_behind(bank, side, end.as_ref(), steps)?;
+        Some(place.price)
+    }
+
+    /// All lots that a bank's orders of a side have left at a price.
+    pub fn lots_at(&self, bank: BankId, side: Side, price: Price) -> u128
+        ensures lots { result ≡ level_lots (opposite side) bank price self.now.orders }
+        ensures valid { IsBook self.now }
+    {
+        self.orders.lots_at(bank, side, price)
     }
 
     /// The best price, worse than `past` where there is one, at which a bank has orders of a side, and all lots that they

@@ -17,7 +17,7 @@ use Rattle.fx_rules.proofs.Existing.{planned-exists}
 use Rattle.fx_rules.proofs.ListLemmas.{Among-filter, Each-among, total-append}
 use Rattle.fx_rules.proofs.Opens.{IsOpen, is_open-says}
 use Rattle.fx_rules.proofs.Planning.{open_parts}
-use Rattle.global_book.specs.Book.{Book, IsBook, IsHeld, IsLevelOf, is_of, is_worse, is_worse_of}
+use Rattle.global_book.specs.Book.{Book, IsBook, IsHeld, IsPriceOf, is_of, is_worse, is_worse_of}
 use Rattle.credit_lines.specs.Credit.{Credit, line_in}
 use Rattle.match_sweep.specs.declared.reached.LevelWalk.{LevelWalk}
 use Rattle.match_sweep.specs.Reaches.{IsReached, IsUnlimited}
@@ -148,22 +148,22 @@ module _ (book : Book) (valid : IsBook book) where
 
   -- its bank's head is no worse
   record HasHead (walk : LevelWalk) (order : Resting) : Type 0 where
-    pub head : ℕ × ℕ
-    pub is : price_of walk order.bank ≡ Some head.0
-    pub first : is_better walk.taker order.price head.0 ≡ false
+    pub head : ℕ
+    pub is : price_of walk order.bank ≡ Some head
+    pub first : is_better walk.taker order.price head ≡ false
 
   has_head : (walk : LevelWalk) (t : Taker) (order : Resting) → IsWeight walk.weight → book.banks ≤ 64 → t.side ≡ walk.taker → HaveLevels book walk → OpenHere t walk.lines walk.weight walk.last order → HasHead walk order
   has_head walk t order weighs few side have here =
-      let level : IsLevelOf walk.taker order.bank walk.last book.orders (head_of walk order.bank) = have order.bank (omega (arith, here.bank, few)) here.is_open.reach in
+      let level : IsPriceOf walk.taker order.bank walk.last book.orders (head_of walk order.bank) = have order.bank (omega (arith, here.bank, few)) here.is_open.reach in
       let passes : is_worse_of walk.taker order.bank walk.last order ≡ true = subst (λ (s : Side). is_worse_of s order.bank walk.last order ≡ true) side here.passes in
       let pay : walk.weight ≤ slice_index walk.lines order.bank = paid_for (slice_index walk.lines order.bank) walk.weight weighs here.is_open.reach in
-      let answer : (found : Option (ℕ × ℕ)) → head_of walk order.bank ≡ found → IsLevelOf walk.taker order.bank walk.last book.orders found → HasHead walk order = λ found.
-      elim found as (λ (f : Option (ℕ × ℕ)). head_of walk order.bank ≡ f → IsLevelOf walk.taker order.bank walk.last book.orders f → HasHead walk order) [
+      let answer : (found : Option ℕ) → head_of walk order.bank ≡ found → IsPriceOf walk.taker order.bank walk.last book.orders found → HasHead walk order = λ found.
+      elim found as (λ (f : Option ℕ). head_of walk order.bank ≡ f → IsPriceOf walk.taker order.bank walk.last book.orders f → HasHead walk order) [
         | None ↦ λ _ none. absurd (both_ways (is_worse_of walk.taker order.bank walk.last order) (Each-among (λ (q : Resting). is_worse_of walk.taker order.bank walk.last q ≡ false) book.orders order none here.there) passes)
         | Some head ↦ λ is some. record {
           head = head;
           is = price_there walk order.bank head pay is;
-          first = Each-among (λ (q : Resting). is_worse_of walk.taker order.bank walk.last q ≡ true → is_better walk.taker q.price head.0 ≡ false) book.orders order some.first here.there passes;
+          first = Each-among (λ (q : Resting). is_worse_of walk.taker order.bank walk.last q ≡ true → is_better walk.taker q.price head ≡ false) book.orders order some.first here.there passes;
         }
       ] in
       answer (head_of walk order.bank) refl level
@@ -177,8 +177,8 @@ module _ (book : Book) (valid : IsBook book) where
       none_among (open_behind (λ bank. get_or walk.lines bank 0 / walk.weight) t (past_order walk.last) book.orders) (λ order there.
       let here = open_here t walk.lines walk.weight walk.last order there in
       let head = has_head walk t order weighs few side have here in
-      let no' : None ≡ Some head.head.0 = sym (best order.bank (omega (arith, here.bank, few))) ∙ head.is in
-      some_none head.head.0 no')
+      let no' : None ≡ Some head.head = sym (best order.bank (omega (arith, here.bank, few))) ∙ head.is in
+      some_none head.head no')
 
   -- A taker comes to the orders of the best price.
   going_to : (walk : LevelWalk) (t : Taker) (price : ℕ) (weighs : IsWeight walk.weight) → book.banks ≤ 64 → t.side ≡ walk.taker → HaveLevels book walk → IsBestPrice walk 64 (Some price) → IsEager t book.orders
@@ -197,13 +197,13 @@ module _ (book : Book) (valid : IsBook book) where
         opens = λ order there.
             let here = open_here t walk.lines walk.weight walk.last order there in
             let head = has_head walk t order weighs few side have here in
-            let no_better : is_better walk.taker head.head.0 price ≡ false = best.1 order.bank head.head.0 (omega (arith, here.bank, few)) head.is in
+            let no_better : is_better walk.taker head.head price ≡ false = best.1 order.bank head.head (omega (arith, here.bank, few)) head.is in
             let below : is_better t.side order.price price ≡ false
             = subst (λ (s : Side). is_better s order.price price ≡ false) (sym side)
-            (elim (better-or_same walk.taker order.price head.head.0 head.first) [
+            (elim (better-or_same walk.taker order.price head.head head.first) [
               | inl same ↦ ap (λ p. is_better walk.taker p price) same ∙ no_better
               | inr head_first ↦ false_from_ne_true (is_better walk.taker order.price price) (λ above.
-                  both_ways (is_better walk.taker head.head.0 price) no_better (better-trans walk.taker head.head.0 order.price price head_first above))
+                  both_ways (is_better walk.taker head.head price) no_better (better-trans walk.taker head.head order.price price head_first above))
             ]) in
             elim (better-or_same t.side order.price price below) [
               | inl same ↦ inl (here.there, same)

@@ -6,7 +6,6 @@ use Rattle.std.proofs.lemmas.Bool.{cases_Bool, cases_eq, cases_lt, and_parts, an
 use Rattle.std.proofs.lemmas.List.{get_or_default}
 use Rattle.std.proofs.lemmas.List.Elements.{Contains-append_left, Contains-push, Contains-push_cases}
 use Rattle.std.specs.List.{Contains, filter}
-use Rattle.std.specs.Option.{option_map}
 use Rattle.fx_amounts.specs.Quantity.{IsWeight}
 use Rattle.fx_amounts.specs.declared.side.Side.{Side}
 use Rattle.fx_amounts.specs.declared.side.Side.TheVariants.{Buy, Sell}
@@ -14,7 +13,7 @@ use Rattle.fx_rules.specs.declared.orders.Resting.{Resting}
 use Rattle.fx_rules.specs.Lists.{Among, Each, total}
 use Rattle.fx_rules.specs.Sweep.{is_better, is_opposite}
 use Rattle.fx_rules.proofs.ListLemmas.{Each-among, Each-of, filter_cons_false}
-use Rattle.global_book.specs.Book.{AreOwners, Book, IsLevel, IsLevelOf, is_level, is_of, is_worse, is_worse_of, level_lots}
+use Rattle.global_book.specs.Book.{AreOwners, Book, IsLevel, IsPriceOf, is_level, is_of, is_worse, is_worse_of, level_at, level_lots}
 use Rattle.match_sweep.specs.declared.reached.LevelWalk.{LevelWalk}
 use Rattle.match_sweep.specs.inside.Reaches.{AreTaken, HaveLevels, IsBestAmong, IsBestPrice, IsLeft, IsPaid, IsTakenOf, TakesOf, better_price, head_of, line_behind, price_of}
 use Rattle.match_sweep.proofs.Tables.{total-changed}
@@ -113,19 +112,19 @@ behind_both taker bank past price order worse holds =
     and_from (is_of bank order && is_opposite taker order.side) (is_worse taker past order.price) two.0 (worse_still taker past price order.price worse two.1)
 
 -- a bank's head is at a worse price
-abbrev pub IsWorseHead : Side → ℕ → Option (ℕ × ℕ) → Type 0
-IsWorseHead taker price head = IfSome head (λ h. is_better taker price h.0 ≡ true)
+abbrev pub IsWorseHead : Side → ℕ → Option ℕ → Type 0
+IsWorseHead taker price head = IfSome head (λ h. is_better taker price h ≡ true)
 
-not_there : (taker : Side) (bank price : ℕ) (past : Option ℕ) (orders : List Resting) (head : Option (ℕ × ℕ)) (o : Resting) → IsLevelOf taker bank past orders head → IsWorseHead taker price head → Among o orders
+not_there : (taker : Side) (bank price : ℕ) (past : Option ℕ) (orders : List Resting) (head : Option ℕ) (o : Resting) → IsPriceOf taker bank past orders head → IsWorseHead taker price head → Among o orders
     → is_worse_of taker bank past o ≡ true → o.price ≡ price → ⊥
 not_there taker bank price past orders None o is behind there passes same =
     both_ways (is_worse_of taker bank past o) (Each-among (λ q. is_worse_of taker bank past q ≡ false) orders o is there) passes
 not_there taker bank price past orders (Some head) o is behind there passes same =
-    both_ways (is_better taker o.price head.0)
-    (Each-among (λ q. is_worse_of taker bank past q ≡ true → is_better taker q.price head.0 ≡ false) orders o is.first there passes)
-    (ap (λ p. is_better taker p head.0) same ∙ behind)
+    both_ways (is_better taker o.price head)
+    (Each-among (λ q. is_worse_of taker bank past q ≡ true → is_better taker q.price head ≡ false) orders o is.first there passes)
+    (ap (λ p. is_better taker p head) same ∙ behind)
 
-pub no_lots : (taker : Side) (bank price : ℕ) (past : Option ℕ) (orders : List Resting) (head : Option (ℕ × ℕ)) → is_worse taker past price ≡ true → IsLevelOf taker bank past orders head → IsWorseHead taker price head
+pub no_lots : (taker : Side) (bank price : ℕ) (past : Option ℕ) (orders : List Resting) (head : Option ℕ) → is_worse taker past price ≡ true → IsPriceOf taker bank past orders head → IsWorseHead taker price head
     → level_lots taker bank price orders ≡ 0
 no_lots taker bank price past orders head worse is behind =
     ap (total (λ (o : Resting). o.left)) (none_pass (is_level taker bank price) orders (Each-of (λ o. is_level taker bank price o ≡ false) orders (λ o there.
@@ -136,8 +135,8 @@ no_lots taker bank price past orders head worse is behind =
     = and_from (is_of bank o && is_opposite taker o.side) (is_worse taker past o.price) two.0 (ap (is_worse taker past) parts.price_is ∙ worse) in
     not_there taker bank price past orders head o is behind there passes parts.price_is))))
 
-pub head_stays : (taker : Side) (bank price : ℕ) (past : Option ℕ) (orders : List Resting) (head : Option (ℕ × ℕ)) → is_worse taker past price ≡ true → IsLevelOf taker bank past orders head → IsWorseHead taker price head
-    → IsLevelOf taker bank (Some price) orders head
+pub head_stays : (taker : Side) (bank price : ℕ) (past : Option ℕ) (orders : List Resting) (head : Option ℕ) → is_worse taker past price ≡ true → IsPriceOf taker bank past orders head → IsWorseHead taker price head
+    → IsPriceOf taker bank (Some price) orders head
 head_stays taker bank price past orders None worse is behind =
     Each-of (λ o. is_worse_of taker bank (Some price) o ≡ false) orders (λ o there.
     false_from_ne_true (is_worse_of taker bank (Some price) o) (λ passes.
@@ -149,8 +148,8 @@ head_stays taker bank price past orders (Some head) worse is behind =
       there = is.there;
       passes = and_from (is_of bank is.order && is_opposite taker is.order.side) (is_better taker price is.order.price) two.0 (ap (is_better taker price) is.price ∙ behind);
       price = is.price;
-      first = Each-of (λ o. is_worse_of taker bank (Some price) o ≡ true → is_better taker o.price head.0 ≡ false) orders (λ o there passes.
-          Each-among (λ q. is_worse_of taker bank past q ≡ true → is_better taker q.price head.0 ≡ false) orders o is.first there (behind_both taker bank past price o worse passes));
+      first = Each-of (λ o. is_worse_of taker bank (Some price) o ≡ true → is_better taker o.price head ≡ false) orders (λ o there passes.
+          Each-among (λ q. is_worse_of taker bank past q ≡ true → is_better taker q.price head ≡ false) orders o is.first there (behind_both taker bank past price o worse passes));
       lots = is.lots;
     }
 
@@ -183,7 +182,7 @@ takes_none-line book walk bank price weighs short =
 
 -- a head at a worse price, or none
 pub takes_none-head : (book : Book) (walk : LevelWalk) (bank price : ℕ) → IsWeight walk.weight → is_worse walk.taker walk.last price ≡ true
-    → (1 ≤ slice_index walk.lines bank / walk.weight → IsLevelOf walk.taker bank walk.last book.orders (head_of walk bank))
+    → (1 ≤ slice_index walk.lines bank / walk.weight → IsPriceOf walk.taker bank walk.last book.orders (head_of walk bank))
     → (1 ≤ slice_index walk.lines bank / walk.weight → IsWorseHead walk.taker price (head_of walk bank)) → TakesOf book walk walk bank price 0
 takes_none-head book walk bank price weighs worse is behind =
     let reach : ℕ = slice_index walk.lines bank / walk.weight in
@@ -201,24 +200,22 @@ takes_none-head book walk bank price weighs worse is behind =
     }
 
 -- the head of a bank with which the line pays is its best price
-pub price_there : (walk : LevelWalk) (bank : ℕ) (head : ℕ × ℕ) → walk.weight ≤ slice_index walk.lines bank → head_of walk bank ≡ Some head → price_of walk bank ≡ Some head.0
-price_there walk bank head pays' is =
-    ap (λ b. if b then option_map (λ (h : ℕ × ℕ). h.0) (head_of walk bank) else None) (le-leb walk.weight (slice_index walk.lines bank) pays')
-    ∙ ap (option_map (λ (h : ℕ × ℕ). h.0)) is
+pub price_there : (walk : LevelWalk) (bank head : ℕ) → walk.weight ≤ slice_index walk.lines bank → head_of walk bank ≡ Some head → price_of walk bank ≡ Some head
+price_there walk bank head pays' is = ap (λ b. if b then head_of walk bank else None) (le-leb walk.weight (slice_index walk.lines bank) pays') ∙ is
 
 -- and it is worse than the best of all, where it is another
-pub worse_head : (walk : LevelWalk) (bank price : ℕ) (head : ℕ × ℕ) → IsWeight walk.weight → head_of walk bank ≡ Some head → head.0 ≢ price
+pub worse_head : (walk : LevelWalk) (bank price head : ℕ) → IsWeight walk.weight → head_of walk bank ≡ Some head → head ≢ price
     → IfSome (price_of walk bank) (λ other. is_better walk.taker other price ≡ false) → 1 ≤ slice_index walk.lines bank / walk.weight → IsWorseHead walk.taker price (head_of walk bank)
 worse_head walk bank price head weighs is differ best some =
-    let at : price_of walk bank ≡ Some head.0 = price_there walk bank head (paid_for (slice_index walk.lines bank) walk.weight weighs some) is in
-    let not_better : is_better walk.taker head.0 price ≡ false = subst (λ (f : Option ℕ). IfSome f (λ other. is_better walk.taker other price ≡ false)) at best in
-    subst (λ (h : Option (ℕ × ℕ)). IsWorseHead walk.taker price h) (sym is)
-    (elim (better-or_same walk.taker head.0 price not_better) [ inl same ↦ absurd (differ same) | inr worse ↦ worse ])
+    let at : price_of walk bank ≡ Some head = price_there walk bank head (paid_for (slice_index walk.lines bank) walk.weight weighs some) is in
+    let not_better : is_better walk.taker head price ≡ false = subst (λ (f : Option ℕ). IfSome f (λ other. is_better walk.taker other price ≡ false)) at best in
+    subst (λ (h : Option ℕ). IsWorseHead walk.taker price h) (sym is)
+    (elim (better-or_same walk.taker head price not_better) [ inl same ↦ absurd (differ same) | inr worse ↦ worse ])
 
 -- the lots at the price are taken
-pub takes_some : (book : Book) (walk : LevelWalk) (bank at price lots taken : ℕ) (next : Option (ℕ × ℕ)) → IsWeight walk.weight → at ≡ bank → at < length walk.lines → at < length walk.heads
+pub takes_some : (book : Book) (walk : LevelWalk) (bank at price lots taken : ℕ) (next : Option ℕ) → IsWeight walk.weight → at ≡ bank → at < length walk.lines → at < length walk.heads
     → walk.weight ≤ slice_index walk.lines bank → lots ≡ level_lots walk.taker bank price book.orders → taken ≡ min lots (slice_index walk.lines at / walk.weight)
-    → IsLevelOf walk.taker bank (Some price) book.orders next
+    → IsPriceOf walk.taker bank (Some price) book.orders next
     → TakesOf book walk (record walk { lines = set walk.lines at (slice_index walk.lines at - taken * walk.weight); heads = set walk.heads at next }) bank price taken
 takes_some book walk bank at price lots taken next weighs at_is within heads_within pays' lots_are taken_is level =
     let line : ℕ = slice_index walk.lines at in
@@ -229,8 +226,8 @@ takes_some book walk bank at price lots taken next weighs at_is within heads_wit
       taken = record {
         line = get_or-set_same walk.lines at rest 0 within
             ∙ ap (λ n. line - n * walk.weight) (taken_is ∙ ap (λ n. min n (line / walk.weight)) (lots_are ∙ ap (λ b. level_lots walk.taker b price book.orders) (sym at_is)));
-        head = λ _. subst (IsLevelOf walk.taker at (Some price) book.orders) (sym (get_or-set_same walk.heads at next None heads_within))
-            (subst (λ (b : ℕ). IsLevelOf walk.taker b (Some price) book.orders next) (sym at_is) level);
+        head = λ _. subst (IsPriceOf walk.taker at (Some price) book.orders) (sym (get_or-set_same walk.heads at next None heads_within))
+            (subst (λ (b : ℕ). IsPriceOf walk.taker b (Some price) book.orders next) (sym at_is) level);
       };
       others = λ other differ. record {
         line = get_or-set_other walk.lines at other rest 0 differ;
@@ -252,13 +249,6 @@ equal a b not_differ =
       | inl same ↦ eqb-true a b same
       | inr differ ↦ let it : true ≡ false = sym (ap not differ) ∙ not_differ in cc
     ]
-
--- the lots at a head
-pub head_lots : (walk : LevelWalk) (book : Book) (bank price : ℕ) (head : ℕ × ℕ) → head_of walk bank ≡ Some head → head.0 ≡ price → IsLevelOf walk.taker bank walk.last book.orders (head_of walk bank)
-    → head.1 ≡ level_lots walk.taker bank price book.orders
-head_lots walk book bank price head is price_is level =
-    let it : IsLevel walk.taker bank walk.last book.orders head = subst (IsLevelOf walk.taker bank walk.last book.orders) is level in
-    it.lots ∙ ap (λ p. level_lots walk.taker bank p book.orders) price_is
 
 -- What is taken of all banks.
 
@@ -299,7 +289,7 @@ taken_here book old now new price bank lots paid left taken = record {
       ∙ ap (λ w. line_behind w now.taker price book.orders bank (slice_index now.lines bank)) (weight_same old now lots paid)
       ∙ ap (λ s. line_behind old.weight s price book.orders bank (slice_index now.lines bank)) (taker_same old now lots paid)
       ∙ ap (line_behind old.weight old.taker price book.orders bank) left.line;
-  head = λ reach. subst (λ (s : Side). IsLevelOf s bank (Some price) book.orders (head_of new bank)) (taker_same old now lots paid)
+  head = λ reach. subst (λ (s : Side). IsPriceOf s bank (Some price) book.orders (head_of new bank)) (taker_same old now lots paid)
       (taken.head (subst (λ (w : ℕ). 1 ≤ slice_index new.lines bank / w) (sym (weight_same old now lots paid)) reach));
 }
 
@@ -307,7 +297,7 @@ taken_here book old now new price bank lots paid left taken = record {
 taken_still : (book : Book) (old now new : LevelWalk) (price bank : ℕ) → IsTakenOf book old now price bank → IsLeft now new bank → IsTakenOf book old new price bank
 taken_still book old now new price bank taken left = record {
   line = left.line ∙ taken.line;
-  head = λ reach. subst (IsLevelOf old.taker bank (Some price) book.orders) (sym left.head) (taken.head (subst (λ (l : ℕ). 1 ≤ l / old.weight) left.line reach));
+  head = λ reach. subst (IsPriceOf old.taker bank (Some price) book.orders) (sym left.head) (taken.head (subst (λ (l : ℕ). 1 ≤ l / old.weight) left.line reach));
 }
 
 pub taken-on : (book : Book) (old now new : LevelWalk) (price number lots more : ℕ) (banks : List ℕ) → (Contains banks number → ⊥) → TakenSoFar book old now price banks lots → TakesOf book now new number price more
@@ -335,41 +325,34 @@ within_lines walk bank weighs long pays' = omega (arith, within_table walk.lines
 -- the head with a bank's price
 pub record HasPrice (walk : LevelWalk) (bank price : ℕ) : Type 0 where
   pub pays : walk.weight ≤ slice_index walk.lines bank
-  pub head : ℕ × ℕ
-  pub is : head_of walk bank ≡ Some head
-  pub price_is : head.0 ≡ price
+  pub is : head_of walk bank ≡ Some price
 
 pub has_price : (walk : LevelWalk) (bank price : ℕ) → price_of walk bank ≡ Some price → HasPrice walk bank price
 has_price walk bank price at =
     elim (cases_Bool (leb walk.weight (slice_index walk.lines bank))) [
-      | inl pays' ↦
-          let headed : option_map (λ (h : ℕ × ℕ). h.0) (head_of walk bank) ≡ Some price
-          = sym (ap (λ b. if b then option_map (λ (h : ℕ × ℕ). h.0) (head_of walk bank) else None) pays') ∙ at in
-          let answer : (found : Option (ℕ × ℕ)) → head_of walk bank ≡ found → option_map (λ (h : ℕ × ℕ). h.0) found ≡ Some price → HasPrice walk bank price = λ found.
-          elim found as (λ (f : Option (ℕ × ℕ)). head_of walk bank ≡ f → option_map (λ (h : ℕ × ℕ). h.0) f ≡ Some price → HasPrice walk bank price) [
-            | None ↦ λ _ none. none_differs price none
-            | Some head ↦ λ is some. record { pays = leb-true walk.weight (slice_index walk.lines bank) pays'; head = head; is = is; price_is = some_equal head.0 price some }
-          ] in
-          answer (head_of walk bank) refl headed
-      | inr short ↦ none_differs price (sym (ap (λ b. if b then option_map (λ (h : ℕ × ℕ). h.0) (head_of walk bank) else None) short) ∙ at)
+      | inl pays' ↦ record {
+        pays = leb-true walk.weight (slice_index walk.lines bank) pays';
+        is = sym (ap (λ b. if b then head_of walk bank else None) pays') ∙ at;
+      }
+      | inr short ↦ none_differs price (sym (ap (λ b. if b then head_of walk bank else None) short) ∙ at)
     ]
 
 -- what the next bank is asked with
 pub head_left : (book : Book) (old now : LevelWalk) (price number lots : ℕ) (banks : List ℕ) → IsWeight old.weight → length old.lines ≡ 64 → (Contains banks number → ⊥) → TakenSoFar book old now price banks lots → HaveLevels book old
-    → 1 ≤ slice_index now.lines number / now.weight → IsLevelOf now.taker number now.last book.orders (head_of now number)
+    → 1 ≤ slice_index now.lines number / now.weight → IsPriceOf now.taker number now.last book.orders (head_of now number)
 head_left book old now price number lots banks weighs long fresh so_far have reach =
     let left = so_far.left number fresh in
     let reach' : 1 ≤ slice_index old.lines number / old.weight
     = subst (λ (w : ℕ). 1 ≤ slice_index old.lines number / w) (weight_same old now lots so_far.sum) (subst (λ (l : ℕ). 1 ≤ l / now.weight) left.line reach) in
-    subst (λ (s : Side). IsLevelOf s number now.last book.orders (head_of now number)) (sym (taker_same old now lots so_far.sum))
-    (subst (λ (p : Option ℕ). IsLevelOf old.taker number p book.orders (head_of now number)) (sym (last_same old now lots so_far.sum))
-    (subst (IsLevelOf old.taker number old.last book.orders) (sym left.head) (have number (within_lines old number weighs long (paid_for (slice_index old.lines number) old.weight weighs reach')) reach')))
+    subst (λ (s : Side). IsPriceOf s number now.last book.orders (head_of now number)) (sym (taker_same old now lots so_far.sum))
+    (subst (λ (p : Option ℕ). IsPriceOf old.taker number p book.orders (head_of now number)) (sym (last_same old now lots so_far.sum))
+    (subst (IsPriceOf old.taker number old.last book.orders) (sym left.head) (have number (within_lines old number weighs long (paid_for (slice_index old.lines number) old.weight weighs reach')) reach')))
 
 price_left : (old now : LevelWalk) (number lots : ℕ) → IsPaid old now lots → IsLeft old now number → price_of now number ≡ price_of old number
 price_left old now number lots paid left =
-    ap (λ w. if leb w (slice_index now.lines number) then option_map (λ (h : ℕ × ℕ). h.0) (head_of now number) else None) (weight_same old now lots paid)
-    ∙ ap (λ l. if leb old.weight l then option_map (λ (h : ℕ × ℕ). h.0) (head_of now number) else None) left.line
-    ∙ ap (λ (h : Option (ℕ × ℕ)). if leb old.weight (slice_index old.lines number) then option_map (λ (h : ℕ × ℕ). h.0) h else None) left.head
+    ap (λ w. if leb w (slice_index now.lines number) then head_of now number else None) (weight_same old now lots paid)
+    ∙ ap (λ l. if leb old.weight l then head_of now number else None) left.line
+    ∙ ap (λ (h : Option ℕ). if leb old.weight (slice_index old.lines number) then h else None) left.head
 
 if_some : (found : Option ℕ) (P : ℕ → Type 0) → ((other : ℕ) → found ≡ Some other → P other) → IfSome found P
 if_some None P holds = tt
@@ -400,9 +383,8 @@ best_level book walk price weighs have best =
     record {
       bank = bank;
       reach = reach;
-      lots = has.head.1;
-      level = subst (λ p. IsLevel walk.taker bank walk.last book.orders (p, has.head.1)) has.price_is
-          (subst (IsLevelOf walk.taker bank walk.last book.orders) has.is (have bank best.0.1 reach));
+      lots = level_lots walk.taker bank price book.orders;
+      level = subst (IsPriceOf walk.taker bank walk.last book.orders) has.is (have bank best.0.1 reach);
     }
 
 pub best_worse : (book : Book) (walk : LevelWalk) (price : ℕ) → IsWeight walk.weight → HaveLevels book walk → IsBestPrice walk 64 (Some price) → is_worse walk.taker walk.last price ≡ true
@@ -422,7 +404,7 @@ level_owned book owners taker bank past level are is =
     subst (Contains owners) (eqb-true is.order.bank bank one.0) (Each-among (λ (o : Resting). Contains owners o.bank) book.orders is.order are.all is.there)
 
 -- another has none
-pub none_owned : (book : Book) (owners : List ℕ) (taker : Side) (bank : ℕ) (past : Option ℕ) → AreOwners book owners → (Contains owners bank → ⊥) → IsLevelOf taker bank past book.orders None
+pub none_owned : (book : Book) (owners : List ℕ) (taker : Side) (bank : ℕ) (past : Option ℕ) → AreOwners book owners → (Contains owners bank → ⊥) → IsPriceOf taker bank past book.orders None
 none_owned book owners taker bank past are apart =
     Each-of (λ o. is_worse_of taker bank past o ≡ false) book.orders (λ o there.
     false_from_ne_true (is_worse_of taker bank past o) (λ passes.
@@ -430,15 +412,15 @@ none_owned book owners taker bank past are apart =
     let one = and_parts (is_of bank o) (is_opposite taker o.side) two.0 in
     apart (subst (Contains owners) (eqb-true o.bank bank one.0) (Each-among (λ (q : Resting). Contains owners q.bank) book.orders o are.all there))))
 
-not_owned : (book : Book) (owners : List ℕ) (taker : Side) (bank price : ℕ) (past : Option ℕ) (head : Option (ℕ × ℕ)) → AreOwners book owners → (Contains owners bank → ⊥) → IsLevelOf taker bank past book.orders head → IsWorseHead taker price head
+not_owned : (book : Book) (owners : List ℕ) (taker : Side) (bank price : ℕ) (past : Option ℕ) (head : Option ℕ) → AreOwners book owners → (Contains owners bank → ⊥) → IsPriceOf taker bank past book.orders head → IsWorseHead taker price head
 not_owned book owners taker bank price past None are apart is = tt
-not_owned book owners taker bank price past (Some level) are apart is = absurd (apart (level_owned book owners taker bank past level are is))
+not_owned book owners taker bank price past (Some head) are apart is = absurd (apart (level_owned book owners taker bank past (level_at taker bank book.orders head) are is))
 
 price_owned : (book : Book) (owners : List ℕ) (walk : LevelWalk) (bank price : ℕ) → AreOwners book owners → IsWeight walk.weight → HaveLevels book walk → bank < 64 → price_of walk bank ≡ Some price → Contains owners bank
 price_owned book owners walk bank price are weighs have below at =
     let has = has_price walk bank price at in
     let level = have bank below (pays (slice_index walk.lines bank) walk.weight weighs has.pays) in
-    level_owned book owners walk.taker bank walk.last has.head are (subst (IsLevelOf walk.taker bank walk.last book.orders) has.is level)
+    level_owned book owners walk.taker bank walk.last (level_at walk.taker bank book.orders price) are (subst (IsPriceOf walk.taker bank walk.last book.orders) has.is level)
 
 none_from : (found : Option ℕ) → ((price : ℕ) → found ≡ Some price → found ≡ None) → found ≡ None
 none_from None holds = refl
@@ -473,5 +455,5 @@ taken-whole book owners old now price lots are weighs have best so_far = record 
 pub levels_behind : (book : Book) (old taken new : LevelWalk) (price lots : ℕ) → AreTaken book old taken price lots → new ≡ record taken { last = Some price } → HaveLevels book new
 levels_behind book old taken new price lots all is =
     subst (HaveLevels book) (sym is) (λ bank below reach.
-    subst (λ (s : Side). IsLevelOf s bank (Some price) book.orders (head_of taken bank)) (sym (taker_same old taken lots all.sum))
+    subst (λ (s : Side). IsPriceOf s bank (Some price) book.orders (head_of taken bank)) (sym (taker_same old taken lots all.sum))
     ((all.taken bank below).head (subst (λ (w : ℕ). 1 ≤ slice_index taken.lines bank / w) (weight_same old taken lots all.sum) reach)))

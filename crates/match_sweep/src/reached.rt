@@ -2,7 +2,7 @@ ghost use Rattle.std.specs.Prelude.{ℕ, ◌≡◌, ◌≤◌, ◌<◌, ◌*◌,
 ghost use Rattle.fx_amounts.specs.Quantity.{IsWeight};
 ghost use Rattle.fx_rules.specs.Lists.{total};
 ghost use Rattle.fx_rules.specs.Sweep.{is_better};
-ghost use Rattle.global_book.specs.Book.{IsLevelOf, is_worse};
+ghost use Rattle.global_book.specs.Book.{IsPriceOf, is_worse};
 ghost use Rattle.match_sweep.specs.Reaches.{IsReached};
 ghost use Rattle.match_sweep.specs.inside.Reaches.{AreTaken, BeginsAt, HaveLevels, IsBestAmong, IsBestPrice, TakesLevel, TakesOf, better_price, price_of};
 
@@ -54,8 +54,8 @@ pub(crate) struct LevelWalk {
     weight: u32,
     /// What is left of the lines with each bank, in credit units; nothing with the bank's own.
     lines: [u64; 64],
-    /// Of each bank with which the line pays for a lot, its best price behind the last level, with its lots there.
-    heads: [Option<(Price, u128)>; 64],
+    /// Of each bank with which the line pays for a lot, its best price behind the last level.
+    heads: [Option<Price>; 64],
     /// The price of the last level, where there is one.
     last: Option<Price>,
 }
@@ -103,7 +103,7 @@ impl LevelWalk {
         requires { number < 64 }
         ensures price { result ≡ price_of self.now number }
     {
-        let (price, _) = self.heads[number]?;
+        let price = self.heads[number]?;
         if self.lines[number] < u64::from(self.weight) {
             return None;
         }
@@ -146,13 +146,13 @@ impl LevelWalk {
         steps: &mut Steps<L>,
     ) -> u64
         requires weight { IsWeight self.old.weight }
-        requires head { 1 ≤ slice_index self.old.lines bank / self.old.weight → IsLevelOf self.old.taker bank self.old.last book.now.orders (slice_index_or self.old.heads bank None) }
+        requires head { 1 ≤ slice_index self.old.lines bank / self.old.weight → IsPriceOf self.old.taker bank self.old.last book.now.orders (slice_index_or self.old.heads bank None) }
         requires worse { is_worse self.old.taker self.old.last price ≡ true }
         requires best { IfSome (price_of self.old bank) (λ other. is_better self.old.taker other price ≡ false) }
         ensures taken { TakesOf book.now self.old self.new bank price result }
     {
         let at = bank.index();
-        let Some((head, lots)) = self.heads[at] else {
+        let Some(head) = self.heads[at] else {
             return 0;
         };
         let weight = u64::from(self.weight);
@@ -160,9 +160,10 @@ impl LevelWalk {
         if head != price || line < weight {
             return 0;
         }
+        let lots = book.lots_at(bank, self.taker.opposite(), price);
         let taken = lots.min(u128::from(line / weight)) as u64;
         self.lines[at] = line - taken * weight;
-        self.heads[at] = level_behind(book, self.taker, bank, Some(price), steps);
+        self.heads[at] = price_behind(book, self.taker, bank, Some(price), steps);
         taken
     }
 }
@@ -178,53 +179,53 @@ fn better_price(taker: Side, price: Option<Price>, other: Option<Price>) -> Opti
     }
 }
 
-/// The best price of a bank that is worse than `past`, where there is one, for a taker of a side, and the bank's lots there.
-fn level_behind<L: Ledger>(
+/// The best price of a bank that is worse than `past`, where there is one, for a taker of a side.
+fn price_behind<L: Ledger>(
     book: &PairBook,
     taker: Side,
     bank: BankId,
     past: Option<Price>,
     steps: &mut Steps<L>,
-) -> Option<(Price, u128)>
-    ensures level { IsLevelOf taker bank past book.now.orders result }
+) -> Option<Price>
+    ensures price { IsPriceOf taker bank past book.now.orders result }
 {
-    book.next_level(bank, taker.opposite(), past, steps)
+    book.next_price(bank, taker.opposite(), past, steps)
 }
 
-/// The first level of a bank, where a line of `line` credit units pays for a lot.
-fn first_level<L: Ledger>(
+/// The first price of a bank, where a line of `line` credit units pays for a lot.
+fn first_price<L: Ledger>(
     book: &PairBook,
     taker: Side,
     line: u64,
     weight: u32,
     bank: BankId,
     steps: &mut Steps<L>,
-) -> Option<(Price, u128)>
+) -> Option<Price>
     requires weight { IsWeight weight }
-    ensures level { 1 ≤ line / weight → IsLevelOf taker bank None book.now.orders result }
+    ensures price { 1 ≤ line / weight → IsPriceOf taker bank None book.now.orders result }
 {
     if line < u64::from(weight) {
         return None;
     }
-    level_behind(book, taker, bank, None, steps)
+    price_behind(book, taker, bank, None, steps)
 }
 
-/// The first levels of all banks with which the line pays for a lot. It looks only at the banks that have an order.
+/// The first prices of all banks with which the line pays for a lot. It looks only at the banks that have an order.
 fn first_of_each<L: Ledger>(
     book: &PairBook,
     taker: Side,
     lines: &[u64; 64],
     weight: u32,
     steps: &mut Steps<L>,
-) -> [Option<(Price, u128)>; 64]
+) -> [Option<Price>; 64]
     requires weight { IsWeight weight }
-    ensures levels { (bank : ℕ) → bank < 64 → 1 ≤ slice_index lines.now bank / weight → IsLevelOf taker bank None book.now.orders (slice_index_or result bank None) }
+    ensures prices { (bank : ℕ) → bank < 64 → 1 ≤ slice_index lines.now bank / weight → IsPriceOf taker bank None book.now.orders (slice_index_or result bank None) }
 {
     let owners = book.owners();
     let mut heads = [None; 64];
     for owner in owners {
         let number = owner.index();
-        heads[number] = first_level(book, taker, lines[number], weight, *owner, steps);
+        heads[number] = first_price(book, taker, lines[number], weight, *owner, steps);
     }
     heads
 }

@@ -7,7 +7,7 @@ use Rattle.fx_rules.specs.declared.orders.Level.{Level}
 use Rattle.fx_rules.specs.declared.orders.Resting.{Resting}
 use Rattle.fx_rules.specs.Lists.{total}
 use Rattle.fx_rules.specs.Sweep.{is_better}
-use Rattle.global_book.specs.Book.{Book, IsBook, IsLevelOf, level_lots}
+use Rattle.global_book.specs.Book.{Book, IsBook, IsPriceOf, level_lots}
 use Rattle.credit_lines.specs.Credit.{Credit, line_in}
 use Rattle.match_sweep.specs.declared.reached.LevelWalk.{LevelWalk}
 
@@ -23,16 +23,16 @@ abbrev pub line_behind : ℕ → Side → ℕ → List Resting → ℕ → ℕ �
 line_behind weight taker price orders bank line = line - min (level_lots taker bank price orders) (line / weight) * weight
 
 -- the head of a bank, and the price of one with which the line pays for a lot
-abbrev pub head_of : LevelWalk → ℕ → Option (ℕ × ℕ)
+abbrev pub head_of : LevelWalk → ℕ → Option ℕ
 head_of walk bank = slice_index_or walk.heads bank None
 
 abbrev pub price_of : LevelWalk → ℕ → Option ℕ
-price_of walk bank = if nat_le walk.weight (slice_index walk.lines bank) then option_map (λ head. head.0) (head_of walk bank) else None
+price_of walk bank = if nat_le walk.weight (slice_index walk.lines bank) then head_of walk bank else None
 
 -- of each bank with which a line pays for a lot, the best price behind the last level is at its head
 abbrev pub HaveLevels : Book → LevelWalk → Type 0
 HaveLevels book walk =
-    (bank : ℕ) → bank < 64 → 1 ≤ slice_index walk.lines bank / walk.weight → IsLevelOf walk.taker bank walk.last book.orders (head_of walk bank)
+    (bank : ℕ) → bank < 64 → 1 ≤ slice_index walk.lines bank / walk.weight → IsPriceOf walk.taker bank walk.last book.orders (head_of walk bank)
 
 -- the better of two prices, where there are any
 abbrev pub better_price : Side → Option ℕ → Option ℕ → Option ℕ
@@ -57,7 +57,7 @@ IsBestAmong walk banks (Some price) =
 -- what is left of a bank once its lots at a price are taken
 pub record IsTakenOf (book : Book) (old new : LevelWalk) (price bank : ℕ) : Type 0 where
   pub line : slice_index new.lines bank ≡ line_behind old.weight old.taker price book.orders bank (slice_index old.lines bank)
-  pub head : 1 ≤ slice_index new.lines bank / old.weight → IsLevelOf old.taker bank (Some price) book.orders (head_of new bank)
+  pub head : 1 ≤ slice_index new.lines bank / old.weight → IsPriceOf old.taker bank (Some price) book.orders (head_of new bank)
 
 -- a bank is as it was
 pub record IsLeft (old new : LevelWalk) (bank : ℕ) : Type 0 where
