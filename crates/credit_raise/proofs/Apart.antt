@@ -104,7 +104,7 @@ open_between h X pair i j now o apart rests opens =
       | inr not_two ↦ absurd (not_crossed h X pair i j now o now.side o.side apart rests found.0 refl refl says.opposite says.other not_two says.reach says.crosses)
     ]
 
-none_in : {X : Type 0} (xs : List X) → ((x : X) → Among x xs → ⊥) → xs ≡ []
+pub none_in : {X : Type 0} (xs : List X) → ((x : X) → Among x xs → ⊥) → xs ≡ []
 none_in [] none = refl
 none_in (x ∷ xs) none = absurd (none x (inl refl))
 

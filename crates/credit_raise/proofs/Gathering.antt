@@ -1,6 +1,6 @@
 -- Two banks' orders gathered from the best price on, and put in the order of their arrivals.
 use Rattle.std.proofs.Common.{ℕ, suc, ◌≡◌, ◌≢◌, ◌-◌, ◌^◌, ◌≤◌, ◌<◌, Bool, true, false, cond, ◌&&◌, eqb, leb, ltb, List, [], ◌∷◌, map, length, ◌⊎◌, inl, inr, Option, Some, None, refl, ap, sym, subst, ◌∙◌, arith}
-use Rattle.std.proofs.lemmas.Bool.{cases_Bool, cases_eq, cond-true, cond-false, both_ways, false≢true, false_from_ne_true, and_parts, and_from, and_right, or_left, eqb-true, eq-eqb, ne_eqb, lt-ltb, le-ltb, ltb-true, ltb-false, leb-true, le-leb}
+use Rattle.std.proofs.lemmas.Bool.{cases_Bool, cases_eq, cond-true, cond-false, both_ways, false≢true, false_from_ne_true, and_parts, and_from, and_right, eqb-true, eq-eqb, ne_eqb, lt-ltb, le-ltb, ltb-true, ltb-false, leb-true, le-leb}
 use Rattle.std.proofs.lemmas.Cmp.{nat_cmp_total, ranked}
 use Rattle.std.proofs.lemmas.Map.Keys.{sorted_head, sorted_tail}
 use Rattle.std.proofs.lemmas.Map.Views.{All-found}
@@ -30,7 +30,7 @@ use Rattle.credit_raise.specs.Two.{is_of_two}
 use Rattle.credit_raise.specs.inside.Two.{is_of_two_from, turns}
 use Rattle.credit_raise.proofs.Apart.{two-owner, owner-two}
 use Rattle.credit_raise.specs.inside.Gathered.{Gathers, IsLiveOf, IsEarlyOf, IsPassed, IsLateOf}
-use Rattle.credit_raise.proofs.Looking.{opposite_twice}
+use Rattle.credit_raise.proofs.Looking.{opposite_twice, not_better}
 use Rattle.credit_raise.proofs.Facing.{opposite_side, opposite_is, live-turns}
 use Rattle.credit_raise.proofs.Walking.{some_same, first_among}
 
@@ -113,12 +113,6 @@ worse_crosses : (side : Side) (price best : ℕ) (top : Option ℕ) → is_bette
 worse_crosses side price best None worse cross = absurd (false≢true cross)
 worse_crosses Buy price best (Some top) worse cross = le-leb top best (omega (arith, ltb-false best price worse, leb-true top price cross))
 worse_crosses Sell price best (Some top) worse cross = le-leb best top (omega (arith, ltb-false price best worse, leb-true price top cross))
-
--- a better order is preferred
-not_better : (side : Side) (o best : Resting) → is_preferred side o best ≡ false → is_better side o.price best.price ≡ false
-not_better side o best fails =
-    false_from_ne_true (is_better side o.price best.price)
-    (λ better. false≢true (sym fails ∙ or_left (is_better side o.price best.price) (eqb o.price best.price && ltb o.arrival best.arrival) better))
 
 filter_most : (p q : Resting → Bool) (xs : List Resting) → ((y : Resting) → p y ≡ true → q y ≡ true) → length (filter p xs) ≤ length (filter q xs)
 filter_most p q [] less = omega arith

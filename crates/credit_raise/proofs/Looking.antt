@@ -1,66 +1,18 @@
--- The search for an order's best counterpart where one bank alone can be reached.
-use Rattle.std.proofs.Common.{ℕ, zero, suc, ◌≡◌, ◌≢◌, ◌≤◌, ◌<◌, Bool, true, false, not, ◌&&◌, eqb, leb, ltb, List, [], ◌∷◌, Some, None, inl, inr, refl, ap, sym, ◌∙◌, arith, length, get_or, get_or-set_same, get_or-set_other, replicate, take}
-use Rattle.std.proofs.Math.ListN.{set}
-use Rattle.std.proofs.lemmas.Bool.{cases_eq, cases_lt, cond-true, cond-false, eq-eqb, ne_eqb, leb-true, not_from_false, false≢true}
-use Rattle.std.proofs.lemmas.List.{get_or-take}
+-- What is open to an order where one bank alone can be reached.
+use Rattle.std.proofs.Common.{ℕ, ◌≡◌, ◌≢◌, ◌≤◌, true, false, not, ◌&&◌, eqb, leb, ltb, List, [], None, inl, inr, refl, sym, subst, ◌∙◌, arith}
+use Rattle.std.proofs.lemmas.Bool.{cases_eq, cond-true, cond-false, both_ways, false_from_ne_true, false≢true, and_parts, and_from, or_left, eqb-true, eq-eqb, ne_eqb, le-leb, leb-true, lt-ltb, ltb-false, not_from_false}
 use Rattle.fx_amounts.specs.Price.{crosses}
 use Rattle.fx_amounts.specs.Side.{opposite}
 use Rattle.fx_amounts.specs.declared.side.Side.{Side}
 use Rattle.fx_amounts.specs.declared.side.Side.TheVariants.{Buy, Sell}
 use Rattle.fx_rules.specs.declared.orders.Resting.{Resting}
-use Rattle.fx_rules.specs.Lists.{Each}
-use Rattle.fx_rules.specs.Sweep.{is_open, is_opposite, open_in}
-use Rattle.fx_rules.specs.Raise.{taker_of_resting}
-use Rattle.fx_rules.proofs.ListLemmas.{filter_agree_on}
-use Rattle.global_book.specs.Book.{is_sought, sought}
+use Rattle.fx_rules.specs.Lists.{Among}
+use Rattle.fx_rules.specs.Sweep.{Taker, is_open, is_opposite, is_better, is_preferred, IsBest, open_in}
+use Rattle.fx_rules.proofs.ListLemmas.{Each-among, Each-of, Among-filter, among_filter}
+use Rattle.fx_rules.proofs.Opens.{is_open-says}
+use Rattle.global_book.specs.Book.{is_of, is_owned, owned}
 use Rattle.credit_raise.specs.inside.Playing.{only}
-
--- ---- the table of what can be reached
-
-zeros_read : (table : List ℕ) (bank : ℕ) → Each {X = ℕ} (λ n. n ≡ 0) table → get_or table bank 0 ≡ 0
-zeros_read [] bank all = refl
-zeros_read (n ∷ table) zero all = all.0
-zeros_read (n ∷ table) (suc bank) all = zeros_read table bank all.1
-
-pub zeros : (count : ℕ) → Each {X = ℕ} (λ n. n ≡ 0) (replicate count 0)
-zeros zero = tt
-zeros (suc count) = (refl, zeros count)
-
-pub reach_only : (table : List ℕ) (place other lots bank : ℕ) → Each {X = ℕ} (λ n. n ≡ 0) table → place < length table → place ≡ other → get_or (set table place lots) bank 0 ≡ only other lots bank
-reach_only table place other lots bank all within is =
-    elim (cases_eq bank other) [
-      | inl same ↦
-          ap (λ n. get_or (set table place lots) n 0) (same ∙ sym is) ∙ get_or-set_same table place lots 0 within
-          ∙ sym (cond-true (eqb bank other) lots 0 (eq-eqb bank other same))
-      | inr differ ↦
-          get_or-set_other table place bank lots 0 (λ same. differ (same ∙ is)) ∙ zeros_read table bank all
-          ∙ sym (cond-false (eqb bank other) lots 0 (ne_eqb bank other differ))
-    ]
-
--- nothing stands past the first part of a table
-taken_past : (table : List ℕ) (count bank : ℕ) → count ≤ bank → get_or (take count table) bank 0 ≡ 0
-taken_past table zero bank past = refl
-taken_past [] (suc count) bank past = refl
-taken_past (n ∷ table) (suc count) zero past = absurd (omega arith)
-taken_past (n ∷ table) (suc count) (suc bank) past = taken_past table count bank (omega arith)
-
-pub reach_taken : (table : List ℕ) (count other lots bank : ℕ) → other < count → get_or table bank 0 ≡ only other lots bank → get_or (take count table) bank 0 ≡ only other lots bank
-reach_taken table count other lots bank within reads =
-    elim (cases_lt bank count) [
-      | inl below ↦ get_or-take count table bank 0 below ∙ reads
-      | inr past ↦ taken_past table count bank past ∙ sym (cond-false (eqb bank other) lots 0 (ne_eqb bank other (λ same. omega (arith, same))))
-    ]
-
--- ---- what is sought is what is open
-
-sought_parts : (a n r c e : Bool) → (r ≡ true → n ≡ true) → ((((a && r) && c) && e) && true) ≡ ((((a && n) && r) && c) && e)
-sought_parts false n r c e holds = refl
-sought_parts true true false c e holds = refl
-sought_parts true false false c e holds = refl
-sought_parts true true true false e holds = refl
-sought_parts true true true true false holds = refl
-sought_parts true true true true true holds = refl
-sought_parts true false true c e holds = absurd (false≢true (holds refl))
+use Rattle.credit_raise.proofs.Apart.{none_in}
 
 -- a bank that can be reached is the one
 pub reached_is : (other lots bank : ℕ) → leb 1 (only other lots bank) ≡ true → bank ≡ other
@@ -74,13 +26,67 @@ pub opposite_twice : (side : Side) → opposite (opposite side) ≡ side
 opposite_twice Buy = refl
 opposite_twice Sell = refl
 
-pub sought-open : (other lots pair : ℕ) (reach : List ℕ) (side : Side) (order : Resting) (orders : List Resting) → ((bank : ℕ) → get_or reach bank 0 ≡ only other lots bank) → side ≡ opposite order.side → order.bank ≢ other → sought side reach (Some order.price) order.arrival None orders ≡ open_in (only other lots) (taker_of_resting pair order) orders
-sought-open other lots pair reach side order orders reads is differ =
-    filter_agree_on (is_sought (opposite side) reach (Some order.price) order.arrival None)
-    (λ (o : Resting). is_open (taker_of_resting pair order) (only other lots o.bank) o) orders
-    (λ o _.
-    ap (λ (s : Side). is_sought s reach (Some order.price) order.arrival None o) (ap opposite is ∙ opposite_twice order.side)
-    ∙ ap (λ (n : ℕ). (((is_opposite order.side o.side && leb 1 n) && crosses order.side order.price o.price) && ltb o.arrival order.arrival) && true) (reads o.bank)
-    ∙ sought_parts (is_opposite order.side o.side) (not (eqb o.bank order.bank)) (leb 1 (only other lots o.bank))
-    (crosses order.side order.price o.price) (ltb o.arrival order.arrival)
-    (λ reached. not_from_false (eqb o.bank order.bank) (ne_eqb o.bank order.bank (λ own. differ (sym own ∙ reached_is other lots o.bank reached)))))
+-- a better order is preferred
+pub not_better : (side : Side) (o best : Resting) → is_preferred side o best ≡ false → is_better side o.price best.price ≡ false
+not_better side o best fails =
+    false_from_ne_true (is_better side o.price best.price)
+    (λ better. false≢true (sym fails ∙ or_left (is_better side o.price best.price) (eqb o.price best.price && ltb o.arrival best.arrival) better))
+
+-- who crosses a price crosses one that is no worse
+no_worse : (side : Side) (price other best : ℕ) → is_better side other best ≡ false → crosses side price other ≡ true → crosses side price best ≡ true
+no_worse Buy price other best worse cross = le-leb best price (omega (arith, ltb-false other best worse, leb-true other price cross))
+no_worse Sell price other best worse cross = le-leb price best (omega (arith, ltb-false best other worse, leb-true price other cross))
+
+module _ (other lots : ℕ) (t : Taker) (orders : List Resting) where
+  -- what is open is the other bank's, and crosses
+  open_owned : (o : Resting) → Among o (open_in (only other lots) t orders) → Among o (owned (opposite t.side) other t.arrival None orders) × (crosses t.side t.price o.price ≡ true)
+  open_owned o there =
+      let found = Among-filter (λ (q : Resting). is_open t (only other lots q.bank) q) orders o there in
+      let says = is_open-says t (only other lots o.bank) o found.1 in
+      let owner : o.bank ≡ other = reached_is other lots o.bank (le-leb 1 (only other lots o.bank) says.reach) in
+      let taker : Side = opposite (opposite t.side) in
+      let sided : is_opposite taker o.side ≡ true = subst (λ (s : Side). is_opposite s o.side ≡ true) (sym (opposite_twice t.side)) says.opposite in (
+        among_filter (is_owned taker other t.arrival None) orders o found.0
+            (and_from (is_opposite taker o.side && is_of other o && ltb o.arrival t.arrival) true
+            (and_from (is_opposite taker o.side && is_of other o) (ltb o.arrival t.arrival)
+            (and_from (is_opposite taker o.side) (is_of other o) sided (eq-eqb o.bank other owner))
+            (lt-ltb o.arrival t.arrival says.earlier)) refl),
+        says.crosses,
+      )
+
+  pub open-none : owned (opposite t.side) other t.arrival None orders ≡ [] → open_in (only other lots) t orders ≡ []
+  open-none none = none_in (open_in (only other lots) t orders) (λ o there. subst (λ (os : List Resting). Among o os) none (open_owned o there).0)
+
+  -- the best of the other bank's does not cross
+  pub open-apart : (best : Resting) → IsBest (opposite (opposite t.side)) (owned (opposite t.side) other t.arrival None orders) best → crosses t.side t.price best.price ≡ false → open_in (only other lots) t orders ≡ []
+  open-apart best is_best apart =
+      none_in (open_in (only other lots) t orders) (λ o there.
+      let is = open_owned o there in
+      let worse : is_better t.side o.price best.price ≡ false = subst (λ (s : Side). is_better s o.price best.price ≡ false) (opposite_twice t.side)
+      (not_better (opposite (opposite t.side)) o best
+      (Each-among (λ (q : Resting). is_preferred (opposite (opposite t.side)) q best ≡ false) (owned (opposite t.side) other t.arrival None orders) o is_best.first is.0)) in
+      both_ways (crosses t.side t.price best.price) apart (no_worse t.side t.price o.price best.price worse is.1))
+
+  -- it crosses, and the line pays for a lot
+  pub open-best : (best : Resting) → 1 ≤ lots → t.bank ≢ other → IsBest (opposite (opposite t.side)) (owned (opposite t.side) other t.arrival None orders) best → crosses t.side t.price best.price ≡ true → IsBest t.side (open_in (only other lots) t orders) best
+  open-best best some differ is_best cross =
+      let taker : Side = opposite (opposite t.side) in
+      let found = Among-filter (is_owned taker other t.arrival None) orders best is_best.there in
+      let three = and_parts (is_opposite taker best.side && is_of other best && ltb best.arrival t.arrival) true found.1 in
+      let two = and_parts (is_opposite taker best.side && is_of other best) (ltb best.arrival t.arrival) three.0 in
+      let one = and_parts (is_opposite taker best.side) (is_of other best) two.0 in
+      let owner : best.bank ≡ other = eqb-true best.bank other one.1 in
+      let sided : is_opposite t.side best.side ≡ true = subst (λ (s : Side). is_opposite s best.side ≡ true) (opposite_twice t.side) one.0 in
+      let reach : ℕ = only other lots best.bank in
+      let reached : 1 ≤ reach = omega (arith, some, cond-true (eqb best.bank other) lots 0 one.1) in
+      let foreign : not (eqb best.bank t.bank) ≡ true = not_from_false (eqb best.bank t.bank) (ne_eqb best.bank t.bank (λ own. differ (sym own ∙ owner))) in
+      record {
+        there = among_filter (λ (q : Resting). is_open t (only other lots q.bank) q) orders best found.0
+            (and_from (is_opposite t.side best.side && not (eqb best.bank t.bank) && leb 1 reach && crosses t.side t.price best.price) (ltb best.arrival t.arrival)
+            (and_from (is_opposite t.side best.side && not (eqb best.bank t.bank) && leb 1 reach) (crosses t.side t.price best.price)
+            (and_from (is_opposite t.side best.side && not (eqb best.bank t.bank)) (leb 1 reach)
+            (and_from (is_opposite t.side best.side) (not (eqb best.bank t.bank)) sided foreign) (le-leb 1 reach reached)) cross) two.1);
+        first = Each-of (λ (q : Resting). is_preferred t.side q best ≡ false) (open_in (only other lots) t orders) (λ o there.
+            subst (λ (s : Side). is_preferred s o best ≡ false) (opposite_twice t.side)
+            (Each-among (λ (q : Resting). is_preferred (opposite (opposite t.side)) q best ≡ false) (owned (opposite t.side) other t.arrival None orders) o is_best.first (open_owned o there).0));
+      }

@@ -1,6 +1,6 @@
 -- What the fills of a play cost, and between whom they are.
 use Rattle.std.proofs.Common.{ℕ, ◌≡◌, ◌≢◌, ◌+◌, ◌-◌, ◌*◌, ◌/◌, ◌≤◌, min, List, [], ◌∷◌, ◌⊎◌, refl, ap, sym, subst, ◌∙◌, arith}
-use Rattle.std.proofs.Math.Nat.{add-mul, mul-le-mul_left}
+use Rattle.std.proofs.Math.Nat.{add-mul, div_self, mul-le-mul_left}
 use Rattle.std.proofs.lemmas.Bool.{le-leb}
 use Rattle.fx_rules.specs.declared.orders.Resting.{Resting}
 use Rattle.fx_rules.specs.declared.orders.Fill.{Fill}
@@ -8,6 +8,7 @@ use Rattle.fx_rules.specs.Lists.{Each}
 use Rattle.fx_rules.specs.Sweep.{Taker, less}
 use Rattle.fx_rules.specs.Raise.{taker_of_resting}
 use Rattle.fx_rules.proofs.ListLemmas.{Each-append, total-append}
+use Rattle.fx_rules.proofs.Planning.{div_mono}
 use Rattle.credit_raise.specs.Two.{IsFillOf, lots_of}
 use Rattle.credit_raise.specs.inside.Playing.{only, other_of, lessened, lessened_all, joined, paid, SweptAmong, Played}
 use Rattle.credit_raise.proofs.Playing.{maker-of}
@@ -16,6 +17,10 @@ use Rattle.credit_raise.proofs.Meeting.{fill-between}
 
 least_last : (a b r : ℕ) → min a (min b r) ≤ r
 least_last a b r = omega arith
+
+-- a line of a lot's cost or more pays for a lot
+pub pays-one : (line weight : ℕ) → 1 ≤ weight → weight ≤ line → 1 ≤ line / weight
+pays-one line weight some enough = omega (arith, div_mono weight line weight some enough, div_self some)
 
 one_cost : (lots line weight : ℕ) → 1 ≤ weight → lots ≤ line / weight → lots * weight ≤ line
 one_cost lots line weight some most = omega (arith, mul-le-mul_left weight most)

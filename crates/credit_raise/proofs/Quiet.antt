@@ -11,7 +11,7 @@ use Rattle.credit_raise.proofs.Playing.{only_most}
 use Rattle.credit_raise.proofs.Living.{none_kept}
 
 -- no order is open
-unpaid-closed : (pair other lots : ℕ) (o : Resting) (waiting : List Resting) → lots ≡ 0 → open_in (only other lots) (taker_of_resting pair o) waiting ≡ []
+pub unpaid-closed : (pair other lots : ℕ) (o : Resting) (waiting : List Resting) → lots ≡ 0 → open_in (only other lots) (taker_of_resting pair o) waiting ≡ []
 unpaid-closed pair other lots o waiting none =
     none_kept (λ (w : Resting). is_open (taker_of_resting pair o) (only other lots w.bank) w) waiting
     (Each-of (λ (w : Resting). is_open (taker_of_resting pair o) (only other lots w.bank) w ≡ false) waiting

@@ -1,5 +1,5 @@
 -- Two banks' orders, one of the other's, and what waits after a turn.
-use Rattle.std.proofs.Common.{ℕ, ◌≡◌, ◌≢◌, ◌<◌, eqb, ltb, List, [], ◌∷◌, ◌++◌, ◌⊎◌, Some, inl, inr, sym, ◌∙◌}
+use Rattle.std.proofs.Common.{ℕ, ◌≡◌, ◌≢◌, eqb, ltb, List, [], ◌∷◌, ◌++◌, ◌⊎◌, Some, inl, inr, sym, ◌∙◌}
 use Rattle.std.proofs.lemmas.Bool.{cond_both, cond-true, cond-false, eq-eqb, ne_eqb}
 use Rattle.fx_rules.specs.declared.orders.Resting.{Resting}
 use Rattle.fx_rules.specs.Lists.{Among, Each}
@@ -27,6 +27,3 @@ other_differs i j bank differ (inl is) same =
     differ (sym is ∙ same ∙ cond-true (eqb bank i) j i (eq-eqb bank i is))
 other_differs i j bank differ (inr is) same =
     differ (sym (cond-false (eqb bank i) j i (ne_eqb bank i (λ own. differ (sym own ∙ is)))) ∙ sym same ∙ is)
-
-pub other_below : (i j bank count : ℕ) → i < count → j < count → other_of i j bank < count
-other_below i j bank count one two = cond_both (eqb bank i) j i (λ n. n < count) (λ _. two) (λ _. one)

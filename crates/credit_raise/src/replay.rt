@@ -60,9 +60,7 @@ impl Replay {
         steps: &mut Steps<L>,
     ) -> Result<(), Memory>
         requires weight { IsWeight self.old.weight }
-        requires banks { self.old.book.banks ≤ 64 }
         requires bank { order.now.bank < self.old.book.banks }
-        requires other { other < self.old.book.banks }
         requires differ { order.now.bank ≢ other }
         requires last { Each (λ waiting. waiting.arrival < order.now.arrival) self.old.book.orders }
         requires number { 1 ≤ order.now.number }
@@ -92,8 +90,6 @@ impl Replay {
         steps: &mut Steps<L>,
     ) -> Result<u32, Memory>
         requires weight { IsWeight self.old.weight }
-        requires banks { self.old.book.banks ≤ 64 }
-        requires other { other < self.old.book.banks }
         requires differ { order.now.bank ≢ other }
         ensures weight { self.new.weight ≡ self.old.weight }
         ensures banks { self.new.book.banks ≡ self.old.book.banks }
@@ -137,20 +133,17 @@ impl Replay {
         steps: &mut Steps<L>,
     ) -> Option<Resting>
         requires weight { IsWeight self.now.weight }
-        requires banks { self.now.book.banks ≤ 64 }
-        requires other { other < self.now.book.banks }
         requires differ { order.now.bank ≢ other }
         ensures best { IsBestOf order.now.side (open_in (only other (self.now.line / self.now.weight)) (taker_of_resting self.now.book.pair order.now) self.now.book.orders) result }
     {
-        let reach = reach_of(other, self.line / u64::from(self.weight));
-        let (maker, _place) = self.book.best(
-            order.side.opposite(),
-            &reach[..self.book.banks()],
-            Some(order.price),
-            order.arrival,
-            None,
-            steps,
-        )?;
+        if self.line < u64::from(self.weight) {
+            return None;
+        }
+        let side = order.side.opposite();
+        let (maker, _place) = self.book.best_of(other, side, order.arrival, None, steps)?;
+        if !order.price.crosses(maker.price, order.side) {
+            return None;
+        }
         Some(maker)
     }
 
@@ -176,14 +169,4 @@ impl Replay {
         }
         Ok(())
     }
-}
-
-/// The lots in reach of each bank, where one bank alone can be reached.
-pub(crate) fn reach_of(other: BankId, lots: u64) -> [u64; 64]
-    ensures one_each { length result ≡ 64 }
-    ensures reach { (bank : ℕ) → slice_index result bank ≡ only other lots bank }
-{
-    let mut reach = [0; 64];
-    reach[other.index()] = lots;
-    reach
 }

@@ -1,5 +1,5 @@
 -- Each turn goes on with the turns behind it, until none is left or the line pays for nothing more.
-use Rattle.std.proofs.Common.{ℕ, ◌≡◌, ◌≢◌, ◌+◌, ◌<◌, ◌++◌, [], List, refl, sym, ap, subst, ◌∙◌, arith, inl, inr, drop, append_assoc, append-nil}
+use Rattle.std.proofs.Common.{ℕ, ◌≡◌, ◌≢◌, ◌+◌, ◌++◌, [], List, refl, sym, ap, subst, ◌∙◌, arith, inl, inr, drop, append_assoc, append-nil}
 use Rattle.std.proofs.lemmas.List.{drop_all}
 use Rattle.fx_rules.specs.declared.orders.Fill.{Fill}
 use Rattle.fx_rules.specs.declared.orders.Resting.{Resting}
@@ -8,7 +8,7 @@ use Rattle.fx_rules.specs.Sound.{ArrivesBefore}
 use Rattle.fx_rules.proofs.Planning.{div_none}
 use Rattle.credit_raise.specs.inside.Playing.{Played, joined, lessened_all}
 use Rattle.credit_raise.proofs.Playing.{IsNext, played-turn, turn-next, turns-behind, before-earlier, before-absent, before-joined}
-use Rattle.credit_raise.proofs.Walking.{other_differs, other_below}
+use Rattle.credit_raise.proofs.Walking.{other_differs}
 use Rattle.credit_raise.proofs.Quiet.{unpaid-plays}
 use Rattle.credit_raise.proofs.raise.play.Goals as goal
 
@@ -83,13 +83,6 @@ loop-order-preserved g c =
       before = subst (Each (λ w. Each (ArrivesBefore w) rest)) (sym waits)
           (before-joined waiting order rest left own next.are.rising.0 next.before);
     }
-
-pub turn-requires-clause-other : goal.turn-requires-clause-other
-turn-requires-clause-other g c =
-    subst (λ n. n < c.loop-order.replay.book.banks) (sym c.other_of.ensures)
-    (other_below c.args.i c.args.j c.order-item.result.bank c.loop-order.replay.book.banks
-    (omega (arith, c.loop-order.invariant.banks, c.max-banks.ensures, c.index.ensures.value, c.index-2.ensures.value))
-    (omega (arith, c.loop-order.invariant.banks, c.max-banks.ensures, c.index.ensures.value, c.index-2.ensures.value)))
 
 pub returns-then-replay-from : goal.returns-then-replay-from
 returns-then-replay-from g c =

@@ -1,42 +1,57 @@
--- What the book seeks is what is open where the other bank alone can be reached.
-use Rattle.std.proofs.Common.{ℕ, ◌≡◌, ◌/◌, List, [], arith, refl, sym, ap, subst, ◌∙◌, take}
+-- The best of the other bank's is open where the line pays for a lot and the prices cross; else nothing is.
+use Rattle.std.proofs.Common.{ℕ, ◌≡◌, ◌/◌, List, [], None, arith, refl, sym, subst, ◌∙◌}
 use Rattle.fx_amounts.specs.Side.{opposite}
 use Rattle.fx_amounts.specs.declared.side.Side.{Side}
 use Rattle.fx_rules.specs.declared.orders.Resting.{Resting}
-use Rattle.fx_rules.specs.Sweep.{IsBest, open_in}
+use Rattle.fx_rules.specs.Sweep.{Taker, IsBest, open_in}
 use Rattle.fx_rules.specs.Raise.{taker_of_resting}
+use Rattle.fx_rules.proofs.Planning.{div_none}
+use Rattle.global_book.specs.Book.{owned}
 use Rattle.credit_raise.specs.inside.Playing.{IsBestOf, only}
-use Rattle.credit_raise.proofs.Looking.{reach_taken, sought-open, opposite_twice}
+use Rattle.credit_raise.proofs.Looking.{open-none, open-apart, open-best}
+use Rattle.credit_raise.proofs.Paying.{pays-one}
+use Rattle.credit_raise.proofs.Quiet.{unpaid-closed}
 use Rattle.credit_raise.proofs.replay.Replay.best_open.Goals as goal
+
+pub returns-then-self-from : goal.returns-then-self-from
+returns-then-self-from g c = record {
+  best = unpaid-closed c.args.self.now.book.pair c.args.other (c.args.self.now.line / c.args.self.now.weight) c.args.order.now c.args.self.now.book.orders
+      (div_none c.args.self.now.line c.args.self.now.weight (omega (arith, c.if-self-from.true, c.from.ensures)));
+}
 
 pub returns-in_err-maker : goal.returns-in_err-maker
 returns-in_err-maker g c =
-    let other : ℕ = c.args.other in
-    let line : ℕ = c.args.self.now.line in
-    let order : Resting = c.args.order.now in
+    let t : Taker = taker_of_resting c.args.self.now.book.pair c.args.order.now in
+    let lots : ℕ = c.args.self.now.line / c.args.self.now.weight in
     let orders : List Resting = c.args.self.now.book.orders in
-    let opens : List Resting = open_in (only other (line / c.args.self.now.weight)) (taker_of_resting c.args.self.now.book.pair order) orders in
-    let none : opens ≡ [] =
-    subst (λ n. open_in (only other (line / n)) (taker_of_resting c.args.self.now.book.pair order) orders ≡ []) c.from.ensures
-    (sym (sought-open other (line / c.from.result) c.args.self.now.book.pair (take c.banks.result c.reach_of-reach.result) c.opposite.result order orders
-    (λ bank. reach_taken c.reach_of-reach.result c.banks.result other (line / c.from.result) bank (omega (arith, c.banks.ensures.value, c.requires.other)) (c.reach_of-reach.ensures.reach bank))
-    c.opposite.ensures c.requires.differ)
-    ∙ c.in_err-maker.ensures.none.0 refl) in
-    record { best = subst (IsBestOf order.side opens) (sym c.from_residual.ensures) none }
+    record {
+      best = subst (IsBestOf t.side (open_in (only c.args.other lots) t orders)) (sym c.from_residual.ensures)
+          (open-none c.args.other lots t orders
+          (subst (λ (s : Side). owned s c.args.other t.arrival None orders ≡ []) c.opposite-side.ensures (c.in_err-maker.ensures.none.0 refl)));
+    }
+
+pub returns-then-not-crosses : goal.returns-then-not-crosses
+returns-then-not-crosses g c =
+    let t : Taker = taker_of_resting c.args.self.now.book.pair c.args.order.now in
+    let orders : List Resting = c.args.self.now.book.orders in
+    let maker : Resting = c.in_ok-maker.maker in
+    record {
+      best = open-apart c.args.other (c.args.self.now.line / c.args.self.now.weight) t orders maker
+          (subst (λ (s : Side). IsBest (opposite s) (owned s c.args.other t.arrival None orders) maker) c.opposite-side.ensures c.in_ok-maker.ensures.best)
+          (sym c.crosses.ensures ∙ c.if-not-crosses.true);
+    }
 
 pub returns : goal.returns
 returns g c =
-    let other : ℕ = c.args.other in
+    let t : Taker = taker_of_resting c.args.self.now.book.pair c.args.order.now in
     let line : ℕ = c.args.self.now.line in
-    let order : Resting = c.args.order.now in
+    let weight : ℕ = c.args.self.now.weight in
     let orders : List Resting = c.args.self.now.book.orders in
+    let maker : Resting = c.in_ok-maker.maker in
     record {
-      best = subst (λ (s : Side). IsBest s (open_in (only other (line / c.args.self.now.weight)) (taker_of_resting c.args.self.now.book.pair order) orders) c.in_ok-maker.maker)
-          (ap opposite c.opposite.ensures ∙ opposite_twice order.side)
-          (subst (λ n. IsBest (opposite c.opposite.result) (open_in (only other (line / n)) (taker_of_resting c.args.self.now.book.pair order) orders) c.in_ok-maker.maker) c.from.ensures
-          (subst (λ (os : List Resting). IsBest (opposite c.opposite.result) os c.in_ok-maker.maker)
-          (sought-open other (line / c.from.result) c.args.self.now.book.pair (take c.banks.result c.reach_of-reach.result) c.opposite.result order orders
-          (λ bank. reach_taken c.reach_of-reach.result c.banks.result other (line / c.from.result) bank (omega (arith, c.banks.ensures.value, c.requires.other)) (c.reach_of-reach.ensures.reach bank))
-          c.opposite.ensures c.requires.differ)
-          c.in_ok-maker.ensures.best));
+      best = open-best c.args.other (line / weight) t orders maker
+          (pays-one line weight c.requires.weight.0 (omega (arith, c.if-self-from.false, c.from.ensures)))
+          c.requires.differ
+          (subst (λ (s : Side). IsBest (opposite s) (owned s c.args.other t.arrival None orders) maker) c.opposite-side.ensures c.in_ok-maker.ensures.best)
+          (sym c.crosses.ensures ∙ c.if-not-crosses.false);
     }
