@@ -1,6 +1,6 @@
 -- Two banks' orders gathered from the best price on, and put in the order of their arrivals.
-use Rattle.std.proofs.Common.{ℕ, suc, ◌≡◌, ◌≢◌, ◌-◌, ◌^◌, ◌≤◌, ◌<◌, Bool, true, false, cond, ◌&&◌, eqb, leb, ltb, List, [], ◌∷◌, map, length, ◌⊎◌, inl, inr, Option, Some, None, refl, ap, sym, subst, ◌∙◌, arith}
-use Rattle.std.proofs.lemmas.Bool.{cases_Bool, cases_eq, cond-true, cond-false, both_ways, false≢true, false_from_ne_true, and_parts, and_from, and_right, eqb-true, eq-eqb, ne_eqb, lt-ltb, le-ltb, ltb-true, ltb-false, leb-true, le-leb}
+use Rattle.std.proofs.Common.{ℕ, suc, ◌≡◌, ◌≢◌, ◌-◌, ◌^◌, ◌≤◌, ◌<◌, Bool, true, false, cond, ◌&&◌, ◌||◌, eqb, leb, ltb, List, [], ◌∷◌, map, length, ◌⊎◌, inl, inr, Option, Some, None, refl, ap, sym, subst, ◌∙◌, arith}
+use Rattle.std.proofs.lemmas.Bool.{cases_Bool, cases_eq, cond-true, cond-false, both_ways, false≢true, false_from_ne_true, and_parts, and_from, and_right, or_left, or_right, eqb-true, eq-eqb, ne_eqb, lt-ltb, le-ltb, ltb-true, ltb-false, leb-true, le-leb}
 use Rattle.std.proofs.lemmas.Cmp.{nat_cmp_total, ranked}
 use Rattle.std.proofs.lemmas.Map.Keys.{sorted_head, sorted_tail}
 use Rattle.std.proofs.lemmas.Map.Views.{All-found}
@@ -25,10 +25,10 @@ use Rattle.price_levels.specs.declared.place.Place.{Place}
 use Rattle.global_book.specs.Book.{Book, IsBook, IsHeld, IsPlaceOf, first, is_of, is_of_from, is_owned, owned, standing_at}
 use Rattle.global_book.proofs.Sought.{behind-place}
 use Rattle.credit_raise.specs.declared.prices.Tops.{Tops}
-use Rattle.credit_raise.specs.inside.Prices.{crosses_top, crosses_tops, top_of, is_live, live_turns}
+use Rattle.credit_raise.specs.inside.Prices.{IsOf, IsTop, AreTops, is_crossed, tops_meet, crosses_top, crosses_tops, top_of, is_live, live_turns}
 use Rattle.credit_raise.specs.Two.{is_of_two}
 use Rattle.credit_raise.specs.inside.Two.{is_of_two_from, turns}
-use Rattle.credit_raise.proofs.Apart.{two-owner, owner-two}
+use Rattle.credit_raise.proofs.Apart.{none_in, two-owner, owner-two}
 use Rattle.credit_raise.specs.inside.Gathered.{Gathers, IsLiveOf, IsEarlyOf, IsPassed, IsLateOf}
 use Rattle.credit_raise.proofs.Looking.{opposite_twice, not_better}
 use Rattle.credit_raise.proofs.Facing.{opposite_side, opposite_is, live-turns}
@@ -418,3 +418,44 @@ gathered-turns i j tops_i tops_j book empty one gathered differ valid ordered no
     (λ o there.
     let it = among-live book i j tops_i tops_j o differ there in
     found_value (λ q. is_eq (nat_cmp o.arrival q)) gathered.entries o (all.all o it.0 it.1))
+
+-- ---- best prices that do not cross
+
+-- an order of a bank that crosses a price is not better than the bank's best, so that crosses it too
+buy_meets : (bank : ℕ) (orders : List Resting) (top : Option ℕ) (o : Resting) (sell : Option ℕ) → IsTop bank Buy orders top → IsOf bank Buy orders o → crosses_top Buy o.price sell ≡ true → is_crossed top sell ≡ true
+buy_meets bank orders None o sell none is cross = absurd (none o is)
+buy_meets bank orders (Some top) o None best is cross = absurd (false≢true cross)
+buy_meets bank orders (Some top) o (Some sell) best is cross = le-leb sell top (omega (arith, leb-true sell o.price cross, ltb-false top o.price (best o is)))
+
+sell_meets : (bank : ℕ) (orders : List Resting) (top : Option ℕ) (o : Resting) (buy : Option ℕ) → IsTop bank Sell orders top → IsOf bank Sell orders o → crosses_top Sell o.price buy ≡ true → is_crossed buy top ≡ true
+sell_meets bank orders None o buy none is cross = absurd (none o is)
+sell_meets bank orders (Some top) o None best is cross = absurd (false≢true cross)
+sell_meets bank orders (Some top) o (Some buy) best is cross = le-leb top buy (omega (arith, leb-true o.price buy cross, ltb-false o.price top (best o is)))
+
+sides : (side : Side) → (side ≡ Buy) ⊎ (side ≡ Sell)
+sides Buy = inl refl
+sides Sell = inr refl
+
+none_live : (bank : ℕ) (orders : List Resting) (mine theirs : Tops) (o : Resting) → AreTops bank orders mine → is_crossed mine.buy theirs.sell ≡ false → is_crossed theirs.buy mine.sell ≡ false → Among o orders → IsLiveOf bank theirs o → ⊥
+none_live bank orders mine theirs o are buys sells there is =
+    let at : (side : Side) → o.side ≡ side → crosses_top side o.price (top_of theirs (opposite side)) ≡ true
+    = λ side side_is. subst (λ (s : Side). crosses_top s o.price (top_of theirs (opposite s)) ≡ true) side_is is.crosses in
+    elim (sides o.side) [
+      | inl buy ↦ both_ways (is_crossed mine.buy theirs.sell) buys
+          (buy_meets bank orders mine.buy o theirs.sell are.buy (record { rests = there; owner = is.owner; side_is = buy }) (at Buy buy))
+      | inr sell ↦ both_ways (is_crossed theirs.buy mine.sell) sells
+          (sell_meets bank orders mine.sell o theirs.buy are.sell (record { rests = there; owner = is.owner; side_is = sell }) (at Sell sell))
+    ]
+
+pub apart-turns : (book : Book) (i j : ℕ) (tops_i tops_j : Tops) → i ≢ j → AreTops i book.orders tops_i → AreTops j book.orders tops_j → tops_meet tops_i tops_j ≡ false → live_turns i j tops_i tops_j 0 book.orders ≡ []
+apart-turns book i j tops_i tops_j differ are_i are_j apart =
+    let one : Bool = is_crossed tops_i.buy tops_j.sell in
+    let other : Bool = is_crossed tops_j.buy tops_i.sell in
+    let buys : one ≡ false = false_from_ne_true one (λ is. both_ways (one || other) apart (or_left one other is)) in
+    let sells : other ≡ false = false_from_ne_true other (λ is. both_ways (one || other) apart (or_right one other is)) in
+    none_in (live_turns i j tops_i tops_j 0 book.orders) (λ o there.
+    let it = among-live book i j tops_i tops_j o differ there in
+    elim it.1 [
+      | inl live ↦ none_live i book.orders tops_i tops_j o are_i buys sells it.0 live
+      | inr live ↦ none_live j book.orders tops_j tops_i o are_j sells buys it.0 live
+    ])

@@ -1,6 +1,6 @@
 ghost use Rattle.std.specs.Prelude.{◌≡◌};
 ghost use Rattle.global_book.specs.Book.{IsBook};
-ghost use Rattle.credit_raise.specs.inside.Prices.{AreTops, IsTop, crosses_tops, top_of};
+ghost use Rattle.credit_raise.specs.inside.Prices.{AreTops, IsTop, crosses_tops, is_crossed, top_of, tops_meet};
 
 use fx_amounts::{BankId, Price, Side};
 use fx_rules::Resting;
@@ -36,6 +36,13 @@ impl Tops {
         }
     }
 
+    /// Whether the best prices of two banks cross.
+    pub(crate) fn meet(&self, other: &Tops) -> bool
+        ensures { result ≡ tops_meet self.now other.now }
+    {
+        is_crossed(self.buy, other.sell) || is_crossed(other.buy, self.sell)
+    }
+
     /// Whether an order of another bank crosses the best price of the other side.
     pub(crate) fn are_crossed_by(&self, order: &Resting) -> bool
         ensures { result ≡ crosses_tops self.now order.now }
@@ -44,6 +51,16 @@ impl Tops {
             Some(top) => order.price.crosses(top, order.side),
             None => false,
         }
+    }
+}
+
+/// Whether a best buy crosses a best sell, where there are both.
+fn is_crossed(buy: Option<Price>, sell: Option<Price>) -> bool
+    ensures { result ≡ is_crossed buy sell }
+{
+    match (buy, sell) {
+        (Some(buy), Some(sell)) => buy.crosses(sell, Side::Buy),
+        _ => false,
     }
 }
 

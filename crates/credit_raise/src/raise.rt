@@ -27,7 +27,7 @@ use std::sync::ledger::Ledger;
 /// from the best price on, and have their turns in arrival order, as long as the line pays for a lot. What they have left
 /// is kept in a book of its own: each order is put in there at most once, each turn looks into it once, and once more for
 /// each fill. So it takes memory for these orders and for the fills, and the time of that many searches. Where the line does
-/// not pay for a lot it answers at once. `Memory` for want of memory.
+/// not pay for a lot, or the two banks' best prices do not cross, it answers at once. `Memory` for want of memory.
 pub fn plan_raise<L: Ledger>(
     alloc: Global,
     book: &PairBook,
@@ -73,6 +73,9 @@ fn fills_of_two<L: Ledger>(
     }
     let tops_i = Tops::of_bank(book, i, steps);
     let tops_j = Tops::of_bank(book, j, steps);
+    if !tops_i.meet(&tops_j) {
+        return Ok(Vec::new(alloc));
+    }
     let turns = live_turns(alloc, book, i, j, &tops_i, &tops_j, steps)?;
     play(alloc, pair, weight, i, j, eff, &turns, steps)
 }

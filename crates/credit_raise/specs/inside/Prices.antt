@@ -1,5 +1,5 @@
 -- The best prices of two banks, and the orders that cross the other bank's.
-use Rattle.std.specs.Prelude.{ℕ, ◌≡◌, ◌==◌, if◌then◌else◌, Bool, false, List, filter, Option, Some, None}
+use Rattle.std.specs.Prelude.{ℕ, ◌≡◌, ◌==◌, ◌||◌, if◌then◌else◌, Bool, false, List, filter, Option, Some, None}
 use Rattle.fx_amounts.specs.Price.{crosses}
 use Rattle.fx_amounts.specs.Side.{opposite}
 use Rattle.fx_amounts.specs.declared.side.Side.{Side}
@@ -39,6 +39,15 @@ crosses_top side price (Some top) = crosses side price top
 -- an order crosses the best price of a bank's other side
 abbrev pub crosses_tops : Tops → Resting → Bool
 crosses_tops tops order = crosses_top order.side order.price (top_of tops (opposite order.side))
+
+-- a best buy crosses a best sell, where there are both
+abbrev pub is_crossed : Option ℕ → Option ℕ → Bool
+is_crossed None sell = false
+is_crossed (Some buy) sell = crosses_top Buy buy sell
+
+-- the best prices of two banks cross
+abbrev pub tops_meet : Tops → Tops → Bool
+tops_meet tops others = is_crossed tops.buy others.sell || is_crossed others.buy tops.sell
 
 -- an order of one of two banks crosses the best price of the other's
 abbrev pub is_live : ℕ → Tops → Tops → Resting → Bool

@@ -1,11 +1,12 @@
 -- The live turns' fills are those of all turns.
-use Rattle.std.proofs.Common.{ℕ, [], List, ◌∙◌, arith, sym, subst}
+use Rattle.std.proofs.Common.{ℕ, [], List, refl, ◌∙◌, arith, sym, subst}
 use Rattle.std.proofs.lemmas.Result.{IfOk-weaker}
 use Rattle.fx_rules.specs.declared.orders.Resting.{Resting}
 use Rattle.fx_rules.proofs.Planning.{div_none}
 use Rattle.credit_raise.specs.inside.Two.{turns}
 use Rattle.credit_raise.specs.inside.Playing.{AreTurns, Played}
 use Rattle.credit_raise.proofs.Facing.{live-turns, live-played}
+use Rattle.credit_raise.proofs.Gathering.{apart-turns}
 use Rattle.credit_raise.proofs.Quiet.{unpaid-plays}
 use Rattle.credit_raise.proofs.raise.fills_of_two.Goals as goal
 
@@ -33,3 +34,16 @@ returns-clause-played g c =
     (subst (λ (os : List Resting). Played c.args.book.now.pair c.args.weight i j c.args.eff [] os fills.items) (c.deref.ensures.value ∙ c.in_ok-turns.ensures.turns)
     (subst (λ n. Played n c.args.weight i j c.args.eff [] c.deref.result.now fills.items) c.pair-pair.ensures.value played)))
     c.play.ensures.played
+
+pub returns-then-not-meet-clause-played : goal.returns-then-not-meet-clause-played
+returns-then-not-meet-clause-played g c =
+    let i : ℕ = c.args.i in
+    let j : ℕ = c.args.j in
+    let pair : ℕ = c.args.book.now.pair in
+    let orders : List Resting = c.args.book.now.orders in
+    subst (Played pair c.args.weight i j c.args.eff [] (turns i j 0 orders)) (sym c.new-then-not-meet.ensures.items)
+    (live-played pair c.args.weight i j c.args.eff orders c.of_bank-tops_i.result c.of_bank-tops_j.result []
+    c.requires.differ c.pair-pair.ensures.valid.rising c.of_bank-tops_i.ensures.tops c.of_bank-tops_j.ensures.tops
+    (subst (λ (os : List Resting). Played pair c.args.weight i j c.args.eff [] os [])
+    (sym (apart-turns c.args.book.now i j c.of_bank-tops_i.result c.of_bank-tops_j.result c.requires.differ c.of_bank-tops_i.ensures.tops c.of_bank-tops_j.ensures.tops
+    (sym c.meet.ensures ∙ c.if-not-meet.true))) refl))
