@@ -13,7 +13,7 @@ use Rattle.fx_rules.specs.Sweep.{is_opposite, is_better}
 use Rattle.fx_rules.specs.Raise.{taker_of_resting}
 use Rattle.fx_rules.proofs.ListLemmas.{Each-among, Each-of, Each-filter, EachPair-filter, Among-filter}
 use Rattle.fx_rules.proofs.Opens.{is_open-says}
-use Rattle.global_book.specs.Book.{Book, IsBook, IsHeld, IsLevelOf, is_of, is_worse_of}
+use Rattle.global_book.specs.Book.{Book, IsBook, IsHeld, IsLevelOf, IsPriceOf, is_of, is_worse_of, level_at}
 use Rattle.credit_raise.specs.declared.prices.Tops.{Tops}
 use Rattle.credit_raise.specs.inside.Two.{is_of_two_from, turns}
 use Rattle.credit_raise.specs.inside.Playing.{only, other_of, AreTurns, Played}
@@ -52,15 +52,19 @@ worse_is bank side orders o is =
     (and_from (is_of bank o) (is_opposite (opposite side) o.side) (eq-eqb o.bank bank is.owner)
     (subst (λ (s : Side). is_opposite (opposite side) s ≡ true) (sym is.side_is) (opposite_side side))) refl
 
-pub top-none : (bank : ℕ) (side : Side) (orders : List Resting) → IsLevelOf (opposite side) bank None orders None → IsTop bank side orders None
+top-none : (bank : ℕ) (side : Side) (orders : List Resting) → IsLevelOf (opposite side) bank None orders None → IsTop bank side orders None
 top-none bank side orders none o is =
     both_ways (is_worse_of (opposite side) bank None o)
     (Each-among (λ (q : Resting). is_worse_of (opposite side) bank None q ≡ false) orders o none is.rests) (worse_is bank side orders o is)
 
-pub top-some : (bank : ℕ) (side : Side) (orders : List Resting) (level : ℕ × ℕ) → IsLevelOf (opposite side) bank None orders (Some level) → IsTop bank side orders (Some level.0)
+top-some : (bank : ℕ) (side : Side) (orders : List Resting) (level : ℕ × ℕ) → IsLevelOf (opposite side) bank None orders (Some level) → IsTop bank side orders (Some level.0)
 top-some bank side orders level found o is =
     Each-among (λ (q : Resting). is_worse_of (opposite side) bank None q ≡ true → is_better (opposite side) q.price level.0 ≡ false) orders o found.first is.rests
     (worse_is bank side orders o is)
+
+pub top-price : (bank : ℕ) (side : Side) (orders : List Resting) (price : Option ℕ) → IsPriceOf (opposite side) bank None orders price → IsTop bank side orders price
+top-price bank side orders None none = top-none bank side orders none
+top-price bank side orders (Some price) level = top-some bank side orders (level_at (opposite side) bank orders price) level
 
 top_met : (side : Side) (price bank : ℕ) (orders : List Resting) (w : Resting) (top : Option ℕ) → IsTop bank (opposite side) orders top → IsOf bank (opposite side) orders w → crosses side price w.price ≡ true → crosses_top side price top ≡ true
 top_met side price bank orders w None none is cross = absurd (none w is)

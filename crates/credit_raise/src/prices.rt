@@ -73,6 +73,5 @@ fn top_of<L: Ledger>(
 ) -> Option<Price>
     ensures top { IsTop bank side book.now.orders result }
 {
-    let (price, _lots) = book.next_level(bank, side, None, steps)?;
-    Some(price)
+    book.next_price(bank, side, None, steps)
 }

@@ -5,7 +5,7 @@ ghost use Rattle.fx_amounts.specs.Price.{crosses};
 ghost use Rattle.fx_amounts.specs.Side.{opposite};
 ghost use Rattle.fx_rules.specs.Lists.{Each};
 ghost use Rattle.fx_rules.specs.Sweep.{IsBest, is_order};
-ghost use Rattle.global_book.specs.Book.{AreInTime, AreOwners, HasRoom, IsLevelOf, KeepsRoom, IsBook, IsPlaceOf, IsPriceOf, Rests, RestsAbove, first, is_of, is_of_from, level_lots, TakesRoom, owned, relotted, sought};
+ghost use Rattle.global_book.specs.Book.{AreInTime, AreOwners, HasRoom, KeepsRoom, IsBook, IsPlaceOf, IsPriceOf, Rests, RestsAbove, first, is_of, is_of_from, level_lots, TakesRoom, owned, relotted, sought};
 ghost use Rattle.global_book.specs.inside.Search.{end_of};
 ghost use Rattle.global_book.specs.inside.Rows.{IsEmptyRow, place_in, its_price};
 
@@ -320,26 +320,6 @@ impl PairBook {
         ensures valid { IsBook self.now }
     {
         self.orders.lots_at(bank, side, price)
-    }
-
-    /// The best price, worse than `past` where there is one, at which a bank has orders of a side, and all lots that they
-    /// have left there; `None` where there is no such price. One step at most.
-    pub fn next_level<L: Ledger>(
-        &self,
-        bank: BankId,
-        side: Side,
-        past: Option<Price>,
-        steps: &mut Steps<L>,
-    ) -> Option<(Price, u128)>
-        ensures level { IsLevelOf (opposite side) bank past self.now.orders result }
-        ensures steps { steps.new ≤ steps.old + 1 }
-        ensures valid { IsBook self.now }
-    {
-        let last = end_of(past);
-        let place = self
-            .price_rows
-            .first_behind(bank, side, last.as_ref(), steps)?;
-        Some((place.price, self.orders.lots_at(bank, side, place.price)))
     }
 }
 
