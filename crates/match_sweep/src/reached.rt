@@ -36,6 +36,7 @@ pub fn levels_in_reach<L: Ledger>(
 {
     let mut walk = LevelWalk::new(book, lines, weight, bank, side, steps);
     let mut levels = Vec::new(alloc);
+    levels.reserve_exact(SHOWN_LEVELS)?;
     while levels.len() < SHOWN_LEVELS {
         let Some(level) = walk.next_level(book, steps) else {
             break;

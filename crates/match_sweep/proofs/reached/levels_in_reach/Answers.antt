@@ -1,5 +1,5 @@
 -- The levels so far are the first ones of every such order's sweep; at the end of the walk, or once there are ten, they are all.
-use Rattle.std.proofs.Common.{ap, sym, subst, arith}
+use Rattle.std.proofs.Common.{ap, ◌∙◌, sym, subst, arith}
 use Rattle.fx_amounts.specs.Quantity.{IsWeight}
 use Rattle.match_sweep.specs.declared.reached.LevelWalk.{LevelWalk}
 use Rattle.match_sweep.specs.Reaches.{IsReached}
@@ -9,9 +9,9 @@ use Rattle.match_sweep.proofs.reached.levels_in_reach.Goals.{else-loop-walk-test
 
 pub loop-walk-init : goal.loop-walk-init
 loop-walk-init g c = λ begins.
-    way_begins c.args.book.now begins.valid c.new-walk.result c.args.bank c.new-levels.result.items
+    way_begins c.args.book.now begins.valid c.new-walk.result c.args.bank c.reserve_exact.new.self.items
     (subst IsWeight (sym (ap (λ (w : LevelWalk). w.weight) begins.is)) c.requires.weight)
-    (ap (λ (w : LevelWalk). w.last) begins.is) begins.long begins.heads begins.own c.new-levels.ensures.items
+    (ap (λ (w : LevelWalk). w.last) begins.is) begins.long begins.heads begins.own (c.reserve_exact.ensures.items ∙ c.new-levels.ensures.items)
 
 pub next_level-requires : goal.next_level-requires
 next_level-requires g c =
