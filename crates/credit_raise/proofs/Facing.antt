@@ -1,5 +1,5 @@
 -- The orders that cross the best price of the other bank are all that can take or be taken.
-use Rattle.std.proofs.Common.{ℕ, ◌≡◌, ◌≢◌, ◌≤◌, ◌^◌, true, false, ◌&&◌, eqb, ltb, List, [], ◌⊎◌, inl, inr, Option, Some, None, refl, ap, sym, ◌∙◌, subst, arith}
+use Rattle.std.proofs.Common.{ℕ, ◌≡◌, ◌≢◌, ◌≤◌, true, false, ◌&&◌, eqb, List, [], ◌⊎◌, inl, inr, Option, Some, None, refl, ap, sym, ◌∙◌, subst, arith}
 use Rattle.std.proofs.lemmas.Bool.{cond_both, cond-true, cond-false, eq-eqb, eqb-true, ne_eqb, le-leb, leb-true, ltb-false, and_from, false≢true, both_ways}
 use Rattle.fx_amounts.specs.Price.{crosses}
 use Rattle.fx_amounts.specs.Side.{opposite}
@@ -15,7 +15,8 @@ use Rattle.fx_rules.proofs.ListLemmas.{Each-among, Each-of, Each-filter, EachPai
 use Rattle.fx_rules.proofs.Opens.{is_open-says}
 use Rattle.global_book.specs.Book.{Book, IsBook, IsHeld, IsLevelOf, IsPriceOf, is_of, is_worse_of, level_at}
 use Rattle.credit_raise.specs.declared.prices.Tops.{Tops}
-use Rattle.credit_raise.specs.inside.Two.{is_of_two_from, turns}
+use Rattle.credit_raise.specs.Two.{is_of_two}
+use Rattle.credit_raise.specs.inside.Two.{turns}
 use Rattle.credit_raise.specs.inside.Playing.{only, other_of, AreTurns, Played}
 use Rattle.credit_raise.specs.inside.Prices.{IsOf, IsTop, AreTops, top_of, crosses_top, crosses_tops, is_live, live_turns}
 use Rattle.credit_raise.proofs.Looking.{reached_is, opposite_twice}
@@ -105,24 +106,24 @@ spots-live pair i j orders tops_i tops_j differ are_i are_j = record {
       ];
 }
 
-turns-among : (i j : ℕ) (orders : List Resting) → Each (λ o. Among o orders) (turns i j 0 orders)
+turns-among : (i j : ℕ) (orders : List Resting) → Each (λ o. Among o orders) (turns i j orders)
 turns-among i j orders =
-    Each-of (λ o. Among o orders) (turns i j 0 orders) (λ o there. (Among-filter (λ (q : Resting). ltb q.arrival (2 ^ 64) && is_of_two_from i j 0 q) orders o there).0)
+    Each-of (λ o. Among o orders) (turns i j orders) (λ o there. (Among-filter (is_of_two i j) orders o there).0)
 
 -- What the live turns make all turns make.
 pub live-played : (pair weight i j line : ℕ) (orders : List Resting) (tops_i tops_j : Tops) (fills : List Fill) → i ≢ j → EachPair ArrivesBefore orders → AreTops i orders tops_i → AreTops j orders tops_j
-    → Played pair weight i j line [] (live_turns i j tops_i tops_j 0 orders) fills → Played pair weight i j line [] (turns i j 0 orders) fills
+    → Played pair weight i j line [] (live_turns i j tops_i tops_j orders) fills → Played pair weight i j line [] (turns i j orders) fills
 live-played pair weight i j line orders tops_i tops_j fills differ rising are_i are_j played =
-    played-all (is_live i tops_i tops_j) pair i j weight orders (spots-live pair i j orders tops_i tops_j differ are_i are_j) rising line [] (turns i j 0 orders) fills
+    played-all (is_live i tops_i tops_j) pair i j weight orders (spots-live pair i j orders tops_i tops_j differ are_i are_j) rising line [] (turns i j orders) fills
     (turns-among i j orders) (turns-owners i j orders) tt played
 
 -- the live turns can be played
-pub live-turns : (book : Book) (i j : ℕ) (tops_i tops_j : Tops) → IsBook book → AreTurns i j (live_turns i j tops_i tops_j 0 book.orders)
+pub live-turns : (book : Book) (i j : ℕ) (tops_i tops_j : Tops) → IsBook book → AreTurns i j (live_turns i j tops_i tops_j book.orders)
 live-turns book i j tops_i tops_j valid = record {
-  owners = Each-filter (λ (o : Resting). (o.bank ≡ i) ⊎ (o.bank ≡ j)) (is_live i tops_i tops_j) (turns i j 0 book.orders) (turns-owners i j book.orders);
-  numbers = Each-filter (λ (o : Resting). 1 ≤ o.number) (is_live i tops_i tops_j) (turns i j 0 book.orders)
-      (Each-of (λ (o : Resting). 1 ≤ o.number) (turns i j 0 book.orders) (λ o there.
-      (Each-among (IsHeld book.banks) book.orders o valid.held (Each-among (λ (q : Resting). Among q book.orders) (turns i j 0 book.orders) o (turns-among i j book.orders) there)).number_least));
-  rising = EachPair-filter ArrivesBefore (is_live i tops_i tops_j) (turns i j 0 book.orders)
-      (EachPair-filter ArrivesBefore (λ (q : Resting). ltb q.arrival (2 ^ 64) && is_of_two_from i j 0 q) book.orders valid.rising);
+  owners = Each-filter (λ (o : Resting). (o.bank ≡ i) ⊎ (o.bank ≡ j)) (is_live i tops_i tops_j) (turns i j book.orders) (turns-owners i j book.orders);
+  numbers = Each-filter (λ (o : Resting). 1 ≤ o.number) (is_live i tops_i tops_j) (turns i j book.orders)
+      (Each-of (λ (o : Resting). 1 ≤ o.number) (turns i j book.orders) (λ o there.
+      (Each-among (IsHeld book.banks) book.orders o valid.held (Each-among (λ (q : Resting). Among q book.orders) (turns i j book.orders) o (turns-among i j book.orders) there)).number_least));
+  rising = EachPair-filter ArrivesBefore (is_live i tops_i tops_j) (turns i j book.orders)
+      (EachPair-filter ArrivesBefore (is_of_two i j) book.orders valid.rising);
 }

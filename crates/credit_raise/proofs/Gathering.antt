@@ -27,7 +27,7 @@ use Rattle.global_book.proofs.Sought.{behind-place}
 use Rattle.credit_raise.specs.declared.prices.Tops.{Tops}
 use Rattle.credit_raise.specs.inside.Prices.{IsOf, IsTop, AreTops, is_crossed, tops_meet, crosses_top, crosses_tops, top_of, is_live, live_turns}
 use Rattle.credit_raise.specs.Two.{is_of_two}
-use Rattle.credit_raise.specs.inside.Two.{is_of_two_from, turns}
+use Rattle.credit_raise.specs.inside.Two.{turns}
 use Rattle.credit_raise.proofs.Apart.{none_in, two-owner, owner-two}
 use Rattle.credit_raise.specs.inside.Gathered.{Gathers, IsLiveOf, IsEarlyOf, IsPassed, IsLateOf}
 use Rattle.credit_raise.proofs.Looking.{opposite_twice, not_better}
@@ -362,27 +362,21 @@ found_value test (e ∷ es) o is =
     ]
 
 -- the live turns are the orders of the two banks that cross the other's best price
-live-among : (book : Book) (i j : ℕ) (tops_i tops_j : Tops) (o : Resting) → i ≢ j → IsBook book → Among o book.orders → IsLiveOf i tops_j o ⊎ IsLiveOf j tops_i o → Among o (live_turns i j tops_i tops_j 0 book.orders)
-live-among book i j tops_i tops_j o differ valid there is =
-    let held : IsHeld book.banks o = Each-among (IsHeld book.banks) book.orders o valid.held there in
+live-among : (orders : List Resting) (i j : ℕ) (tops_i tops_j : Tops) (o : Resting) → i ≢ j → Among o orders → IsLiveOf i tops_j o ⊎ IsLiveOf j tops_i o → Among o (live_turns i j tops_i tops_j orders)
+live-among orders i j tops_i tops_j o differ there is =
     let two : is_of_two i j o ≡ true = owner-two i j o (elim is [ inl one ↦ inl one.owner | inr other ↦ inr other.owner ]) in
     let live : is_live i tops_i tops_j o ≡ true = elim is [
       | inl one ↦ ap (λ (ts : Tops). crosses_tops ts o) (cond-true (eqb o.bank i) tops_j tops_i (eq-eqb o.bank i one.owner)) ∙ one.crosses
       | inr other ↦ ap (λ (ts : Tops). crosses_tops ts o) (cond-false (eqb o.bank i) tops_j tops_i (ne_eqb o.bank i (λ same. differ (sym same ∙ other.owner)))) ∙ other.crosses
     ] in
-    among_filter (is_live i tops_i tops_j) (turns i j 0 book.orders) o
-    (among_filter (λ (q : Resting). ltb q.arrival (2 ^ 64) && is_of_two_from i j 0 q) book.orders o there
-    (and_from (ltb o.arrival (2 ^ 64)) (is_of_two_from i j 0 o) (lt-ltb o.arrival (2 ^ 64) held.arrival_most)
-    (and_from (is_of_two i j o) (leb 0 o.arrival) two (le-leb 0 o.arrival (omega arith))))) live
+    among_filter (is_live i tops_i tops_j) (turns i j orders) o (among_filter (is_of_two i j) orders o there two) live
 
-among-live : (book : Book) (i j : ℕ) (tops_i tops_j : Tops) (o : Resting) → i ≢ j → Among o (live_turns i j tops_i tops_j 0 book.orders) → Among o book.orders × (IsLiveOf i tops_j o ⊎ IsLiveOf j tops_i o)
-among-live book i j tops_i tops_j o differ there =
-    let live = Among-filter (is_live i tops_i tops_j) (turns i j 0 book.orders) o there in
-    let turn = Among-filter (λ (q : Resting). ltb q.arrival (2 ^ 64) && is_of_two_from i j 0 q) book.orders o live.0 in
-    let from = and_parts (ltb o.arrival (2 ^ 64)) (is_of_two_from i j 0 o) turn.1 in
-    let two = and_parts (is_of_two i j o) (leb 0 o.arrival) from.1 in (
+among-live : (orders : List Resting) (i j : ℕ) (tops_i tops_j : Tops) (o : Resting) → i ≢ j → Among o (live_turns i j tops_i tops_j orders) → Among o orders × (IsLiveOf i tops_j o ⊎ IsLiveOf j tops_i o)
+among-live orders i j tops_i tops_j o differ there =
+    let live = Among-filter (is_live i tops_i tops_j) (turns i j orders) o there in
+    let turn = Among-filter (is_of_two i j) orders o live.0 in (
       turn.0,
-      elim (two-owner i j o two.0) [
+      elim (two-owner i j o turn.1) [
         | inl is ↦ inl (record {
           owner = is;
           crosses = ap (λ (ts : Tops). crosses_tops ts o) (sym (cond-true (eqb o.bank i) tops_j tops_i (eq-eqb o.bank i is))) ∙ live.1;
@@ -396,7 +390,7 @@ among-live book i j tops_i tops_j o differ there =
 
 -- what is gathered of two banks is, in order, the live turns
 pub gathered-turns : (i j : ℕ) (tops_i tops_j : Tops) (book : Book) (empty one gathered : BTreeMap ℕ Resting) → i ≢ j → IsBook book → IsOrdered nat_cmp gathered → ((q : ℕ) → get nat_cmp empty q ≡ None)
-    → Gathers (IsLiveOf i tops_j) book.orders empty one → Gathers (IsLiveOf j tops_i) book.orders one gathered → values gathered ≡ live_turns i j tops_i tops_j 0 book.orders
+    → Gathers (IsLiveOf i tops_j) book.orders empty one → Gathers (IsLiveOf j tops_i) book.orders one gathered → values gathered ≡ live_turns i j tops_i tops_j book.orders
 gathered-turns i j tops_i tops_j book empty one gathered differ valid ordered none first_bank second_bank =
     let orders : List Resting = book.orders in
     let Live : Resting → Type 0 = λ o. IsLiveOf i tops_j o ⊎ IsLiveOf j tops_i o in
@@ -408,15 +402,15 @@ gathered-turns i j tops_i tops_j book empty one gathered differ valid ordered no
     ] in
     let keyed : Each (λ (e : ℕ × Resting). e.1.arrival ≡ e.0) gathered.entries =
     Each-weaker (λ (e : ℕ × Resting). get nat_cmp gathered e.0 ≡ Some e.1) (λ (e : ℕ × Resting). e.1.arrival ≡ e.0) (λ e is. (kept e is).0) gathered.entries found in
-    same_rising (values gathered) (live_turns i j tops_i tops_j 0 orders)
+    same_rising (values gathered) (live_turns i j tops_i tops_j orders)
     (entries_rising gathered.entries ordered keyed)
-    (pairs_weaker ArrivesBefore Earlier (λ a b is. is.arrival) (live_turns i j tops_i tops_j 0 orders) (live-turns book i j tops_i tops_j valid).rising)
+    (pairs_weaker ArrivesBefore Earlier (λ a b is. is.arrival) (live_turns i j tops_i tops_j orders) (live-turns book i j tops_i tops_j valid).rising)
     (λ o there.
     let e = Among-map (λ (e : ℕ × Resting). e.1) gathered.entries o there in
     let it = kept e.0 (Each-among (λ (e : ℕ × Resting). get nat_cmp gathered e.0 ≡ Some e.1) gathered.entries e.0 found e.1) in
-    subst (λ (q : Resting). Among q (live_turns i j tops_i tops_j 0 orders)) (sym e.2) (live-among book i j tops_i tops_j e.0.1 differ valid it.1 it.2))
+    subst (λ (q : Resting). Among q (live_turns i j tops_i tops_j orders)) (sym e.2) (live-among orders i j tops_i tops_j e.0.1 differ it.1 it.2))
     (λ o there.
-    let it = among-live book i j tops_i tops_j o differ there in
+    let it = among-live orders i j tops_i tops_j o differ there in
     found_value (λ q. is_eq (nat_cmp o.arrival q)) gathered.entries o (all.all o it.0 it.1))
 
 -- ---- best prices that do not cross
@@ -447,15 +441,15 @@ none_live bank orders mine theirs o are buys sells there is =
           (sell_meets bank orders mine.sell o theirs.buy are.sell (record { rests = there; owner = is.owner; side_is = sell }) (at Sell sell))
     ]
 
-pub apart-turns : (book : Book) (i j : ℕ) (tops_i tops_j : Tops) → i ≢ j → AreTops i book.orders tops_i → AreTops j book.orders tops_j → tops_meet tops_i tops_j ≡ false → live_turns i j tops_i tops_j 0 book.orders ≡ []
-apart-turns book i j tops_i tops_j differ are_i are_j apart =
+pub apart-turns : (orders : List Resting) (i j : ℕ) (tops_i tops_j : Tops) → i ≢ j → AreTops i orders tops_i → AreTops j orders tops_j → tops_meet tops_i tops_j ≡ false → live_turns i j tops_i tops_j orders ≡ []
+apart-turns orders i j tops_i tops_j differ are_i are_j apart =
     let one : Bool = is_crossed tops_i.buy tops_j.sell in
     let other : Bool = is_crossed tops_j.buy tops_i.sell in
     let buys : one ≡ false = false_from_ne_true one (λ is. both_ways (one || other) apart (or_left one other is)) in
     let sells : other ≡ false = false_from_ne_true other (λ is. both_ways (one || other) apart (or_right one other is)) in
-    none_in (live_turns i j tops_i tops_j 0 book.orders) (λ o there.
-    let it = among-live book i j tops_i tops_j o differ there in
+    none_in (live_turns i j tops_i tops_j orders) (λ o there.
+    let it = among-live orders i j tops_i tops_j o differ there in
     elim it.1 [
-      | inl live ↦ none_live i book.orders tops_i tops_j o are_i buys sells it.0 live
-      | inr live ↦ none_live j book.orders tops_j tops_i o are_j sells buys it.0 live
+      | inl live ↦ none_live i orders tops_i tops_j o are_i buys sells it.0 live
+      | inr live ↦ none_live j orders tops_j tops_i o are_j sells buys it.0 live
     ])

@@ -4,7 +4,6 @@ ghost use Rattle.fx_rules.specs.Lists.{Each};
 ghost use Rattle.fx_rules.specs.Session.{Header};
 ghost use Rattle.fx_rules.specs.State.{State};
 ghost use Rattle.fx_rules.specs.Raise.{Turned};
-ghost use Rattle.global_book.specs.Book.{IsBook};
 ghost use Rattle.credit_raise.specs.Two.{IsFillOf, IsRaised, lots_of};
 ghost use Rattle.credit_raise.specs.inside.Two.{turns};
 ghost use Rattle.credit_raise.specs.inside.Playing.{AreTurns, Played, other_of};
@@ -64,8 +63,7 @@ fn fills_of_two<L: Ledger>(
 ) -> Result<Vec<Fill>, Memory>
     requires weight { IsWeight weight }
     requires differ { i ≢ j }
-    ensures played { IfOk result (λ fills. Played book.now.pair weight i j eff [] (turns i j 0 book.now.orders) fills.items) }
-    ensures valid { IsBook book.now }
+    ensures played { IfOk result (λ fills. Played book.now.pair weight i j eff [] (turns i j book.now.orders) fills.items) }
 {
     let pair = book.pair();
     if eff.get() < u64::from(weight) {

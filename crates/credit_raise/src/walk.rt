@@ -26,7 +26,7 @@ pub(crate) fn live_turns<L: Ledger>(
     steps: &mut Steps<L>,
 ) -> Result<Vec<Resting>, Memory>
     requires differ { i ≢ j }
-    ensures turns { IfOk result (λ turns. turns.items ≡ live_turns i j tops_i.now tops_j.now 0 book.now.orders) }
+    ensures turns { IfOk result (λ turns. turns.items ≡ live_turns i j tops_i.now tops_j.now book.now.orders) }
     ensures valid { IsBook book.now }
 {
     let mut turns = BTreeMap::new(alloc);

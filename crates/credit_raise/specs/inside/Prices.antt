@@ -54,5 +54,5 @@ abbrev pub is_live : ℕ → Tops → Tops → Resting → Bool
 is_live i tops_i tops_j order = crosses_tops (if order.bank == i then tops_j else tops_i) order
 
 -- the turns of those orders
-abbrev pub live_turns : ℕ → ℕ → Tops → Tops → ℕ → List Resting → List Resting
-live_turns i j tops_i tops_j arrival orders = filter (is_live i tops_i tops_j) (turns i j arrival orders)
+abbrev pub live_turns : ℕ → ℕ → Tops → Tops → List Resting → List Resting
+live_turns i j tops_i tops_j orders = filter (is_live i tops_i tops_j) (turns i j orders)

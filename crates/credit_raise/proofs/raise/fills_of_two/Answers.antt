@@ -10,40 +10,46 @@ use Rattle.credit_raise.proofs.Gathering.{apart-turns}
 use Rattle.credit_raise.proofs.Quiet.{unpaid-plays}
 use Rattle.credit_raise.proofs.raise.fills_of_two.Goals as goal
 
-pub returns-then-get-from-clause-played : goal.returns-then-get-from-clause-played
-returns-then-get-from-clause-played g c =
-    subst (Played c.args.book.now.pair c.args.weight c.args.i c.args.j c.args.eff [] (turns c.args.i c.args.j 0 c.args.book.now.orders)) (sym c.new.ensures.items)
-    (unpaid-plays c.args.book.now.pair c.args.weight c.args.i c.args.j c.args.eff [] (turns c.args.i c.args.j 0 c.args.book.now.orders)
-    (div_none c.args.eff c.args.weight (omega (arith, c.if-get-from.true, c.get.ensures.value, c.from.ensures))))
+pub returns-then-get-from : goal.returns-then-get-from
+returns-then-get-from g c =
+    record {
+      played = subst (Played c.args.book.now.pair c.args.weight c.args.i c.args.j c.args.eff [] (turns c.args.i c.args.j c.args.book.now.orders)) (sym c.new.ensures.items)
+          (unpaid-plays c.args.book.now.pair c.args.weight c.args.i c.args.j c.args.eff [] (turns c.args.i c.args.j c.args.book.now.orders)
+          (div_none c.args.eff c.args.weight (omega (arith, c.if-get-from.true, c.get.ensures.value, c.from.ensures))));
+    }
 
 pub play-requires-clause-turns : goal.play-requires-clause-turns
 play-requires-clause-turns g c =
     subst (AreTurns c.args.i c.args.j) (sym (c.deref.ensures.value ∙ c.in_ok-turns.ensures.turns))
     (live-turns c.args.book.now c.args.i c.args.j c.of_bank-tops_i.result c.of_bank-tops_j.result c.in_ok-turns.ensures.valid)
 
-pub returns-clause-played : goal.returns-clause-played
-returns-clause-played g c =
+pub returns : goal.returns
+returns g c =
     let i : ℕ = c.args.i in
     let j : ℕ = c.args.j in
     let orders : List Resting = c.args.book.now.orders in
-    IfOk-weaker c.play.result (λ fills. Played c.pair-pair.result c.args.weight i j c.args.eff [] c.deref.result.now fills.items)
-    (λ fills. Played c.args.book.now.pair c.args.weight i j c.args.eff [] (turns i j 0 orders) fills.items)
-    (λ fills played.
-    live-played c.args.book.now.pair c.args.weight i j c.args.eff orders c.of_bank-tops_i.result c.of_bank-tops_j.result fills.items
-    c.requires.differ c.in_ok-turns.ensures.valid.rising c.of_bank-tops_i.ensures.tops c.of_bank-tops_j.ensures.tops
-    (subst (λ (os : List Resting). Played c.args.book.now.pair c.args.weight i j c.args.eff [] os fills.items) (c.deref.ensures.value ∙ c.in_ok-turns.ensures.turns)
-    (subst (λ n. Played n c.args.weight i j c.args.eff [] c.deref.result.now fills.items) c.pair-pair.ensures.value played)))
-    c.play.ensures.played
+    record {
+      played = IfOk-weaker c.play.result (λ fills. Played c.pair-pair.result c.args.weight i j c.args.eff [] c.deref.result.now fills.items)
+          (λ fills. Played c.args.book.now.pair c.args.weight i j c.args.eff [] (turns i j orders) fills.items)
+          (λ fills played.
+          live-played c.args.book.now.pair c.args.weight i j c.args.eff orders c.of_bank-tops_i.result c.of_bank-tops_j.result fills.items
+          c.requires.differ c.in_ok-turns.ensures.valid.rising c.of_bank-tops_i.ensures.tops c.of_bank-tops_j.ensures.tops
+          (subst (λ (os : List Resting). Played c.args.book.now.pair c.args.weight i j c.args.eff [] os fills.items) (c.deref.ensures.value ∙ c.in_ok-turns.ensures.turns)
+          (subst (λ n. Played n c.args.weight i j c.args.eff [] c.deref.result.now fills.items) c.pair-pair.ensures.value played)))
+          c.play.ensures.played;
+    }
 
-pub returns-then-not-meet-clause-played : goal.returns-then-not-meet-clause-played
-returns-then-not-meet-clause-played g c =
+pub returns-then-not-meet : goal.returns-then-not-meet
+returns-then-not-meet g c =
     let i : ℕ = c.args.i in
     let j : ℕ = c.args.j in
     let pair : ℕ = c.args.book.now.pair in
     let orders : List Resting = c.args.book.now.orders in
-    subst (Played pair c.args.weight i j c.args.eff [] (turns i j 0 orders)) (sym c.new-then-not-meet.ensures.items)
-    (live-played pair c.args.weight i j c.args.eff orders c.of_bank-tops_i.result c.of_bank-tops_j.result []
-    c.requires.differ c.pair-pair.ensures.valid.rising c.of_bank-tops_i.ensures.tops c.of_bank-tops_j.ensures.tops
-    (subst (λ (os : List Resting). Played pair c.args.weight i j c.args.eff [] os [])
-    (sym (apart-turns c.args.book.now i j c.of_bank-tops_i.result c.of_bank-tops_j.result c.requires.differ c.of_bank-tops_i.ensures.tops c.of_bank-tops_j.ensures.tops
-    (sym c.meet.ensures ∙ c.if-not-meet.true))) refl))
+    record {
+      played = subst (Played pair c.args.weight i j c.args.eff [] (turns i j orders)) (sym c.new-then-not-meet.ensures.items)
+          (live-played pair c.args.weight i j c.args.eff orders c.of_bank-tops_i.result c.of_bank-tops_j.result []
+          c.requires.differ c.pair-pair.ensures.valid.rising c.of_bank-tops_i.ensures.tops c.of_bank-tops_j.ensures.tops
+          (subst (λ (os : List Resting). Played pair c.args.weight i j c.args.eff [] os [])
+          (sym (apart-turns orders i j c.of_bank-tops_i.result c.of_bank-tops_j.result c.requires.differ c.of_bank-tops_i.ensures.tops c.of_bank-tops_j.ensures.tops
+          (sym c.meet.ensures ∙ c.if-not-meet.true))) refl));
+    }

@@ -12,16 +12,16 @@ use Rattle.credit_raise.proofs.raise.plan_raise.Goals as goal
 pub returns-clause-fills : goal.returns-clause-fills
 returns-clause-fills g c h S raised =
     subst (Turned h c.args.book.now.pair S c.args.book.now.orders) (sym c.from_vec.ensures.items)
-    (raised-turned h S c.args.book.now c.args.weight c.args.i c.args.j c.args.eff c.in_ok-fills.fills.items c.requires.differ c.requires.weight.0 c.fills_of_two.ensures.valid raised c.in_ok-fills.ensures.played)
+    (raised-turned h S c.args.book.now c.args.weight c.args.i c.args.j c.args.eff c.in_ok-fills.fills.items c.requires.differ c.requires.weight.0 raised c.in_ok-fills.ensures.played)
 
 pub returns-clause-parties : goal.returns-clause-parties
 returns-clause-parties g c =
     subst (Each (IsFillOf c.args.book.now.pair c.args.i c.args.j)) (sym c.from_vec.ensures.items)
-    (played-parties c.args.book.now.pair c.args.weight c.args.i c.args.j c.args.eff [] (turns c.args.i c.args.j 0 c.args.book.now.orders) c.in_ok-fills.fills.items
+    (played-parties c.args.book.now.pair c.args.weight c.args.i c.args.j c.args.eff [] (turns c.args.i c.args.j c.args.book.now.orders) c.in_ok-fills.fills.items
     c.requires.differ (turns-owners c.args.i c.args.j c.args.book.now.orders) c.in_ok-fills.ensures.played)
 
 pub returns-clause-cost : goal.returns-clause-cost
 returns-clause-cost g c =
     subst (λ (fs : List Fill). lots_of fs * c.args.weight ≤ c.args.eff) (sym c.from_vec.ensures.items)
-    (played-cost c.args.book.now.pair c.args.weight c.args.i c.args.j c.args.eff [] (turns c.args.i c.args.j 0 c.args.book.now.orders) c.in_ok-fills.fills.items
+    (played-cost c.args.book.now.pair c.args.weight c.args.i c.args.j c.args.eff [] (turns c.args.i c.args.j c.args.book.now.orders) c.in_ok-fills.fills.items
     c.requires.weight.0 c.in_ok-fills.ensures.played)
