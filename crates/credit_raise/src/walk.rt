@@ -32,8 +32,7 @@ pub(crate) fn live_turns<L: Ledger>(
     let mut turns = BTreeMap::new(alloc);
     gather(book, i, tops_j, &mut turns, steps)?;
     gather(book, j, tops_i, &mut turns, steps)?;
-    let turns = in_order(alloc, &turns)?;
-    Ok(turns)
+    in_order(alloc, &turns)
 }
 
 /// Gathered orders in arrival order.
