@@ -194,7 +194,8 @@ pub(crate) fn lines_of(banks: usize, lines: &CreditLines, bank: BankId) -> [u64;
     ensures few { banks ≤ 64 }
 {
     let mut table = [0; 64];
-    for number in 0..64u8 {
+    let count = banks.min(BankId::COUNT) as u8;
+    for number in 0..count {
         table[usize::from(number)] = line_with(banks, lines, bank, number);
     }
     table

@@ -1,7 +1,7 @@
 -- The next bank's line is written.
 use Rattle.std.proofs.Common.{ℕ, ◌≡◌, ◌≢◌, ◌≤◌, ◌<◌, ◌^◌, inl, inr, refl, sym, subst, ◌∙◌, arith, length, get_or, get_or-set_same, get_or-set_other}
 use Rattle.std.proofs.Math.ListN.{set, length-set}
-use Rattle.std.proofs.lemmas.Bool.{cases_eq}
+use Rattle.std.proofs.lemmas.Bool.{cases_eq, cases_lt}
 use Rattle.credit_lines.specs.Credit.{line_in}
 use Rattle.match_sweep.proofs.Tables.{total-most, zeros-at, set-most, filled-set}
 use Rattle.match_sweep.proofs.walk.lines_of.Goals as goal
@@ -28,7 +28,7 @@ loop-number-preserved c =
     let at : ℕ = c.from.result in
     let line : ℕ = c.line_with.result in
     let was = c.loop-number.invariant in
-    let within : at < length c.loop-number.table = omega (arith, was.full, c.loop-number-test.true, c.from.ensures) in
+    let within : at < length c.loop-number.table = omega (arith, was.full, c.loop-number-test.true, c.min-count.ensures, c.from.ensures) in
     record {
       full = length-set c.loop-number.table at line ∙ was.full;
       line = filled-set (λ other. line_in c.args.lines.now c.args.bank other) c.args.bank c.args.banks number at line c.loop-number.table
@@ -45,10 +45,16 @@ loop-number-preserved c =
       ];
     }
 
+pub returns-clause-few : goal.returns-clause-few
+returns-clause-few c =
+    elim (cases_lt 64 c.args.banks) [
+      | inl many ↦ few_of c.args.bank c.args.banks (λ other below differ. c.loop-number.invariant.few other (omega (arith, below, many, c.loop-number-test.false, c.min-count.ensures)) differ)
+      | inr few ↦ few
+    ]
+
 pub returns-clause-line : goal.returns-clause-line
-returns-clause-line c =
-    let few : c.args.banks ≤ 64 = few_of c.args.bank c.args.banks (λ other below differ. c.loop-number.invariant.few other (omega (arith, below, c.loop-number-test.false)) differ) in
-    λ other below differ. c.loop-number.invariant.line other (omega (arith, below, few, c.loop-number-test.false)) below differ
+returns-clause-line c = λ other below differ.
+    c.loop-number.invariant.line other (omega (arith, below, returns-clause-few c, c.loop-number-test.false, c.min-count.ensures)) below differ
 
 pub returns-clause-most : goal.returns-clause-most
 returns-clause-most c = omega (arith, total-most c.loop-number.table (10 ^ 15) c.loop-number.invariant.most, c.loop-number.invariant.full)
