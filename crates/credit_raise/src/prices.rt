@@ -1,5 +1,4 @@
 ghost use Rattle.std.specs.Prelude.{◌≡◌};
-ghost use Rattle.global_book.specs.Book.{IsBook};
 ghost use Rattle.credit_raise.specs.inside.Prices.{AreTops, IsTop, crosses_tops, is_crossed, top_of, tops_meet};
 
 use fx_amounts::{BankId, Price, Side};
