@@ -1,10 +1,10 @@
 -- What a history at its close has of the banks whose lanes are done.
 use Rattle.std.proofs.Common.{ℕ, zero, suc, ◌≡◌, ◌+◌, ◌<◌, ◌≤◌, ◌^◌, eqb, Bool, List, [], ◌∷◌, ◌++◌, length, map, take, drop, append-nil, get_or, All, refl, ap, ap₂, sym, subst, ◌∙◌, arith, inl, inr}
 use Rattle.std.specs.List.{AllZip, slice_get, filter}
-use Rattle.std.specs.Prelude.{Some, Result, Ok, Err, OnOk, IfOk}
+use Rattle.std.specs.Prelude.{Some, Result, Ok, Err, OnOk, OnErr, IfOk}
 use Rattle.std.proofs.Math.ListN.{drop_of_length-le}
 use Rattle.std.proofs.Math.Seq.{take-length}
-use Rattle.std.proofs.lemmas.List.{take_all, length-map, map-append, length-append}
+use Rattle.std.proofs.lemmas.List.{take_all, length-map, map-append, length-append, length-take-le}
 use Rattle.std.proofs.lemmas.Bool.{cases_lt, cases_Bool, eqb-true}
 use Rattle.std.proofs.lemmas.List.Elements.{AllZip-get_or, All-get_or, length_all_zip, filter-append}
 use Rattle.std.proofs.lemmas.Option.{slice_get-get_or, slice_get_within, get_or_from_slice_get}
@@ -24,7 +24,7 @@ use Rattle.fx_desk.specs.Streams.{stream_of, HasStreams}
 use Rattle.gateway_workers.specs.declared.lane.Lane.{Lane}
 use Rattle.gateway_workers.specs.Lanes.{IsReadyLane, LaneRan, IsDone}
 use Rattle.threaded_run.proofs.Making.{AreFilledTo}
-use Rattle.threaded_run.specs.Lanes.{CanServe, HaveServed, IsLaneOf}
+use Rattle.threaded_run.specs.Lanes.{CanServe, HaveServed, HaveServedPart, IsLaneOf, IsPartOf}
 use Rattle.threaded_run.specs.inside.Lanes.{AreFilled, next_lane}
 
 among_at : {X : Type 0} (xs : List X) (k : ℕ) (d : X) → k < length xs → Among (get_or xs k d) xs
@@ -208,6 +208,70 @@ pub served_back : (h : Header) (so_far more : List Sent) (n : ℕ) (was now : Li
     → HaveServed h (so_far ++ more) (take n (now ++ drop (length now) was))
 served_back h so_far more n was now all before served =
     subst (λ (lanes : List (Lane (Witness Entry))). HaveServed h (so_far ++ more) lanes) (sym (came_back n was now all (omega (arith, before.all, served.all)))) served
+
+-- ---- the lanes of a round that came to no end
+
+ran_part : (h : Header) (bank : ℕ) (sent more : List Sent) (lane now : Lane (Witness Entry)) → IsLaneOf bank sent lane → LaneRan h key_of seen_by mine_of (next_lane lane (stream_of bank more)) now
+    → IsPartOf bank sent more now
+ran_part h bank sent more lane now is ran =
+    let as_many : length ran.entries ≡ now.done =
+    sym (length-map ran.entries (λ (e : Entry). e.command)) ∙ ap (λ (cs : List Command). length cs) ran.in_order ∙ length-take-le now.done (stream_of bank more) ran.within in
+    let sent_is : now.sent ≡ lane.sent + lane.done = ap (λ (l : Lane (Witness Entry)). l.sent) ran.same_lane in
+    let grown : length (mine_of now.pass) ≡ length (mine_of lane.pass) + length ran.entries = ap (λ (es : List Entry). length es) ran.mine_grew ∙ length-append (mine_of lane.pass) ran.entries in
+    record {
+      bank_is = ap (λ (l : Lane (Witness Entry)). l.bank) ran.same_lane ∙ is.bank_is;
+      key_is = ran.same_bank ∙ is.key_is;
+      counted = omega (arith, sent_is, as_many, grown, is.counted);
+      count = now.done;
+      commands = ap (map (λ (e : Entry). e.command)) ran.mine_grew ∙ map-append (λ (e : Entry). e.command) (mine_of lane.pass) ran.entries
+          ∙ ap₂ (λ (front back : List Command). front ++ back) is.commands ran.in_order;
+    }
+
+pub served-part : (h : Header) (so_far more : List Sent) (was mid now : List (Lane (Witness Entry))) → HaveServed h so_far was → AreFilled more was mid → AllZip (LaneRan h key_of seen_by mine_of) mid now
+    → HaveServedPart h so_far more now
+served-part h so_far more was mid now served filled ran =
+    let long : length mid ≡ length now = length_all_zip (LaneRan h key_of seen_by mine_of) mid now ran in
+    record {
+      all = omega (arith, long, filled.long, served.all);
+      each = λ k lane is.
+          let within : k < length now = slice_get_within now k lane is in
+          let old : Lane (Witness Entry) = get_or was k lane in
+          let there : slice_get was k ≡ Some old = slice_get-get_or was k lane (omega (arith, within, long, filled.long)) in
+          let next : get_or mid k lane ≡ next_lane old (stream_of k more) = get_or_from_slice_get mid k (next_lane old (stream_of k more)) lane (filled.each k old there) in
+          let here : get_or now k lane ≡ lane = get_or_from_slice_get now k lane lane is in
+          let its = AllZip-get_or (LaneRan h key_of seen_by mine_of) mid now k lane lane ran (omega (arith, within, long)) in
+          ran_part h k so_far more old lane (served.each k old there)
+          (subst (λ (l : Lane (Witness Entry)). LaneRan h key_of seen_by mine_of l lane) next (subst (λ (l : Lane (Witness Entry)). LaneRan h key_of seen_by mine_of (get_or mid k lane) l) here its));
+    }
+
+-- where the round did not begin, none of it is served
+pub none-part : (h : Header) (so_far more : List Sent) (was now : List (Lane (Witness Entry))) → HaveServed h so_far was → now ≡ was → HaveServedPart h so_far more now
+none-part h so_far more was now served same = subst (HaveServedPart h so_far more) (sym same) (record {
+  all = served.all;
+  each = λ k lane is.
+      let its = served.each k lane is in
+      record {
+        bank_is = its.bank_is;
+        key_is = its.key_is;
+        counted = its.counted;
+        count = 0;
+        commands = its.commands ∙ sym (append-nil (stream_of k so_far));
+      };
+})
+
+pub part_back : (h : Header) (so_far more : List Sent) (n : ℕ) (was now : List (Lane (Witness Entry))) → n ≡ length was → HaveServed h so_far was → HaveServedPart h so_far more now
+    → HaveServedPart h so_far more (take n (now ++ drop (length now) was))
+part_back h so_far more n was now all before part =
+    subst (λ (lanes : List (Lane (Witness Entry))). HaveServedPart h so_far more lanes) (sym (came_back n was now all (omega (arith, before.all, part.all)))) part
+
+-- what follows from what an answer that is Err has told
+pub err_then : {T E P Q : Type 0} (r : Result T E) → (P → Q) → OnErr r P → OnErr r Q
+err_then (Ok x) leads told = tt
+err_then (Err e) leads told = leads told
+
+pub err_always : {T E P : Type 0} (r : Result T E) → P → OnErr r P
+err_always (Ok x) p = tt
+err_always (Err e) p = p
 
 -- what follows from what an answer that is Ok has told
 pub ok_then : {T E P Q : Type 0} (r : Result T E) → (P → Q) → OnOk r P → OnOk r Q

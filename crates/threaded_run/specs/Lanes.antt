@@ -1,5 +1,5 @@
 -- The lanes of a session's banks, from round to round.
-use Rattle.std.specs.Prelude.{ℕ, ◌≡◌, ◌+◌, ◌<◌, ◌^◌, List, length, map, slice_get, Some}
+use Rattle.std.specs.Prelude.{ℕ, ◌≡◌, ◌+◌, ◌<◌, ◌^◌, List, ◌++◌, length, map, take, slice_get, Some}
 use Rattle.fx_rules.specs.declared.command.Sent.{Sent}
 use Rattle.fx_rules.specs.declared.outcome.Entry.{Entry}
 use Rattle.fx_rules.specs.Lists.{Each}
@@ -23,6 +23,20 @@ pub record HaveServed (h : Header) (sent : List Sent) (lanes : List (Lane (Witne
   pub valid : Each (IsSentOf h) sent
   pub all : length lanes ≡ sender_count h
   pub each : (place : ℕ) (lane : Lane (Witness Entry)) → slice_get lanes place ≡ Some lane → IsLaneOf place sent lane
+
+-- a bank's lane after a round that came to no end: its pass has submitted what the bank was to send before the round, and of
+-- what it was to send in the round the first so many
+pub record IsPartOf (bank : ℕ) (sent more : List Sent) (lane : Lane (Witness Entry)) : Type 0 where
+  pub bank_is : lane.bank ≡ bank
+  pub key_is : lane.pass.key ≡ bank
+  pub counted : lane.sent + lane.done ≡ length (own lane.pass.key lane.pass.met)
+  pub count : ℕ
+  pub commands : map (λ e. e.command) (own lane.pass.key lane.pass.met) ≡ stream_of bank sent ++ take count (stream_of bank more)
+
+-- the lanes of a session's banks, in order, after such a round
+pub record HaveServedPart (h : Header) (sent more : List Sent) (lanes : List (Lane (Witness Entry))) : Type 0 where
+  pub all : length lanes ≡ sender_count h
+  pub each : (place : ℕ) (lane : Lane (Witness Entry)) → slice_get lanes place ≡ Some lane → IsPartOf place sent more lane
 
 -- further commands can be served: their senders may send them, and there are numbers for them
 pub record CanServe (h : Header) (lanes : List (Lane (Witness Entry))) (more : List Sent) : Type 0 where

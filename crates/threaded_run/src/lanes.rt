@@ -1,4 +1,4 @@
-ghost use Rattle.std.specs.Prelude.{◌≡◌, ◌<◌, [], map, IfOk, OnOk};
+ghost use Rattle.std.specs.Prelude.{◌≡◌, ◌<◌, [], map, IfOk, OnOk, OnErr};
 ghost use Rattle.fx_rules.specs.Lists.{Each};
 ghost use Rattle.fx_rules.specs.Session.{IsSession, sender_count};
 ghost use Rattle.fx_chronicle.specs.Faces.{AreNew};
@@ -42,6 +42,7 @@ pub(crate) fn fill_lanes<N: Naming>(
 ) -> Result<(), Memory>
     requires can_serve { CanServe N.session lanes.old sent.now }
     ensures filled { OnOk result (AreFilled sent.now lanes.old lanes.new) }
+    ensures memory { OnErr result (lanes.new ≡ lanes.old) }
 {
     let mut streams = streams_of(alloc, lanes.len(), sent)?.into_iter();
     for lane in lanes.iter_mut() {

@@ -1,9 +1,9 @@
-ghost use Rattle.std.specs.Prelude.{◌≡◌, ◌≤◌, ◌++◌, [], IfOk, OnOk, List};
+ghost use Rattle.std.specs.Prelude.{◌≡◌, ◌≤◌, ◌++◌, [], IfOk, OnOk, OnErr, List};
 ghost use Rattle.fx_rules.specs.declared.command.Sent.{Sent as SentCommand};
 ghost use Rattle.fx_rules.specs.History.{IsLegal};
 ghost use Rattle.credit_book.specs.Recorded.{key_count};
 ghost use Rattle.fx_desk.specs.Streams.{HasStreams};
-ghost use Rattle.threaded_run.specs.Lanes.{CanServe, HaveServed};
+ghost use Rattle.threaded_run.specs.Lanes.{CanServe, HaveServed, HaveServedPart};
 
 use crate::lanes::{fill_lanes, lanes_of, passes_of};
 use fx_amounts::Memory;
@@ -43,7 +43,8 @@ impl<N: Naming + Send + Sync> ThreadedRun<N> {
     }
 
     /// Serves a round's commands, each bank's in its order, in at most `workers` threads (1 or more). A round without
-    /// commands is not run. After `Memory` some of them are served, and the run is good for nothing more. It may wait.
+    /// commands is not run. After `Memory` the first so many of each bank's are served, and the run is good for nothing more.
+    /// It may wait.
     pub fn serve_round<R: AllocGlobal + Threads + Wait + Sync, G: Gate + Sync>(
         &mut self,
         rt: &R,
@@ -54,6 +55,7 @@ impl<N: Naming + Send + Sync> ThreadedRun<N> {
         requires can_serve { CanServe N.session self.old.lanes.items sent.now }
         requires workers { 1 ≤ workers }
         ensures served { OnOk result ((so_far : List SentCommand) → HaveServed N.session so_far self.old.lanes.items → HaveServed N.session (so_far ++ sent.now) self.new.lanes.items) }
+        ensures memory { OnErr result ((so_far : List SentCommand) → HaveServed N.session so_far self.old.lanes.items → HaveServedPart N.session so_far sent.now self.new.lanes.items) }
     {
         if sent.is_empty() {
             return Ok(());
@@ -85,6 +87,7 @@ fn serve_lanes<N: Naming + Send + Sync, R: AllocGlobal + Threads + Wait + Sync, 
     requires can_serve { CanServe N.session lanes.old sent.now }
     requires workers { 1 ≤ workers }
     ensures served { OnOk result ((so_far : List SentCommand) → HaveServed N.session so_far lanes.old → HaveServed N.session (so_far ++ sent.now) lanes.new) }
+    ensures memory { OnErr result ((so_far : List SentCommand) → HaveServed N.session so_far lanes.old → HaveServedPart N.session so_far sent.now lanes.new) }
 {
     fill_lanes(rt.alloc(), lanes, sent)?;
     run_round(rt, host, gate, workers, lanes)

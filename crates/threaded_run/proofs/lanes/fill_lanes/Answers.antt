@@ -20,5 +20,5 @@ loop-lane-preserved g c =
       left = left.1;
     }
 
-pub returns : goal.returns
-returns g c = record { filled = all_filled c.args.sent.now c.args.lanes.now c.loop-lane.lanes c.loop-lane.lane-index c.loop-lane.invariant.filled (omega (arith, c.loop-lane-test.false)) }
+pub returns-clause-filled : goal.returns-clause-filled
+returns-clause-filled g c = all_filled c.args.sent.now c.args.lanes.now c.loop-lane.lanes c.loop-lane.lane-index c.loop-lane.invariant.filled (omega (arith, c.loop-lane-test.false))

@@ -1,6 +1,6 @@
 use Rattle.std.proofs.Common.{rules, ◌≡◌, length, sym, subst}
 use Rattle.threaded_run.specs.Lanes.{HaveServed}
-use Rattle.threaded_run.proofs.Closing.{served_back, ok_then}
+use Rattle.threaded_run.proofs.Closing.{served_back, part_back, ok_then, err_then}
 use Rattle.threaded_run.proofs.run.ThreadedRun.serve_round.Goals as goal
 
 pub returns : goal.returns
@@ -11,4 +11,7 @@ returns g c =
       served = ok_then c.serve_lanes.result
           (λ served so_far before. served_back g.N.Naming.session so_far c.args.sent.now c.args.self.now.lanes.len c.args.self.now.lanes.items c.serve_lanes.new.lanes many before (served so_far (subst (HaveServed g.N.Naming.session so_far) (sym lent) before)))
           c.serve_lanes.ensures.served;
+      memory = err_then c.serve_lanes.result
+          (λ part so_far before. part_back g.N.Naming.session so_far c.args.sent.now c.args.self.now.lanes.len c.args.self.now.lanes.items c.serve_lanes.new.lanes many before (part so_far (subst (HaveServed g.N.Naming.session so_far) (sym lent) before)))
+          c.serve_lanes.ensures.memory;
     }
