@@ -1,4 +1,4 @@
-ghost use Rattle.std.specs.Prelude.{◌≡◌, ◌<◌, ℕ, List, [], length, OnOk};
+ghost use Rattle.std.specs.Prelude.{◌≡◌, ◌<◌, ℕ, List, [], length, OnOk, OnErr};
 ghost use Rattle.fx_edges.specs.Writing.{Wrote};
 ghost use Rattle.fx_pieces.specs.Gathered.{Gathered};
 
@@ -63,10 +63,11 @@ impl Pieces {
         self.hand_on(out)
     }
 
-    /// Hands the sink what is held. Faults are as those of `write_all`.
+    /// Hands the sink what is held. Faults are as those of `write_all`; after one what is held is as it was.
     pub fn hand_on<K: Sink>(&mut self, out: &mut K) -> Result<(), SinkFault>
         ensures wrote { Wrote K.written K.faults out.old out.new self.old result }
         ensures none { OnOk result (self.new ≡ []) }
+        ensures memory { OnErr result (self.new ≡ self.old) }
     {
         match write_all(out, &self.held) {
             Ok(()) => {
