@@ -16,6 +16,8 @@ use std::sync::atomic::Ordering::SeqCst;
 use std::test::Fail;
 use std::thread::Threads;
 
+mod refused;
+mod rounds;
 mod samples;
 mod threads;
 

@@ -1,0 +1,62 @@
+-- A lane that has run goes on with the rest of its stream.
+use Rattle.std.proofs.Common.{ℕ, zero, suc, rules, ◌≡◌, ◌≢◌, ◌+◌, ◌^◌, ◌<◌, ◌≤◌, List, [], ◌∷◌, length, map, take, drop, get_or, set, refl, ap, sym, subst, ◌∙◌, arith, inl, inr, length-append}
+use Rattle.std.proofs.lemmas.Bool.{cases_lt}
+use Rattle.std.proofs.lemmas.List.{length-map, length-drop, length-take-le, length-set, get_or_default, get_or-set_same, get_or-set_other}
+use Rattle.fx_rules.specs.declared.command.Command.{Command}
+use Rattle.fx_rules.specs.declared.outcome.Entry.{Entry}
+use Rattle.fx_rules.specs.Lists.{Each}
+use Rattle.fx_rules.specs.Session.{Header}
+use Rattle.fx_rules.specs.Step.{IsCommand}
+use Rattle.fx_rules.specs.History.{own}
+use Rattle.fx_chronicle.specs.Faces.{Witness}
+use Rattle.gateway_workers.specs.declared.lane.Lane.{Lane}
+use Rattle.gateway_workers.specs.Lanes.{IsReadyLane}
+use Rattle.gateway_workers.specs.inside.Serving.{IsUnderWay}
+use Rattle.fx_cli.proofs.tests.refused.go_on.Goals as goal
+
+abbrev key_of : Witness Entry → ℕ
+key_of pass = pass.key
+
+abbrev seen_by : Witness Entry → List Entry
+seen_by pass = pass.seen
+
+abbrev mine_of : Witness Entry → List Entry
+mine_of pass = own pass.key pass.met
+
+each-drop : {X : Type 0} (P : X → Type 0) (n : ℕ) (xs : List X) → Each P xs → Each P (drop n xs)
+each-drop P zero xs each = each
+each-drop P (suc n) [] each = tt
+each-drop P (suc n) (x ∷ xs) each = each-drop P n xs each.1
+
+-- a lane with the rest of its stream
+abbrev rest_of : Lane (Witness Entry) → Lane (Witness Entry)
+rest_of lane = record lane { sent = lane.sent + lane.done; stream = drop lane.done lane.stream; done = 0 }
+
+ready_again : (h : Header) (lane : Lane (Witness Entry)) → IsUnderWay h key_of seen_by mine_of lane → IsReadyLane h key_of mine_of (rest_of lane)
+ready_again h lane way =
+    let begun = way.begun in
+    let ran = way.so_far in
+    let stream_is : lane.stream ≡ begun.stream = ap (λ (l : Lane (Witness Entry)). l.stream) ran.same_lane in
+    let sent_is : lane.sent ≡ begun.sent = ap (λ (l : Lane (Witness Entry)). l.sent) ran.same_lane in
+    let bank_is : lane.bank ≡ begun.bank = ap (λ (l : Lane (Witness Entry)). l.bank) ran.same_lane in
+    let long : length lane.stream ≡ length begun.stream = ap (λ (cs : List Command). length cs) stream_is in
+    let as_many : length ran.entries ≡ lane.done =
+    sym (length-map ran.entries (λ (e : Entry). e.command)) ∙ ap (λ (cs : List Command). length cs) ran.in_order ∙ length-take-le lane.done begun.stream ran.within in
+    let grown : length (mine_of lane.pass) ≡ length (mine_of begun.pass) + length ran.entries = ap (λ (es : List Entry). length es) ran.mine_grew ∙ length-append (mine_of begun.pass) ran.entries in
+    record {
+      bank_of_pass = bank_is ∙ way.ready.bank_of_pass ∙ sym ran.same_bank;
+      sent_by_pass = omega (arith, sent_is, as_many, grown, way.ready.sent_by_pass);
+      none_done = refl;
+      may_send = each-drop (IsCommand h lane.bank) lane.done lane.stream
+          (subst (λ (b : ℕ). Each (IsCommand h b) lane.stream) (sym bank_is) (subst (Each (IsCommand h begun.bank)) (sym stream_is) way.ready.may_send));
+      numbers = omega (arith, sent_is, long, ran.within, way.ready.numbers, length-drop lane.done lane.stream);
+    }
+
+-- no stream is longer than its numbers, and no more of it is done than it has
+numbers_fit : (h : Header) (lane : Lane (Witness Entry)) → IsUnderWay h key_of seen_by mine_of lane → (lane.done ≤ length lane.stream) × (lane.sent + length lane.stream < 2 ^ 32)
+numbers_fit h lane way =
+    let begun = way.begun in
+    let ran = way.so_far in
+    let sent_is : lane.sent ≡ begun.sent = ap (λ (l : Lane (Witness Entry)). l.sent) ran.same_lane in
+    let long : length lane.stream ≡ length begun.stream = ap (λ (l : Lane (Witness Entry)). length l.stream) ran.same_lane in
+    (omega (arith, long, ran.within), omega (arith, sent_is, long, way.ready.numbers))
