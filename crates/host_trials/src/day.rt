@@ -1,9 +1,12 @@
 //! Short days, command by command: what the host tells is what the plain host tells.
-ghost use Rattle.std.specs.Prelude.{◌≡◌, ◌≢◌, ◌<◌, ◌-◌, ◌^◌, length};
+ghost use Rattle.std.specs.Prelude.{◌≡◌, ◌≢◌, ◌<◌, ◌-◌, ◌^◌, ◌+◌, IfOk, OnOk, length};
 ghost use Rattle.fx_amounts.specs.Price.{IsPrice};
 ghost use Rattle.fx_amounts.specs.Quantity.{IsLots, IsUnits};
+ghost use Rattle.fx_desk.specs.Submitting.{Submitted};
+ghost use Rattle.fx_rules.specs.History.{own};
 ghost use Rattle.fx_rules.specs.Lists.{Each};
 ghost use Rattle.fx_rules.specs.Sending.{IsSentOf};
+ghost use Rattle.fx_rules.specs.Step.{IsCommand};
 ghost use Rattle.fx_rules.specs.Session.{Header, bank_count, pair_count, sender_count};
 ghost use Rattle.credit_book.specs.Recorded.{key_count};
 ghost use Rattle.host_trials.specs.inside.Passes.{AreOfBanks};
@@ -13,40 +16,87 @@ use flat_host::FlatHost;
 use fx_amounts::{Memory, Side, Units};
 use fx_chronicle::{Blank, Naming};
 use fx_desk::{Desk, Pass};
-use fx_host::{Host, close_host, open_host};
+use fx_host::{Host, close_host, keys_of, open_host};
 use fx_rules::{Command, Entry, Life, OpenGate, Outcome, Sent, Session};
 use market_run::Run;
+use pair_shards::Shard;
 use std::alloc::{AllocGlobal, Global};
 use std::marker::Brand;
 use std::sync::Wait;
 use std::test::Fail;
+use trial_days::are_alike;
 
-/// Submits commands one after another, each by its bank's pass.
-fn submit_all<N: Naming + Send, R: Wait>(
+/// Submits a command, and once more where it was refused for want of memory: a refused one left no trace.
+fn submit_again<N: Naming + Send, R: Wait>(
+    rt: &R,
+    host: &Host<N>,
+    pass: &mut Pass<N>,
+    command: &Command,
+) -> Result<Outcome, Memory>
+    requires command { IsCommand N.session pass.old.key command.now }
+    requires few { length (own pass.old.key pass.old.met) < 2 ^ 32 - 1 }
+    ensures bank { pass.new.key ≡ pass.old.key }
+    ensures submitted { IfOk result (Submitted N.session pass.old.key pass.old.seen (own pass.old.key pass.old.met) command.now pass.new.seen (own pass.new.key pass.new.met)) }
+{
+    match host.submit(rt, &OpenGate, pass, command) {
+        Ok(outcome) => Ok(outcome),
+        Err(Memory) => host.submit(rt, &OpenGate, pass, command),
+    }
+}
+
+/// The same, and adds what the bank is told.
+fn submit_told<N: Naming + Send, R: Wait>(
+    rt: &R,
+    host: &Host<N>,
+    pass: &mut Pass<N>,
+    command: &Command,
+    told: &mut Vec<Outcome>,
+) -> Result<(), Memory>
+    requires command { IsCommand N.session pass.old.key command.now }
+    requires few { length (own pass.old.key pass.old.met) < 2 ^ 32 - 1 }
+    ensures bank { pass.new.key ≡ pass.old.key }
+    ensures one_more { OnOk result (length (own pass.new.key pass.new.met) ≡ length (own pass.old.key pass.old.met) + 1) }
+{
+    let outcome = submit_again(rt, host, pass, command)?;
+    told.push(outcome)?;
+    Ok(())
+}
+
+/// Submits commands one after another, each by its bank's pass. What the banks are told.
+fn submit_all<N: Naming + Send, R: AllocGlobal + Wait>(
     rt: &R,
     host: &Host<N>,
     passes: &mut [Pass<N>],
     sent: &[Sent],
-) -> Result<(), Memory>
+) -> Result<Vec<Outcome>, Memory>
     requires count { length passes.old ≡ sender_count N.session }
     requires passes { AreOfBanks 0 passes.old }
     requires valid { Each (IsSentOf N.session) sent.now }
     requires few { length sent.now < 2 ^ 32 - 1 }
 {
+    let mut told = Vec::new(rt.alloc());
     for next in sent {
         let pass = &mut passes[next.bank.index()];
-        host.submit(rt, &OpenGate, pass, &next.command)?;
+        submit_told(rt, host, pass, &next.command, &mut told)?;
     }
-    Ok(())
+    Ok(told)
 }
 
-/// The history of a day on which these commands are sent, one after another.
-fn day_at<N: Naming + Send, R: AllocGlobal + Wait>(
+/// What a day at the host came to: what the banks were told, the history, and the pairs' books.
+#[derive(Drop)]
+pub(crate) struct Day<N: Naming> {
+    pub(crate) told: Vec<Outcome>,
+    pub(crate) history: Vec<Entry>,
+    pub(crate) shards: Vec<Shard<N>>,
+}
+
+/// A day on which these commands are sent, one after another.
+pub(crate) fn day_at<N: Naming + Send, R: AllocGlobal + Wait>(
     rt: &R,
     blank: Blank<Entry>,
     session: &Session,
     sent: &[Sent],
-) -> Result<Vec<Entry>, Memory>
+) -> Result<Day<N>, Memory>
     requires table { blank.table ≡ N.table }
     requires keys { blank.keys ≡ key_count session.now }
     requires session { session.now ≡ N.session }
@@ -54,21 +104,13 @@ fn day_at<N: Naming + Send, R: AllocGlobal + Wait>(
     requires few { length sent.now < 2 ^ 32 - 1 }
 {
     let (host, mut passes) = open_host::<N>(rt.alloc(), blank, session)?;
-    submit_all(rt, &host, &mut passes, sent)?;
-    let (history, _shards) = close_host(host, passes);
-    Ok(history)
-}
-
-/// Whether both have the same entries.
-fn are_alike(alloc: Global, one: &[Entry], other: &[Entry]) -> Result<bool, Fail> {
-    for (entry, other_entry) in one.iter().zip(other.iter()) {
-        let text = format!(in alloc; "{entry:?}")?;
-        let other_text = format!(in alloc; "{other_entry:?}")?;
-        if text != other_text {
-            return Ok(false);
-        }
-    }
-    Ok(one.len() == other.len())
+    let told = submit_all(rt, &host, &mut passes, sent)?;
+    let (history, shards) = close_host(host, passes);
+    Ok(Day {
+        told,
+        history,
+        shards,
+    })
 }
 
 /// The day's history, once the plain host has told the same of the same commands.
@@ -80,12 +122,11 @@ fn played<R: AllocGlobal + Wait>(
     requires valid { Each (IsSentOf session.now) sent.now }
     requires few { length sent.now < 2 ^ 32 - 1 }
 {
-    let keys = 65 + session.pairs().len() as u32;
-    let blank = Blank::new(rt.alloc(), keys)?;
-    let history = day_at::<Brand, R>(rt, blank, session, sent)?;
+    let blank = Blank::new(rt.alloc(), keys_of(session))?;
+    let history = day_at::<Brand, R>(rt, blank, session, sent)?.history;
     let mut run = Run::new(rt.alloc(), FlatHost::open(rt.alloc(), session)?);
     run.serve_all(sent)?;
-    if are_alike(rt.alloc(), run.entries(), &history)? {
+    if are_alike(run.entries(), &history) {
         Ok(history)
     } else {
         Err("the plain host tells otherwise".into())

@@ -7,4 +7,6 @@ mod day;
 #[cfg(test)]
 mod fixture;
 #[cfg(test)]
+mod generated;
+#[cfg(test)]
 mod learnt;
