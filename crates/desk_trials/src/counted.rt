@@ -1,11 +1,11 @@
 //! The gate is called before and after each command.
-use crate::fixture::session;
-use crate::generated::{BANKS, commands};
+use crate::fixture::{BANKS, session};
 use fx_amounts::{BankId, PairId};
 use fx_rules::{Gate, Sent};
 use std::sync::{Mutex, Wait};
 use std::test::Fail;
 use threaded_run::run_on_threads;
+use trial_days::commands;
 
 /// What a gate was told of one bank: how many commands came, how many went, and whether each call was the next.
 #[derive(Clone, Copy, Debug, PartialEq, Eq)]
@@ -57,7 +57,7 @@ fn are_counted(calls: &[Calls], sent: &[Sent]) -> bool {
 #[test]
 fn a_gate_sees_each_command_come_and_go(rt: HostRuntime) -> Result<(), Fail> {
     let session = session(rt.alloc(), BANKS, 300)?;
-    let sent = commands(rt.alloc(), &session, 200)?;
+    let sent = commands(rt.alloc(), &session, 1, 200)?;
     let none = Calls {
         before: 0,
         after: 0,

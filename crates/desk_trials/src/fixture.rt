@@ -9,6 +9,9 @@ use fx_rules::{Code, Name, PairRule, Session};
 use std::alloc::Global;
 use std::test::Fail;
 
+/// How many banks send generated commands.
+pub(crate) const BANKS: u8 = 16;
+
 pub(crate) const ALFA: u8 = 0;
 
 pub(crate) const BETA: u8 = 1;

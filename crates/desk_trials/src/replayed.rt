@@ -4,8 +4,7 @@ ghost use Rattle.fx_rules.specs.History.{IsLegal};
 ghost use Rattle.fx_rules.specs.Lists.{Each};
 ghost use Rattle.fx_rules.specs.Sending.{IsSentOf, sent_by};
 
-use crate::fixture::{bank, session};
-use crate::generated::{BANKS, commands};
+use crate::fixture::{BANKS, bank, session};
 use flat_host::FlatHost;
 use fx_amounts::{BankId, Memory};
 use fx_rules::{Entry, OpenGate, Sent, Session};
@@ -15,6 +14,7 @@ use std::sync::Wait;
 use std::test::Fail;
 use std::thread::Threads;
 use threaded_run::run_on_threads;
+use trial_days::{are_alike, commands};
 
 /// What the entries' senders sent, in the order of the history.
 fn sent_in(alloc: Global, history: &[Entry]) -> Result<Vec<Sent>, Memory>
@@ -30,23 +30,6 @@ fn sent_in(alloc: Global, history: &[Entry]) -> Result<Vec<Sent>, Memory>
     Ok(sent)
 }
 
-/// Whether two entries are the same in all that they tell.
-fn are_same(alloc: Global, one: &Entry, other: &Entry) -> Result<bool, Fail> {
-    let text = format!(in alloc; "{one:?}")?;
-    let other_text = format!(in alloc; "{other:?}")?;
-    Ok(text == other_text)
-}
-
-/// Whether both have the same entries.
-fn are_alike(alloc: Global, one: &[Entry], other: &[Entry]) -> Result<bool, Fail> {
-    for (entry, other_entry) in one.iter().zip(other.iter()) {
-        if !are_same(alloc, entry, other_entry)? {
-            return Ok(false);
-        }
-    }
-    Ok(one.len() == other.len())
-}
-
 /// Whether the plain host, which is sent the history's commands in its order, answers as the history says.
 fn is_replayed(alloc: Global, session: &Session, history: &[Entry]) -> Result<bool, Fail>
     requires legal { IsLegal session.now history.now }
@@ -55,7 +38,7 @@ fn is_replayed(alloc: Global, session: &Session, history: &[Entry]) -> Result<bo
     let sent = sent_in(alloc, history)?;
     let mut run = Run::new(alloc, FlatHost::open(alloc, session)?);
     run.serve_all(&sent)?;
-    are_alike(alloc, run.entries(), history)
+    Ok(are_alike(run.entries(), history))
 }
 
 /// Whether the history has what a bank sends, in its order.
@@ -106,7 +89,7 @@ fn is_one_history<R: AllocGlobal + Threads + Wait + Sync>(
 #[test]
 fn sixteen_banks_make_one_history(rt: HostRuntime) -> Result<(), Fail> {
     let session = session(rt.alloc(), BANKS, 300)?;
-    let sent = commands(rt.alloc(), &session, 2_000)?;
+    let sent = commands(rt.alloc(), &session, 1, 2_000)?;
     for workers in [1, 4, 16] {
         assert!(rt;
             is_one_history(&rt, &session, &sent, workers)?,

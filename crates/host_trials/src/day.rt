@@ -9,6 +9,8 @@ ghost use Rattle.fx_rules.specs.Sending.{IsSentOf};
 ghost use Rattle.fx_rules.specs.Step.{IsCommand};
 ghost use Rattle.fx_rules.specs.Session.{Header, bank_count, pair_count, sender_count};
 ghost use Rattle.credit_book.specs.Recorded.{key_count};
+ghost use Rattle.flat_host.specs.Steps.{stands};
+ghost use Rattle.market_run.specs.Running.{HasRun};
 ghost use Rattle.host_trials.specs.inside.Passes.{AreOfBanks};
 
 use crate::fixture::{ALFA, BETA, EURUSD, GAMA, GBPUSD, bank, lots, pair, price, session};
@@ -113,6 +115,39 @@ pub(crate) fn day_at<N: Naming + Send, R: AllocGlobal + Wait>(
     })
 }
 
+/// The history of such a day.
+fn history_at<N: Naming + Send, R: AllocGlobal + Wait>(
+    rt: &R,
+    blank: Blank<Entry>,
+    session: &Session,
+    sent: &[Sent],
+) -> Result<Vec<Entry>, Memory>
+    requires table { blank.table ≡ N.table }
+    requires keys { blank.keys ≡ key_count session.now }
+    requires session { session.now ≡ N.session }
+    requires valid { Each (IsSentOf session.now) sent.now }
+    requires few { length sent.now < 2 ^ 32 - 1 }
+{
+    Ok(day_at::<N, R>(rt, blank, session, sent)?.history)
+}
+
+/// Such a day at the plain host.
+pub(crate) fn plain_run(
+    alloc: Global,
+    session: &Session,
+    sent: &[Sent],
+) -> Result<Run<FlatHost>, Memory>
+    requires valid { Each (IsSentOf session.now) sent.now }
+    requires few { length sent.now < 2 ^ 32 }
+    ensures run { IfOk result (HasRun stands session.now) }
+{
+    // A legal history rests on a valid session, as each is.
+    let _banks = session.banks();
+    let mut run = Run::new(alloc, FlatHost::open(alloc, session)?);
+    run.serve_all(sent)?;
+    Ok(run)
+}
+
 /// The day's history, once the plain host has told the same of the same commands.
 fn played<R: AllocGlobal + Wait>(
     rt: &R,
@@ -123,10 +158,9 @@ fn played<R: AllocGlobal + Wait>(
     requires few { length sent.now < 2 ^ 32 - 1 }
 {
     let blank = Blank::new(rt.alloc(), keys_of(session))?;
-    let history = day_at::<Brand, R>(rt, blank, session, sent)?.history;
-    let mut run = Run::new(rt.alloc(), FlatHost::open(rt.alloc(), session)?);
-    run.serve_all(sent)?;
-    if are_alike(run.entries(), &history) {
+    let history = history_at::<Brand, R>(rt, blank, session, sent)?;
+    let plain = plain_run(rt.alloc(), session, sent)?;
+    if are_alike(plain.entries(), &history) {
         Ok(history)
     } else {
         Err("the plain host tells otherwise".into())

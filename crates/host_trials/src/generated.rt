@@ -3,14 +3,13 @@
 ghost use Rattle.std.specs.Prelude.{◌≡◌, ◌<◌, ◌≤◌, ◌-◌, ◌^◌, length};
 ghost use Rattle.fx_rules.specs.Lists.{Each};
 ghost use Rattle.fx_rules.specs.Sending.{IsSentOf};
+ghost use Rattle.credit_book.specs.Recorded.{key_count};
 
-use crate::day::{Day, day_at};
-use flat_host::FlatHost;
-use fx_amounts::Lots;
+use crate::day::{Day, day_at, plain_run};
+use fx_amounts::{Lots, Memory};
 use fx_chronicle::{Blank, Naming};
 use fx_host::keys_of;
 use fx_rules::{Command, Entry, Outcome, Sent, Session};
-use market_run::Run;
 use pair_shards::Shard;
 use pair_steps::resting;
 use price_levels::Steps;
@@ -34,14 +33,33 @@ fn is_played_alike<R: AllocGlobal + Wait>(
     requires few { length sent.now < 2 ^ 32 - 1 }
 {
     let blank = Blank::new(rt.alloc(), keys_of(session))?;
-    let day = day_at::<Brand, R>(rt, blank, session, sent)?;
-    let mut plain = Run::new(rt.alloc(), FlatHost::open(rt.alloc(), session)?);
-    plain.serve_all(sent)?;
+    let plain = plain_run(rt.alloc(), session, sent)?;
+    let resting = plain.market().resting();
+    let is_alike = is_day_alike::<Brand, R>(rt, blank, session, sent, plain.entries(), resting)?;
+    Ok(is_alike)
+}
+
+/// Plays a day at the host with pair locks, and says whether it comes to these entries and leaves so many orders, which they tell of.
+fn is_day_alike<N: Naming + Send, R: AllocGlobal + Wait>(
+    rt: &R,
+    blank: Blank<Entry>,
+    session: &Session,
+    sent: &[Sent],
+    entries: &[Entry],
+    resting: u64,
+) -> Result<bool, Memory>
+    requires table { blank.table ≡ N.table }
+    requires keys { blank.keys ≡ key_count session.now }
+    requires session { session.now ≡ N.session }
+    requires valid { Each (IsSentOf session.now) sent.now }
+    requires few { length sent.now < 2 ^ 32 - 1 }
+{
+    let day = day_at::<N, R>(rt, blank, session, sent)?;
     Ok(
-        are_alike(plain.entries(), &day.history)
-            && are_told(&day.told, plain.entries())
-            && resting_in(&day) == plain.market().resting()
-            && have_rest(&day, plain.entries()),
+        are_alike(entries, &day.history)
+            && are_told(&day.told, entries)
+            && resting_in(&day) == resting
+            && have_rest(&day, entries),
     )
 }
 
