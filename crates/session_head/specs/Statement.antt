@@ -13,7 +13,6 @@ use Rattle.session_head.specs.declared.statement.Statement.TheVariants as statem
 
 -- the first of two readings, and then the second; the first fault ends both
 infixl 10 ◌>>=◌
-
 abbrev pub ◌>>=◌ : {A B : Type 0} → Result A HeadReason → (A → Result B HeadReason) → Result B HeadReason
 (Ok x) >>= f = f x
 (Err reason) >>= f = Err reason
