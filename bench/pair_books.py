@@ -34,8 +34,8 @@ def price(ticks):
 
 
 def header(banks):
-    # The bank behind those with orders takes and looks.
-    names = [bank(number) for number in range(banks)] if banks == 64 else [bank(number) for number in range(banks + 1)]
+    # The last bank takes and looks; it has orders of its own only where there is no bank behind those with orders.
+    names = [bank(number) for number in range(min(banks + 1, 64))]
     lines = ["FXBOOK 1", *(f"BANK {name}" for name in names), "PAIR EUR/USD 5 1000000 100"]
     lines += [f"LINE {one} {other} 1000000000000000" for one in names for other in names if one != other]
     return lines + ["START"], names[-1]
