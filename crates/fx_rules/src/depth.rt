@@ -1,4 +1,4 @@
-ghost use Rattle.std.specs.Prelude.{◌≡◌, ◌<◌, ◌+◌, ◌^◌, OnOk, IfOk, take};
+ghost use Rattle.std.specs.Prelude.{◌≡◌, ◌<◌, ◌+◌, ◌^◌, OnErr, OnOk, IfOk, take};
 ghost use Rattle.fx_rules.specs.Lists.{total};
 ghost use Rattle.fx_rules.specs.Depth.{any_price, levels_of, fill_added};
 
@@ -32,10 +32,12 @@ pub fn levels_of(alloc: Global, fills: &[Fill]) -> Result<LevelList, Memory>
     Ok(LevelList::from_vec(levels))
 }
 
-/// Adds a fill behind levels: more lots at the last price, or one more level. At `Memory` there was none for that level.
+/// Adds a fill behind levels: more lots at the last price, or one more level. At `Memory` there was none for that level,
+/// and the levels are as they were.
 pub fn add_fill(levels: &mut Vec<Level>, fill: &Fill) -> Result<(), Memory>
     requires lots { total (λ level. level.lots) levels.old.items + fill.now.lots < 2 ^ 64 }
     ensures levels { OnOk result (levels.new.items ≡ fill_added levels.old.items fill.now) }
+    ensures memory { OnErr result (levels.new.items ≡ levels.old.items) }
 {
     let price = fill.price;
     let lots = u64::from(fill.lots.count());

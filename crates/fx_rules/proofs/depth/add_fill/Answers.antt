@@ -31,12 +31,14 @@ overflow_add-last c =
 
 pub returns-in-Some : goal.returns-in-Some
 returns-in-Some c = record {
+  memory = _;
   levels = more_is c.args.levels.now.items c.pop.new.self.items c.push_reserved.new.self.items c.in-Some.last c.args.fill.now c.args.fill.now.price c.from-lots.result
       c.in-Some.ensures.items (sym c.eq.ensures ∙ c.if-eq.true) refl (c.from-lots.ensures ∙ c.count.ensures.value) c.push_reserved.ensures.items;
 }
 
 pub returns-in_ok-push-in-Some-2 : goal.returns-in_ok-push-in-Some-2
 returns-in_ok-push-in-Some-2 c = record {
+  memory = _;
   levels = other_is c.args.levels.now.items c.pop.new.self.items c.push_reserved-in-Some-2.new.self.items c.push.new.self.items c.in-Some.last c.args.fill.now c.args.fill.now.price c.from-lots.result
       c.in-Some.ensures.items (sym c.eq.ensures ∙ c.if-eq.false) refl (c.from-lots.ensures ∙ c.count.ensures.value) c.push_reserved-in-Some-2.ensures.items c.in_ok-push-in-Some-2.ensures.items;
 }
