@@ -6,10 +6,10 @@ use fx_amounts::{BankId, Lots, PairId, Price, Side};
 pub struct Resting {
     /// Its owner.
     pub bank: BankId,
-    /// The number of its command in the owner's stream, from 1.
-    pub number: u32,
     /// Whether it buys or sells.
     pub side: Side,
+    /// The number of its command in the owner's stream, from 1.
+    pub number: u32,
     /// The price that it takes or better, in ticks, 1 to 10^9.
     pub price: Price,
     /// The lots that it still wants, 1 to 10^6.
