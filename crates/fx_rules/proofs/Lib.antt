@@ -13,6 +13,7 @@ pub mod PlanSwept
 pub mod Determined
 pub mod NamesLemmas
 pub mod NameTexts
+pub mod Sought
 pub mod SessionLemmas
 pub mod Continuing
 pub mod Falling

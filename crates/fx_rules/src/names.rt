@@ -1,5 +1,6 @@
-ghost use Rattle.std.specs.Prelude.{◌≡◌, IsTrue, SomeIff};
+ghost use Rattle.std.specs.Prelude.{◌≡◌, IsTrue, SomeIff, bytes_eq};
 ghost use Rattle.fx_rules.specs.Names.{is_name, is_code, is_name_byte, is_reserved};
+ghost use Rattle.std.specs.Int.{w64, to_le_bytes};
 ghost use Rattle.std.specs.List.{list_all};
 
 use std::marker::Model;
@@ -52,6 +53,13 @@ impl Name {
     {
         &self.bytes[..self.len as usize]
     }
+
+    /// Whether the name is that text: of as many bytes, and the same word.
+    pub(crate) fn is(&self, sought: &SoughtName<'_>) -> bool
+        ensures value { result ≡ bytes_eq self.now sought.now }
+    {
+        self.len as usize == sought.text.len() && word_of(self.bytes) == sought.word
+    }
 }
 
 impl PartialEq for Name {
@@ -72,6 +80,48 @@ impl Eq for Name {
     ghost use Rattle.std.proofs.lemmas.Cmp.{nat_list_eq_equiv};
 
     ghost laws = { nat_list_eq_equiv };
+}
+
+/// A text that is sought among names, with a word to compare with theirs at once. Contracts see the text.
+#[derive(Drop)]
+pub(crate) struct SoughtName<'a> {
+    text: &'a [u8],
+    /// The first eight bytes of the text, with zeros behind a shorter one, as a name stores them.
+    word: u64,
+}
+
+impl<'a> Model for SoughtName<'a> {
+    ghost use Rattle.std.specs.Prelude.{ℕ, List, take, ◌≡◌};
+    ghost use Rattle.std.specs.Int.{w64, to_le_bytes};
+    ghost use Rattle.fx_rules.specs.Names.{padded};
+
+    ghost Value = { List ℕ };
+
+    ghost view = { λ s. s.text.now };
+
+    ghost invariant = { λ s. to_le_bytes w64 s.word ≡ padded (take 8 s.text.now) };
+}
+
+impl<'a> SoughtName<'a> {
+    /// That text. It takes no memory.
+    pub(crate) fn of(text: &'a [u8]) -> SoughtName<'a>
+        ensures value { result ≡ text.now }
+    {
+        let mut bytes = [0; 8];
+        let len = text.len().min(bytes.len());
+        bytes[..len].copy_from_slice(&text[..len]);
+        SoughtName {
+            text,
+            word: word_of(bytes),
+        }
+    }
+}
+
+/// Eight bytes as one number.
+fn word_of(bytes: [u8; 8]) -> u64
+    ensures value { to_le_bytes w64 result ≡ bytes }
+{
+    u64::from_le_bytes(bytes)
 }
 
 /// Whether a text is a name.

@@ -2,7 +2,7 @@ ghost use Rattle.std.specs.Prelude.{◌≡◌, ◌≢◌, ◌↔◌, ◌≤◌, 
 ghost use Rattle.fx_rules.specs.Names.{is_name};
 ghost use Rattle.fx_rules.specs.Session.{Header, IsSession, IsPairRule, AreSamePair, bank_count, pair_count, opening_limit, weight_of, decimals_of, lot_of, bank_of, pair_of, pair_text, pair_name};
 
-use crate::names::{Code, Name};
+use crate::names::{Code, Name, SoughtName};
 use fx_amounts::{BankId, PairId, Units};
 use std::marker::Model;
 
@@ -168,7 +168,8 @@ fn are_valid_banks(banks: &[Name]) -> bool
 fn place_of_bank(banks: &[Name], text: &[u8]) -> Option<usize>
     ensures value { result ≡ position (λ name. bytes_eq name text.now) banks.now }
 {
-    banks.iter().position(|name| name.as_bytes() == text)
+    let sought = SoughtName::of(text);
+    banks.iter().position(|name| name.is(&sought))
 }
 
 /// Whether there are 1 to 32 pairs, each with terms in range and none of the same two currencies as another.
@@ -203,9 +204,15 @@ fn place_of_pair(pairs: &[PairRule], base: &[u8], quote: &[u8]) -> Option<usize>
 
 /// The place of the first pair that is written so.
 fn place_of_pair_text(pairs: &[PairRule], text: &[u8]) -> Option<usize>
+    requires { All IsPairRule pairs.now }
     ensures value { result ≡ position (λ rule. bytes_eq (pair_text rule) text.now) pairs.now }
 {
-    pairs.iter().position(|rule| rule.text().as_slice() == text)
+    if text.len() != 7 || text[3] != b'/' {
+        return None;
+    }
+    let (base, rest) = text.split_at(3);
+    let (_, quote) = rest.split_at(1);
+    place_of_pair(pairs, base, quote)
 }
 
 /// Whether a pair's terms are in range.
