@@ -14,15 +14,19 @@ use std::marker::Model;
 #[derive(Debug, Drop)]
 pub(crate) struct Chunk {
     places: Vec<Place>,
+    /// The last of them, kept here too, so that a search among chunks reads none of their places.
+    last: Option<Place>,
 }
 
 impl Model for Chunk {
-    ghost use Rattle.std.specs.Prelude.{vec_capacity};
-    ghost use Rattle.price_levels.specs.inside.Held.{Held};
+    ghost use Rattle.std.specs.Prelude.{◌≡◌, vec_capacity};
+    ghost use Rattle.price_levels.specs.inside.Held.{Held, last_of};
 
     ghost Value = { Held };
 
     ghost view = { λ c. record { places = c.places.items; capacity = vec_capacity c.places } };
+
+    ghost invariant = { λ c. c.last ≡ last_of c.places.items };
 }
 
 impl Chunk {
@@ -32,6 +36,7 @@ impl Chunk {
     {
         Chunk {
             places: Vec::new(alloc),
+            last: None,
         }
     }
 
@@ -64,7 +69,7 @@ impl Chunk {
     pub(crate) fn is_passed(&self, side: Side, cut: &Cut<'_>) -> bool
         ensures { result ≡ last_is_in_front side cut.now self.now.places }
     {
-        match self.places.last() {
+        match &self.last {
             Some(place) => cut.is_passed_by(side, place),
             None => false,
         }
@@ -88,6 +93,7 @@ impl Chunk {
         ensures kept_room { self.old.capacity ≤ self.new.capacity }
     {
         self.places.insert(at, place).unwrap();
+        self.last = self.places.last().copied();
     }
 
     /// Takes the place at an index out.
@@ -97,6 +103,7 @@ impl Chunk {
         ensures kept_room { self.old.capacity ≤ self.new.capacity }
     {
         self.places.remove(at);
+        self.last = self.places.last().copied();
     }
 
     /// Moves the places from an index on behind those of another chunk, where there is room.
@@ -109,6 +116,8 @@ impl Chunk {
         ensures other_room { other.old.capacity ≤ other.new.capacity }
     {
         other.places.extend_from_slice(&self.places[at..]).unwrap();
+        other.last = other.places.last().copied();
         self.places.truncate(at);
+        self.last = self.places.last().copied();
     }
 }

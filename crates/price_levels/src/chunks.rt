@@ -2,7 +2,7 @@ ghost use Rattle.std.specs.Prelude.{ℕ, ◌≡◌, ◌+◌, ◌*◌, ◌≤◌,
 ghost use Rattle.std.specs.List.{All, insert, remove};
 ghost use Rattle.std.specs.List.Sorted.{IsPartitionPoint};
 ghost use Rattle.price_levels.specs.Ladder.{IsSorted};
-ghost use Rattle.price_levels.specs.inside.Held.{in_front};
+ghost use Rattle.price_levels.specs.inside.Held.{in_front, last_is_in_front};
 ghost use Rattle.price_levels.specs.inside.Layout.{AreWidened, FitsNext, HasSeats, HasSpare, IsHalved, IsLaidOut, IsSeat, IsSpot, chunk_at, count_of, offset, places_of};
 
 use crate::chunk::Chunk;
@@ -169,14 +169,29 @@ impl Chunks {
         ensures within { offset self.now.chunks.items result ≤ length (places_of self.now.chunks.items) }
         ensures parted { IsPartitionPoint (λ other. in_front side cut.entry other ≡ true) (λ other. in_front side cut.entry other ≡ false) (places_of self.now.chunks.items) (offset self.now.chunks.items result) }
     {
-        let chunk = self
-            .chunks
-            .partition_point(|chunk| chunk.is_passed(side, &cut));
+        let chunk = self.find_chunk(side, &cut);
         let at = match self.chunks.get(chunk) {
             Some(chunk) => chunk.count_passed(side, &cut),
             None => 0,
         };
         Spot { chunk, at }
+    }
+
+    /// The first chunk with a place that does not stand in front of a point; the number of all where there is none. Most searches
+    /// end in the first chunk, so that one is looked at before the others are searched.
+    fn find_chunk(&self, side: Side, cut: &Cut<'_>) -> usize
+        requires laid { IsLaidOut self.now }
+        requires sorted { IsSorted side (places_of self.now.chunks.items) }
+        ensures within { result ≤ length self.now.chunks.items }
+        ensures parted { IsPartitionPoint (λ chunk. last_is_in_front side cut.now chunk.places ≡ true) (λ chunk. last_is_in_front side cut.now chunk.places ≡ false) self.now.chunks.items result }
+    {
+        if let Some(first) = self.chunks.first() {
+            if !first.is_passed(side, cut) {
+                return 0;
+            }
+        }
+        self.chunks
+            .partition_point(|chunk| chunk.is_passed(side, cut))
     }
 
     /// The place at a spot; `None` behind the last one.

@@ -16,10 +16,14 @@ abbrev pub in_front : Side → Cut → Place → Bool
 in_front side (Before place) other = sorts_before side other place.now
 in_front side (Behind place) other = not (sorts_before side place.now other)
 
+-- the last of some places, if there is one
+abbrev pub last_of : List Place → Option Place
+last_of places = slice_get places (length places - 1)
+
 abbrev pub passes : (Place → Bool) → Option Place → Bool
 passes test None = false
 passes test (Some place) = test place
 
 -- the last place stands in front of a point
 abbrev pub last_is_in_front : Side → Cut → List Place → Bool
-last_is_in_front side cut places = passes (in_front side cut) (slice_get places (length places - 1))
+last_is_in_front side cut places = passes (in_front side cut) (last_of places)
