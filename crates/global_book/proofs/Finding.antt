@@ -6,7 +6,6 @@ use Rattle.fx_rules.specs.declared.orders.Resting.{Resting}
 use Rattle.fx_rules.specs.Lists.{Among, Each}
 use Rattle.fx_rules.specs.Sweep.{is_order}
 use Rattle.fx_rules.proofs.ListLemmas.{Each-among}
-use Rattle.price_levels.specs.Ladder.{Ladder}
 use Rattle.access_index.specs.Sides.{OwnRows}
 use Rattle.order_store.specs.declared.store.OrderKey.{OrderKey}
 use Rattle.order_store.specs.Orders.{Orders, order_at, IsOf, Lacks}
@@ -17,9 +16,9 @@ use Rattle.global_book.proofs.Rowing.{some_same}
 use Rattle.global_book.proofs.Lifting.{IsBook-resting, is_order-yes, yes-is_order, first-found, first-none}
 
 -- what callers see of what a book keeps
-pub kept_book : (banks : ℕ) (orders : Orders) (own : List OwnRows) (owners : List Ladder) (book : Book) → IsKept banks orders own owners → flat orders.slots ≡ book.orders → banks ≡ book.banks → IsBook book
-kept_book banks orders own owners book kept seen banks_is =
-    IsBook-resting (length owners) banks orders book (let count = kept.banks_are in omega arith) kept.resting seen banks_is
+pub kept_book : (banks : ℕ) (orders : Orders) (own : List OwnRows) (book : Book) → IsKept banks orders own → flat orders.slots ≡ book.orders → banks ≡ book.banks → IsBook book
+kept_book banks orders own book kept seen banks_is =
+    IsBook-resting (length own) banks orders book (let count = kept.banks_are in omega arith) kept.resting seen banks_is
 
 -- an order under a key, of a bank and a number
 pub record IsFound (orders : Orders) (owner place key : ℕ) (order : Resting) : Type 0 where

@@ -1,6 +1,7 @@
 -- The list of the orders that slots hold, in arrival order.
-use Rattle.std.proofs.Common.{ℕ, zero, suc, ◌≡◌, ◌≢◌, ◌≤◌, ◌<◌, true, false, ltb, List, [], ◌∷◌, Option, Some, None, ◌⊎◌, inl, inr, refl, ap, sym, subst, ◌∙◌, arith, get_or}
+use Rattle.std.proofs.Common.{ℕ, zero, suc, ◌≡◌, ◌≢◌, ◌+◌, ◌≤◌, ◌<◌, true, false, cond, ltb, List, [], ◌∷◌, length, count_by, Option, Some, None, is_some, ◌⊎◌, inl, inr, refl, ap, sym, subst, ◌∙◌, arith, get_or}
 use Rattle.std.proofs.lemmas.Bool.{cases_Bool, cond-true, cond-false, ltb-true, ltb-false}
+use Rattle.std.proofs.lemmas.List.Sums.{sum_by-cons}
 use Rattle.fx_rules.specs.declared.orders.Resting.{Resting}
 use Rattle.fx_rules.specs.Lists.{Among, Each, EachPair}
 use Rattle.fx_rules.specs.Sound.{ArrivesBefore}
@@ -43,6 +44,20 @@ placed_cases x (y ∷ ys) o there =
             | inr later ↦ elim (placed_cases x ys o later) [ inl is ↦ inl is | inr old ↦ inr (inr old) ]
           ]
     ]
+
+length-placed : (x : Resting) (xs : List Resting) → length (placed x xs) ≡ length xs + 1
+length-placed x [] = refl
+length-placed x (y ∷ ys) =
+    elim (cases_Bool (ltb x.arrival y.arrival)) [
+      | inl before ↦ omega (arith, ap (λ (zs : List Resting). length zs) (placed-first x y ys before))
+      | inr after ↦ omega (arith, ap (λ (zs : List Resting). length zs) (placed-later x y ys after), length-placed x ys)
+    ]
+
+-- the list has as many orders as the slots
+pub length-flat : (slots : List (Option Resting)) → length (flat slots) ≡ count_by is_some slots
+length-flat [] = refl
+length-flat (None ∷ slots) = omega (arith, length-flat slots, sum_by-cons (λ (o : Option Resting). cond (is_some o) 1 0) None slots)
+length-flat (Some x ∷ slots) = omega (arith, length-flat slots, length-placed x (flat slots), sum_by-cons (λ (o : Option Resting). cond (is_some o) 1 0) (Some x) slots)
 
 -- an order that slots hold is in their list, and no other
 pub among_flat : (slots : List (Option Resting)) (key : ℕ) (o : Resting) → get_or slots key None ≡ Some o → Among o (flat slots)

@@ -1,5 +1,5 @@
 -- The next price of a bank, and the lots that it has there.
-use Rattle.std.proofs.Common.{ℕ, ◌≡◌, ◌+◌, ◌-◌, ◌≤◌, ◌<◌, ◌^◌, Bool, true, false, ◌&&◌, ◌||◌, if◌then◌else◌, eqb, ltb, List, [], ◌∷◌, length, Option, Some, None, inl, inr, refl, ap, sym, subst, ◌∙◌, arith}
+use Rattle.std.proofs.Common.{ℕ, ◌≡◌, ◌+◌, ◌-◌, ◌<◌, ◌^◌, Bool, true, false, ◌&&◌, ◌||◌, if◌then◌else◌, eqb, ltb, List, [], ◌∷◌, Option, Some, None, inl, inr, refl, ap, sym, subst, ◌∙◌, arith}
 use Rattle.std.proofs.lemmas.Bool.{cases_Bool, both_ways, and_parts, and_from, eqb-true, eq-eqb, false_from_ne_true, le-ltb, ltb-true}
 use Rattle.std.specs.List.{Contains, filter}
 use Rattle.std.specs.Option.{option_map}
@@ -7,19 +7,18 @@ use Rattle.fx_amounts.specs.Side.{opposite}
 use Rattle.fx_amounts.specs.declared.side.Side.{Side}
 use Rattle.fx_amounts.specs.declared.side.Side.TheVariants.{Buy, Sell}
 use Rattle.fx_rules.specs.declared.orders.Resting.{Resting}
-use Rattle.fx_rules.specs.Lists.{Among, Each, total}
+use Rattle.fx_rules.specs.Lists.{Among, total}
 use Rattle.fx_rules.specs.Sweep.{is_opposite}
 use Rattle.fx_rules.specs.Sweep as sweep
 use Rattle.price_levels.specs.declared.place.Place.{Place}
-use Rattle.price_levels.specs.Ladder.{Ladder, is_better, sorts_before, IsFirst, IsFirstOf}
+use Rattle.price_levels.specs.Ladder.{is_better, sorts_before, IsFirst, IsFirstOf}
 use Rattle.price_levels.proofs.Sorting.{before_cases}
 use Rattle.access_index.specs.Sides.{OwnRows}
 use Rattle.access_index.specs.Owned.{row_at, stands_behind}
-use Rattle.access_index.proofs.Rows.{bank_within}
 use Rattle.order_store.specs.Levels.{is_at, slot_lots, lots_where}
 use Rattle.order_store.specs.Orders.{Orders, order_at}
-use Rattle.global_book.specs.Book.{IsLevel, IsLevelOf, IsPriceOf, is_level, is_of, is_worse, is_worse_of, level_lots}
-use Rattle.global_book.specs.inside.Rows.{flat, placed, place_in, its_price, is_own, IsKept}
+use Rattle.global_book.specs.Book.{IsLevel, IsLevelOf, IsPriceOf, is_of, is_worse, is_worse_of, level_lots}
+use Rattle.global_book.specs.inside.Rows.{flat, placed, place_in, IsKept}
 use Rattle.global_book.specs.inside.Search.{end_of}
 use Rattle.global_book.proofs.Flat.{among_flat, flat_among}
 use Rattle.global_book.proofs.Lifting.{each_from}
@@ -91,7 +90,7 @@ not_better_behind side first other before =
       | inr same ↦ ap (λ p. is_better side other.price p) same.0 ∙ not_better_self side other.price
     ]
 
-module _ (banks : ℕ) (orders : Orders) (own : List OwnRows) (owners : List Ladder) (kept : IsKept banks orders own owners) (bank : ℕ) (side : Side) (past : Option ℕ) where
+module _ (banks : ℕ) (orders : Orders) (own : List OwnRows) (kept : IsKept banks orders own) (bank : ℕ) (side : Side) (past : Option ℕ) where
   abbrev passes : Resting → Bool
   passes = is_worse_of (opposite side) bank past
 
@@ -108,13 +107,13 @@ module _ (banks : ℕ) (orders : Orders) (own : List OwnRows) (owners : List Lad
 
   -- an order that passes has its place behind in the bank's row
   passed_place : (key : ℕ) (order : Resting) → order_at orders key ≡ Some order → passes order ≡ true
-      → Contains (row_at own bank side).places (place_in its_price key order) × (stands_behind side (option_map end_of past) (place_in its_price key order) ≡ true)
+      → Contains (row_at own bank side).places (place_in key order) × (stands_behind side (option_map end_of past) (place_in key order) ≡ true)
   passed_place key order at holds =
       let parts = passes_parts order holds in
       let held = kept.resting.held key order at in
       let owner : order.bank ≡ bank = eqb-true order.bank bank parts.owner in (
         (kept.own_are bank side (omega (arith, held.0, owner))).all key order at (and_from (is_of bank order) (is_opposite (opposite side) order.side) parts.owner parts.opposite_is),
-        behind_end side past (place_in its_price key order) held.2 ∙ parts.worse,
+        behind_end side past (place_in key order) held.2 ∙ parts.worse,
       )
 
   pub no_level : (found : Option Place) (resting : List Resting) → found ≡ None → IsFirstOf (stands_behind side (option_map end_of past)) side (row_at own bank side).places found → flat orders.slots ≡ resting
@@ -125,13 +124,13 @@ module _ (banks : ℕ) (orders : Orders) (own : List OwnRows) (owners : List Lad
       let it = flat_among orders.slots order (subst (Among order) (sym seen) there) in
       false_from_ne_true (passes order) (λ holds.
       let place = passed_place it.0 order it.1 holds in
-      both_ways (stands_behind side (option_map end_of past) (place_in its_price it.0 order)) (is' (place_in its_price it.0 order) place.0) place.1))
+      both_ways (stands_behind side (option_map end_of past) (place_in it.0 order)) (is' (place_in it.0 order) place.0) place.1))
 
   pub next_found : (found : Option Place) (first : Place) (lots : ℕ) (resting : List Resting) → found ≡ Some first → IsFirstOf (stands_behind side (option_map end_of past)) side (row_at own bank side).places found
       → flat orders.slots ≡ resting → lots ≡ lots_where (is_at bank side first.price) orders.slots → IsLevel (opposite side) bank past resting (first.price, lots)
   next_found found first lots resting is_found is seen lots_are =
       let it : IsFirst (stands_behind side (option_map end_of past)) side (row_at own bank side).places first = subst (IsFirstOf (stands_behind side (option_map end_of past)) side (row_at own bank side).places) is_found is in
-      let order = order_of banks orders own owners kept bank side first it.there in
+      let order = order_of banks orders own kept bank side first it.there in
       let held = kept.resting.held first.key order.0 order.1.there in
       let price : order.0.price ≡ first.price = sym (ap (λ (p : Place). p.price) order.1.place_is) in
       let worse : is_worse (opposite side) past order.0.price ≡ true =
@@ -146,9 +145,9 @@ module _ (banks : ℕ) (orders : Orders) (own : List OwnRows) (owners : List Lad
             let at = flat_among orders.slots other (subst (Among other) (sym seen) there) in
             let place = passed_place at.0 other at.1 holds in
             better_same side other.price first.price
-            ∙ elim (it.first (place_in its_price at.0 other) place.0 place.1) [
+            ∙ elim (it.first (place_in at.0 other) place.0 place.1) [
               | inl same ↦ ap (λ (p : Place). is_better side p.price first.price) same ∙ not_better_self side first.price
-              | inr later ↦ not_better_behind side first (place_in its_price at.0 other) later
+              | inr later ↦ not_better_behind side first (place_in at.0 other) later
             ]);
         lots = lots_are ∙ sym (flat_lots (is_at bank side first.price) orders.slots) ∙ ap (level_lots (opposite side) bank first.price) seen;
       }

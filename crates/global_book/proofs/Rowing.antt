@@ -27,17 +27,17 @@ changed_is old new key other order found change same is = some_same found order 
 at_same : (new old : Orders) → new.slots ≡ old.slots → (key : ℕ) → order_at new key ≡ order_at old key
 at_same new old same key = ap (λ (slots : List (Option Resting)). order_at (record { slots = slots; room = 0 }) key) same
 
-module _ (picks : Resting → Bool) (price_of : Resting → ℕ) where
+module _ (picks : Resting → Bool) where
   -- places of keys that did not change stay those of their orders
-  placed_still : (old new : Orders) (key : ℕ) (slot : Option Resting) (place : Place) → Changes old new key slot → place.key ≢ key → IsPlaced picks price_of old place → IsPlaced picks price_of new place
+  placed_still : (old new : Orders) (key : ℕ) (slot : Option Resting) (place : Place) → Changes old new key slot → place.key ≢ key → IsPlaced picks old place → IsPlaced picks new place
   placed_still old new key slot place change differ (order, at, picked, is) = (order, change.others place.key differ ∙ at, picked, is)
 
-  pub row_gained : (side : Side) (old new : Orders) (row row' : Ladder) (key : ℕ) (order : Resting) → IsRow picks price_of side old row → order_at old key ≡ None
-      → Changes old new key (Some order) → picks order ≡ true → RowGains row row' (place_in price_of key order) → IsRow picks price_of side new row'
+  pub row_gained : (side : Side) (old new : Orders) (row row' : Ladder) (key : ℕ) (order : Resting) → IsRow picks side old row → order_at old key ≡ None
+      → Changes old new key (Some order) → picks order ≡ true → RowGains row row' (place_in key order) → IsRow picks side new row'
   row_gained side old new row row' key order is vacant change picked gains = record {
     side_is = gains.side ∙ is.side_is;
     holds = λ place there. elim (gains.gains.only place there) [
-      | inl same ↦ subst (IsPlaced picks price_of new) (sym same) (order, change.changed, picked, refl)
+      | inl same ↦ subst (IsPlaced picks new) (sym same) (order, change.changed, picked, refl)
       | inr was ↦
           let it = is.holds place was in
           placed_still old new key (Some order) place change (not_vacant old key place.key it.0 vacant it.1) it
@@ -45,15 +45,15 @@ module _ (picks : Resting → Bool) (price_of : Resting → ℕ) where
     all = λ k o at pick. elim (cases_eq k key) [
       | inl same ↦
           let it : order ≡ o = sym (changed_is old new key k order o change same at) in
-          subst (λ n. Contains row'.places (place_in price_of n o)) (sym same)
-          (subst (λ r. Contains row'.places (place_in price_of key r)) it gains.gains.has)
-      | inr differ ↦ gains.gains.keeps (place_in price_of k o) (is.all k o (sym (change.others k differ) ∙ at) pick)
+          subst (λ n. Contains row'.places (place_in n o)) (sym same)
+          (subst (λ r. Contains row'.places (place_in key r)) it gains.gains.has)
+      | inr differ ↦ gains.gains.keeps (place_in k o) (is.all k o (sym (change.others k differ) ∙ at) pick)
     ];
   }
 
   -- the order that came is not one of the row's
-  pub row_passed : (side : Side) (old new : Orders) (row : Ladder) (key : ℕ) (order : Resting) → IsRow picks price_of side old row → order_at old key ≡ None
-      → Changes old new key (Some order) → picks order ≡ false → IsRow picks price_of side new row
+  pub row_passed : (side : Side) (old new : Orders) (row : Ladder) (key : ℕ) (order : Resting) → IsRow picks side old row → order_at old key ≡ None
+      → Changes old new key (Some order) → picks order ≡ false → IsRow picks side new row
   row_passed side old new row key order is vacant change skipped = record {
     side_is = is.side_is;
     holds = λ place there.
@@ -66,8 +66,8 @@ module _ (picks : Resting → Bool) (price_of : Resting → ℕ) where
     ];
   }
 
-  pub row_lowered : (side : Side) (old new : Orders) (row : Ladder) (key : ℕ) (order lower : Resting) → IsRow picks price_of side old row → order_at old key ≡ Some order
-      → Changes old new key (Some lower) → picks lower ≡ picks order → place_in price_of key lower ≡ place_in price_of key order → IsRow picks price_of side new row
+  pub row_lowered : (side : Side) (old new : Orders) (row : Ladder) (key : ℕ) (order lower : Resting) → IsRow picks side old row → order_at old key ≡ Some order
+      → Changes old new key (Some lower) → picks lower ≡ picks order → place_in key lower ≡ place_in key order → IsRow picks side new row
   row_lowered side old new row key order lower is was change pick stays = record {
     side_is = is.side_is;
     holds = λ place there.
@@ -78,21 +78,21 @@ module _ (picks : Resting → Bool) (price_of : Resting → ℕ) where
                 lower,
                 ap (order_at new) same ∙ change.changed,
                 pick ∙ ap picks (sym found) ∙ it.2,
-                it.3 ∙ ap (λ n. place_in price_of n it.0) same ∙ ap (place_in price_of key) found ∙ sym stays ∙ ap (λ n. place_in price_of n lower) (sym same),
+                it.3 ∙ ap (λ n. place_in n it.0) same ∙ ap (place_in key) found ∙ sym stays ∙ ap (λ n. place_in n lower) (sym same),
               )
           | inr differ ↦ placed_still old new key (Some lower) place change differ it
         ];
     all = λ k o at picked. elim (cases_eq k key) [
       | inl same ↦
           let it : o ≡ lower = changed_is old new key k lower o change same at in
-          let there : Contains row.places (place_in price_of key order) = is.all key order was (sym pick ∙ ap picks (sym it) ∙ picked) in
-          subst (Contains row.places) (sym stays ∙ ap (place_in price_of key) (sym it) ∙ ap (λ n. place_in price_of n o) (sym same)) there
+          let there : Contains row.places (place_in key order) = is.all key order was (sym pick ∙ ap picks (sym it) ∙ picked) in
+          subst (Contains row.places) (sym stays ∙ ap (place_in key) (sym it) ∙ ap (λ n. place_in n o) (sym same)) there
       | inr differ ↦ is.all k o (sym (change.others k differ) ∙ at) picked
     ];
   }
 
-  pub row_lost : (side : Side) (banks : ℕ) (old new : Orders) (row row' : Ladder) (key : ℕ) (order : Resting) → IsRow picks price_of side old row → AreResting banks old
-      → order_at old key ≡ Some order → Changes old new key None → RowLoses row row' (place_in price_of key order) → IsRow picks price_of side new row'
+  pub row_lost : (side : Side) (banks : ℕ) (old new : Orders) (row row' : Ladder) (key : ℕ) (order : Resting) → IsRow picks side old row → AreResting banks old
+      → order_at old key ≡ Some order → Changes old new key None → RowLoses row row' (place_in key order) → IsRow picks side new row'
   row_lost side banks old new row row' key order is resting was change loses = record {
     side_is = loses.side ∙ is.side_is;
     holds = λ place there.
@@ -104,12 +104,12 @@ module _ (picks : Resting → Bool) (price_of : Resting → ℕ) where
     all = λ k o at picked.
         let differ : k ≢ key = not_vacant new key k o change.changed at in
         let there : order_at old k ≡ Some o = sym (change.others k differ) ∙ at in
-        loses.loses.keeps (place_in price_of k o) (is.all k o there picked) (λ same. differ (resting.arrivals k key o order there was same));
+        loses.loses.keeps (place_in k o) (is.all k o there picked) (λ same. differ (resting.arrivals k key o order there was same));
   }
 
   -- the order that went was not one of the row's
-  pub row_left : (side : Side) (old new : Orders) (row : Ladder) (key : ℕ) (order : Resting) → IsRow picks price_of side old row
-      → order_at old key ≡ Some order → Changes old new key None → picks order ≡ false → IsRow picks price_of side new row
+  pub row_left : (side : Side) (old new : Orders) (row : Ladder) (key : ℕ) (order : Resting) → IsRow picks side old row
+      → order_at old key ≡ Some order → Changes old new key None → picks order ≡ false → IsRow picks side new row
   row_left side old new row key order is was change skipped = record {
     side_is = is.side_is;
     holds = λ place there.
@@ -124,19 +124,19 @@ module _ (picks : Resting → Bool) (price_of : Resting → ℕ) where
   }
 
   -- neither the orders nor the places of the row changed
-  pub row_same : (side : Side) (old new : Orders) (row row' : Ladder) → IsRow picks price_of side old row → new.slots ≡ old.slots → RowGrows row row' → IsRow picks price_of side new row'
+  pub row_same : (side : Side) (old new : Orders) (row row' : Ladder) → IsRow picks side old row → new.slots ≡ old.slots → RowGrows row row' → IsRow picks side new row'
   row_same side old new row row' is same grows = record {
     side_is = grows.side ∙ is.side_is;
     holds = λ place there.
         let it = is.holds place (subst (λ (places : List Place). Contains places place) grows.places there) in
         (it.0, at_same new old same place.key ∙ it.1, it.2, it.3);
     all = λ k o at picked.
-        subst (λ (places : List Place). Contains places (place_in price_of k o)) (sym grows.places)
+        subst (λ (places : List Place). Contains places (place_in k o)) (sym grows.places)
         (is.all k o (sym (at_same new old same k) ∙ at) picked);
   }
 
   -- no place in the row has an arrival that no order has
-  pub row_new_arrival : (side : Side) (orders : Orders) (row : Ladder) (arrival : ℕ) → IsRow picks price_of side orders row
+  pub row_new_arrival : (side : Side) (orders : Orders) (row : Ladder) (arrival : ℕ) → IsRow picks side orders row
       → ((key : ℕ) (o : Resting) → order_at orders key ≡ Some o → o.arrival ≢ arrival) → IsNewArrival arrival row.places
   row_new_arrival side orders row arrival is new place there same =
       let it = is.holds place there in

@@ -1,19 +1,19 @@
 -- What a search within a limit leaves out.
-use Rattle.std.proofs.Common.{ℕ, ◌≡◌, Bool, true, false, ◌&&◌, eqb, ltb, List, Option, Some, None, sym, subst, ap, ◌∙◌, arith}
+use Rattle.std.proofs.Common.{ℕ, ◌≡◌, true, false, ◌&&◌, eqb, ltb, List, Option, Some, sym, subst, ap, ◌∙◌, arith}
 use Rattle.std.proofs.lemmas.Bool.{or_left, both_ways, false_from_ne_true, leb-true, le-leb, ltb-false}
 use Rattle.fx_amounts.specs.Price.{crosses}
 use Rattle.fx_amounts.specs.Side.{opposite}
 use Rattle.fx_amounts.specs.declared.side.Side.{Side}
 use Rattle.fx_amounts.specs.declared.side.Side.TheVariants.{Buy, Sell}
 use Rattle.fx_rules.specs.declared.orders.Resting.{Resting}
-use Rattle.fx_rules.specs.Lists.{Among, Each}
+use Rattle.fx_rules.specs.Lists.{Each}
 use Rattle.fx_rules.specs.Sweep.{is_better, is_preferred, IsBest}
 use Rattle.fx_rules.proofs.ListLemmas.{Each-among, Each-of}
 use Rattle.price_levels.specs.declared.place.Place.{Place}
-use Rattle.price_levels.specs.Ladder.{Ladder, IsFirst, IsFirstOf}
+use Rattle.price_levels.specs.Ladder.{IsFirst, IsFirstOf}
 use Rattle.access_index.specs.Owned.{row_at, is_ahead}
 use Rattle.access_index.specs.Sides.{OwnRows}
-use Rattle.order_store.specs.Orders.{Orders, order_at}
+use Rattle.order_store.specs.Orders.{Orders}
 use Rattle.global_book.specs.Book.{is_owned, owned}
 use Rattle.global_book.specs.inside.Rows.{flat, IsKept}
 use Rattle.global_book.proofs.Bests.{best_listed}
@@ -37,15 +37,15 @@ none_allowed side limit orders best is dear =
     both_ways (crosses side limit best.price) dear
     (crosses_too side limit best o (Each-among (λ q. is_preferred side q best ≡ false) orders o is.first there) taken)))
 
-module _ (banks : ℕ) (orders : Orders) (own : List OwnRows) (owners : List Ladder) (kept : IsKept banks orders own owners) where
+module _ (banks : ℕ) (orders : Orders) (own : List OwnRows) (kept : IsKept banks orders own) where
   pub place_dear : (side : Side) (bank before limit : ℕ) (past : Option Place) (found : Option Place) (place : Place) (resting : List Resting) → found ≡ Some place
       → IsFirstOf (is_ahead side before past) side (row_at own bank side).places found → flat orders.slots ≡ resting → crosses (opposite side) limit place.price ≡ false
       → Each (λ o. crosses (opposite side) limit o.price ≡ false) (owned side bank before past resting)
   place_dear side bank before limit past found place resting is_found is seen dear =
       let first : IsFirst (is_ahead side before past) side (row_at own bank side).places place = subst (IsFirstOf (is_ahead side before past) side (row_at own bank side).places) is_found is in
-      let it = order_of banks orders own owners kept bank side place first.there in
+      let it = order_of banks orders own kept bank side place first.there in
       let best : IsBest (opposite side) (owned side bank before past resting) it.0 =
       best_listed (is_owned (opposite side) bank before past) (opposite side) orders resting (Some (it.0, place)) seen
-      (first_owned banks orders own owners kept side bank before past found place it.0 is_found is it.1.there) in
+      (first_owned banks orders own kept side bank before past found place it.0 is_found is it.1.there) in
       none_allowed (opposite side) limit (owned side bank before past resting) it.0 best
       (ap (λ (p : Place). crosses (opposite side) limit p.price) (sym it.1.place_is) ∙ dear)

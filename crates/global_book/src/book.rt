@@ -1,5 +1,4 @@
 ghost use Rattle.std.specs.Prelude.{◌≡◌, ◌+◌, ◌≤◌, ◌<◌, ◌^◌, ◌↔◌, [], ◌∷◌, ◌++◌, None, not, map, filter, length, true, false, OnOk, IfOk, IfSome};
-ghost use Rattle.std.specs.List.{All};
 ghost use Rattle.std.specs.Option.{option_copied, option_map};
 ghost use Rattle.fx_amounts.specs.Price.{crosses};
 ghost use Rattle.fx_amounts.specs.Side.{opposite};
@@ -7,13 +6,13 @@ ghost use Rattle.fx_rules.specs.Lists.{Each};
 ghost use Rattle.fx_rules.specs.Sweep.{IsBest, is_order};
 ghost use Rattle.global_book.specs.Book.{AreInTime, AreOwners, HasRoom, KeepsRoom, IsBook, IsPlaceOf, IsPriceOf, Rests, RestsAbove, first, is_of, is_of_from, level_lots, TakesRoom, owned, relotted, sought};
 ghost use Rattle.global_book.specs.inside.Search.{end_of};
-ghost use Rattle.global_book.specs.inside.Rows.{IsEmptyRow, place_in, its_price};
+ghost use Rattle.global_book.specs.inside.Rows.{is_own};
 
 use access_index::{Owners, best_of};
 use fx_amounts::{BankId, Lots, Memory, PairId, Price, Side};
 use fx_rules::Resting;
 use order_store::{OrderKey, OrderStore};
-use price_levels::{Levels, Place, Steps};
+use price_levels::{Place, Steps};
 use std::alloc::Global;
 use std::marker::{Brand, Model};
 use std::sync::ledger::{Blank, Ledger};
@@ -25,14 +24,12 @@ pub struct PairBook {
     banks: usize,
     orders: OrderStore,
     /// For each bank the places of its orders, by side and price.
-    price_rows: Owners,
-    /// For each bank the places of its orders, by arrival alone.
-    arrival_rows: Vec<Levels>,
+    rows: Owners,
 }
 
 impl Model for PairBook {
     ghost use Rattle.global_book.specs.Book.{Book};
-    ghost use Rattle.global_book.specs.inside.Rows.{IsKept, flat, rooms_from};
+    ghost use Rattle.global_book.specs.inside.Rows.{IsKept, flat, rooms};
 
     ghost Value = { Book };
 
@@ -40,10 +37,10 @@ impl Model for PairBook {
       pair = b.pair;
       banks = b.banks;
       orders = flat b.orders.slots;
-      room = rooms_from b.orders b.price_rows 0 b.arrival_rows.items;
+      room = rooms b.orders b.rows;
     } };
 
-    ghost invariant = { λ b. IsKept b.banks b.orders b.price_rows b.arrival_rows.items };
+    ghost invariant = { λ b. IsKept b.banks b.orders b.rows };
 }
 
 impl PairBook {
@@ -57,8 +54,7 @@ impl PairBook {
             pair,
             banks,
             orders: OrderStore::new(alloc),
-            price_rows: Owners::new(alloc, banks)?,
-            arrival_rows: empty_rows(alloc, banks.min(BankId::COUNT))?,
+            rows: Owners::new(alloc, banks)?,
         })
     }
 
@@ -78,12 +74,20 @@ impl PairBook {
         self.banks
     }
 
+    /// How many orders rest in the book.
+    pub fn len(&self) -> usize
+        ensures count { result ≡ length self.now.orders }
+        ensures valid { IsBook self.now }
+    {
+        self.orders.len()
+    }
+
     /// The banks that have an order in the book, each once, from the lowest number on.
     pub fn owners(&self) -> &[BankId]
         ensures owners { AreOwners self.now result.now }
         ensures valid { IsBook self.now }
     {
-        self.price_rows.listed()
+        self.rows.listed()
     }
 
     /// Makes room for one order more of a bank and a side. At `Memory` there may be none.
@@ -96,11 +100,9 @@ impl PairBook {
         ensures orders { self.new.orders ≡ self.old.orders }
         ensures valid { IsBook self.new }
     {
-        let number = bank.index();
+        prove!(bank.index() < BankId::COUNT);
         self.orders.reserve(1)?;
-        self.price_rows.reserve(bank, side)?;
-        let row = &mut self.arrival_rows[number];
-        row.reserve(1)
+        self.rows.reserve(bank, side)
     }
 
     /// An order comes to rest, behind all others. It takes room that was made for its bank and side; of all other room
@@ -116,11 +118,15 @@ impl PairBook {
         ensures room { TakesRoom self.old self.new }
         ensures valid { IsBook self.new }
     {
+        let Resting {
+            bank,
+            side,
+            price,
+            arrival,
+            ..
+        } = order;
         let key = self.orders.add(order).0;
-        self.price_rows
-            .insert(order.bank, order.side, by_price(&order, key));
-        let row = &mut self.arrival_rows[order.bank.index()];
-        row.insert(by_arrival(order.arrival, key));
+        self.rows.insert(bank, side, place_of(price, arrival, key));
     }
 
     /// The order of this bank and number; `None` where none rests. One step.
@@ -163,10 +169,8 @@ impl PairBook {
     {
         let key = self.orders.find(bank, number).unwrap();
         let order = self.orders.remove(key);
-        self.price_rows
-            .remove(order.bank, order.side, &by_price(&order, key.0));
-        let row = &mut self.arrival_rows[bank.index()];
-        row.remove(&by_arrival(order.arrival, key.0));
+        let place = place_of(order.price, order.arrival, key.0);
+        self.rows.remove(order.bank, order.side, &place);
     }
 
     /// Takes all orders of a bank out, and answers how many they were.
@@ -194,17 +198,33 @@ impl PairBook {
         ensures valid { IsBook self.new }
     {
         let mut steps = Steps::<L>::new(blank);
+        let buys = self.pull_side(bank, Side::Buy, &mut steps);
+        let sells = self.pull_side(bank, Side::Sell, &mut steps);
+        buys + sells
+    }
+
+    /// Takes a bank's orders of a side out, from the best one on.
+    fn pull_side<L: Ledger>(&mut self, bank: BankId, side: Side, steps: &mut Steps<L>) -> u32
+        ensures count { result ≡ length (filter (is_own bank side) self.old.orders) }
+        ensures pair { self.new.pair ≡ self.old.pair }
+        ensures banks { self.new.banks ≡ self.old.banks }
+        ensures orders { self.new.orders ≡ filter (λ order. not (is_own bank side order)) self.old.orders }
+        ensures room { KeepsRoom self.old self.new }
+        ensures was_valid { IsBook self.old }
+        ensures valid { IsBook self.new }
+    {
         let mut count = 0;
-        let mut next = self.next_of(bank, 0, &mut steps);
-        while let Some(order) = next {
-            self.remove(bank, order.number);
+        let mut next = self.next_best(bank, side, None, steps);
+        while let Some((order, _)) = next {
+            self.remove(order.bank, order.number);
             count += 1;
-            next = self.next_of(bank, 0, &mut steps);
+            next = self.next_best(bank, side, None, steps);
         }
         count
     }
 
-    /// The first order of a bank that arrived at or after this; `None` where there is none. One step.
+    /// The first order of a bank that arrived at or after this; `None` where there is none. It counts as one step, but looks
+    /// at all orders of the book.
     pub fn next_of<L: Ledger>(
         &self,
         bank: BankId,
@@ -215,13 +235,8 @@ impl PairBook {
         ensures step { steps.new ≡ steps.old + 1 }
         ensures valid { IsBook self.now }
     {
-        if bank.index() >= self.arrival_rows.len() {
-            steps.tick();
-            return None;
-        }
-        let row = &self.arrival_rows[bank.index()];
-        let place = row.from(&by_arrival(after, 0), steps)?;
-        Some(self.orders.get(OrderKey(place.key)))
+        steps.tick();
+        self.orders.earliest_of(bank, after)
     }
 
     /// The best order of a side, and its place, among those whose owner can be reached for a lot at least, that the limit
@@ -244,7 +259,7 @@ impl PairBook {
         ensures steps { AreInTime side before self.now.orders → steps.new ≤ steps.old + self.now.banks }
         ensures valid { IsBook self.now }
     {
-        let (_, place) = best_of(&self.price_rows, side, reach, limit, before, past, steps)?;
+        let (_, place) = best_of(&self.rows, side, reach, limit, before, past, steps)?;
         Some((self.orders.get(OrderKey(place.key)), place))
     }
 
@@ -265,7 +280,7 @@ impl PairBook {
         ensures steps { AreInTime side before self.now.orders → steps.new ≤ steps.old + 1 }
         ensures valid { IsBook self.now }
     {
-        let place = self.price_rows.first_of(bank, side, before, past, steps)?;
+        let place = self.rows.first_of(bank, side, before, past, steps)?;
         Some((self.orders.get(OrderKey(place.key)), place))
     }
 
@@ -287,11 +302,31 @@ impl PairBook {
         ensures steps { AreInTime side before self.now.orders → steps.new ≤ steps.old + 1 }
         ensures valid { IsBook self.now }
     {
-        let front = self.price_rows.first_of(bank, side, before, past, steps)?;
+        let front = self.rows.first_of(bank, side, before, past, steps)?;
         if limit.crosses(front.price, side.opposite()) {
             return Some((self.orders.get(OrderKey(front.key)), front));
         }
         None
+    }
+
+    /// The best order of a bank and a side, and its place, among those that stand behind the place `past`, whenever they
+    /// arrived: no order arrives at 2^64. Without a place all of them are looked at. `None` where there is no such order.
+    /// One step at most.
+    pub fn next_best<L: Ledger>(
+        &self,
+        bank: BankId,
+        side: Side,
+        past: Option<&Place>,
+        steps: &mut Steps<L>,
+    ) -> Option<(Resting, Place)>
+        ensures none { (result ≡ None) ↔ (owned side bank (2 ^ 64) (option_copied past.entry) self.now.orders ≡ []) }
+        ensures best { IfSome result (λ found. IsBest (opposite side) (owned side bank (2 ^ 64) (option_copied past.entry) self.now.orders) found.0) }
+        ensures place { IfSome result (λ found. IsPlaceOf found.0 found.1) }
+        ensures steps { steps.new ≤ steps.old + 1 }
+        ensures valid { IsBook self.now }
+    {
+        let place = self.rows.first_behind(bank, side, past, steps)?;
+        Some((self.orders.get(OrderKey(place.key)), place))
     }
 
     /// The best price, worse than `past` where there is one, at which a bank has orders of a side; `None` where there is no
@@ -308,9 +343,7 @@ impl PairBook {
         ensures valid { IsBook self.now }
     {
         let end = end_of(past);
-        let place = self
-            .price_rows
-            .first_behind(bank, side, end.as_ref(), steps)?;
+        let place = self.rows.first_behind(bank, side, end.as_ref(), steps)?;
         Some(place.price)
     }
 
@@ -323,13 +356,14 @@ impl PairBook {
     }
 }
 
-/// The place of an order in the row of its bank and side.
-fn by_price(order: &Resting, key: usize) -> Place
-    ensures { result ≡ place_in its_price key order.now }
+/// The place of an order of this price and arrival, kept under this key.
+fn place_of(price: Price, arrival: u64, key: usize) -> Place
+    ensures arrival { arrival < 2 ^ 64 }
+    ensures place { result ≡ record { price = price; arrival = arrival; key = key } }
 {
     Place {
-        price: order.price,
-        arrival: order.arrival,
+        price,
+        arrival,
         key,
     }
 }
@@ -344,28 +378,4 @@ fn end_of(past: Option<Price>) -> Option<Place>
         arrival: u64::MAX,
         key: 0,
     })
-}
-
-/// The place of an order in its bank's row, where all prices are one.
-fn by_arrival(arrival: u64, key: usize) -> Place
-    ensures most { arrival < 2 ^ 64 }
-    ensures place { result ≡ record { price = 1; arrival = arrival; key = key } }
-{
-    Place {
-        price: Price::new(Price::LEAST).unwrap(),
-        arrival,
-        key,
-    }
-}
-
-/// So many rows by arrival, with no places.
-fn empty_rows(alloc: Global, count: usize) -> Result<Vec<Levels>, Memory>
-    ensures count { IfOk result (λ rows. length rows.items ≡ count) }
-    ensures empty { IfOk result (λ rows. All IsEmptyRow rows.items) }
-{
-    let mut rows = Vec::new(alloc);
-    for _bank in 0..count {
-        rows.push(Levels::new(alloc, Side::Sell))?;
-    }
-    Ok(rows)
 }

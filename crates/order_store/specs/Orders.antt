@@ -1,5 +1,5 @@
 -- The orders that are kept, as contracts see them: a finite map from keys to orders.
-use Rattle.std.specs.Prelude.{ℕ, ◌≡◌, ◌≢◌, ◌<◌, ◌^◌, List, Option, Some, None, slice_index_or}
+use Rattle.std.specs.Prelude.{ℕ, ◌≡◌, ◌≢◌, ◌≤◌, ◌<◌, ◌^◌, List, Option, Some, None, count_by, is_some, slice_index_or}
 use Rattle.fx_rules.specs.declared.orders.Resting.{Resting}
 
 -- the order or nothing at each key from 0 on, and how many orders more can be added
@@ -10,6 +10,10 @@ pub record Orders : Type 0 where
 -- the order at a key
 abbrev pub order_at : Orders → ℕ → Option Resting
 order_at orders key = slice_index_or orders.slots key None
+
+-- how many orders there are
+abbrev pub kept : Orders → ℕ
+kept orders = count_by is_some orders.slots
 
 -- an order is the one of this bank and number
 pub record IsOf (owner place : ℕ) (order : Resting) : Type 0 where
@@ -30,3 +34,15 @@ pub record AreOrders (orders : Orders) : Type 0 where
 pub record Changes (old new : Orders) (key : ℕ) (slot : Option Resting) : Type 0 where
   pub changed : order_at new key ≡ slot
   pub others : (other : ℕ) → other ≢ key → order_at new other ≡ order_at old other
+
+-- an order of this bank arrived at or after this
+pub record IsFrom (owner after : ℕ) (order : Resting) : Type 0 where
+  pub bank : order.bank ≡ owner
+  pub arrival : after ≤ order.arrival
+
+-- an order of this bank that arrived at or after this is kept, and no other such order arrived before it
+pub record IsEarliest (owner after : ℕ) (orders : Orders) (order : Resting) : Type 0 where
+  pub key : ℕ
+  pub there : order_at orders key ≡ Some order
+  pub from : IsFrom owner after order
+  pub first : (other : ℕ) (same : Resting) → order_at orders other ≡ Some same → IsFrom owner after same → order.arrival ≤ same.arrival

@@ -1,7 +1,8 @@
-ghost use Rattle.std.specs.Prelude.{◌≡◌, ◌+◌, ◌<◌, ◌≤◌, ◌^◌, [], Some, None, OnOk, IfSome, IsSome, IsSomeAnd};
+ghost use Rattle.std.specs.Prelude.{ℕ, ◌≡◌, ◌+◌, ◌<◌, ◌≤◌, ◌^◌, [], Some, None, OnOk, IfSome, IsSome, IsSomeAnd};
 ghost use Rattle.order_store.specs.Levels.{is_at, lots_where};
+ghost use Rattle.order_store.specs.inside.Earliest.{earlier};
 ghost use Rattle.order_store.specs.inside.Levels.{level_number};
-ghost use Rattle.order_store.specs.Orders.{AreOrders, Changes, IsOf, Lacks, order_at};
+ghost use Rattle.order_store.specs.Orders.{AreOrders, Changes, IsEarliest, IsFrom, IsOf, Lacks, kept, order_at};
 ghost use Rattle.order_store.specs.inside.Orders as orders;
 
 use crate::sums::LevelSums;
@@ -50,6 +51,14 @@ impl OrderStore {
             names: HashMap::new(alloc),
             sums: LevelSums::new(alloc),
         }
+    }
+
+    /// How many orders are kept.
+    pub fn len(&self) -> usize
+        ensures count { result ≡ kept self.now }
+        ensures valid { AreOrders self.now }
+    {
+        self.orders.len()
     }
 
     /// Makes room for so many orders more. At `Memory` there may be none.
@@ -138,12 +147,37 @@ impl OrderStore {
         Some(OrderKey(key))
     }
 
+    /// The first of a bank's orders that arrived at or after this; `None` where there is none. It looks at all orders.
+    pub fn earliest_of(&self, bank: BankId, after: u64) -> Option<Resting>
+        ensures earliest { IfSome result (IsEarliest bank after self.now) }
+        ensures none { result ≡ None → (key : ℕ) (order : Resting) → order_at self.now key ≡ Some order → IsFrom bank after order → ⊥ }
+        ensures valid { AreOrders self.now }
+    {
+        let mut first = None;
+        for (_, order) in self.orders.iter() {
+            if order.bank == bank && after <= order.arrival {
+                first = Some(earlier(first, *order));
+            }
+        }
+        first
+    }
+
     /// The lots that the orders of a bank and a side have left at a price.
     pub fn lots_at(&self, bank: BankId, side: Side, price: Price) -> u128
         ensures lots { result ≡ lots_where (is_at bank side price) self.now.slots }
         ensures valid { AreOrders self.now }
     {
         self.sums.of(level_of(bank, side, price))
+    }
+}
+
+/// The one of two orders that arrived earlier; the second where there is no first.
+fn earlier(first: Option<Resting>, second: Resting) -> Resting
+    ensures { result ≡ earlier first second }
+{
+    match first {
+        Some(first) if first.arrival <= second.arrival => first,
+        _ => second,
     }
 }
 

@@ -5,13 +5,13 @@ use Rattle.fx_rules.specs.declared.orders.Resting.{Resting}
 use Rattle.fx_rules.specs.Sweep.{is_preferred}
 use Rattle.price_levels.specs.declared.place.Place.{Place}
 use Rattle.order_store.specs.Orders.{Orders, order_at}
-use Rattle.global_book.specs.inside.Rows.{place_in, its_price}
+use Rattle.global_book.specs.inside.Rows.{place_in}
 
 -- an order that is kept passes, it is found with its place, and a taker prefers no other that passes
 pub record IsFoundAt (passes : Resting → Bool) (taker : Side) (orders : Orders) (found : Resting × Place) : Type 0 where
   pub there : order_at orders found.1.key ≡ Some found.0
   pub passes_it : passes found.0 ≡ true
-  pub place : found.1 ≡ place_in its_price found.1.key found.0
+  pub place : found.1 ≡ place_in found.1.key found.0
   pub best : (key : ℕ) (order : Resting) → order_at orders key ≡ Some order → passes order ≡ true → is_preferred taker order found.0 ≡ false
 
 -- the best of the orders that pass is found, or none where none passes

@@ -15,7 +15,7 @@ unwrap-key-requires c =
 pub lower-requires : goal.lower-requires
 lower-requires c =
     let it = found_order c.self.inside.orders c.args.bank c.args.number c.find.result c.unwrap-key.result c.unwrap-key.ensures c.find.ensures.found in
-    let same = the_order (length c.self.inside.arrival_rows.items) c.self.inside.orders c.args.self.now.orders c.args.bank c.args.number c.unwrap-key.result.0 it.0 c.requires.above.0
+    let same = the_order (length c.self.inside.rows) c.self.inside.orders c.args.self.now.orders c.args.bank c.args.number c.unwrap-key.result.0 it.0 c.requires.above.0
     c.self.invariant.resting it.1 (ap (λ (b : Book). b.orders) c.self.view_is) c.requires.above.1 c.requires.above.2 in
     record {
       less = is_some_and (order_at c.self.inside.orders c.unwrap-key.result.0) it.0 (λ o. c.args.left < o.left) it.1.at
@@ -25,7 +25,7 @@ lower-requires c =
 pub invariant_of-self : goal.invariant_of-self
 invariant_of-self c =
     let it = found_order c.self.inside.orders c.args.bank c.args.number c.find.result c.unwrap-key.result c.unwrap-key.ensures c.find.ensures.found in
-    kept_lowered c.self.inside.banks c.self.inside.orders c.lower.new.self c.self.inside.price_rows c.self.inside.arrival_rows.items c.unwrap-key.result.0 c.args.left it.0
+    kept_lowered c.self.inside.banks c.self.inside.orders c.lower.new.self c.self.inside.rows c.unwrap-key.result.0 c.args.left it.0
     c.self.invariant it.1.at
     (if_some (order_at c.self.inside.orders c.unwrap-key.result.0) it.0 (λ o. Changes c.self.inside.orders c.lower.new.self c.unwrap-key.result.0 (Some (record o { left = c.args.left }))) it.1.at c.lower.ensures.changes)
     c.lower.ensures.valid
@@ -33,10 +33,10 @@ invariant_of-self c =
 pub returns-clause-orders : goal.returns-clause-orders
 returns-clause-orders c =
     let it = found_order c.self.inside.orders c.args.bank c.args.number c.find.result c.unwrap-key.result c.unwrap-key.ensures c.find.ensures.found in
-    flat-lowered (length c.self.inside.arrival_rows.items) c.self.inside.orders c.lower.new.self c.unwrap-key.result.0 it.0 c.args.bank c.args.number c.args.left
+    flat-lowered (length c.self.inside.rows) c.self.inside.orders c.lower.new.self c.unwrap-key.result.0 it.0 c.args.bank c.args.number c.args.left
     c.self.invariant.resting (invariant_of-self c).resting it.1.at it.1.is_it
     (if_some (order_at c.self.inside.orders c.unwrap-key.result.0) it.0 (λ o. Changes c.self.inside.orders c.lower.new.self c.unwrap-key.result.0 (Some (record o { left = c.args.left }))) it.1.at c.lower.ensures.changes)
     ∙ ap (map (relotted c.args.bank c.args.number c.args.left)) (ap (λ (b : Book). b.orders) c.self.view_is)
 
 pub returns-clause-valid : goal.returns-clause-valid
-returns-clause-valid c = kept_book _ _ _ _ _ (invariant_of-self c) refl refl
+returns-clause-valid c = kept_book _ _ _ _ (invariant_of-self c) refl refl
