@@ -1,10 +1,10 @@
 -- Two banks' orders gathered from the best price on, and put in the order of their arrivals.
-use Rattle.std.proofs.Common.{ℕ, suc, ◌≡◌, ◌≢◌, ◌-◌, ◌^◌, ◌≤◌, ◌<◌, Bool, true, false, cond, ◌&&◌, ◌||◌, eqb, leb, ltb, List, [], ◌∷◌, map, length, ◌⊎◌, inl, inr, Option, Some, None, refl, ap, sym, subst, ◌∙◌, arith}
-use Rattle.std.proofs.lemmas.Bool.{cases_Bool, cases_eq, cond-true, cond-false, both_ways, false≢true, false_from_ne_true, and_parts, and_from, and_right, or_left, or_right, eqb-true, eq-eqb, ne_eqb, lt-ltb, le-ltb, ltb-true, ltb-false, leb-true, le-leb}
+use Rattle.std.proofs.Common.{ℕ, suc, ◌≡◌, ◌≢◌, ◌^◌, ◌<◌, Bool, true, false, cond, ◌&&◌, ◌||◌, eqb, ltb, List, [], ◌∷◌, map, length, ◌⊎◌, inl, inr, Option, Some, None, refl, ap, sym, subst, ◌∙◌, arith}
+use Rattle.std.proofs.lemmas.Bool.{cases_Bool, cases_eq, cond-true, cond-false, both_ways, false≢true, false_from_ne_true, and_parts, and_from, or_left, or_right, eqb-true, eq-eqb, ne_eqb, lt-ltb, le-ltb, ltb-false, leb-true, le-leb}
 use Rattle.std.proofs.lemmas.Cmp.{nat_cmp_total, ranked}
 use Rattle.std.proofs.lemmas.Map.Keys.{sorted_head, sorted_tail}
 use Rattle.std.proofs.lemmas.Map.Views.{All-found}
-use Rattle.std.specs.List.{filter, All, AllByRecursion}
+use Rattle.std.specs.List.{All, AllByRecursion}
 use Rattle.std.specs.List.Sorted.{IsStrictlySortedBy}
 use Rattle.std.specs.Map.{lookup}
 use Rattle.std.specs.Option.{option_map}
@@ -20,19 +20,20 @@ use Rattle.fx_rules.specs.Sound.{ArrivesBefore}
 use Rattle.fx_rules.specs.Plan.{is_behind}
 use Rattle.fx_rules.specs.Sweep.{is_opposite, is_better, is_preferred, IsBest}
 use Rattle.fx_rules.proofs.ListLemmas.{Each-among, Each-weaker, Among-filter, Among-map, among_filter}
-use Rattle.fx_rules.proofs.Preference.{preferred_self, preferred_trans, preferred_neither, rising_same}
+use Rattle.fx_rules.proofs.Preference.{preferred_self, preferred_neither, rising_same}
 use Rattle.price_levels.specs.declared.place.Place.{Place}
-use Rattle.global_book.specs.Book.{Book, IsBook, IsHeld, IsPlaceOf, first, is_of, is_of_from, is_owned, owned, standing_at}
+use Rattle.global_book.specs.Book.{Book, IsBook, IsHeld, IsPlaceOf, is_of, is_owned, owned, standing_at}
+use Rattle.global_book.proofs.Cursor.{behind_still, owned_less}
 use Rattle.global_book.proofs.Sought.{behind-place}
 use Rattle.credit_raise.specs.declared.prices.Tops.{Tops}
 use Rattle.credit_raise.specs.inside.Prices.{IsOf, IsTop, AreTops, is_crossed, tops_meet, crosses_top, crosses_tops, top_of, is_live, live_turns}
 use Rattle.credit_raise.specs.Two.{is_of_two}
 use Rattle.credit_raise.specs.inside.Two.{turns}
 use Rattle.credit_raise.proofs.Apart.{none_in, two-owner, owner-two}
-use Rattle.credit_raise.specs.inside.Gathered.{Gathers, IsLiveOf, IsEarlyOf, IsPassed, IsLateOf}
+use Rattle.credit_raise.specs.inside.Gathered.{Gathers, IsLiveOf, IsLiveOn, IsPassed}
 use Rattle.credit_raise.proofs.Looking.{opposite_twice, not_better}
 use Rattle.credit_raise.proofs.Facing.{opposite_side, opposite_is, live-turns}
-use Rattle.credit_raise.proofs.Walking.{some_same, first_among}
+use Rattle.credit_raise.proofs.Walking.{some_same}
 
 -- ---- what is gathered
 
@@ -104,77 +105,45 @@ gathers-one orders x old new rising here update =
 
 -- ---- a row, from the best price on
 
-behind_still : (side : Side) (last : Option Resting) (best o : Resting) → is_behind side last best ≡ true → is_preferred side best o ≡ true → is_behind side last o ≡ true
-behind_still side None best o behind later = refl
-behind_still side (Some last) best o behind later = preferred_trans side last best o behind later
-
 -- an order that is no better crosses no more
 worse_crosses : (side : Side) (price best : ℕ) (top : Option ℕ) → is_better (opposite side) price best ≡ false → crosses_top side price top ≡ true → crosses_top side best top ≡ true
 worse_crosses side price best None worse cross = absurd (false≢true cross)
 worse_crosses Buy price best (Some top) worse cross = le-leb top best (omega (arith, ltb-false best price worse, leb-true top price cross))
 worse_crosses Sell price best (Some top) worse cross = le-leb best top (omega (arith, ltb-false price best worse, leb-true price top cross))
 
-filter_most : (p q : Resting → Bool) (xs : List Resting) → ((y : Resting) → p y ≡ true → q y ≡ true) → length (filter p xs) ≤ length (filter q xs)
-filter_most p q [] less = omega arith
-filter_most p q (y ∷ ys) less =
-    let rest : length (filter p ys) ≤ length (filter q ys) = filter_most p q ys less in
-    elim (cases_Bool (p y)) [
-      | inl p_yes ↦ let q_yes : q y ≡ true = less y p_yes in rw (p_yes, q_yes) (omega arith)
-      | inr p_no ↦ elim (cases_Bool (q y)) [ inl q_yes ↦ rw (p_no, q_yes) (omega arith) | inr q_no ↦ rw (p_no, q_no) rest ]
-    ]
-
--- a test that passes fewer
-filter_fewer : (p q : Resting → Bool) (xs : List Resting) (x : Resting) → ((y : Resting) → p y ≡ true → q y ≡ true) → Among x xs → p x ≡ false → q x ≡ true → length (filter p xs) < length (filter q xs)
-filter_fewer p q [] x less there fails passes = absurd there
-filter_fewer p q (y ∷ ys) x less (inl is) fails passes =
-    let rest : length (filter p ys) ≤ length (filter q ys) = filter_most p q ys less in
-    let p_no : p y ≡ false = ap p (sym is) ∙ fails in
-    let q_yes : q y ≡ true = ap q (sym is) ∙ passes in
-    rw (p_no, q_yes) (omega arith)
-filter_fewer p q (y ∷ ys) x less (inr later) fails passes =
-    let rest : length (filter p ys) < length (filter q ys) = filter_fewer p q ys x less later fails passes in
-    elim (cases_Bool (p y)) [
-      | inl p_yes ↦ let q_yes : q y ≡ true = less y p_yes in rw (p_yes, q_yes) (omega arith)
-      | inr p_no ↦ elim (cases_Bool (q y)) [ inl q_yes ↦ rw (p_no, q_yes) (omega arith) | inr q_no ↦ rw (p_no, q_no) rest ]
-    ]
-
-module _ (bank before : ℕ) (side : Side) (tops : Tops) (orders : List Resting) (rising : EachPair ArrivesBefore orders) (last : before ≡ 2 ^ 64 - 1) where
-  row : Option Place → List Resting
-  row past = owned side bank before past orders
-
-  in_row : (past : Option Place) (o : Resting) → Among o orders → IsEarlyOf bank side tops o → is_behind (opposite side) (option_map standing_at past) o ≡ true → Among o (owned side bank before past orders)
+module _ (bank : ℕ) (side : Side) (tops : Tops) (book : Book) (valid : IsBook book) where
+  in_row : (past : Option Place) (o : Resting) → Among o book.orders → IsLiveOn bank side tops o → is_behind (opposite side) (option_map standing_at past) o ≡ true → Among o (owned side bank (2 ^ 64) past book.orders)
   in_row past o there is behind =
       let a : Bool = is_opposite (opposite side) o.side in
       let b : Bool = is_of bank o in
-      let e : Bool = ltb o.arrival before in
-      among_filter (is_owned (opposite side) bank before past) orders o there
+      let e : Bool = ltb o.arrival (2 ^ 64) in
+      among_filter (is_owned (opposite side) bank (2 ^ 64) past) book.orders o there
       (and_from (a && b && e) (is_behind (opposite side) (option_map standing_at past) o)
       (and_from (a && b) e
       (and_from a b (subst (λ (s : Side). is_opposite (opposite side) s ≡ true) (sym is.side_is) (opposite_side side)) (eq-eqb o.bank bank is.live.owner))
-      (lt-ltb o.arrival before (omega (arith, is.early, last)))) behind)
+      (lt-ltb o.arrival (2 ^ 64) (Each-among (IsHeld book.banks) book.orders o valid.held there).arrival_most)) behind)
 
-  pub row-none : (gathered : BTreeMap ℕ Resting) → Gathers (IsPassed bank side tops None) orders gathered gathered
-  row-none gathered = gathers-none (IsPassed bank side tops None) orders gathered (λ o there is. false≢true (sym is.1))
+  pub row-none : (gathered : BTreeMap ℕ Resting) → Gathers (IsPassed bank side tops None) book.orders gathered gathered
+  row-none gathered = gathers-none (IsPassed bank side tops None) book.orders gathered (λ o there is. false≢true (sym is.1))
 
-  pub row-all : (past : Option Place) (a b : BTreeMap ℕ Resting) → owned side bank before past orders ≡ [] → Gathers (IsPassed bank side tops past) orders a b → Gathers (IsEarlyOf bank side tops) orders a b
+  pub row-all : (past : Option Place) (a b : BTreeMap ℕ Resting) → owned side bank (2 ^ 64) past book.orders ≡ [] → Gathers (IsPassed bank side tops past) book.orders a b → Gathers (IsLiveOn bank side tops) book.orders a b
   row-all past a b none =
-      gathers-same (IsPassed bank side tops past) (IsEarlyOf bank side tops) orders a b (λ o there is. is.0)
+      gathers-same (IsPassed bank side tops past) (IsLiveOn bank side tops) book.orders a b (λ o there is. is.0)
       (λ o there is. (is, false_from_ne_true (is_behind (opposite side) (option_map standing_at past) o) (λ behind. subst (λ (os : List Resting). Among o os) none (in_row past o there is behind))))
 
   -- what is known of the best one
   record IsFirst (past : Option Place) (best : Resting) : Type 0 where
-    rests : Among best orders
+    rests : Among best book.orders
     side_is : best.side ≡ side
     owner : best.bank ≡ bank
-    early : best.arrival < 2 ^ 64 - 1
     behind : is_behind (opposite side) (option_map standing_at past) best ≡ true
 
-  first_is : (past : Option Place) (best : Resting) → Among best (owned side bank before past orders) → IsFirst past best
+  first_is : (past : Option Place) (best : Resting) → Among best (owned side bank (2 ^ 64) past book.orders) → IsFirst past best
   first_is past best there =
       let a : Bool = is_opposite (opposite side) best.side in
       let b : Bool = is_of bank best in
-      let e : Bool = ltb best.arrival before in
-      let found = Among-filter (is_owned (opposite side) bank before past) orders best there in
+      let e : Bool = ltb best.arrival (2 ^ 64) in
+      let found = Among-filter (is_owned (opposite side) bank (2 ^ 64) past) book.orders best there in
       let three = and_parts (a && b && e) (is_behind (opposite side) (option_map standing_at past) best) found.1 in
       let two = and_parts (a && b) e three.0 in
       let one = and_parts a b two.0 in
@@ -182,20 +151,19 @@ module _ (bank before : ℕ) (side : Side) (tops : Tops) (orders : List Resting)
         rests = found.0;
         side_is = opposite_is (opposite side) best.side one.0 ∙ opposite_twice side;
         owner = eqb-true best.bank bank one.1;
-        early = omega (arith, ltb-true best.arrival before two.1, last);
         behind = three.1;
       }
 
   -- the best one does not cross, nor do those behind it
-  pub row-rest : (past : Option Place) (best : Resting) (a b : BTreeMap ℕ Resting) → IsBest (opposite side) (owned side bank before past orders) best → crosses_tops tops best ≡ false → Gathers (IsPassed bank side tops past) orders a b → Gathers (IsEarlyOf bank side tops) orders a b
+  pub row-rest : (past : Option Place) (best : Resting) (a b : BTreeMap ℕ Resting) → IsBest (opposite side) (owned side bank (2 ^ 64) past book.orders) best → crosses_tops tops best ≡ false → Gathers (IsPassed bank side tops past) book.orders a b → Gathers (IsLiveOn bank side tops) book.orders a b
   row-rest past best a b is_best apart =
-      gathers-same (IsPassed bank side tops past) (IsEarlyOf bank side tops) orders a b (λ o there is. is.0)
+      gathers-same (IsPassed bank side tops past) (IsLiveOn bank side tops) book.orders a b (λ o there is. is.0)
       (λ o there is. (
         is,
         false_from_ne_true (is_behind (opposite side) (option_map standing_at past) o) (λ behind.
             let first = first_is past best is_best.there in
             let worse : is_better (opposite side) o.price best.price ≡ false = not_better (opposite side) o best
-            (Each-among (λ other. is_preferred (opposite side) other best ≡ false) (owned side bank before past orders) o is_best.first (in_row past o there is behind)) in
+            (Each-among (λ other. is_preferred (opposite side) other best ≡ false) (owned side bank (2 ^ 64) past book.orders) o is_best.first (in_row past o there is behind)) in
             let at : Side → ℕ → Bool = λ s price. crosses_top s price (top_of tops (opposite s)) in
             both_ways (crosses_tops tops best) apart
             (subst (λ (s : Side). at s best.price ≡ true) (sym first.side_is)
@@ -203,14 +171,14 @@ module _ (bank before : ℕ) (side : Side) (tops : Tops) (orders : List Resting)
       ))
 
   -- the best one is put in
-  pub row-more : (past : Option Place) (best : Resting) (place : Place) (a b c : BTreeMap ℕ Resting) → IsBest (opposite side) (owned side bank before past orders) best → IsPlaceOf best place → crosses_tops tops best ≡ true
+  pub row-more : (past : Option Place) (best : Resting) (place : Place) (a b c : BTreeMap ℕ Resting) → IsBest (opposite side) (owned side bank (2 ^ 64) past book.orders) best → IsPlaceOf best place → crosses_tops tops best ≡ true
       → ((q : ℕ) → get nat_cmp c q ≡ cond (is_eq (nat_cmp best.arrival q)) (Some best) (get nat_cmp b q))
-      → Gathers (IsPassed bank side tops past) orders a b → Gathers (IsPassed bank side tops (Some place)) orders a c
+      → Gathers (IsPassed bank side tops past) book.orders a b → Gathers (IsPassed bank side tops (Some place)) book.orders a c
   row-more past best place a b c is_best is_place cross update passed =
       let taker : Side = opposite side in
       let first = first_is past best is_best.there in
       let beyond : (o : Resting) → is_behind taker (Some (standing_at place)) o ≡ is_preferred taker best o = λ o. behind-place taker best place o is_place in
-      gathers-both (IsPassed bank side tops past) (λ o. o ≡ best) (IsPassed bank side tops (Some place)) orders a b c
+      gathers-both (IsPassed bank side tops past) (λ o. o ≡ best) (IsPassed bank side tops (Some place)) book.orders a b c
       (λ o either. elim either [
         | inl is ↦ (
           is.0,
@@ -219,84 +187,26 @@ module _ (bank before : ℕ) (side : Side) (tops : Tops) (orders : List Resting)
               (behind_still taker (option_map standing_at past) best o first.behind (sym (beyond o) ∙ behind))),
         )
         | inr same ↦ subst (IsPassed bank side tops (Some place)) (sym same) (
-          record { live = record { owner = first.owner; crosses = cross }; side_is = first.side_is; early = first.early },
+          record { live = record { owner = first.owner; crosses = cross }; side_is = first.side_is },
           false_from_ne_true (is_behind taker (Some (standing_at place)) best) (λ behind. preferred_self taker best (sym (beyond best) ∙ behind)),
         )
       ])
       (λ o there is. elim (cases_Bool (is_behind taker (option_map standing_at past) o)) [
         | inl behind ↦
             let no_better : is_preferred taker o best ≡ false =
-            Each-among (λ other. is_preferred taker other best ≡ false) (owned side bank before past orders) o is_best.first (in_row past o there is.0 behind) in
-            inr (rising_same orders o best rising there first.rests (preferred_neither taker o best no_better (sym (beyond o) ∙ is.1)))
+            Each-among (λ other. is_preferred taker other best ≡ false) (owned side bank (2 ^ 64) past book.orders) o is_best.first (in_row past o there is.0 behind) in
+            inr (rising_same book.orders o best valid.rising there first.rests (preferred_neither taker o best no_better (sym (beyond o) ∙ is.1)))
         | inr not_behind ↦ inl (is.0, not_behind)
       ])
-      passed (gathers-one orders best b c rising first.rests update)
+      passed (gathers-one book.orders best b c valid.rising first.rests update)
 
   -- fewer are left behind the best one
-  pub row-fewer : (past : Option Place) (best : Resting) (place : Place) → IsBest (opposite side) (owned side bank before past orders) best → IsPlaceOf best place → length (owned side bank before (Some place) orders) < length (owned side bank before past orders)
-  row-fewer past best place is_best is_place =
-      let taker : Side = opposite side in
-      let first = first_is past best is_best.there in
-      let beyond : (o : Resting) → is_behind taker (Some (standing_at place)) o ≡ is_preferred taker best o = λ o. behind-place taker best place o is_place in
-      let front : Resting → Bool = λ o. is_opposite taker o.side && is_of bank o && ltb o.arrival before in
-      filter_fewer (is_owned taker bank before (Some place)) (is_owned taker bank before past) orders best
-      (λ o is.
-      let both = and_parts (front o) (is_behind taker (Some (standing_at place)) o) is in
-      and_from (front o) (is_behind taker (option_map standing_at past) o) both.0
-      (behind_still taker (option_map standing_at past) best o first.behind (sym (beyond o) ∙ both.1)))
-      first.rests
-      (and_right (front best) (is_behind taker (Some (standing_at place)) best)
-      (false_from_ne_true (is_behind taker (Some (standing_at place)) best) (λ behind. preferred_self taker best (sym (beyond best) ∙ behind))))
-      (Among-filter (is_owned taker bank before past) orders best is_best.there).1
-
--- ---- a bank
+  pub row-fewer : (past : Option Place) (best : Resting) (place : Place) → IsBest (opposite side) (owned side bank (2 ^ 64) past book.orders) best → IsPlaceOf best place
+      → length (owned side bank (2 ^ 64) (Some place) book.orders) < length (owned side bank (2 ^ 64) past book.orders)
+  row-fewer past best place is_best is_place = omega (arith, owned_less book bank side past best place valid is_best is_place)
 
 none_some : (o : Resting) → None ≡ Some o → ⊥
 none_some o is = cc
-
-first_there : (xs : List Resting) (o : Resting) → Among o xs → first xs ≡ None → ⊥
-first_there [] o there none = there
-first_there (x ∷ xs) o there none = absurd (cc)
-
-late_in : (bank last : ℕ) (tops : Tops) (orders : List Resting) (o : Resting) → last ≡ 2 ^ 64 - 1 → Among o orders → IsLateOf bank tops o → Among o (filter (is_of_from bank last) orders)
-late_in bank last tops orders o last_is there is =
-    among_filter (is_of_from bank last) orders o there
-    (and_from (eqb o.bank bank) (leb last o.arrival) (eq-eqb o.bank bank is.live.owner) (le-leb last o.arrival (omega (arith, is.late, last_is))))
-
--- a bank's first order from an arrival on
-from_found : (bank last : ℕ) (orders : List Resting) (x : Resting) → first (filter (is_of_from bank last) orders) ≡ Some x → Among x orders × (x.bank ≡ bank) × (last ≤ x.arrival)
-from_found bank last orders x found =
-    let kept = Among-filter (is_of_from bank last) orders x (first_among (filter (is_of_from bank last) orders) x found) in
-    let both = and_parts (eqb x.bank bank) (leb last x.arrival) kept.1 in
-    (kept.0, eqb-true x.bank bank both.0, leb-true last x.arrival both.1)
-
--- no two orders arrived last of all
-late_same : (bank last : ℕ) (tops : Tops) (book : Book) (x o : Resting) → last ≡ 2 ^ 64 - 1 → IsBook book → first (filter (is_of_from bank last) book.orders) ≡ Some x → Among o book.orders → IsLateOf bank tops o → o ≡ x
-late_same bank last tops book x o last_is valid found there is =
-    let of = from_found bank last book.orders x found in
-    let x_held : IsHeld book.banks x = Each-among (IsHeld book.banks) book.orders x valid.held of.0 in
-    let o_held : IsHeld book.banks o = Each-among (IsHeld book.banks) book.orders o valid.held there in
-    rising_same book.orders o x valid.rising there of.0 (omega (arith, of.2, last_is, is.late, x_held.arrival_most, o_held.arrival_most))
-
--- the order that arrived last of all, if it is a bank's
-pub late-none : (bank last : ℕ) (tops : Tops) (orders : List Resting) (gathered : BTreeMap ℕ Resting) → last ≡ 2 ^ 64 - 1 → first (filter (is_of_from bank last) orders) ≡ None → Gathers (IsLateOf bank tops) orders gathered gathered
-late-none bank last tops orders gathered last_is none =
-    gathers-none (IsLateOf bank tops) orders gathered
-    (λ o there is. first_there (filter (is_of_from bank last) orders) o (late_in bank last tops orders o last_is there is) none)
-
-pub late-apart : (bank last : ℕ) (tops : Tops) (book : Book) (x : Resting) (gathered : BTreeMap ℕ Resting) → last ≡ 2 ^ 64 - 1 → IsBook book → first (filter (is_of_from bank last) book.orders) ≡ Some x → crosses_tops tops x ≡ false → Gathers (IsLateOf bank tops) book.orders gathered gathered
-late-apart bank last tops book x gathered last_is valid found apart =
-    gathers-none (IsLateOf bank tops) book.orders gathered
-    (λ o there is. both_ways (crosses_tops tops x) apart (ap (crosses_tops tops) (sym (late_same bank last tops book x o last_is valid found there is)) ∙ is.live.crosses))
-
-pub late-one : (bank last : ℕ) (tops : Tops) (book : Book) (x : Resting) (old new : BTreeMap ℕ Resting) → last ≡ 2 ^ 64 - 1 → IsBook book → first (filter (is_of_from bank last) book.orders) ≡ Some x → crosses_tops tops x ≡ true
-    → ((q : ℕ) → get nat_cmp new q ≡ cond (is_eq (nat_cmp x.arrival q)) (Some x) (get nat_cmp old q)) → Gathers (IsLateOf bank tops) book.orders old new
-late-one bank last tops book x old new last_is valid found cross update =
-    let is = from_found bank last book.orders x found in
-    gathers-same (λ o. o ≡ x) (IsLateOf bank tops) book.orders old new
-    (λ o there same. subst (IsLateOf bank tops) (sym same) (record { live = record { owner = is.1; crosses = cross }; late = omega (arith, is.2, last_is) }))
-    (λ o there late. late_same bank last tops book x o last_is valid found there late)
-    (gathers-one book.orders x old new valid.rising is.0 update)
 
 -- ---- in the order of their arrivals
 

@@ -2,7 +2,7 @@ ghost use Rattle.std.specs.Prelude.{◌≡◌, ◌≢◌, IfOk, OnOk};
 ghost use Rattle.std.specs.BTreeMap.{IsOrdered, values};
 ghost use Rattle.std.specs.Ordering.{nat_cmp};
 ghost use Rattle.global_book.specs.Book.{IsBook};
-ghost use Rattle.credit_raise.specs.inside.Gathered.{Gathers, IsEarlyOf, IsLateOf, IsLiveOf};
+ghost use Rattle.credit_raise.specs.inside.Gathered.{Gathers, IsLiveOf, IsLiveOn};
 ghost use Rattle.credit_raise.specs.inside.Prices.{live_turns};
 
 use crate::prices::Tops;
@@ -15,7 +15,7 @@ use std::collections::BTreeMap;
 use std::sync::ledger::Ledger;
 
 /// Of the orders of two banks those that cross the other bank's best price, in arrival order. One search for each of them, and
-/// six more. `Memory` for want of memory.
+/// four more. `Memory` for want of memory.
 pub(crate) fn live_turns<L: Ledger>(
     alloc: Global,
     book: &PairBook,
@@ -56,11 +56,10 @@ fn gather<L: Ledger>(
     ensures valid { IsBook book.now }
 {
     gather_side(book, bank, Side::Buy, tops, turns, steps)?;
-    gather_side(book, bank, Side::Sell, tops, turns, steps)?;
-    gather_last(book, bank, tops, turns, steps)
+    gather_side(book, bank, Side::Sell, tops, turns, steps)
 }
 
-/// Those of a side that arrived before the last arrival that 64 bits can tell, from the best price on.
+/// Those of a side, from the best price on.
 fn gather_side<L: Ledger>(
     book: &PairBook,
     bank: BankId,
@@ -69,37 +68,16 @@ fn gather_side<L: Ledger>(
     turns: &mut BTreeMap<u64, Resting>,
     steps: &mut Steps<L>,
 ) -> Result<(), Memory>
-    ensures gathered { OnOk result (Gathers (IsEarlyOf bank side tops.now) book.now.orders turns.old turns.new) }
+    ensures gathered { OnOk result (Gathers (IsLiveOn bank side tops.now) book.now.orders turns.old turns.new) }
     ensures valid { IsBook book.now }
 {
     let mut past: Option<Place> = None;
-    while let Some((order, place)) = book.best_of(bank, side, u64::MAX, past.as_ref(), steps) {
+    while let Some((order, place)) = book.next_best(bank, side, past.as_ref(), steps) {
         if !tops.are_crossed_by(&order) {
             return Ok(());
         }
         turns.insert(order.arrival, order)?;
         past = Some(place);
     }
-    Ok(())
-}
-
-/// The one that arrived last of all, where it is the bank's.
-fn gather_last<L: Ledger>(
-    book: &PairBook,
-    bank: BankId,
-    tops: &Tops,
-    turns: &mut BTreeMap<u64, Resting>,
-    steps: &mut Steps<L>,
-) -> Result<(), Memory>
-    ensures gathered { OnOk result (Gathers (IsLateOf bank tops.now) book.now.orders turns.old turns.new) }
-    ensures valid { IsBook book.now }
-{
-    let Some(order) = book.next_of(bank, u64::MAX, steps) else {
-        return Ok(());
-    };
-    if !tops.are_crossed_by(&order) {
-        return Ok(());
-    }
-    turns.insert(order.arrival, order)?;
     Ok(())
 }

@@ -11,3 +11,4 @@ mod Turns
 mod Bests
 pub mod Within
 mod Levelling
+pub mod Cursor

@@ -1,5 +1,5 @@
 -- Orders of two banks that are gathered by their arrival, each where it crosses the other bank's best price.
-use Rattle.std.specs.Prelude.{ℕ, ◌≡◌, ◌≤◌, ◌<◌, ◌-◌, ◌^◌, ◌⊎◌, true, false, List, Option, Some, option_map}
+use Rattle.std.specs.Prelude.{ℕ, ◌≡◌, ◌⊎◌, true, false, List, Option, Some, option_map}
 use Rattle.std.specs.Ordering.{nat_cmp}
 use Rattle.std.specs.BTreeMap.{BTreeMap, get}
 use Rattle.fx_amounts.specs.Side.{opposite}
@@ -28,18 +28,12 @@ pub record IsLiveOf (bank : ℕ) (tops : Tops) (order : Resting) : Type 0 where
   pub owner : order.bank ≡ bank
   pub crosses : crosses_tops tops order ≡ true
 
--- such an order of a side that arrived before the last arrival that 64 bits can tell
-pub record IsEarlyOf (bank : ℕ) (side : Side) (tops : Tops) (order : Resting) : Type 0 where
+-- such an order of a side
+pub record IsLiveOn (bank : ℕ) (side : Side) (tops : Tops) (order : Resting) : Type 0 where
   pub live : IsLiveOf bank tops order
   pub side_is : order.side ≡ side
-  pub early : order.arrival < 2 ^ 64 - 1
 
 -- such an order that does not stand behind a place, where there is one
 abbrev pub IsPassed : ℕ → Side → Tops → Option Place → Resting → Type 0
 IsPassed bank side tops past order =
-    IsEarlyOf bank side tops order × (is_behind (opposite side) (option_map standing_at past) order ≡ false)
-
--- one that arrived last of all
-pub record IsLateOf (bank : ℕ) (tops : Tops) (order : Resting) : Type 0 where
-  pub live : IsLiveOf bank tops order
-  pub late : 2 ^ 64 - 1 ≤ order.arrival
+    IsLiveOn bank side tops order × (is_behind (opposite side) (option_map standing_at past) order ≡ false)
