@@ -1,5 +1,5 @@
 -- The heads of the banks that have an order are the heads of all banks.
-use Rattle.std.proofs.Common.{ℕ, zero, suc, ◌≡◌, ◌≢◌, ◌≤◌, ◌<◌, List, [], ◌∷◌, Option, Some, None, IfSome, inl, inr, refl, sym, subst, length, replicate, get_or, get_or-set_same, get_or-set_other}
+use Rattle.std.proofs.Common.{ℕ, zero, suc, ◌≡◌, ◌≢◌, ◌<◌, List, [], ◌∷◌, Option, Some, None, IfSome, inl, inr, refl, sym, subst, length, replicate, get_or, get_or-set_same, get_or-set_other}
 use Rattle.std.proofs.Math.ListN.{set}
 use Rattle.std.proofs.lemmas.Bool.{cases_eq}
 use Rattle.std.specs.List.{Contains}
@@ -9,7 +9,7 @@ use Rattle.fx_rules.specs.Sweep.{Taker}
 use Rattle.fx_rules.proofs.ListLemmas.{Each-among}
 use Rattle.price_levels.specs.declared.place.Place.{Place}
 use Rattle.global_book.specs.Book.{AreOwners, Book}
-use Rattle.match_sweep.specs.inside.Heads.{AreDear, IsFound, to_come, AreHeads}
+use Rattle.match_sweep.specs.inside.Heads.{AreDear, IsFound, to_come}
 use Rattle.match_sweep.proofs.Picking.{among_to_come}
 
 -- one entry of a table is written, and what holds of the others stays
@@ -31,17 +31,18 @@ none_found : (t : Taker) (orders : List Resting) (head : Option (Resting × Plac
 none_found t orders None none owned = subst (AreDear t) (sym none) tt
 none_found t orders (Some found) none owned = absurd (subst (Among found.0) none owned)
 
-pub all_heads : (reaches : ℕ → ℕ) (t : Taker) (book : Book) (owners : List ℕ) (heads : ℕ → Option (Resting × Place)) → AreOwners book owners
-    → ((bank : ℕ) → Contains owners bank → 1 ≤ reaches bank → IsFound t (to_come t bank None book.orders) (heads bank))
-    → ((bank : ℕ) → IfSome (heads bank) (λ found. Among found.0 (to_come t bank None book.orders)))
-    → AreHeads reaches t None book.orders book.banks heads
-all_heads reaches t book owners heads are found owned bank below reach =
+-- what is known of the banks that have an order holds of all
+pub bank_head : (t : Taker) (book : Book) (owners : List ℕ) (bank : ℕ) (head : Option (Resting × Place)) → AreOwners book owners
+    → (Contains owners bank → IsFound t (to_come t bank None book.orders) head)
+    → IfSome head (λ found. Among found.0 (to_come t bank None book.orders))
+    → IsFound t (to_come t bank None book.orders) head
+bank_head t book owners bank head are found owned =
     let coming : List Resting = to_come t bank None book.orders in
-    let answer : (orders : List Resting) → coming ≡ orders → IsFound t coming (heads bank) = λ orders.
-    elim orders as (λ (os : List Resting). coming ≡ os → IsFound t coming (heads bank)) [
-      | [] ↦ λ is. none_found t coming (heads bank) is (owned bank)
+    let answer : (orders : List Resting) → coming ≡ orders → IsFound t coming head = λ orders.
+    elim orders as (λ (os : List Resting). coming ≡ os → IsFound t coming head) [
+      | [] ↦ λ is. none_found t coming head is owned
       | o ∷ os ↦ λ is.
           let it = among_to_come t bank None book.orders o (subst (Among o) (sym is) (inl refl)) in
-          found bank (subst (Contains owners) it.1.owner (Each-among (λ (q : Resting). Contains owners q.bank) book.orders o are.all it.0)) reach
+          found (subst (Contains owners) it.1.owner (Each-among (λ (q : Resting). Contains owners q.bank) book.orders o are.all it.0))
     ] in
     answer coming refl

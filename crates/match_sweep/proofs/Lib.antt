@@ -4,11 +4,11 @@ pub mod Finding
 pub mod Planning
 pub mod Picking
 mod Heading
-mod Shut
 pub mod Levelling
 pub mod Stepping
 pub mod Reaching
 pub mod LevelSteps
 pub mod Walking
+mod Beginning
 pub mod Lowering
 pub mod OfBook

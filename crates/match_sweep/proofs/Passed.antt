@@ -30,7 +30,3 @@ not_passed xs k d rises within there =
     let below : there.0 < k = omega (arith, there.1, length-take k xs) in
     let here : get_or xs there.0 x ≡ x = sym (get_or-take k xs there.0 x below) ∙ there.2 in
     omega (arith, AllPairs-from_increasing xs rises there.0 k x below within, here, get_or_default xs k x d within)
-
--- what was passed is one of them
-pub passed_there : (xs : List ℕ) (k x : ℕ) → Contains (take k xs) x → Contains xs x
-passed_there xs k x there = (there.0, omega (arith, there.1, length-take k xs), sym (get_or-take k xs there.0 x (omega (arith, there.1, length-take k xs))) ∙ there.2)

@@ -66,11 +66,12 @@ open-to_come reaches t last book o there =
       is,
     )
 
-to_come-open : (reaches : ℕ → ℕ) (t : Taker) (bank : ℕ) (last : Option Resting) (book : List Resting) (o : Resting) → reaches t.bank ≡ 0 → 1 ≤ reaches bank → crosses t.side t.price o.price ≡ true → Among o (to_come t bank last book) → Among o (open_behind reaches t last book)
-to_come-open reaches t bank last book o own some crossing there =
+-- an order that a taker may come to is open to it, where the line pays for a lot and the taker takes its price
+pub to_come-open : (reaches : ℕ → ℕ) (t : Taker) (bank : ℕ) (last : Option Resting) (book : List Resting) (o : Resting) → bank ≢ t.bank → 1 ≤ reaches bank → crosses t.side t.price o.price ≡ true → Among o (to_come t bank last book) → Among o (open_behind reaches t last book)
+to_come-open reaches t bank last book o differ some crossing there =
     let found = among_to_come t bank last book o there in
     let reached : 1 ≤ reaches o.bank = subst (λ b. 1 ≤ reaches b) (sym found.1.owner) some in
-    let other : o.bank ≢ t.bank = λ same. omega (arith, reached, own, ap reaches same) in
+    let other : o.bank ≢ t.bank = λ same. differ (sym found.1.owner ∙ same) in
     among_filter (λ (q : Resting). is_open t (reaches q.bank) q && is_behind t.side last q) book o found.0
     (and_from (is_open t (reaches o.bank) o) (is_behind t.side last o)
     (open_parts t (reaches o.bank) o
@@ -90,7 +91,7 @@ same_or_before side book a b rising here there below =
       | inr differ ↦ inr (preferred_either side b a differ below)
     ]
 
-not_before_first : (side : Side) (book : List Resting) (o h m : Resting) → EachPair ArrivesBefore book → Among o book → Among h book → Among m book → is_preferred side o h ≡ false → is_preferred side h m ≡ false → is_preferred side o m ≡ false
+pub not_before_first : (side : Side) (book : List Resting) (o h m : Resting) → EachPair ArrivesBefore book → Among o book → Among h book → Among m book → is_preferred side o h ≡ false → is_preferred side h m ≡ false → is_preferred side o m ≡ false
 not_before_first side book o h m rising o_in h_in m_in below above =
     elim (same_or_before side book h o rising h_in o_in below) [
       | inl same ↦ subst (λ (q : Resting). is_preferred side q m ≡ false) same above
@@ -149,7 +150,7 @@ before_open listed_now reaches t last book banks heads at best o picks there =
 
 pub picked-best : (listed_now : List ℕ) (reaches : ℕ → ℕ) (t : Taker) (last : Option Resting) (book : List Resting) (banks : ℕ) (heads : ℕ → Option (Resting × Place)) (at : ℕ) (best : Resting) → Picks listed_now reaches t last book banks heads at best → IsBest t.side (open_behind reaches t last book) best
 picked-best listed_now reaches t last book banks heads at best picks = record {
-  there = to_come-open reaches t at last book best picks.own picks.reach picks.crosses picks.there;
+  there = to_come-open reaches t at last book best (λ same. omega (arith, picks.own, picks.reach, ap reaches same)) picks.reach picks.crosses picks.there;
   first = Each-of (λ (o : Resting). is_preferred t.side o best ≡ false) (open_behind reaches t last book)
       (λ o there. before_open listed_now reaches t last book banks heads at best o picks there);
 }
@@ -173,43 +174,22 @@ picked-none listed_now reaches t last book banks heads owners listed heads_are n
 
 -- The other heads, once the best is taken.
 
--- a bank with a head has an order
-head_listed : (listed_now : List ℕ) (t : Taker) (bank : ℕ) (last : Option Resting) (book : List Resting) (found : Option (Resting × Place)) (head : Resting × Place) → ((o : Resting) → Among o book → Contains listed_now o.bank) → found ≡ Some head → IsFound t (to_come t bank last book) found → Contains listed_now bank
-head_listed listed_now t bank last book found head listed is found_is =
-    let best = subst (IsFound t (to_come t bank last book)) is found_is in
-    let it = among_to_come t bank last book head.0 best.0.there in
-    subst (Contains listed_now) it.1.owner (listed head.0 it.0)
-
--- a head stands behind the order that is picked, of whatever price it is
-behind_picked : (listed_now : List ℕ) (reaches : ℕ → ℕ) (t : Taker) (last : Option Resting) (book : List Resting) (banks : ℕ) (heads : ℕ → Option (Resting × Place)) (at other : ℕ) (best : Resting) (head : Resting × Place) → Picks listed_now reaches t last book banks heads at best → other < banks → 1 ≤ reaches other → heads other ≡ Some head → is_preferred t.side head.0 best ≡ false
-behind_picked listed_now reaches t last book banks heads at other best head picks within some is =
-    elim (cases_Bool (crosses t.side t.price head.0.price)) [
-      | inl crossing ↦ picks.none_before other head (head_listed listed_now t other last book (heads other) head picks.listed is (picks.heads_are other within some)) is some crossing
-      | inr dear ↦ false_from_ne_true (is_preferred t.side head.0 best) (λ before.
-          both_ways (crosses t.side t.price head.0.price) dear
-          (crosses_too t.side t.price head.0 best (not_back t.side head.0 best before) picks.crosses))
-    ]
-
--- so what may still come of another bank stands behind it
-all_behind : (listed_now : List ℕ) (reaches : ℕ → ℕ) (t : Taker) (last : Option Resting) (book : List Resting) (banks : ℕ) (heads : ℕ → Option (Resting × Place)) (at other : ℕ) (best o : Resting) → Picks listed_now reaches t last book banks heads at best → other < banks → other ≢ at → 1 ≤ reaches other → Among o (to_come t other last book) → is_preferred t.side best o ≡ true
-all_behind listed_now reaches t last book banks heads at other best o picks within differ some there =
+-- what may still come of another bank stands behind the best order, of whatever price it is
+stands_behind : (reaches : ℕ → ℕ) (t : Taker) (last : Option Resting) (book : List Resting) (other : ℕ) (best o : Resting) → EachPair ArrivesBefore book → IsBest t.side (open_behind reaches t last book) best → other ≢ best.bank → other ≢ t.bank → 1 ≤ reaches other → Among o (to_come t other last book) → is_preferred t.side best o ≡ true
+stands_behind reaches t last book other best o rising is differ not_own some there =
     let o_in = among_to_come t other last book o there in
-    let best_in = among_to_come t at last book best picks.there in
+    let best_in = open-to_come reaches t last book best is.there in
     elim (cases_Bool (crosses t.side t.price o.price)) [
       | inr dear ↦
           elim (cases_Bool (is_preferred t.side best o)) [
             | inl before ↦ before
-            | inr after ↦ absurd (both_ways (crosses t.side t.price o.price) dear (crosses_too t.side t.price o best after picks.crosses))
+            | inr after ↦ absurd (both_ways (crosses t.side t.price o.price) dear (crosses_too t.side t.price o best after best_in.1.crosses))
           ]
       | inl taken ↦
-          let head = has_head t (to_come t other last book) (heads other) o taken there (picks.heads_are other within some) in
-          let head_in = among_to_come t other last book head.found.0 head.best.there in
-          let apart : (q : Resting) → q.bank ≡ other → best ≢ q = λ q owner same. differ (sym owner ∙ ap (λ (r : Resting). r.bank) (sym same) ∙ best_in.1.owner) in
-          let below : is_preferred t.side o head.found.0 ≡ false =
-          Each-among (λ (q : Resting). is_preferred t.side q head.found.0 ≡ false) (to_come t other last book) o head.best.first there in
-          let above : is_preferred t.side head.found.0 best ≡ false = behind_picked listed_now reaches t last book banks heads at other best head.found picks within some head.is in
-          elim (same_or_before t.side book best o picks.rising best_in.0 o_in.0 (not_before_first t.side book o head.found.0 best picks.rising o_in.0 head_in.0 best_in.0 below above)) [
-            | inl same ↦ absurd (apart o o_in.1.owner same)
+          let opens : Among o (open_behind reaches t last book) = to_come-open reaches t other last book o not_own some taken there in
+          elim (same_or_before t.side book best o rising (among_to_come t best.bank last book best best_in.0).0 o_in.0
+          (Each-among (λ (q : Resting). is_preferred t.side q best ≡ false) (open_behind reaches t last book) o is.first opens)) [
+            | inl same ↦ absurd (differ (sym o_in.1.owner ∙ ap (λ (r : Resting). r.bank) (sym same)))
             | inr before ↦ before
           ]
     ]
@@ -224,23 +204,25 @@ same_tests true false there back = absurd (both_ways false refl (there refl))
 same_tests false true there back = absurd (both_ways false refl (back refl))
 same_tests false false there back = refl
 
-pub heads-stay : (listed_now : List ℕ) (reaches : ℕ → ℕ) (t : Taker) (last : Option Resting) (book : List Resting) (banks : ℕ) (heads : ℕ → Option (Resting × Place)) (at other : ℕ) (best : Resting) → Picks listed_now reaches t last book banks heads at best → other < banks → other ≢ at → 1 ≤ reaches other → IsFound t (to_come t other (Some best) book) (heads other)
-heads-stay listed_now reaches t last book banks heads at other best picks within differ some =
-    let best_in = among_to_come t at last book best picks.there in
-    subst (λ (os : List Resting). IsFound t os (heads other))
+-- so another bank's head is still its head
+pub heads-stay : (reaches : ℕ → ℕ) (t : Taker) (last : Option Resting) (book : List Resting) (other : ℕ) (best : Resting) (head : Option (Resting × Place)) → EachPair ArrivesBefore book → IsBest t.side (open_behind reaches t last book) best → other ≢ best.bank → other ≢ t.bank → 1 ≤ reaches other → IsFound t (to_come t other last book) head → IsFound t (to_come t other (Some best) book) head
+heads-stay reaches t last book other best head rising is differ not_own some found =
+    let best_in = open-to_come reaches t last book best is.there in
+    let behind : is_behind t.side last best ≡ true = (among_to_come t best.bank last book best best_in.0).1.behind in
+    subst (λ (os : List Resting). IsFound t os head)
     (filter_agree_on (is_to_come t other last) (is_to_come t other (Some best)) book
     (λ o there. same_tests (is_to_come t other last o) (is_to_come t other (Some best) o)
     (λ holds.
-    let is = to_come-says t other last o holds in
+    let says = to_come-says t other last o holds in
     to_come-parts t other (Some best) o
     (record {
-      opposite = is.opposite;
-      owner = is.owner;
-      earlier = is.earlier;
-      behind = all_behind listed_now reaches t last book banks heads at other best o picks within differ some (among_filter (is_to_come t other last) book o there holds);
+      opposite = says.opposite;
+      owner = says.owner;
+      earlier = says.earlier;
+      behind = stands_behind reaches t last book other best o rising is differ not_own some (among_filter (is_to_come t other last) book o there holds);
     }))
     (λ holds.
-    let is = to_come-says t other (Some best) o holds in
+    let says = to_come-says t other (Some best) o holds in
     to_come-parts t other last o
-    (record { opposite = is.opposite; owner = is.owner; earlier = is.earlier; behind = still_behind t.side last best o best_in.1.behind is.behind }))))
-    (picks.heads_are other within some)
+    (record { opposite = says.opposite; owner = says.owner; earlier = says.earlier; behind = still_behind t.side last best o behind says.behind }))))
+    found

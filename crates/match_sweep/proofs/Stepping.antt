@@ -1,5 +1,5 @@
 -- A walk's step: all heads are found, the best of them that may be taken is taken, and the other heads stay.
-use Rattle.std.proofs.Common.{ℕ, ◌≡◌, ◌-◌, ◌*◌, ◌/◌, ◌≤◌, ◌<◌, min, true, false, leb, List, [], ◌∷◌, ◌++◌, inl, inr, refl, ap, sym, subst, ◌∙◌, arith, length, get_or, slice_index, Option, Some, None, IfSome, get_or-set_other}
+use Rattle.std.proofs.Common.{ℕ, ◌≡◌, ◌≢◌, ◌-◌, ◌*◌, ◌/◌, ◌≤◌, ◌<◌, min, true, false, leb, List, [], ◌∷◌, ◌++◌, inl, inr, refl, ap, sym, subst, ◌∙◌, arith, length, get_or, slice_index, Option, Some, None, IfSome, get_or-set_other}
 use Rattle.std.proofs.Math.ListN.{set}
 use Rattle.std.proofs.Math.Nat.{le-div_iff_mul-le}
 use Rattle.std.proofs.lemmas.Bool.{and_parts, and_cases, and_from, both_ways, false_from_ne_true, leb-true, le-leb}
@@ -11,7 +11,8 @@ use Rattle.fx_amounts.specs.Quantity.{IsWeight}
 use Rattle.fx_rules.specs.declared.orders.Resting.{Resting}
 use Rattle.fx_rules.specs.declared.orders.Fill.{Fill}
 use Rattle.fx_rules.specs.Lists.{Among}
-use Rattle.fx_rules.specs.Sweep.{is_preferred, amount, fill_with, less}
+use Rattle.fx_rules.specs.Sweep.{IsBest, is_preferred, amount, fill_with, less}
+use Rattle.fx_rules.specs.Plan.{open_behind}
 use Rattle.fx_rules.proofs.ListLemmas.{Each-among}
 use Rattle.fx_rules.proofs.Planning.{div_none}
 use Rattle.fx_rules.proofs.Preference.{preferred_self, preferred_trans}
@@ -22,7 +23,7 @@ use Rattle.match_sweep.specs.inside.Heads.{IsFound, to_come, AreHeads}
 use Rattle.match_sweep.specs.inside.Walks.{FromHere, LeadsOn, StepsOn, IsReady, IsRenewed, IsPicked, Takes, IsPickedAt, may_take, may_take_head, is_ahead, leads, head_of, last_of, reach_of, steps_behind}
 use Rattle.match_sweep.proofs.Tables.{none-kept}
 use Rattle.match_sweep.proofs.Planning.{walk-step, within_table}
-use Rattle.match_sweep.proofs.Picking.{Picks, picked-best, picked-none, heads-stay, among_to_come}
+use Rattle.match_sweep.proofs.Picking.{picked-best, picked-none, heads-stay, among_to_come}
 
 -- The best of the banks, when one more is looked at.
 
@@ -111,13 +112,12 @@ pays line weight is fits = (le-div_iff_mul-le {k = weight} {x = 1} {y = line} (o
 pub paid_for : (line weight : ℕ) → IsWeight weight → 1 ≤ line / weight → weight ≤ line
 paid_for line weight is some = omega (arith, (le-div_iff_mul-le {k = weight} {x = 1} {y = line} (omega (arith, is.0))).0 some)
 
-owners : (book : Book) → IsBook book → (o : Resting) → Among o book.orders → o.bank < book.banks
+pub owners : (book : Book) → IsBook book → (o : Resting) → Among o book.orders → o.bank < book.banks
 owners book is o there = let held : IsHeld book.banks o = Each-among (IsHeld book.banks) book.orders o is.held there in held.bank
 
--- what is picked of the heads
+-- an order is the best of those that are open to a walk
 pub record Chosen (book : Book) (walk : Walk) (found : Resting × Place) : Type 0 where
-  pub owners_now : List ℕ
-  pub picks : Picks owners_now (reach_of walk) walk.order (last_of walk) book.orders book.banks (head_of walk) found.0.bank found.0
+  pub best : IsBest walk.order.side (open_behind (reach_of walk) walk.order (last_of walk) book.orders) found.0
   pub placed : IsPlaceOf found.0 found.1
   pub line : walk.weight ≤ slice_index walk.lines found.0.bank
 
@@ -137,8 +137,7 @@ set-chosen book walk owners_now found is are set_is picked =
     let there = head.0.there in
     let owner : found.0.bank ≡ at = (among_to_come walk.order at (last_of walk) book.orders found.0 there).1.owner in
     record {
-      owners_now = owners_now;
-      picks = record {
+      best = picked-best owners_now (reach_of walk) walk.order (last_of walk) book.orders book.banks (head_of walk) found.0.bank found.0 (record {
         rising = is.rising;
         owners = owners book is;
         listed = λ o there. Each-among (λ (q : Resting). Contains owners_now q.bank) book.orders o are.all there;
@@ -150,7 +149,7 @@ set-chosen book walk owners_now found is are set_is picked =
         none_before = λ bank head' within head_is reach crossing. picked.1 bank head' within head_is
             (and_from (leb walk.weight (slice_index walk.lines bank)) (crosses walk.order.side walk.order.price head'.0.price)
             (le-leb walk.weight (slice_index walk.lines bank) (paid_for (slice_index walk.lines bank) walk.weight set_is.weight reach)) crossing);
-      };
+      });
       placed = head.1;
       line = subst (λ (b : ℕ). walk.weight ≤ slice_index walk.lines b) (sym owner) fits;
     }
@@ -171,21 +170,21 @@ set-none book walk owners_now is are set_is picked = (
 fill_is : (walk : Walk) (best : Resting) (fill : Fill) → fill ≡ fill_with walk.order best (amount walk.order best (reach_of walk best.bank)) → fill ≡ fill_with walk.order best fill.lots
 fill_is walk best fill is = is ∙ ap (fill_with walk.order best) (sym (ap (λ (f : Fill). f.lots) is))
 
-pub taken-leads : (book : Book) (walk new : Walk) (found : Resting × Place) (fill : Fill) → IsSet book walk → 1 ≤ walk.order.left → Chosen book walk found → Takes walk new found fill → LeadsOn book walk new fill
-taken-leads book walk new found fill set_is some chosen takes =
+pub taken-leads : (book : Book) (walk new : Walk) (found : Resting × Place) (fill : Fill) → 1 ≤ walk.weight → 1 ≤ walk.order.left → Chosen book walk found → Takes walk new found fill → LeadsOn book walk new fill
+taken-leads book walk new found fill weight some chosen takes =
     let best : Resting = found.0 in
     let next : Walk = record walk {
       order = less walk.order fill.lots;
       lines = set walk.lines best.bank (slice_index walk.lines best.bank - fill.lots * walk.weight);
       last = Some found;
     } in
-    let within : best.bank < length walk.lines = within_table walk.lines best.bank (omega (arith, chosen.line, set_is.weight.0)) in
+    let within : best.bank < length walk.lines = within_table walk.lines best.bank (omega (arith, chosen.line, weight)) in
     record {
       goes_on = λ more left from.
           let from_next : FromHere book next more left = subst (λ (w : Walk). FromHere book w more left) takes.now from in
           subst (λ (f : Fill). FromHere book walk (f ∷ more) left) (sym (fill_is walk best fill takes.is))
           (walk-step walk.weight walk.lines book.orders walk.order (last_of walk) best fill.lots more left some
-          (picked-best chosen.owners_now (reach_of walk) walk.order (last_of walk) book.orders book.banks (head_of walk) best.bank best chosen.picks)
+          chosen.best
           (ap (λ (f : Fill). f.lots) takes.is) within from_next);
       wants = omega (arith, ap (λ (w : Walk). w.order.left) takes.now, takes.some, some);
       arrival = ap (λ (w : Walk). w.order.arrival) takes.now;
@@ -195,23 +194,45 @@ taken-leads book walk new found fill set_is some chosen takes =
 least_reach : (a b r lots : ℕ) → lots ≡ min a (min b r) → lots ≤ r
 least_reach a b r lots is = omega arith
 
-pub taken-ready : (book : Book) (walk new : Walk) (found : Resting × Place) (fill : Fill) → IsSet book walk → Chosen book walk found → Takes walk new found fill → IsReady book new
-taken-ready book walk new found fill set_is chosen takes =
+-- A walk of which all heads are known but for that of a bank, from which it takes the best order.
+pub record IsNearSet (book : Book) (walk : Walk) (apart : ℕ) : Type 0 where
+  pub valid : IsBook book
+  pub banks : book.banks ≤ 64
+  pub bank : walk.order.bank < book.banks
+  pub weight : IsWeight walk.weight
+  pub own : slice_index walk.lines walk.order.bank ≡ 0
+  pub heads : (bank : ℕ) → bank < book.banks → bank ≢ apart → 1 ≤ reach_of walk bank →
+      IsFound walk.order (to_come walk.order bank (last_of walk) book.orders) (head_of walk bank)
+
+pub set-near : (book : Book) (walk : Walk) (apart : ℕ) → IsBook book → IsSet book walk → IsNearSet book walk apart
+set-near book walk apart is set_is = record {
+  valid = is;
+  banks = set_is.banks;
+  bank = set_is.bank;
+  weight = set_is.weight;
+  own = set_is.own;
+  heads = λ bank below _ reach. set_is.heads bank below reach;
+}
+
+pub taken-ready : (book : Book) (walk new : Walk) (found : Resting × Place) (fill : Fill) → IsNearSet book walk found.0.bank → Chosen book walk found → Takes walk new found fill → IsReady book new
+taken-ready book walk new found fill near chosen takes =
     let best : Resting = found.0 in
     let line : ℕ = slice_index walk.lines best.bank in
     let rest : ℕ = line - fill.lots * walk.weight in
-    let within : best.bank < length walk.lines = within_table walk.lines best.bank (omega (arith, chosen.line, set_is.weight.0)) in
+    let within : best.bank < length walk.lines = within_table walk.lines best.bank (omega (arith, chosen.line, near.weight.0)) in
+    let none : reach_of walk walk.order.bank ≡ 0 = ap (λ n. n / walk.weight) near.own ∙ div_none 0 walk.weight (omega (arith, near.weight.0)) in
     subst (IsReady book) (sym takes.now)
     (record {
-      banks = set_is.banks;
-      bank = set_is.bank;
-      weight = set_is.weight;
-      own = none-kept walk.lines best.bank walk.order.bank rest within (omega arith) set_is.own;
+      banks = near.banks;
+      bank = near.bank;
+      weight = near.weight;
+      own = none-kept walk.lines best.bank walk.order.bank rest within (omega arith) near.own;
       placed = chosen.placed;
       heads = λ bank below other reach.
           let same : get_or (set walk.lines best.bank rest) bank 0 ≡ get_or walk.lines bank 0 = get_or-set_other walk.lines best.bank bank rest 0 other in
-          heads-stay chosen.owners_now (reach_of walk) walk.order (last_of walk) book.orders book.banks (head_of walk) best.bank bank best chosen.picks below other
-          (subst (λ n. 1 ≤ n / walk.weight) same reach);
+          let some : 1 ≤ reach_of walk bank = subst (λ n. 1 ≤ n / walk.weight) same reach in
+          heads-stay (reach_of walk) walk.order (last_of walk) book.orders bank best (head_of walk bank) near.valid.rising chosen.best other
+          (λ own. omega (arith, none, some, ap (reach_of walk) own)) some (near.heads bank below other some);
     })
 
 -- A step from before the heads were found.

@@ -1,5 +1,5 @@
 -- The fills of a walk so far, and what they come to at its end.
-use Rattle.std.proofs.Common.{ℕ, ◌≡◌, ◌+◌, ◌*◌, ◌^◌, ◌≤◌, ◌<◌, List, [], ◌∷◌, ◌++◌, None, refl, slice_index, sym, subst, ◌∙◌, arith, append_assoc, append-nil}
+use Rattle.std.proofs.Common.{ℕ, ◌≡◌, ◌+◌, ◌*◌, ◌^◌, ◌≤◌, ◌<◌, List, [], ◌∷◌, ◌++◌, None, ap, refl, slice_index, sym, subst, ◌∙◌, arith, append_assoc, append-nil}
 use Rattle.std.specs.Option.{option_map}
 use Rattle.fx_rules.specs.declared.orders.Fill.{Fill}
 use Rattle.fx_rules.specs.Lists.{total}
@@ -11,7 +11,7 @@ use Rattle.global_book.specs.Book.{Book}
 use Rattle.credit_lines.specs.Credit.{Credit}
 use Rattle.match_sweep.specs.declared.walk.Walk.{Walk}
 use Rattle.match_sweep.specs.Sweeps.{IsSweep}
-use Rattle.match_sweep.specs.inside.Walks.{FromHere, LeadsOn, IsReady, Begins, last_of}
+use Rattle.match_sweep.specs.inside.Walks.{FromHere, LeadsOn, StepsOn, IsReady, Begins, BeginsBehind, last_of}
 use Rattle.match_sweep.proofs.Planning.{planned-sum, planned-paid, planned-sweep}
 
 -- A walk made these fills since it was another: whatever it makes from here the other makes, behind them.
@@ -52,6 +52,36 @@ went-paid book first now fills some went =
       total-append (λ (f : Fill). f.lots) fills whole.0,
       planned-paid first.weight first.lines book.orders first.order (last_of first) (fills ++ whole.0) whole.1 some whole.2,
     )
+
+-- A walk made these fills since the beginning of a sweep.
+pub record Gone (book : Book) (credit : Credit) (weight : ℕ) (t : Taker) (now : Walk) (fills : List Fill) : Type 0 where
+  pub first : Walk
+  pub begins : Begins book credit weight t first
+  pub went : Went book first now fills
+
+pub gone-behind : (book : Book) (credit : Credit) (weight : ℕ) (t : Taker) (walk : Walk) (fill : Fill) (fills : List Fill) → fills ≡ fill ∷ [] → BeginsBehind book credit weight t fill walk → Gone book credit weight t walk fills
+gone-behind book credit weight t walk fill fills is behind = record {
+  first = behind.first;
+  begins = behind.begins;
+  went = subst (Went book behind.first walk) (sym is) (record { ready = behind.ready; arrival = behind.leads.arrival; goes_on = behind.leads.goes_on });
+}
+
+pub gone-on : (book : Book) (credit : Credit) (weight : ℕ) (t : Taker) (now next : Walk) (fills made : List Fill) (fill : Fill) → made ≡ fills ++ fill ∷ [] → Gone book credit weight t now fills → LeadsOn book now next fill → IsReady book next → Gone book credit weight t next made
+gone-on book credit weight t now next fills made fill is gone leads ready = record {
+  first = gone.first;
+  begins = gone.begins;
+  went = subst (Went book gone.first next) (sym is) (went-on book gone.first now next fills fill gone.went leads ready);
+}
+
+-- at its end they are all that it makes
+pub gone-whole : (book : Book) (credit : Credit) (weight : ℕ) (t : Taker) (now new : Walk) (fills made : List Fill) → (gone : Gone book credit weight t now fills) → StepsOn book now new None → made ≡ fills → FromHere book gone.first made new.order.left
+gone-whole book credit weight t now new fills made gone step is =
+    subst (λ (fs : List Fill). FromHere book gone.first fs new.order.left) (sym is)
+    (subst (λ (order : Taker). FromHere book gone.first fills order.left) (sym step.0)
+    (went-whole book gone.first now fills now.order.left gone.went step.1))
+
+pub gone-arrival : (book : Book) (credit : Credit) (weight : ℕ) (t : Taker) (now : Walk) (fills : List Fill) → Gone book credit weight t now fills → now.order.arrival ≡ t.arrival
+gone-arrival book credit weight t now fills gone = gone.went.arrival ∙ ap (λ (u : Taker). u.arrival) gone.begins.order
 
 -- What a walk makes from its beginning is the sweep of its order.
 

@@ -1,11 +1,10 @@
-ghost use Rattle.std.specs.Prelude.{ℕ, IfSome, ◌≡◌, ◌≤◌, ◌<◌, ◌+◌, ◌/◌, None, Some, length, take, slice_index, slice_index_or};
-ghost use Rattle.std.specs.List.{Contains};
+ghost use Rattle.std.specs.Prelude.{IfSome, None, true, false, ◌≡◌, ◌≢◌, ◌≤◌, ◌+◌, slice_index_or};
 ghost use Rattle.std.specs.Option.{option_copied, option_map};
-ghost use Rattle.fx_amounts.specs.Quantity.{IsWeight};
+ghost use Rattle.fx_amounts.specs.Price.{crosses};
 ghost use Rattle.fx_rules.specs.Lists.{Among};
 ghost use Rattle.fx_rules.specs.Sweep.{is_better, is_preferred};
-ghost use Rattle.global_book.specs.Book.{AreOwners, standing_at};
-ghost use Rattle.match_sweep.specs.inside.Heads.{AreDear, AreHeads, CameBefore, IsFound, to_come};
+ghost use Rattle.global_book.specs.Book.{standing_at};
+ghost use Rattle.match_sweep.specs.inside.Heads.{CameBefore, IsFound, to_come};
 
 use crate::opening::Opening;
 use fx_amounts::{BankId, Price, Side};
@@ -24,60 +23,31 @@ pub(crate) fn head_behind<L: Ledger>(
     steps: &mut Steps<L>,
 ) -> Option<(Resting, Place)>
     ensures head { IsFound order.now (to_come order.now bank (option_map standing_at (option_copied past.entry)) book.now.orders) result }
+    ensures taken { IfSome result (λ found. crosses order.now.side order.now.price found.0.price ≡ true) }
     ensures steps { CameBefore book.now.orders order.now.arrival → steps.new ≤ steps.old + 1 }
 {
     let side = order.side.opposite();
     book.best_within(bank, side, order.price, order.arrival, past, steps)
 }
 
-/// The head of a bank as a sweep begins, where a line of `line` credit units pays for a lot.
-fn first_head<L: Ledger>(
+/// The head of a bank as a sweep begins; `None` where nothing of the bank may be taken, and where the sweep takes from it first.
+pub(crate) fn other_head<L: Ledger>(
     book: &PairBook,
     order: &SweptOrder,
-    line: u64,
-    weight: u32,
+    opening: &Opening,
     bank: BankId,
     steps: &mut Steps<L>,
 ) -> Option<(Resting, Place)>
-    requires weight { IsWeight weight }
-    ensures head { 1 ≤ line / weight → IsFound order.now (to_come order.now bank None book.now.orders) result }
+    ensures head { bank ≢ opening.now.first.0.bank → slice_index_or opening.now.opens bank false ≡ true → IsFound order.now (to_come order.now bank None book.now.orders) result }
     ensures owner { IfSome result (λ found. Among found.0 (to_come order.now bank None book.now.orders)) }
+    ensures shut { slice_index_or opening.now.opens bank false ≡ false → result ≡ None }
     ensures steps { CameBefore book.now.orders order.now.arrival → steps.new ≤ steps.old + 1 }
+    ensures first { bank ≡ opening.now.first.0.bank → steps.new ≡ steps.old }
 {
-    if line < u64::from(weight) {
+    if bank == opening.first.0.bank || !opening.opens[bank.index()] {
         return None;
     }
     head_behind(book, order, bank, None, steps)
-}
-
-/// The heads as a sweep begins: of each bank with which the line pays for a lot, the best order that it may come to. It looks
-/// only at the banks that have an order, from the first one on of which something may be taken.
-pub(crate) fn heads_from<L: Ledger>(
-    book: &PairBook,
-    owners: &[BankId],
-    order: &SweptOrder,
-    lines: &[u64; 64],
-    weight: u32,
-    opening: &Opening,
-    steps: &mut Steps<L>,
-) -> [Option<(Resting, Place)>; 64]
-    requires owners { AreOwners book.now owners.now }
-    requires weight { IsWeight weight }
-    requires within { opening.now.passed < length owners.now }
-    requires at { slice_index owners.now opening.now.passed ≡ opening.now.head.0.bank }
-    requires found { IsFound order.now (to_come order.now opening.now.head.0.bank None book.now.orders) (Some opening.now.head) }
-    requires shut { (bank : ℕ) → Contains (take opening.now.passed owners.now) bank → 1 ≤ slice_index lines.now bank / weight → AreDear order.now (to_come order.now bank None book.now.orders) }
-    ensures heads { AreHeads (λ bank. slice_index lines.now bank / weight) order.now None book.now.orders book.now.banks (λ bank. slice_index_or result bank None) }
-    ensures steps { CameBefore book.now.orders order.now.arrival → steps.new + opening.now.passed + 1 ≤ steps.old + length owners.now }
-{
-    let mut heads = [None; 64];
-    heads[opening.head.0.bank.index()] = Some(opening.head);
-    for place in opening.passed + 1..owners.len() {
-        let owner = owners[place];
-        let number = owner.index();
-        heads[number] = first_head(book, order, lines[number], weight, owner, steps);
-    }
-    heads
 }
 
 /// Whether the first price is better than the other for a taker of `side`.

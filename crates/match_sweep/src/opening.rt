@@ -1,11 +1,11 @@
-ghost use Rattle.std.specs.Prelude.{◌≡◌, ◌≤◌, ◌<◌, ◌+◌, ◌/◌, None, Some, length, IfSome};
+ghost use Rattle.std.specs.Prelude.{◌≡◌, ◌≤◌, ◌<◌, ◌+◌, length};
 ghost use Rattle.fx_amounts.specs.Quantity.{IsWeight};
 ghost use Rattle.global_book.specs.Book.{AreOwners, IsBook};
-ghost use Rattle.match_sweep.specs.inside.Heads.{CameBefore, IsFound, IsShut, OpensAt, looked_at, to_come};
+ghost use Rattle.match_sweep.specs.inside.Heads.{CameBefore, OpensAt, OpensHead, better_head};
 
-use crate::heads::head_behind;
+use crate::heads::{head_behind, is_preferred};
 use credit_lines::CreditLines;
-use fx_amounts::BankId;
+use fx_amounts::{BankId, Side};
 use fx_rules::{Resting, SweptOrder};
 use global_book::PairBook;
 use price_levels::{Place, Steps};
@@ -14,14 +14,14 @@ use std::sync::ledger::Ledger;
 /// Where a sweep begins.
 #[derive(Clone, Copy)]
 pub(crate) struct Opening {
-    /// How many of the banks that have an order come before the first one of which something may be taken.
-    pub(crate) passed: usize,
-    /// The head of that one.
-    pub(crate) head: (Resting, Place),
+    /// The order that it takes first.
+    pub(crate) first: (Resting, Place),
+    /// Of each bank whether something may be taken of it.
+    pub(crate) opens: [bool; 64],
 }
 
 /// Finds where a sweep begins; `None` where nothing may be taken of any bank. The banks are those that have an order.
-pub(crate) fn first_opening<L: Ledger>(
+pub(crate) fn find_opening<L: Ledger>(
     book: &PairBook,
     owners: &[BankId],
     lines: &CreditLines,
@@ -35,14 +35,34 @@ pub(crate) fn first_opening<L: Ledger>(
     requires bank { order.now.bank < lines.now.banks }
     requires weight { IsWeight weight }
     ensures opening { OpensAt book.now lines.now weight order.now owners.now result }
-    ensures steps { CameBefore book.now.orders order.now.arrival → steps.new ≤ steps.old + looked_at (length owners.now) result }
+    ensures steps { CameBefore book.now.orders order.now.arrival → steps.new ≤ steps.old + length owners.now }
 {
-    for (passed, owner) in owners.iter().enumerate() {
+    let mut first = None;
+    let mut opens = [false; 64];
+    for owner in owners {
         if let Some(head) = open_head(book, lines, weight, order, *owner, steps) {
-            return Some(Opening { passed, head });
+            opens[owner.index()] = true;
+            first = Some(better_head(order.side, first, head));
         }
     }
-    None
+    Some(Opening {
+        first: first?,
+        opens,
+    })
+}
+
+/// The head that a taker of `side` prefers; the second where there is no first.
+fn better_head(
+    side: Side,
+    first: Option<(Resting, Place)>,
+    head: (Resting, Place),
+) -> (Resting, Place)
+    ensures value { result ≡ better_head side first head }
+{
+    match first {
+        Some(first) if !is_preferred(side, &head.0, &first.0) => first,
+        _ => head,
+    }
 }
 
 /// The head of a bank as a sweep begins; `None` where nothing of the bank may be taken.
@@ -57,8 +77,7 @@ fn open_head<L: Ledger>(
     requires first { order.now.bank < lines.now.banks }
     requires second { bank < lines.now.banks }
     requires weight { IsWeight weight }
-    ensures found { IfSome result (λ found. IsFound order.now (to_come order.now bank None book.now.orders) (Some found)) }
-    ensures shut { result ≡ None → IsShut book.now lines.now weight order.now bank }
+    ensures head { OpensHead book.now lines.now weight order.now bank result }
     ensures steps { CameBefore book.now.orders order.now.arrival → steps.new ≤ steps.old + 1 }
 {
     if bank == order.bank {

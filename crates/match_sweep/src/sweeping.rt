@@ -1,16 +1,18 @@
-ghost use Rattle.std.specs.Prelude.{◌≡◌, ◌≤◌, ◌<◌, ◌+◌, ◌*◌, ◌^◌, length, IfOk};
+ghost use Rattle.std.specs.Prelude.{◌≡◌, ◌≢◌, ◌≤◌, ◌<◌, ◌+◌, ◌*◌, ◌/◌, ◌^◌, [], length, IfOk};
 ghost use Rattle.fx_amounts.specs.Quantity.{IsWeight};
 ghost use Rattle.fx_rules.specs.Lists.{Each, total};
+ghost use Rattle.credit_lines.specs.Credit.{line_in};
 ghost use Rattle.global_book.specs.Book.{IsBook};
 ghost use Rattle.match_sweep.specs.Takers.{swept_in};
 ghost use Rattle.match_sweep.specs.Sweeps.{IsSweep};
+ghost use Rattle.match_sweep.specs.inside.Walks.{first_fill};
 
-use crate::opening::first_opening;
+use crate::opening::find_opening;
 use crate::taker::Taker;
 use crate::walk::Walk;
 use credit_lines::CreditLines;
 use fx_amounts::Memory;
-use fx_rules::{FillList, Plan, SweptOrder};
+use fx_rules::{Fill, FillList, Plan, Resting, SweptOrder};
 use global_book::PairBook;
 use price_levels::Steps;
 use std::alloc::Global;
@@ -23,6 +25,19 @@ pub struct SweepPlan {
     pub fills: FillList,
     /// The lots that it would have left.
     pub left: u128,
+}
+
+impl SweepPlan {
+    /// Of an order that fills nothing and wants so many lots. It takes no memory.
+    fn nothing(alloc: Global, left: u128) -> SweepPlan
+        ensures fills { result.fills ≡ [] }
+        ensures left { result.left ≡ left }
+    {
+        SweepPlan {
+            fills: FillList::from_vec(Vec::new(alloc)),
+            left,
+        }
+    }
 }
 
 /// The sweep of a taker over a pair's book, by the lines of its bank, where a lot costs `weight` credit units, 1 to 10^6.
@@ -73,14 +88,23 @@ pub fn sweep<L: Ledger>(
     ensures valid { IsBook book.now }
 {
     let owners = book.owners();
+    if order.left == 0 {
+        return Ok(SweepPlan::nothing(alloc, 0));
+    }
+    let Some(opening) = find_opening(book, owners, lines, weight, order, steps) else {
+        return Ok(SweepPlan::nothing(alloc, order.left));
+    };
+    let fill = first_fill(lines, weight, order, &opening.first.0);
+    let left = order.left - u128::from(fill.lots.count());
     let mut fills = Vec::new(alloc);
-    let Some(opening) = first_opening(book, owners, lines, weight, order, steps) else {
+    fills.push(fill)?;
+    if left == 0 {
         return Ok(SweepPlan {
             fills: FillList::from_vec(fills),
-            left: order.left,
+            left,
         });
-    };
-    let mut walk = Walk::new(book, owners, lines, weight, order, &opening, steps);
+    }
+    let mut walk = Walk::behind_first(book, owners, lines, weight, order, &opening, steps);
     while let Some(fill) = walk.next_fill(book, steps) {
         fills.push(fill)?;
     }
@@ -88,4 +112,20 @@ pub fn sweep<L: Ledger>(
         fills: FillList::from_vec(fills),
         left: walk.order.left,
     })
+}
+
+/// What an order fills first, with `maker`: all that both want, as far as the line pays for it. The order wants a lot at least, and
+/// the line with the maker's bank, which is another, pays for one.
+fn first_fill(lines: &CreditLines, weight: u32, order: &SweptOrder, maker: &Resting) -> Fill
+    requires taker { order.now.bank < lines.now.banks }
+    requires maker { maker.now.bank < lines.now.banks }
+    requires other { maker.now.bank ≢ order.now.bank }
+    requires weight { IsWeight weight }
+    requires left { 1 ≤ order.now.left }
+    requires reach { 1 ≤ line_in lines.now order.now.bank maker.now.bank / weight }
+    ensures value { result ≡ first_fill lines.now weight order.now maker.now }
+{
+    let reach = lines.reach(order.bank, maker.bank, weight);
+    let lots = order.amount(maker, reach);
+    order.fill_with(maker, lots)
 }

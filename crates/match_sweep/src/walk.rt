@@ -1,12 +1,13 @@
-ghost use Rattle.std.specs.Prelude.{ℕ, ◌≡◌, ◌≢◌, ◌≤◌, ◌<◌, ◌+◌, ◌*◌, ◌^◌, length, slice_index, IfSome};
+ghost use Rattle.std.specs.Prelude.{ℕ, ◌≡◌, ◌≢◌, ◌≤◌, ◌<◌, ◌+◌, ◌*◌, ◌^◌, false, None, length, replicate, slice_index, slice_index_or, IfSome};
+ghost use Rattle.std.specs.List.{Contains};
 ghost use Rattle.fx_amounts.specs.Quantity.{IsWeight};
 ghost use Rattle.fx_rules.specs.Lists.{total};
 ghost use Rattle.credit_lines.specs.Credit.{line_in};
 ghost use Rattle.global_book.specs.Book.{AreOwners, IsBook};
-ghost use Rattle.match_sweep.specs.inside.Heads.{CameBefore, IsOpening};
-ghost use Rattle.match_sweep.specs.inside.Walks.{Begins, IsPicked, IsReady, IsRenewed, StepsOn, Takes, head_of, is_ahead, leads, may_take_head, steps_behind};
+ghost use Rattle.match_sweep.specs.inside.Heads.{AreDear, CameBefore, IsFound, IsOpening, to_come};
+ghost use Rattle.match_sweep.specs.inside.Walks.{BeginsBehind, IsPicked, IsReady, IsRenewed, StepsOn, Takes, first_fill, head_of, is_ahead, leads, may_take_head, reach_of, steps_behind};
 
-use crate::heads::{head_behind, heads_from, is_preferred};
+use crate::heads::{head_behind, is_preferred, other_head};
 use crate::opening::Opening;
 use credit_lines::CreditLines;
 use fx_amounts::BankId;
@@ -32,9 +33,9 @@ pub(crate) struct Walk {
 }
 
 impl Walk {
-    /// Before its first fill, by the lines of the order's bank, where a lot costs `weight` credit units. The banks are those that
+    /// Behind its first fill, by the lines of the order's bank, where a lot costs `weight` credit units. The banks are those that
     /// have an order.
-    pub(crate) fn new<L: Ledger>(
+    pub(crate) fn behind_first<L: Ledger>(
         book: &PairBook,
         owners: &[BankId],
         lines: &CreditLines,
@@ -49,16 +50,42 @@ impl Walk {
         requires banks { book.now.banks ≡ lines.now.banks }
         requires bank { order.now.bank < lines.now.banks }
         requires weight { IsWeight weight }
-        ensures begins { Begins book.now lines.now weight order.now result }
-        ensures steps { CameBefore book.now.orders order.now.arrival → steps.new + opening.now.passed + 1 ≤ steps.old + length owners.now }
+        requires left { 1 ≤ order.now.left }
+        ensures begins { BeginsBehind book.now lines.now weight order.now (first_fill lines.now weight order.now opening.now.first.0) result }
+        ensures steps { CameBefore book.now.orders order.now.arrival → steps.new + 1 ≤ steps.old + length owners.now }
     {
-        let lines = lines_of(book.banks(), lines, order.bank);
-        Walk {
+        let mut walk = Walk {
             order: *order,
             weight,
-            lines,
-            heads: heads_from(book, owners, order, &lines, weight, opening, steps),
+            lines: lines_of(book.banks(), lines, order.bank),
+            heads: [None; 64],
             last: None,
+        };
+        walk.find_heads(book, owners, opening, steps);
+        let (maker, place) = opening.first;
+        walk.take(maker, place);
+        walk
+    }
+
+    /// Finds the heads as the sweep begins, but for that of the bank that it takes from first. It looks only at the banks that
+    /// have an order, and of which something may be taken.
+    fn find_heads<L: Ledger>(
+        &mut self,
+        book: &PairBook,
+        owners: &[BankId],
+        opening: &Opening,
+        steps: &mut Steps<L>,
+    )
+        requires owners { AreOwners book.now owners.now }
+        requires first { Contains owners.now opening.now.first.0.bank }
+        requires none { self.old.heads ≡ replicate 64 None }
+        requires shut { (bank : ℕ) → Contains owners.now bank → slice_index_or opening.now.opens bank false ≡ false → 1 ≤ reach_of self.old bank → AreDear self.old.order (to_come self.old.order bank None book.now.orders) }
+        ensures same { self.new ≡ record self.old { heads = self.new.heads } }
+        ensures heads { (bank : ℕ) → bank < book.now.banks → bank ≢ opening.now.first.0.bank → 1 ≤ reach_of self.old bank → IsFound self.old.order (to_come self.old.order bank None book.now.orders) (head_of self.new bank) }
+        ensures steps { CameBefore book.now.orders self.old.order.arrival → steps.new + 1 ≤ steps.old + length owners.now }
+    {
+        for owner in owners {
+            self.heads[owner.index()] = other_head(book, &self.order, opening, *owner, steps);
         }
     }
 

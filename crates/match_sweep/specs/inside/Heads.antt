@@ -1,12 +1,13 @@
 -- The orders of each bank that a sweep may still come to, the best of them first. All of this is for this crate's own functions,
 -- which plan.
-use Rattle.std.specs.Prelude.{ℕ, ◌≡◌, ◌≢◌, ◌≤◌, ◌<◌, ◌+◌, ◌/◌, Bool, false, ◌&&◌, nat_lt, List, filter, length, take, Option, Some, None, slice_index}
+use Rattle.std.specs.Prelude.{ℕ, ◌≡◌, ◌≢◌, ◌≤◌, ◌<◌, ◌/◌, Bool, true, false, ◌&&◌, nat_lt, if◌then◌else◌, List, filter, length, Option, Some, None, slice_index_or}
 use Rattle.std.specs.List.{Contains}
+use Rattle.fx_amounts.specs.declared.side.Side.{Side}
 use Rattle.fx_amounts.specs.Price.{crosses}
 use Rattle.fx_rules.specs.declared.orders.Resting.{Resting}
-use Rattle.fx_rules.specs.Lists.{Each}
-use Rattle.fx_rules.specs.Sweep.{Taker, is_opposite, IsBest}
-use Rattle.fx_rules.specs.Plan.{is_behind}
+use Rattle.fx_rules.specs.Lists.{Among, Each}
+use Rattle.fx_rules.specs.Sweep.{Taker, is_opposite, is_preferred, IsBest}
+use Rattle.fx_rules.specs.Plan.{is_behind, open_behind}
 use Rattle.price_levels.specs.declared.place.Place.{Place}
 use Rattle.global_book.specs.Book.{Book, is_of, IsPlaceOf}
 use Rattle.credit_lines.specs.Credit.{Credit, line_in}
@@ -40,22 +41,45 @@ AreHeads reaches t last orders banks heads =
 abbrev pub IsShut : Book → Credit → ℕ → Taker → ℕ → Type 0
 IsShut book credit weight t bank = bank ≢ t.bank → 1 ≤ line_in credit t.bank bank / weight → AreDear t (to_come t bank None book.orders)
 
--- the first of these banks of which something may be taken, and its head
-pub record IsOpening (book : Book) (credit : Credit) (weight : ℕ) (t : Taker) (owners : List ℕ) (opening : Opening) : Type 0 where
-  pub within : opening.passed < length owners
-  pub at : slice_index owners opening.passed ≡ opening.head.0.bank
-  pub shut : (bank : ℕ) → Contains (take opening.passed owners) bank → IsShut book credit weight t bank
-  pub found : IsFound t (to_come t opening.head.0.bank None book.orders) (Some opening.head)
+-- the head of a bank may be taken as a sweep begins: the bank is another than the taker's, the line with it pays for a lot,
+-- and the taker takes the head's price
+pub record IsOpenHead (book : Book) (credit : Credit) (weight : ℕ) (t : Taker) (bank : ℕ) (head : Resting × Place) : Type 0 where
+  pub other : bank ≢ t.bank
+  pub reach : 1 ≤ line_in credit t.bank bank / weight
+  pub found : IsFound t (to_come t bank None book.orders) (Some head)
+  pub taken : crosses t.side t.price head.0.price ≡ true
 
--- that bank is found, or there is none
+-- that head is found, or nothing is taken of the bank
+abbrev pub OpensHead : Book → Credit → ℕ → Taker → ℕ → Option (Resting × Place) → Type 0
+OpensHead book credit weight t bank None = IsShut book credit weight t bank
+OpensHead book credit weight t bank (Some head) = IsOpenHead book credit weight t bank head
+
+-- the orders that are open to a taker as a sweep begins
+abbrev pub first_open : Book → Credit → ℕ → Taker → List Resting
+first_open book credit weight t = open_behind (λ bank. line_in credit t.bank bank / weight) t None book.orders
+
+-- of these banks those are marked of which something may be taken, and the best head of all is found
+pub record IsOpening (book : Book) (credit : Credit) (weight : ℕ) (t : Taker) (banks : List ℕ) (opening : Opening) : Type 0 where
+  pub long : length opening.opens ≡ 64
+  pub shut : (bank : ℕ) → Contains banks bank → slice_index_or opening.opens bank false ≡ false → IsShut book credit weight t bank
+  pub first : IsOpenHead book credit weight t opening.first.0.bank opening.first
+  pub best : (order : Resting) → Among order (first_open book credit weight t) → Contains banks order.bank →
+      is_preferred t.side order opening.first.0 ≡ false
+
+-- so it is, or nothing may be taken of any of these banks
 abbrev pub OpensAt : Book → Credit → ℕ → Taker → List ℕ → Option Opening → Type 0
-OpensAt book credit weight t owners None = (bank : ℕ) → Contains owners bank → IsShut book credit weight t bank
-OpensAt book credit weight t owners (Some opening) = IsOpening book credit weight t owners opening
+OpensAt book credit weight t banks None = (bank : ℕ) → Contains banks bank → IsShut book credit weight t bank
+OpensAt book credit weight t banks (Some opening) = IsOpening book credit weight t banks opening
 
--- how many of so many banks were looked at
-abbrev pub looked_at : ℕ → Option Opening → ℕ
-looked_at banks None = banks
-looked_at banks (Some opening) = opening.passed + 1
+-- the head that a taker prefers, where there is a first one
+abbrev pub better_head : Side → Option (Resting × Place) → Resting × Place → Resting × Place
+better_head side None head = head
+better_head side (Some first) head = if is_preferred side head.0 first.0 then head else first
+
+-- an opening, where a head was found
+abbrev pub opening_of : Option (Resting × Place) → List Bool → Option Opening
+opening_of None opens = None
+opening_of (Some first) opens = Some (record { first = first; opens = opens })
 
 -- every order arrived before this
 abbrev pub CameBefore : List Resting → ℕ → Type 0

@@ -122,10 +122,20 @@ pub record Takes (old new : Walk) (found : Resting × Place) (fill : Fill) : Typ
 
 -- a walk of an order before its first fill, by the lines of the order's bank
 pub record Begins (book : Book) (credit : Credit) (weight : ℕ) (taker : Taker) (walk : Walk) : Type 0 where
-  pub ready : IsReady book walk
   pub valid : IsBook book
   pub order : walk.order ≡ taker
   pub weighs : walk.weight ≡ weight
   pub last : walk.last ≡ None
   pub line : (other : ℕ) → other < book.banks → other ≢ taker.bank → slice_index walk.lines other ≡ line_in credit taker.bank other
   pub most : total (λ line. line) walk.lines ≤ 64 * 10 ^ 15
+
+-- what an order fills first, with this order
+abbrev pub first_fill : Credit → ℕ → Taker → Resting → Fill
+first_fill credit weight t maker = fill_with t maker (amount t maker (line_in credit t.bank maker.bank / weight))
+
+-- a walk behind its first fill
+pub record BeginsBehind (book : Book) (credit : Credit) (weight : ℕ) (taker : Taker) (fill : Fill) (walk : Walk) : Type 0 where
+  pub first : Walk
+  pub begins : Begins book credit weight taker first
+  pub leads : LeadsOn book first walk fill
+  pub ready : IsReady book walk

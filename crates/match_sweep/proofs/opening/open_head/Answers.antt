@@ -4,8 +4,8 @@ use Rattle.credit_lines.specs.Credit.{line_in}
 use Rattle.match_sweep.proofs.Stepping.{paid_for}
 use Rattle.match_sweep.proofs.opening.open_head.Goals as goal
 
-pub returns-then-get-from-clause-shut : goal.returns-then-get-from-clause-shut
-returns-then-get-from-clause-shut g c = λ _ _ reach.
+pub returns-then-get-from-clause-head : goal.returns-then-get-from-clause-head
+returns-then-get-from-clause-head g c = λ _ reach.
     absurd (omega (
       arith,
       paid_for (line_in c.args.lines.now c.args.order.now.bank c.args.bank) c.args.weight c.requires.weight reach,

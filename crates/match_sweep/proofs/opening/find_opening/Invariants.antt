@@ -1,0 +1,11 @@
+use Rattle.std.proofs.Common.{◌≡◌, ◌≤◌, ◌+◌, length, take}
+use Rattle.match_sweep.specs.inside.Heads.{CameBefore, OpensAt, opening_of}
+use Rattle.match_sweep.proofs.opening.find_opening.Given as goal
+
+-- the opening of the banks that were passed, a step for each
+abbrev pub invariant-loop-owner : goal.invariant-loop-owner
+invariant-loop-owner g l = record {
+  full : length l.opens ≡ 64;
+  opening : OpensAt l.book l.lines l.weight l.order (take l.owner-index l.owners) (opening_of l.first l.opens);
+  steps : CameBefore l.book.orders l.order.arrival → l.steps ≤ l.fn.steps + l.owner-index;
+}
