@@ -17,7 +17,7 @@ use Rattle.price_levels.proofs.Sorting.{IsPartitionedBy-before, IsPartitionedBy-
 use Rattle.price_levels.proofs.Chunking.{start, start-next, start-rises, ends_within, around_at}
 
 -- a list is parted where one side of the point passes and the other fails
-parted_at : (front : Place → Bool) (xs : List Place) (at : ℕ) → IsPartitionedBy front xs
+pub parted_at : (front : Place → Bool) (xs : List Place) (at : ℕ) → IsPartitionedBy front xs
     → ((d : Place) → 0 < at → at ≤ length xs → front (get_or xs (at - 1) d) ≡ true)
     → ((d : Place) → at < length xs → front (get_or xs at d) ≡ false)
     → at ≤ length xs → IsPartitionPoint (λ q. front q ≡ true) (λ q. front q ≡ false) xs at

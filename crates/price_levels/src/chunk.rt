@@ -1,8 +1,8 @@
-ghost use Rattle.std.specs.Prelude.{◌≡◌, ◌+◌, ◌-◌, ◌≤◌, ◌<◌, true, false, [], ◌++◌, length, take, drop, slice_get, OnOk};
+ghost use Rattle.std.specs.Prelude.{◌≡◌, ◌+◌, ◌-◌, ◌≤◌, ◌<◌, true, false, not, [], ◌++◌, length, take, drop, slice_get, OnOk};
 ghost use Rattle.std.specs.List.{insert, remove};
 ghost use Rattle.std.specs.List.Sorted.{IsPartitionPoint};
 ghost use Rattle.price_levels.specs.Ladder.{IsSorted};
-ghost use Rattle.price_levels.specs.inside.Held.{in_front, last_is_in_front};
+ghost use Rattle.price_levels.specs.inside.Held.{in_front, last_is_in_front, passes};
 
 use crate::cut::Cut;
 use crate::place::Place;
@@ -75,12 +75,29 @@ impl Chunk {
         }
     }
 
-    /// How many places stand in front of a point.
+    /// Whether there is a place at an index, and it does not stand in front of a point.
+    fn is_behind(&self, at: usize, side: Side, cut: &Cut<'_>) -> bool
+        ensures { result ≡ passes (λ other. not (in_front side cut.now other)) (slice_get self.now.places at) }
+    {
+        match self.places.get(at) {
+            Some(place) => !cut.is_passed_by(side, place),
+            None => false,
+        }
+    }
+
+    /// How many places stand in front of a point. Most searches end at one of the first two, so these are looked at before the
+    /// others are searched.
     pub(crate) fn count_passed(&self, side: Side, cut: &Cut<'_>) -> usize
         requires { IsSorted side self.now.places }
         ensures within { result ≤ length self.now.places }
         ensures parted { IsPartitionPoint (λ other. in_front side cut.now other ≡ true) (λ other. in_front side cut.now other ≡ false) self.now.places result }
     {
+        if self.is_behind(0, side, cut) {
+            return 0;
+        }
+        if self.is_behind(1, side, cut) {
+            return 1;
+        }
         self.places
             .partition_point(|other| cut.is_passed_by(side, other))
     }
