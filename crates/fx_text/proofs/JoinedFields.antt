@@ -65,11 +65,11 @@ line_of-join fields few all =
     rw (same, le-leb (length text) 256 (omega (arith, length-join fields all))) refl
 
 -- a line in front of others
-keeps_first : (part : List ℕ) (parts : List (List ℕ)) → 0 < length parts → all_but_last (part ∷ parts) ≡ part ∷ all_but_last parts
+pub keeps_first : (part : List ℕ) (parts : List (List ℕ)) → 0 < length parts → all_but_last (part ∷ parts) ≡ part ∷ all_but_last parts
 keeps_first part [] some = absurd (omega arith)
 keeps_first part (second ∷ more) some = refl
 
-keeps_last : (part : List ℕ) (parts : List (List ℕ)) → 0 < length parts → last_of (part ∷ parts) ≡ last_of parts
+pub keeps_last : (part : List ℕ) (parts : List (List ℕ)) → 0 < length parts → last_of (part ∷ parts) ≡ last_of parts
 keeps_last part [] some = absurd (omega arith)
 keeps_last part (second ∷ more) some = refl
 
@@ -77,7 +77,7 @@ parts_of-line : (text more : List ℕ) → All (λ byte. 32 ≤ byte) text → p
 parts_of-line text more visible =
     slice_split_at (λ byte. eqb byte 10) text 10 more (All-weaker (λ byte. 32 ≤ byte) (λ byte. eqb byte 10 ≡ false) (λ byte least. ne_eqb byte 10 (λ e. omega arith)) text visible) refl
 
-some_parts : (text : List ℕ) → 0 < length (parts_of text)
+pub some_parts : (text : List ℕ) → 0 < length (parts_of text)
 some_parts text = omega (arith, length-slice_split (λ byte. eqb byte 10) text)
 
 pub lines_of-line : (text more : List ℕ) → All (λ byte. 32 ≤ byte) text → lines_of (text ++ 10 ∷ more) ≡ line_of text ∷ lines_of more

@@ -1,5 +1,6 @@
 pub mod FieldLemmas
 pub mod FieldTexts
+pub mod FirstLines
 pub mod JoinedFields
 pub mod LinesLemmas
 pub mod NumberLemmas

@@ -1,7 +1,7 @@
 -- The lines of a text that is given piece by piece.
-use Rattle.std.proofs.Common.{◌≡◌, ◌≢◌, ap₂, ℕ, zero, suc, ◌+◌, ◌-◌, ◌<◌, ◌≤◌, Bool, true, false, List, [], ◌∷◌, ◌++◌, length, map, take, set, get_or, refl, sym, ap, ◌∙◌, arith, eqb, count_by, length-append, ⊎_elim, inl, inr, ◌⊎◌, append_assoc, append-nil}
-use Rattle.std.proofs.lemmas.Bool.{cases_Bool, cases_lt, lt-leb, cond-true, cond-false, ne_eqb}
-use Rattle.std.proofs.lemmas.List.{take_more_set, length_push, take-append-le, take_more, map-append, length-map, take_all, take-take, length-take}
+use Rattle.std.proofs.Common.{◌≡◌, ap₂, ℕ, zero, suc, ◌+◌, ◌-◌, ◌<◌, ◌≤◌, Bool, true, false, List, [], ◌∷◌, ◌++◌, length, map, take, get_or, refl, sym, ap, ◌∙◌, arith, eqb, count_by, length-append, ⊎_elim, inl, inr, ◌⊎◌, append_assoc, append-nil}
+use Rattle.std.proofs.lemmas.Bool.{cases_Bool, cases_lt, lt-leb, cond-true, cond-false}
+use Rattle.std.proofs.lemmas.List.{map-append, length-map, take_all, take-take, length-take}
 use Rattle.std.proofs.lemmas.List.Elements.{All-take}
 use Rattle.std.proofs.lemmas.List.Splits.{slice_split_none, length-slice_split}
 use Rattle.std.proofs.lemmas.List.Sums.{count_by-le-length}
@@ -13,7 +13,7 @@ use Rattle.fx_text.specs.declared.line.Line.{Line}
 use Rattle.fx_text.specs.declared.line.Line.TheVariants.{Long}
 use Rattle.fx_text.proofs.PartsLemmas.{Unbroken, Unbroken-last, all_but_last-split_append, last_of-split_append, slice_split-last_passes, slice_split-last_fails, slice_split-onto_front, slice_split-put_back, onto_front}
 
-abbrev is_line_feed : ℕ → Bool
+abbrev pub is_line_feed : ℕ → Bool
 is_line_feed byte = eqb byte 10
 
 -- a text has at most as many lines as bytes
@@ -148,55 +148,6 @@ IsHeld-nil = record { no_line = refl; whole = refl }
 
 pub IsHeld-held_of : (text : List ℕ) → IsHeld (held_of text)
 IsHeld-held_of text = record { no_line = lines_of-held_alone text; whole = held_of-held_alone text }
-
--- one byte of a piece more
-grown : (before piece : List ℕ) (i : ℕ) → i < length piece → before ++ take (i + 1) piece ≡ (before ++ take i piece) ++ get_or piece i 0 ∷ []
-grown before piece i within = ap (λ (front : List ℕ). before ++ front) (take_more piece i 0 within) ∙ sym (append_assoc before (take i piece) (get_or piece i 0 ∷ []))
-
-pub record CutsOn (before piece : List ℕ) (i : ℕ) (held : List ℕ) (lines : List Line) : Type 0 where
-  pub held_is : held ≡ held_of (before ++ take i piece)
-  pub lines_are : lines ≡ lines_of (before ++ take i piece)
-
-pub CutsOn-none : (before piece : List ℕ) → IsHeld before → CutsOn before piece 0 before []
-CutsOn-none before piece is =
-    let same : before ++ [] ≡ before = append-nil before in
-    record { held_is = rw same (sym is.whole); lines_are = rw same (sym is.no_line) }
-
-pub CutsOn-line_feed : (before piece : List ℕ) (i : ℕ) (held : List ℕ) (lines : List Line) → i < length piece → get_or piece i 0 ≡ 10 → CutsOn before piece i held lines
-    → CutsOn before piece (i + 1) [] (lines ++ line_of held ∷ [])
-CutsOn-line_feed before piece i held lines within feed cuts =
-    let text : List ℕ = before ++ take i piece in
-    let on : before ++ take (i + 1) piece ≡ text ++ 10 ∷ [] = grown before piece i within ∙ ap (λ (byte : ℕ). text ++ byte ∷ []) feed in
-    let line : line_of held ≡ line_of (rest_of text) = ap line_of cuts.held_is ∙ line_of-take (rest_of text) in
-    record {
-      held_is = sym (ap held_of on ∙ ap (take 258) (rest_of-line_feed text));
-      lines_are = ap₂ (λ (front : List Line) (last : Line). front ++ last ∷ []) cuts.lines_are line ∙ sym (ap lines_of on ∙ lines_of-line_feed text);
-    }
-
-pub CutsOn-other : (before piece : List ℕ) (i : ℕ) (held : List ℕ) (lines : List Line) → i < length piece → get_or piece i 0 ≢ 10 → CutsOn before piece i held lines
-    → CutsOn before piece (i + 1) (take 258 (held ++ get_or piece i 0 ∷ [])) lines
-CutsOn-other before piece i held lines within other cuts =
-    let text : List ℕ = before ++ take i piece in
-    let byte : ℕ = get_or piece i 0 in
-    let on : before ++ take (i + 1) piece ≡ text ++ byte ∷ [] = grown before piece i within in
-    let not_feed : eqb byte 10 ≡ false = ne_eqb byte 10 other in
-    record {
-      held_is = ap (λ (front : List ℕ). take 258 (front ++ byte ∷ [])) cuts.held_is ∙ take-take_append 258 (rest_of text) (byte ∷ []) ∙ sym (ap held_of on ∙ ap (take 258) (rest_of-other text byte not_feed));
-      lines_are = cuts.lines_are ∙ sym (ap lines_of on ∙ lines_of-other text byte not_feed);
-    }
-
-pub CutsOn-all : (before piece : List ℕ) (i : ℕ) (held : List ℕ) (lines : List Line) → length piece ≤ i → CutsOn before piece i held lines
-    → (held ≡ held_of (before ++ piece)) × (lines ≡ lines_of (before ++ piece))
-CutsOn-all before piece i held lines all cuts =
-    let whole : take i piece ≡ piece = take_all i piece all in
-    (rw whole at cuts.held_is, rw whole at cuts.lines_are)
-
--- a byte more in the fixed room of what is held
-pub room-push : (bytes : List ℕ) (len byte : ℕ) → length bytes ≡ 258 → len < 258 → take (len + 1) (set bytes len byte) ≡ take 258 (take len bytes ++ byte ∷ [])
-room-push bytes len byte room within = take_more_set bytes len byte (omega arith) ∙ sym (take_all 258 (take len bytes ++ byte ∷ []) (omega (arith, length_push (take len bytes) byte, length-take len bytes)))
-
-pub room-full : (bytes : List ℕ) (len byte : ℕ) → length bytes ≡ 258 → 258 ≤ len → len ≤ 258 → take len bytes ≡ take 258 (take len bytes ++ byte ∷ [])
-room-full bytes len byte room full within = sym (take-append-le 258 (take len bytes) (byte ∷ []) (omega (arith, length-take len bytes)) ∙ take_all 258 (take len bytes) (omega (arith, length-take len bytes)))
 
 -- a line more behind others
 pub pushed_line : (start lines items : List Line) (line same : Line) → items ≡ start ++ lines → line ≡ same → items ++ line ∷ [] ≡ start ++ (lines ++ same ∷ [])

@@ -1,9 +1,9 @@
-ghost use Rattle.std.specs.Prelude.{◌≡◌, ◌≤◌, [], ◌∷◌, ◌++◌, List, ℕ, take, vec_len, IfOk, OnOk, OnErr};
-ghost use Rattle.fx_text.specs.Lines.{lines_of, held_of, is_end_rest, rest_of};
-ghost use Rattle.fx_text.specs.inside.Held.{IsHeld};
+ghost use Rattle.std.specs.Prelude.{◌≡◌, ◌<◌, [], ◌∷◌, ◌++◌, ◌==◌, List, ℕ, length, take, position, vec_len, IfOk, IfSome, OnOk, OnErr, MatchOption};
+ghost use Rattle.fx_text.specs.Lines.{parts_of, line_of, line_seen, lines_of, held_of, is_end_rest, rest_of, IsRest, IsFirstLine};
+ghost use Rattle.fx_text.specs.inside.Held.{IsHeld, IsFirstPart};
 
 use crate::field::Fields;
-use crate::line::{Line, MOST_BYTES};
+use crate::line::{Line, LineView, MOST_BYTES};
 use fx_amounts::Memory;
 use std::marker::Model;
 
@@ -77,13 +77,33 @@ impl Held {
         self.len = 0;
     }
 
-    // Adds a byte, where there is room.
-    fn push(&mut self, byte: u8)
-        ensures { self.new ≡ take 258 (self.old ++ byte ∷ []) }
+    // Adds bytes, as many as there is room for.
+    fn extend(&mut self, bytes: &[u8])
+        ensures { self.new ≡ take 258 (self.old ++ bytes.now) }
     {
-        if self.len < MOST_HELD {
-            self.bytes[self.len] = byte;
-            self.len += 1;
+        let count = bytes.len().min(MOST_HELD - self.len);
+        self.bytes[self.len..self.len + count].copy_from_slice(&bytes[..count]);
+        self.len += count;
+    }
+
+    // Adds the bytes up to the first line feed, and answers what stands behind it; adds all where there is none.
+    fn complete<'p>(&mut self, piece: &'p [u8]) -> Option<&'p [u8]>
+        requires { IsHeld self.old }
+        ensures held { IsHeld self.new }
+        ensures line { MatchOption result
+            (IsRest (self.old ++ piece.now) × (self.new ≡ held_of (self.old ++ piece.now)))
+            (λ behind. IsFirstLine (self.old ++ piece.now) (line_of self.new) behind.now) }
+        ensures shorter { IfSome result (λ behind. length behind.now < length piece.now) }
+    {
+        match split_at_line_feed(piece) {
+            Some((part, behind)) => {
+                self.extend(part);
+                Some(behind)
+            }
+            None => {
+                self.extend(piece);
+                None
+            }
         }
     }
 }
@@ -122,6 +142,32 @@ impl LineCutter {
         }
     }
 
+    /// Adds the bytes of the piece up to its first line feed to those that are held, and answers what of the piece stands
+    /// behind it: `line` is then the line that it ends. `None` where the piece ends no line; then all of it is held.
+    pub fn complete<'p>(&mut self, piece: &'p [u8]) -> Option<&'p [u8]>
+        ensures line { MatchOption result
+            (IsRest (self.old ++ piece.now) × (self.new ≡ held_of (self.old ++ piece.now)))
+            (λ behind. IsFirstLine (self.old ++ piece.now) (line_of self.new) behind.now) }
+    {
+        self.held.complete(piece)
+    }
+
+    /// What is held as a line, where a line feed ended it. Takes no memory.
+    pub fn line(&self) -> LineView<'_>
+        ensures { line_seen result ≡ line_of self.now }
+    {
+        LineView::of(self.held.as_slice())
+    }
+
+    /// Forgets what is held, and holds a rest in which no line ends.
+    pub fn hold(&mut self, rest: &[u8])
+        requires { IsRest rest.now }
+        ensures { self.new ≡ held_of rest.now }
+    {
+        self.held.clear();
+        self.held.extend(rest);
+    }
+
     /// Whether the bytes after the last line feed are at most 256 and have `END` as their only field.
     pub fn rest_is_end(&self) -> bool
         ensures held { result ≡ is_end_rest self.now }
@@ -145,14 +191,41 @@ fn cut(mut held: Held, piece: &[u8], out: &mut Vec<Line>) -> Result<Held, Memory
     ensures held { IfOk result (λ after. after ≡ held_of (held ++ piece.now)) }
     ensures err { OnErr result (take (vec_len out.old) out.new.items ≡ out.old.items) }
 {
-    for byte in piece {
-        if *byte == b'\n' {
-            let line = Line::of(*out.allocator(), held.as_slice())?;
-            out.push(line)?;
-            held.clear();
-        } else {
-            held.push(*byte);
-        }
+    let mut rest = piece;
+    while let Some(behind) = held.complete(rest) {
+        let line = Line::of(*out.allocator(), held.as_slice())?;
+        out.push(line)?;
+        held.clear();
+        rest = behind;
     }
     Ok(held)
+}
+
+/// The first line that ends in a text, where it lies, and what stands behind its line feed; `None` where no line ends
+/// in it. Takes no memory.
+pub fn first_line(text: &[u8]) -> Option<(LineView<'_>, &[u8])>
+    ensures line { MatchOption result (IsRest text.now)
+        (λ found. IsFirstLine text.now (line_seen found.0) found.1.now) }
+    ensures shorter { IfSome result (λ found. length found.1.now < length text.now) }
+{
+    let (part, behind) = split_at_line_feed(text)?;
+    Some((LineView::of(part), behind))
+}
+
+// What of a text stands before its first line feed, and behind it.
+fn split_at_line_feed(text: &[u8]) -> Option<(&[u8], &[u8])>
+    ensures { MatchOption result (parts_of text.now ≡ text.now ∷ [])
+        (λ found. IsFirstPart text.now found.0.now found.1.now) }
+{
+    let at = line_feed(text)?;
+    let (part, rest) = text.split_at(at);
+    let (_, behind) = rest.split_at(1);
+    Some((part, behind))
+}
+
+// Where a text has its first line feed.
+fn line_feed(text: &[u8]) -> Option<usize>
+    ensures { result ≡ position (λ byte. byte == 10) text.now }
+{
+    text.iter().position(|byte| *byte == b'\n')
 }

@@ -9,9 +9,9 @@ mod numeral;
 mod push;
 mod split;
 
-pub use cutter::LineCutter;
+pub use cutter::{LineCutter, first_line};
 pub use field::Fields;
-pub use line::{Bytes, Line};
+pub use line::{Bytes, Line, LineView};
 pub use numeral::number;
 pub use push::{push_number, push_price, push_signed};
 pub use split::fields;

@@ -55,19 +55,25 @@ pub enum Line {
 }
 
 impl Line {
-    ghost use Rattle.fx_text.specs.Lines.{line_of, is_passed_over};
+    ghost use Rattle.fx_text.specs.Lines.{line_of, line_seen, is_passed_over};
 
     // The line of a part that a line feed ends.
-    #[tactic(auto, unfolding(crate::specs::Lines::line_of))]
     pub(crate) fn of(alloc: Global, part: &[u8]) -> Result<Line, Memory>
         ensures { IfOk result (λ line. line ≡ line_of part.now) }
     {
-        let text = without_carriage_return(part);
-        if text.len() <= MOST_BYTES {
-            Ok(Line::Whole(Bytes::copied(alloc, text)?))
-        } else {
-            let (front, _) = text.split_at(MOST_BYTES);
-            Ok(Line::Long(Bytes::copied(alloc, Fields::of(front).first())?))
+        match LineView::of(part) {
+            LineView::Whole(text) => Ok(Line::Whole(Bytes::copied(alloc, text)?)),
+            LineView::Long(field) => Ok(Line::Long(Bytes::copied(alloc, field)?)),
+        }
+    }
+
+    /// The line where it is held. Takes no memory.
+    pub fn view(&self) -> LineView<'_>
+        ensures { line_seen result ≡ self.now }
+    {
+        match self {
+            Line::Whole(text) => LineView::Whole(text.as_slice()),
+            Line::Long(field) => LineView::Long(field.as_slice()),
         }
     }
 
@@ -76,9 +82,44 @@ impl Line {
     pub fn is_passed_over(&self) -> bool
         ensures { result ≡ is_passed_over self.now }
     {
+        self.view().is_passed_over()
+    }
+}
+
+/// A line of a text where it lies, without its line end. Contracts see it as the `Line` that it would be.
+#[derive(Clone, Copy, Debug)]
+pub enum LineView<'a> {
+    /// A line of at most 256 bytes.
+    Whole(&'a [u8]),
+    /// A longer line, of which the first field of its first 256 bytes is seen.
+    Long(&'a [u8]),
+}
+
+impl<'a> LineView<'a> {
+    ghost use Rattle.fx_text.specs.Lines.{line_of, line_seen, is_passed_over};
+
+    // The line of a part that a line feed ends.
+    #[tactic(auto, unfolding(crate::specs::Lines::line_of))]
+    pub(crate) fn of(part: &'a [u8]) -> LineView<'a>
+        ensures { line_seen result ≡ line_of part.now }
+    {
+        let text = without_carriage_return(part);
+        if text.len() <= MOST_BYTES {
+            LineView::Whole(text)
+        } else {
+            let (front, _) = text.split_at(MOST_BYTES);
+            LineView::Long(Fields::of(front).first())
+        }
+    }
+
+    /// Whether the line is passed over: it has no field, or its first field begins with `#`. Of a long line
+    /// only the field that is seen counts, also where it is empty. Takes no memory.
+    pub fn is_passed_over(&self) -> bool
+        ensures { result ≡ is_passed_over (line_seen self.now) }
+    {
         match self {
-            Line::Whole(text) => Fields::of(text.as_slice()).is_passed_over(),
-            Line::Long(field) => is_comment(field.as_slice()),
+            LineView::Whole(text) => Fields::of(text).is_passed_over(),
+            LineView::Long(field) => is_comment(field),
         }
     }
 }
