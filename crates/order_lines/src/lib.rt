@@ -7,5 +7,5 @@ mod spoken;
 mod word;
 mod writing;
 
-pub use spoken::{Spoken, command_from, journal_from};
+pub use spoken::{Spoken, command_from, command_in, journal_from};
 pub use writing::command_text;

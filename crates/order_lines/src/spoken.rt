@@ -1,5 +1,6 @@
 ghost use Rattle.std.specs.Prelude.{◌≡◌, ◌<◌, ℕ, List, IsFalse, IfSome};
 ghost use Rattle.fx_text.specs.Fields.{fields_of};
+ghost use Rattle.fx_text.specs.Lines.{line_seen};
 ghost use Rattle.fx_text.specs.declared.line.Line.TheVariants.{Whole as WholeLine};
 ghost use Rattle.fx_rules.specs.Session.{bank_count};
 ghost use Rattle.fx_rules.specs.Step.{IsCommand};
@@ -11,7 +12,7 @@ use crate::reading::read_command;
 use crate::word::{BAD, fault_from};
 use fx_amounts::BankId;
 use fx_rules::{Command, Reject, Session};
-use fx_text::{Fields, Line, fields, number};
+use fx_text::{Fields, Line, LineView, fields, number};
 
 /// What a line after the header's `START` says.
 #[derive(Clone, Copy, Debug, PartialEq, Eq)]
@@ -42,19 +43,36 @@ pub fn command_from(session: &Session, line: &Line) -> Spoken
     ensures spelled { (bank : ℕ) (command : Command) → bank < bank_count session.now → IsCommand session.now bank command
         → IsFalse (is_bad command) → IsSpelled session.now line.now bank command → result ≡ Spoken.Of bank command }
 {
+    command_in(session, &line.view())
+}
+
+/// The same of a line where it lies.
+pub fn command_in(session: &Session, line: &LineView<'_>) -> Spoken
+    ensures reads { result ≡ command_line session.now (line_seen line.now) }
+
+    // What is read is a bank's of the session and in range.
+    ensures bank { IfSent result (λ bank command. bank < bank_count session.now) }
+    ensures range { IfSent result (IsCommand session.now) }
+
+    // What is read and is not bad is spelled so, and what is spelled so is read.
+    ensures spelling { IfSent result
+        (λ bank command. IsFalse (is_bad command) → IsSpelled session.now (line_seen line.now) bank command) }
+    ensures spelled { (bank : ℕ) (command : Command) → bank < bank_count session.now → IsCommand session.now bank command
+        → IsFalse (is_bad command) → IsSpelled session.now (line_seen line.now) bank command → result ≡ Spoken.Of bank command }
+{
     // The clauses on spelling rest on a valid session, as each is.
     let _banks = session.banks();
     spoken_by(session, line)
 }
 
 #[tactic(auto, unfolding(crate::specs::Grammar::command_line))]
-fn spoken_by(session: &Session, line: &Line) -> Spoken
-    ensures { result ≡ command_line session.now line.now }
+fn spoken_by(session: &Session, line: &LineView<'_>) -> Spoken
+    ensures { result ≡ command_line session.now (line_seen line.now) }
 {
-    match line {
-        Line::Whole(text) => spoken_in(session, &fields(text.as_slice())),
-        Line::Long(_) if line.is_passed_over() => Spoken::Passed,
-        Line::Long(first) => match session.bank_named(first.as_slice()) {
+    match *line {
+        LineView::Whole(text) => spoken_in(session, &fields(text)),
+        LineView::Long(_) if line.is_passed_over() => Spoken::Passed,
+        LineView::Long(first) => match session.bank_named(first) {
             Some(bank) => Spoken::Of(
                 bank,
                 Command::Bad {
@@ -106,12 +124,12 @@ pub fn journal_from(session: &Session, line: &Line) -> Option<(BankId, Command)>
 {
     // The clauses on spelling rest on a valid session, as each is.
     let _banks = session.banks();
-    recorded_by(session, line)
+    recorded_by(session, &line.view())
 }
 
 #[tactic(auto, unfolding(crate::specs::Grammar::journal_line))]
-fn recorded_by(session: &Session, line: &Line) -> Option<(BankId, Command)>
-    ensures { result ≡ journal_line session.now line.now }
+fn recorded_by(session: &Session, line: &LineView<'_>) -> Option<(BankId, Command)>
+    ensures { result ≡ journal_line session.now (line_seen line.now) }
 {
     let Spoken::Of(bank, command) = spoken_by(session, line) else {
         return None;
@@ -130,13 +148,13 @@ fn is_bad(command: &Command) -> bool
 }
 
 /// The fault of a line `bank BAD r`.
-fn recorded_fault(line: &Line) -> Option<Reject>
-    ensures { result ≡ bad_said line.now }
+fn recorded_fault(line: &LineView<'_>) -> Option<Reject>
+    ensures { result ≡ bad_said (line_seen line.now) }
 {
-    let Line::Whole(text) = line else {
+    let LineView::Whole(text) = *line else {
         return None;
     };
-    let fields = fields(text.as_slice());
+    let fields = fields(text);
     if fields.count() != 3 || fields.field(1) != BAD {
         return None;
     }

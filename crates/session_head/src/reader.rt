@@ -1,4 +1,5 @@
 ghost use Rattle.std.specs.Prelude.{◌≡◌, ◌≢◌, ℕ, ◌++◌, ◌∷◌, [], List, Ok, Err, OnErr, IsTrue};
+ghost use Rattle.fx_text.specs.Lines.{line_seen};
 ghost use Rattle.fx_text.specs.declared.line.Line.{Line as TextLine};
 ghost use Rattle.session_head.specs.Head.{read_head, with_line, answer_to, UnlessMemory, IsStarted, session_of, next, Faulted};
 ghost use Rattle.session_head.specs.declared.reason.HeadReason.{HeadReason};
@@ -7,7 +8,7 @@ use crate::draft::Draft;
 use crate::reason::{HeadReason, HeadStep, HeadStop};
 use crate::statement::{Statement, is_version, statement_from};
 use fx_rules::Session;
-use fx_text::{Line, fields};
+use fx_text::{Line, LineView, fields};
 use std::alloc::Global;
 use std::marker::Model;
 
@@ -71,6 +72,24 @@ impl HeadReader {
         // What the reader stands at is what all its lines are.
         ensures whole { (lines : List TextLine) → self.old ≡ read_head lines → with_line self.old line.now ≡ read_head (lines ++ line.now ∷ []) }
     {
+        self.line_in(&line.view())
+    }
+
+    /// The same of a line where it lies.
+    pub fn line_in(&mut self, line: &LineView<'_>) -> Result<HeadStep, HeadStop>
+        requires open { ¬ (IsStarted self.old) }
+        ensures read { UnlessMemory result (self.new ≡ with_line self.old (line_seen line.now)) }
+        ensures answer { UnlessMemory result (result ≡ answer_to self.new) }
+        ensures memory { result ≡ Err HeadStop.Memory → self.new ≡ self.old }
+        ensures goes_on { result ≢ Ok HeadStep.Start → ¬ (IsStarted self.new) }
+
+        // A fault stays: the reader keeps the one that it answers, and answers the one that it keeps.
+        ensures fault { (number : ℕ) (reason : HeadReason) → result ≡ Err (HeadStop.Fault number reason) → self.new ≡ Faulted number reason }
+        ensures again { (number : ℕ) (reason : HeadReason) → self.old ≡ Faulted number reason → result ≡ Err (HeadStop.Fault number reason) }
+
+        // What the reader stands at is what all its lines are.
+        ensures whole { (lines : List TextLine) → self.old ≡ read_head lines → with_line self.old (line_seen line.now) ≡ read_head (lines ++ line_seen line.now ∷ []) }
+    {
         let number = self.lines.saturating_add(1);
         let step = self.stage.read(self.alloc, number, line)?;
         self.lines = number;
@@ -92,9 +111,14 @@ impl Stage {
     ghost use Rattle.session_head.specs.inside.Stage.{head_of, taken, IsTaken, is_open};
 
     // Reads the line of that number.
-    fn read(&mut self, alloc: Global, number: u64, line: &Line) -> Result<HeadStep, HeadStop>
+    fn read(
+        &mut self,
+        alloc: Global,
+        number: u64,
+        line: &LineView<'_>,
+    ) -> Result<HeadStep, HeadStop>
         requires { ¬ (IsStarted (head_of number self.old)) }
-        ensures read { (lines : ℕ) → number ≡ next lines → UnlessMemory result (head_of number self.new ≡ with_line (head_of lines self.old) line.now) }
+        ensures read { (lines : ℕ) → number ≡ next lines → UnlessMemory result (head_of number self.new ≡ with_line (head_of lines self.old) (line_seen line.now)) }
         ensures answer { UnlessMemory result (result ≡ answer_to (head_of number self.new)) }
         ensures memory { result ≡ Err HeadStop.Memory → self.new ≡ self.old }
         ensures again { (at : ℕ) (reason : HeadReason) → head_of number self.old ≡ Faulted at reason → result ≡ Err (HeadStop.Fault at reason) }
@@ -113,18 +137,23 @@ impl Stage {
     }
 
     // Takes the line of that number, which is not passed over. After `Err` the stage is as it was.
-    fn take(&mut self, alloc: Global, number: u64, line: &Line) -> Result<HeadStep, HeadStop>
+    fn take(
+        &mut self,
+        alloc: Global,
+        number: u64,
+        line: &LineView<'_>,
+    ) -> Result<HeadStep, HeadStop>
         requires { IsTrue (is_open self.old) }
-        ensures taken { IsTaken number result self.new (taken number self.old line.now) }
+        ensures taken { IsTaken number result self.new (taken number self.old (line_seen line.now)) }
         ensures err { OnErr result (self.new ≡ self.old) }
     {
-        let Line::Whole(text) = line else {
+        let LineView::Whole(text) = *line else {
             return Err(HeadStop::Fault {
                 line: number,
                 reason: HeadReason::Long,
             });
         };
-        let fields = fields(text.as_slice());
+        let fields = fields(text);
         if let Stage::Drafting(draft) = self {
             let statement = statement_from(draft, &fields).map_err(|reason| HeadStop::Fault {
                 line: number,
