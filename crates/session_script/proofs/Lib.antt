@@ -1,4 +1,5 @@
 pub mod ScriptLaws
 pub mod Taking
+pub mod Feeding
 pub mod Closing
 pub mod ScriptReading

@@ -9,7 +9,7 @@ ghost use Rattle.session_script.specs.inside.Stage.{is_open};
 use crate::ends::{EarlyEnd, Stop, TextEnd};
 use fx_amounts::Memory;
 use fx_edges::Source;
-use fx_text::{Line, LineCutter};
+use fx_text::LineCutter;
 pub(crate) use stage::Stage;
 use std::alloc::Global;
 
@@ -27,8 +27,7 @@ const PIECE: usize = 4096;
 pub(crate) struct Intake {
     /// It holds the line that the last piece cut, also from one round to the next.
     cutter: LineCutter,
-    /// The lines of one piece. They stay until the next piece, which uses their room again.
-    lines: Vec<Line>,
+    alloc: Global,
     pub(crate) stage: Stage,
     /// The bytes taken so far.
     taken: usize,
@@ -51,7 +50,7 @@ impl Intake {
     {
         Intake {
             cutter: LineCutter::new(),
-            lines: Vec::new(alloc),
+            alloc,
             stage: Stage::new(alloc),
             taken: 0,
         }
@@ -87,17 +86,19 @@ impl Intake {
         Ok(None)
     }
 
-    /// Takes the next piece. After `Err` some of its lines may be taken, and the intake is good for nothing more.
+    /// Takes the next piece. Its first line is read from the cutter, which may hold the front of it, and each other one where
+    /// it lies. After `Err` some of its lines may be taken, and the intake is good for nothing more.
     fn feed(&mut self, piece: &[u8]) -> Result<(), Memory>
         requires room { self.old.taken + length piece.now ≤ 2 ^ 26 }
         ensures fed { OnOk result ((text : List ℕ) (former : List SentCommand) → StandsFor self.old text former → StandsFor self.new (text ++ piece.now) former) }
         ensures taken { OnOk result (self.new.taken ≡ self.old.taken + length piece.now) }
         ensures session { (h : SessionHeader) → session_at self.old.stage ≡ Some h → session_at self.new.stage ≡ Some h }
     {
-        let alloc = *self.lines.allocator();
-        self.lines.clear();
-        self.cutter.feed(piece, &mut self.lines)?;
-        self.stage.take_all(alloc, &self.lines)?;
+        if let Some(behind) = self.cutter.complete(piece) {
+            self.stage.take(self.alloc, &self.cutter.line())?;
+            let rest = self.stage.take_all(self.alloc, behind)?;
+            self.cutter.hold(rest);
+        }
         self.taken += piece.len();
         Ok(())
     }

@@ -1,10 +1,11 @@
 ghost use Rattle.std.specs.Prelude.{◌≡◌, IfOk};
+ghost use Rattle.fx_text.specs.Lines.{line_seen};
 ghost use Rattle.order_lines.specs.Grammar.{command_line};
 
 use fx_amounts::Memory;
 use fx_rules::{Sent, Session};
-use fx_text::Line;
-use order_lines::{Spoken, command_from};
+use fx_text::LineView;
+use order_lines::{Spoken, command_in};
 
 /// What the text of a session says: the session of its header, the commands of the last round in the order of their lines,
 /// and how many of the lines behind START were strays so far.
@@ -19,11 +20,12 @@ impl Script {
     ghost use Rattle.session_script.specs.inside.Stage.{Adds};
 
     /// Adds what a line behind START says, and answers whether it is the END line. After `Err` the line is not added.
-    pub(crate) fn add(&mut self, line: &Line) -> Result<bool, Memory>
-        ensures adds { IfOk result (λ ended. Adds self.old self.new (command_line self.old.session line.now) ended) }
+    pub(crate) fn add(&mut self, line: &LineView<'_>) -> Result<bool, Memory>
+        ensures adds { IfOk result
+            (λ ended. Adds self.old self.new (command_line self.old.session (line_seen line.now)) ended) }
         ensures session { self.new.session ≡ self.old.session }
     {
-        match command_from(&self.session, line) {
+        match command_in(&self.session, line) {
             Spoken::Of(bank, command) => self.sent.push(Sent { bank, command })?,
             Spoken::Stray => self.strays = self.strays.saturating_add(1),
             Spoken::Passed => {}

@@ -1,13 +1,14 @@
-ghost use Rattle.std.specs.Prelude.{◌≡◌, ◌++◌, ◌∷◌, [], List, IsTrue, OnOk, IsSome, Some, None};
+ghost use Rattle.std.specs.Prelude.{◌≡◌, ◌++◌, ◌∷◌, [], List, IsTrue, IfOk, OnOk, IsSome, Some, None};
 ghost use Rattle.std.specs.Bool.{MatchBool};
 ghost use Rattle.fx_rules.specs.declared.command.Sent.{Sent as SentCommand};
 ghost use Rattle.fx_rules.specs.Session.{Header as SessionHeader};
+ghost use Rattle.fx_text.specs.Lines.{lines_of, rest_of, line_seen, IsRest};
 ghost use Rattle.fx_text.specs.declared.line.Line.{Line as TextLine};
 ghost use Rattle.session_head.specs.Head.{session_of};
 
 use crate::script::Script;
 use fx_amounts::Memory;
-use fx_text::Line;
+use fx_text::{LineView, first_line};
 use session_head::{HeadReader, HeadReason, HeadStep, HeadStop};
 use std::alloc::Global;
 use std::mem;
@@ -56,14 +57,14 @@ impl Stage {
     }
 
     /// Takes one line more. After `Err` it is not taken.
-    pub(crate) fn take(&mut self, alloc: Global, line: &Line) -> Result<(), Memory>
+    pub(crate) fn take(&mut self, alloc: Global, line: &LineView<'_>) -> Result<(), Memory>
         requires { IsTrue (is_open self.old) }
-        ensures taken { OnOk result ((lines : List TextLine) (former : List SentCommand) → StandsAt self.old lines former → StandsAt self.new (lines ++ line.now ∷ []) former) }
+        ensures taken { OnOk result ((lines : List TextLine) (former : List SentCommand) → StandsAt self.old lines former → StandsAt self.new (lines ++ line_seen line.now ∷ []) former) }
         ensures readable { IsTrue (is_open self.new) }
         ensures session { (h : SessionHeader) → session_at self.old ≡ Some h → session_at self.new ≡ Some h }
     {
         match self {
-            Stage::Heading(reader) => match reader.line(line) {
+            Stage::Heading(reader) => match reader.line_in(line) {
                 Ok(HeadStep::More) => {}
                 Ok(HeadStep::Start) => {
                     let script = started(alloc, reader);
@@ -85,17 +86,22 @@ impl Stage {
         Ok(())
     }
 
-    /// Takes further lines, one after another. After `Err` some of them may be taken.
-    pub(crate) fn take_all(&mut self, alloc: Global, more: &[Line]) -> Result<(), Memory>
+    /// Takes the lines that end in a text, one after another, and answers the rest of it. After `Err` some of them may be
+    /// taken.
+    pub(crate) fn take_all<'p>(&mut self, alloc: Global, text: &'p [u8]) -> Result<&'p [u8], Memory>
         requires { IsTrue (is_open self.old) }
-        ensures taken { OnOk result ((lines : List TextLine) (former : List SentCommand) → StandsAt self.old lines former → StandsAt self.new (lines ++ more.now) former) }
+        ensures taken { OnOk result ((lines : List TextLine) (former : List SentCommand) → StandsAt self.old lines former → StandsAt self.new (lines ++ lines_of text.now) former) }
+        ensures rest { IfOk result (λ rest. IsRest rest.now) }
+        ensures behind { IfOk result (λ rest. rest.now ≡ rest_of text.now) }
         ensures readable { IsTrue (is_open self.new) }
         ensures session { (h : SessionHeader) → session_at self.old ≡ Some h → session_at self.new ≡ Some h }
     {
-        for line in more {
-            self.take(alloc, line)?;
+        let mut rest = text;
+        while let Some((line, behind)) = first_line(rest) {
+            self.take(alloc, &line)?;
+            rest = behind;
         }
-        Ok(())
+        Ok(rest)
     }
 }
 

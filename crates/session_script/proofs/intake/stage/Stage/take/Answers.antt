@@ -1,5 +1,6 @@
 use Rattle.std.proofs.Common.{◌≡◌, ◌∙◌, ◌++◌, ◌∷◌, [], List, Bool, true, sym, ap, subst, append_assoc}
 use Rattle.fx_rules.specs.declared.command.Sent.{Sent}
+use Rattle.fx_text.specs.Lines.{line_seen}
 use Rattle.order_lines.specs.Grammar.{command_line}
 use Rattle.session_head.specs.Head.{read_head}
 use Rattle.session_script.specs.Script.{commands_in}
@@ -21,8 +22,8 @@ returns-in-Ok-Start-clause-taken c = λ lines former at.
     let readable : goes_on c.in-Heading.reader ≡ true = subst (λ (stage : Stage). is_open stage ≡ true) c.in-Heading.is c.requires in
     let started = c.started-script.result in
     let none : former ++ started.sent.items ≡ [] = ap (λ (sent : List Sent). former ++ sent) c.started-script.ensures.sent ∙ ap (λ (sent : List Sent). sent ++ []) heading.1 in
-    Tells-start lines c.args.line.now c.in-Heading.reader c.line.new.self started.session (former ++ started.sent.items) started.strays
-    before readable (c.in-Ok-Start.ensures.read ∙ c.line.ensures.whole lines before)
+    Tells-start lines (line_seen c.args.line.now) c.in-Heading.reader c.line_in.new.self started.session (former ++ started.sent.items) started.strays
+    before readable (c.in-Ok-Start.ensures.read ∙ c.line_in.ensures.whole lines before)
     c.started-script.ensures.session none c.started-script.ensures.strays
 
 pub returns-in_ok-ended-in-Commanding-clause-taken : goal.returns-in_ok-ended-in-Commanding-clause-taken
@@ -31,8 +32,8 @@ returns-in_ok-ended-in-Commanding-clause-taken c = λ lines former at.
     let new = c.add.new.self in
     let added = c.in_ok-ended-in-Commanding.ensures.adds in
     let before : Tells lines old.session (former ++ old.sent.items) old.strays c.in-Commanding.ended = subst (λ (stage : Stage). StandsAt stage lines former) c.in-Commanding.is at in
-    let more : former ++ new.sent.items ≡ (former ++ old.sent.items) ++ commands_in (command_line old.session c.args.line.now ∷ []) = grown former old.sent.items new.sent.items _ added.sent in
-    Tells-line lines c.args.line.now old.session new.session (former ++ old.sent.items) (former ++ new.sent.items) old.strays new.strays c.in_ok-ended-in-Commanding.field-0
+    let more : former ++ new.sent.items ≡ (former ++ old.sent.items) ++ commands_in (command_line old.session (line_seen c.args.line.now) ∷ []) = grown former old.sent.items new.sent.items _ added.sent in
+    Tells-line lines (line_seen c.args.line.now) old.session new.session (former ++ old.sent.items) (former ++ new.sent.items) old.strays new.strays c.in_ok-ended-in-Commanding.field-0
     (subst (λ (ended : Bool). Tells lines old.session (former ++ old.sent.items) old.strays ended) c.if-not-ended.true before)
     added.session more added.strays added.ended added.valid
 
@@ -41,11 +42,11 @@ returns-else-not-ended-clause-taken c = λ lines former at.
     let script = c.in-Commanding.script in
     let sent : List Sent = former ++ script.sent.items in
     let before : Tells lines script.session sent script.strays c.in-Commanding.ended = subst (λ (stage : Stage). StandsAt stage lines former) c.in-Commanding.is at in
-    subst (λ (ended : Bool). Tells (lines ++ c.args.line.now ∷ []) script.session sent script.strays ended) (sym c.if-not-ended.false)
-    (Tells-behind lines c.args.line.now script.session sent script.strays
+    subst (λ (ended : Bool). Tells (lines ++ (line_seen c.args.line.now) ∷ []) script.session sent script.strays ended) (sym c.if-not-ended.false)
+    (Tells-behind lines (line_seen c.args.line.now) script.session sent script.strays
     (subst (λ (ended : Bool). Tells lines script.session sent script.strays ended) c.if-not-ended.false before))
 
 pub returns-in-Faulted-clause-taken : goal.returns-in-Faulted-clause-taken
 returns-in-Faulted-clause-taken c = λ lines former at.
-    subst (λ (stage : Stage). StandsAt stage (lines ++ c.args.line.now ∷ []) former) (sym c.in-Faulted.is)
-    (read_head-faulted lines (c.args.line.now ∷ []) c.in-Faulted.line c.in-Faulted.reason (subst (λ (stage : Stage). StandsAt stage lines former) c.in-Faulted.is at))
+    subst (λ (stage : Stage). StandsAt stage (lines ++ (line_seen c.args.line.now) ∷ []) former) (sym c.in-Faulted.is)
+    (read_head-faulted lines ((line_seen c.args.line.now) ∷ []) c.in-Faulted.line c.in-Faulted.reason (subst (λ (stage : Stage). StandsAt stage lines former) c.in-Faulted.is at))
