@@ -89,6 +89,10 @@ Gathered-of_whole {held = held} {text = text} (Ok value) none wrote = record {
 }
 Gathered-of_whole (Err e) none wrote = record { ok = tt; fault = wrote.fault; cause = wrote.cause; memory = wrote.memory }
 
+-- what was held was written, and then the text
+pub Gathered-of_both : {K T U : Type 0} {written : K → Option (List ℕ)} {faults : K → ℕ} {held : List ℕ} {a : K} {rest : List ℕ} {b c : K} {text : List ℕ} {value : U} (result : Result T SinkFault) → rest ≡ [] → Wrote written faults a b held (Ok value) → Wrote written faults b c text result → Gathered written faults held a rest c text result
+Gathered-of_both result none first second = Gathered-of_whole result none (Wrote-after result first.ok second)
+
 -- a fault while what was held was handed on
 pub Gathered-of_held : {K T U : Type 0} {written : K → Option (List ℕ)} {faults : K → ℕ} {held : List ℕ} {a : K} {b : K} {e : SinkFault} (rest text : List ℕ) → Wrote {T = T} written faults a b held (Err e) → Gathered {T = U} written faults held a rest b text (Err e)
 Gathered-of_held {held = held} rest text wrote = record { ok = tt; fault = AppendedPart-longer wrote.fault (IsPrefixOf-append held text); cause = wrote.cause; memory = wrote.memory }

@@ -33,34 +33,45 @@ impl Pieces {
     }
 
     /// Writes a text behind what is held. The sink gets all of that once it is 64 KiB or more; a text that is so much by itself
-    /// goes to the sink as it lies there. After a fault the sink got a prefix of what was held and the text, and the rest of it
-    /// is not to be written any more: the fault is `Failed` only where the sink's count of faults rose, and `Memory` only where
-    /// it stayed.
+    /// goes to the sink as it lies there. After a fault what is held is as it was, though the sink got a prefix of that and the
+    /// text, so the rest is not to be written any more: the fault is `Failed` only where the sink's count of faults rose, and
+    /// `Memory` only where it stayed.
     pub fn put<K: Sink>(&mut self, text: &[u8], out: &mut K) -> Result<(), SinkFault>
         ensures gathered { Gathered K.written K.faults self.old out.old self.new out.new text.now result }
         ensures few { OnOk result (length self.new < 65536) }
+        ensures unchanged { OnErr result (self.new ≡ self.old) }
     {
         if text.len() < PIECE {
             return self.hold(text, out);
         }
-        if let Err(fault) = self.hand_on(out) {
+        if let Err(fault) = write_all(out, &self.held) {
             return Err(fault);
         }
-        write_all(out, text)
+        let wrote = write_all(out, text);
+        if wrote.is_ok() {
+            self.held.clear();
+        }
+        wrote
     }
 
     /// Holds a text behind what is held, and hands all of it to the sink where that is a piece.
     fn hold<K: Sink>(&mut self, text: &[u8], out: &mut K) -> Result<(), SinkFault>
         ensures gathered { Gathered K.written K.faults self.old out.old self.new out.new text.now result }
         ensures few { OnOk result (length self.new < 65536) }
+        ensures unchanged { OnErr result (self.new ≡ self.old) }
     {
+        let before = self.held.len();
         if self.held.extend_from_slice(text).is_err() {
             return Err(SinkFault::Memory);
         }
         if self.held.len() < PIECE {
             return Ok(());
         }
-        self.hand_on(out)
+        let handed = self.hand_on(out);
+        if handed.is_err() {
+            self.held.truncate(before);
+        }
+        handed
     }
 
     /// Hands the sink what is held. Faults are as those of `write_all`; after one what is held is as it was.
