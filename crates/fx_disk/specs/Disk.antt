@@ -40,9 +40,10 @@ pub record Called {D T : Type 0} (bytes : D → Option (List ℕ)) (may_leave : 
   pub later : moment before ≤ moment now
   pub no_more : (t : ℕ) (image : List ℕ) → t ≤ moment before → left_since now t image → left_since before t image ⊎ may_leave now image
   pub no_fewer : (t : ℕ) (image : List ℕ) → t ≤ moment before → left_since before t image → left_since now t image
-  -- the count never falls, and rose where the call failed
+  -- the count rose where the call failed, and stayed where it did not
   pub count : faults before ≤ faults now
   pub cause : IsErrOf result Failed → Rose (faults before) (faults now)
+  pub steady : (IsErrOf result Failed → ⊥) → faults now ≡ faults before
   -- a call that wanted memory did nothing
   pub same_bytes : IsErrOf result Memory → bytes now ≡ bytes before
   pub same_images : IsErrOf result Memory → NoMore (may_leave before) (may_leave now) × NoMore (may_leave now) (may_leave before)

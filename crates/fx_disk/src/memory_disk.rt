@@ -1,4 +1,4 @@
-ghost use Rattle.std.specs.Prelude.{◌≡◌, ◌↔◌, ℕ, ◌+◌, ◌<◌, ◌≤◌, ◌++◌, [], List, length, take, drop, min, Option, option_map, Some, Ok, IfOk, OnOk, OnErr, IsErrOf, Contains};
+ghost use Rattle.std.specs.Prelude.{◌≡◌, ◌↔◌, ℕ, ◌+◌, ◌<◌, ◌≤◌, ◌++◌, [], List, length, take, drop, min, Option, option_map, Some, Ok, IfOk, OnOk, OnErr, IsErrOf, IsTrue, Contains};
 ghost use Rattle.fx_edges.specs.Faults.{one_more};
 ghost use Rattle.fx_disk.specs.Disk.{with_piece, Torn, TornBy, NoMore, Only, WhereTold, Called};
 ghost use Rattle.fx_disk.specs.Model.{state_now, MayLeaveIn, LeftSince};
@@ -9,8 +9,8 @@ use crate::disk::{Disk, DiskStop};
 use crate::tape::CallTape;
 use std::marker::Model;
 
-/// A disk in memory that fails at the calls whose numbers are in `fails`, counted from 1. A
-/// failing write that wants memory for its note answers `Memory`.
+/// A disk in memory that fails at the calls whose numbers are in `fails`, counted from 1. A write that is
+/// to fail and finds no memory for its note answers `Memory` in place of it, and counts no fault.
 #[derive(Drop)]
 pub struct MemoryDisk {
     tape: CallTape,
@@ -52,6 +52,15 @@ impl MemoryDisk {
         self.tape.bytes()
     }
 
+    // One call more, and whether it is told to fail.
+    fn begin(&mut self) -> bool
+        ensures fails { IsTrue result ↔ Contains self.old.fails (one_more self.old.made) }
+        ensures made { self.new ≡ record self.old { made = one_more self.old.made } }
+    {
+        self.made = self.made.saturating_add(1);
+        self.fails.contains(&self.made)
+    }
+
     // One call more, which fails where it is told to.
     fn count(&mut self) -> Result<(), DiskStop>
         ensures fails { IsErrOf result DiskStop.Failed ↔ Contains self.old.fails (one_more self.old.made) }
@@ -63,8 +72,7 @@ impl MemoryDisk {
         }) }
         ensures count { self.old.faults ≤ self.new.faults }
     {
-        self.made = self.made.saturating_add(1);
-        if self.fails.contains(&self.made) {
+        if self.begin() {
             self.faults = self.faults.saturating_add(1);
             return Err(DiskStop::Failed);
         }
@@ -132,15 +140,13 @@ impl Disk for MemoryDisk {
         ensures images { TornBy at (length piece.now) (may_leave_of self.old) (may_leave_of self.new) }
         ensures called { CalledFailing self.old self.new result }
     {
-        match self.count() {
-            Ok(()) => {}
-            Err(stop) => {
-                match self.tape.note_broken(at, piece.len() as u64) {
-                    Ok(()) => {}
-                    Err(_) => return Err(DiskStop::Memory),
-                }
-                return Err(stop);
+        if self.begin() {
+            match self.tape.note_broken(at, piece.len() as u64) {
+                Ok(()) => {}
+                Err(_) => return Err(DiskStop::Memory),
             }
+            self.faults = self.faults.saturating_add(1);
+            return Err(DiskStop::Failed);
         }
         match self.tape.write(at, piece) {
             Ok(()) => {}

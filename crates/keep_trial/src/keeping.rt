@@ -1,6 +1,8 @@
-ghost use Rattle.std.specs.Prelude.{◌≡◌, ◌↔◌, length, IsTrue, IfOk, OnOk};
-ghost use Rattle.fx_disk.specs.Disk.{WhereTold, Only};
+ghost use Rattle.std.specs.Prelude.{◌≡◌, ◌↔◌, length, IsTrue, IfOk, OnOk, IsErrOf};
+ghost use Rattle.fx_edges.specs.Faults.{Rose};
+ghost use Rattle.fx_disk.specs.Disk.{WhereTold, Only, LeavesOnly};
 ghost use Rattle.keep_disk.specs.Blocks.{whole_blocks};
+ghost use Rattle.keep_disk.specs.Rounds.{RunCauses};
 ghost use Rattle.keep_trial.specs.Numbered.{bodies, room, KeptNumbers, AllNumbers};
 
 use crate::numbers::{Numbers, body_of};
@@ -10,7 +12,9 @@ use fx_edges::Sink;
 use keep_disk::{Body, RunFault, keep_rounds, open_keeper};
 use std::alloc::Global;
 
-/// Appends the blocks of the next `count` numbers, and writes each number once its block is on the disk.
+/// Appends the blocks of the next `count` numbers, and writes each number once its block is on the disk. After a fault the disk
+/// has the blocks from before and those of the first so many numbers behind them, and each that was written is among these. The
+/// fault is `Disk` or `Write` only where that count of faults rose.
 pub fn append<D: Disk, K: Sink>(
     alloc: Global,
     disk: &mut D,
@@ -22,6 +26,7 @@ pub fn append<D: Disk, K: Sink>(
         KeptNumbers D.may_leave D.moment D.left_since K.written K.faults dots file disk.old disk.new out.old out.new) }
     ensures all { OnOk result (WhereTold (D.bytes disk.old) (λ file.
         AllNumbers D.may_leave K.written K.faults dots (room file count) file disk.new out.old out.new)) }
+    ensures causes { RunCauses D.faults K.faults disk.old disk.new out.old out.new result }
 {
     let mut keeper = open_keeper(alloc, disk)?;
     let next = keeper.bodies().len() as u64 + 1;
@@ -44,11 +49,15 @@ fn are_in_order(alloc: Global, found: &[Body], dots: usize) -> Result<bool, Memo
     Ok(true)
 }
 
-/// How many blocks the file has, and whether they are those of 1, 2, 3 and so on.
+/// How many blocks the file has, and whether they are those of 1, 2, 3 and so on. The disk keeps its blocks, whatever the answer,
+/// and the fault is `Disk` only where its count of faults rose.
 pub fn count<D: Disk>(alloc: Global, disk: &mut D, dots: usize) -> Result<(usize, bool), RunFault>
     ensures blocks { IfOk result (λ found. WhereTold (D.bytes disk.old) (λ file. found.0 ≡ length (whole_blocks file))) }
     ensures in_order { IfOk result (λ found. WhereTold (D.bytes disk.old) (λ file.
         IsTrue found.1 ↔ (whole_blocks file ≡ bodies dots 1 (length (whole_blocks file))))) }
+    ensures every_moment { WhereTold (D.bytes disk.old) (λ file. Only file (D.may_leave disk.old) →
+        LeavesOnly D.moment D.left_since disk.old disk.new (λ image. whole_blocks image ≡ whole_blocks file)) }
+    ensures cause { IsErrOf result RunFault.Disk → Rose (D.faults disk.old) (D.faults disk.new) }
 {
     let keeper = open_keeper(alloc, disk)?;
     let found = keeper.bodies();

@@ -1,5 +1,5 @@
 -- What private functions and proofs alone say of it, beside `specs/Model.antt`.
-use Rattle.std.specs.Prelude.{◌≡◌, ℕ, ◌+◌, List, [], ◌∷◌, ◌++◌}
+use Rattle.std.specs.Prelude.{◌≡◌, ℕ, List, [], ◌∷◌, ◌++◌}
 use Rattle.fx_disk.specs.declared.call.Call.{Call}
 use Rattle.fx_disk.specs.declared.call.Call.TheVariants.{Wrote}
 use Rattle.fx_disk.specs.Model.{Tape}

@@ -28,4 +28,5 @@ returns-clause-called c =
     let counted = ap (λ (d : FailingDisk). d.faults) c.self.view_is in
     Called-added (λ (d : FailingDisk). d.tape) (λ (d : FailingDisk). d.faults) c.args.self.now _ _ Synced
     (subst (λ (t : Tape). Added t Synced c.note_sync.new.self) was c.in-Ok-note_sync.ensures.noted)
-    (omega (arith, counted, c.in-Ok.ensures.count)) (λ failed. absurd (cc)) (λ memory. absurd (cc))
+    (omega (arith, counted, c.in-Ok.ensures.count)) (λ failed. absurd (cc))
+    (λ _. counted ∙ ap (λ (d : FailingDisk). d.faults) c.in-Ok.ensures.done) (λ memory. absurd (cc))
