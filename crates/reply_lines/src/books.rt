@@ -1,4 +1,4 @@
-ghost use Rattle.std.specs.Prelude.{◌≡◌, ◌<◌, ℕ, OnOk};
+ghost use Rattle.std.specs.Prelude.{◌≡◌, ◌<◌, ℕ, [], OnOk, OnErr};
 ghost use Rattle.fx_pieces.specs.Gathered.{Gathered};
 ghost use Rattle.fx_rules.specs.Session.{bank_count, pair_count};
 ghost use Rattle.reply_lines.specs.Books.{LocalBook, book_line, book_lines_below, books_below, books_text};
@@ -97,7 +97,7 @@ fn write_book<M: Market, K: Sink>(
     write_made(made, line, pieces, out)
 }
 
-/// Makes the line of a bank's local book of a pair.
+/// Makes the line of a bank's local book of a pair. At `Memory` it is empty.
 fn make_book<M: Market>(
     session: &Session,
     market: &M,
@@ -110,7 +110,9 @@ fn make_book<M: Market>(
     requires pair { pair < pair_count session.now }
     ensures ok { OnOk result ((books : ℕ → ℕ → LocalBook) → AreBooksOf M.stands session.now market.now books →
         line.new.items ≡ book_line session.now books bank pair) }
+    ensures memory { OnErr result (line.new.items ≡ []) }
 {
+    line.clear();
     let Outcome::Depth { bids, asks } = market.depth(bank, pair)? else {
         unreachable!()
     };

@@ -1,4 +1,4 @@
-ghost use Rattle.std.specs.Prelude.{◌≡◌, List, ◌<◌, ◌+◌, ◌++◌, length, replicate, IfOk, OnOk};
+ghost use Rattle.std.specs.Prelude.{◌≡◌, List, ◌<◌, ◌+◌, ◌++◌, length, replicate, IfOk, OnOk, OnErr};
 ghost use Rattle.fx_rules.specs.declared.outcome.Entry.{Entry};
 ghost use Rattle.std.specs.List.{flat_map};
 ghost use Rattle.fx_pieces.specs.Gathered.{Gathered};
@@ -72,6 +72,7 @@ impl Desk {
     fn add(&mut self, line: &[u8]) -> Result<(), Memory>
         requires line { 0 < length line.now }
         ensures ok { OnOk result (self.new ≡ with_line self.old line.now) }
+        ensures memory { OnErr result (self.new ≡ self.old) }
     {
         self.lines.extend_from_slice(line)?;
         self.count += 1;

@@ -1,4 +1,4 @@
-ghost use Rattle.std.specs.Prelude.{◌≡◌, ℕ, List, OnOk};
+ghost use Rattle.std.specs.Prelude.{◌≡◌, ℕ, List, [], OnOk, OnErr};
 ghost use Rattle.std.specs.List.{flat_map};
 ghost use Rattle.fx_pieces.specs.Gathered.{Gathered};
 ghost use Rattle.fx_rules.specs.Lists.{Each};
@@ -17,10 +17,11 @@ pub(crate) trait Print {
     // The line, with its line feed.
     ghost text: { Header → Self → List ℕ };
 
-    /// Makes the line anew.
+    /// Makes the line anew. At `Memory` it is empty.
     fn make_line(&self, session: &Session, line: &mut Vec<u8>) -> Result<(), Memory>
         requires fits { fits session.now self.now }
-        ensures ok { OnOk result (line.new.items ≡ text session.now self.now) };
+        ensures ok { OnOk result (line.new.items ≡ text session.now self.now) }
+        ensures memory { OnErr result (line.new.items ≡ []) };
 }
 
 /// Writes a line of each item.
@@ -45,7 +46,7 @@ pub(crate) fn write_lines<T: Print, K: Sink>(
 }
 
 /// Writes a line that was made, where there was memory for it.
-pub fn write_made<K: Sink>(
+pub(crate) fn write_made<K: Sink>(
     made: Result<(), Memory>,
     line: &[u8],
     pieces: &mut Pieces,

@@ -1,4 +1,4 @@
-ghost use Rattle.std.specs.Prelude.{◌≡◌, ◌∷◌, [], ◌<◌, ◌+◌, ◌++◌, codes, OnOk};
+ghost use Rattle.std.specs.Prelude.{◌≡◌, ◌∷◌, [], ◌<◌, ◌+◌, ◌++◌, codes, OnOk, OnErr};
 ghost use Rattle.fx_amounts.specs.Numeral.{numeral};
 ghost use Rattle.fx_amounts.specs.Quantity.{IsDecimals};
 ghost use Rattle.reply_lines.specs.Rows.{row, fields_text, side_text};
@@ -13,7 +13,7 @@ use fx_amounts::{BankId, Memory, PairId, Side, base_amount, quote_amount};
 use fx_rules::{Command, Fill, Level, Outcome, Session};
 
 /// Makes the line of the reply to a bank's command `number`, with its number `notice` on the desk.
-pub fn make_reply(
+pub(crate) fn make_reply(
     session: &Session,
     notice: u128,
     number: u32,
@@ -24,6 +24,7 @@ pub fn make_reply(
     requires { IsAnswerOf session.now command.now outcome.now }
     ensures ok { OnOk result (line.new.items ≡ row (numeral notice)
         (codes "REPLY" ∷ numeral number ∷ reply_fields session.now command.now outcome.now)) }
+    ensures memory { OnErr result (line.new.items ≡ []) }
 {
     begin_row(notice, line)?;
     push_field(b"REPLY", line)?;
@@ -41,6 +42,7 @@ fn push_outcome(
 ) -> Result<(), Memory>
     requires { IsAnswerOf session.now command.now outcome.now }
     ensures ok { OnOk result (line.new.items ≡ line.old.items ++ fields_text (reply_fields session.now command.now outcome.now)) }
+    ensures memory { OnErr result (line.new.items ≡ []) }
 {
     match outcome {
         Outcome::Ordered { filled, rests, .. } => push_counts(b"ORDERED", *filled, *rests, line),
@@ -72,6 +74,7 @@ fn push_outcome(
 /// Appends a word and a number.
 fn push_count(word: &[u8], count: u32, line: &mut Vec<u8>) -> Result<(), Memory>
     ensures ok { OnOk result (line.new.items ≡ line.old.items ++ fields_text (word.now ∷ numeral count ∷ [])) }
+    ensures memory { OnErr result (line.new.items ≡ []) }
 {
     push_field(word, line)?;
     push_number_field(u128::from(count), line)
@@ -80,6 +83,7 @@ fn push_count(word: &[u8], count: u32, line: &mut Vec<u8>) -> Result<(), Memory>
 /// Appends a word and two numbers.
 fn push_counts(word: &[u8], first: u32, second: u32, line: &mut Vec<u8>) -> Result<(), Memory>
     ensures ok { OnOk result (line.new.items ≡ line.old.items ++ fields_text (word.now ∷ numeral first ∷ numeral second ∷ [])) }
+    ensures memory { OnErr result (line.new.items ≡ []) }
 {
     push_count(word, first, line)?;
     push_number_field(u128::from(second), line)
@@ -96,7 +100,7 @@ fn booked_pair(command: &Command) -> PairId
 }
 
 /// Appends a pair and the levels of a local book of it.
-pub fn push_book(
+pub(crate) fn push_book(
     session: &Session,
     pair: PairId,
     bids: &[Level],
@@ -105,6 +109,7 @@ pub fn push_book(
 ) -> Result<(), Memory>
     requires { pair < pair_count session.now }
     ensures ok { OnOk result (line.new.items ≡ line.old.items ++ fields_text (book_fields session.now pair bids.now asks.now)) }
+    ensures memory { OnErr result (line.new.items ≡ []) }
 {
     let rule = session.rule(pair);
     push_field(&rule.text(), line)?;
@@ -118,6 +123,7 @@ pub fn push_book(
 fn push_levels(decimals: u8, levels: &[Level], line: &mut Vec<u8>) -> Result<(), Memory>
     requires { IsDecimals decimals }
     ensures ok { OnOk result (line.new.items ≡ line.old.items ++ fields_text (level_fields decimals levels.now)) }
+    ensures memory { OnErr result (line.new.items ≡ []) }
 {
     for level in levels {
         push_price_field(level.price, decimals, line)?;
@@ -128,7 +134,7 @@ fn push_levels(decimals: u8, levels: &[Level], line: &mut Vec<u8>) -> Result<(),
 
 /// Makes the line of a fill as one of its banks sees it, with its number on the desk: its own order's number and side,
 /// and the other bank.
-pub fn make_fill(
+pub(crate) fn make_fill(
     session: &Session,
     number: u128,
     own_number: u32,
@@ -140,6 +146,7 @@ pub fn make_fill(
     requires pair { fill.now.pair < pair_count session.now }
     requires other { other < bank_count session.now }
     ensures ok { OnOk result (line.new.items ≡ row (numeral number) (fill_fields session.now own_number side other fill.now)) }
+    ensures memory { OnErr result (line.new.items ≡ []) }
 {
     begin_row(number, line)?;
     push_own_side(own_number, side, line)?;
@@ -152,6 +159,7 @@ pub fn make_fill(
 /// Appends the word of a fill, and the number and side of the bank's own order.
 fn push_own_side(own_number: u32, side: Side, line: &mut Vec<u8>) -> Result<(), Memory>
     ensures ok { OnOk result (line.new.items ≡ line.old.items ++ fields_text (codes "FILL" ∷ numeral own_number ∷ side_text side ∷ [])) }
+    ensures memory { OnErr result (line.new.items ≡ []) }
 {
     push_field(b"FILL", line)?;
     push_number_field(u128::from(own_number), line)?;
@@ -162,6 +170,7 @@ fn push_own_side(own_number: u32, side: Side, line: &mut Vec<u8>) -> Result<(), 
 fn push_trade(session: &Session, fill: &Fill, line: &mut Vec<u8>) -> Result<(), Memory>
     requires pair { fill.now.pair < pair_count session.now }
     ensures ok { OnOk result (line.new.items ≡ line.old.items ++ fields_text (trade_fields session.now fill.now)) }
+    ensures memory { OnErr result (line.new.items ≡ []) }
 {
     let rule = session.rule(fill.pair);
     push_field(&rule.text(), line)?;
@@ -173,6 +182,7 @@ fn push_trade(session: &Session, fill: &Fill, line: &mut Vec<u8>) -> Result<(), 
 fn push_amounts(session: &Session, fill: &Fill, line: &mut Vec<u8>) -> Result<(), Memory>
     requires pair { fill.now.pair < pair_count session.now }
     ensures ok { OnOk result (line.new.items ≡ line.old.items ++ fields_text (amount_fields session.now fill.now)) }
+    ensures memory { OnErr result (line.new.items ≡ []) }
 {
     let rule = session.rule(fill.pair);
     push_number_field(u128::from(base_amount(fill.lots, rule.lot)), line)?;
@@ -200,7 +210,7 @@ pub(crate) fn name_of(session: &Session, bank: BankId) -> &[u8]
 }
 
 /// Makes the line that begins a bank's desk.
-pub fn make_desk(
+pub(crate) fn make_desk(
     session: &Session,
     bank: BankId,
     count: u128,
@@ -208,6 +218,7 @@ pub fn make_desk(
 ) -> Result<(), Memory>
     requires { bank < bank_count session.now }
     ensures ok { OnOk result (line.new.items ≡ row (codes "DESK") (bank_name session.now bank ∷ numeral count ∷ [])) }
+    ensures memory { OnErr result (line.new.items ≡ []) }
 {
     begin_word_row(b"DESK", line)?;
     push_field(name_of(session, bank), line)?;
@@ -216,8 +227,9 @@ pub fn make_desk(
 }
 
 /// Makes the line of a word and a number.
-pub fn make_count(word: &[u8], count: u128, line: &mut Vec<u8>) -> Result<(), Memory>
+pub(crate) fn make_count(word: &[u8], count: u128, line: &mut Vec<u8>) -> Result<(), Memory>
     ensures ok { OnOk result (line.new.items ≡ row word.now (numeral count ∷ [])) }
+    ensures memory { OnErr result (line.new.items ≡ []) }
 {
     begin_word_row(word, line)?;
     push_number_field(count, line)?;

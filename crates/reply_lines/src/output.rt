@@ -16,6 +16,7 @@ use crate::desk::{Desk, desks_of, write_desks};
 use crate::lines::{Print, write_lines, write_made};
 use crate::notices::make_count;
 use crate::report::write_report;
+use crate::row::end_row;
 use day_report::{Report, report};
 use fx_amounts::Memory;
 use fx_edges::{Sink, SinkFault};
@@ -361,7 +362,6 @@ impl Print for Entry {
     fn make_line(&self, session: &Session, line: &mut Vec<u8>) -> Result<(), Memory> {
         line.clear();
         command_text(session, self.bank, &self.command, line)?;
-        line.push(b'\n')?;
-        Ok(())
+        end_row(line)
     }
 }

@@ -1,4 +1,4 @@
-ghost use Rattle.std.specs.Prelude.{◌≡◌, ◌∷◌, ◌++◌, [], OnOk};
+ghost use Rattle.std.specs.Prelude.{◌≡◌, ◌∷◌, ◌++◌, [], IsErr, OnOk, OnErr};
 ghost use Rattle.fx_amounts.specs.Numeral.{numeral};
 ghost use Rattle.fx_amounts.specs.PriceText.{price_text};
 ghost use Rattle.fx_amounts.specs.Quantity.{IsDecimals};
@@ -7,17 +7,22 @@ ghost use Rattle.fx_text.specs.Number.{signed_numeral};
 use fx_amounts::{Memory, Price};
 use fx_text::{push_number, push_price, push_signed};
 
+// A line is made in a buffer, field by field. At `Memory` each of these calls leaves it empty, so that no part of a line is
+// taken for a line.
+
 /// Begins a line anew with its first field, a number.
-pub fn begin_row(first: u128, line: &mut Vec<u8>) -> Result<(), Memory>
+pub(crate) fn begin_row(first: u128, line: &mut Vec<u8>) -> Result<(), Memory>
     ensures ok { OnOk result (line.new.items ≡ numeral first) }
+    ensures memory { OnErr result (line.new.items ≡ []) }
 {
     line.clear();
     push_number(first, line)
 }
 
 /// Begins a line anew with its first field, a word.
-pub fn begin_word_row(first: &[u8], line: &mut Vec<u8>) -> Result<(), Memory>
+pub(crate) fn begin_word_row(first: &[u8], line: &mut Vec<u8>) -> Result<(), Memory>
     ensures ok { OnOk result (line.new.items ≡ first.now) }
+    ensures memory { OnErr result (line.new.items ≡ []) }
 {
     line.clear();
     line.extend_from_slice(first)?;
@@ -25,43 +30,77 @@ pub fn begin_word_row(first: &[u8], line: &mut Vec<u8>) -> Result<(), Memory>
 }
 
 /// Appends a field behind a space.
-pub fn push_field(text: &[u8], line: &mut Vec<u8>) -> Result<(), Memory>
+pub(crate) fn push_field(text: &[u8], line: &mut Vec<u8>) -> Result<(), Memory>
     ensures ok { OnOk result (line.new.items ≡ line.old.items ++ 32 ∷ text.now) }
+    ensures memory { OnErr result (line.new.items ≡ []) }
 {
-    line.push(b' ')?;
-    line.extend_from_slice(text)?;
-    Ok(())
+    push_byte(b' ', line)?;
+    match line.extend_from_slice(text) {
+        Ok(()) => Ok(()),
+        Err(_) => give_up(line),
+    }
 }
 
 /// Appends a number behind a space.
-pub fn push_number_field(value: u128, line: &mut Vec<u8>) -> Result<(), Memory>
+pub(crate) fn push_number_field(value: u128, line: &mut Vec<u8>) -> Result<(), Memory>
     ensures ok { OnOk result (line.new.items ≡ line.old.items ++ 32 ∷ numeral value) }
+    ensures memory { OnErr result (line.new.items ≡ []) }
 {
-    line.push(b' ')?;
-    push_number(value, line)
+    push_byte(b' ', line)?;
+    match push_number(value, line) {
+        Ok(()) => Ok(()),
+        Err(Memory) => give_up(line),
+    }
 }
 
 /// Appends a number with its sign, where it is below 0, behind a space.
-pub fn push_signed_field(value: i128, line: &mut Vec<u8>) -> Result<(), Memory>
+pub(crate) fn push_signed_field(value: i128, line: &mut Vec<u8>) -> Result<(), Memory>
     ensures ok { OnOk result (line.new.items ≡ line.old.items ++ 32 ∷ signed_numeral value) }
+    ensures memory { OnErr result (line.new.items ≡ []) }
 {
-    line.push(b' ')?;
-    push_signed(value, line)
+    push_byte(b' ', line)?;
+    match push_signed(value, line) {
+        Ok(()) => Ok(()),
+        Err(Memory) => give_up(line),
+    }
 }
 
 /// Appends a price behind a space.
-pub fn push_price_field(price: Price, decimals: u8, line: &mut Vec<u8>) -> Result<(), Memory>
+pub(crate) fn push_price_field(price: Price, decimals: u8, line: &mut Vec<u8>) -> Result<(), Memory>
     requires { IsDecimals decimals }
     ensures ok { OnOk result (line.new.items ≡ line.old.items ++ 32 ∷ price_text decimals price) }
+    ensures memory { OnErr result (line.new.items ≡ []) }
 {
-    line.push(b' ')?;
-    push_price(price, decimals, line)
+    push_byte(b' ', line)?;
+    match push_price(price, decimals, line) {
+        Ok(()) => Ok(()),
+        Err(Memory) => give_up(line),
+    }
 }
 
 /// Ends a line.
-pub fn end_row(line: &mut Vec<u8>) -> Result<(), Memory>
+pub(crate) fn end_row(line: &mut Vec<u8>) -> Result<(), Memory>
     ensures ok { OnOk result (line.new.items ≡ line.old.items ++ 10 ∷ []) }
+    ensures memory { OnErr result (line.new.items ≡ []) }
 {
-    line.push(b'\n')?;
-    Ok(())
+    push_byte(b'\n', line)
+}
+
+fn push_byte(byte: u8, line: &mut Vec<u8>) -> Result<(), Memory>
+    ensures ok { OnOk result (line.new.items ≡ line.old.items ++ byte ∷ []) }
+    ensures memory { OnErr result (line.new.items ≡ []) }
+{
+    match line.push(byte) {
+        Ok(()) => Ok(()),
+        Err(_) => give_up(line),
+    }
+}
+
+/// Empties a line that there was no memory for.
+fn give_up(line: &mut Vec<u8>) -> Result<(), Memory>
+    ensures refused { IsErr result }
+    ensures memory { line.new.items ≡ [] }
+{
+    line.clear();
+    Err(Memory)
 }
