@@ -90,6 +90,19 @@ fn agreeing(text: &[u8], piece: &[u8]) -> usize
     ensures same { take result text.now ≡ take result piece.now }
     ensures differs { result < length piece.now → slice_get text.now result ≢ slice_get piece.now result }
 {
+    // A whole piece is compared many bytes at a time.
+    if text.starts_with(piece) {
+        return piece.len();
+    }
+    agreeing_by_bytes(text, piece)
+}
+
+fn agreeing_by_bytes(text: &[u8], piece: &[u8]) -> usize
+    ensures in_text { result ≤ length text.now }
+    ensures in_piece { result ≤ length piece.now }
+    ensures same { take result text.now ≡ take result piece.now }
+    ensures differs { result < length piece.now → slice_get text.now result ≢ slice_get piece.now result }
+{
     for (at, byte) in piece.iter().enumerate() {
         if text.get(at) != Some(byte) {
             return at;
