@@ -9,7 +9,7 @@ ghost use Rattle.pair_steps.specs.Sending.{pair_of};
 ghost use Rattle.credit_table.specs.Table.{is_of_no_pair};
 
 use crate::change::change_all;
-use crate::locks::{lock_pair, tell_all};
+use crate::locks::{lock_pair, lock_soon, tell_all};
 use credit_book::SignedBook;
 use fx_amounts::{BankId, Memory, PairId, Units};
 use fx_chronicle::Naming;
@@ -69,7 +69,7 @@ impl<N: Naming> Host<N> {
         let _turn = self.turn.read(rt);
         let mut shard = lock_pair(rt, &self.shards, pair);
         gate.inside(rt, pair);
-        let mut credit = self.credit.lock(rt);
+        let mut credit = lock_soon(rt, &self.credit);
         shard.serve(self.alloc, &mut credit.book, pass, command)
     }
 
@@ -91,7 +91,7 @@ impl<N: Naming> Host<N> {
     {
         let _alone = self.turn.write(rt);
         tell_all(rt, gate, self.shards.len());
-        let mut credit = self.credit.lock(rt);
+        let mut credit = lock_soon(rt, &self.credit);
         change_all(
             rt,
             self.alloc,
@@ -117,7 +117,7 @@ impl<N: Naming> Host<N> {
         ensures submitted { IfOk result (Submitted N.session pass.old.key pass.old.seen (own pass.old.key pass.old.met) command.now pass.new.seen (own pass.new.key pass.new.met)) }
         ensures memory { OnErr result (pass.new ≡ pass.old) }
     {
-        let mut credit = self.credit.lock(rt);
+        let mut credit = lock_soon(rt, &self.credit);
         credit.book.serve(pass, command)
     }
 
@@ -137,7 +137,7 @@ impl<N: Naming> Host<N> {
         ensures bank { pass.new.key ≡ pass.old.key }
         ensures memory { OnErr result (pass.new ≡ pass.old) }
     {
-        let mut credit = self.credit.lock(rt);
+        let mut credit = lock_soon(rt, &self.credit);
         let entries = copied_from(self.alloc, credit.book.entries(), start)?;
         credit.book.catch_up_pass(pass);
         Ok(EntryList::from_vec(entries))

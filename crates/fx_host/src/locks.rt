@@ -1,4 +1,4 @@
-//! The locks of the pairs.
+//! The locks of the pairs and of the credit book.
 ghost use Rattle.std.specs.Prelude.{◌≡◌, ◌<◌, ◌≤◌, length};
 ghost use Rattle.std.specs.Sync.Mutex.{mutex_guard_value};
 ghost use Rattle.fx_rules.specs.Keyed.{pair_key};
@@ -7,7 +7,23 @@ use fx_amounts::PairId;
 use fx_chronicle::Naming;
 use fx_rules::Gate;
 use pair_shards::Shard;
+use std::hint::spin_loop;
 use std::sync::{Mutex, MutexGuard, Wait};
+
+/// How often a lock is looked for before a thread sleeps until it is free. One look takes some hundredths of a microsecond, and a
+/// command has the locks for a few microseconds.
+const LOOKS: u32 = 400;
+
+/// The guard of a lock, which the thread first looks for a while: to sleep and to be woken takes longer than most commands do.
+pub(crate) fn lock_soon<'a, T, R: Wait>(rt: &R, lock: &'a Mutex<T>) -> MutexGuard<'a, T> {
+    for _look in 0..LOOKS {
+        if let Some(guard) = lock.try_lock() {
+            return guard;
+        }
+        spin_loop();
+    }
+    lock.lock(rt)
+}
 
 /// The pair at a place of the header.
 pub(crate) fn pair_at(place: usize) -> PairId
@@ -29,7 +45,7 @@ pub(crate) fn lock_pair<'a, R: Wait, N: Naming>(
     ensures key { (mutex_guard_value result).front.key ≡ pair_key pair }
 {
     for _ in rt.forever() {
-        let shard = shards[pair.index()].lock(rt);
+        let shard = lock_soon(rt, &shards[pair.index()]);
         if shard.pair() == pair {
             return shard;
         }
