@@ -1,11 +1,11 @@
 -- How chunks lie after an edit of one of them.
-use Rattle.std.proofs.Common.{ℕ, zero, suc, ◌≡◌, ◌+◌, ◌*◌, ◌≤◌, ◌<◌, min, Bool, true, cond, List, [], ◌∷◌, ◌++◌, length, get_or, take, drop, Some, Bor, inl, inr, refl, ap, sym, subst, ◌∙◌, arith, add-one, length-append, length-drop}
+use Rattle.std.proofs.Common.{ℕ, zero, suc, ◌≡◌, ◌+◌, ◌-◌, ◌*◌, ◌≤◌, ◌<◌, min, Bool, true, cond, List, [], ◌∷◌, ◌++◌, length, get_or, take, drop, Some, None, Bor, inl, inr, refl, ap, sym, subst, ◌∙◌, arith, add-one, length-append, length-drop}
 use Rattle.std.proofs.Math.ListN.{set, length-set}
 use Rattle.std.proofs.lemmas.Bool.{cases_lt, cases_eq, cond-true}
 use Rattle.std.proofs.lemmas.List.{take_all, take-append-le, take-append-drop, length-take-le, get_or_default, get_or-set_same, get_or-set_other}
 use Rattle.std.proofs.lemmas.List.Edits.{length-insert, get_or-remove_below}
 use Rattle.std.proofs.lemmas.List.Elements.{All-append, All-cons, All-take, All-drop, All-set, All-pop, All-get_or}
-use Rattle.std.proofs.lemmas.Option.{slice_get-get_or}
+use Rattle.std.proofs.lemmas.Option.{slice_get-get_or, slice_get_past}
 use Rattle.std.specs.List.{All, insert, remove, slice_get}
 use Rattle.std.specs.Slice.{IsItemAt}
 use Rattle.price_levels.specs.declared.place.Place.{Place}
@@ -13,7 +13,7 @@ use Rattle.price_levels.specs.declared.spot.Spot.{Spot}
 use Rattle.price_levels.specs.declared.chunks.Chunks.{Chunks}
 use Rattle.price_levels.specs.inside.Held.{Held}
 use Rattle.price_levels.specs.inside.Layout.{places_of, offset, no_chunk, chunk_at, IsSpot, IsChunk, IsSpare, IsLaidOut, FitsNext, IsHalved, AreWidened}
-use Rattle.price_levels.proofs.Chunking.{start, halved_at, joined_at, places_of-halved, ends_within, crowded}
+use Rattle.price_levels.proofs.Chunking.{start, start-next, halved_at, joined_at, places_of-halved, ends_within, crowded}
 use Rattle.price_levels.proofs.Parting.{place_at}
 
 -- a read with a default of its own
@@ -137,6 +137,30 @@ spot_read cs slice spot chunk same item (inl here) =
     ∙ sym (slice_get-get_or (places_of cs) (offset cs spot) d (omega (arith, ends_within cs spot.chunk here.0, here.1)))
 spot_read cs slice spot chunk same item (inr past) =
     absurd (omega (arith, item.3.0, ap length same, past.0))
+
+-- the place at an index behind those of the first k chunks
+pub read_within : (cs : List Held) (k rest at : ℕ) (c : Held) → k < length cs → c ≡ get_or cs k c → rest + start cs k ≡ at → rest < length c.places
+    → slice_get c.places rest ≡ slice_get (places_of cs) at
+read_within cs k rest at c within read index upto =
+    let d : Place = record { price = 0; arrival = 0; key = 0 } in
+    let is : c ≡ chunk_at cs k = read_chunk cs k c within read in
+    let here : rest < length (chunk_at cs k).places = omega (arith, ap (λ (h : Held). length h.places) is) in
+    let there : start cs k + rest ≡ at = omega arith in
+    ap (λ (h : Held). slice_get h.places rest) is
+    ∙ slice_get-get_or (chunk_at cs k).places rest d here
+    ∙ ap Some (sym (place_at cs k rest d within here))
+    ∙ sym (slice_get-get_or (places_of cs) (start cs k + rest) d (omega (arith, ends_within cs k within)))
+    ∙ ap (slice_get (places_of cs)) there
+
+pub index_behind : (cs : List Held) (k rest at : ℕ) (c : Held) → k < length cs → c ≡ get_or cs k c → rest + start cs k ≡ at → length c.places ≤ rest
+    → rest - length c.places + start cs (k + 1) ≡ at
+index_behind cs k rest at c within read index past =
+    let is : c ≡ chunk_at cs k = read_chunk cs k c within read in
+    rw (add-one) (omega (arith, start-next cs k within, ap (λ (h : Held). length h.places) is))
+
+pub none_behind : (cs : List Held) (k rest at : ℕ) → length cs ≤ k → rest + start cs k ≡ at → None ≡ slice_get (places_of cs) at
+none_behind cs k rest at past index =
+    sym (slice_get_past (places_of cs) at (omega (arith, ap (λ (ys : List Held). length (places_of ys)) (take_all k cs past))))
 
 -- a chunk that has as many places as there are at most in one
 pub many : (c : Chunks) (k : ℕ) → IsLaidOut c → c.count < c.most → k < length c.chunks.items → 128 ≤ length (chunk_at c.chunks.items k).places → 128 < c.most

@@ -326,6 +326,20 @@ impl Chunks {
     }
 }
 
+/// The place at an index among those of all chunks; `None` behind the last one.
+pub(crate) fn nth(chunks: &[Chunk], at: usize) -> Option<Place>
+    ensures { result ≡ slice_get (places_of chunks.now) at }
+{
+    let mut rest = at;
+    for chunk in chunks {
+        if rest < chunk.len() {
+            return chunk.get(rest);
+        }
+        rest -= chunk.len();
+    }
+    None
+}
+
 /// How many chunks serve for so many places, however they come and go.
 fn chunks_for(places: usize) -> usize
     ensures one { 1 ≤ result }

@@ -3,7 +3,7 @@ ghost use Rattle.std.specs.List.{Contains};
 ghost use Rattle.price_levels.specs.Ladder.{IsSorted, IsNewArrival, Gains, Loses, first_where};
 ghost use Rattle.price_levels.specs.Ladder as ladder;
 
-use crate::chunks::Chunks;
+use crate::chunks::{Chunks, nth};
 use crate::cut::Cut;
 use crate::place::Place;
 use crate::spot::Spot;
@@ -88,6 +88,15 @@ impl Levels {
         self.chunks.remove(spot);
     }
 
+    /// The place at an index of the whole row; `None` where there is none. It counts no step: it passes the chunks in front of
+    /// that place by their lengths, so that an index near the front is found in the first one.
+    pub fn get(&self, at: usize) -> Option<Place>
+        ensures place { result ≡ slice_get self.now.places at }
+        ensures sorted { IsSorted self.now.side self.now.places }
+    {
+        nth(&self.chunks.chunks, at)
+    }
+
     /// The first place of all; `None` where there is none.
     pub fn front<L: Ledger>(&self, steps: &mut Steps<L>) -> Option<Place>
         ensures first { result ≡ slice_get self.now.places 0 }
@@ -116,6 +125,14 @@ impl Levels {
         ensures sorted { IsSorted self.now.side self.now.places }
     {
         steps.tick();
+        self.first_from(place)
+    }
+
+    /// The same as `from`, for a caller that counts no steps.
+    pub fn first_from(&self, place: &Place) -> Option<Place>
+        ensures first { result ≡ first_where (λ other. not (ladder.sorts_before self.now.side other place.now)) self.now.places }
+        ensures sorted { IsSorted self.now.side self.now.places }
+    {
         let spot = self.chunks.find(self.side, Cut::Before(place));
         self.chunks.get(spot)
     }
