@@ -1,17 +1,17 @@
-ghost use Rattle.std.specs.Prelude.{◌≡◌, List, ◌<◌, ◌+◌, ◌++◌, length, replicate, IfOk, OnOk, OnErr};
+ghost use Rattle.std.specs.Prelude.{◌≡◌, ◌==◌, if◌then◌else◌, List, [], ◌∷◌, ◌<◌, ◌+◌, ◌++◌, length, replicate, IfOk, OnOk, OnErr};
 ghost use Rattle.fx_rules.specs.declared.outcome.Entry.{Entry};
 ghost use Rattle.std.specs.List.{flat_map};
 ghost use Rattle.fx_pieces.specs.Gathered.{Gathered};
 ghost use Rattle.fx_rules.specs.Lists.{Each};
-ghost use Rattle.fx_rules.specs.Session.{bank_count};
-ghost use Rattle.reply_lines.specs.inside.Desks.{nothing_yet, with_line, HaveGot, AreDesksOf};
-ghost use Rattle.reply_lines.specs.Notices.{reply_notices, taken_notices, given_notices, fill_notices, notices_in, desk_line, desk_text};
+ghost use Rattle.fx_rules.specs.Session.{bank_count, pair_count};
+ghost use Rattle.reply_lines.specs.inside.Desks.{nothing_yet, with_line, HaveGot, AreDesksOf, IsNoticeTo};
+ghost use Rattle.reply_lines.specs.Notices.{Notice, reply_notices, fill_notices, notices_in, desk_line, desk_text};
 ghost use Rattle.reply_lines.specs.Output.{desks_text};
 ghost use Rattle.reply_lines.specs.Prints.{IsAnswerOf, IsFillOf, IsEntryOf};
 
 use crate::lines::write_made;
 use crate::notices::{make_desk, make_fill, make_reply};
-use fx_amounts::{BankId, Memory};
+use fx_amounts::{BankId, Memory, Side};
 use fx_edges::{Sink, SinkFault};
 use fx_pieces::Pieces;
 use fx_rules::{Entry, Fill, Session};
@@ -164,6 +164,15 @@ fn add_fills(
     Ok(())
 }
 
+/// One of the two banks of a fill, with the number and side of its own order.
+#[derive(Clone, Copy)]
+struct Party {
+    bank: BankId,
+    number: u32,
+    side: Side,
+    other: BankId,
+}
+
 /// Adds a fill to its taker's desk and to its maker's.
 fn add_fill(
     session: &Session,
@@ -175,55 +184,45 @@ fn add_fill(
     requires desks { length desks.old.items ≡ bank_count session.now }
     ensures ok { OnOk result (HaveGot session.now (λ bank. fill_notices bank fill.now) desks.old.items desks.new.items) }
 {
-    add_taken(session, fill, desks, line)?;
-    add_given(session, fill, desks, line)
+    let taker = Party {
+        bank: fill.taker,
+        number: fill.taker_number,
+        side: fill.taker_side,
+        other: fill.maker,
+    };
+    let maker = Party {
+        bank: fill.maker,
+        number: fill.maker_number,
+        side: fill.taker_side.opposite(),
+        other: fill.taker,
+    };
+    add_notice(session, fill, &taker, desks, line)?;
+    add_notice(session, fill, &maker, desks, line)
 }
 
-/// Adds a fill to its taker's desk.
-fn add_taken(
+/// Adds a fill to the desk of one of its banks.
+fn add_notice(
     session: &Session,
     fill: &Fill,
+    party: &Party,
     desks: &mut Vec<Desk>,
     line: &mut Vec<u8>,
 ) -> Result<(), Memory>
-    requires fill { IsFillOf session.now fill.now }
-    requires desks { length desks.old.items ≡ bank_count session.now }
-    ensures ok { OnOk result (HaveGot session.now (λ bank. taken_notices bank fill.now) desks.old.items desks.new.items) }
+    requires pair { fill.now.pair < pair_count session.now }
+    requires bank { party.now.bank < length desks.old.items }
+    requires other { party.now.other < bank_count session.now }
+    ensures ok { OnOk result ((notice : Notice) →
+        IsNoticeTo session.now fill.now party.now notice →
+        HaveGot session.now (λ bank. if party.now.bank == bank then notice ∷ [] else []) desks.old.items desks.new.items) }
 {
-    let desk = &mut desks[fill.taker.index()];
-    let number = desk.next_number();
+    let desk = &mut desks[party.bank.index()];
+    let notice = desk.next_number();
     make_fill(
         session,
-        number,
-        fill.taker_number,
-        fill.taker_side,
-        fill.maker,
-        fill,
-        line,
-    )?;
-    desk.add(line)
-}
-
-/// Adds a fill to its maker's desk.
-fn add_given(
-    session: &Session,
-    fill: &Fill,
-    desks: &mut Vec<Desk>,
-    line: &mut Vec<u8>,
-) -> Result<(), Memory>
-    requires fill { IsFillOf session.now fill.now }
-    requires desks { length desks.old.items ≡ bank_count session.now }
-    ensures ok { OnOk result (HaveGot session.now (λ bank. given_notices bank fill.now) desks.old.items desks.new.items) }
-{
-    let desk = &mut desks[fill.maker.index()];
-    let number = desk.next_number();
-    let side = fill.taker_side.opposite();
-    make_fill(
-        session,
-        number,
-        fill.maker_number,
-        side,
-        fill.taker,
+        notice,
+        party.number,
+        party.side,
+        party.other,
         fill,
         line,
     )?;

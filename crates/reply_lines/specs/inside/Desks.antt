@@ -1,8 +1,12 @@
 -- Each bank's desk, gathered in one walk over a history.
 use Rattle.std.specs.Prelude.{ℕ, ◌≡◌, ◌<◌, ◌+◌, List, [], ◌∷◌, ◌++◌, length, slice_index_or}
+use Rattle.fx_amounts.specs.Numeral.{numeral}
+use Rattle.fx_rules.specs.declared.orders.Fill.{Fill}
 use Rattle.fx_rules.specs.declared.outcome.Entry.{Entry}
 use Rattle.fx_rules.specs.Session.{Header, bank_count}
-use Rattle.reply_lines.specs.Notices.{Notice, notice_line, notice_lines, notices}
+use Rattle.reply_lines.specs.declared.desk.Party.{Party}
+use Rattle.reply_lines.specs.Rows.{row}
+use Rattle.reply_lines.specs.Notices.{Notice, notice_line, notice_lines, notices, fill_fields}
 
 -- how many notices a desk has so far, and their lines
 pub record DeskSoFar : Type 0 where
@@ -27,6 +31,11 @@ with_notice h desk notice = with_line desk (notice_line h (desk.count + 1) notic
 abbrev pub with_notices : Header → DeskSoFar → List Notice → DeskSoFar
 with_notices h desk [] = desk
 with_notices h desk (notice ∷ more) = with_notices h (with_notice h desk notice) more
+
+-- a notice tells one of its banks of a fill
+abbrev pub IsNoticeTo : Header → Fill → Party → Notice → Type 0
+IsNoticeTo h fill party notice =
+    (number : ℕ) → notice_line h number notice ≡ row (numeral number) (fill_fields h party.number party.side party.other fill)
 
 -- each bank's desk got some more notices
 pub record HaveGot (h : Header) (more : ℕ → List Notice) (before after : List DeskSoFar) : Type 0 where
