@@ -2,17 +2,12 @@
 use Rattle.std.proofs.Common.{ℕ, ◌≡◌, ◌≢◌, eqb, ltb, List, [], ◌∷◌, ◌++◌, ◌⊎◌, Some, inl, inr, sym, ◌∙◌}
 use Rattle.std.proofs.lemmas.Bool.{cond_both, cond-true, cond-false, eq-eqb, ne_eqb}
 use Rattle.fx_rules.specs.declared.orders.Resting.{Resting}
-use Rattle.fx_rules.specs.Lists.{Among, Each}
+use Rattle.fx_rules.specs.Lists.{Each}
 use Rattle.fx_rules.proofs.ListLemmas.{Each-append}
-use Rattle.global_book.specs.Book.{first}
 use Rattle.credit_raise.specs.inside.Playing.{other_of, joined}
 
 pub some_same : (a b : Resting) → Some a ≡ Some b → a ≡ b
 some_same a b same = cc
-
-pub first_among : (xs : List Resting) (o : Resting) → first xs ≡ Some o → Among o xs
-first_among [] o is = cc
-first_among (x ∷ xs) o is = inl (sym (some_same x o is))
 
 -- what waits after a turn
 pub Each-joined : (P : Resting → Type 0) (order : Resting) (left : ℕ) (waiting : List Resting) → Each P waiting → P (record order { left = left }) → Each P (joined order left waiting)

@@ -203,7 +203,7 @@ impl PairBook {
         buys + sells
     }
 
-    /// Takes a bank's orders of a side out, from the best one on.
+    /// Takes a bank's orders of a side out, from the best one on, and answers how many they were.
     fn pull_side<L: Ledger>(&mut self, bank: BankId, side: Side, steps: &mut Steps<L>) -> u32
         ensures count { result ≡ length (filter (is_own bank side) self.old.orders) }
         ensures pair { self.new.pair ≡ self.old.pair }

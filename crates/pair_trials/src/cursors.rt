@@ -193,7 +193,8 @@ fn find_alike<L: Ledger>(alloc: Global, pair: &mut Pair, blank: Blank) -> Result
         .count();
     let is_pulled = pair.book.pull(gone) as usize == pulled && all_but(pair, gone, &mut steps);
     pair.orders.retain(|order| order.bank != gone);
-    Ok(is_pulled && both_found_alike(alloc, pair, viewer, &mut steps)?)
+    let is_counted = pair.book.len() == pair.orders.len();
+    Ok(is_pulled && is_counted && both_found_alike(alloc, pair, viewer, &mut steps)?)
 }
 
 #[test]
