@@ -1,4 +1,4 @@
-ghost use Rattle.std.specs.Prelude.{ℕ, ◌≡◌, ◌+◌, ◌*◌, ◌≤◌, ◌<◌, ◌↔◌, min, true, false, None, [], ◌∷◌, length, slice_get, OnOk, IfSome, IsTrue};
+ghost use Rattle.std.specs.Prelude.{ℕ, ◌≡◌, ◌+◌, ◌*◌, ◌≤◌, ◌<◌, ◌↔◌, min, true, false, None, [], ◌∷◌, ◌++◌, length, slice_get, OnOk, IfSome, IsTrue};
 ghost use Rattle.std.specs.List.{All, insert, remove};
 ghost use Rattle.std.specs.List.Sorted.{IsPartitionPoint};
 ghost use Rattle.price_levels.specs.Ladder.{IsSorted};
@@ -218,8 +218,8 @@ impl Chunks {
         ensures count { self.new.count ≡ self.old.count + 1 }
         ensures places { places_of self.new.chunks.items ≡ insert (places_of self.old.chunks.items) (offset self.old.chunks.items spot) place }
     {
-        if self.chunks.is_empty() {
-            return self.insert_first(place);
+        if self.begins_chunk(spot) {
+            return self.append(place);
         }
         let seat = self.seat(spot);
         let seat = self.part(seat);
@@ -228,15 +228,34 @@ impl Chunks {
         self.count += 1;
     }
 
-    /// Puts the first place into an empty chunk.
-    fn insert_first(&mut self, place: Place)
+    /// Whether a place that is put at a spot begins a chunk: it comes behind all, and the last chunk, where there is one, is full.
+    fn begins_chunk(&self, spot: Spot) -> bool
+        requires laid { IsLaidOut self.now }
+        requires room { self.now.count < self.now.most }
+        requires spare { HasSpare self.now }
+        requires spot { IsSpot self.now.chunks.items spot }
+        ensures end { result ≡ true → spot.chunk ≡ length self.now.chunks.items }
+        ensures spare { result ≡ true → 0 < length self.now.spares.items }
+        ensures some { result ≡ false → 0 < length self.now.chunks.items }
+    {
+        if spot.chunk < self.chunks.len() {
+            return false;
+        }
+        match self.chunks.last() {
+            Some(last) => last.len() >= CHUNK,
+            None => true,
+        }
+    }
+
+    /// Puts a place behind all, into a chunk of its own.
+    fn append(&mut self, place: Place)
         requires laid { IsLaidOut self.old }
         requires room { self.old.count < self.old.most }
-        requires none { self.old.chunks.items ≡ [] }
+        requires spare { 0 < length self.old.spares.items }
         ensures laid { IsLaidOut self.new }
         ensures most { self.new.most ≡ self.old.most }
         ensures count { self.new.count ≡ self.old.count + 1 }
-        ensures places { places_of self.new.chunks.items ≡ place ∷ [] }
+        ensures places { places_of self.new.chunks.items ≡ places_of self.old.chunks.items ++ place ∷ [] }
     {
         let mut chunk = self.spares.take_last();
         chunk.insert(0, place);
