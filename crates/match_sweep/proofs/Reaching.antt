@@ -215,7 +215,7 @@ worse_head walk bank price head weighs is differ best some =
 -- the lots at the price are taken
 pub takes_some : (book : Book) (walk : LevelWalk) (bank at price lots taken : ℕ) (next : Option ℕ) → IsWeight walk.weight → at ≡ bank → at < length walk.lines → at < length walk.heads
     → walk.weight ≤ slice_index walk.lines bank → lots ≡ level_lots walk.taker bank price book.orders → taken ≡ min lots (slice_index walk.lines at / walk.weight)
-    → IsPriceOf walk.taker bank (Some price) book.orders next
+    → (1 ≤ (slice_index walk.lines at - taken * walk.weight) / walk.weight → IsPriceOf walk.taker bank (Some price) book.orders next)
     → TakesOf book walk (record walk { lines = set walk.lines at (slice_index walk.lines at - taken * walk.weight); heads = set walk.heads at next }) bank price taken
 takes_some book walk bank at price lots taken next weighs at_is within heads_within pays' lots_are taken_is level =
     let line : ℕ = slice_index walk.lines at in
@@ -226,8 +226,9 @@ takes_some book walk bank at price lots taken next weighs at_is within heads_wit
       taken = record {
         line = get_or-set_same walk.lines at rest 0 within
             ∙ ap (λ n. line - n * walk.weight) (taken_is ∙ ap (λ n. min n (line / walk.weight)) (lots_are ∙ ap (λ b. level_lots walk.taker b price book.orders) (sym at_is)));
-        head = λ _. subst (IsPriceOf walk.taker at (Some price) book.orders) (sym (get_or-set_same walk.heads at next None heads_within))
-            (subst (λ (b : ℕ). IsPriceOf walk.taker b (Some price) book.orders next) (sym at_is) level);
+        head = λ reach. subst (IsPriceOf walk.taker at (Some price) book.orders) (sym (get_or-set_same walk.heads at next None heads_within))
+            (subst (λ (b : ℕ). IsPriceOf walk.taker b (Some price) book.orders next) (sym at_is)
+            (level (subst (λ n. 1 ≤ n / walk.weight) (get_or-set_same walk.lines at rest 0 within) reach)));
       };
       others = λ other differ. record {
         line = get_or-set_other walk.lines at other rest 0 differ;

@@ -163,8 +163,10 @@ impl LevelWalk {
         }
         let lots = book.lots_at(bank, self.taker.opposite(), price);
         let taken = lots.min(u128::from(line / weight)) as u64;
-        self.lines[at] = line - taken * weight;
-        self.heads[at] = price_behind(book, self.taker, bank, Some(price), steps);
+        let left = line - taken * weight;
+        self.lines[at] = left;
+        let behind = Some(price);
+        self.heads[at] = price_behind(book, self.taker, left, self.weight, bank, behind, steps);
         taken
     }
 }
@@ -180,35 +182,24 @@ fn better_price(taker: Side, price: Option<Price>, other: Option<Price>) -> Opti
     }
 }
 
-/// The best price of a bank that is worse than `past`, where there is one, for a taker of a side.
+/// The best price of a bank that is worse than `past`, where there is one, for a taker of a side; where the line with the bank,
+/// of `line` credit units, pays for no lot, it is not looked for.
 fn price_behind<L: Ledger>(
-    book: &PairBook,
-    taker: Side,
-    bank: BankId,
-    past: Option<Price>,
-    steps: &mut Steps<L>,
-) -> Option<Price>
-    ensures price { IsPriceOf taker bank past book.now.orders result }
-{
-    book.next_price(bank, taker.opposite(), past, steps)
-}
-
-/// The first price of a bank, where a line of `line` credit units pays for a lot.
-fn first_price<L: Ledger>(
     book: &PairBook,
     taker: Side,
     line: u64,
     weight: u32,
     bank: BankId,
+    past: Option<Price>,
     steps: &mut Steps<L>,
 ) -> Option<Price>
     requires weight { IsWeight weight }
-    ensures price { 1 ≤ line / weight → IsPriceOf taker bank None book.now.orders result }
+    ensures price { 1 ≤ line / weight → IsPriceOf taker bank past book.now.orders result }
 {
     if line < u64::from(weight) {
         return None;
     }
-    price_behind(book, taker, bank, None, steps)
+    book.next_price(bank, taker.opposite(), past, steps)
 }
 
 /// The first prices of all banks with which the line pays for a lot. It looks only at the banks that have an order.
@@ -226,7 +217,7 @@ fn first_of_each<L: Ledger>(
     let mut heads = [None; 64];
     for owner in owners {
         let number = owner.index();
-        heads[number] = first_price(book, taker, lines[number], weight, *owner, steps);
+        heads[number] = price_behind(book, taker, lines[number], weight, *owner, None, steps);
     }
     heads
 }

@@ -27,17 +27,17 @@ loop-owner-preserved g c =
     let more : take (k + 1) owners ≡ take k owners ++ at ∷ [] =
     take_more owners k c.owner-item.result c.loop-owner-test.true ∙ ap (λ (bank : ℕ). take k owners ++ bank ∷ []) (sym (owner ∙ c.owner-item.is)) in
     record {
-      full = length-set c.loop-owner.heads at c.first_price.result ∙ c.loop-owner.invariant.full;
+      full = length-set c.loop-owner.heads at c.price_behind.result ∙ c.loop-owner.invariant.full;
       prices = λ bank there.
-          one_set (λ (b : ℕ) (h : Option ℕ). 1 ≤ get_or c.args.lines.now b 0 / c.args.weight → IsPriceOf c.args.taker b None c.args.book.now.orders h) c.loop-owner.heads at c.first_price.result within
-          (λ reach. subst (λ (b : ℕ). IsPriceOf c.args.taker b None c.args.book.now.orders c.first_price.result) (sym owner) (c.first_price.ensures.price reach))
+          one_set (λ (b : ℕ) (h : Option ℕ). 1 ≤ get_or c.args.lines.now b 0 / c.args.weight → IsPriceOf c.args.taker b None c.args.book.now.orders h) c.loop-owner.heads at c.price_behind.result within
+          (λ reach. subst (λ (b : ℕ). IsPriceOf c.args.taker b None c.args.book.now.orders c.price_behind.result) (sym owner) (c.price_behind.ensures.price reach))
           bank (λ differ. c.loop-owner.invariant.prices bank
           (elim (Contains-push_cases (take k owners) at bank (subst (λ (xs : List ℕ). Contains xs bank) more there)) [
             | inl before ↦ before
             | inr same ↦ absurd (differ (sym same))
           ]));
       left = λ bank apart.
-          one_set (λ (b : ℕ) (h : Option ℕ). (Contains (take (k + 1) owners) b → ⊥) → h ≡ None) c.loop-owner.heads at c.first_price.result within
+          one_set (λ (b : ℕ) (h : Option ℕ). (Contains (take (k + 1) owners) b → ⊥) → h ≡ None) c.loop-owner.heads at c.price_behind.result within
           (λ away. absurd (away (subst (λ (xs : List ℕ). Contains xs at) (sym more) (Contains-push (take k owners) at))))
           bank (λ _ away. c.loop-owner.invariant.left bank (λ there. away (subst (λ (xs : List ℕ). Contains xs bank) (sym more) (Contains-append_left (take k owners) (at ∷ []) bank there))))
           apart;

@@ -50,5 +50,5 @@ returns g c =
           (takes_some c.args.book.now walk bank at c.args.price c.lots_at-lots.result c.min-taken.result c.price_behind.result c.requires.weight at_is within_lines within pay
           (c.lots_at-lots.ensures.lots ∙ ap (λ (side : Side). level_lots side bank c.args.price c.args.book.now.orders) (ap opposite c.opposite.ensures ∙ opposite-opposite walk.taker))
           (omega (arith, c.min-taken.ensures, c.from.ensures, ap (λ w. slice_index walk.lines at / w) c.from-weight.ensures))
-          c.price_behind.ensures.price);
+          (λ reach. c.price_behind.ensures.price (subst (λ (w : ℕ). 1 ≤ (slice_index walk.lines at - c.min-taken.result * w) / walk.weight) (sym c.from-weight.ensures) reach)));
     }
