@@ -6,7 +6,7 @@ ghost use Rattle.fx_disk.specs.Disk.{WhereTold, with_piece, TornBy, NoMore, Only
 pub enum DiskStop {
     /// The disk failed, and its count of faults rose. What it holds now is only known by what a crash may leave.
     Failed,
-    /// The disk wanted memory. Its bytes and what a crash may leave are as they were.
+    /// The disk wanted memory. Its bytes, what a crash may leave and its count of faults are as they were.
     Memory,
 }
 
