@@ -12,6 +12,8 @@ use crate::row::{
 use fx_amounts::{BankId, Memory, PairId, Side, base_amount, quote_amount};
 use fx_rules::{Command, Fill, Level, Outcome, Session};
 
+// At `Memory` each of these calls leaves the line empty, as those of `row.rt` do.
+
 /// Makes the line of the reply to a bank's command `number`, with its number `notice` on the desk.
 pub(crate) fn make_reply(
     session: &Session,
