@@ -9,7 +9,7 @@ use Rattle.fx_rules.proofs.ListLemmas.{Each-among}
 use Rattle.access_index.specs.Sides.{OwnRows}
 use Rattle.order_store.specs.declared.store.OrderKey.{OrderKey}
 use Rattle.order_store.specs.Orders.{Orders, order_at, IsOf, Lacks}
-use Rattle.global_book.specs.Book.{Book, IsBook, first}
+use Rattle.global_book.specs.Book.{Book, IsBook, RestsAbove, first}
 use Rattle.global_book.specs.inside.Rows.{flat, AreResting, IsKept}
 use Rattle.global_book.proofs.Flat.{among_flat, flat_among}
 use Rattle.global_book.proofs.Rowing.{some_same}
@@ -95,3 +95,10 @@ lacks_from orders resting bank number seen none key order at bank_is number_is =
 pub all_before : (orders : Orders) (resting : List Resting) (arrival : ℕ) → flat orders.slots ≡ resting → Each (λ o. o.arrival < arrival) resting → (key : ℕ) (order : Resting) → order_at orders key ≡ Some order → order.arrival ≢ arrival
 all_before orders resting arrival seen last key order at same =
     omega (arith, Each-among (λ o. o.arrival < arrival) resting order last (subst (Among order) seen (among_flat orders.slots key order at)))
+
+-- the order under a key that was found has more lots left than it is to have
+pub more_left : (count : ℕ) (orders : Orders) (resting : List Resting) (bank number key left : ℕ) (found order : Resting) → AreResting count orders → IsFound orders bank number key found → flat orders.slots ≡ resting
+    → order_at orders key ≡ Some order → RestsAbove resting bank number left → left < order.left
+more_left count orders resting bank number key left found order are is seen at above =
+    let same : above.0 ≡ order = the_order count orders resting bank number key found above.0 are is seen above.1 above.2 ∙ some_same found order (sym is.at ∙ at) in
+    subst (λ (o : Resting). left < o.left) same above.3

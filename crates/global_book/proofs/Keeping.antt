@@ -31,10 +31,10 @@ not_opposite Sell = refl
 pub own_of : (order : Resting) → is_own order.bank order.side order ≡ true
 own_of order = and_from (eqb order.bank order.bank) (is_opposite (opposite order.side) order.side) (eq-eqb order.bank order.bank refl) (opposite_to order.side)
 
-own_other_side : (order : Resting) → is_own order.bank (opposite order.side) order ≡ false
+pub own_other_side : (order : Resting) → is_own order.bank (opposite order.side) order ≡ false
 own_other_side order = rw (eq-eqb order.bank order.bank refl) (not_opposite order.side)
 
-own_other_bank : (bank : ℕ) (side : Side) (order : Resting) → bank ≢ order.bank → is_own bank side order ≡ false
+pub own_other_bank : (bank : ℕ) (side : Side) (order : Resting) → bank ≢ order.bank → is_own bank side order ≡ false
 own_other_bank bank side order differ = ap (λ b. b && is_opposite (opposite side) order.side) (ne_eqb order.bank bank (λ same. differ (sym same)))
 
 pub own_gained : (count : ℕ) (old new : Orders) (own own' : List OwnRows) (key : ℕ) (order : Resting) → OwnRowsAre old count own → order.bank < count → order_at old key ≡ None → Changes old new key (Some order)

@@ -15,9 +15,9 @@ use Rattle.price_levels.specs.Ladder.{is_better, sorts_before, IsFirst, IsFirstO
 use Rattle.price_levels.proofs.Sorting.{before_cases}
 use Rattle.access_index.specs.Sides.{OwnRows}
 use Rattle.access_index.specs.Owned.{row_at, stands_behind}
-use Rattle.order_store.specs.Levels.{is_at, slot_lots, lots_where}
 use Rattle.order_store.specs.Orders.{Orders, order_at}
-use Rattle.global_book.specs.Book.{IsLevel, IsLevelOf, IsPriceOf, is_of, is_worse, is_worse_of, level_lots}
+use Rattle.global_book.specs.Book.{IsLevel, IsLevelOf, IsPriceOf, is_level, is_of, is_worse, is_worse_of, level_lots}
+use Rattle.global_book.specs.inside.Levels.{slot_lots, lots_where}
 use Rattle.global_book.specs.inside.Rows.{flat, placed, place_in, IsKept}
 use Rattle.global_book.specs.inside.Search.{end_of}
 use Rattle.global_book.proofs.Flat.{among_flat, flat_among}
@@ -127,7 +127,7 @@ module _ (banks : ℕ) (orders : Orders) (own : List OwnRows) (kept : IsKept ban
       both_ways (stands_behind side (option_map end_of past) (place_in it.0 order)) (is' (place_in it.0 order) place.0) place.1))
 
   pub next_found : (found : Option Place) (first : Place) (lots : ℕ) (resting : List Resting) → found ≡ Some first → IsFirstOf (stands_behind side (option_map end_of past)) side (row_at own bank side).places found
-      → flat orders.slots ≡ resting → lots ≡ lots_where (is_at bank side first.price) orders.slots → IsLevel (opposite side) bank past resting (first.price, lots)
+      → flat orders.slots ≡ resting → lots ≡ lots_where (is_level (opposite side) bank first.price) orders.slots → IsLevel (opposite side) bank past resting (first.price, lots)
   next_found found first lots resting is_found is seen lots_are =
       let it : IsFirst (stands_behind side (option_map end_of past)) side (row_at own bank side).places first = subst (IsFirstOf (stands_behind side (option_map end_of past)) side (row_at own bank side).places) is_found is in
       let order = order_of banks orders own kept bank side first it.there in
@@ -149,13 +149,13 @@ module _ (banks : ℕ) (orders : Orders) (own : List OwnRows) (kept : IsKept ban
               | inl same ↦ ap (λ (p : Place). is_better side p.price first.price) same ∙ not_better_self side first.price
               | inr later ↦ not_better_behind side first (place_in at.0 other) later
             ]);
-        lots = lots_are ∙ sym (flat_lots (is_at bank side first.price) orders.slots) ∙ ap (level_lots (opposite side) bank first.price) seen;
+        lots = lots_are ∙ sym (flat_lots (is_level (opposite side) bank first.price) orders.slots) ∙ ap (level_lots (opposite side) bank first.price) seen;
       }
 
   -- the same of the price alone
   pub price_found : (found : Option Place) (first : Place) (resting : List Resting) → found ≡ Some first → IsFirstOf (stands_behind side (option_map end_of past)) side (row_at own bank side).places found
       → flat orders.slots ≡ resting → IsPriceOf (opposite side) bank past resting (Some first.price)
   price_found found first resting is_found is seen =
-      let lots : ℕ = lots_where (is_at bank side first.price) orders.slots in
+      let lots : ℕ = lots_where (is_level (opposite side) bank first.price) orders.slots in
       let level : IsLevel (opposite side) bank past resting (first.price, lots) = next_found found first lots resting is_found is seen refl in
       subst (λ (n : ℕ). IsLevel (opposite side) bank past resting (first.price, n)) level.lots level

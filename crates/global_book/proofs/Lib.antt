@@ -11,4 +11,8 @@ mod Turns
 mod Bests
 pub mod Within
 mod Levelling
+pub mod Levels
+mod Levelled
+mod Banks
+mod Summing
 pub mod Cursor

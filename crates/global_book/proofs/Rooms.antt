@@ -13,6 +13,8 @@ use Rattle.access_index.specs.Sides.{OwnRows}
 use Rattle.access_index.specs.Owned.{no_rows, row_at, OwnerGains, OwnerLoses}
 use Rattle.access_index.proofs.Rows.{both}
 use Rattle.global_book.specs.Book.{Book, room_for, HasRoom, KeepsRoom, TakesRoom}
+use Rattle.level_rows.specs.Rows.{Row}
+use Rattle.global_book.specs.inside.Levels.{LevelSides, no_levels, levels_at, Adds, Takes, KeepsOtherLevels, AllWiden}
 use Rattle.global_book.specs.inside.Rows.{rooms}
 
 abbrev pub part : ℕ × ℕ → Side → ℕ
@@ -23,37 +25,50 @@ room_part : (book : Book) (bank : ℕ) (side : Side) → room_for book bank side
 room_part book bank Buy = refl
 room_part book bank Sell = refl
 
-no_room : (orders : Orders) (bank : ℕ) (side : Side) → part (get_or (rooms orders []) bank (0, 0)) side ≡ min orders.room (row_at [] bank side).room
-no_room orders zero Buy = omega arith
-no_room orders zero Sell = omega arith
-no_room orders (suc bank) Buy = omega arith
-no_room orders (suc bank) Sell = omega arith
-
--- the room of a bank and a side is that of its row and of the store
-room_at : (orders : Orders) (own : List OwnRows) (bank : ℕ) (side : Side) → part (get_or (rooms orders own) bank (0, 0)) side ≡ min orders.room (row_at own bank side).room
-room_at orders [] bank side = no_room orders bank side
-room_at orders (rows ∷ own) zero Buy = refl
-room_at orders (rows ∷ own) zero Sell = refl
-room_at orders (rows ∷ own) (suc bank) side = room_at orders own bank side
-
-pub room_is : (book : Book) (orders : Orders) (own : List OwnRows) (bank : ℕ) (side : Side) → rooms orders own ≡ book.room → room_for book bank side ≡ min orders.room (row_at own bank side).room
-room_is book orders own bank side seen =
-    room_part book bank side ∙ ap (λ (r : List (ℕ × ℕ)). part (get_or r bank (0, 0)) side) (sym seen) ∙ room_at orders own bank side
+-- the room of a bank and a side, where it is in the room of its row and of its levels
+abbrev both_room : List OwnRows → List LevelSides → ℕ → Side → ℕ
+both_room own levels bank side = min (row_at own bank side).room (levels_at levels bank side).room
 
 no_room_past : (own : List OwnRows) (bank : ℕ) (side : Side) → length own ≤ bank → (row_at own bank side).room ≡ 0
 no_room_past own bank Buy past = ap (λ (rows : OwnRows). rows.bids.room) (get_or_past own bank no_rows past)
 no_room_past own bank Sell past = ap (λ (rows : OwnRows). rows.asks.room) (get_or_past own bank no_rows past)
 
--- room for an order is room in both places
-pub record Rooms (orders : Orders) (own : List OwnRows) (bank : ℕ) (side : Side) : Type 0 where
+no_levels_past : (levels : List LevelSides) (bank : ℕ) (side : Side) → length levels ≤ bank → (levels_at levels bank side).room ≡ 0
+no_levels_past levels bank Buy past = ap (λ (sides : LevelSides). sides.bids.room) (get_or_past levels bank no_levels past)
+no_levels_past levels bank Sell past = ap (λ (sides : LevelSides). sides.asks.room) (get_or_past levels bank no_levels past)
+
+none_left : (bank : ℕ) (side : Side) → part (get_or [] bank (0, 0)) side ≡ 0
+none_left bank Buy = ap (λ (p : ℕ × ℕ). p.0) (get_or_past [] bank (0, 0) (omega arith))
+none_left bank Sell = ap (λ (p : ℕ × ℕ). p.1) (get_or_past [] bank (0, 0) (omega arith))
+
+-- the room of a bank and a side is that of its row, of its levels and of the store
+room_at : (orders : Orders) (own : List OwnRows) (levels : List LevelSides) (bank : ℕ) (side : Side)
+    → part (get_or (rooms orders own levels) bank (0, 0)) side ≡ min orders.room (both_room own levels bank side)
+room_at orders [] levels bank side = let none = none_left bank side in let past = no_room_past [] bank side (omega arith) in omega (arith, none, past)
+room_at orders (rows ∷ own) [] bank side = let none = none_left bank side in let past = no_levels_past [] bank side (omega arith) in omega (arith, none, past)
+room_at orders (rows ∷ own) (sides ∷ levels) zero Buy = refl
+room_at orders (rows ∷ own) (sides ∷ levels) zero Sell = refl
+room_at orders (rows ∷ own) (sides ∷ levels) (suc bank) side = room_at orders own levels bank side
+
+pub room_is : (book : Book) (orders : Orders) (own : List OwnRows) (levels : List LevelSides) (bank : ℕ) (side : Side) → rooms orders own levels ≡ book.room
+    → room_for book bank side ≡ min orders.room (both_room own levels bank side)
+room_is book orders own levels bank side seen =
+    room_part book bank side ∙ ap (λ (r : List (ℕ × ℕ)). part (get_or r bank (0, 0)) side) (sym seen) ∙ room_at orders own levels bank side
+
+-- room for an order is room in all three places
+pub record Rooms (orders : Orders) (own : List OwnRows) (levels : List LevelSides) (bank : ℕ) (side : Side) : Type 0 where
   pub bank_is : bank < length own
   pub in_orders : 1 ≤ orders.room
   pub in_row : 1 ≤ (row_at own bank side).room
+  pub in_levels : 1 ≤ (levels_at levels bank side).room
+  pub levels_bank : bank < length levels
 
-pub has_rooms : (book : Book) (orders : Orders) (own : List OwnRows) (bank : ℕ) (side : Side) → rooms orders own ≡ book.room → HasRoom book bank side → Rooms orders own bank side
-has_rooms book orders own bank side seen has =
-    let is = room_is book orders own bank side seen in
+pub has_rooms : (book : Book) (orders : Orders) (own : List OwnRows) (levels : List LevelSides) (bank : ℕ) (side : Side) → rooms orders own levels ≡ book.room → HasRoom book bank side
+    → Rooms orders own levels bank side
+has_rooms book orders own levels bank side seen has =
+    let is = room_is book orders own levels bank side seen in
     let in_row : 1 ≤ (row_at own bank side).room = omega (arith, is, has) in
+    let in_levels : 1 ≤ (levels_at levels bank side).room = omega (arith, is, has) in
     record {
       bank_is = elim (cases_lt bank (length own)) [
         | inl below ↦ below
@@ -61,23 +76,30 @@ has_rooms book orders own bank side seen has =
       ];
       in_orders = omega (arith, is, has);
       in_row = in_row;
+      in_levels = in_levels;
+      levels_bank = elim (cases_lt bank (length levels)) [
+        | inl below ↦ below
+        | inr past ↦ absurd (omega (arith, no_levels_past levels bank side past, in_levels))
+      ];
     }
 
-pub book_has_room : (pair banks : ℕ) (resting : List Resting) (orders : Orders) (own : List OwnRows) (bank : ℕ) (side : Side) → 1 ≤ orders.room → 1 ≤ (row_at own bank side).room
-    → HasRoom (record { pair = pair; banks = banks; orders = resting; room = rooms orders own }) bank side
-book_has_room pair banks resting orders own bank side in_orders in_row =
-    let is = room_is (record { pair = pair; banks = banks; orders = resting; room = rooms orders own }) orders own bank side refl in
-    omega (arith, is, in_orders, in_row)
+pub book_has_room : (pair banks : ℕ) (resting : List Resting) (orders : Orders) (own : List OwnRows) (levels : List LevelSides) (bank : ℕ) (side : Side) → 1 ≤ orders.room → 1 ≤ (row_at own bank side).room
+    → 1 ≤ (levels_at levels bank side).room → HasRoom (record { pair = pair; banks = banks; orders = resting; room = rooms orders own levels }) bank side
+book_has_room pair banks resting orders own levels bank side in_orders in_row in_levels =
+    let is = room_is (record { pair = pair; banks = banks; orders = resting; room = rooms orders own levels }) orders own levels bank side refl in
+    omega (arith, is, in_orders, in_row, in_levels)
 
 -- rooms of which each loses at most so many places
-rooms_most : (most : ℕ) (old new : Book) (orders orders' : Orders) (own own' : List OwnRows) → rooms orders own ≡ old.room → rooms orders' own' ≡ new.room
+rooms_most : (most : ℕ) (old new : Book) (orders orders' : Orders) (own own' : List OwnRows) (levels levels' : List LevelSides) → rooms orders own levels ≡ old.room → rooms orders' own' levels' ≡ new.room
     → orders.room ≤ orders'.room + most → ((bank : ℕ) (side : Side) → (row_at own bank side).room ≤ (row_at own' bank side).room + most)
+    → ((bank : ℕ) (side : Side) → (levels_at levels bank side).room ≤ (levels_at levels' bank side).room + most)
     → (bank : ℕ) (side : Side) → room_for old bank side ≤ room_for new bank side + most
-rooms_most most old new orders orders' own own' seen seen' in_orders in_rows bank side =
-    let was = room_is old orders own bank side seen in
-    let is = room_is new orders' own' bank side seen' in
+rooms_most most old new orders orders' own own' levels levels' seen seen' in_orders in_rows in_levels bank side =
+    let was = room_is old orders own levels bank side seen in
+    let is = room_is new orders' own' levels' bank side seen' in
     let in_row : (row_at own bank side).room ≤ (row_at own' bank side).room + most = in_rows bank side in
-    omega (arith, was, is, in_row)
+    let in_level : (levels_at levels bank side).room ≤ (levels_at levels' bank side).room + most = in_levels bank side in
+    omega (arith, was, is, in_row, in_level)
 
 -- the row that a place came to or went from, and all others
 pub own_gain : (own own' : List OwnRows) (bank : ℕ) (side : Side) (place : Place) → OwnerGains own own' bank side place
@@ -100,15 +122,42 @@ own_lose own own' bank side place loses one other =
       | inr differ ↦ omega (arith, ap (λ (l : Ladder). l.room) (loses.others.others one other differ))
     ]
 
-pub keeps_room : (old new : Book) (orders orders' : Orders) (own own' : List OwnRows) → rooms orders own ≡ old.room → rooms orders' own' ≡ new.room
-    → orders.room ≤ orders'.room + 0 → ((bank : ℕ) (side : Side) → (row_at own bank side).room ≤ (row_at own' bank side).room + 0) → KeepsRoom old new
-keeps_room old new orders orders' own own' seen seen' in_orders in_rows = record {
-  room = λ bank side. let it = rooms_most 0 old new orders orders' own own' seen seen' in_orders in_rows bank side in omega arith;
+-- of all levels, where those of one bank and side changed
+levels_most : (most : ℕ) (levels levels' : List LevelSides) (bank : ℕ) (side : Side) → KeepsOtherLevels levels levels' bank side
+    → (levels_at levels bank side).room ≤ (levels_at levels' bank side).room + most
+    → (one : ℕ) (other : Side) → (levels_at levels one other).room ≤ (levels_at levels' one other).room + most
+levels_most most levels levels' bank side others here one other =
+    elim (cases_eq one bank) [
+      | inl same ↦
+          subst (λ (b : ℕ). (levels_at levels b other).room ≤ (levels_at levels' b other).room + most) (sym same)
+          (both (λ s. (levels_at levels bank s).room ≤ (levels_at levels' bank s).room + most) side here (omega (arith, ap (λ (r : Row). r.room) others.other_side)) other)
+      | inr differ ↦ omega (arith, ap (λ (r : Row). r.room) (others.others one other differ))
+    ]
+
+pub levels_gain : (levels levels' : List LevelSides) (bank : ℕ) (side : Side) (price lots : ℕ) → Adds (levels_at levels bank side) (levels_at levels' bank side) price lots → KeepsOtherLevels levels levels' bank side
+    → (one : ℕ) (other : Side) → (levels_at levels one other).room ≤ (levels_at levels' one other).room + 1
+levels_gain levels levels' bank side price lots adds others = levels_most 1 levels levels' bank side others adds.room
+
+pub levels_lose : (levels levels' : List LevelSides) (bank : ℕ) (side : Side) (price lots : ℕ) → Takes (levels_at levels bank side) (levels_at levels' bank side) price lots → KeepsOtherLevels levels levels' bank side
+    → (one : ℕ) (other : Side) → (levels_at levels one other).room ≤ (levels_at levels' one other).room + 0
+levels_lose levels levels' bank side price lots takes others = levels_most 0 levels levels' bank side others (omega (arith, takes.room))
+
+pub levels_widen : (levels levels' : List LevelSides) → AllWiden levels levels' → (one : ℕ) (other : Side) → (levels_at levels one other).room ≤ (levels_at levels' one other).room + 0
+levels_widen levels levels' widen one other = omega (arith, (widen.rows one other).room)
+
+pub keeps_room : (old new : Book) (orders orders' : Orders) (own own' : List OwnRows) (levels levels' : List LevelSides) → rooms orders own levels ≡ old.room → rooms orders' own' levels' ≡ new.room
+    → orders.room ≤ orders'.room + 0 → ((bank : ℕ) (side : Side) → (row_at own bank side).room ≤ (row_at own' bank side).room + 0)
+    → ((bank : ℕ) (side : Side) → (levels_at levels bank side).room ≤ (levels_at levels' bank side).room + 0) → KeepsRoom old new
+keeps_room old new orders orders' own own' levels levels' seen seen' in_orders in_rows in_levels = record {
+  room = λ bank side. let it = rooms_most 0 old new orders orders' own own' levels levels' seen seen' in_orders in_rows in_levels bank side in omega arith;
 }
 
-pub takes_room : (old new : Book) (orders orders' : Orders) (own own' : List OwnRows) → rooms orders own ≡ old.room → rooms orders' own' ≡ new.room
-    → orders.room ≤ orders'.room + 1 → ((bank : ℕ) (side : Side) → (row_at own bank side).room ≤ (row_at own' bank side).room + 1) → TakesRoom old new
-takes_room old new orders orders' own own' seen seen' in_orders in_rows = record { room = rooms_most 1 old new orders orders' own own' seen seen' in_orders in_rows }
+pub takes_room : (old new : Book) (orders orders' : Orders) (own own' : List OwnRows) (levels levels' : List LevelSides) → rooms orders own levels ≡ old.room → rooms orders' own' levels' ≡ new.room
+    → orders.room ≤ orders'.room + 1 → ((bank : ℕ) (side : Side) → (row_at own bank side).room ≤ (row_at own' bank side).room + 1)
+    → ((bank : ℕ) (side : Side) → (levels_at levels bank side).room ≤ (levels_at levels' bank side).room + 1) → TakesRoom old new
+takes_room old new orders orders' own own' levels levels' seen seen' in_orders in_rows in_levels = record {
+  room = rooms_most 1 old new orders orders' own own' levels levels' seen seen' in_orders in_rows in_levels;
+}
 
 pub on_ok_then : {T E : Type 0} (P Q : Type 0) (r : Result T E) → (P → Q) → OnOk r P → OnOk r Q
 on_ok_then P Q (Ok x) then' holds = then' holds

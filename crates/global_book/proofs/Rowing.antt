@@ -24,7 +24,7 @@ not_vacant orders key other order vacant is same = none_some order (sym vacant �
 pub changed_is : (old new : Orders) (key other : ℕ) (order found : Resting) → Changes old new key (Some order) → other ≡ key → order_at new other ≡ Some found → found ≡ order
 changed_is old new key other order found change same is = some_same found order (sym is ∙ ap (order_at new) same ∙ change.changed)
 
-at_same : (new old : Orders) → new.slots ≡ old.slots → (key : ℕ) → order_at new key ≡ order_at old key
+pub at_same : (new old : Orders) → new.slots ≡ old.slots → (key : ℕ) → order_at new key ≡ order_at old key
 at_same new old same key = ap (λ (slots : List (Option Resting)). order_at (record { slots = slots; room = 0 }) key) same
 
 module _ (picks : Resting → Bool) where

@@ -1,5 +1,5 @@
 -- One pair's book, as contracts see it: the orders that rest, in arrival order.
-use Rattle.std.specs.Prelude.{ℕ, ◌≡◌, ◌+◌, ◌≤◌, ◌<◌, ◌^◌, Bool, true, false, ◌&&◌, ◌==◌, nat_le, nat_lt, if◌then◌else◌, List, filter, length, Option, Some, None, slice_get, slice_index, slice_index_or, option_map}
+use Rattle.std.specs.Prelude.{ℕ, ◌≡◌, ◌+◌, ◌≤◌, ◌<◌, ◌^◌, Bool, true, false, ◌&&◌, ◌==◌, nat_le, nat_lt, if◌then◌else◌, List, [], ◌∷◌, filter, length, Option, Some, None, slice_get, slice_index, slice_index_or, option_map}
 use Rattle.std.specs.List.{Contains}
 use Rattle.std.specs.List.Sorted.{IsStrictlyIncreasing}
 use Rattle.fx_amounts.specs.Side.{opposite}
@@ -105,6 +105,25 @@ is_level taker bank price order = is_of bank order && is_opposite taker order.si
 -- the lots that such orders have left
 abbrev pub level_lots : Side → ℕ → ℕ → List Resting → ℕ
 level_lots taker bank price orders = total (λ order. order.left) (filter (is_level taker bank price) orders)
+
+-- more lots at a price, among levels that stand from a taker's best price on
+abbrev pub with_lots : Side → ℕ → ℕ → List (ℕ × ℕ) → List (ℕ × ℕ)
+with_lots taker price lots [] = (price, lots) ∷ []
+with_lots taker price lots (level ∷ levels) =
+    if price == level.0 then (price, lots + level.1) ∷ levels
+    else if is_better taker price level.0 then (price, lots) ∷ level ∷ levels
+    else level ∷ with_lots taker price lots levels
+
+-- an order of this bank on the other side of a taker's
+abbrev pub is_across : Side → ℕ → Resting → Bool
+is_across taker bank order = is_of bank order && is_opposite taker order.side
+
+-- the levels of such orders: each price, from the taker's best one on, with all lots that the bank has there
+abbrev pub levels_of : Side → ℕ → List Resting → List (ℕ × ℕ)
+levels_of taker bank [] = []
+levels_of taker bank (order ∷ orders) =
+    if is_across taker bank order then with_lots taker order.price order.left (levels_of taker bank orders)
+    else levels_of taker bank orders
 
 -- a price is worse for a taker than `past`, where there is one
 abbrev pub is_worse : Side → Option ℕ → ℕ → Bool

@@ -1,13 +1,14 @@
-ghost use Rattle.std.specs.Prelude.{◌≡◌, ◌+◌, ◌≤◌, ◌<◌, ◌^◌, ◌↔◌, [], ◌∷◌, ◌++◌, None, not, map, filter, length, true, false, OnOk, IfOk, IfSome};
+ghost use Rattle.std.specs.Prelude.{◌≡◌, ◌+◌, ◌≤◌, ◌<◌, ◌^◌, ◌↔◌, [], ◌∷◌, ◌++◌, None, not, map, filter, length, true, false, slice_get, OnOk, IfOk, IfSome};
 ghost use Rattle.std.specs.Option.{option_copied, option_map};
 ghost use Rattle.fx_amounts.specs.Price.{crosses};
 ghost use Rattle.fx_amounts.specs.Side.{opposite};
 ghost use Rattle.fx_rules.specs.Lists.{Each};
 ghost use Rattle.fx_rules.specs.Sweep.{IsBest, is_order};
-ghost use Rattle.global_book.specs.Book.{AreInTime, AreOwners, HasRoom, KeepsRoom, IsBook, IsPlaceOf, IsPriceOf, Rests, RestsAbove, first, is_of, is_of_from, level_lots, TakesRoom, owned, relotted, sought};
+ghost use Rattle.global_book.specs.Book.{AreInTime, AreOwners, HasRoom, KeepsRoom, IsBook, IsPlaceOf, IsPriceOf, Rests, RestsAbove, first, is_of, is_of_from, level_lots, levels_of, TakesRoom, owned, relotted, sought};
 ghost use Rattle.global_book.specs.inside.Search.{end_of};
 ghost use Rattle.global_book.specs.inside.Rows.{is_own};
 
+use crate::bank_levels::BankLevels;
 use access_index::{Owners, best_of};
 use fx_amounts::{BankId, Lots, Memory, PairId, Price, Side};
 use fx_rules::Resting;
@@ -25,11 +26,13 @@ pub struct PairBook {
     orders: OrderStore,
     /// For each bank the places of its orders, by side and price.
     rows: Owners,
+    /// For each bank the levels of its orders, by side.
+    levels: BankLevels,
 }
 
 impl Model for PairBook {
     ghost use Rattle.global_book.specs.Book.{Book};
-    ghost use Rattle.global_book.specs.inside.Rows.{IsKept, flat, rooms};
+    ghost use Rattle.global_book.specs.inside.Rows.{IsStored, flat, rooms};
 
     ghost Value = { Book };
 
@@ -37,10 +40,10 @@ impl Model for PairBook {
       pair = b.pair;
       banks = b.banks;
       orders = flat b.orders.slots;
-      room = rooms b.orders b.rows;
+      room = rooms b.orders b.rows b.levels;
     } };
 
-    ghost invariant = { λ b. IsKept b.banks b.orders b.rows };
+    ghost invariant = { λ b. IsStored b.banks b.orders b.rows b.levels };
 }
 
 impl PairBook {
@@ -55,6 +58,7 @@ impl PairBook {
             banks,
             orders: OrderStore::new(alloc),
             rows: Owners::new(alloc, banks)?,
+            levels: BankLevels::new(alloc, banks)?,
         })
     }
 
@@ -102,7 +106,8 @@ impl PairBook {
     {
         prove!(bank.index() < BankId::COUNT);
         self.orders.reserve(1)?;
-        self.rows.reserve(bank, side)
+        self.rows.reserve(bank, side)?;
+        self.levels.reserve(bank, side)
     }
 
     /// An order comes to rest, behind all others. It takes room that was made for its bank and side; of all other room
@@ -122,9 +127,11 @@ impl PairBook {
             bank,
             side,
             price,
+            left,
             arrival,
             ..
         } = order;
+        self.levels.add(bank, side, price, left, self.orders.len());
         let key = self.orders.add(order).0;
         self.rows.insert(bank, side, place_of(price, arrival, key));
     }
@@ -155,7 +162,10 @@ impl PairBook {
         ensures valid { IsBook self.new }
     {
         let key = self.orders.find(bank, number).unwrap();
+        let order = self.orders.get(key);
         self.orders.lower(key, left);
+        let gone = order.left.count() - left.count();
+        self.levels.take(order.bank, order.side, order.price, gone);
     }
 
     /// Takes the order of this bank and number out.
@@ -171,6 +181,8 @@ impl PairBook {
         let order = self.orders.remove(key);
         let place = place_of(order.price, order.arrival, key.0);
         self.rows.remove(order.bank, order.side, &place);
+        self.levels
+            .take(order.bank, order.side, order.price, order.left.count());
     }
 
     /// Takes all orders of a bank out, and answers how many they were.
@@ -352,7 +364,17 @@ impl PairBook {
         ensures lots { result ≡ level_lots (opposite side) bank price self.now.orders }
         ensures valid { IsBook self.now }
     {
-        self.orders.lots_at(bank, side, price)
+        self.levels.lots_at(bank, side, price)
+    }
+
+    /// The level at an index among those of a bank's orders of a side, 0 for the best price: its price, and all lots that they
+    /// have left there. `None` where there are no more levels.
+    pub fn level_at(&self, bank: BankId, side: Side, at: usize) -> Option<(Price, u128)>
+        ensures level { result ≡ slice_get (levels_of (opposite side) bank self.now.orders) at }
+        ensures valid { IsBook self.now }
+    {
+        let level = self.levels.get(bank, side, at)?;
+        Some((level.price, level.lots))
     }
 }
 

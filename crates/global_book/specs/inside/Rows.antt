@@ -1,5 +1,5 @@
 -- How a book keeps its orders: under keys, and in sorted rows of their places.
-use Rattle.std.specs.Prelude.{ℕ, ◌≡◌, ◌≤◌, ◌<◌, ◌^◌, min, Bool, true, ◌&&◌, nat_lt, if◌then◌else◌, List, [], ◌∷◌, length, map, Option, Some, None}
+use Rattle.std.specs.Prelude.{ℕ, ◌≡◌, ◌≤◌, ◌<◌, ◌^◌, min, Bool, true, ◌&&◌, nat_lt, if◌then◌else◌, List, [], ◌∷◌, length, Option, Some, None}
 use Rattle.std.specs.List.{Contains}
 use Rattle.fx_amounts.specs.Side.{opposite}
 use Rattle.fx_amounts.specs.declared.side.Side.{Side}
@@ -11,6 +11,7 @@ use Rattle.access_index.specs.Sides.{OwnRows}
 use Rattle.access_index.specs.Owned.{row_at}
 use Rattle.order_store.specs.Orders.{Orders, order_at, AreOrders}
 use Rattle.global_book.specs.Book.{is_of}
+use Rattle.global_book.specs.inside.Levels.{LevelSides, AreLevelled}
 
 -- the order put among others in arrival order
 abbrev pub placed : Resting → List Resting → List Resting
@@ -59,10 +60,17 @@ pub record IsKept (banks : ℕ) (orders : Orders) (own : List OwnRows) : Type 0 
   pub banks_are : length own ≡ min banks 64
   pub own_are : (bank : ℕ) (side : Side) → bank < length own → IsOwnRow bank side orders (row_at own bank side)
 
--- how many buys and sells of a bank with these rows can come to rest
-abbrev pub room_in : Orders → OwnRows → ℕ × ℕ
-room_in orders rows = (min orders.room rows.bids.room, min orders.room rows.asks.room)
+-- the same, and the levels of each bank and side
+pub record IsStored (banks : ℕ) (orders : Orders) (own : List OwnRows) (levels : List LevelSides) : Type 0 where
+  pub kept : IsKept banks orders own
+  pub levelled : AreLevelled banks orders levels
+
+-- how many buys and sells of a bank with these rows and levels can come to rest
+abbrev pub room_in : Orders → OwnRows → LevelSides → ℕ × ℕ
+room_in orders rows sides = (min orders.room (min rows.bids.room sides.bids.room), min orders.room (min rows.asks.room sides.asks.room))
 
 -- the same of each bank
-abbrev pub rooms : Orders → List OwnRows → List (ℕ × ℕ)
-rooms orders own = map (room_in orders) own
+abbrev pub rooms : Orders → List OwnRows → List LevelSides → List (ℕ × ℕ)
+rooms orders [] levels = []
+rooms orders (rows ∷ own) [] = []
+rooms orders (rows ∷ own) (sides ∷ levels) = room_in orders rows sides ∷ rooms orders own levels

@@ -6,4 +6,4 @@ use Rattle.global_book.proofs.book.PairBook.banks.Goals as goal
 pub returns-clause-valid : goal.returns-clause-valid
 returns-clause-valid c =
     kept_book c.self.inside.banks c.self.inside.orders c.self.inside.rows c.args.self.now
-    c.self.invariant (ap (λ (b : Book). b.orders) c.self.view_is) (ap (λ (b : Book). b.banks) c.self.view_is)
+    c.self.invariant.kept (ap (λ (b : Book). b.orders) c.self.view_is) (ap (λ (b : Book). b.banks) c.self.view_is)

@@ -18,22 +18,22 @@ returns-in_err-front-clause-none g c = λ _.
     let passes : Resting → Bool = is_owned (opposite c.args.side) c.args.bank c.args.before past in
     let none : owned c.args.side c.args.bank c.args.before past c.args.self.now.orders ≡ [] =
     (none_listed passes (opposite c.args.side) c.self.inside.orders c.args.self.now.orders None (ap (λ (b : Book). b.orders) c.self.view_is)
-    (none_owned c.self.inside.banks c.self.inside.orders c.self.inside.rows c.self.invariant c.args.side c.args.bank c.args.before past c.first_of.result c.in_err-front.was c.first_of.ensures.found)).0 refl in
+    (none_owned c.self.inside.banks c.self.inside.orders c.self.inside.rows c.self.invariant.kept c.args.side c.args.bank c.args.before past c.first_of.result c.in_err-front.was c.first_of.ensures.found)).0 refl in
     subst (Each (λ (order : Resting). crosses (opposite c.args.side) c.args.limit order.price ≡ false)) (sym none) tt
 
 pub returns-in_err-front-clause-steps : goal.returns-in_err-front-clause-steps
 returns-in_err-front-clause-steps g c = λ all.
     c.first_of.ensures.steps
-    (places_in_time c.self.inside.banks c.self.inside.orders c.self.inside.rows c.self.invariant c.args.side c.args.before c.args.self.now.orders (ap (λ (b : Book). b.orders) c.self.view_is) all c.args.bank)
+    (places_in_time c.self.inside.banks c.self.inside.orders c.self.inside.rows c.self.invariant.kept c.args.side c.args.before c.args.self.now.orders (ap (λ (b : Book). b.orders) c.self.view_is) all c.args.bank)
 
 pub returns-in_err-front-clause-valid : goal.returns-in_err-front-clause-valid
 returns-in_err-front-clause-valid g c =
     kept_book c.self.inside.banks c.self.inside.orders c.self.inside.rows c.args.self.now
-    c.self.invariant (ap (λ (b : Book). b.orders) c.self.view_is) (ap (λ (b : Book). b.banks) c.self.view_is)
+    c.self.invariant.kept (ap (λ (b : Book). b.orders) c.self.view_is) (ap (λ (b : Book). b.banks) c.self.view_is)
 
 pub get-requires : goal.get-requires
 get-requires g c = record {
-  live = first_lives c.self.inside.banks c.self.inside.orders c.self.inside.rows c.self.invariant c.args.side c.args.bank c.args.before (option_copied c.args.past)
+  live = first_lives c.self.inside.banks c.self.inside.orders c.self.inside.rows c.self.invariant.kept c.args.side c.args.bank c.args.before (option_copied c.args.past)
       c.first_of.result c.in_ok-front.front c.in_ok-front.was c.first_of.ensures.found;
 }
 
@@ -42,44 +42,44 @@ returns-then-crosses-clause-best g c =
     let past : Option Place = option_copied c.args.past in
     let passes : Resting → Bool = is_owned (opposite c.args.side) c.args.bank c.args.before past in
     best_listed passes (opposite c.args.side) c.self.inside.orders c.args.self.now.orders (Some (c.get.result, c.in_ok-front.front)) (ap (λ (b : Book). b.orders) c.self.view_is)
-    (first_owned c.self.inside.banks c.self.inside.orders c.self.inside.rows c.self.invariant c.args.side c.args.bank c.args.before past
+    (first_owned c.self.inside.banks c.self.inside.orders c.self.inside.rows c.self.invariant.kept c.args.side c.args.bank c.args.before past
     c.first_of.result c.in_ok-front.front c.get.result c.in_ok-front.was c.first_of.ensures.found c.get.ensures.value)
 
 pub returns-then-crosses-clause-allowed : goal.returns-then-crosses-clause-allowed
 returns-then-crosses-clause-allowed g c =
-    let it = first_owned c.self.inside.banks c.self.inside.orders c.self.inside.rows c.self.invariant c.args.side c.args.bank c.args.before (option_copied c.args.past)
+    let it = first_owned c.self.inside.banks c.self.inside.orders c.self.inside.rows c.self.invariant.kept c.args.side c.args.bank c.args.before (option_copied c.args.past)
     c.first_of.result c.in_ok-front.front c.get.result c.in_ok-front.was c.first_of.ensures.found c.get.ensures.value in
     ap (λ (p : Place). crosses (opposite c.args.side) c.args.limit p.price) (sym it.place)
     ∙ ap (λ s. crosses s c.args.limit c.in_ok-front.front.price) (sym c.opposite.ensures) ∙ sym c.crosses.ensures ∙ c.if-crosses.true
 
 pub returns-then-crosses-clause-place : goal.returns-then-crosses-clause-place
 returns-then-crosses-clause-place g c =
-    let it = first_owned c.self.inside.banks c.self.inside.orders c.self.inside.rows c.self.invariant c.args.side c.args.bank c.args.before (option_copied c.args.past)
+    let it = first_owned c.self.inside.banks c.self.inside.orders c.self.inside.rows c.self.invariant.kept c.args.side c.args.bank c.args.before (option_copied c.args.past)
     c.first_of.result c.in_ok-front.front c.get.result c.in_ok-front.was c.first_of.ensures.found c.get.ensures.value in
     record { price = ap (λ (p : Place). p.price) it.place; arrival = ap (λ (p : Place). p.arrival) it.place }
 
 pub returns-then-crosses-clause-steps : goal.returns-then-crosses-clause-steps
 returns-then-crosses-clause-steps g c = λ all.
     c.first_of.ensures.steps
-    (places_in_time c.self.inside.banks c.self.inside.orders c.self.inside.rows c.self.invariant c.args.side c.args.before c.args.self.now.orders (ap (λ (b : Book). b.orders) c.self.view_is) all c.args.bank)
+    (places_in_time c.self.inside.banks c.self.inside.orders c.self.inside.rows c.self.invariant.kept c.args.side c.args.before c.args.self.now.orders (ap (λ (b : Book). b.orders) c.self.view_is) all c.args.bank)
 
 pub returns-then-crosses-clause-valid : goal.returns-then-crosses-clause-valid
 returns-then-crosses-clause-valid g c =
     kept_book c.self.inside.banks c.self.inside.orders c.self.inside.rows c.args.self.now
-    c.self.invariant (ap (λ (b : Book). b.orders) c.self.view_is) (ap (λ (b : Book). b.banks) c.self.view_is)
+    c.self.invariant.kept (ap (λ (b : Book). b.orders) c.self.view_is) (ap (λ (b : Book). b.banks) c.self.view_is)
 
 pub returns-clause-none : goal.returns-clause-none
 returns-clause-none g c = λ _.
-    place_dear c.self.inside.banks c.self.inside.orders c.self.inside.rows c.self.invariant c.args.side c.args.bank c.args.before c.args.limit (option_copied c.args.past)
+    place_dear c.self.inside.banks c.self.inside.orders c.self.inside.rows c.self.invariant.kept c.args.side c.args.bank c.args.before c.args.limit (option_copied c.args.past)
     c.first_of.result c.in_ok-front.front c.args.self.now.orders c.in_ok-front.was c.first_of.ensures.found (ap (λ (b : Book). b.orders) c.self.view_is)
     (ap (λ s. crosses s c.args.limit c.in_ok-front.front.price) (sym c.opposite.ensures) ∙ sym c.crosses.ensures ∙ c.if-crosses.false)
 
 pub returns-clause-steps : goal.returns-clause-steps
 returns-clause-steps g c = λ all.
     c.first_of.ensures.steps
-    (places_in_time c.self.inside.banks c.self.inside.orders c.self.inside.rows c.self.invariant c.args.side c.args.before c.args.self.now.orders (ap (λ (b : Book). b.orders) c.self.view_is) all c.args.bank)
+    (places_in_time c.self.inside.banks c.self.inside.orders c.self.inside.rows c.self.invariant.kept c.args.side c.args.before c.args.self.now.orders (ap (λ (b : Book). b.orders) c.self.view_is) all c.args.bank)
 
 pub returns-clause-valid : goal.returns-clause-valid
 returns-clause-valid g c =
     kept_book c.self.inside.banks c.self.inside.orders c.self.inside.rows c.args.self.now
-    c.self.invariant (ap (λ (b : Book). b.orders) c.self.view_is) (ap (λ (b : Book). b.banks) c.self.view_is)
+    c.self.invariant.kept (ap (λ (b : Book). b.orders) c.self.view_is) (ap (λ (b : Book). b.banks) c.self.view_is)

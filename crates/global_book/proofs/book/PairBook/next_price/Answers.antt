@@ -14,7 +14,7 @@ pub returns-in_err-place-clause-price : goal.returns-in_err-place-clause-price
 returns-in_err-place-clause-price g c =
     let past : option_copied c.as_ref.result ≡ option_map end_of c.args.past = c.as_ref.ensures.value ∙ c.end_of-end.ensures in
     subst (IsPriceOf (opposite c.args.side) c.args.bank c.args.past c.args.self.now.orders) (sym c.from_residual.ensures)
-    (no_level c.self.inside.banks c.self.inside.orders c.self.inside.rows c.self.invariant c.args.bank c.args.side c.args.past
+    (no_level c.self.inside.banks c.self.inside.orders c.self.inside.rows c.self.invariant.kept c.args.bank c.args.side c.args.past
     c.first_behind.result c.args.self.now.orders c.in_err-place.was
     (subst (λ (p : Option Place). IsFirstOf (stands_behind c.args.side p) c.args.side (row_at c.self.inside.rows c.args.bank c.args.side).places c.first_behind.result) past c.first_behind.ensures.found)
     (ap (λ (b : Book). b.orders) c.self.view_is))
@@ -22,12 +22,12 @@ returns-in_err-place-clause-price g c =
 pub returns-in_err-place-clause-valid : goal.returns-in_err-place-clause-valid
 returns-in_err-place-clause-valid g c =
     kept_book c.self.inside.banks c.self.inside.orders c.self.inside.rows c.args.self.now
-    c.self.invariant (ap (λ (b : Book). b.orders) c.self.view_is) (ap (λ (b : Book). b.banks) c.self.view_is)
+    c.self.invariant.kept (ap (λ (b : Book). b.orders) c.self.view_is) (ap (λ (b : Book). b.banks) c.self.view_is)
 
 pub returns-clause-price : goal.returns-clause-price
 returns-clause-price g c =
     let past : option_copied c.as_ref.result ≡ option_map end_of c.args.past = c.as_ref.ensures.value ∙ c.end_of-end.ensures in
-    price_found c.self.inside.banks c.self.inside.orders c.self.inside.rows c.self.invariant c.args.bank c.args.side c.args.past
+    price_found c.self.inside.banks c.self.inside.orders c.self.inside.rows c.self.invariant.kept c.args.bank c.args.side c.args.past
     c.first_behind.result c.in_ok-place.place c.args.self.now.orders c.in_ok-place.was
     (subst (λ (p : Option Place). IsFirstOf (stands_behind c.args.side p) c.args.side (row_at c.self.inside.rows c.args.bank c.args.side).places c.first_behind.result) past c.first_behind.ensures.found)
     (ap (λ (b : Book). b.orders) c.self.view_is)
@@ -35,4 +35,4 @@ returns-clause-price g c =
 pub returns-clause-valid : goal.returns-clause-valid
 returns-clause-valid g c =
     kept_book c.self.inside.banks c.self.inside.orders c.self.inside.rows c.args.self.now
-    c.self.invariant (ap (λ (b : Book). b.orders) c.self.view_is) (ap (λ (b : Book). b.banks) c.self.view_is)
+    c.self.invariant.kept (ap (λ (b : Book). b.orders) c.self.view_is) (ap (λ (b : Book). b.banks) c.self.view_is)

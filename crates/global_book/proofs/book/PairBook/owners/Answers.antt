@@ -6,10 +6,10 @@ use Rattle.global_book.proofs.book.PairBook.owners.Goals as goal
 
 pub returns-clause-owners : goal.returns-clause-owners
 returns-clause-owners c =
-    owners_are c.self.inside.banks c.self.inside.orders c.self.inside.rows c.self.invariant c.args.self.now c.listed.result.now
+    owners_are c.self.inside.banks c.self.inside.orders c.self.inside.rows c.self.invariant.kept c.args.self.now c.listed.result.now
     (ap (λ (b : Book). b.orders) c.self.view_is) (ap (λ (b : Book). b.banks) c.self.view_is) c.listed.ensures.value
 
 pub returns-clause-valid : goal.returns-clause-valid
 returns-clause-valid c =
     kept_book c.self.inside.banks c.self.inside.orders c.self.inside.rows c.args.self.now
-    c.self.invariant (ap (λ (b : Book). b.orders) c.self.view_is) (ap (λ (b : Book). b.banks) c.self.view_is)
+    c.self.invariant.kept (ap (λ (b : Book). b.orders) c.self.view_is) (ap (λ (b : Book). b.banks) c.self.view_is)
