@@ -85,7 +85,7 @@ fn ends<L: Ledger>(
     let mut steps = Steps::<L>::new(blank);
     let front = none.front(&mut steps);
     let after = one.after(&place(5, 0), &mut steps);
-    let from = one.from(&place(5, 1), &mut steps);
+    let from = one.first_from(&place(5, 1));
     (front, after, from)
 }
 

@@ -118,17 +118,7 @@ impl Levels {
         self.chunks.get(spot)
     }
 
-    /// The first place that does not stand before this one, which need not be there; `None` where there is none.
-    pub fn from<L: Ledger>(&self, place: &Place, steps: &mut Steps<L>) -> Option<Place>
-        ensures first { result ≡ first_where (λ other. not (ladder.sorts_before self.now.side other place.now)) self.now.places }
-        ensures step { steps.new ≡ steps.old + 1 }
-        ensures sorted { IsSorted self.now.side self.now.places }
-    {
-        steps.tick();
-        self.first_from(place)
-    }
-
-    /// The same as `from`, for a caller that counts no steps.
+    /// The first place that does not stand before this one, which need not be there; `None` where there is none. It counts no step.
     pub fn first_from(&self, place: &Place) -> Option<Place>
         ensures first { result ≡ first_where (λ other. not (ladder.sorts_before self.now.side other place.now)) self.now.places }
         ensures sorted { IsSorted self.now.side self.now.places }
