@@ -3,7 +3,6 @@ use Rattle.std.proofs.Common.{ℕ, ◌≡◌, ◌≢◌, ◌<◌, ◌^◌, List,
 use Rattle.std.proofs.lemmas.List.{get_or-set_same, get_or-set_other, get_or_past}
 use Rattle.std.proofs.Math.ListN.{set}
 use Rattle.std.proofs.lemmas.Bool.{cases_Bool, cases_eq, cases_lt, cond-true, cond-false, eq-eqb, eqb-true, ne_eqb, both_ways}
-use Rattle.std.specs.Option.{IsSomeAnd}
 use Rattle.std.specs.Result.{IsOk, OnOk}
 use Rattle.fx_rules.specs.declared.orders.Resting.{Resting}
 use Rattle.order_store.specs.Orders.{Orders, order_at, AreOrders, Lacks}
@@ -15,7 +14,7 @@ name_of-injective bank number bank' number' p q same =
     let banks : bank ≡ bank' = omega arith in
     (banks, omega arith)
 
-pub some_same : {X : Type 0} (a b : X) → Some a ≡ Some b → a ≡ b
+some_same : {X : Type 0} (a b : X) → Some a ≡ Some b → a ≡ b
 some_same a b same = cc
 
 pub IsIndexed-empty : (slot_at : ℕ → Option Resting) (names : ℕ → Option ℕ) → ((key : ℕ) → slot_at key ≡ None) → ((name : ℕ) → names name ≡ None) → IsIndexed slot_at names
@@ -185,7 +184,7 @@ Indexes-removed slots slots' names names' key order name indexed was gone others
     IsIndexed-removed (λ k. get_or slots k None) (λ k. get_or slots' k None) names names' key order indexed was gone others
     (λ q. taken q ∙ ap (λ (n : ℕ). cond (eqb n q) None (names q)) is_name)
 
-pub within_slots : (slots : List (Option Resting)) (key : ℕ) (order : Resting) → get_or slots key None ≡ Some order → key < length slots
+within_slots : (slots : List (Option Resting)) (key : ℕ) (order : Resting) → get_or slots key None ≡ Some order → key < length slots
 within_slots slots key order is =
     elim (cases_lt key (length slots)) [
       | inl below ↦ below
@@ -199,7 +198,3 @@ Indexes-lowered slots names key left order indexed was =
     let within : key < length slots = within_slots slots key order was in
     IsIndexed-lowered (λ k. get_or slots k None) (λ k. get_or (set slots key (Some new)) k None) names key order new indexed was
     (get_or-set_same slots key (Some new) None within) (λ other differ. get_or-set_other slots key other (Some new) None differ) refl refl
-
--- what is said of a slot with an order is said of that order
-pub if_some_and : (slot : Option Resting) (order : Resting) (P : Resting → Type 0) → slot ≡ Some order → IsSomeAnd slot P → P order
-if_some_and slot order P is holds = subst (λ (s : Option Resting). IsSomeAnd s P) is holds

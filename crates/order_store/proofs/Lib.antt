@@ -1,3 +1,2 @@
 pub mod Indexing
-pub mod Summing
 mod Earliest

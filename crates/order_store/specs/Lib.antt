@@ -1,3 +1,2 @@
 pub mod Orders
-pub mod Levels
 pub mod inside

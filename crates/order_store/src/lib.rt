@@ -2,6 +2,5 @@
 #![tactic(auto)]
 
 mod store;
-mod sums;
 
 pub use store::{OrderKey, OrderStore};

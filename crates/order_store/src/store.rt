@@ -1,12 +1,9 @@
 ghost use Rattle.std.specs.Prelude.{ℕ, ◌≡◌, ◌+◌, ◌<◌, ◌≤◌, ◌^◌, [], Some, None, OnOk, IfSome, IsSome, IsSomeAnd};
-ghost use Rattle.order_store.specs.Levels.{is_at, lots_where};
 ghost use Rattle.order_store.specs.inside.Earliest.{earlier};
-ghost use Rattle.order_store.specs.inside.Levels.{level_number};
 ghost use Rattle.order_store.specs.Orders.{AreOrders, Changes, IsEarliest, IsFrom, IsOf, Lacks, kept, order_at};
 ghost use Rattle.order_store.specs.inside.Orders as orders;
 
-use crate::sums::LevelSums;
-use fx_amounts::{BankId, Lots, Memory, Price, Side};
+use fx_amounts::{BankId, Lots, Memory};
 use fx_rules::Resting;
 use slab::Slab;
 use std::alloc::Global;
@@ -23,22 +20,20 @@ pub struct OrderStore {
     orders: Slab<Resting>,
     /// The key of each order, by its bank and number as one.
     names: HashMap<u64, usize>,
-    /// The lots of the orders by bank, side and price.
-    sums: LevelSums,
 }
 
 impl Model for OrderStore {
-    ghost use Rattle.std.specs.Prelude.{◌-◌, min, nat_eq};
+    ghost use Rattle.std.specs.Prelude.{◌-◌, None, min, nat_eq, slice_index_or};
     ghost use Rattle.std.specs.HashMap.{get, spare};
     ghost use Rattle.slab.specs.Slab.{slab_len};
     ghost use Rattle.order_store.specs.Orders.{Orders};
-    ghost use Rattle.order_store.specs.inside.Levels.{IsStored};
+    ghost use Rattle.order_store.specs.inside.Orders.{IsIndexed};
 
     ghost Value = { Orders };
 
-    ghost view = { λ s. record { slots = s.orders.slots; room = min (s.orders.capacity - slab_len s.orders) (min (spare s.names) (spare s.sums.lots)) } };
+    ghost view = { λ s. record { slots = s.orders.slots; room = min (s.orders.capacity - slab_len s.orders) (spare s.names) } };
 
-    ghost invariant = { λ s. IsStored s.orders.slots (get nat_eq s.names) (get nat_eq s.sums.lots) };
+    ghost invariant = { λ s. IsIndexed (λ key. slice_index_or s.orders.slots key None) (get nat_eq s.names) };
 }
 
 impl OrderStore {
@@ -49,7 +44,6 @@ impl OrderStore {
         OrderStore {
             orders: Slab::new(alloc),
             names: HashMap::new(alloc),
-            sums: LevelSums::new(alloc),
         }
     }
 
@@ -70,7 +64,7 @@ impl OrderStore {
     {
         self.orders.reserve(orders)?;
         self.names.reserve(orders)?;
-        self.sums.reserve(orders)
+        Ok(())
     }
 
     /// Keeps an order under a new key. It takes one of the places that there is room for.
@@ -83,8 +77,6 @@ impl OrderStore {
         ensures valid { AreOrders self.new }
     {
         let name = name_of(order.bank, order.number);
-        let level = level_of(order.bank, order.side, order.price);
-        self.sums.add(level, order.left, self.orders.len());
         let key = self.orders.insert_reserved(order);
         let put: Result<_, _> = self.names.insert(name, key);
         put.unwrap();
@@ -107,15 +99,6 @@ impl OrderStore {
         ensures room { self.new.room ≡ self.old.room }
         ensures valid { AreOrders self.new }
     {
-        let Resting {
-            bank,
-            side,
-            price,
-            left: had,
-            ..
-        } = *self.orders.get(key.0).unwrap();
-        self.sums
-            .take(level_of(bank, side, price), had.count() - left.count());
         let order = self.orders.get_mut(key.0).unwrap();
         order.left = left;
     }
@@ -130,10 +113,6 @@ impl OrderStore {
     {
         let order = self.orders.remove(key.0);
         self.names.remove(&name_of(order.bank, order.number));
-        self.sums.take(
-            level_of(order.bank, order.side, order.price),
-            order.left.count(),
-        );
         order
     }
 
@@ -161,14 +140,6 @@ impl OrderStore {
         }
         first
     }
-
-    /// The lots that the orders of a bank and a side have left at a price.
-    pub fn lots_at(&self, bank: BankId, side: Side, price: Price) -> u128
-        ensures lots { result ≡ lots_where (is_at bank side price) self.now.slots }
-        ensures valid { AreOrders self.now }
-    {
-        self.sums.of(level_of(bank, side, price))
-    }
 }
 
 /// The one of two orders that arrived earlier; the second where there is no first.
@@ -188,16 +159,4 @@ fn name_of(bank: BankId, number: u32) -> u64
     ensures number { number < 2 ^ 32 }
 {
     bank.index() as u64 * (1 << 32) + u64::from(number)
-}
-
-/// The number that stands for a bank, a side and a price.
-fn level_of(bank: BankId, side: Side, price: Price) -> u64
-    ensures value { result ≡ level_number bank side price }
-    ensures price { price < 2 ^ 30 }
-{
-    let side = match side {
-        Side::Buy => 0,
-        Side::Sell => 1,
-    };
-    bank.index() as u64 * (1 << 31) + side * (1 << 30) + u64::from(price.ticks())
 }

@@ -39,4 +39,4 @@ pub returns-clause-earliest : goal.returns-clause-earliest
 returns-clause-earliest c = seeks-ends c.args.bank c.args.after c.args.self.now c.loop-order.order-iterator c.loop-order.first c.in-None.ensures.steps.0 c.loop-order.invariant.2
 
 pub returns-clause-valid : goal.returns-clause-valid
-returns-clause-valid c = AreOrders-seen c.self.inside.orders.slots _ (map.get nat_eq c.self.inside.names) c.args.self.now c.self.view_is c.self.invariant.indexed
+returns-clause-valid c = AreOrders-seen c.self.inside.orders.slots _ (map.get nat_eq c.self.inside.names) c.args.self.now c.self.view_is c.self.invariant
