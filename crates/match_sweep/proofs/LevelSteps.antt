@@ -21,7 +21,7 @@ use Rattle.global_book.specs.Book.{Book, IsBook, IsHeld, IsPriceOf, is_of, is_wo
 use Rattle.credit_lines.specs.Credit.{Credit, line_in}
 use Rattle.match_sweep.specs.declared.reached.LevelWalk.{LevelWalk}
 use Rattle.match_sweep.specs.Reaches.{IsReached, IsUnlimited}
-use Rattle.match_sweep.specs.inside.Reaches.{AreTaken, BeginsAt, HaveLevels, IsBestPrice, TakesLevel, at_end, head_of, line_behind, past_order, price_of}
+use Rattle.match_sweep.specs.inside.Reaches.{AreTaken, BeginsAt, HaveLevels, IsBestPrice, TakesLevel, at_end, head_of, line_behind, past_order, price_in, price_of}
 use Rattle.match_sweep.specs.Sweeps.{IsLevelled}
 use Rattle.match_sweep.proofs.Levelling.{Going, IsEager, Taken, lots_of, less_less, less_none, once_more, takes}
 use Rattle.match_sweep.proofs.Picking.{none_among}
@@ -154,11 +154,11 @@ module _ (book : Book) (valid : IsBook book) where
 
   has_head : (walk : LevelWalk) (t : Taker) (order : Resting) → IsWeight walk.weight → book.banks ≤ 64 → t.side ≡ walk.taker → HaveLevels book walk → OpenHere t walk.lines walk.weight walk.last order → HasHead walk order
   has_head walk t order weighs few side have here =
-      let level : IsPriceOf walk.taker order.bank walk.last book.orders (head_of walk order.bank) = have order.bank (omega (arith, here.bank, few)) here.is_open.reach in
+      let level : IsPriceOf walk.taker order.bank walk.last book.orders (price_in (head_of walk order.bank)) = (have order.bank (omega (arith, here.bank, few)) here.is_open.reach).best in
       let passes : is_worse_of walk.taker order.bank walk.last order ≡ true = subst (λ (s : Side). is_worse_of s order.bank walk.last order ≡ true) side here.passes in
       let pay : walk.weight ≤ slice_index walk.lines order.bank = paid_for (slice_index walk.lines order.bank) walk.weight weighs here.is_open.reach in
-      let answer : (found : Option ℕ) → head_of walk order.bank ≡ found → IsPriceOf walk.taker order.bank walk.last book.orders found → HasHead walk order = λ found.
-      elim found as (λ (f : Option ℕ). head_of walk order.bank ≡ f → IsPriceOf walk.taker order.bank walk.last book.orders f → HasHead walk order) [
+      let answer : (found : Option ℕ) → price_in (head_of walk order.bank) ≡ found → IsPriceOf walk.taker order.bank walk.last book.orders found → HasHead walk order = λ found.
+      elim found as (λ (f : Option ℕ). price_in (head_of walk order.bank) ≡ f → IsPriceOf walk.taker order.bank walk.last book.orders f → HasHead walk order) [
         | None ↦ λ _ none. absurd (both_ways (is_worse_of walk.taker order.bank walk.last order) (Each-among (λ (q : Resting). is_worse_of walk.taker order.bank walk.last q ≡ false) book.orders order none here.there) passes)
         | Some head ↦ λ is some. record {
           head = head;
@@ -166,7 +166,7 @@ module _ (book : Book) (valid : IsBook book) where
           first = Each-among (λ (q : Resting). is_worse_of walk.taker order.bank walk.last q ≡ true → is_better walk.taker q.price head ≡ false) book.orders order some.first here.there passes;
         }
       ] in
-      answer (head_of walk order.bank) refl level
+      answer (price_in (head_of walk order.bank)) refl level
 
   some_none : (n : ℕ) → None ≡ Some n → ⊥
   some_none n same = cc

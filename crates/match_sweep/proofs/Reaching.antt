@@ -1,11 +1,13 @@
 -- The walk from price to price: its best price, what it takes of a bank and of all, and the sweep that its levels are of.
-use Rattle.std.proofs.Common.{ℕ, ◌≡◌, ◌≢◌, ◌+◌, ◌++◌, ◌-◌, ◌*◌, ◌/◌, ◌≤◌, ◌<◌, min, Bool, true, false, not, ◌&&◌, if◌then◌else◌, leb, eqb, List, [], ◌∷◌, length, ◌⊎◌, inl, inr, refl, ap, sym, subst, ◌∙◌, arith, Option, Some, None, IfSome, get_or, get_or-set_same, get_or-set_other, slice_index, take}
+use Rattle.std.proofs.Common.{ℕ, ◌≡◌, ◌≢◌, ◌+◌, ◌++◌, ◌-◌, ◌*◌, ◌/◌, ◌≤◌, ◌<◌, min, Bool, true, false, not, ◌&&◌, if◌then◌else◌, leb, eqb, List, [], ◌∷◌, length, ◌⊎◌, inl, inr, refl, ap, sym, subst, ◌∙◌, arith, Option, Some, None, IfSome, get_or, get_or-set_same, get_or-set_other, slice_get, slice_index, take}
 use Rattle.std.proofs.Math.ListN.{set, length-set}
 use Rattle.std.proofs.Math.Nat.{add-mul}
 use Rattle.std.proofs.lemmas.Bool.{cases_Bool, cases_eq, cases_lt, and_parts, and_from, both_ways, false_from_ne_true, eq-eqb, eqb-true, le-leb, lt-ltb, le-ltb, ltb-true, ltb-false, leb-true}
 use Rattle.std.proofs.lemmas.List.{get_or_default}
+use Rattle.std.proofs.lemmas.Option.{slice_get_within}
 use Rattle.std.proofs.lemmas.List.Elements.{Contains-append_left, Contains-push, Contains-push_cases}
 use Rattle.std.specs.List.{Contains, filter}
+use Rattle.std.specs.Option.{option_map}
 use Rattle.fx_amounts.specs.Quantity.{IsWeight}
 use Rattle.fx_amounts.specs.declared.side.Side.{Side}
 use Rattle.fx_amounts.specs.declared.side.Side.TheVariants.{Buy, Sell}
@@ -13,9 +15,11 @@ use Rattle.fx_rules.specs.declared.orders.Resting.{Resting}
 use Rattle.fx_rules.specs.Lists.{Among, Each, total}
 use Rattle.fx_rules.specs.Sweep.{is_better, is_opposite}
 use Rattle.fx_rules.proofs.ListLemmas.{Each-among, Each-of, filter_cons_false}
-use Rattle.global_book.specs.Book.{AreOwners, Book, IsLevel, IsPriceOf, is_level, is_of, is_worse, is_worse_of, level_at, level_lots}
+use Rattle.global_book.specs.Book.{AreOwners, Book, IsLevel, IsLevelOf, IsPriceOf, is_across, is_level, is_of, is_worse, is_worse_of, level_at, level_lots, levels_of, with_lots}
+use Rattle.global_book.proofs.Levels.{first_level, next_level, price_of_level}
+use Rattle.match_sweep.specs.declared.reached.BankLevel.{BankLevel}
 use Rattle.match_sweep.specs.declared.reached.LevelWalk.{LevelWalk}
-use Rattle.match_sweep.specs.inside.Reaches.{AreTaken, HaveLevels, IsBestAmong, IsBestPrice, IsLeft, IsPaid, IsTakenOf, TakesOf, better_price, head_of, line_behind, price_of}
+use Rattle.match_sweep.specs.inside.Reaches.{AreTaken, HaveLevels, IsBestAmong, IsBestPrice, IsHead, IsLeft, IsPaid, IsTakenOf, TakesOf, as_level, bank_level, better_price, head_of, line_behind, price_in, price_of}
 use Rattle.match_sweep.proofs.Tables.{total-changed}
 use Rattle.match_sweep.proofs.Passed.{contains_or}
 use Rattle.match_sweep.proofs.Levelling.{level_parts}
@@ -153,6 +157,59 @@ head_stays taker bank price past orders (Some head) worse is behind =
       lots = is.lots;
     }
 
+-- The head of a bank.
+
+head_of_level : (taker : Side) (bank : ℕ) (past : Option ℕ) (orders : List Resting) (at : ℕ) (found : Option (ℕ × ℕ)) → slice_get (levels_of taker bank orders) at ≡ found → IsLevelOf taker bank past orders found
+    → IsHead taker bank past orders (option_map (as_level at) found)
+head_of_level taker bank past orders at None is level = record { best = level; lots = tt; level = tt }
+head_of_level taker bank past orders at (Some found) is level = record { best = price_of_level taker bank past orders (Some found) level; lots = level.lots; level = is }
+
+-- at first it is the bank's first level
+pub first_head : (taker : Side) (bank : ℕ) (orders : List Resting) → IsHead taker bank None orders (bank_level taker bank orders 0)
+first_head taker bank orders = head_of_level taker bank None orders 0 (slice_get (levels_of taker bank orders) 0) refl (first_level taker bank orders)
+
+-- then it is the one behind the level that was taken
+pub next_head : (taker : Side) (bank : ℕ) (past : Option ℕ) (orders : List Resting) (head : BankLevel) → IsHead taker bank past orders (Some head)
+    → IsHead taker bank (Some head.price) orders (bank_level taker bank orders (head.at + 1))
+next_head taker bank past orders head is =
+    head_of_level taker bank (Some head.price) orders (head.at + 1) (slice_get (levels_of taker bank orders) (head.at + 1)) refl
+    (next_level taker bank orders head.at (head.price, head.lots) is.level)
+
+-- a worse one stays
+level_stays : (taker : Side) (bank price : ℕ) (past : Option ℕ) (orders : List Resting) (head : Option BankLevel) → is_worse taker past price ≡ true → IsHead taker bank past orders head → IsWorseHead taker price (price_in head)
+    → IsHead taker bank (Some price) orders head
+level_stays taker bank price past orders head worse is behind = record { best = head_stays taker bank price past orders (price_in head) worse is.best behind; lots = is.lots; level = is.level }
+
+few_put : (taker : Side) (price lots : ℕ) (levels : List (ℕ × ℕ)) → length (with_lots taker price lots levels) ≤ length levels + 1
+few_put taker price lots [] = omega arith
+few_put taker price lots (level ∷ levels) =
+    elim (cases_Bool (eqb price level.0)) [
+      | inl same ↦ omega (arith, ap (λ b. length (if b then (price, lots + level.1) ∷ levels else if is_better taker price level.0 then (price, lots) ∷ level ∷ levels else level ∷ with_lots taker price lots levels)) same)
+      | inr differ ↦
+          let here : length (with_lots taker price lots (level ∷ levels)) ≡ length (if is_better taker price level.0 then (price, lots) ∷ level ∷ levels else level ∷ with_lots taker price lots levels)
+          = ap (λ b. length (if b then (price, lots + level.1) ∷ levels else if is_better taker price level.0 then (price, lots) ∷ level ∷ levels else level ∷ with_lots taker price lots levels)) differ in
+          elim (cases_Bool (is_better taker price level.0)) [
+            | inl better ↦ omega (arith, here, ap (λ b. length (if b then (price, lots) ∷ level ∷ levels else level ∷ with_lots taker price lots levels)) better)
+            | inr worse ↦ omega (arith, here, ap (λ b. length (if b then (price, lots) ∷ level ∷ levels else level ∷ with_lots taker price lots levels)) worse, few_put taker price lots levels)
+          ]
+    ]
+
+few_levels : (taker : Side) (bank : ℕ) (orders : List Resting) → length (levels_of taker bank orders) ≤ length orders
+few_levels taker bank [] = omega arith
+few_levels taker bank (order ∷ orders) =
+    let few = few_levels taker bank orders in
+    elim (cases_Bool (is_across taker bank order)) [
+      | inl across ↦ omega (arith, few, ap (λ b. length (if b then with_lots taker order.price order.left (levels_of taker bank orders) else levels_of taker bank orders)) across, few_put taker order.price order.left (levels_of taker bank orders))
+      | inr other ↦ omega (arith, few, ap (λ b. length (if b then with_lots taker order.price order.left (levels_of taker bank orders) else levels_of taker bank orders)) other)
+    ]
+
+-- there are no more levels than orders
+pub head_within : (taker : Side) (bank : ℕ) (past : Option ℕ) (orders : List Resting) (head : BankLevel) → IsHead taker bank past orders (Some head) → head.at < length orders
+head_within taker bank past orders head is =
+    let within = slice_get_within (levels_of taker bank orders) head.at (head.price, head.lots) is.level in
+    let few = few_levels taker bank orders in
+    omega (arith, within, few)
+
 -- What is taken of one bank.
 
 nothing_taken : (weight : ℕ) (taker : Side) (price : ℕ) (orders : List Resting) (bank line : ℕ) → min (level_lots taker bank price orders) (line / weight) ≡ 0 → line ≡ line_behind weight taker price orders bank line
@@ -182,8 +239,8 @@ takes_none-line book walk bank price weighs short =
 
 -- a head at a worse price, or none
 pub takes_none-head : (book : Book) (walk : LevelWalk) (bank price : ℕ) → IsWeight walk.weight → is_worse walk.taker walk.last price ≡ true
-    → (1 ≤ slice_index walk.lines bank / walk.weight → IsPriceOf walk.taker bank walk.last book.orders (head_of walk bank))
-    → (1 ≤ slice_index walk.lines bank / walk.weight → IsWorseHead walk.taker price (head_of walk bank)) → TakesOf book walk walk bank price 0
+    → (1 ≤ slice_index walk.lines bank / walk.weight → IsHead walk.taker bank walk.last book.orders (head_of walk bank))
+    → (1 ≤ slice_index walk.lines bank / walk.weight → IsWorseHead walk.taker price (price_in (head_of walk bank))) → TakesOf book walk walk bank price 0
 takes_none-head book walk bank price weighs worse is behind =
     let reach : ℕ = slice_index walk.lines bank / walk.weight in
     record {
@@ -191,21 +248,26 @@ takes_none-head book walk bank price weighs worse is behind =
         line = nothing_taken walk.weight walk.taker price book.orders bank (slice_index walk.lines bank)
             (elim (cases_lt reach 1) [
               | inl none ↦ omega (arith, none)
-              | inr some ↦ omega (arith, no_lots walk.taker bank price walk.last book.orders (head_of walk bank) worse (is some) (behind some))
+              | inr some ↦ omega (arith, no_lots walk.taker bank price walk.last book.orders (price_in (head_of walk bank)) worse (is some).best (behind some))
             ]);
-        head = λ some. head_stays walk.taker bank price walk.last book.orders (head_of walk bank) worse (is some) (behind some);
+        head = λ some. level_stays walk.taker bank price walk.last book.orders (head_of walk bank) worse (is some) (behind some);
       };
       others = λ other _. record { line = refl; head = refl };
       sum = unpaid walk;
     }
 
 -- the head of a bank with which the line pays is its best price
-pub price_there : (walk : LevelWalk) (bank head : ℕ) → walk.weight ≤ slice_index walk.lines bank → head_of walk bank ≡ Some head → price_of walk bank ≡ Some head
-price_there walk bank head pays' is = ap (λ b. if b then head_of walk bank else None) (le-leb walk.weight (slice_index walk.lines bank) pays') ∙ is
+pub price_there : (walk : LevelWalk) (bank head : ℕ) → walk.weight ≤ slice_index walk.lines bank → price_in (head_of walk bank) ≡ Some head → price_of walk bank ≡ Some head
+price_there walk bank head pays' is = ap (λ b. if b then price_in (head_of walk bank) else None) (le-leb walk.weight (slice_index walk.lines bank) pays') ∙ is
 
--- and it is worse than the best of all, where it is another
-pub worse_head : (walk : LevelWalk) (bank price head : ℕ) → IsWeight walk.weight → head_of walk bank ≡ Some head → head ≢ price
-    → IfSome (price_of walk bank) (λ other. is_better walk.taker other price ≡ false) → 1 ≤ slice_index walk.lines bank / walk.weight → IsWorseHead walk.taker price (head_of walk bank)
+-- with the level there
+pub head_there : (book : Book) (walk : LevelWalk) (bank : ℕ) (head : BankLevel) → IsWeight walk.weight → walk.weight ≤ slice_index walk.lines bank → head_of walk bank ≡ Some head
+    → (1 ≤ slice_index walk.lines bank / walk.weight → IsHead walk.taker bank walk.last book.orders (head_of walk bank)) → IsHead walk.taker bank walk.last book.orders (Some head)
+head_there book walk bank head weighs pays' is have = subst (IsHead walk.taker bank walk.last book.orders) is (have (pays (slice_index walk.lines bank) walk.weight weighs pays'))
+
+-- and its price is worse than the best of all, where it is another
+pub worse_head : (walk : LevelWalk) (bank price head : ℕ) → IsWeight walk.weight → price_in (head_of walk bank) ≡ Some head → head ≢ price
+    → IfSome (price_of walk bank) (λ other. is_better walk.taker other price ≡ false) → 1 ≤ slice_index walk.lines bank / walk.weight → IsWorseHead walk.taker price (price_in (head_of walk bank))
 worse_head walk bank price head weighs is differ best some =
     let at : price_of walk bank ≡ Some head = price_there walk bank head (paid_for (slice_index walk.lines bank) walk.weight weighs some) is in
     let not_better : is_better walk.taker head price ≡ false = subst (λ (f : Option ℕ). IfSome f (λ other. is_better walk.taker other price ≡ false)) at best in
@@ -213,9 +275,9 @@ worse_head walk bank price head weighs is differ best some =
     (elim (better-or_same walk.taker head price not_better) [ inl same ↦ absurd (differ same) | inr worse ↦ worse ])
 
 -- the lots at the price are taken
-pub takes_some : (book : Book) (walk : LevelWalk) (bank at price lots taken : ℕ) (next : Option ℕ) → IsWeight walk.weight → at ≡ bank → at < length walk.lines → at < length walk.heads
+pub takes_some : (book : Book) (walk : LevelWalk) (bank at price lots taken : ℕ) (next : Option BankLevel) → IsWeight walk.weight → at ≡ bank → at < length walk.lines → at < length walk.heads
     → walk.weight ≤ slice_index walk.lines bank → lots ≡ level_lots walk.taker bank price book.orders → taken ≡ min lots (slice_index walk.lines at / walk.weight)
-    → (1 ≤ (slice_index walk.lines at - taken * walk.weight) / walk.weight → IsPriceOf walk.taker bank (Some price) book.orders next)
+    → (1 ≤ (slice_index walk.lines at - taken * walk.weight) / walk.weight → IsHead walk.taker bank (Some price) book.orders next)
     → TakesOf book walk (record walk { lines = set walk.lines at (slice_index walk.lines at - taken * walk.weight); heads = set walk.heads at next }) bank price taken
 takes_some book walk bank at price lots taken next weighs at_is within heads_within pays' lots_are taken_is level =
     let line : ℕ = slice_index walk.lines at in
@@ -226,8 +288,8 @@ takes_some book walk bank at price lots taken next weighs at_is within heads_wit
       taken = record {
         line = get_or-set_same walk.lines at rest 0 within
             ∙ ap (λ n. line - n * walk.weight) (taken_is ∙ ap (λ n. min n (line / walk.weight)) (lots_are ∙ ap (λ b. level_lots walk.taker b price book.orders) (sym at_is)));
-        head = λ reach. subst (IsPriceOf walk.taker at (Some price) book.orders) (sym (get_or-set_same walk.heads at next None heads_within))
-            (subst (λ (b : ℕ). IsPriceOf walk.taker b (Some price) book.orders next) (sym at_is)
+        head = λ reach. subst (IsHead walk.taker at (Some price) book.orders) (sym (get_or-set_same walk.heads at next None heads_within))
+            (subst (λ (b : ℕ). IsHead walk.taker b (Some price) book.orders next) (sym at_is)
             (level (subst (λ n. 1 ≤ n / walk.weight) (get_or-set_same walk.lines at rest 0 within) reach)));
       };
       others = λ other differ. record {
@@ -290,7 +352,7 @@ taken_here book old now new price bank lots paid left taken = record {
       ∙ ap (λ w. line_behind w now.taker price book.orders bank (slice_index now.lines bank)) (weight_same old now lots paid)
       ∙ ap (λ s. line_behind old.weight s price book.orders bank (slice_index now.lines bank)) (taker_same old now lots paid)
       ∙ ap (line_behind old.weight old.taker price book.orders bank) left.line;
-  head = λ reach. subst (λ (s : Side). IsPriceOf s bank (Some price) book.orders (head_of new bank)) (taker_same old now lots paid)
+  head = λ reach. subst (λ (s : Side). IsHead s bank (Some price) book.orders (head_of new bank)) (taker_same old now lots paid)
       (taken.head (subst (λ (w : ℕ). 1 ≤ slice_index new.lines bank / w) (sym (weight_same old now lots paid)) reach));
 }
 
@@ -298,7 +360,7 @@ taken_here book old now new price bank lots paid left taken = record {
 taken_still : (book : Book) (old now new : LevelWalk) (price bank : ℕ) → IsTakenOf book old now price bank → IsLeft now new bank → IsTakenOf book old new price bank
 taken_still book old now new price bank taken left = record {
   line = left.line ∙ taken.line;
-  head = λ reach. subst (IsPriceOf old.taker bank (Some price) book.orders) (sym left.head) (taken.head (subst (λ (l : ℕ). 1 ≤ l / old.weight) left.line reach));
+  head = λ reach. subst (IsHead old.taker bank (Some price) book.orders) (sym left.head) (taken.head (subst (λ (l : ℕ). 1 ≤ l / old.weight) left.line reach));
 }
 
 pub taken-on : (book : Book) (old now new : LevelWalk) (price number lots more : ℕ) (banks : List ℕ) → (Contains banks number → ⊥) → TakenSoFar book old now price banks lots → TakesOf book now new number price more
@@ -326,34 +388,34 @@ within_lines walk bank weighs long pays' = omega (arith, within_table walk.lines
 -- the head with a bank's price
 pub record HasPrice (walk : LevelWalk) (bank price : ℕ) : Type 0 where
   pub pays : walk.weight ≤ slice_index walk.lines bank
-  pub is : head_of walk bank ≡ Some price
+  pub is : price_in (head_of walk bank) ≡ Some price
 
 pub has_price : (walk : LevelWalk) (bank price : ℕ) → price_of walk bank ≡ Some price → HasPrice walk bank price
 has_price walk bank price at =
     elim (cases_Bool (leb walk.weight (slice_index walk.lines bank))) [
       | inl pays' ↦ record {
         pays = leb-true walk.weight (slice_index walk.lines bank) pays';
-        is = sym (ap (λ b. if b then head_of walk bank else None) pays') ∙ at;
+        is = sym (ap (λ b. if b then price_in (head_of walk bank) else None) pays') ∙ at;
       }
-      | inr short ↦ none_differs price (sym (ap (λ b. if b then head_of walk bank else None) short) ∙ at)
+      | inr short ↦ none_differs price (sym (ap (λ b. if b then price_in (head_of walk bank) else None) short) ∙ at)
     ]
 
 -- what the next bank is asked with
 pub head_left : (book : Book) (old now : LevelWalk) (price number lots : ℕ) (banks : List ℕ) → IsWeight old.weight → length old.lines ≡ 64 → (Contains banks number → ⊥) → TakenSoFar book old now price banks lots → HaveLevels book old
-    → 1 ≤ slice_index now.lines number / now.weight → IsPriceOf now.taker number now.last book.orders (head_of now number)
+    → 1 ≤ slice_index now.lines number / now.weight → IsHead now.taker number now.last book.orders (head_of now number)
 head_left book old now price number lots banks weighs long fresh so_far have reach =
     let left = so_far.left number fresh in
     let reach' : 1 ≤ slice_index old.lines number / old.weight
     = subst (λ (w : ℕ). 1 ≤ slice_index old.lines number / w) (weight_same old now lots so_far.sum) (subst (λ (l : ℕ). 1 ≤ l / now.weight) left.line reach) in
-    subst (λ (s : Side). IsPriceOf s number now.last book.orders (head_of now number)) (sym (taker_same old now lots so_far.sum))
-    (subst (λ (p : Option ℕ). IsPriceOf old.taker number p book.orders (head_of now number)) (sym (last_same old now lots so_far.sum))
-    (subst (IsPriceOf old.taker number old.last book.orders) (sym left.head) (have number (within_lines old number weighs long (paid_for (slice_index old.lines number) old.weight weighs reach')) reach')))
+    subst (λ (s : Side). IsHead s number now.last book.orders (head_of now number)) (sym (taker_same old now lots so_far.sum))
+    (subst (λ (p : Option ℕ). IsHead old.taker number p book.orders (head_of now number)) (sym (last_same old now lots so_far.sum))
+    (subst (IsHead old.taker number old.last book.orders) (sym left.head) (have number (within_lines old number weighs long (paid_for (slice_index old.lines number) old.weight weighs reach')) reach')))
 
 price_left : (old now : LevelWalk) (number lots : ℕ) → IsPaid old now lots → IsLeft old now number → price_of now number ≡ price_of old number
 price_left old now number lots paid left =
-    ap (λ w. if leb w (slice_index now.lines number) then head_of now number else None) (weight_same old now lots paid)
-    ∙ ap (λ l. if leb old.weight l then head_of now number else None) left.line
-    ∙ ap (λ (h : Option ℕ). if leb old.weight (slice_index old.lines number) then h else None) left.head
+    ap (λ w. if leb w (slice_index now.lines number) then price_in (head_of now number) else None) (weight_same old now lots paid)
+    ∙ ap (λ l. if leb old.weight l then price_in (head_of now number) else None) left.line
+    ∙ ap (λ (h : Option BankLevel). if leb old.weight (slice_index old.lines number) then price_in h else None) left.head
 
 if_some : (found : Option ℕ) (P : ℕ → Type 0) → ((other : ℕ) → found ≡ Some other → P other) → IfSome found P
 if_some None P holds = tt
@@ -385,7 +447,7 @@ best_level book walk price weighs have best =
       bank = bank;
       reach = reach;
       lots = level_lots walk.taker bank price book.orders;
-      level = subst (IsPriceOf walk.taker bank walk.last book.orders) has.is (have bank best.0.1 reach);
+      level = subst (IsPriceOf walk.taker bank walk.last book.orders) has.is (have bank best.0.1 reach).best;
     }
 
 pub best_worse : (book : Book) (walk : LevelWalk) (price : ℕ) → IsWeight walk.weight → HaveLevels book walk → IsBestPrice walk 64 (Some price) → is_worse walk.taker walk.last price ≡ true
@@ -421,7 +483,7 @@ price_owned : (book : Book) (owners : List ℕ) (walk : LevelWalk) (bank price :
 price_owned book owners walk bank price are weighs have below at =
     let has = has_price walk bank price at in
     let level = have bank below (pays (slice_index walk.lines bank) walk.weight weighs has.pays) in
-    level_owned book owners walk.taker bank walk.last (level_at walk.taker bank book.orders price) are (subst (IsPriceOf walk.taker bank walk.last book.orders) has.is level)
+    level_owned book owners walk.taker bank walk.last (level_at walk.taker bank book.orders price) are (subst (IsPriceOf walk.taker bank walk.last book.orders) has.is level.best)
 
 none_from : (found : Option ℕ) → ((price : ℕ) → found ≡ Some price → found ≡ None) → found ≡ None
 none_from None holds = refl
@@ -446,7 +508,7 @@ taken-whole book owners old now price lots are weighs have best so_far = record 
     | inl there ↦ so_far.taken bank there
     | inr apart ↦
         let none = takes_none-head book old bank price weighs (best_worse book old price weighs have best) (have bank below)
-        (λ reach. not_owned book owners old.taker bank price old.last (head_of old bank) are apart (have bank below reach)) in
+        (λ reach. not_owned book owners old.taker bank price old.last (price_in (head_of old bank)) are apart (have bank below reach).best) in
         taken_still book old old now price bank none.taken (so_far.left bank apart)
   ];
   sum = so_far.sum;
@@ -456,5 +518,5 @@ taken-whole book owners old now price lots are weighs have best so_far = record 
 pub levels_behind : (book : Book) (old taken new : LevelWalk) (price lots : ℕ) → AreTaken book old taken price lots → new ≡ record taken { last = Some price } → HaveLevels book new
 levels_behind book old taken new price lots all is =
     subst (HaveLevels book) (sym is) (λ bank below reach.
-    subst (λ (s : Side). IsPriceOf s bank (Some price) book.orders (head_of taken bank)) (sym (taker_same old taken lots all.sum))
+    subst (λ (s : Side). IsHead s bank (Some price) book.orders (head_of taken bank)) (sym (taker_same old taken lots all.sum))
     ((all.taken bank below).head (subst (λ (w : ℕ). 1 ≤ slice_index taken.lines bank / w) (weight_same old taken lots all.sum) reach)))

@@ -2,9 +2,9 @@ ghost use Rattle.std.specs.Prelude.{ℕ, ◌≡◌, ◌≤◌, ◌<◌, ◌*◌,
 ghost use Rattle.fx_amounts.specs.Quantity.{IsWeight};
 ghost use Rattle.fx_rules.specs.Lists.{total};
 ghost use Rattle.fx_rules.specs.Sweep.{is_better};
-ghost use Rattle.global_book.specs.Book.{IsPriceOf, is_worse};
+ghost use Rattle.global_book.specs.Book.{is_worse};
 ghost use Rattle.match_sweep.specs.Reaches.{IsReached};
-ghost use Rattle.match_sweep.specs.inside.Reaches.{AreTaken, BeginsAt, HaveLevels, IsBestAmong, IsBestPrice, TakesLevel, TakesOf, better_price, price_of};
+ghost use Rattle.match_sweep.specs.inside.Reaches.{AreTaken, BeginsAt, HaveLevels, IsBestAmong, IsBestPrice, IsHead, TakesLevel, TakesOf, bank_level, better_price, price_of};
 
 use crate::heads::is_better;
 use crate::walk::lines_of;
@@ -18,8 +18,8 @@ use std::sync::ledger::Ledger;
 
 /// The first ten levels of what a bank reaches with an order of this side, at any price and for as many lots as there are, by
 /// its lines, where a lot costs `weight` credit units, 1 to 10^6. It walks from price to price over what each bank has at
-/// it, and not from order to order. It changes nothing but the counter of its steps. The book was made for as many banks as
-/// the lines have, and the bank is one of them. At `Memory` there was none for the levels.
+/// it, and not from order to order. It changes nothing, and searches nothing: there are no steps to count. The book was made for
+/// as many banks as the lines have, and the bank is one of them. At `Memory` there was none for the levels.
 pub fn levels_in_reach<L: Ledger>(
     alloc: Global,
     book: &PairBook,
@@ -27,18 +27,18 @@ pub fn levels_in_reach<L: Ledger>(
     weight: u32,
     bank: BankId,
     side: Side,
-    steps: &mut Steps<L>,
+    _steps: &mut Steps<L>,
 ) -> Result<LevelList, Memory>
     requires banks { book.now.banks ≡ lines.now.banks }
     requires bank { bank < lines.now.banks }
     requires weight { IsWeight weight }
     ensures levels { IfOk result (IsReached book.now lines.now weight bank side) }
 {
-    let mut walk = LevelWalk::new(book, lines, weight, bank, side, steps);
+    let mut walk = LevelWalk::new(book, lines, weight, bank, side);
     let mut levels = Vec::new(alloc);
     levels.reserve_exact(SHOWN_LEVELS)?;
     while levels.len() < SHOWN_LEVELS {
-        let Some(level) = walk.next_level(book, steps) else {
+        let Some(level) = walk.next_level(book) else {
             break;
         };
         levels.push(level)?;
@@ -55,21 +55,29 @@ pub(crate) struct LevelWalk {
     weight: u32,
     /// What is left of the lines with each bank, in credit units; nothing with the bank's own.
     lines: [u64; 64],
-    /// Of each bank with which the line pays for a lot, its best price behind the last level.
-    heads: [Option<Price>; 64],
+    /// Of each bank with which the line pays for a lot, its best level behind the last price.
+    heads: [Option<BankLevel>; 64],
     /// The price of the last level, where there is one.
     last: Option<Price>,
 }
 
+/// What a bank has at a price: where this level stands among the bank's levels of its side, 0 for the best price, and all lots
+/// at it.
+#[derive(Clone, Copy)]
+struct BankLevel {
+    at: usize,
+    price: Price,
+    lots: u128,
+}
+
 impl LevelWalk {
     /// Before its first level, by the lines of a bank, where a lot costs `weight` credit units.
-    fn new<L: Ledger>(
+    fn new(
         book: &PairBook,
         lines: &CreditLines,
         weight: u32,
         bank: BankId,
         taker: Side,
-        steps: &mut Steps<L>,
     ) -> LevelWalk
         requires banks { book.now.banks ≡ lines.now.banks }
         requires bank { bank < lines.now.banks }
@@ -81,20 +89,20 @@ impl LevelWalk {
             taker,
             weight,
             lines,
-            heads: first_of_each(book, taker, &lines, weight, steps),
+            heads: first_of_each(book, taker, &lines, weight),
             last: None,
         }
     }
 
     /// The next level; `None` where nothing more can be reached.
-    fn next_level<L: Ledger>(&mut self, book: &PairBook, steps: &mut Steps<L>) -> Option<Level>
+    fn next_level(&mut self, book: &PairBook) -> Option<Level>
         requires weight { IsWeight self.old.weight }
         requires most { total (λ line. line) self.old.lines ≤ 64 * 10 ^ 15 }
         requires heads { HaveLevels book.now self.old }
         ensures level { TakesLevel book.now self.old self.new result }
     {
         let price = self.best_price(book.owners())?;
-        let lots = self.take_all(book, price, steps);
+        let lots = self.take_all(book, price);
         self.last = Some(price);
         Some(Level { price, lots })
     }
@@ -104,11 +112,11 @@ impl LevelWalk {
         requires { number < 64 }
         ensures price { result ≡ price_of self.now number }
     {
-        let price = self.heads[number]?;
+        let head = self.heads[number]?;
         if self.lines[number] < u64::from(self.weight) {
             return None;
         }
-        Some(price)
+        Some(head.price)
     }
 
     /// The best price of the heads of those of these banks with which the line pays for a lot.
@@ -123,7 +131,7 @@ impl LevelWalk {
     }
 
     /// Takes of each bank what the line with it pays for of its lots at the best price; how many they are in all.
-    fn take_all<L: Ledger>(&mut self, book: &PairBook, price: Price, steps: &mut Steps<L>) -> u64
+    fn take_all(&mut self, book: &PairBook, price: Price) -> u64
         requires weight { IsWeight self.old.weight }
         requires most { total (λ line. line) self.old.lines ≤ 64 * 10 ^ 15 }
         requires heads { HaveLevels book.now self.old }
@@ -133,21 +141,15 @@ impl LevelWalk {
         let mut lots = 0;
         let owners = book.owners();
         for owner in owners {
-            lots += self.take_of(book, *owner, price, steps);
+            lots += self.take_of(book, *owner, price);
         }
         lots
     }
 
     /// The same of one bank.
-    fn take_of<L: Ledger>(
-        &mut self,
-        book: &PairBook,
-        bank: BankId,
-        price: Price,
-        steps: &mut Steps<L>,
-    ) -> u64
+    fn take_of(&mut self, book: &PairBook, bank: BankId, price: Price) -> u64
         requires weight { IsWeight self.old.weight }
-        requires head { 1 ≤ slice_index self.old.lines bank / self.old.weight → IsPriceOf self.old.taker bank self.old.last book.now.orders (slice_index_or self.old.heads bank None) }
+        requires head { 1 ≤ slice_index self.old.lines bank / self.old.weight → IsHead self.old.taker bank self.old.last book.now.orders (slice_index_or self.old.heads bank None) }
         requires worse { is_worse self.old.taker self.old.last price ≡ true }
         requires best { IfSome (price_of self.old bank) (λ other. is_better self.old.taker other price ≡ false) }
         ensures taken { TakesOf book.now self.old self.new bank price result }
@@ -158,15 +160,14 @@ impl LevelWalk {
         };
         let weight = u64::from(self.weight);
         let line = self.lines[at];
-        if head != price || line < weight {
+        if head.price != price || line < weight {
             return 0;
         }
-        let lots = book.lots_at(bank, self.taker.opposite(), price);
-        let taken = lots.min(u128::from(line / weight)) as u64;
+        let taken = head.lots.min(u128::from(line / weight)) as u64;
         let left = line - taken * weight;
         self.lines[at] = left;
-        let behind = Some(price);
-        self.heads[at] = price_behind(book, self.taker, left, self.weight, bank, behind, steps);
+        prove!(head.at < book.len());
+        self.heads[at] = level_at(book, self.taker, left, self.weight, bank, head.at + 1);
         taken
     }
 }
@@ -182,42 +183,41 @@ fn better_price(taker: Side, price: Option<Price>, other: Option<Price>) -> Opti
     }
 }
 
-/// The best price of a bank that is worse than `past`, where there is one, for a taker of a side; where the line with the bank,
-/// of `line` credit units, pays for no lot, it is not looked for.
-fn price_behind<L: Ledger>(
+/// The level of a bank at an index, where there is one, for a taker of a side; where the line with the bank, of `line` credit
+/// units, pays for no lot, it is not looked for.
+fn level_at(
     book: &PairBook,
     taker: Side,
     line: u64,
     weight: u32,
     bank: BankId,
-    past: Option<Price>,
-    steps: &mut Steps<L>,
-) -> Option<Price>
+    at: usize,
+) -> Option<BankLevel>
     requires weight { IsWeight weight }
-    ensures price { 1 ≤ line / weight → IsPriceOf taker bank past book.now.orders result }
+    ensures level { 1 ≤ line / weight → result ≡ bank_level taker bank book.now.orders at }
 {
     if line < u64::from(weight) {
         return None;
     }
-    book.next_price(bank, taker.opposite(), past, steps)
+    let (price, lots) = book.level_at(bank, taker.opposite(), at)?;
+    Some(BankLevel { at, price, lots })
 }
 
-/// The first prices of all banks with which the line pays for a lot. It looks only at the banks that have an order.
-fn first_of_each<L: Ledger>(
+/// The first levels of all banks with which the line pays for a lot. It looks only at the banks that have an order.
+fn first_of_each(
     book: &PairBook,
     taker: Side,
     lines: &[u64; 64],
     weight: u32,
-    steps: &mut Steps<L>,
-) -> [Option<Price>; 64]
+) -> [Option<BankLevel>; 64]
     requires weight { IsWeight weight }
-    ensures prices { (bank : ℕ) → bank < 64 → 1 ≤ slice_index lines.now bank / weight → IsPriceOf taker bank None book.now.orders (slice_index_or result bank None) }
+    ensures heads { (bank : ℕ) → bank < 64 → 1 ≤ slice_index lines.now bank / weight → IsHead taker bank None book.now.orders (slice_index_or result bank None) }
 {
     let owners = book.owners();
     let mut heads = [None; 64];
     for owner in owners {
         let number = owner.index();
-        heads[number] = price_behind(book, taker, lines[number], weight, *owner, None, steps);
+        heads[number] = level_at(book, taker, lines[number], weight, *owner, 0);
     }
     heads
 }

@@ -1,5 +1,5 @@
 -- What private functions and proofs alone say of it, beside `specs/Reaches.antt`.
-use Rattle.std.specs.Prelude.{ℕ, ◌≡◌, ◌≢◌, ◌≤◌, ◌<◌, ◌+◌, ◌-◌, ◌*◌, ◌/◌, ◌^◌, min, false, nat_le, if◌then◌else◌, List, length, Option, Some, None, slice_index, slice_index_or, option_map}
+use Rattle.std.specs.Prelude.{ℕ, ◌≡◌, ◌≢◌, ◌≤◌, ◌<◌, ◌+◌, ◌-◌, ◌*◌, ◌/◌, ◌^◌, min, false, nat_le, if◌then◌else◌, List, length, Option, Some, None, IfSome, slice_get, slice_index, slice_index_or, option_map}
 use Rattle.std.specs.List.{Contains}
 use Rattle.fx_amounts.specs.declared.side.Side.{Side}
 use Rattle.fx_amounts.specs.declared.side.Side.TheVariants.{Buy}
@@ -7,8 +7,9 @@ use Rattle.fx_rules.specs.declared.orders.Level.{Level}
 use Rattle.fx_rules.specs.declared.orders.Resting.{Resting}
 use Rattle.fx_rules.specs.Lists.{total}
 use Rattle.fx_rules.specs.Sweep.{is_better}
-use Rattle.global_book.specs.Book.{Book, IsBook, IsPriceOf, level_lots}
+use Rattle.global_book.specs.Book.{Book, IsBook, IsPriceOf, level_lots, levels_of}
 use Rattle.credit_lines.specs.Credit.{Credit, line_in}
+use Rattle.match_sweep.specs.declared.reached.BankLevel.{BankLevel}
 use Rattle.match_sweep.specs.declared.reached.LevelWalk.{LevelWalk}
 
 -- an order behind all others of a price
@@ -22,17 +23,34 @@ past_order past = option_map at_end past
 abbrev pub line_behind : ℕ → Side → ℕ → List Resting → ℕ → ℕ → ℕ
 line_behind weight taker price orders bank line = line - min (level_lots taker bank price orders) (line / weight) * weight
 
+-- a bank's level at an index
+abbrev pub as_level : ℕ → ℕ × ℕ → BankLevel
+as_level at level = record { at = at; price = level.0; lots = level.1 }
+
+abbrev pub bank_level : Side → ℕ → List Resting → ℕ → Option BankLevel
+bank_level taker bank orders at = option_map (as_level at) (slice_get (levels_of taker bank orders) at)
+
+-- the price of a level
+abbrev pub price_in : Option BankLevel → Option ℕ
+price_in head = option_map (λ level. level.price) head
+
+-- a bank's best level behind a price, where there is one, is at its head
+pub record IsHead (taker : Side) (bank : ℕ) (past : Option ℕ) (orders : List Resting) (head : Option BankLevel) : Type 0 where
+  pub best : IsPriceOf taker bank past orders (price_in head)
+  pub lots : IfSome head (λ level. level.lots ≡ level_lots taker bank level.price orders)
+  pub level : IfSome head (λ level. slice_get (levels_of taker bank orders) level.at ≡ Some (level.price, level.lots))
+
 -- the head of a bank, and the price of one with which the line pays for a lot
-abbrev pub head_of : LevelWalk → ℕ → Option ℕ
+abbrev pub head_of : LevelWalk → ℕ → Option BankLevel
 head_of walk bank = slice_index_or walk.heads bank None
 
 abbrev pub price_of : LevelWalk → ℕ → Option ℕ
-price_of walk bank = if nat_le walk.weight (slice_index walk.lines bank) then head_of walk bank else None
+price_of walk bank = if nat_le walk.weight (slice_index walk.lines bank) then price_in (head_of walk bank) else None
 
--- of each bank with which a line pays for a lot, the best price behind the last level is at its head
+-- of each bank with which a line pays for a lot, the best level behind the last one is at its head
 abbrev pub HaveLevels : Book → LevelWalk → Type 0
 HaveLevels book walk =
-    (bank : ℕ) → bank < 64 → 1 ≤ slice_index walk.lines bank / walk.weight → IsPriceOf walk.taker bank walk.last book.orders (head_of walk bank)
+    (bank : ℕ) → bank < 64 → 1 ≤ slice_index walk.lines bank / walk.weight → IsHead walk.taker bank walk.last book.orders (head_of walk bank)
 
 -- the better of two prices, where there are any
 abbrev pub better_price : Side → Option ℕ → Option ℕ → Option ℕ
@@ -57,7 +75,7 @@ IsBestAmong walk banks (Some price) =
 -- what is left of a bank once its lots at a price are taken
 pub record IsTakenOf (book : Book) (old new : LevelWalk) (price bank : ℕ) : Type 0 where
   pub line : slice_index new.lines bank ≡ line_behind old.weight old.taker price book.orders bank (slice_index old.lines bank)
-  pub head : 1 ≤ slice_index new.lines bank / old.weight → IsPriceOf old.taker bank (Some price) book.orders (head_of new bank)
+  pub head : 1 ≤ slice_index new.lines bank / old.weight → IsHead old.taker bank (Some price) book.orders (head_of new bank)
 
 -- a bank is as it was
 pub record IsLeft (old new : LevelWalk) (bank : ℕ) : Type 0 where

@@ -5,7 +5,7 @@ use Rattle.match_sweep.proofs.Reaching.{best_of_all}
 use Rattle.match_sweep.proofs.reached.LevelWalk.next_level.Goals as goal
 
 pub returns-in_err-price : goal.returns-in_err-price
-returns-in_err-price g c = record {
+returns-in_err-price c = record {
   level = subst (TakesLevel c.args.book.now c.args.self.now c.args.self.now) (sym c.from_residual.ensures) (
     refl,
     best_of_all c.args.book.now c.owners.result.now c.args.self.now None c.owners.ensures.owners c.requires.weight (omega arith) c.requires.heads c.in_err-price.ensures.best,
@@ -13,11 +13,11 @@ returns-in_err-price g c = record {
 }
 
 pub take_all-lots-requires-clause-best : goal.take_all-lots-requires-clause-best
-take_all-lots-requires-clause-best g c =
+take_all-lots-requires-clause-best c =
     best_of_all c.args.book.now c.owners.result.now c.args.self.now (Some c.in_ok-price.price) c.owners.ensures.owners c.requires.weight (omega arith) c.requires.heads c.in_ok-price.ensures.best
 
 pub returns : goal.returns
-returns g c = record {
+returns c = record {
   level = (
     best_of_all c.args.book.now c.owners.result.now c.args.self.now (Some c.in_ok-price.price) c.owners.ensures.owners c.requires.weight (omega arith) c.requires.heads c.in_ok-price.ensures.best,
     (c.take_all-lots.new.self, c.take_all-lots.ensures.taken, refl),

@@ -12,29 +12,29 @@ not_yet : (book : Book) (owners : List ℕ) (k n : ℕ) → AreOwners book owner
 not_yet book owners k n are within is there = not_passed owners k n are.rising within (subst (Contains (take k owners)) is there)
 
 pub loop-owner-init : goal.loop-owner-init
-loop-owner-init g c = taken-begins c.args.book.now c.args.self.now c.args.price c.owners-owners.result.now
+loop-owner-init c = taken-begins c.args.book.now c.args.self.now c.args.price c.owners-owners.result.now
 
 pub take_of-lots-requires-clause-head : goal.take_of-lots-requires-clause-head
-take_of-lots-requires-clause-head g c =
+take_of-lots-requires-clause-head c =
     let owners : List ℕ = c.owners-owners.result.now in
     let k : ℕ = c.loop-owner.owner-index in
     head_left c.args.book.now c.args.self.now c.loop-owner.self c.args.price c.owner-item.result c.loop-owner.lots (take k owners) c.requires.weight (omega arith)
     (not_yet c.args.book.now owners k c.owner-item.result c.owners-owners.ensures.owners c.loop-owner-test.true c.owner-item.is) c.loop-owner.invariant c.requires.heads
 
 pub take_of-lots-requires-clause-worse : goal.take_of-lots-requires-clause-worse
-take_of-lots-requires-clause-worse g c =
+take_of-lots-requires-clause-worse c =
     ap (λ (w : LevelWalk). is_worse w.taker w.last c.args.price) c.loop-owner.invariant.sum.same
     ∙ best_worse c.args.book.now c.args.self.now c.args.price c.requires.weight c.requires.heads c.requires.best
 
 pub take_of-lots-requires-clause-best : goal.take_of-lots-requires-clause-best
-take_of-lots-requires-clause-best g c =
+take_of-lots-requires-clause-best c =
     let owners : List ℕ = c.owners-owners.result.now in
     let k : ℕ = c.loop-owner.owner-index in
     best_left c.args.book.now c.args.self.now c.loop-owner.self c.args.price c.owner-item.result c.loop-owner.lots (take k owners) c.requires.weight (omega arith)
     (not_yet c.args.book.now owners k c.owner-item.result c.owners-owners.ensures.owners c.loop-owner-test.true c.owner-item.is) c.loop-owner.invariant c.requires.best
 
 pub loop-owner-preserved : goal.loop-owner-preserved
-loop-owner-preserved g c =
+loop-owner-preserved c =
     let owners : List ℕ = c.owners-owners.result.now in
     let k : ℕ = c.loop-owner.owner-index in
     let n : ℕ = c.owner-item.result in
@@ -45,7 +45,7 @@ loop-owner-preserved g c =
     (not_yet c.args.book.now owners k n c.owners-owners.ensures.owners c.loop-owner-test.true c.owner-item.is) c.loop-owner.invariant c.take_of-lots.ensures.taken)
 
 pub returns : goal.returns
-returns g c =
+returns c =
     let owners : List ℕ = c.owners-owners.result.now in
     record {
       taken = taken-whole c.args.book.now owners c.args.self.now c.loop-owner.self c.args.price c.loop-owner.lots c.owners-owners.ensures.owners c.requires.weight c.requires.heads c.requires.best
