@@ -81,16 +81,6 @@ impl BankLevels {
             None => None,
         }
     }
-
-    /// The lots of a bank and a side at a price.
-    pub(crate) fn lots_at(&self, bank: BankId, side: Side, price: Price) -> u128
-        ensures lots { result ≡ lots_of (levels_at self.now bank side).levels price }
-    {
-        match self.banks.get(bank.index()) {
-            Some(sides) => sides.of(side).lots_at(price),
-            None => 0,
-        }
-    }
 }
 
 /// So many banks with no levels.

@@ -4,7 +4,7 @@ ghost use Rattle.fx_amounts.specs.Price.{crosses};
 ghost use Rattle.fx_amounts.specs.Side.{opposite};
 ghost use Rattle.fx_rules.specs.Lists.{Each};
 ghost use Rattle.fx_rules.specs.Sweep.{IsBest, is_order};
-ghost use Rattle.global_book.specs.Book.{AreInTime, AreOwners, HasRoom, KeepsRoom, IsBook, IsPlaceOf, IsPriceOf, Rests, RestsAbove, first, is_of, is_of_from, level_lots, levels_of, TakesRoom, owned, relotted, sought};
+ghost use Rattle.global_book.specs.Book.{AreInTime, AreOwners, HasRoom, KeepsRoom, IsBook, IsPlaceOf, IsPriceOf, Rests, RestsAbove, first, is_of, is_of_from, levels_of, TakesRoom, owned, relotted, sought};
 ghost use Rattle.global_book.specs.inside.Search.{end_of};
 ghost use Rattle.global_book.specs.inside.Rows.{is_own};
 
@@ -357,14 +357,6 @@ impl PairBook {
         let end = end_of(past);
         let place = self.rows.first_behind(bank, side, end.as_ref(), steps)?;
         Some(place.price)
-    }
-
-    /// All lots that a bank's orders of a side have left at a price.
-    pub fn lots_at(&self, bank: BankId, side: Side, price: Price) -> u128
-        ensures lots { result ≡ level_lots (opposite side) bank price self.now.orders }
-        ensures valid { IsBook self.now }
-    {
-        self.levels.lots_at(bank, side, price)
     }
 
     /// The level at an index among those of a bank's orders of a side, 0 for the best price: its price, and all lots that they

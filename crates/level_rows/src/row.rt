@@ -1,4 +1,4 @@
-ghost use Rattle.std.specs.Prelude.{ℕ, ◌≡◌, ◌≢◌, ◌+◌, ◌*◌, ◌≤◌, ◌^◌, ◌↔◌, ◌==◌, if◌then◌else◌, [], slice_get, None, OnOk, IfSome, IsTrue};
+ghost use Rattle.std.specs.Prelude.{ℕ, ◌≡◌, ◌≢◌, ◌+◌, ◌*◌, ◌≤◌, ◌^◌, ◌==◌, if◌then◌else◌, [], slice_get, None, OnOk, IfSome};
 ghost use Rattle.std.specs.List.{Contains};
 ghost use Rattle.level_rows.specs.Rows.{IsRow, lots_of};
 ghost use Rattle.price_levels.specs.declared.place.Place.{Place};
@@ -67,14 +67,6 @@ impl LevelRow {
         self.places.reserve(1)
     }
 
-    /// Whether there is no level.
-    pub fn is_empty(&self) -> bool
-        ensures value { IsTrue result ↔ (self.now.levels ≡ []) }
-        ensures valid { IsRow self.now.side self.now.levels }
-    {
-        self.places.is_empty()
-    }
-
     /// The level at an index, 0 for the best price; `None` where there is none. It takes the longer the more levels are in front.
     pub fn get(&self, at: usize) -> Option<PriceLots>
         ensures level { result ≡ slice_get self.now.levels at }
@@ -86,17 +78,6 @@ impl LevelRow {
             price: place.price,
             lots,
         })
-    }
-
-    /// The lots at a price; 0 where it is no level.
-    pub fn lots_at(&self, price: Price) -> u128
-        ensures lots { result ≡ lots_of self.now.levels price }
-        ensures valid { IsRow self.now.side self.now.levels }
-    {
-        match find(&self.places, price) {
-            Some(place) => *self.lots.get(place.key).unwrap(),
-            None => 0,
-        }
     }
 
     /// Adds lots at a price. `orders` is how many orders may have lots there so far, so that the sum is known to fit. A level that

@@ -8,10 +8,7 @@ use fx_amounts::{BankId, Memory, Side};
 use fx_rules::{LevelList, Outcome};
 use global_book::PairBook;
 use match_sweep::levels_in_reach;
-use price_levels::Steps;
 use std::alloc::Global;
-use std::marker::Brand;
-use std::sync::ledger::{Blank, Ledger};
 
 /// The local book of a bank in a pair: `Depth` with, for bids, what an order of it would sell now at any price and, for
 /// asks, what one would buy, each capped by the bank's lines, summed by price and cut to ten levels. Both sides are of
@@ -33,46 +30,24 @@ pub fn depth(
     ensures depth { IfOk result (IsLegalLocalBook book.now lines.now weight viewer) }
     ensures sound { IfOk result (IsLocalBook book.now lines.now weight viewer) }
 {
-    both_sides::<Brand>(alloc, book, lines, weight, viewer, Blank::new(1))
-}
-
-/// The same, with a ledger for the steps.
-fn both_sides<L: Ledger>(
-    alloc: Global,
-    book: &PairBook,
-    lines: &CreditLines,
-    weight: u32,
-    viewer: BankId,
-    blank: Blank,
-) -> Result<Outcome, Memory>
-    requires banks { book.now.banks ≡ lines.now.banks }
-    requires bank { viewer < lines.now.banks }
-    requires weight { IsWeight weight }
-    requires name { blank.name ≡ L.name }
-    requires parts { blank.parts ≡ L.parts }
-    requires some { 0 < blank.parts }
-    ensures depth { IfOk result (IsLocalBook book.now lines.now weight viewer) }
-{
-    let mut steps = Steps::<L>::new(blank);
-    let bids = shown(alloc, book, lines, weight, viewer, Side::Sell, &mut steps)?;
-    let asks = shown(alloc, book, lines, weight, viewer, Side::Buy, &mut steps)?;
+    let bids = shown(alloc, book, lines, weight, viewer, Side::Sell)?;
+    let asks = shown(alloc, book, lines, weight, viewer, Side::Buy)?;
     Ok(Outcome::Depth { bids, asks })
 }
 
 /// The first ten levels of what an unlimited order of a bank and a side would take now.
-fn shown<L: Ledger>(
+fn shown(
     alloc: Global,
     book: &PairBook,
     lines: &CreditLines,
     weight: u32,
     viewer: BankId,
     side: Side,
-    steps: &mut Steps<L>,
 ) -> Result<LevelList, Memory>
     requires banks { book.now.banks ≡ lines.now.banks }
     requires bank { viewer < lines.now.banks }
     requires weight { IsWeight weight }
     ensures shown { IfOk result (IsShown book.now lines.now weight viewer side) }
 {
-    levels_in_reach(alloc, book, lines, weight, viewer, side, steps)
+    levels_in_reach(alloc, book, lines, weight, viewer, side)
 }

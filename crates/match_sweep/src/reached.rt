@@ -12,22 +12,19 @@ use credit_lines::CreditLines;
 use fx_amounts::{BankId, Memory, Price, Side};
 use fx_rules::{Level, LevelList, SHOWN_LEVELS};
 use global_book::PairBook;
-use price_levels::Steps;
 use std::alloc::Global;
-use std::sync::ledger::Ledger;
 
 /// The first ten levels of what a bank reaches with an order of this side, at any price and for as many lots as there are, by
 /// its lines, where a lot costs `weight` credit units, 1 to 10^6. It walks from price to price over what each bank has at
-/// it, and not from order to order. It changes nothing, and searches nothing: there are no steps to count. The book was made for
+/// it, and not from order to order. It changes nothing, and searches nothing, so it counts no steps. The book was made for
 /// as many banks as the lines have, and the bank is one of them. At `Memory` there was none for the levels.
-pub fn levels_in_reach<L: Ledger>(
+pub fn levels_in_reach(
     alloc: Global,
     book: &PairBook,
     lines: &CreditLines,
     weight: u32,
     bank: BankId,
     side: Side,
-    _steps: &mut Steps<L>,
 ) -> Result<LevelList, Memory>
     requires banks { book.now.banks ≡ lines.now.banks }
     requires bank { bank < lines.now.banks }
