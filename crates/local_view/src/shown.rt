@@ -30,6 +30,22 @@ pub fn depth(
     ensures depth { IfOk result (IsLegalLocalBook book.now lines.now weight viewer) }
     ensures sound { IfOk result (IsLocalBook book.now lines.now weight viewer) }
 {
+    both_sides(alloc, book, lines, weight, viewer)
+}
+
+/// The same, told by one state at a time.
+fn both_sides(
+    alloc: Global,
+    book: &PairBook,
+    lines: &CreditLines,
+    weight: u32,
+    viewer: BankId,
+) -> Result<Outcome, Memory>
+    requires banks { book.now.banks ≡ lines.now.banks }
+    requires bank { viewer < lines.now.banks }
+    requires weight { IsWeight weight }
+    ensures depth { IfOk result (IsLocalBook book.now lines.now weight viewer) }
+{
     let bids = shown(alloc, book, lines, weight, viewer, Side::Sell)?;
     let asks = shown(alloc, book, lines, weight, viewer, Side::Buy)?;
     Ok(Outcome::Depth { bids, asks })

@@ -15,7 +15,7 @@ shown_levels book credit weight bank side (Ok levels) bank_in some reached = sho
 shown_levels book credit weight bank side (Err e) bank_in some reached = tt
 
 pub returns : goal.returns
-returns g c = record {
+returns c = record {
   shown = shown_levels c.args.book.now c.args.lines.now c.args.weight c.args.viewer c.args.side c.levels_in_reach.result
       c.requires.bank (omega (arith, c.requires.weight.0)) c.levels_in_reach.ensures.levels;
 }

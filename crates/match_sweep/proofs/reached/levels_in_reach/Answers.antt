@@ -8,13 +8,13 @@ use Rattle.match_sweep.proofs.reached.levels_in_reach.Goals as goal
 use Rattle.match_sweep.proofs.reached.levels_in_reach.Goals.{else-loop-walk-test, then-loop-walk-test+in_default}
 
 pub loop-walk-init : goal.loop-walk-init
-loop-walk-init g c = λ begins.
+loop-walk-init c = λ begins.
     way_begins c.args.book.now begins.valid c.new-walk.result c.args.bank c.reserve_exact.new.self.items
     (subst IsWeight (sym (ap (λ (w : LevelWalk). w.weight) begins.is)) c.requires.weight)
     (ap (λ (w : LevelWalk). w.last) begins.is) begins.long begins.heads begins.own (c.reserve_exact.ensures.items ∙ c.new-levels.ensures.items)
 
 pub next_level-requires : goal.next_level-requires
-next_level-requires g c =
+next_level-requires c =
     let way = c.loop-walk.invariant c.new-walk.ensures.begins in
     record {
       weight = subst IsWeight (sym way.weight) way.weighs;
@@ -23,13 +23,13 @@ next_level-requires g c =
     }
 
 pub loop-walk-preserved : goal.loop-walk-preserved
-loop-walk-preserved g c = λ begins.
+loop-walk-preserved c = λ begins.
     subst (OnTheWay c.args.book.now begins.valid c.new-walk.result c.next_level.new.self c.args.bank) (sym c.in_ok-push.ensures.items)
     (way_on c.args.book.now begins.valid c.new-walk.result c.loop-walk.walk c.next_level.new.self c.args.bank c.loop-walk.levels.items c.in-Some.level begins.few
     (c.loop-walk.invariant begins) (omega (arith, c.loop-walk-test.true, c.len.ensures)) c.in-Some.ensures.level)
 
 pub returns : goal.returns
-returns g c =
+returns c =
     let begins = c.new-walk.ensures.begins in
     record {
       levels = subst (IsReached c.args.book.now c.args.lines.now c.args.weight c.args.bank c.args.side) (sym c.from_vec.ensures.items)
