@@ -49,11 +49,14 @@ impl Reading {
         }
     }
 
-    /// Reads the next round of a text that has not ended. After `Memory` the reading is good for nothing more.
+    /// Reads the next round of a text that has not ended. After `Memory` it has the same session and has not ended, but some
+    /// commands may be missing, so that it is good for nothing more.
     pub fn read_round<S: Source>(&mut self, source: &mut S) -> Result<(), Memory>
         requires goes_on { self.old.end ≡ None }
         ensures read { OnOk result ((before : S) (h : SessionHeader) (all : List SentCommand) → HasRead S.left S.faults before source.old self.old h all → HasRead S.left S.faults before source.new self.new h (all ++ sent_at self.new.intake.stage)) }
         ensures further { OnOk result (self.new.end ≡ None → self.old.intake.taken < self.new.intake.taken) }
+        ensures session { session_at self.new.intake.stage ≡ session_at self.old.intake.stage }
+        ensures goes_on { OnErr result (self.new.end ≡ None) }
         ensures memory { OnErr result ((before : S) (h : SessionHeader) (all : List SentCommand) → HasRead S.left S.faults before source.old self.old h all → TookPromptly S.left S.faults before source.new) }
     {
         match self.intake.read_round(source) {
