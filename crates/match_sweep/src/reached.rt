@@ -58,12 +58,13 @@ pub(crate) struct LevelWalk {
     last: Option<Price>,
 }
 
-/// What a bank has at a price: where this level stands among the bank's levels of its side, 0 for the best price, and all lots
-/// at it.
+/// A level of one bank, on the side that the taker takes.
 #[derive(Clone, Copy)]
 struct BankLevel {
+    /// Its index among the bank's levels, 0 for the best price.
     at: usize,
     price: Price,
+    /// All lots that the bank has at this price.
     lots: u128,
 }
 
@@ -163,6 +164,7 @@ impl LevelWalk {
         let taken = head.lots.min(u128::from(line / weight)) as u64;
         let left = line - taken * weight;
         self.lines[at] = left;
+        // There are no more levels than orders.
         prove!(head.at < book.len());
         self.heads[at] = level_at(book, self.taker, left, self.weight, bank, head.at + 1);
         taken
