@@ -85,9 +85,22 @@ impl Chunk {
         }
     }
 
-    /// How many places stand in front of a point. Most searches end at one of the first two, so these are looked at before the
-    /// others are searched.
-    pub(crate) fn count_passed(&self, side: Side, cut: &Cut<'_>) -> usize
+    /// How many places stand in front of a point. Most searches in a row's first chunk end at one of its first two places; in other
+    /// chunks they end anywhere.
+    pub(crate) fn count_passed(&self, side: Side, cut: &Cut<'_>, is_first: bool) -> usize
+        requires { IsSorted side self.now.places }
+        ensures within { result ≤ length self.now.places }
+        ensures parted { IsPartitionPoint (λ other. in_front side cut.now other ≡ true) (λ other. in_front side cut.now other ≡ false) self.now.places result }
+    {
+        if is_first {
+            self.count_from_front(side, cut)
+        } else {
+            self.count_by_halves(side, cut)
+        }
+    }
+
+    /// The same, with a look at the first two places before the others are searched.
+    fn count_from_front(&self, side: Side, cut: &Cut<'_>) -> usize
         requires { IsSorted side self.now.places }
         ensures within { result ≤ length self.now.places }
         ensures parted { IsPartitionPoint (λ other. in_front side cut.now other ≡ true) (λ other. in_front side cut.now other ≡ false) self.now.places result }
@@ -98,6 +111,15 @@ impl Chunk {
         if self.is_behind(1, side, cut) {
             return 1;
         }
+        self.count_by_halves(side, cut)
+    }
+
+    /// The same, by a search by halves.
+    fn count_by_halves(&self, side: Side, cut: &Cut<'_>) -> usize
+        requires { IsSorted side self.now.places }
+        ensures within { result ≤ length self.now.places }
+        ensures parted { IsPartitionPoint (λ other. in_front side cut.now other ≡ true) (λ other. in_front side cut.now other ≡ false) self.now.places result }
+    {
         self.places
             .partition_point(|other| cut.is_passed_by(side, other))
     }

@@ -170,8 +170,9 @@ impl Chunks {
         ensures parted { IsPartitionPoint (λ other. in_front side cut.entry other ≡ true) (λ other. in_front side cut.entry other ≡ false) (places_of self.now.chunks.items) (offset self.now.chunks.items result) }
     {
         let chunk = self.find_chunk(side, &cut);
+        let is_first = chunk == 0;
         let at = match self.chunks.get(chunk) {
-            Some(chunk) => chunk.count_passed(side, &cut),
+            Some(chunk) => chunk.count_passed(side, &cut, is_first),
             None => 0,
         };
         Spot { chunk, at }

@@ -7,7 +7,7 @@ use Rattle.price_levels.specs.declared.place.Place.{Place}
 use Rattle.price_levels.specs.Ladder.{IsSorted}
 use Rattle.price_levels.specs.inside.Held.{Held, in_front, passes}
 use Rattle.price_levels.proofs.Parting.{IsPartitionedBy-front, parted_at}
-use Rattle.price_levels.proofs.chunk.Chunk.count_passed.Goals as goal
+use Rattle.price_levels.proofs.chunk.Chunk.count_from_front.Goals as goal
 
 -- a place is there and does not pass
 stops : (front : Place → Bool) (xs : List Place) (at : ℕ) → passes (λ q. not (front q)) (slice_get xs at) ≡ true → (at < length xs) × ((d : Place) → front (get_or xs at d) ≡ false)
@@ -42,9 +42,3 @@ returns-then-is_behind-2-clause-parted c =
     parted_at front places 1 (IsPartitionedBy-front c.args.side c.args.cut.now places c.requires)
     (λ d low high. goes front places 0 first (omega arith) d) (λ d below. second.1 d) (omega arith)
 
-pub returns-clause-parted : goal.returns-clause-parted
-returns-clause-parted c =
-    let seen : c.deref.result.now ≡ c.args.self.now.places = c.deref.ensures.value ∙ ap (λ (h : Held). h.places) c.self.view_is in
-    subst (λ (xs : List Place). IsPartitionPoint (λ q. in_front c.args.side c.args.cut.now q ≡ true) (λ q. in_front c.args.side c.args.cut.now q ≡ false) xs c.partition_point.result) seen
-    (IsPartitionPoint-from_clause (in_front c.args.side c.args.cut.now) c.deref.result.now c.partition_point.result
-    c.partition_point.ensures.partitioned (IsPartitionedBy-front c.args.side c.args.cut.now c.deref.result.now (subst (IsSorted c.args.side) (sym seen) c.requires)) (λ a r f' called. search rules))
