@@ -1,5 +1,6 @@
 pub mod Sorting
 pub mod Firsts
+mod Fronting
 mod Edits
 mod Chunking
 mod Parting

@@ -1,7 +1,8 @@
-ghost use Rattle.std.specs.Prelude.{◌≡◌, ◌+◌, ◌≤◌, ◌↔◌, [], not, slice_get, IsTrue, OnOk};
+ghost use Rattle.std.specs.Prelude.{◌≡◌, ◌+◌, ◌≤◌, ◌<◌, ◌↔◌, [], not, slice_get, IsTrue, OnOk};
 ghost use Rattle.std.specs.List.{Contains};
 ghost use Rattle.price_levels.specs.Ladder.{IsSorted, IsNewArrival, Gains, Loses, first_where};
 ghost use Rattle.price_levels.specs.Ladder as ladder;
+ghost use Rattle.price_levels.specs.inside.Layout.{IsLaidOut, places_of};
 
 use crate::chunks::{Chunks, nth};
 use crate::cut::Cut;
@@ -17,6 +18,8 @@ use std::sync::ledger::Ledger;
 #[derive(Debug, Drop)]
 pub struct Levels {
     side: Side,
+    /// The first place, kept here too: a sweep looks at the first one of many rows.
+    front: Option<Place>,
     chunks: Chunks,
 }
 
@@ -29,7 +32,7 @@ impl Model for Levels {
 
     ghost view = { λ l. record { side = l.side; places = places_of l.chunks.chunks.items; room = l.chunks.most - l.chunks.count } };
 
-    ghost invariant = { λ l. IsRow l.side l.chunks };
+    ghost invariant = { λ l. IsRow l.side l.front l.chunks };
 }
 
 impl Levels {
@@ -40,6 +43,7 @@ impl Levels {
     {
         Levels {
             side,
+            front: None,
             chunks: Chunks::new(alloc),
         }
     }
@@ -74,6 +78,7 @@ impl Levels {
         self.chunks.make_spare();
         let spot = self.chunks.find(self.side, Cut::Before(&place));
         self.chunks.insert(spot, place);
+        self.front = front_after(self.front, &self.chunks, spot);
     }
 
     /// Takes a place out, and leaves room for another.
@@ -86,6 +91,7 @@ impl Levels {
     {
         let spot = self.chunks.find(self.side, Cut::Before(place));
         self.chunks.remove(spot);
+        self.front = front_after(self.front, &self.chunks, spot);
     }
 
     /// The place at an index of the whole row; `None` where there is none. It counts no step: it passes the chunks in front of
@@ -104,7 +110,7 @@ impl Levels {
         ensures sorted { IsSorted self.now.side self.now.places }
     {
         steps.tick();
-        self.chunks.get(Spot { chunk: 0, at: 0 })
+        self.front
     }
 
     /// The first place that stands after this one, which need not be there; `None` where there is none.
@@ -125,5 +131,19 @@ impl Levels {
     {
         let spot = self.chunks.find(self.side, Cut::Before(place));
         self.chunks.get(spot)
+    }
+}
+
+/// The first place of a row in which a place came or went at a spot, where the first one was `front` before: only what is done in the
+/// first chunk makes it another.
+fn front_after(front: Option<Place>, chunks: &Chunks, spot: Spot) -> Option<Place>
+    requires laid { IsLaidOut chunks.now }
+    ensures first { spot.chunk ≡ 0 → result ≡ slice_get (places_of chunks.now.chunks.items) 0 }
+    ensures kept { 0 < spot.chunk → result ≡ front }
+{
+    if spot.chunk == 0 {
+        chunks.get(Spot { chunk: 0, at: 0 })
+    } else {
+        front
     }
 }

@@ -1,5 +1,5 @@
 -- How a row lies in memory: in chunks, one behind the other.
-use Rattle.std.specs.Prelude.{ℕ, suc, ◌≡◌, ◌+◌, ◌*◌, ◌≤◌, ◌<◌, ◌⊎◌, min, List, [], length, take, slice_index_or, vec_capacity}
+use Rattle.std.specs.Prelude.{ℕ, suc, ◌≡◌, ◌+◌, ◌*◌, ◌≤◌, ◌<◌, ◌⊎◌, min, List, [], length, take, Option, slice_get, slice_index_or, vec_capacity}
 use Rattle.std.specs.List.{All, flat_map}
 use Rattle.fx_amounts.specs.declared.side.Side.{Side}
 use Rattle.price_levels.specs.declared.place.Place.{Place}
@@ -86,7 +86,8 @@ pub record AreWidened (old new : List Held) : Type 0 where
   pub places : (k : ℕ) (d : Held) → k < length old → (slice_index_or new k d).places ≡ (slice_index_or old k d).places
   pub room : (k : ℕ) (d : Held) → k < length old → (slice_index_or old k d).capacity ≤ (slice_index_or new k d).capacity
 
--- a row as it is kept
-pub record IsRow (side : Side) (chunks : Chunks) : Type 0 where
+-- a row as it is kept, with its first place
+pub record IsRow (side : Side) (first : Option Place) (chunks : Chunks) : Type 0 where
   pub laid : IsLaidOut chunks
   pub sorted : IsSorted side (places_of chunks.chunks.items)
+  pub front : first ≡ slice_get (places_of chunks.chunks.items) 0

@@ -1,12 +1,10 @@
-use Rattle.std.proofs.Common.{ℕ, List, Bool, true, false, not, ◌≡◌, ◌<◌, length, get_or, slice_get, inl, inr, rules, ap, sym, subst, ◌∙◌, arith}
-use Rattle.std.proofs.lemmas.Bool.{cases_Bool, cases_lt, both_ways, not-true}
-use Rattle.std.proofs.lemmas.Option.{slice_get-get_or, slice_get_past}
+use Rattle.std.proofs.Common.{List, true, false, ◌≡◌, rules, ap, sym, subst, ◌∙◌}
 use Rattle.std.specs.List.Sorted.{IsPartitionPoint}
 use Rattle.std.proofs.lemmas.List.Sorted.{IsPartitionPoint-from_clause}
 use Rattle.price_levels.specs.declared.place.Place.{Place}
 use Rattle.price_levels.specs.Ladder.{IsSorted}
-use Rattle.price_levels.specs.inside.Held.{Held, in_front, passes}
-use Rattle.price_levels.proofs.Parting.{IsPartitionedBy-front, parted_at}
+use Rattle.price_levels.specs.inside.Held.{Held, in_front}
+use Rattle.price_levels.proofs.Parting.{IsPartitionedBy-front}
 use Rattle.price_levels.proofs.chunk.Chunk.count_by_halves.Goals as goal
 
 pub returns-clause-parted : goal.returns-clause-parted

@@ -1,11 +1,8 @@
-use Rattle.std.proofs.Common.{ℕ, List, Bool, true, false, not, ◌≡◌, ◌<◌, length, get_or, slice_get, inl, inr, rules, ap, sym, subst, ◌∙◌, arith}
+use Rattle.std.proofs.Common.{ℕ, List, Bool, true, false, not, ◌≡◌, ◌<◌, length, get_or, slice_get, inl, inr, ap, sym, ◌∙◌, arith}
 use Rattle.std.proofs.lemmas.Bool.{cases_Bool, cases_lt, both_ways, not-true}
 use Rattle.std.proofs.lemmas.Option.{slice_get-get_or, slice_get_past}
-use Rattle.std.specs.List.Sorted.{IsPartitionPoint}
-use Rattle.std.proofs.lemmas.List.Sorted.{IsPartitionPoint-from_clause}
 use Rattle.price_levels.specs.declared.place.Place.{Place}
-use Rattle.price_levels.specs.Ladder.{IsSorted}
-use Rattle.price_levels.specs.inside.Held.{Held, in_front, passes}
+use Rattle.price_levels.specs.inside.Held.{in_front, passes}
 use Rattle.price_levels.proofs.Parting.{IsPartitionedBy-front, parted_at}
 use Rattle.price_levels.proofs.chunk.Chunk.count_from_front.Goals as goal
 
@@ -41,4 +38,3 @@ returns-then-is_behind-2-clause-parted c =
     let first : passes (λ q. not (front q)) (slice_get places 0) ≡ false = sym c.is_behind.ensures ∙ c.if-is_behind.false in
     parted_at front places 1 (IsPartitionedBy-front c.args.side c.args.cut.now places c.requires)
     (λ d low high. goes front places 0 first (omega arith) d) (λ d below. second.1 d) (omega arith)
-
