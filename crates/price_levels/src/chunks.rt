@@ -179,7 +179,7 @@ impl Chunks {
     }
 
     /// The first chunk with a place that does not stand in front of a point; the number of all where there is none. Most searches
-    /// end in the first chunk or behind all, so the first and the last one are looked at before the others are searched.
+    /// end in the first chunk, so it is looked at before the others are searched.
     fn find_chunk(&self, side: Side, cut: &Cut<'_>) -> usize
         requires laid { IsLaidOut self.now }
         requires sorted { IsSorted side (places_of self.now.chunks.items) }
@@ -189,11 +189,6 @@ impl Chunks {
         if let Some(first) = self.chunks.first() {
             if !first.is_passed(side, cut) {
                 return 0;
-            }
-        }
-        if let Some(last) = self.chunks.last() {
-            if last.is_passed(side, cut) {
-                return self.chunks.len();
             }
         }
         self.chunks

@@ -1,4 +1,4 @@
-use Rattle.std.proofs.Common.{ℕ, List, true, false, ◌≡◌, get_or, length, ◌-◌, inl, inr, rules, ap, sym, subst, ◌∙◌, arith}
+use Rattle.std.proofs.Common.{ℕ, List, true, false, ◌≡◌, get_or, inl, inr, rules, ap, sym, subst, ◌∙◌, arith}
 use Rattle.std.specs.List.Sorted.{IsPartitionPoint, IsPartitionedBy}
 use Rattle.std.proofs.lemmas.Bool.{cases_Bool, both_ways}
 use Rattle.std.proofs.lemmas.List.{get_or_default}
@@ -44,30 +44,11 @@ returns-then-not-is_passed-clause-parted c =
     (λ d. let is : c.in-Some.first.now ≡ get_or c.args.self.now.chunks.items 0 d = item.3.1 d ∙ ap (λ (ys : List Held). get_or ys 0 d) c.deref.ensures.value in
     ap (λ (h : Held). last_is_in_front c.args.side c.args.cut.now h.places) (sym is) ∙ sym c.is_passed.ensures ∙ c.if-not-is_passed.true)
 
--- the last chunk is passed, and so all are
-all_passed : (side : Side) (cut : Cut) (cs : List Held) (count : ℕ) → count ≡ length cs → IsPartitionedBy (λ (h : Held). last_is_in_front side cut h.places) cs
-    → ((d : Held) → last_is_in_front side cut (get_or cs (length cs - 1) d).places ≡ true) → PartedByLast side cut cs count
-all_passed side cut cs count is parts holds = (
-  λ k d low high. parts k (length cs - 1) d (omega arith) (omega arith) (holds d),
-  λ k d low within. absurd (omega arith),
-)
-
-pub returns-then-is_passed-clause-parted : goal.returns-then-is_passed-clause-parted
-returns-then-is_passed-clause-parted c =
-    let side : Side = c.args.side in
-    let cut : Cut = c.args.cut.now in
-    let cs : List Held = c.args.self.now.chunks.items in
-    let item = c.in-Some-last.ensures.item in
-    let count : c.len.result ≡ length cs = c.len.ensures ∙ c.args.self.now.chunks.ok.0 in
-    all_passed side cut cs c.len.result count (by_last side cut c.args.self.now c.requires.laid c.requires.sorted)
-    (λ d. let is : c.in-Some-last.last.now ≡ get_or cs (length cs - 1) d = item.3.1 d ∙ ap (λ (ys : List Held). get_or ys (length ys - 1) d) c.deref-2.ensures.value in
-    ap (λ (h : Held). last_is_in_front side cut h.places) (sym is) ∙ sym c.is_passed-in-Some-last.ensures ∙ c.if-is_passed.true)
-
 pub returns-clause-parted : goal.returns-clause-parted
 returns-clause-parted c =
     let cs : List Held = c.args.self.now.chunks.items in
-    let same : c.deref-3.result.now ≡ cs = c.deref-3.ensures.value in
+    let same : c.deref-2.result.now ≡ cs = c.deref-2.ensures.value in
     subst (λ (ys : List Held). PartedByLast c.args.side c.args.cut.now ys c.partition_point.result) same
-    (IsPartitionPoint-from_clause (λ (h : Held). last_is_in_front c.args.side c.args.cut.now h.places) c.deref-3.result.now c.partition_point.result c.partition_point.ensures.partitioned
+    (IsPartitionPoint-from_clause (λ (h : Held). last_is_in_front c.args.side c.args.cut.now h.places) c.deref-2.result.now c.partition_point.result c.partition_point.ensures.partitioned
     (subst (λ (ys : List Held). IsPartitionedBy (λ (h : Held). last_is_in_front c.args.side c.args.cut.now h.places) ys) (sym same) (by_last c.args.side c.args.cut.now c.args.self.now c.requires.laid c.requires.sorted))
     (λ a r f' called. search rules))
