@@ -77,6 +77,26 @@ before_either side p q differ h =
           ])
     ]
 
+-- a place of one price and arrival with another does not stand before it
+pub before_alike : (side : Side) (p q : Place) → p.price ≡ q.price → p.arrival ≡ q.arrival → sorts_before side p q ≡ false
+before_alike side p q price arrival =
+    elim (cases_Bool (sorts_before side p q)) [
+      | inr no' ↦ no'
+      | inl before ↦
+          absurd (elim (before_cases side p q before) [
+            | inl better ↦ both_ways (is_better side q.price q.price) (better_self side q.price) (subst (λ n. is_better side n q.price ≡ true) price better)
+            | inr earlier ↦ omega (arith, earlier.1)
+          ])
+    ]
+
+-- what a place stands before, it stands before where another has that price and arrival
+pub before_same : (side : Side) (p q r : Place) → q.price ≡ r.price → q.arrival ≡ r.arrival → sorts_before side p q ≡ true → sorts_before side p r ≡ true
+before_same side p q r price arrival before =
+    elim (before_cases side p q before) [
+      | inl better ↦ before_better side p r (subst (λ n. is_better side p.price n ≡ true) price better)
+      | inr earlier ↦ before_earlier side p r (earlier.0 ∙ price) (omega (arith, earlier.1))
+    ]
+
 pub Each-contains : (P : Place → Type 0) (xs : List Place) (q : Place) → Each P xs → Contains xs q → P q
 Each-contains P [] q all (k, within, is) = absurd (omega arith)
 Each-contains P (x ∷ xs) q all (zero, within, is) = subst P is all.0

@@ -1,5 +1,6 @@
-ghost use Rattle.std.specs.Prelude.{◌≡◌, ◌+◌, ◌≤◌, ◌<◌, ◌↔◌, [], not, slice_get, IsTrue, OnOk};
+ghost use Rattle.std.specs.Prelude.{◌≡◌, ◌≢◌, ◌+◌, ◌≤◌, ◌<◌, ◌↔◌, [], not, slice_get, Some, IfSome, IfNone, IsTrue, OnOk};
 ghost use Rattle.std.specs.List.{Contains};
+ghost use Rattle.price_levels.specs.declared.place.Place.{Place};
 ghost use Rattle.price_levels.specs.Ladder.{IsSorted, IsNewArrival, Gains, Loses, first_where};
 ghost use Rattle.price_levels.specs.Ladder as ladder;
 ghost use Rattle.price_levels.specs.inside.Layout.{IsLaidOut, places_of};
@@ -75,10 +76,30 @@ impl Levels {
         ensures room { self.new.room + 1 ≡ self.old.room }
         ensures sorted { IsSorted self.new.side self.new.places }
     {
+        self.find_or_insert(place);
+    }
+
+    /// The place that there is already with the arrival of this one; where there is none, puts this one where it belongs, with the same
+    /// search. It takes one of the places that there is room for then.
+    pub fn find_or_insert(&mut self, place: Place) -> Option<Place>
+        requires room { 1 ≤ self.old.room }
+        requires alike { (other : Place) → Contains self.old.places other → other.arrival ≡ place.arrival → other.price ≡ place.price }
+        ensures found { IfSome result (λ other. Contains self.old.places other × (other.arrival ≡ place.arrival)) }
+        ensures kept { IfSome result (λ _. self.new ≡ self.old) }
+        ensures absent { IfNone result (IsNewArrival place.arrival self.old.places) }
+        ensures gains { IfNone result (Gains self.old.places self.new.places place) }
+        ensures side { self.new.side ≡ self.old.side }
+        ensures room { IfNone result (self.new.room + 1 ≡ self.old.room) }
+        ensures sorted { IsSorted self.new.side self.new.places }
+    {
         self.chunks.make_spare();
         let spot = self.chunks.find(self.side, Cut::Before(&place));
+        if let Some(other) = arrived(self.chunks.get(spot), place.arrival) {
+            return Some(other);
+        }
         self.chunks.insert(spot, place);
         self.front = front_after(self.front, &self.chunks, spot);
+        None
     }
 
     /// Takes a place out, and leaves room for another.
@@ -132,6 +153,14 @@ impl Levels {
         let spot = self.chunks.find(self.side, Cut::Before(place));
         self.chunks.get(spot)
     }
+}
+
+/// A place that was found, if it has the arrival that was looked for.
+fn arrived(found: Option<Place>, arrival: u64) -> Option<Place>
+    ensures some { IfSome result (λ place. (found ≡ Some place) × (place.arrival ≡ arrival)) }
+    ensures none { IfNone result (IfSome found (λ place. place.arrival ≢ arrival)) }
+{
+    found.filter(|place| place.arrival == arrival)
 }
 
 /// The first place of a row in which a place came or went at a spot, where the first one was `front` before: only what is done in the
