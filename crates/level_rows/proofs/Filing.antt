@@ -10,12 +10,12 @@ use Rattle.fx_amounts.specs.Price.{IsPrice}
 use Rattle.fx_amounts.specs.declared.side.Side.{Side}
 use Rattle.price_levels.specs.declared.place.Place.{Place}
 use Rattle.price_levels.specs.Ladder.{is_better, sorts_before, Sorts, InOrder, IsSorted, IsFirst, Gains, Loses, first_where}
-use Rattle.price_levels.proofs.Sorting.{before_cases, Each-contains, Contains_later, Contains_first, Contains_cases}
+use Rattle.price_levels.proofs.Sorting.{before_alike, before_cases, Each-contains, Contains_later, Contains_first, Contains_cases}
 use Rattle.price_levels.proofs.Firsts.{first_found, first_none}
 use Rattle.level_rows.specs.declared.row.PriceLots.{PriceLots}
 use Rattle.level_rows.specs.Rows.{Row, lots_of, IsLevel, AreRanked, IsRow}
 use Rattle.level_rows.specs.inside.Keeping.{slot_lots, level_at, levels_of, AreNamed, HasLots, AreKept}
-use Rattle.level_rows.proofs.Ranking.{better_both, level_of, lots_here, lots_past}
+use Rattle.level_rows.proofs.Ranking.{level_of, lots_here, lots_past}
 
 abbrev Slots : Type 0
 Slots = List (Option ℕ)
@@ -327,20 +327,6 @@ takes_none slots places price lots levels none seen there other =
 
 -- What a search for a price finds.
 
--- a place of this price does not stand before the one that is looked for
-stands_at : (side : Side) (q probe : Place) → q.price ≡ probe.price → q.arrival ≡ probe.arrival → not (sorts_before side q probe) ≡ true
-stands_at side q probe price arrival =
-    elim (cases_Bool (sorts_before side q probe)) [
-      | inr no' ↦ ap not no'
-      | inl before ↦
-          absurd (elim (before_cases side q probe before) [
-            | inl better ↦
-                let self : is_better side probe.price probe.price ≡ true = subst (λ p. is_better side p probe.price ≡ true) price better in
-                better_both side probe.price probe.price self self
-            | inr earlier ↦ omega (arith, earlier.1)
-          ])
-    ]
-
 abbrev IsFound : Side → List Place → Place → Option Place → Type 0
 IsFound side places probe found = found ≡ first_where (λ other. not (sorts_before side other probe)) places
 
@@ -348,7 +334,7 @@ pub found_none : (side : Side) (places : List Place) (probe : Place) → AreName
     → (q : Place) → Contains places q → q.price ≢ probe.price
 found_none side places probe named probe_named found q there same =
     both_ways (not (sorts_before side q probe)) (first_none (λ other. not (sorts_before side other probe)) places (sym found) q there)
-    (stands_at side q probe same (named q there ∙ same ∙ sym probe_named))
+    (ap not (before_alike side q probe same (named q there ∙ same ∙ sym probe_named)))
 
 pub found_some : (side : Side) (places : List Place) (probe place : Place) → IsSorted side places → IsFound side places probe (Some place) → Contains places place
 found_some side places probe place sorted found = (first_found (λ other. not (sorts_before side other probe)) side places place sorted (sym found)).there
@@ -357,7 +343,7 @@ pub found_other : (side : Side) (places : List Place) (probe place : Place) → 
     → IsFound side places probe (Some place) → place.price ≢ probe.price → (q : Place) → Contains places q → q.price ≢ probe.price
 found_other side places probe place sorted named probe_named found differ q there same =
     let first : IsFirst (λ other. not (sorts_before side other probe)) side places place = first_found (λ other. not (sorts_before side other probe)) side places place sorted (sym found) in
-    let passes : not (sorts_before side q probe) ≡ true = stands_at side q probe same (named q there ∙ same ∙ sym probe_named) in
+    let passes : not (sorts_before side q probe) ≡ true = ap not (before_alike side q probe same (named q there ∙ same ∙ sym probe_named)) in
     elim (first.first q there passes) [
       | inl is ↦ differ (ap (λ (p : Place). p.price) (sym is) ∙ same)
       | inr before ↦ elim (before_cases side place q before) [
@@ -368,6 +354,11 @@ found_other side places probe place sorted named probe_named found differ q ther
         | inr equal ↦ differ (equal.0 ∙ same)
       ]
     ]
+
+-- a place that was found by its arrival is at its price
+pub price_found : (places : List Place) (level probe : Place) (price : ℕ) → AreNamed places → Contains places level × (level.arrival ≡ probe.arrival)
+    → probe.arrival ≡ price → level.price ≡ price
+price_found places level probe price named found is = sym (named level found.0) ∙ found.1 ∙ is
 
 -- What callers see of it.
 

@@ -91,13 +91,13 @@ impl LevelRow {
         ensures valid { IsRow self.new.side self.new.levels }
     {
         let more = u128::from(lots.count());
-        if let Some(place) = find(&self.places, price) {
-            let sum = self.lots.get_mut(place.key).unwrap();
+        let place = place_of(price, self.lots.vacant_key());
+        if let Some(level) = self.places.find_or_insert(place) {
+            let sum = self.lots.get_mut(level.key).unwrap();
             *sum += more;
             return;
         }
-        let key = self.lots.insert_reserved(more);
-        self.places.insert(place_of(price, key));
+        self.lots.insert_reserved(more);
     }
 
     /// Takes lots away that are at a price. The level goes with the last of them, and leaves room for another.
