@@ -8,7 +8,7 @@ use Rattle.fx_amounts.specs.declared.side.Side.TheVariants.{Buy, Sell}
 use Rattle.fx_rules.specs.declared.orders.Resting.{Resting}
 use Rattle.price_levels.specs.declared.place.Place.{Place}
 use Rattle.price_levels.specs.Ladder.{Ladder}
-use Rattle.order_store.specs.Orders.{Orders}
+use Rattle.order_store.specs.Orders.{Orders, room_for as places_for}
 use Rattle.access_index.specs.Sides.{OwnRows}
 use Rattle.access_index.specs.Owned.{no_rows, row_at, OwnerGains, OwnerLoses}
 use Rattle.access_index.proofs.Rows.{both}
@@ -41,29 +41,33 @@ none_left : (bank : ℕ) (side : Side) → part (get_or [] bank (0, 0)) side ≡
 none_left bank Buy = ap (λ (p : ℕ × ℕ). p.0) (get_or_past [] bank (0, 0) (omega arith))
 none_left bank Sell = ap (λ (p : ℕ × ℕ). p.1) (get_or_past [] bank (0, 0) (omega arith))
 
--- the room of a bank and a side is that of its row, of its levels and of the store
-room_at : (orders : Orders) (own : List OwnRows) (levels : List LevelSides) (bank : ℕ) (side : Side)
-    → part (get_or (rooms orders own levels) bank (0, 0)) side ≡ min orders.room (both_room own levels bank side)
-room_at orders [] levels bank side = let none = none_left bank side in let past = no_room_past [] bank side (omega arith) in omega (arith, none, past)
-room_at orders (rows ∷ own) [] bank side = let none = none_left bank side in let past = no_levels_past [] bank side (omega arith) in omega (arith, none, past)
-room_at orders (rows ∷ own) (sides ∷ levels) zero Buy = refl
-room_at orders (rows ∷ own) (sides ∷ levels) zero Sell = refl
-room_at orders (rows ∷ own) (sides ∷ levels) (suc bank) side = room_at orders own levels bank side
+no_places_past : (bank : ℕ) → get_or {A = ℕ} [] bank 0 ≡ 0
+no_places_past bank = get_or_past {X = ℕ} [] bank 0 (omega arith)
 
-pub room_is : (book : Book) (orders : Orders) (own : List OwnRows) (levels : List LevelSides) (bank : ℕ) (side : Side) → rooms orders own levels ≡ book.room
-    → room_for book bank side ≡ min orders.room (both_room own levels bank side)
+-- the room of a bank and a side is that of its row, of its levels and of the store
+room_at : (room : List ℕ) (own : List OwnRows) (levels : List LevelSides) (bank : ℕ) (side : Side)
+    → part (get_or (rooms room own levels) bank (0, 0)) side ≡ min (get_or room bank 0) (both_room own levels bank side)
+room_at [] own levels bank side = let none = none_left bank side in let past = no_places_past bank in omega (arith, none, past)
+room_at (places ∷ room) [] levels bank side = let none = none_left bank side in let past = no_room_past [] bank side (omega arith) in omega (arith, none, past)
+room_at (places ∷ room) (rows ∷ own) [] bank side = let none = none_left bank side in let past = no_levels_past [] bank side (omega arith) in omega (arith, none, past)
+room_at (places ∷ room) (rows ∷ own) (sides ∷ levels) zero Buy = refl
+room_at (places ∷ room) (rows ∷ own) (sides ∷ levels) zero Sell = refl
+room_at (places ∷ room) (rows ∷ own) (sides ∷ levels) (suc bank) side = room_at room own levels bank side
+
+pub room_is : (book : Book) (orders : Orders) (own : List OwnRows) (levels : List LevelSides) (bank : ℕ) (side : Side) → rooms orders.room own levels ≡ book.room
+    → room_for book bank side ≡ min (places_for orders bank) (both_room own levels bank side)
 room_is book orders own levels bank side seen =
-    room_part book bank side ∙ ap (λ (r : List (ℕ × ℕ)). part (get_or r bank (0, 0)) side) (sym seen) ∙ room_at orders own levels bank side
+    room_part book bank side ∙ ap (λ (r : List (ℕ × ℕ)). part (get_or r bank (0, 0)) side) (sym seen) ∙ room_at orders.room own levels bank side
 
 -- room for an order is room in all three places
 pub record Rooms (orders : Orders) (own : List OwnRows) (levels : List LevelSides) (bank : ℕ) (side : Side) : Type 0 where
   pub bank_is : bank < length own
-  pub in_orders : 1 ≤ orders.room
+  pub in_orders : 1 ≤ places_for orders bank
   pub in_row : 1 ≤ (row_at own bank side).room
   pub in_levels : 1 ≤ (levels_at levels bank side).room
   pub levels_bank : bank < length levels
 
-pub has_rooms : (book : Book) (orders : Orders) (own : List OwnRows) (levels : List LevelSides) (bank : ℕ) (side : Side) → rooms orders own levels ≡ book.room → HasRoom book bank side
+pub has_rooms : (book : Book) (orders : Orders) (own : List OwnRows) (levels : List LevelSides) (bank : ℕ) (side : Side) → rooms orders.room own levels ≡ book.room → HasRoom book bank side
     → Rooms orders own levels bank side
 has_rooms book orders own levels bank side seen has =
     let is = room_is book orders own levels bank side seen in
@@ -83,23 +87,24 @@ has_rooms book orders own levels bank side seen has =
       ];
     }
 
-pub book_has_room : (pair banks : ℕ) (resting : List Resting) (orders : Orders) (own : List OwnRows) (levels : List LevelSides) (bank : ℕ) (side : Side) → 1 ≤ orders.room → 1 ≤ (row_at own bank side).room
-    → 1 ≤ (levels_at levels bank side).room → HasRoom (record { pair = pair; banks = banks; orders = resting; room = rooms orders own levels }) bank side
+pub book_has_room : (pair banks : ℕ) (resting : List Resting) (orders : Orders) (own : List OwnRows) (levels : List LevelSides) (bank : ℕ) (side : Side) → 1 ≤ places_for orders bank → 1 ≤ (row_at own bank side).room
+    → 1 ≤ (levels_at levels bank side).room → HasRoom (record { pair = pair; banks = banks; orders = resting; room = rooms orders.room own levels }) bank side
 book_has_room pair banks resting orders own levels bank side in_orders in_row in_levels =
-    let is = room_is (record { pair = pair; banks = banks; orders = resting; room = rooms orders own levels }) orders own levels bank side refl in
+    let is = room_is (record { pair = pair; banks = banks; orders = resting; room = rooms orders.room own levels }) orders own levels bank side refl in
     omega (arith, is, in_orders, in_row, in_levels)
 
 -- rooms of which each loses at most so many places
-rooms_most : (most : ℕ) (old new : Book) (orders orders' : Orders) (own own' : List OwnRows) (levels levels' : List LevelSides) → rooms orders own levels ≡ old.room → rooms orders' own' levels' ≡ new.room
-    → orders.room ≤ orders'.room + most → ((bank : ℕ) (side : Side) → (row_at own bank side).room ≤ (row_at own' bank side).room + most)
+rooms_most : (most : ℕ) (old new : Book) (orders orders' : Orders) (own own' : List OwnRows) (levels levels' : List LevelSides) → rooms orders.room own levels ≡ old.room → rooms orders'.room own' levels' ≡ new.room
+    → ((bank : ℕ) → places_for orders bank ≤ places_for orders' bank + most) → ((bank : ℕ) (side : Side) → (row_at own bank side).room ≤ (row_at own' bank side).room + most)
     → ((bank : ℕ) (side : Side) → (levels_at levels bank side).room ≤ (levels_at levels' bank side).room + most)
     → (bank : ℕ) (side : Side) → room_for old bank side ≤ room_for new bank side + most
 rooms_most most old new orders orders' own own' levels levels' seen seen' in_orders in_rows in_levels bank side =
     let was = room_is old orders own levels bank side seen in
     let is = room_is new orders' own' levels' bank side seen' in
+    let in_order : places_for orders bank ≤ places_for orders' bank + most = in_orders bank in
     let in_row : (row_at own bank side).room ≤ (row_at own' bank side).room + most = in_rows bank side in
     let in_level : (levels_at levels bank side).room ≤ (levels_at levels' bank side).room + most = in_levels bank side in
-    omega (arith, was, is, in_row, in_level)
+    omega (arith, was, is, in_order, in_row, in_level)
 
 -- the row that a place came to or went from, and all others
 pub own_gain : (own own' : List OwnRows) (bank : ℕ) (side : Side) (place : Place) → OwnerGains own own' bank side place
@@ -145,15 +150,15 @@ levels_lose levels levels' bank side price lots takes others = levels_most 0 lev
 pub levels_widen : (levels levels' : List LevelSides) → AllWiden levels levels' → (one : ℕ) (other : Side) → (levels_at levels one other).room ≤ (levels_at levels' one other).room + 0
 levels_widen levels levels' widen one other = omega (arith, (widen.rows one other).room)
 
-pub keeps_room : (old new : Book) (orders orders' : Orders) (own own' : List OwnRows) (levels levels' : List LevelSides) → rooms orders own levels ≡ old.room → rooms orders' own' levels' ≡ new.room
-    → orders.room ≤ orders'.room + 0 → ((bank : ℕ) (side : Side) → (row_at own bank side).room ≤ (row_at own' bank side).room + 0)
+pub keeps_room : (old new : Book) (orders orders' : Orders) (own own' : List OwnRows) (levels levels' : List LevelSides) → rooms orders.room own levels ≡ old.room → rooms orders'.room own' levels' ≡ new.room
+    → ((bank : ℕ) → places_for orders bank ≤ places_for orders' bank + 0) → ((bank : ℕ) (side : Side) → (row_at own bank side).room ≤ (row_at own' bank side).room + 0)
     → ((bank : ℕ) (side : Side) → (levels_at levels bank side).room ≤ (levels_at levels' bank side).room + 0) → KeepsRoom old new
 keeps_room old new orders orders' own own' levels levels' seen seen' in_orders in_rows in_levels = record {
   room = λ bank side. let it = rooms_most 0 old new orders orders' own own' levels levels' seen seen' in_orders in_rows in_levels bank side in omega arith;
 }
 
-pub takes_room : (old new : Book) (orders orders' : Orders) (own own' : List OwnRows) (levels levels' : List LevelSides) → rooms orders own levels ≡ old.room → rooms orders' own' levels' ≡ new.room
-    → orders.room ≤ orders'.room + 1 → ((bank : ℕ) (side : Side) → (row_at own bank side).room ≤ (row_at own' bank side).room + 1)
+pub takes_room : (old new : Book) (orders orders' : Orders) (own own' : List OwnRows) (levels levels' : List LevelSides) → rooms orders.room own levels ≡ old.room → rooms orders'.room own' levels' ≡ new.room
+    → ((bank : ℕ) → places_for orders bank ≤ places_for orders' bank + 1) → ((bank : ℕ) (side : Side) → (row_at own bank side).room ≤ (row_at own' bank side).room + 1)
     → ((bank : ℕ) (side : Side) → (levels_at levels bank side).room ≤ (levels_at levels' bank side).room + 1) → TakesRoom old new
 takes_room old new orders orders' own own' levels levels' seen seen' in_orders in_rows in_levels = record {
   room = rooms_most 1 old new orders orders' own own' levels levels' seen seen' in_orders in_rows in_levels;

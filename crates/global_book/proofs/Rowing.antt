@@ -1,5 +1,5 @@
 -- The rows of a book as an order comes, is lowered or goes.
-use Rattle.std.proofs.Common.{ℕ, ◌≡◌, ◌≢◌, ◌≤◌, ◌<◌, ◌^◌, Bool, true, false, List, Option, Some, None, inl, inr, refl, ap, sym, subst, ◌∙◌, arith}
+use Rattle.std.proofs.Common.{ℕ, ◌≡◌, ◌≢◌, ◌≤◌, ◌<◌, ◌^◌, Bool, true, false, List, Option, Some, None, inl, inr, refl, ap, sym, subst, ◌∙◌, arith, get_or}
 use Rattle.std.proofs.lemmas.Bool.{cases_eq, both_ways}
 use Rattle.std.specs.List.{Contains}
 use Rattle.fx_amounts.specs.declared.side.Side.{Side}
@@ -25,7 +25,7 @@ pub changed_is : (old new : Orders) (key other : ℕ) (order found : Resting) �
 changed_is old new key other order found change same is = some_same found order (sym is ∙ ap (order_at new) same ∙ change.changed)
 
 pub at_same : (new old : Orders) → new.slots ≡ old.slots → (key : ℕ) → order_at new key ≡ order_at old key
-at_same new old same key = ap (λ (slots : List (Option Resting)). order_at (record { slots = slots; room = 0 }) key) same
+at_same new old same key = ap (λ (slots : List (Option Resting)). get_or slots key None) same
 
 module _ (picks : Resting → Bool) where
   -- places of keys that did not change stay those of their orders

@@ -40,7 +40,7 @@ impl Model for PairBook {
       pair = b.pair;
       banks = b.banks;
       orders = flat b.orders.slots;
-      room = rooms b.orders b.rows b.levels;
+      room = rooms b.orders.room b.rows b.levels;
     } };
 
     ghost invariant = { λ b. IsStored b.banks b.orders b.rows b.levels };
@@ -56,7 +56,7 @@ impl PairBook {
         Ok(PairBook {
             pair,
             banks,
-            orders: OrderStore::new(alloc),
+            orders: OrderStore::new(alloc, banks)?,
             rows: Owners::new(alloc, banks)?,
             levels: BankLevels::new(alloc, banks)?,
         })
@@ -105,7 +105,7 @@ impl PairBook {
         ensures valid { IsBook self.new }
     {
         prove!(bank.index() < BankId::COUNT);
-        self.orders.reserve(1)?;
+        self.orders.reserve(bank)?;
         self.rows.reserve(bank, side)?;
         self.levels.reserve(bank, side)
     }

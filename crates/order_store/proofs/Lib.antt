@@ -1,2 +1,4 @@
-pub mod Indexing
+pub mod Naming
+pub mod Rooms
+pub mod Numbering
 mod Earliest

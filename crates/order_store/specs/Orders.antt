@@ -1,11 +1,25 @@
 -- The orders that are kept, as contracts see them: a finite map from keys to orders.
-use Rattle.std.specs.Prelude.{ℕ, ◌≡◌, ◌≢◌, ◌≤◌, ◌<◌, ◌^◌, List, Option, Some, None, count_by, is_some, slice_index_or}
+use Rattle.std.specs.Prelude.{ℕ, ◌≡◌, ◌≢◌, ◌+◌, ◌≤◌, ◌<◌, ◌^◌, List, length, Option, Some, None, count_by, is_some, slice_index_or}
 use Rattle.fx_rules.specs.declared.orders.Resting.{Resting}
 
--- the order or nothing at each key from 0 on, and how many orders more can be added
+-- the order or nothing at each key from 0 on, and for each bank from 0 on how many orders more of its own can be added
 pub record Orders : Type 0 where
   pub slots : List (Option Resting)
-  pub room : ℕ
+  pub room : List ℕ
+
+-- how many orders more of a bank can be added
+abbrev pub room_for : Orders → ℕ → ℕ
+room_for orders bank = slice_index_or orders.room bank 0
+
+-- there is at least as much room as before, for as many banks
+pub record KeepsRoom (old new : Orders) : Type 0 where
+  pub banks : length new.room ≡ length old.room
+  pub room : (bank : ℕ) → room_for old bank ≤ room_for new bank
+
+-- of each room at most one place went
+pub record TakesRoom (old new : Orders) : Type 0 where
+  pub banks : length new.room ≡ length old.room
+  pub room : (bank : ℕ) → room_for old bank ≤ room_for new bank + 1
 
 -- the order at a key
 abbrev pub order_at : Orders → ℕ → Option Resting

@@ -1,13 +1,14 @@
-ghost use Rattle.std.specs.Prelude.{ℕ, ◌≡◌, ◌+◌, ◌<◌, ◌≤◌, ◌^◌, [], Some, None, OnOk, IfSome, IsSome, IsSomeAnd};
+ghost use Rattle.std.specs.Prelude.{ℕ, ◌≡◌, ◌≢◌, ◌+◌, ◌<◌, ◌≤◌, ◌^◌, [], Some, None, length, min, IfOk, OnOk, IfSome, IsSome, IsSomeAnd};
+ghost use Rattle.slab.specs.Slab.{Updates, get};
 ghost use Rattle.order_store.specs.inside.Earliest.{earlier};
-ghost use Rattle.order_store.specs.Orders.{AreOrders, Changes, IsEarliest, IsFrom, IsOf, Lacks, kept, order_at};
-ghost use Rattle.order_store.specs.inside.Orders as orders;
+ghost use Rattle.order_store.specs.inside.Rows.{places_in};
+ghost use Rattle.order_store.specs.Orders.{AreOrders, Changes, IsEarliest, IsFrom, IsOf, KeepsRoom, Lacks, TakesRoom, kept, order_at, room_for};
 
+use crate::row::{NumberRow, is_under};
 use fx_amounts::{BankId, Lots, Memory};
 use fx_rules::Resting;
 use slab::Slab;
 use std::alloc::Global;
-use std::collections::HashMap;
 use std::marker::Model;
 
 /// The key of an order that is kept. After a removal it may be given out again.
@@ -18,33 +19,34 @@ pub struct OrderKey(pub usize);
 #[derive(Drop)]
 pub struct OrderStore {
     orders: Slab<Resting>,
-    /// The key of each order, by its bank and number as one.
-    names: HashMap<u64, usize>,
+    /// For each bank the keys of its orders, by number.
+    rows: Vec<NumberRow>,
 }
 
 impl Model for OrderStore {
-    ghost use Rattle.std.specs.Prelude.{◌-◌, None, min, nat_eq, slice_index_or};
-    ghost use Rattle.std.specs.HashMap.{get, spare};
-    ghost use Rattle.slab.specs.Slab.{slab_len};
+    ghost use Rattle.std.specs.Prelude.{map};
     ghost use Rattle.order_store.specs.Orders.{Orders};
-    ghost use Rattle.order_store.specs.inside.Orders.{IsIndexed};
+    ghost use Rattle.order_store.specs.inside.Orders.{AreNamed};
+    ghost use Rattle.order_store.specs.inside.Rows.{room_in};
 
     ghost Value = { Orders };
 
-    ghost view = { λ s. record { slots = s.orders.slots; room = min (s.orders.capacity - slab_len s.orders) (spare s.names) } };
+    ghost view = { λ s. record { slots = s.orders.slots; room = map (room_in s.orders) s.rows.items } };
 
-    ghost invariant = { λ s. IsIndexed (λ key. slice_index_or s.orders.slots key None) (get nat_eq s.names) };
+    ghost invariant = { λ s. AreNamed s.orders.slots s.rows.items };
 }
 
 impl OrderStore {
-    /// No orders, and no room for any. It takes no memory.
-    pub fn new(alloc: Global) -> Self
-        ensures empty { result.slots ≡ [] }
+    /// No orders of so many banks, 64 at most, and no room for any. `Memory` for want of memory.
+    pub fn new(alloc: Global, banks: usize) -> Result<OrderStore, Memory>
+        ensures empty { IfOk result (λ store. store.slots ≡ []) }
+        ensures banks { IfOk result (λ store. length store.room ≡ min banks 64) }
     {
-        OrderStore {
+        let rows = bare_rows(alloc, banks.min(BankId::COUNT))?;
+        Ok(OrderStore {
             orders: Slab::new(alloc),
-            names: HashMap::new(alloc),
-        }
+            rows,
+        })
     }
 
     /// How many orders are kept.
@@ -55,32 +57,34 @@ impl OrderStore {
         self.orders.len()
     }
 
-    /// Makes room for so many orders more. At `Memory` there may be none.
-    pub fn reserve(&mut self, orders: usize) -> Result<(), Memory>
-        ensures room { OnOk result (orders ≤ self.new.room) }
-        ensures kept_room { self.old.room ≤ self.new.room }
+    /// Makes room for one order more of a bank. At `Memory` there may be none: for want of memory, or where the store would get
+    /// places for more than 2^32 - 1 orders, which are over 100 GB.
+    pub fn reserve(&mut self, bank: BankId) -> Result<(), Memory>
+        requires bank { bank < length self.old.room }
+        ensures has_room { OnOk result (1 ≤ room_for self.new bank) }
+        ensures room { KeepsRoom self.old self.new }
         ensures slots { self.new.slots ≡ self.old.slots }
         ensures valid { AreOrders self.new }
     {
-        self.orders.reserve(orders)?;
-        self.names.reserve(orders)?;
-        Ok(())
+        reserve_place(&mut self.orders)?;
+        let row = &mut self.rows[bank.index()];
+        row.reserve(bank, &self.orders)
     }
 
     /// Keeps an order under a new key. It takes one of the places that there is room for.
     pub fn add(&mut self, order: Resting) -> OrderKey
-        requires room { 1 ≤ self.old.room }
+        requires room { 1 ≤ room_for self.old order.bank }
         requires absent { Lacks self.old order.bank order.number }
         ensures vacant { order_at self.old result.0 ≡ None }
         ensures changes { Changes self.old self.new result.0 (Some order) }
-        ensures room { self.old.room ≤ self.new.room + 1 }
+        ensures room { TakesRoom self.old self.new }
         ensures valid { AreOrders self.new }
     {
-        let name = name_of(order.bank, order.number);
-        let key = self.orders.insert_reserved(order);
-        let put: Result<_, _> = self.names.insert(name, key);
-        put.unwrap();
-        OrderKey(key)
+        let Resting { bank, number, .. } = order;
+        let key = take_place(&mut self.orders, order);
+        let row = &mut self.rows[bank.index()];
+        row.add(number, key);
+        OrderKey(key as usize)
     }
 
     /// The order under a key.
@@ -108,12 +112,10 @@ impl OrderStore {
         requires live { IsSome (order_at self.old key.0) }
         ensures value { order_at self.old key.0 ≡ Some result }
         ensures changes { Changes self.old self.new key.0 None }
-        ensures room { self.old.room ≤ self.new.room }
+        ensures room { KeepsRoom self.old self.new }
         ensures valid { AreOrders self.new }
     {
-        let order = self.orders.remove(key.0);
-        self.names.remove(&name_of(order.bank, order.number));
-        order
+        self.orders.remove(key.0)
     }
 
     /// The key of the order of this bank and number; `None` where none is kept.
@@ -122,8 +124,13 @@ impl OrderStore {
         ensures none { result ≡ None → Lacks self.now bank number }
         ensures valid { AreOrders self.now }
     {
-        let key = self.names.get(&name_of(bank, number)).copied()?;
-        Some(OrderKey(key))
+        let row = self.rows.get(bank.index())?;
+        let key = row.key_of(number)?;
+        if is_under(&self.orders, key, bank, number) {
+            Some(OrderKey(key))
+        } else {
+            None
+        }
     }
 
     /// The first of a bank's orders that arrived at or after this; `None` where there is none. It looks at all orders.
@@ -152,11 +159,36 @@ fn earlier(first: Option<Resting>, second: Resting) -> Resting
     }
 }
 
-/// The number that stands for a bank and a number of its stream.
-fn name_of(bank: BankId, number: u32) -> u64
-    ensures value { result ≡ orders.name_of bank number }
-    ensures bank { bank < 64 }
-    ensures number { number < 2 ^ 32 }
+/// So many rows with no entries.
+fn bare_rows(alloc: Global, count: usize) -> Result<Vec<NumberRow>, Memory>
+    ensures count { IfOk result (λ rows. length rows.items ≡ count) }
 {
-    bank.index() as u64 * (1 << 32) + u64::from(number)
+    let mut rows = Vec::new(alloc);
+    for _bank in 0..count {
+        rows.push(NumberRow::new(alloc))?;
+    }
+    Ok(rows)
+}
+
+/// Makes a place for one order more, and keys of 32 bits for all places. At `Memory` there may be none.
+fn reserve_place(orders: &mut Slab<Resting>) -> Result<(), Memory>
+    ensures place { OnOk result (1 ≤ places_in orders.new) }
+    ensures kept_places { places_in orders.old ≤ places_in orders.new }
+    ensures slots { orders.new.slots ≡ orders.old.slots }
+{
+    orders.reserve(1)?;
+    if orders.capacity() > u32::MAX as usize {
+        return Err(Memory);
+    }
+    Ok(())
+}
+
+/// Puts an order into one of the places, and answers its key.
+fn take_place(orders: &mut Slab<Resting>, order: Resting) -> u32
+    requires place { 1 ≤ places_in orders.old }
+    ensures vacant { get orders.old result ≡ None }
+    ensures updates { Updates orders.old orders.new result (Some order) }
+    ensures places { places_in orders.old ≤ places_in orders.new + 1 }
+{
+    orders.insert_reserved(order) as u32
 }

@@ -60,17 +60,19 @@ pub record IsKept (banks : ℕ) (orders : Orders) (own : List OwnRows) : Type 0 
   pub banks_are : length own ≡ min banks 64
   pub own_are : (bank : ℕ) (side : Side) → bank < length own → IsOwnRow bank side orders (row_at own bank side)
 
--- the same, and the levels of each bank and side
+-- the same, and the levels of each bank and side; the orders are those of so many banks, 64 at most
 pub record IsStored (banks : ℕ) (orders : Orders) (own : List OwnRows) (levels : List LevelSides) : Type 0 where
   pub kept : IsKept banks orders own
   pub levelled : AreLevelled banks orders levels
+  pub of_banks : length orders.room ≡ min banks 64
 
--- how many buys and sells of a bank with these rows and levels can come to rest
-abbrev pub room_in : Orders → OwnRows → LevelSides → ℕ × ℕ
-room_in orders rows sides = (min orders.room (min rows.bids.room sides.bids.room), min orders.room (min rows.asks.room sides.asks.room))
+-- how many buys and sells of a bank can come to rest, which has so many places for orders, and these rows and levels
+abbrev pub room_in : ℕ → OwnRows → LevelSides → ℕ × ℕ
+room_in places rows sides = (min places (min rows.bids.room sides.bids.room), min places (min rows.asks.room sides.asks.room))
 
 -- the same of each bank
-abbrev pub rooms : Orders → List OwnRows → List LevelSides → List (ℕ × ℕ)
-rooms orders [] levels = []
-rooms orders (rows ∷ own) [] = []
-rooms orders (rows ∷ own) (sides ∷ levels) = room_in orders rows sides ∷ rooms orders own levels
+abbrev pub rooms : List ℕ → List OwnRows → List LevelSides → List (ℕ × ℕ)
+rooms [] own levels = []
+rooms (places ∷ room) [] levels = []
+rooms (places ∷ room) (rows ∷ own) [] = []
+rooms (places ∷ room) (rows ∷ own) (sides ∷ levels) = room_in places rows sides ∷ rooms room own levels

@@ -1,4 +1,4 @@
-use Rattle.std.proofs.Common.{◌-◌, Some, ap, subst, ◌∙◌, arith, length, refl, ◌<◌, map}
+use Rattle.std.proofs.Common.{ℕ, ◌-◌, List, get_or, Some, ap, subst, ◌∙◌, arith, length, refl, ◌<◌, map}
 use Rattle.fx_rules.specs.declared.orders.Resting.{Resting}
 use Rattle.order_store.specs.Orders.{order_at, Changes}
 use Rattle.global_book.specs.Book.{Book, relotted}
@@ -61,6 +61,7 @@ invariant_of-self c =
                 c.self.invariant.kept.resting it.1 (ap (λ (b : Book). b.orders) c.self.view_is) c.get-order.ensures.value c.requires.above,
           ))
           c.take.ensures.takes c.take.ensures.others (omega (arith, c.count-2.ensures.value, c.count-2.ensures.least)) (omega (arith, c.count-2.ensures.value, c.count-2.ensures.most));
+      of_banks = ap length c.lower.ensures.room ∙ c.self.invariant.of_banks;
     }
 
 pub returns-clause-orders : goal.returns-clause-orders
@@ -74,7 +75,7 @@ returns-clause-orders c =
 pub returns-clause-room : goal.returns-clause-room
 returns-clause-room c =
     keeps_room c.args.self.now _ c.self.inside.orders c.lower.new.self c.self.inside.rows c.self.inside.rows c.self.inside.levels c.take.new.self (ap (λ (b : Book). b.room) c.self.view_is) refl
-    (omega (arith, c.lower.ensures.room)) (λ bank side. omega arith)
+    (λ bank. omega (arith, ap (λ (room : List ℕ). get_or room bank 0) c.lower.ensures.room)) (λ bank side. omega arith)
     (levels_lose c.self.inside.levels c.take.new.self c.get-order.result.bank c.get-order.result.side c.get-order.result.price (c.count.result - c.count-2.result) c.take.ensures.takes c.take.ensures.others)
 
 pub returns-clause-valid : goal.returns-clause-valid

@@ -43,6 +43,7 @@ invariant_of-self c = record {
       (subst (Takes (levels_at c.self.inside.levels c.remove-order.result.bank c.remove-order.result.side) (levels_at c.take.new.self c.remove-order.result.bank c.remove-order.result.side) c.remove-order.result.price)
       c.count.ensures.value c.take.ensures.takes)
       c.take.ensures.others;
+  of_banks = c.remove-order.ensures.room.banks ∙ c.self.invariant.of_banks;
 }
 
 pub returns-clause-orders : goal.returns-clause-orders
@@ -55,7 +56,7 @@ returns-clause-orders c =
 pub returns-clause-room : goal.returns-clause-room
 returns-clause-room c =
     keeps_room c.args.self.now _ c.self.inside.orders c.remove-order.new.self c.self.inside.rows c.remove.new.self c.self.inside.levels c.take.new.self (ap (λ (b : Book). b.room) c.self.view_is) refl
-    (omega (arith, c.remove-order.ensures.room)) (own_lose c.self.inside.rows c.remove.new.self c.remove-order.result.bank c.remove-order.result.side c.place_of-place.result c.remove.ensures.loses)
+    (λ bank. omega (arith, c.remove-order.ensures.room.room bank)) (own_lose c.self.inside.rows c.remove.new.self c.remove-order.result.bank c.remove-order.result.side c.place_of-place.result c.remove.ensures.loses)
     (levels_lose c.self.inside.levels c.take.new.self c.remove-order.result.bank c.remove-order.result.side c.remove-order.result.price c.count.result c.take.ensures.takes c.take.ensures.others)
 
 pub returns-clause-valid : goal.returns-clause-valid

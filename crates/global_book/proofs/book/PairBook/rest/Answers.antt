@@ -59,6 +59,7 @@ invariant_of-self c =
           c.place_of.ensures.place c.insert.ensures.gains;
       levelled = levelled_rested c.self.inside.banks c.self.inside.orders c.add-key.new.self c.self.inside.levels c.add.new.self c.add-key.result.0 c.args.order c.self.invariant.levelled
           c.add-key.ensures.vacant c.add-key.ensures.changes c.add.ensures.adds c.add.ensures.others (omega arith) (omega arith);
+      of_banks = c.add-key.ensures.room.banks ∙ c.self.invariant.of_banks;
     }
 
 pub returns-clause-orders : goal.returns-clause-orders
@@ -73,7 +74,7 @@ returns-clause-orders c =
 pub returns-clause-room : goal.returns-clause-room
 returns-clause-room c =
     takes_room c.args.self.now _ c.self.inside.orders c.add-key.new.self c.self.inside.rows c.insert.new.self c.self.inside.levels c.add.new.self (ap (λ (b : Book). b.room) c.self.view_is) refl
-    c.add-key.ensures.room (own_gain c.self.inside.rows c.insert.new.self c.args.order.bank c.args.order.side c.place_of.result c.insert.ensures.gains)
+    c.add-key.ensures.room.room (own_gain c.self.inside.rows c.insert.new.self c.args.order.bank c.args.order.side c.place_of.result c.insert.ensures.gains)
     (levels_gain c.self.inside.levels c.add.new.self c.args.order.bank c.args.order.side c.args.order.price c.args.order.left c.add.ensures.adds c.add.ensures.others)
 
 pub returns-clause-valid : goal.returns-clause-valid

@@ -1,17 +1,29 @@
-use Rattle.std.proofs.Common.{◌<◌, nat_eq, refl, ap, arith}
-use Rattle.std.specs.HashMap as map
+use Rattle.std.proofs.Common.{refl, ap, arith}
 use Rattle.order_store.specs.Orders.{Orders}
-use Rattle.order_store.proofs.Indexing.{AreOrders-seen, Indexes-added, on_ok}
+use Rattle.order_store.proofs.Naming.{seen_orders, named_added}
+use Rattle.order_store.proofs.Rooms.{has_places, takes_room, written-at, written_most}
 use Rattle.order_store.proofs.store.OrderStore.add.Goals as goal
+
+pub take_place-key-requires : goal.take_place-key-requires
+take_place-key-requires c = record {
+  place = (has_places c.self.inside.orders c.self.inside.rows.items c.args.self.now c.args.order.bank (ap (λ (o : Orders). o.room) c.self.view_is) c.requires.room).in_orders;
+}
 
 pub invariant_of-self : goal.invariant_of-self
 invariant_of-self c =
-    let room : 0 < map.spare c.self.inside.names = omega (arith, c.requires.room, ap (λ (o : Orders). o.room) c.self.view_is) in
-    Indexes-added c.self.inside.orders.slots c.insert_reserved-key.new.self.slots (map.get nat_eq c.self.inside.names) (map.get nat_eq c.insert-put.new.self)
-    c.insert_reserved-key.result c.args.order c.name_of-name.result c.args.self.now c.self.invariant (ap (λ (o : Orders). o.slots) c.self.view_is) c.requires.absent
-    c.insert_reserved-key.ensures.was_vacant c.insert_reserved-key.ensures.updates.changed c.insert_reserved-key.ensures.updates.others
-    c.name_of-name.ensures.value (on_ok _ c.insert-put.result (c.insert-put.ensures.succeeds room) c.insert-put.ensures.updates).0
-    c.name_of-name.ensures.bank c.name_of-name.ensures.number
+    let places = has_places c.self.inside.orders c.self.inside.rows.items c.args.self.now c.args.order.bank (ap (λ (o : Orders). o.room) c.self.view_is) c.requires.room in
+    named_added c.self.inside.orders.slots c.take_place-key.new.orders.slots c.self.inside.rows.items _ c.args.self.now c.take_place-key.result c.args.order c.index_mut-row.result.now c.add.new.self
+    c.self.invariant (ap (λ (o : Orders). o.slots) c.self.view_is) c.requires.absent c.take_place-key.ensures.vacant c.take_place-key.ensures.updates.changed c.take_place-key.ensures.updates.others
+    (written-at c.self.inside.rows.items c.index.result c.args.order.bank c.index_mut-row.result.now c.add.new.self c.index.ensures.value (omega (arith, places.within, c.index.ensures.value)) c.index_mut-row.ensures.value)
+    c.add.ensures.entries (omega (arith, c.index.ensures.value, c.index.ensures.most)) (omega arith)
+
+pub returns-clause-room : goal.returns-clause-room
+returns-clause-room c =
+    let places = has_places c.self.inside.orders c.self.inside.rows.items c.args.self.now c.args.order.bank (ap (λ (o : Orders). o.room) c.self.view_is) c.requires.room in
+    let written = written-at c.self.inside.rows.items c.index.result c.args.order.bank c.index_mut-row.result.now c.add.new.self c.index.ensures.value (omega (arith, places.within, c.index.ensures.value)) c.index_mut-row.ensures.value in
+    takes_room c.self.inside.orders c.take_place-key.new.orders c.self.inside.rows.items _ c.args.self.now _ (ap (λ (o : Orders). o.room) c.self.view_is) refl
+    written.count c.take_place-key.ensures.places
+    (written_most 1 c.self.inside.rows.items _ c.args.order.bank c.index_mut-row.result.now c.add.new.self written c.add.ensures.room)
 
 pub returns-clause-valid : goal.returns-clause-valid
-returns-clause-valid c = AreOrders-seen c.insert_reserved-key.new.self.slots _ (map.get nat_eq c.insert-put.new.self) _ refl (invariant_of-self c)
+returns-clause-valid c = seen_orders c.take_place-key.new.orders.slots _ _ _ refl (invariant_of-self c)

@@ -1,9 +1,8 @@
-use Rattle.std.proofs.Common.{nat_eq, ap, ◌∙◌, sym, arith}
+use Rattle.std.proofs.Common.{ap, ◌∙◌, sym, arith}
 use Rattle.std.proofs.lemmas.Bool.{eqb-true, eq-eqb, both_ways}
-use Rattle.std.specs.HashMap as map
 use Rattle.order_store.specs.Orders.{Orders}
+use Rattle.order_store.proofs.Naming.{seen_orders}
 use Rattle.order_store.proofs.Earliest.{seeks-start, seeks-passes, seeks-finds, seeks-ends}
-use Rattle.order_store.proofs.Indexing.{AreOrders-seen}
 use Rattle.order_store.proofs.store.OrderStore.earliest_of.Goals.{else-eq-via-then-eq+else-after-order, else-eq-via-else-eq}
 use Rattle.order_store.proofs.store.OrderStore.earliest_of.Goals as goal
 
@@ -39,4 +38,4 @@ pub returns-clause-earliest : goal.returns-clause-earliest
 returns-clause-earliest c = seeks-ends c.args.bank c.args.after c.args.self.now c.loop-order.order-iterator c.loop-order.first c.in-None.ensures.steps.0 c.loop-order.invariant.2
 
 pub returns-clause-valid : goal.returns-clause-valid
-returns-clause-valid c = AreOrders-seen c.self.inside.orders.slots _ (map.get nat_eq c.self.inside.names) c.args.self.now c.self.view_is c.self.invariant
+returns-clause-valid c = seen_orders c.self.inside.orders.slots _ c.self.inside.rows.items c.args.self.now c.self.view_is c.self.invariant

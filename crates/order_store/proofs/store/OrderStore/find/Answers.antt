@@ -1,10 +1,37 @@
-use Rattle.std.proofs.Common.{nat_eq}
-use Rattle.std.specs.HashMap as map
-use Rattle.order_store.proofs.Indexing.{AreOrders-seen}
+use Rattle.std.proofs.Common.{◌≤◌, length, ap, sym, ◌∙◌, arith}
+use Rattle.order_store.specs.inside.Rows.{Row, key_in}
+use Rattle.order_store.proofs.Rooms.{read_row}
+use Rattle.order_store.proofs.Naming.{seen_orders, lacks_without_row, lacks_unnamed, lacks_stale}
 use Rattle.order_store.proofs.store.OrderStore.find.Goals as goal
 
-pub returns-clause-valid : goal.returns-clause-valid
-returns-clause-valid c = AreOrders-seen c.self.inside.orders.slots _ (map.get nat_eq c.self.inside.names) c.args.self.now c.self.view_is c.self.invariant
+pub returns-in_err-row-clause-none : goal.returns-in_err-row-clause-none
+returns-in_err-row-clause-none c _ =
+    let past : length c.deref.result.now ≤ c.index.result = c.in_err-row.ensures.lookup.3 in
+    lacks_without_row c.self.inside.orders.slots _ c.self.inside.rows.items c.args.self.now c.args.bank c.args.number c.self.view_is c.self.invariant
+    c.index.result c.index.ensures.value (omega (arith, past, ap length c.deref.ensures.value))
+
+pub returns-in_err-key-clause-none : goal.returns-in_err-key-clause-none
+returns-in_err-key-clause-none c _ =
+    let lookup = c.in_ok-row.ensures.lookup in
+    let row_is = read_row c.self.inside.rows.items c.deref.result.now c.index.result c.args.bank c.in_ok-row.row.now c.deref.ensures.value c.index.ensures.value lookup.3.0 lookup.1 in
+    lacks_unnamed c.self.inside.orders.slots _ c.self.inside.rows.items c.args.self.now c.args.bank c.args.number c.self.view_is c.self.invariant
+    (sym (ap (λ (r : Row). key_in r.entries c.args.number) row_is) ∙ sym c.in_err-key.ensures.key)
+
+pub returns-else-is_under-clause-none : goal.returns-else-is_under-clause-none
+returns-else-is_under-clause-none c _ =
+    let lookup = c.in_ok-row.ensures.lookup in
+    let row_is = read_row c.self.inside.rows.items c.deref.result.now c.index.result c.args.bank c.in_ok-row.row.now c.deref.ensures.value c.index.ensures.value lookup.3.0 lookup.1 in
+    lacks_stale c.self.inside.orders.slots _ c.self.inside.rows.items c.args.self.now c.args.bank c.args.number c.self.view_is c.self.invariant
+    c.in_ok-key.key (sym (ap (λ (r : Row). key_in r.entries c.args.number) row_is) ∙ sym c.in_ok-key.ensures.key) (sym c.is_under.ensures ∙ c.if-is_under.false)
+
+pub returns-in_err-row-clause-valid : goal.returns-in_err-row-clause-valid
+returns-in_err-row-clause-valid c = seen_orders c.self.inside.orders.slots _ c.self.inside.rows.items c.args.self.now c.self.view_is c.self.invariant
 
 pub returns-in_err-key-clause-valid : goal.returns-in_err-key-clause-valid
-returns-in_err-key-clause-valid c = AreOrders-seen c.self.inside.orders.slots _ (map.get nat_eq c.self.inside.names) c.args.self.now c.self.view_is c.self.invariant
+returns-in_err-key-clause-valid c = seen_orders c.self.inside.orders.slots _ c.self.inside.rows.items c.args.self.now c.self.view_is c.self.invariant
+
+pub returns-then-is_under-clause-valid : goal.returns-then-is_under-clause-valid
+returns-then-is_under-clause-valid c = seen_orders c.self.inside.orders.slots _ c.self.inside.rows.items c.args.self.now c.self.view_is c.self.invariant
+
+pub returns-else-is_under-clause-valid : goal.returns-else-is_under-clause-valid
+returns-else-is_under-clause-valid c = seen_orders c.self.inside.orders.slots _ c.self.inside.rows.items c.args.self.now c.self.view_is c.self.invariant

@@ -1,11 +1,15 @@
-use Rattle.std.proofs.Common.{nat_eq, refl}
-use Rattle.std.specs.HashMap as map
-use Rattle.order_store.proofs.Indexing.{AreOrders-seen, Indexes-removed}
+use Rattle.std.proofs.Common.{refl, ap, arith}
+use Rattle.order_store.specs.Orders.{Orders}
+use Rattle.order_store.proofs.Naming.{seen_orders, named_removed}
+use Rattle.order_store.proofs.Rooms.{keeps_room, fewer_kept}
 use Rattle.order_store.proofs.store.OrderStore.remove.Goals as goal
+
+pub returns-clause-room : goal.returns-clause-room
+returns-clause-room c =
+    keeps_room c.self.inside.orders c.remove.new.self c.self.inside.rows.items c.self.inside.rows.items c.args.self.now _ (ap (λ (o : Orders). o.room) c.self.view_is) refl
+    refl (fewer_kept c.self.inside.orders c.remove.new.self c.remove.ensures.capacity (omega (arith, c.remove.ensures.len))) (λ bank. omega arith)
 
 pub returns-clause-valid : goal.returns-clause-valid
 returns-clause-valid c =
-    AreOrders-seen c.remove-order.new.self.slots _ (map.get nat_eq c.remove.new.self) _ refl
-    (Indexes-removed c.self.inside.orders.slots c.remove-order.new.self.slots (map.get nat_eq c.self.inside.names) (map.get nat_eq c.remove.new.self)
-    c.args.key.0 c.remove-order.result c.name_of.result c.self.invariant c.remove-order.ensures.value
-    c.remove-order.ensures.updates.changed c.remove-order.ensures.updates.others c.name_of.ensures.value c.remove.ensures.updates.0)
+    seen_orders c.remove.new.self.slots _ c.self.inside.rows.items _ refl
+    (named_removed c.self.inside.orders.slots c.remove.new.self.slots c.self.inside.rows.items c.args.key.0 c.self.invariant c.remove.ensures.updates.changed c.remove.ensures.updates.others)

@@ -1,24 +1,44 @@
-use Rattle.std.proofs.Common.{nat_eq, refl, ap}
-use Rattle.slab.specs.Slab.{Slab}
-use Rattle.std.specs.HashMap as map
-use Rattle.fx_rules.specs.declared.orders.Resting.{Resting}
-use Rattle.order_store.proofs.Indexing.{AreOrders-seen, Indexes-same}
+use Rattle.std.proofs.Common.{◌<◌, ◌≤◌, length, refl, ap, arith}
+use Rattle.std.proofs.Math.ListN.{set}
+use Rattle.order_store.specs.Orders.{Orders}
+use Rattle.order_store.specs.inside.Rows.{Row}
+use Rattle.order_store.proofs.Naming.{seen_orders, named_reserved, named_same}
+use Rattle.order_store.proofs.Rooms.{keeps_room, gives_room, seen_banks, written-at, written_most, on_ok_then}
 use Rattle.order_store.proofs.store.OrderStore.reserve.Goals as goal
 
-pub returns-in_err-reserve-clause-valid : goal.returns-in_err-reserve-clause-valid
-returns-in_err-reserve-clause-valid c =
-    AreOrders-seen c.reserve.new.self.slots _ (map.get nat_eq c.self.inside.names) _ refl
-    (Indexes-same c.self.inside.orders.slots c.reserve.new.self.slots (map.get nat_eq c.self.inside.names) (map.get nat_eq c.self.inside.names)
-    (ap (λ (s : Slab Resting). s.slots) c.reserve.ensures.rest_kept) (λ q. refl) c.self.invariant)
+pub returns-in_err-reserve_place-clause-room : goal.returns-in_err-reserve_place-clause-room
+returns-in_err-reserve_place-clause-room c =
+    keeps_room c.self.inside.orders c.reserve_place.new.orders c.self.inside.rows.items c.self.inside.rows.items c.args.self.now _ (ap (λ (o : Orders). o.room) c.self.view_is) refl
+    refl c.reserve_place.ensures.kept_places (λ bank. omega arith)
 
-pub returns-in_err-reserve-2-clause-valid : goal.returns-in_err-reserve-2-clause-valid
-returns-in_err-reserve-2-clause-valid c =
-    AreOrders-seen c.reserve.new.self.slots _ (map.get nat_eq c.reserve-2.new.self) _ refl
-    (Indexes-same c.self.inside.orders.slots c.reserve.new.self.slots (map.get nat_eq c.self.inside.names) (map.get nat_eq c.reserve-2.new.self)
-    (ap (λ (s : Slab Resting). s.slots) c.reserve.ensures.rest_kept) c.reserve-2.ensures.entries.2 c.self.invariant)
+pub returns-in_err-reserve_place-clause-valid : goal.returns-in_err-reserve_place-clause-valid
+returns-in_err-reserve_place-clause-valid c =
+    seen_orders c.reserve_place.new.orders.slots _ c.self.inside.rows.items _ refl
+    (named_same c.self.inside.orders.slots c.reserve_place.new.orders.slots c.self.inside.rows.items c.self.invariant c.reserve_place.ensures.slots)
+
+pub invariant_of-self-2 : goal.invariant_of-self-2
+invariant_of-self-2 c =
+    let within : c.index.result < length c.self.inside.rows.items =
+    omega (arith, c.requires.bank, c.index.ensures.value, seen_banks c.self.inside.orders c.self.inside.rows.items c.args.self.now (ap (λ (o : Orders). o.room) c.self.view_is)) in
+    named_reserved c.self.inside.orders.slots c.reserve_place.new.orders.slots c.self.inside.rows.items _ c.args.bank c.index_mut-row.result.now c.reserve.new.self c.self.invariant c.reserve_place.ensures.slots
+    (written-at c.self.inside.rows.items c.index.result c.args.bank c.index_mut-row.result.now c.reserve.new.self c.index.ensures.value within c.index_mut-row.ensures.value) c.reserve.ensures.live
+
+pub returns-clause-has_room : goal.returns-clause-has_room
+returns-clause-has_room c =
+    let within : c.index.result < length c.self.inside.rows.items =
+    omega (arith, c.requires.bank, c.index.ensures.value, seen_banks c.self.inside.orders c.self.inside.rows.items c.args.self.now (ap (λ (o : Orders). o.room) c.self.view_is)) in
+    let written = written-at c.self.inside.rows.items c.index.result c.args.bank c.index_mut-row.result.now c.reserve.new.self c.index.ensures.value within c.index_mut-row.ensures.value in
+    on_ok_then (1 ≤ c.reserve.new.self.room) _ c.reserve.result
+    (λ room. gives_room c.reserve_place.new.orders (set c.self.inside.rows.items c.index.result c.reserve.new.self) c.args.bank c.in_ok-reserve_place.ensures.place (omega (arith, room, ap (λ (r : Row). r.room) written.is))) c.reserve.ensures.room
+
+pub returns-clause-room : goal.returns-clause-room
+returns-clause-room c =
+    let within : c.index.result < length c.self.inside.rows.items =
+    omega (arith, c.requires.bank, c.index.ensures.value, seen_banks c.self.inside.orders c.self.inside.rows.items c.args.self.now (ap (λ (o : Orders). o.room) c.self.view_is)) in
+    let written = written-at c.self.inside.rows.items c.index.result c.args.bank c.index_mut-row.result.now c.reserve.new.self c.index.ensures.value within c.index_mut-row.ensures.value in
+    keeps_room c.self.inside.orders c.reserve_place.new.orders c.self.inside.rows.items _ c.args.self.now _ (ap (λ (o : Orders). o.room) c.self.view_is) refl
+    written.count c.reserve_place.ensures.kept_places
+    (λ bank. let it = written_most 0 c.self.inside.rows.items _ c.args.bank c.index_mut-row.result.now c.reserve.new.self written (omega (arith, c.reserve.ensures.kept_room)) bank in omega arith)
 
 pub returns-clause-valid : goal.returns-clause-valid
-returns-clause-valid c =
-    AreOrders-seen c.reserve.new.self.slots _ (map.get nat_eq c.reserve-2.new.self) _ refl
-    (Indexes-same c.self.inside.orders.slots c.reserve.new.self.slots (map.get nat_eq c.self.inside.names) (map.get nat_eq c.reserve-2.new.self)
-    (ap (λ (s : Slab Resting). s.slots) c.reserve.ensures.rest_kept) c.reserve-2.ensures.entries.2 c.self.invariant)
+returns-clause-valid c = seen_orders c.reserve_place.new.orders.slots _ _ _ refl (invariant_of-self-2 c)

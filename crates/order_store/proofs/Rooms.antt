@@ -1,0 +1,149 @@
+-- The rows of the banks after one was written, and the room that they leave.
+use Rattle.std.proofs.Common.{ℕ, ◌≡◌, ◌≢◌, ◌+◌, ◌-◌, ◌^◌, ◌≤◌, ◌<◌, cond, ltb, min, true, false, Result, Ok, Err, List, Option, Some, None, length, get_or, map, inl, inr, ap, sym, subst, ◌∙◌, arith}
+use Rattle.std.proofs.Math.ListN.{set, length-set}
+use Rattle.std.proofs.lemmas.Bool.{cases_eq, cases_lt}
+use Rattle.std.proofs.lemmas.List.Sums.{sum_by-set}
+use Rattle.std.proofs.lemmas.List.{get_or-map, get_or-set_same, get_or-set_other, get_or_default, get_or_past, length-map}
+use Rattle.slab.specs.Slab.{Slab, slab_len, with_value}
+use Rattle.std.specs.List.{count_by}
+use Rattle.std.specs.Option.{is_some}
+use Rattle.std.specs.Result.{OnOk}
+use Rattle.fx_rules.specs.declared.orders.Resting.{Resting}
+use Rattle.order_store.specs.Orders.{Orders, room_for, KeepsRoom, TakesRoom}
+use Rattle.order_store.specs.inside.Rows.{Row, no_row, row_at, places_in, room_in}
+
+-- the row of one bank is written
+pub record Written (old new : List Row) (bank : ℕ) (row row' : Row) : Type 0 where
+  pub count : length new ≡ length old
+  pub was : row ≡ row_at old bank
+  pub is : row_at new bank ≡ row'
+  pub others : (other : ℕ) → other ≢ bank → row_at new other ≡ row_at old other
+
+pub written-at : (rows : List Row) (at bank : ℕ) (row row' : Row) → at ≡ bank → at < length rows → row ≡ get_or rows at row → Written rows (set rows at row') bank row row'
+written-at rows at bank row row' at_is within read =
+    subst (λ (b : ℕ). Written rows (set rows at row') b row row') at_is (record {
+      count = length-set rows at row';
+      was = read ∙ get_or_default rows at row no_row within;
+      is = get_or-set_same rows at row' no_row within;
+      others = λ other differ. get_or-set_other rows at other row' no_row differ;
+    })
+
+-- the row of a bank is read
+pub read_row : (rows read : List Row) (at bank : ℕ) (row : Row) → read ≡ rows → at ≡ bank → at < length read → row ≡ get_or read at row → row ≡ row_at rows bank
+read_row rows read at bank row seen at_is within is =
+    is ∙ get_or_default read at row no_row within ∙ ap (λ (rs : List Row). get_or rs at no_row) seen ∙ ap (row_at rows) at_is
+
+-- The room of a bank is that of the slab and of its row.
+
+least_zero : (p : ℕ) → min p 0 ≡ 0
+least_zero p = omega arith
+
+least_most : (p p' r r' most : ℕ) → p ≤ p' + most → r ≤ r' + most → min p r ≤ min p' r' + most
+least_most p p' r r' most places row = omega arith
+
+least_one : (p r : ℕ) → 1 ≤ min p r → (1 ≤ p) × (1 ≤ r)
+least_one p r one = (omega arith, omega arith)
+
+one_least : (p r : ℕ) → 1 ≤ p → 1 ≤ r → 1 ≤ min p r
+one_least p r places row = omega arith
+
+room_at : (orders : Slab Resting) (rows : List Row) (bank : ℕ) → get_or (map (room_in orders) rows) bank 0 ≡ min (places_in orders) (row_at rows bank).room
+room_at orders rows bank =
+    elim (cases_lt bank (length rows)) [
+      | inl within ↦ get_or-map (room_in orders) rows bank no_row 0 within
+      | inr past ↦ get_or_past (map (room_in orders) rows) bank 0 (subst (λ n. n ≤ bank) (sym (length-map rows (room_in orders))) past)
+          ∙ sym (ap (λ (r : Row). min (places_in orders) r.room) (get_or_past rows bank no_row past) ∙ least_zero (places_in orders))
+    ]
+
+-- what callers see of it
+pub seen_room : (orders : Slab Resting) (rows : List Row) (seen : Orders) → map (room_in orders) rows ≡ seen.room → (bank : ℕ) → room_for seen bank ≡ min (places_in orders) (row_at rows bank).room
+seen_room orders rows seen is bank = ap (λ (r : List ℕ). get_or r bank 0) (sym is) ∙ room_at orders rows bank
+
+pub seen_banks : (orders : Slab Resting) (rows : List Row) (seen : Orders) → map (room_in orders) rows ≡ seen.room → length rows ≡ length seen.room
+seen_banks orders rows seen is = sym (length-map rows (room_in orders)) ∙ ap length is
+
+-- room for an order of a bank is room in the slab and in its row
+pub record HasPlaces (orders : Slab Resting) (rows : List Row) (bank : ℕ) : Type 0 where
+  pub in_orders : 1 ≤ places_in orders
+  pub in_row : 1 ≤ (row_at rows bank).room
+  pub within : bank < length rows
+
+pub has_places : (orders : Slab Resting) (rows : List Row) (seen : Orders) (bank : ℕ) → map (room_in orders) rows ≡ seen.room → 1 ≤ room_for seen bank → HasPlaces orders rows bank
+has_places orders rows seen bank is has =
+    let both = least_one (places_in orders) (row_at rows bank).room (subst (λ n. 1 ≤ n) (seen_room orders rows seen is bank) has) in
+    record {
+      in_orders = both.0;
+      in_row = both.1;
+      within = elim (cases_lt bank (length rows)) [
+        | inl below ↦ below
+        | inr past ↦ absurd (omega (arith, both.1, ap (λ (r : Row). r.room) (get_or_past rows bank no_row past)))
+      ];
+    }
+
+pub gives_room : (orders : Slab Resting) (rows : List Row) (bank : ℕ) → 1 ≤ places_in orders → 1 ≤ (row_at rows bank).room → 1 ≤ get_or (map (room_in orders) rows) bank 0
+gives_room orders rows bank places row =
+    subst (λ n. 1 ≤ n) (sym (room_at orders rows bank)) (one_least (places_in orders) (row_at rows bank).room places row)
+
+-- rooms of which each loses at most so many places
+module _ (orders orders' : Slab Resting) (rows rows' : List Row) (old new : Orders) (was : map (room_in orders) rows ≡ old.room) (is : map (room_in orders') rows' ≡ new.room) where
+  room_most : (most : ℕ) → places_in orders ≤ places_in orders' + most → ((bank : ℕ) → (row_at rows bank).room ≤ (row_at rows' bank).room + most)
+      → (bank : ℕ) → room_for old bank ≤ room_for new bank + most
+  room_most most places row bank =
+      subst (λ n. n ≤ room_for new bank + most) (sym (seen_room orders rows old was bank))
+      (subst (λ n. min (places_in orders) (row_at rows bank).room ≤ n + most) (sym (seen_room orders' rows' new is bank))
+      (least_most (places_in orders) (places_in orders') (row_at rows bank).room (row_at rows' bank).room most places (row bank)))
+
+  as_many : length rows' ≡ length rows → length new.room ≡ length old.room
+  as_many count = sym (seen_banks orders' rows' new is) ∙ count ∙ seen_banks orders rows old was
+
+  pub keeps_room : length rows' ≡ length rows → places_in orders ≤ places_in orders' → ((bank : ℕ) → (row_at rows bank).room ≤ (row_at rows' bank).room) → KeepsRoom old new
+  keeps_room count places row = record {
+    banks = as_many count;
+    room = λ bank. let it = room_most 0 (omega arith) (λ b. omega (arith, row b)) bank in omega arith;
+  }
+
+  pub takes_room : length rows' ≡ length rows → places_in orders ≤ places_in orders' + 1 → ((bank : ℕ) → (row_at rows bank).room ≤ (row_at rows' bank).room + 1) → TakesRoom old new
+  takes_room count places row = record { banks = as_many count; room = room_most 1 places row }
+
+-- where one row lost at most so many places
+pub written_most : (most : ℕ) (rows rows' : List Row) (bank : ℕ) (row row' : Row) → Written rows rows' bank row row' → row.room ≤ row'.room + most
+    → (other : ℕ) → (row_at rows other).room ≤ (row_at rows' other).room + most
+written_most most rows rows' bank row row' written upto other =
+    elim (cases_eq other bank) [
+      | inl same ↦
+          subst (λ (b : ℕ). (row_at rows b).room ≤ (row_at rows' b).room + most) (sym same)
+          (omega (arith, upto, ap (λ (r : Row). r.room) written.was, ap (λ (r : Row). r.room) written.is))
+      | inr differ ↦ omega (arith, ap (λ (r : Row). r.room) (written.others other differ))
+    ]
+
+-- An order that changes takes no room.
+
+pub within_slots : (slots : List (Option Resting)) (key : ℕ) (order : Resting) → get_or slots key None ≡ Some order → key < length slots
+within_slots slots key order is =
+    elim (cases_lt key (length slots)) [
+      | inl below ↦ below
+      | inr past ↦ let it : None ≡ Some order = sym (get_or_past slots key None past) ∙ is in cc
+    ]
+
+count_changed : (slots : List (Option Resting)) (key : ℕ) (old new : Resting) → get_or slots key None ≡ Some old → count_by is_some (set slots key (Some new)) ≡ count_by is_some slots
+count_changed slots key old new is =
+    let counts = sum_by-set (λ (s : Option Resting). cond (is_some s) 1 0) slots key (Some new) None (within_slots slots key old is) in
+    let held : cond (is_some (get_or slots key None)) 1 0 ≡ 1 = ap {B = ℕ} (λ (s : Option Resting). cond (is_some s) 1 0) is in
+    omega (arith, counts, held)
+
+pub changed_room : (orders : Slab Resting) (rows : List Row) (key : ℕ) (old new : Resting) → get_or orders.slots key None ≡ Some old → map (room_in (with_value orders key new)) rows ≡ map (room_in orders) rows
+changed_room orders rows key old new is =
+    ap (λ n. map (λ (row : Row). min (cond (ltb orders.capacity (2 ^ 32)) (orders.capacity - n) 0) row.room) rows) (count_changed orders.slots key old new is)
+
+more_left : (capacity kept kept' : ℕ) → kept' ≤ kept → cond (ltb capacity (2 ^ 32)) (capacity - kept) 0 ≤ cond (ltb capacity (2 ^ 32)) (capacity - kept') 0
+more_left capacity kept kept' fewer = elim (ltb capacity (2 ^ 32)) as (λ b. cond b (capacity - kept) 0 ≤ cond b (capacity - kept') 0) [ true ↦ omega arith | false ↦ omega arith ]
+
+-- fewer orders leave more places
+pub fewer_kept : (orders orders' : Slab Resting) → orders'.capacity ≡ orders.capacity → slab_len orders' ≤ slab_len orders → places_in orders ≤ places_in orders'
+fewer_kept orders orders' capacity fewer =
+    subst (λ n. cond (ltb orders.capacity (2 ^ 32)) (orders.capacity - slab_len orders) 0 ≤ cond (ltb n (2 ^ 32)) (n - slab_len orders') 0) (sym capacity)
+    (more_left orders.capacity (slab_len orders) (slab_len orders') fewer)
+
+pub on_ok_then : {T E : Type 0} (P Q : Type 0) (r : Result T E) → (P → Q) → OnOk r P → OnOk r Q
+on_ok_then P Q (Ok x) then' holds = then' holds
+on_ok_then P Q (Err e) then' holds = tt

@@ -1,0 +1,151 @@
+ghost use Rattle.std.specs.Prelude.{ℕ, ◌≡◌, ◌+◌, ◌*◌, ◌≤◌, ◌<◌, ◌↔◌, [], Some, true, false, count_by, length, max, nat_lt, OnOk};
+ghost use Rattle.std.specs.List.{All, filter};
+ghost use Rattle.std.specs.List.Sorted.{IsPartitionPoint};
+ghost use Rattle.order_store.specs.inside.Rows.{is_at, is_live, is_under, key_in, size, with_key};
+
+use fx_amounts::{BankId, Memory};
+use fx_rules::Resting;
+use slab::Slab;
+use std::alloc::Global;
+use std::marker::Model;
+
+/// The number of an order in its bank's stream, and the key that it was kept under.
+#[derive(Clone, Copy, Debug, PartialEq, Eq)]
+pub(crate) struct Numbered {
+    number: u32,
+    key: u32,
+}
+
+/// The keys of one bank's orders, by rising number. An entry may be stale: its order has gone. A removal leaves the row as it
+/// is, so that it takes no search in it.
+#[derive(Drop)]
+pub(crate) struct NumberRow {
+    entries: Vec<Numbered>,
+}
+
+impl Model for NumberRow {
+    ghost use Rattle.std.specs.Prelude.{◌-◌, vec_capacity, vec_len};
+    ghost use Rattle.order_store.specs.inside.Rows.{AreRising, Row};
+
+    ghost Value = { Row };
+
+    ghost view = { λ r. record { entries = r.entries.items; room = vec_capacity r.entries - vec_len r.entries } };
+
+    ghost invariant = { λ r. AreRising r.entries.items };
+}
+
+impl NumberRow {
+    /// No entries, and no room for any. It takes no memory.
+    pub(crate) fn new(alloc: Global) -> Self
+        ensures empty { result.entries ≡ [] }
+    {
+        NumberRow {
+            entries: Vec::new(alloc),
+        }
+    }
+
+    /// The key that stands with a number; `None` where there is no such entry. The order may have gone since.
+    pub(crate) fn key_of(&self, number: u32) -> Option<usize>
+        ensures key { result ≡ key_in self.now.entries number }
+    {
+        let entry = self.entries.get(self.place_of(number))?;
+        if entry.number == number {
+            Some(entry.key as usize)
+        } else {
+            None
+        }
+    }
+
+    /// Puts a key with a number, in the place of the one that stands with it, if any. It takes one of the places that there is
+    /// room for at most.
+    pub(crate) fn add(&mut self, number: u32, key: u32)
+        requires room { 1 ≤ self.old.room }
+        ensures entries { self.new.entries ≡ with_key number key self.old.entries }
+        ensures room { self.old.room ≤ self.new.room + 1 }
+    {
+        let entry = Numbered { number, key };
+        if self.is_below(number) {
+            self.entries.push_reserved(entry);
+        } else {
+            self.put(entry);
+        }
+    }
+
+    /// Makes room for one entry more of a bank whose orders these are. A full row lets its stale entries go, and grows to twice
+    /// what is left where that is more than half of it, so that room costs few steps on the average. At `Memory` there may be
+    /// none.
+    pub(crate) fn reserve(&mut self, bank: BankId, orders: &Slab<Resting>) -> Result<(), Memory>
+        ensures room { OnOk result (1 ≤ self.new.room) }
+        ensures kept_room { self.old.room ≤ self.new.room }
+        ensures size { OnOk result (size self.new ≤ max (size self.old) (max 1 (2 * count_by (is_live orders.now.slots bank) self.old.entries))) }
+        ensures live { (number key : ℕ) → key_in self.old.entries number ≡ Some key → is_under orders.now.slots key bank number ≡ true → key_in self.new.entries number ≡ Some key }
+    {
+        if self.entries.len() < self.entries.capacity() {
+            return Ok(());
+        }
+        self.drop_stale(bank, orders);
+        let more = self.entries.len().max(1);
+        self.entries.reserve_exact(more)?;
+        Ok(())
+    }
+
+    /// Takes the stale entries out of the row of a bank whose orders these are.
+    fn drop_stale(&mut self, bank: BankId, orders: &Slab<Resting>)
+        ensures entries { self.new.entries ≡ filter (is_live orders.now.slots bank) self.old.entries }
+        ensures size { size self.new ≡ size self.old }
+    {
+        self.entries.retain(|entry| is_under(orders, entry.key as usize, bank, entry.number));
+    }
+
+    /// Whether all entries have lower numbers.
+    fn is_below(&self, number: u32) -> bool
+        ensures below { (result ≡ true) ↔ All (λ entry. entry.number < number) self.now.entries }
+    {
+        match self.entries.last() {
+            Some(last) => last.number < number,
+            None => true,
+        }
+    }
+
+    /// How many entries have lower numbers. It searches by halves.
+    fn place_of(&self, number: u32) -> usize
+        ensures within { result ≤ length self.now.entries }
+        ensures parted { IsPartitionPoint (λ entry. nat_lt entry.number number ≡ true) (λ entry. nat_lt entry.number number ≡ false) self.now.entries result }
+    {
+        self.entries.partition_point(|entry| entry.number < number)
+    }
+
+    /// Puts an entry at its place by number, where there is room.
+    fn put(&mut self, entry: Numbered)
+        requires room { 1 ≤ self.old.room }
+        ensures entries { self.new.entries ≡ with_key entry.number entry.key self.old.entries }
+        ensures room { self.old.room ≤ self.new.room + 1 }
+    {
+        let at = self.place_of(entry.number);
+        if self.is_at(at, entry.number) {
+            self.entries[at] = entry;
+        } else {
+            self.entries.insert(at, entry).unwrap();
+        }
+    }
+
+    /// Whether an entry with this number stands at an index.
+    fn is_at(&self, at: usize, number: u32) -> bool
+        ensures { result ≡ is_at number self.now.entries at }
+    {
+        match self.entries.get(at) {
+            Some(entry) => entry.number == number,
+            None => false,
+        }
+    }
+}
+
+/// Whether the order of this bank and number is kept under a key.
+pub(crate) fn is_under(orders: &Slab<Resting>, key: usize, bank: BankId, number: u32) -> bool
+    ensures { result ≡ is_under orders.now.slots key bank number }
+{
+    match orders.get(key) {
+        Some(order) => order.bank == bank && order.number == number,
+        None => false,
+    }
+}
