@@ -15,4 +15,6 @@ pub mod Levels
 mod Levelled
 mod Banks
 mod Summing
+pub mod Lowered
+mod Moving
 pub mod Cursor

@@ -1,10 +1,14 @@
-ghost use Rattle.std.specs.Prelude.{◌≡◌, ◌+◌, ◌≤◌, ◌<◌, ◌^◌, ◌↔◌, [], ◌∷◌, ◌++◌, None, not, map, filter, length, true, false, slice_get, OnOk, IfOk, IfSome};
+ghost use Rattle.std.specs.Prelude.{◌≡◌, ◌+◌, ◌≤◌, ◌<◌, ◌^◌, ◌↔◌, List, [], ◌∷◌, ◌++◌, Some, None, not, map, filter, length, true, false, slice_get, OnOk, IfOk, IfSome, IsSome};
 ghost use Rattle.std.specs.Option.{option_copied, option_map};
 ghost use Rattle.fx_amounts.specs.Price.{crosses};
 ghost use Rattle.fx_amounts.specs.Side.{opposite};
 ghost use Rattle.fx_rules.specs.Lists.{Each};
+ghost use Rattle.access_index.specs.Sides.{OwnRows};
+ghost use Rattle.order_store.specs.Orders.{order_at};
 ghost use Rattle.fx_rules.specs.Sweep.{IsBest, is_order};
 ghost use Rattle.global_book.specs.Book.{AreInTime, AreOwners, HasRoom, KeepsRoom, IsBook, IsPlaceOf, IsPriceOf, Rests, RestsAbove, first, is_of, is_of_from, levels_of, TakesRoom, owned, relotted, sought};
+ghost use Rattle.global_book.specs.Lowered.{lowered_in};
+ghost use Rattle.global_book.specs.inside.Moves.{AreOfBook, Moves};
 ghost use Rattle.global_book.specs.inside.Search.{end_of};
 ghost use Rattle.global_book.specs.inside.Rows.{is_own};
 
@@ -163,9 +167,7 @@ impl PairBook {
     {
         let key = self.orders.find(bank, number).unwrap();
         let order = self.orders.get(key);
-        self.orders.lower(key, left);
-        let gone = order.left.count() - left.count();
-        self.levels.take(order.bank, order.side, order.price, gone);
+        lower_at(&mut self.orders, &mut self.levels, key, &order, left);
     }
 
     /// Takes the order of this bank and number out.
@@ -178,11 +180,26 @@ impl PairBook {
         ensures valid { IsBook self.new }
     {
         let key = self.orders.find(bank, number).unwrap();
-        let order = self.orders.remove(key);
-        let place = place_of(order.price, order.arrival, key.0);
-        self.rows.remove(order.bank, order.side, &place);
-        self.levels
-            .take(order.bank, order.side, order.price, order.left.count());
+        remove_at(&mut self.orders, &mut self.rows, &mut self.levels, key);
+    }
+
+    /// Takes so many lots from the order of this bank and number, where it rests, with one search for it; with nothing left it
+    /// is taken out. Where it has fewer lots, all of them go.
+    pub fn take_lots(&mut self, bank: BankId, number: u32, lots: Lots)
+        ensures pair { self.new.pair ≡ self.old.pair }
+        ensures banks { self.new.banks ≡ self.old.banks }
+        ensures orders { self.new.orders ≡ lowered_in bank number lots self.old.orders }
+        ensures room { KeepsRoom self.old self.new }
+        ensures valid { IsBook self.new }
+    {
+        let Some(key) = self.orders.find(bank, number) else {
+            return;
+        };
+        let order = self.orders.get(key);
+        match Lots::new(order.left.count().saturating_sub(lots.count())) {
+            Some(left) => lower_at(&mut self.orders, &mut self.levels, key, &order, left),
+            None => remove_at(&mut self.orders, &mut self.rows, &mut self.levels, key),
+        }
     }
 
     /// Takes all orders of a bank out, and answers how many they were.
@@ -368,6 +385,36 @@ impl PairBook {
         let level = self.levels.get(bank, side, at)?;
         Some((level.price, level.lots))
     }
+}
+
+/// The order under a key has so many lots left from now on, fewer than it had.
+fn lower_at(
+    orders: &mut OrderStore,
+    levels: &mut BankLevels,
+    key: OrderKey,
+    order: &Resting,
+    left: Lots,
+)
+    requires at { order_at orders.old key.0 ≡ Some order.now }
+    requires less { left < order.now.left }
+    requires own { (own : List OwnRows) × AreOfBook orders.old own levels.old }
+    ensures moves { (own : List OwnRows) → Moves (map (relotted order.now.bank order.now.number left)) orders.old orders.new own own levels.old levels.new }
+{
+    let gone = order.left.count() - left.count();
+    orders.lower(key, left);
+    levels.take(order.bank, order.side, order.price, gone);
+}
+
+/// Takes the order under a key out.
+fn remove_at(orders: &mut OrderStore, rows: &mut Owners, levels: &mut BankLevels, key: OrderKey)
+    requires live { IsSome (order_at orders.old key.0) }
+    requires own { AreOfBook orders.old rows.old levels.old }
+    ensures moves { IfSome (order_at orders.old key.0) (λ order. Moves (filter (λ other. not (is_order order.bank order.number other))) orders.old orders.new rows.old rows.new levels.old levels.new) }
+{
+    let order = orders.remove(key);
+    let place = place_of(order.price, order.arrival, key.0);
+    rows.remove(order.bank, order.side, &place);
+    levels.take(order.bank, order.side, order.price, order.left.count());
 }
 
 /// The place of an order of this price and arrival, kept under this key.
