@@ -20,7 +20,8 @@ use Rattle.fx_rules.proofs.RaiseSound.{match_cases, turn_of, turn-sender, IsTurn
 use Rattle.fx_rules.proofs.SweepSound.{filled-sound, swept-sound}
 use Rattle.match_sweep.specs.Carries.{lowered_in, filled_in, carried, IsOfBook, AreOfBook}
 use Rattle.match_sweep.specs.Laws.{SweepsAreCarried, TurnsAreCarried}
-use Rattle.match_sweep.proofs.Lowering.{relot, NoneIs, lowered-here, lowered-later, none_later, orders_in-lowered, orders_in-filled, carried-market}
+use Rattle.global_book.proofs.Lowered.{relot, NoneIs, lowered-here, lowered-later, none_later}
+use Rattle.match_sweep.proofs.Lowering.{orders_in-lowered, orders_in-filled, carried-market}
 
 -- What is true of each order stays true, where it stays true of the one that is lowered.
 each-lowered : (P : Resting → Type 0) (bank number lots : ℕ) (orders : List Resting) → ((o : Resting) (left : ℕ) → is_order bank number o ≡ true → P o → P (relot o left)) → Each P orders → Each P (lowered_in bank number lots orders)

@@ -1,19 +1,11 @@
 -- What fills do to the orders of one pair's book.
-use Rattle.std.specs.Prelude.{ℕ, ◌≡◌, ◌≤◌, true, List, [], ◌∷◌, map}
-use Rattle.fx_rules.specs.declared.orders.ActiveOrder.{ActiveOrder}
+use Rattle.std.specs.Prelude.{ℕ, ◌≡◌, ◌≤◌, true, List, [], ◌∷◌}
 use Rattle.fx_rules.specs.declared.orders.Resting.{Resting}
 use Rattle.fx_rules.specs.declared.orders.Fill.{Fill}
 use Rattle.fx_rules.specs.Lists.{Each}
-use Rattle.fx_rules.specs.Sweep.{lowered, is_order}
+use Rattle.fx_rules.specs.Sweep.{is_order}
 use Rattle.global_book.specs.Book.{Rests}
-
--- the orders of a book as orders of the market, whatever their pair
-abbrev pub in_market : List Resting → List ActiveOrder
-in_market orders = map (λ order. record { pair = 0; order = order }) orders
-
--- a book's order of this bank and number has so many lots less, where it rests; where nothing is left it no longer rests
-abbrev pub lowered_in : ℕ → ℕ → ℕ → List Resting → List Resting
-lowered_in bank number lots orders = map (λ active. active.order) (lowered bank number lots (in_market orders))
+pub use Rattle.global_book.specs.Lowered.{in_market, lowered_in}
 
 -- a book's orders with a fill made: both its orders are lowered, where they rest
 abbrev pub filled_in : List Resting → Fill → List Resting

@@ -1,17 +1,13 @@
-ghost use Rattle.std.specs.Prelude.{◌≡◌, ◌<◌};
+ghost use Rattle.std.specs.Prelude.{◌≡◌};
 ghost use Rattle.fx_rules.specs.Lists.{EachPair};
 ghost use Rattle.fx_rules.specs.State.{State, orders_in};
 ghost use Rattle.fx_rules.specs.Sound.{Rises};
 ghost use Rattle.fx_rules.specs.Sweep.{filled_all};
 ghost use Rattle.global_book.specs.Book.{KeepsRoom};
-ghost use Rattle.match_sweep.specs.Carries.{lowered_in, carried};
+ghost use Rattle.match_sweep.specs.Carries.{carried};
 
-use fx_amounts::{BankId, Lots};
 use fx_rules::{Fill, Plan};
 use global_book::PairBook;
-use price_levels::Steps;
-use std::marker::Brand;
-use std::sync::ledger::{Blank, Ledger};
 
 /// Carries a plan out in its pair's book: each fill in order takes its lots from its maker, and from its taker where that
 /// rests, and an order with nothing left is taken out. No room that was made goes, and it takes no memory. The lines
@@ -34,44 +30,8 @@ pub fn carry_fills(book: &mut PairBook, fills: &[Fill])
     ensures banks { book.new.banks ≡ book.old.banks }
     ensures room { KeepsRoom book.old book.new }
 {
-    make_fills::<Brand>(book, fills, Blank::new(1));
-}
-
-/// The same, with a ledger for the steps.
-fn make_fills<L: Ledger>(book: &mut PairBook, fills: &[Fill], blank: Blank)
-    requires name { blank.name ≡ L.name }
-    requires parts { blank.parts ≡ L.parts }
-    requires some { 0 < blank.parts }
-    ensures orders { book.new.orders ≡ carried book.old.orders fills.now }
-    ensures pair { book.new.pair ≡ book.old.pair }
-    ensures banks { book.new.banks ≡ book.old.banks }
-    ensures room { KeepsRoom book.old book.new }
-{
-    let mut steps = Steps::<L>::new(blank);
     for fill in fills {
-        lower(book, fill.maker, fill.maker_number, fill.lots, &mut steps);
-        lower(book, fill.taker, fill.taker_number, fill.lots, &mut steps);
-    }
-}
-
-/// Takes so many lots from the order of this bank and number, where it rests; with nothing left it is taken out.
-fn lower<L: Ledger>(
-    book: &mut PairBook,
-    bank: BankId,
-    number: u32,
-    lots: Lots,
-    steps: &mut Steps<L>,
-)
-    ensures orders { book.new.orders ≡ lowered_in bank number lots book.old.orders }
-    ensures pair { book.new.pair ≡ book.old.pair }
-    ensures banks { book.new.banks ≡ book.old.banks }
-    ensures room { KeepsRoom book.old book.new }
-{
-    let Some(order) = book.find(bank, number, steps) else {
-        return;
-    };
-    match Lots::new(order.left.count().saturating_sub(lots.count())) {
-        Some(left) => book.lower(bank, number, left),
-        None => book.remove(bank, number),
+        book.take_lots(fill.maker, fill.maker_number, fill.lots);
+        book.take_lots(fill.taker, fill.taker_number, fill.lots);
     }
 }
