@@ -3,7 +3,6 @@ pub mod Tables
 pub mod Finding
 pub mod Planning
 pub mod Picking
-mod Heading
 pub mod Levelling
 pub mod Stepping
 pub mod Reaching

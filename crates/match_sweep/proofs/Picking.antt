@@ -13,7 +13,6 @@ use Rattle.fx_rules.proofs.ListLemmas.{Each-among, Each-of, Among-filter, among_
 use Rattle.fx_rules.proofs.Opens.{IsOpen, is_open-says}
 use Rattle.fx_rules.proofs.Planning.{open_parts}
 use Rattle.fx_rules.proofs.Preference.{preferred_self, preferred_trans, preferred_either, rising_same}
-use Rattle.price_levels.specs.declared.place.Place.{Place}
 use Rattle.global_book.specs.Book.{is_of}
 use Rattle.global_book.proofs.Within.{crosses_too}
 use Rattle.match_sweep.specs.inside.Heads.{IsFound, is_to_come, to_come, AreHeads}
@@ -105,13 +104,13 @@ not_before_first side book o h m rising o_in h_in m_in below above =
 -- The best of the heads.
 
 -- no head that the taker may take is preferred to this order
-abbrev pub NoneBefore : List ℕ → (ℕ → ℕ) → Taker → (ℕ → Option (Resting × Place)) → Resting → Type 0
+abbrev pub NoneBefore : List ℕ → (ℕ → ℕ) → Taker → (ℕ → Option Resting) → Resting → Type 0
 NoneBefore listed reaches t heads best =
-    (bank : ℕ) (head : Resting × Place) → Contains listed bank → heads bank ≡ Some head → 1 ≤ reaches bank → crosses t.side t.price head.0.price ≡ true →
-    is_preferred t.side head.0 best ≡ false
+    (bank : ℕ) (head : Resting) → Contains listed bank → heads bank ≡ Some head → 1 ≤ reaches bank → crosses t.side t.price head.price ≡ true →
+    is_preferred t.side head best ≡ false
 
 -- the taker's book, the banks that have an order in it, its heads, and the best of them that it may take
-pub record Picks (listed_now : List ℕ) (reaches : ℕ → ℕ) (t : Taker) (last : Option Resting) (book : List Resting) (banks : ℕ) (heads : ℕ → Option (Resting × Place)) (at : ℕ) (best : Resting) : Type 0 where
+pub record Picks (listed_now : List ℕ) (reaches : ℕ → ℕ) (t : Taker) (last : Option Resting) (book : List Resting) (banks : ℕ) (heads : ℕ → Option Resting) (at : ℕ) (best : Resting) : Type 0 where
   pub rising : EachPair ArrivesBefore book
   pub owners : (o : Resting) → Among o book → o.bank < banks
   pub listed : (o : Resting) → Among o book → Contains listed_now o.bank
@@ -123,32 +122,32 @@ pub record Picks (listed_now : List ℕ) (reaches : ℕ → ℕ) (t : Taker) (la
   pub none_before : NoneBefore listed_now reaches t heads best
 
 -- the head of a bank that has orders to come
-record HasHead (side : Side) (orders : List Resting) (head : Option (Resting × Place)) : Type 0 where
-  pub found : Resting × Place
+record HasHead (side : Side) (orders : List Resting) (head : Option Resting) : Type 0 where
+  pub found : Resting
   pub is : head ≡ Some found
-  pub best : IsBest side orders found.0
+  pub best : IsBest side orders found
 
-has_head : (t : Taker) (orders : List Resting) (head : Option (Resting × Place)) (o : Resting) → crosses t.side t.price o.price ≡ true → Among o orders → IsFound t orders head → HasHead t.side orders head
+has_head : (t : Taker) (orders : List Resting) (head : Option Resting) (o : Resting) → crosses t.side t.price o.price ≡ true → Among o orders → IsFound t orders head → HasHead t.side orders head
 has_head t orders None o taken there found = absurd (both_ways (crosses t.side t.price o.price) (Each-among (λ (q : Resting). crosses t.side t.price q.price ≡ false) orders o found there) taken)
-has_head t orders (Some head) o taken there found = record { found = head; is = refl; best = found.0 }
+has_head t orders (Some head) o taken there found = record { found = head; is = refl; best = found }
 
 -- the order that is picked stands before each that may still come, but for a bank that can't be reached
-before_open : (listed_now : List ℕ) (reaches : ℕ → ℕ) (t : Taker) (last : Option Resting) (book : List Resting) (banks : ℕ) (heads : ℕ → Option (Resting × Place)) (at : ℕ) (best o : Resting) → Picks listed_now reaches t last book banks heads at best → Among o (open_behind reaches t last book) → is_preferred t.side o best ≡ false
+before_open : (listed_now : List ℕ) (reaches : ℕ → ℕ) (t : Taker) (last : Option Resting) (book : List Resting) (banks : ℕ) (heads : ℕ → Option Resting) (at : ℕ) (best o : Resting) → Picks listed_now reaches t last book banks heads at best → Among o (open_behind reaches t last book) → is_preferred t.side o best ≡ false
 before_open listed_now reaches t last book banks heads at best o picks there =
     let opens = open-to_come reaches t last book o there in
     let o_in = among_to_come t o.bank last book o opens.0 in
     let within : o.bank < banks = picks.owners o o_in.0 in
     let head = has_head t (to_come t o.bank last book) (heads o.bank) o opens.1.crosses opens.0 (picks.heads_are o.bank within opens.1.reach) in
-    let below : is_preferred t.side o head.found.0 ≡ false =
-    Each-among (λ (q : Resting). is_preferred t.side q head.found.0 ≡ false) (to_come t o.bank last book) o head.best.first opens.0 in
-    let crossing : crosses t.side t.price head.found.0.price ≡ true = crosses_too t.side t.price head.found.0 o below opens.1.crosses in
-    not_before_first t.side book o head.found.0 best picks.rising o_in.0
-    (among_to_come t o.bank last book head.found.0 head.best.there).0
+    let below : is_preferred t.side o head.found ≡ false =
+    Each-among (λ (q : Resting). is_preferred t.side q head.found ≡ false) (to_come t o.bank last book) o head.best.first opens.0 in
+    let crossing : crosses t.side t.price head.found.price ≡ true = crosses_too t.side t.price head.found o below opens.1.crosses in
+    not_before_first t.side book o head.found best picks.rising o_in.0
+    (among_to_come t o.bank last book head.found head.best.there).0
     (among_to_come t at last book best picks.there).0
     below
     (picks.none_before o.bank head.found (picks.listed o o_in.0) head.is opens.1.reach crossing)
 
-pub picked-best : (listed_now : List ℕ) (reaches : ℕ → ℕ) (t : Taker) (last : Option Resting) (book : List Resting) (banks : ℕ) (heads : ℕ → Option (Resting × Place)) (at : ℕ) (best : Resting) → Picks listed_now reaches t last book banks heads at best → IsBest t.side (open_behind reaches t last book) best
+pub picked-best : (listed_now : List ℕ) (reaches : ℕ → ℕ) (t : Taker) (last : Option Resting) (book : List Resting) (banks : ℕ) (heads : ℕ → Option Resting) (at : ℕ) (best : Resting) → Picks listed_now reaches t last book banks heads at best → IsBest t.side (open_behind reaches t last book) best
 picked-best listed_now reaches t last book banks heads at best picks = record {
   there = to_come-open reaches t at last book best (λ same. omega (arith, picks.own, picks.reach, ap reaches same)) picks.reach picks.crosses picks.there;
   first = Each-of (λ (o : Resting). is_preferred t.side o best ≡ false) (open_behind reaches t last book)
@@ -160,17 +159,17 @@ none_among [] none = refl
 none_among (o ∷ orders) none = absurd (none o (inl refl))
 
 -- where no head may be taken nothing is open
-pub picked-none : (listed_now : List ℕ) (reaches : ℕ → ℕ) (t : Taker) (last : Option Resting) (book : List Resting) (banks : ℕ) (heads : ℕ → Option (Resting × Place)) → ((o : Resting) → Among o book → o.bank < banks) → ((o : Resting) → Among o book → Contains listed_now o.bank) → AreHeads reaches t last book banks heads → ((bank : ℕ) (head : Resting × Place) → Contains listed_now bank → heads bank ≡ Some head → 1 ≤ reaches bank → crosses t.side t.price head.0.price ≡ false) → open_behind reaches t last book ≡ []
+pub picked-none : (listed_now : List ℕ) (reaches : ℕ → ℕ) (t : Taker) (last : Option Resting) (book : List Resting) (banks : ℕ) (heads : ℕ → Option Resting) → ((o : Resting) → Among o book → o.bank < banks) → ((o : Resting) → Among o book → Contains listed_now o.bank) → AreHeads reaches t last book banks heads → ((bank : ℕ) (head : Resting) → Contains listed_now bank → heads bank ≡ Some head → 1 ≤ reaches bank → crosses t.side t.price head.price ≡ false) → open_behind reaches t last book ≡ []
 picked-none listed_now reaches t last book banks heads owners listed heads_are none =
     none_among (open_behind reaches t last book)
     (λ o there.
     let opens = open-to_come reaches t last book o there in
     let within : o.bank < banks = owners o (among_to_come t o.bank last book o opens.0).0 in
     let head = has_head t (to_come t o.bank last book) (heads o.bank) o opens.1.crosses opens.0 (heads_are o.bank within opens.1.reach) in
-    let below : is_preferred t.side o head.found.0 ≡ false =
-    Each-among (λ (q : Resting). is_preferred t.side q head.found.0 ≡ false) (to_come t o.bank last book) o head.best.first opens.0 in
-    both_ways (crosses t.side t.price head.found.0.price) (none o.bank head.found (listed o (among_to_come t o.bank last book o opens.0).0) head.is opens.1.reach)
-    (crosses_too t.side t.price head.found.0 o below opens.1.crosses))
+    let below : is_preferred t.side o head.found ≡ false =
+    Each-among (λ (q : Resting). is_preferred t.side q head.found ≡ false) (to_come t o.bank last book) o head.best.first opens.0 in
+    both_ways (crosses t.side t.price head.found.price) (none o.bank head.found (listed o (among_to_come t o.bank last book o opens.0).0) head.is opens.1.reach)
+    (crosses_too t.side t.price head.found o below opens.1.crosses))
 
 -- The other heads, once the best is taken.
 
@@ -205,7 +204,7 @@ same_tests false true there back = absurd (both_ways false refl (back refl))
 same_tests false false there back = refl
 
 -- so another bank's head is still its head
-pub heads-stay : (reaches : ℕ → ℕ) (t : Taker) (last : Option Resting) (book : List Resting) (other : ℕ) (best : Resting) (head : Option (Resting × Place)) → EachPair ArrivesBefore book → IsBest t.side (open_behind reaches t last book) best → other ≢ best.bank → other ≢ t.bank → 1 ≤ reaches other → IsFound t (to_come t other last book) head → IsFound t (to_come t other (Some best) book) head
+pub heads-stay : (reaches : ℕ → ℕ) (t : Taker) (last : Option Resting) (book : List Resting) (other : ℕ) (best : Resting) (head : Option Resting) → EachPair ArrivesBefore book → IsBest t.side (open_behind reaches t last book) best → other ≢ best.bank → other ≢ t.bank → 1 ≤ reaches other → IsFound t (to_come t other last book) head → IsFound t (to_come t other (Some best) book) head
 heads-stay reaches t last book other best head rising is differ not_own some found =
     let best_in = open-to_come reaches t last book best is.there in
     let behind : is_behind t.side last best ≡ true = (among_to_come t best.bank last book best best_in.0).1.behind in

@@ -1,9 +1,9 @@
 -- The steps of a planned sweep by a table of lines, what it fills in all, and the sweep that it is.
-use Rattle.std.proofs.Common.{ℕ, ◌≡◌, ◌≢◌, ◌+◌, ◌-◌, ◌*◌, ◌/◌, ◌≤◌, ◌<◌, min, Bool, true, false, ◌&&◌, eqb, List, [], ◌∷◌, inl, inr, refl, ap, sym, subst, ◌∙◌, arith, length, get_or, Option, Some, None, get_or-set_same, get_or-set_other}
+use Rattle.std.proofs.Common.{ℕ, ◌≡◌, ◌≢◌, ◌+◌, ◌-◌, ◌*◌, ◌/◌, ◌≤◌, ◌<◌, min, Bool, true, false, cond, ◌&&◌, eqb, List, [], ◌∷◌, inl, inr, refl, ap, sym, subst, ◌∙◌, arith, length, get_or, Option, Some, None, get_or-set_same, get_or-set_other}
 use Rattle.std.proofs.Math.ListN.{set}
 use Rattle.std.proofs.Math.Path.{fun_ext}
 use Rattle.std.proofs.Math.Nat.{mul-le-mul_left, div-mul-le_self, div-le_self}
-use Rattle.std.proofs.lemmas.Bool.{cases_Bool, cases_eq, cond-true, cond-false, and_parts, eqb-true, eqb-false, cases_lt}
+use Rattle.std.proofs.lemmas.Bool.{both_ways, cases_Bool, cases_eq, cond-true, cond-false, and_parts, eqb-true, eqb-false, ne_eqb, cases_lt}
 use Rattle.std.proofs.lemmas.List.{get_or_past}
 use Rattle.std.specs.List.{filter}
 use Rattle.fx_rules.specs.declared.orders.Resting.{Resting}
@@ -21,6 +21,7 @@ use Rattle.global_book.specs.Book.{Book, IsBook, IsHeld}
 use Rattle.credit_lines.specs.Credit.{Credit, line_in}
 use Rattle.credit_lines.proofs.MarketLemmas.{line_in-line}
 use Rattle.match_sweep.specs.Sweeps.{IsSweep}
+use Rattle.match_sweep.specs.inside.Walks.{AgreeInBook, AgreeOn}
 use Rattle.match_sweep.proofs.Tables.{total-changed}
 
 -- One step.
@@ -104,6 +105,63 @@ planned-paid weight lines book t last (f ∷ fills) left some planned =
     planned-paid weight (set lines best.bank (line - units)) book (less t f.lots) (Some best) fills left some
     (subst (λ (l : ℕ → ℕ). Planned weight l book (less t f.lots) (Some best) fills left) (sym (spend-set lines best.bank units within)) planned.4) in
     omega (arith, rest, total-changed lines best.bank (line - units) within, fits, mul-le-mul_left f.lots some)
+
+-- Two tables of lines that tell the same of each order of a book.
+
+-- with an order that is open by one there is the same line by the other
+pub agrees-open : (weight : ℕ) (lines others : ℕ → ℕ) (t : Taker) (o : Resting) → AgreeOn weight t lines others o → is_open t (lines o.bank / weight) o ≡ true → lines o.bank ≡ others o.bank
+agrees-open weight lines others t o (inl same) open_it = same
+agrees-open weight lines others t o (inr closed) open_it = absurd (both_ways (is_open t (lines o.bank / weight) o) closed.0 open_it)
+
+same_test : (weight : ℕ) (lines others : ℕ → ℕ) (t : Taker) (o : Resting) → AgreeOn weight t lines others o → is_open t (lines o.bank / weight) o ≡ is_open t (others o.bank / weight) o
+same_test weight lines others t o (inl same) = ap (λ line. is_open t (line / weight) o) same
+same_test weight lines others t o (inr closed) = closed.0 ∙ sym closed.1
+
+-- so the same orders are open
+pub agrees-behind : (weight : ℕ) (lines others : ℕ → ℕ) (t : Taker) (last : Option Resting) (book : List Resting) → AgreeInBook weight t lines others book → open_behind (λ bank. lines bank / weight) t last book ≡ open_behind (λ bank. others bank / weight) t last book
+agrees-behind weight lines others t last book agree =
+    filter_agree_on (λ o. is_open t (lines o.bank / weight) o && is_behind t.side last o) (λ o. is_open t (others o.bank / weight) o && is_behind t.side last o) book
+    (λ o there. ap (λ test. test && is_behind t.side last o) (same_test weight lines others t o (agree o there)))
+
+spent_other : (lines : ℕ → ℕ) (bank units other : ℕ) → other ≢ bank → lines other ≡ spend lines bank units other
+spent_other lines bank units other differ = sym (cond-false (eqb other bank) (lines other - units) (lines other) (ne_eqb other bank differ))
+
+-- and once some of a line with which they agree is used
+spent_agree : (weight : ℕ) (lines others : ℕ → ℕ) (t : Taker) (o : Resting) (bank units lots : ℕ) → lines bank ≡ others bank → AgreeOn weight t lines others o → AgreeOn weight (less t lots) (spend lines bank units) (spend others bank units) o
+spent_agree weight lines others t o bank units lots here agree =
+    let both = λ (same : lines o.bank ≡ others o.bank). ap (λ line. cond (eqb o.bank bank) (line - units) line) same in
+    elim (cases_eq o.bank bank) [
+      | inl same ↦ inl (both (ap lines same ∙ here ∙ sym (ap others same)))
+      | inr differ ↦
+          elim agree [
+            | inl same ↦ inl (both same)
+            | inr closed ↦ inr (
+              subst (λ line. is_open t (line / weight) o ≡ false) (spent_other lines bank units o.bank differ) closed.0,
+              subst (λ line. is_open t (line / weight) o ≡ false) (spent_other others bank units o.bank differ) closed.1,
+            )
+          ]
+    ]
+
+-- a sweep planned by one is planned by the other
+pub planned-agrees : (weight : ℕ) (lines others : ℕ → ℕ) (book : List Resting) (t : Taker) (last : Option Resting) (fills : List Fill) (left : ℕ) → AgreeInBook weight t lines others book → Planned weight lines book t last fills left → Planned weight others book t last fills left
+planned-agrees weight lines others book t last [] left agree planned = (
+  planned.0,
+  elim planned.1 [
+    | inl whole ↦ inl whole
+    | inr none ↦ inr (sym (agrees-behind weight lines others t last book agree) ∙ none)
+  ],
+)
+planned-agrees weight lines others book t last (f ∷ fills) left agree planned =
+    let best : Resting = planned.0 in
+    let found = Among-filter (λ (o : Resting). is_open t (lines o.bank / weight) o && is_behind t.side last o) book best planned.2.there in
+    let here : lines best.bank ≡ others best.bank = agrees-open weight lines others t best (agree best found.0) (and_parts (is_open t (lines best.bank / weight) best) (is_behind t.side last best) found.1).0 in (
+      best,
+      planned.1,
+      subst (λ (os : List Resting). IsBest t.side os best) (agrees-behind weight lines others t last book agree) planned.2,
+      planned.3 ∙ ap (λ line. fill_with t best (amount t best (line / weight))) here,
+      planned-agrees weight (spend lines best.bank (f.lots * weight)) (spend others best.bank (f.lots * weight)) book (less t f.lots) (Some best) fills left
+          (λ o there. spent_agree weight lines others t o best.bank (f.lots * weight) f.lots here (agree o there)) planned.4,
+    )
 
 -- Book and lines of a state.
 

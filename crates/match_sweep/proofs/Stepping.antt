@@ -1,5 +1,5 @@
 -- A walk's step: all heads are found, the best of them that may be taken is taken, and the other heads stay.
-use Rattle.std.proofs.Common.{ℕ, ◌≡◌, ◌≢◌, ◌-◌, ◌*◌, ◌/◌, ◌≤◌, ◌<◌, min, true, false, leb, List, [], ◌∷◌, ◌++◌, inl, inr, refl, ap, sym, subst, ◌∙◌, arith, length, get_or, slice_index, Option, Some, None, IfSome, get_or-set_other}
+use Rattle.std.proofs.Common.{ℕ, ◌≡◌, ◌≢◌, ◌-◌, ◌*◌, ◌/◌, ◌≤◌, ◌<◌, min, true, false, leb, List, [], ◌∷◌, ◌++◌, inl, inr, refl, ap, sym, subst, ◌∙◌, arith, length, get_or, slice_index, Option, Some, None, get_or-set_other}
 use Rattle.std.proofs.Math.ListN.{set}
 use Rattle.std.proofs.Math.Nat.{le-div_iff_mul-le}
 use Rattle.std.proofs.lemmas.Bool.{and_parts, and_cases, and_from, both_ways, false_from_ne_true, leb-true, le-leb}
@@ -16,23 +16,22 @@ use Rattle.fx_rules.specs.Plan.{open_behind}
 use Rattle.fx_rules.proofs.ListLemmas.{Each-among}
 use Rattle.fx_rules.proofs.Planning.{div_none}
 use Rattle.fx_rules.proofs.Preference.{preferred_self, preferred_trans}
-use Rattle.price_levels.specs.declared.place.Place.{Place}
-use Rattle.global_book.specs.Book.{AreOwners, Book, IsBook, IsHeld, IsPlaceOf}
+use Rattle.global_book.specs.Book.{AreOwners, Book, IsBook, IsHeld}
 use Rattle.match_sweep.specs.declared.walk.Walk.{Walk}
 use Rattle.match_sweep.specs.inside.Heads.{IsFound, to_come, AreHeads}
-use Rattle.match_sweep.specs.inside.Walks.{FromHere, LeadsOn, StepsOn, IsReady, IsRenewed, IsPicked, Takes, IsPickedAt, may_take, may_take_head, is_ahead, leads, head_of, last_of, reach_of, steps_behind}
+use Rattle.match_sweep.specs.inside.Walks.{FromHere, LeadsOn, StepsOn, IsReady, IsRenewed, IsPicked, Takes, IsPickedAt, may_take, may_take_head, is_ahead, leads, head_of, reach_of, steps_behind}
 use Rattle.match_sweep.proofs.Tables.{none-kept}
 use Rattle.match_sweep.proofs.Planning.{walk-step, within_table}
 use Rattle.match_sweep.proofs.Picking.{picked-best, picked-none, heads-stay, among_to_come}
 
 -- The best of the banks, when one more is looked at.
 
-ahead_self : (side : Side) (a : Option (Resting × Place)) → is_ahead side a a ≡ false
+ahead_self : (side : Side) (a : Option Resting) → is_ahead side a a ≡ false
 ahead_self side None = refl
-ahead_self side (Some head) = false_from_ne_true (is_preferred side head.0 head.0) (preferred_self side head.0)
+ahead_self side (Some head) = false_from_ne_true (is_preferred side head head) (preferred_self side head)
 
-ahead_trans : (side : Side) (a b c : Option (Resting × Place)) → is_ahead side a b ≡ true → is_ahead side b c ≡ true → is_ahead side a c ≡ true
-ahead_trans side (Some a) (Some b) (Some c) first second = preferred_trans side a.0 b.0 c.0 first second
+ahead_trans : (side : Side) (a b c : Option Resting) → is_ahead side a b ≡ true → is_ahead side b c ≡ true → is_ahead side a c ≡ true
+ahead_trans side (Some a) (Some b) (Some c) first second = preferred_trans side a b c first second
 ahead_trans side None b c first second = absurd (cc)
 ahead_trans side (Some a) None c first second = absurd (cc)
 ahead_trans side (Some a) (Some b) None first second = absurd (cc)
@@ -91,15 +90,13 @@ picked-stay walk banks n (Some best) picked stay = (
 -- A walk with all its heads.
 
 pub record IsSet (book : Book) (walk : Walk) : Type 0 where
-  pub banks : book.banks ≤ 64
   pub bank : walk.order.bank < book.banks
   pub weight : IsWeight walk.weight
   pub own : slice_index walk.lines walk.order.bank ≡ 0
-  pub heads : AreHeads (reach_of walk) walk.order (last_of walk) book.orders book.banks (head_of walk)
+  pub heads : AreHeads (reach_of walk) walk.order walk.last book.orders book.banks (head_of walk)
 
 pub renewed-set : (book : Book) (old new : Walk) → IsReady book old → IsRenewed book old new → IsSet book new
 renewed-set book old new ready renewed = record {
-  banks = ready.banks;
   bank = subst (λ (w : Walk). w.order.bank < book.banks) (sym renewed.same) ready.bank;
   weight = subst (λ (w : Walk). IsWeight w.weight) (sym renewed.same) ready.weight;
   own = subst (λ (w : Walk). slice_index w.lines w.order.bank ≡ 0) (sym renewed.same) ready.own;
@@ -116,10 +113,9 @@ pub owners : (book : Book) → IsBook book → (o : Resting) → Among o book.or
 owners book is o there = let held : IsHeld book.banks o = Each-among (IsHeld book.banks) book.orders o is.held there in held.bank
 
 -- an order is the best of those that are open to a walk
-pub record Chosen (book : Book) (walk : Walk) (found : Resting × Place) : Type 0 where
-  pub best : IsBest walk.order.side (open_behind (reach_of walk) walk.order (last_of walk) book.orders) found.0
-  pub placed : IsPlaceOf found.0 found.1
-  pub line : walk.weight ≤ slice_index walk.lines found.0.bank
+pub record Chosen (book : Book) (walk : Walk) (found : Resting) : Type 0 where
+  pub best : IsBest walk.order.side (open_behind (reach_of walk) walk.order walk.last book.orders) found
+  pub line : walk.weight ≤ slice_index walk.lines found.bank
 
 -- a bank with an order is one of the book's
 pub owner_within : (book : Book) (owners_now : List ℕ) (bank : ℕ) → IsBook book → AreOwners book owners_now → Contains owners_now bank → bank < book.banks
@@ -127,30 +123,29 @@ owner_within book owners_now bank is are there =
     let it = are.owns bank there in
     omega (arith, owners book is it.0 it.1, it.2)
 
-pub set-chosen : (book : Book) (walk : Walk) (owners_now : List ℕ) (found : Resting × Place) → IsBook book → AreOwners book owners_now → IsSet book walk → IsPicked walk owners_now (Some found) → Chosen book walk found
+pub set-chosen : (book : Book) (walk : Walk) (owners_now : List ℕ) (found : Resting) → IsBook book → AreOwners book owners_now → IsSet book walk → IsPicked walk owners_now (Some found) → Chosen book walk found
 set-chosen book walk owners_now found is are set_is picked =
     let at : ℕ = picked.0.at in
-    let may = and_parts (leb walk.weight (slice_index walk.lines at)) (crosses walk.order.side walk.order.price found.0.price) picked.0.may in
+    let may = and_parts (leb walk.weight (slice_index walk.lines at)) (crosses walk.order.side walk.order.price found.price) picked.0.may in
     let fits : walk.weight ≤ slice_index walk.lines at = leb-true walk.weight (slice_index walk.lines at) may.0 in
     let some : 1 ≤ reach_of walk at = pays (slice_index walk.lines at) walk.weight set_is.weight fits in
-    let head = subst (IsFound walk.order (to_come walk.order at (last_of walk) book.orders)) picked.0.is (set_is.heads at (owner_within book owners_now at is are picked.0.within) some) in
-    let there = head.0.there in
-    let owner : found.0.bank ≡ at = (among_to_come walk.order at (last_of walk) book.orders found.0 there).1.owner in
+    let head = subst (IsFound walk.order (to_come walk.order at walk.last book.orders)) picked.0.is (set_is.heads at (owner_within book owners_now at is are picked.0.within) some) in
+    let there = head.there in
+    let owner : found.bank ≡ at = (among_to_come walk.order at walk.last book.orders found there).1.owner in
     record {
-      best = picked-best owners_now (reach_of walk) walk.order (last_of walk) book.orders book.banks (head_of walk) found.0.bank found.0 (record {
+      best = picked-best owners_now (reach_of walk) walk.order walk.last book.orders book.banks (head_of walk) found.bank found (record {
         rising = is.rising;
         owners = owners book is;
         listed = λ o there. Each-among (λ (q : Resting). Contains owners_now q.bank) book.orders o are.all there;
         own = ap (λ n. n / walk.weight) set_is.own ∙ div_none 0 walk.weight (omega (arith, set_is.weight.0));
         heads_are = set_is.heads;
-        there = subst (λ (b : ℕ). Among found.0 (to_come walk.order b (last_of walk) book.orders)) (sym owner) there;
+        there = subst (λ (b : ℕ). Among found (to_come walk.order b walk.last book.orders)) (sym owner) there;
         reach = subst (λ (b : ℕ). 1 ≤ reach_of walk b) (sym owner) some;
         crosses = may.1;
         none_before = λ bank head' within head_is reach crossing. picked.1 bank head' within head_is
-            (and_from (leb walk.weight (slice_index walk.lines bank)) (crosses walk.order.side walk.order.price head'.0.price)
+            (and_from (leb walk.weight (slice_index walk.lines bank)) (crosses walk.order.side walk.order.price head'.price)
             (le-leb walk.weight (slice_index walk.lines bank) (paid_for (slice_index walk.lines bank) walk.weight set_is.weight reach)) crossing);
       });
-      placed = head.1;
       line = subst (λ (b : ℕ). walk.weight ≤ slice_index walk.lines b) (sym owner) fits;
     }
 
@@ -158,10 +153,10 @@ set-chosen book walk owners_now found is are set_is picked =
 pub set-none : (book : Book) (walk : Walk) (owners_now : List ℕ) → IsBook book → AreOwners book owners_now → IsSet book walk → IsPicked walk owners_now None → FromHere book walk [] walk.order.left
 set-none book walk owners_now is are set_is picked = (
   refl,
-  inr (picked-none owners_now (reach_of walk) walk.order (last_of walk) book.orders book.banks (head_of walk) (owners book is) (λ o there. Each-among (λ (q : Resting). Contains owners_now q.bank) book.orders o are.all there) set_is.heads
-      (λ bank head within head_is reach. false_from_ne_true (crosses walk.order.side walk.order.price head.0.price) (λ crossing.
-      both_ways (may_take walk bank head.0) (picked bank head within head_is)
-      (and_from (leb walk.weight (slice_index walk.lines bank)) (crosses walk.order.side walk.order.price head.0.price)
+  inr (picked-none owners_now (reach_of walk) walk.order walk.last book.orders book.banks (head_of walk) (owners book is) (λ o there. Each-among (λ (q : Resting). Contains owners_now q.bank) book.orders o are.all there) set_is.heads
+      (λ bank head within head_is reach. false_from_ne_true (crosses walk.order.side walk.order.price head.price) (λ crossing.
+      both_ways (may_take walk bank head) (picked bank head within head_is)
+      (and_from (leb walk.weight (slice_index walk.lines bank)) (crosses walk.order.side walk.order.price head.price)
       (le-leb walk.weight (slice_index walk.lines bank) (paid_for (slice_index walk.lines bank) walk.weight set_is.weight reach)) crossing)))),
 )
 
@@ -170,9 +165,9 @@ set-none book walk owners_now is are set_is picked = (
 fill_is : (walk : Walk) (best : Resting) (fill : Fill) → fill ≡ fill_with walk.order best (amount walk.order best (reach_of walk best.bank)) → fill ≡ fill_with walk.order best fill.lots
 fill_is walk best fill is = is ∙ ap (fill_with walk.order best) (sym (ap (λ (f : Fill). f.lots) is))
 
-pub taken-leads : (book : Book) (walk new : Walk) (found : Resting × Place) (fill : Fill) → 1 ≤ walk.weight → 1 ≤ walk.order.left → Chosen book walk found → Takes walk new found fill → LeadsOn book walk new fill
+pub taken-leads : (book : Book) (walk new : Walk) (found : Resting) (fill : Fill) → 1 ≤ walk.weight → 1 ≤ walk.order.left → Chosen book walk found → Takes walk new found fill → LeadsOn book walk new fill
 taken-leads book walk new found fill weight some chosen takes =
-    let best : Resting = found.0 in
+    let best : Resting = found in
     let next : Walk = record walk {
       order = less walk.order fill.lots;
       lines = set walk.lines best.bank (slice_index walk.lines best.bank - fill.lots * walk.weight);
@@ -183,7 +178,7 @@ taken-leads book walk new found fill weight some chosen takes =
       goes_on = λ more left from.
           let from_next : FromHere book next more left = subst (λ (w : Walk). FromHere book w more left) takes.now from in
           subst (λ (f : Fill). FromHere book walk (f ∷ more) left) (sym (fill_is walk best fill takes.is))
-          (walk-step walk.weight walk.lines book.orders walk.order (last_of walk) best fill.lots more left some
+          (walk-step walk.weight walk.lines book.orders walk.order walk.last best fill.lots more left some
           chosen.best
           (ap (λ (f : Fill). f.lots) takes.is) within from_next);
       wants = omega (arith, ap (λ (w : Walk). w.order.left) takes.now, takes.some, some);
@@ -197,41 +192,37 @@ least_reach a b r lots is = omega arith
 -- A walk of which all heads are known but for that of a bank, from which it takes the best order.
 pub record IsNearSet (book : Book) (walk : Walk) (apart : ℕ) : Type 0 where
   pub valid : IsBook book
-  pub banks : book.banks ≤ 64
   pub bank : walk.order.bank < book.banks
   pub weight : IsWeight walk.weight
   pub own : slice_index walk.lines walk.order.bank ≡ 0
   pub heads : (bank : ℕ) → bank < book.banks → bank ≢ apart → 1 ≤ reach_of walk bank →
-      IsFound walk.order (to_come walk.order bank (last_of walk) book.orders) (head_of walk bank)
+      IsFound walk.order (to_come walk.order bank walk.last book.orders) (head_of walk bank)
 
 pub set-near : (book : Book) (walk : Walk) (apart : ℕ) → IsBook book → IsSet book walk → IsNearSet book walk apart
 set-near book walk apart is set_is = record {
   valid = is;
-  banks = set_is.banks;
   bank = set_is.bank;
   weight = set_is.weight;
   own = set_is.own;
   heads = λ bank below _ reach. set_is.heads bank below reach;
 }
 
-pub taken-ready : (book : Book) (walk new : Walk) (found : Resting × Place) (fill : Fill) → IsNearSet book walk found.0.bank → Chosen book walk found → Takes walk new found fill → IsReady book new
+pub taken-ready : (book : Book) (walk new : Walk) (found : Resting) (fill : Fill) → IsNearSet book walk found.bank → Chosen book walk found → Takes walk new found fill → IsReady book new
 taken-ready book walk new found fill near chosen takes =
-    let best : Resting = found.0 in
+    let best : Resting = found in
     let line : ℕ = slice_index walk.lines best.bank in
     let rest : ℕ = line - fill.lots * walk.weight in
     let within : best.bank < length walk.lines = within_table walk.lines best.bank (omega (arith, chosen.line, near.weight.0)) in
     let none : reach_of walk walk.order.bank ≡ 0 = ap (λ n. n / walk.weight) near.own ∙ div_none 0 walk.weight (omega (arith, near.weight.0)) in
     subst (IsReady book) (sym takes.now)
     (record {
-      banks = near.banks;
       bank = near.bank;
       weight = near.weight;
       own = none-kept walk.lines best.bank walk.order.bank rest within (omega arith) near.own;
-      placed = chosen.placed;
       heads = λ bank below other reach.
           let same : get_or (set walk.lines best.bank rest) bank 0 ≡ get_or walk.lines bank 0 = get_or-set_other walk.lines best.bank bank rest 0 other in
           let some : 1 ≤ reach_of walk bank = subst (λ n. 1 ≤ n / walk.weight) same reach in
-          heads-stay (reach_of walk) walk.order (last_of walk) book.orders bank best (head_of walk bank) near.valid.rising chosen.best other
+          heads-stay (reach_of walk) walk.order walk.last book.orders bank best (head_of walk bank) near.valid.rising chosen.best other
           (λ own. omega (arith, none, some, ap (reach_of walk) own)) some (near.heads bank below other some);
     })
 
@@ -255,10 +246,8 @@ pub set-ready : (book : Book) (old walk : Walk) → IsReady book old → IsRenew
 set-ready book old walk ready renewed =
     let set_is = renewed-set book old walk ready renewed in
     record {
-      banks = set_is.banks;
       bank = set_is.bank;
       weight = set_is.weight;
       own = set_is.own;
-      placed = subst (λ (w : Walk). IfSome w.last (λ taken. IsPlaceOf taken.0 taken.1)) (sym renewed.same) ready.placed;
       heads = λ bank below _ reach. set_is.heads bank below reach;
     }

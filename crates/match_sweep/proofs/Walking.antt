@@ -1,18 +1,15 @@
 -- The fills of a walk so far, and what they come to at its end.
 use Rattle.std.proofs.Common.{ℕ, ◌≡◌, ◌+◌, ◌*◌, ◌^◌, ◌≤◌, ◌<◌, List, [], ◌∷◌, ◌++◌, None, ap, refl, slice_index, sym, subst, ◌∙◌, arith, append_assoc, append-nil}
-use Rattle.std.specs.Option.{option_map}
 use Rattle.fx_rules.specs.declared.orders.Fill.{Fill}
 use Rattle.fx_rules.specs.Lists.{total}
 use Rattle.fx_rules.specs.Sweep.{Taker}
 use Rattle.fx_rules.specs.Plan.{Planned}
-use Rattle.fx_rules.proofs.ListLemmas.{total-append}
-use Rattle.fx_rules.proofs.Existing.{planned-exists}
 use Rattle.global_book.specs.Book.{Book}
-use Rattle.credit_lines.specs.Credit.{Credit}
+use Rattle.credit_lines.specs.Credit.{Credit, line_in}
 use Rattle.match_sweep.specs.declared.walk.Walk.{Walk}
 use Rattle.match_sweep.specs.Sweeps.{IsSweep}
-use Rattle.match_sweep.specs.inside.Walks.{FromHere, LeadsOn, StepsOn, IsReady, Begins, BeginsBehind, last_of}
-use Rattle.match_sweep.proofs.Planning.{planned-sum, planned-paid, planned-sweep}
+use Rattle.match_sweep.specs.inside.Walks.{FromHere, LeadsOn, StepsOn, IsReady, Begins, BeginsBehind}
+use Rattle.match_sweep.proofs.Planning.{planned-agrees, planned-sum, planned-paid, planned-sweep}
 
 -- A walk made these fills since it was another: whatever it makes from here the other makes, behind them.
 pub record Went (book : Book) (first now : Walk) (fills : List Fill) : Type 0 where
@@ -36,22 +33,6 @@ went-on book first now next fills fill went leads ready = record {
 pub went-whole : (book : Book) (first now : Walk) (fills : List Fill) (left : ℕ) → Went book first now fills → FromHere book now [] left → FromHere book first fills left
 went-whole book first now fills left went from =
     subst (λ (fs : List Fill). FromHere book first fs left) (append-nil fills) (went.goes_on [] left from)
-
--- before it they begin one
-pub went-exists : (book : Book) (first now : Walk) (fills : List Fill) → Went book first now fills → (more : List Fill) × (left : ℕ) × FromHere book first (fills ++ more) left
-went-exists book first now fills went =
-    let rest = planned-exists now.weight (slice_index now.lines) book.orders now.order (last_of now) in
-    (rest.0, rest.1, went.goes_on rest.0 rest.1 rest.2)
-
--- the lines of the first pay for their lots
-pub went-paid : (book : Book) (first now : Walk) (fills : List Fill) → 1 ≤ first.weight → Went book first now fills → total (λ (f : Fill). f.lots) fills ≤ total (λ (n : ℕ). n) first.lines
-went-paid book first now fills some went =
-    let whole = went-exists book first now fills went in
-    omega (
-      arith,
-      total-append (λ (f : Fill). f.lots) fills whole.0,
-      planned-paid first.weight first.lines book.orders first.order (last_of first) (fills ++ whole.0) whole.1 some whole.2,
-    )
 
 -- A walk made these fills since the beginning of a sweep.
 pub record Gone (book : Book) (credit : Credit) (weight : ℕ) (t : Taker) (now : Walk) (fills : List Fill) : Type 0 where
@@ -89,7 +70,7 @@ begun : (book : Book) (credit : Credit) (weight : ℕ) (t : Taker) (walk : Walk)
 begun book credit weight t walk fills left begins from =
     subst (λ (w : ℕ). Planned w (slice_index walk.lines) book.orders t None fills left) begins.weighs
     (subst (λ (u : Taker). Planned walk.weight (slice_index walk.lines) book.orders u None fills left) begins.order
-    (subst (λ last. Planned walk.weight (slice_index walk.lines) book.orders walk.order (option_map (λ found. found.0) last) fills left) begins.last from))
+    (subst (λ last. Planned walk.weight (slice_index walk.lines) book.orders walk.order last fills left) begins.last from))
 
 pub begun-sum : (book : Book) (credit : Credit) (weight : ℕ) (t : Taker) (walk : Walk) (fills : List Fill) (left : ℕ) → Begins book credit weight t walk → FromHere book walk fills left → total (λ (f : Fill). f.lots) fills + left ≡ t.left
 begun-sum book credit weight t walk fills left begins from =
@@ -101,5 +82,5 @@ begun-lots book credit weight t walk fills left some begins from =
 
 pub begun-sweep : (book : Book) (credit : Credit) (weight : ℕ) (t : Taker) (walk : Walk) (fills : List Fill) (left : ℕ) → book.banks ≡ credit.banks → t.bank < credit.banks → t.pair ≡ book.pair → 1 ≤ weight → Begins book credit weight t walk → FromHere book walk fills left → IsSweep book credit weight t fills left
 begun-sweep book credit weight t walk fills left banks bank pair some begins from =
-    planned-sweep book credit weight t (slice_index walk.lines) fills left begins.valid banks bank pair some begins.line
-    (begun book credit weight t walk fills left begins from)
+    planned-sweep book credit weight t (line_in credit t.bank) fills left begins.valid banks bank pair some (λ other below differ. refl)
+    (planned-agrees weight (slice_index walk.lines) (line_in credit t.bank) book.orders t None fills left begins.agrees (begun book credit weight t walk fills left begins from))

@@ -1,53 +1,51 @@
-ghost use Rattle.std.specs.Prelude.{IfSome, None, true, false, ◌≡◌, ◌≢◌, ◌≤◌, ◌+◌, slice_index_or};
+ghost use Rattle.std.specs.Prelude.{IfSome, true, ◌≡◌, ◌≤◌, ◌+◌};
 ghost use Rattle.std.specs.Option.{option_copied, option_map};
 ghost use Rattle.fx_amounts.specs.Price.{crosses};
-ghost use Rattle.fx_rules.specs.Lists.{Among};
 ghost use Rattle.fx_rules.specs.Sweep.{is_better, is_preferred};
-ghost use Rattle.global_book.specs.Book.{standing_at};
-ghost use Rattle.match_sweep.specs.inside.Heads.{CameBefore, IsFound, to_come};
+ghost use Rattle.match_sweep.specs.inside.Heads.{CameBefore, IsFound, place_of, to_come};
 
-use crate::opening::Opening;
 use fx_amounts::{BankId, Price, Side};
 use fx_rules::{Resting, SweptOrder};
 use global_book::PairBook;
 use price_levels::{Place, Steps};
 use std::sync::ledger::Ledger;
 
-/// The best order of a bank that a taker may still come to, behind the place `past` where there is one, with its place;
-/// `None` where the taker takes the price of none of them.
+/// The best order of a bank that a taker may still come to, behind the order `past` where there is one; `None` where the
+/// taker takes the price of none of them.
 pub(crate) fn head_behind<L: Ledger>(
     book: &PairBook,
     order: &SweptOrder,
     bank: BankId,
-    past: Option<&Place>,
+    past: Option<&Resting>,
     steps: &mut Steps<L>,
-) -> Option<(Resting, Place)>
-    ensures head { IsFound order.now (to_come order.now bank (option_map standing_at (option_copied past.entry)) book.now.orders) result }
-    ensures taken { IfSome result (λ found. crosses order.now.side order.now.price found.0.price ≡ true) }
+) -> Option<Resting>
+    ensures head { IsFound order.now (to_come order.now bank (option_copied past.entry) book.now.orders) result }
+    ensures taken { IfSome result (λ head. crosses order.now.side order.now.price head.price ≡ true) }
     ensures steps { CameBefore book.now.orders order.now.arrival → steps.new ≤ steps.old + 1 }
 {
     let side = order.side.opposite();
-    book.best_within(bank, side, order.price, order.arrival, past, steps)
+    let place = place_of(past);
+    let (head, _) = book.best_within(
+        bank,
+        side,
+        order.price,
+        order.arrival,
+        place.as_ref(),
+        steps,
+    )?;
+    Some(head)
 }
 
-/// The head of a bank as a sweep begins; `None` where nothing of the bank may be taken, and where the sweep takes from it first.
-pub(crate) fn other_head<L: Ledger>(
-    book: &PairBook,
-    order: &SweptOrder,
-    opening: &Opening,
-    bank: BankId,
-    steps: &mut Steps<L>,
-) -> Option<(Resting, Place)>
-    ensures head { bank ≢ opening.now.first.0.bank → slice_index_or opening.now.opens bank false ≡ true → IsFound order.now (to_come order.now bank None book.now.orders) result }
-    ensures owner { IfSome result (λ found. Among found.0 (to_come order.now bank None book.now.orders)) }
-    ensures shut { slice_index_or opening.now.opens bank false ≡ false → result ≡ None }
-    ensures steps { CameBefore book.now.orders order.now.arrival → steps.new ≤ steps.old + 1 }
-    ensures first { bank ≡ opening.now.first.0.bank → steps.new ≡ steps.old }
+/// Where an order stands, by its price and arrival alone: what stands behind it does not hang on its key.
+fn place_of(order: Option<&Resting>) -> Option<Place>
+    ensures { result ≡ option_map place_of (option_copied order.entry) }
 {
-    if bank == opening.first.0.bank || !opening.opens[bank.index()] {
-        return None;
-    }
-    head_behind(book, order, bank, None, steps)
+    let order = order?;
+    Some(Place {
+        price: order.price,
+        arrival: order.arrival,
+        key: 0,
+    })
 }
 
 /// Whether the first price is better than the other for a taker of `side`.

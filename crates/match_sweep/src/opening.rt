@@ -8,15 +8,15 @@ use credit_lines::CreditLines;
 use fx_amounts::{BankId, Side};
 use fx_rules::{Resting, SweptOrder};
 use global_book::PairBook;
-use price_levels::{Place, Steps};
+use price_levels::Steps;
 use std::sync::ledger::Ledger;
 
 /// Where a sweep begins.
 #[derive(Clone, Copy)]
 pub(crate) struct Opening {
     /// The order that it takes first.
-    pub(crate) first: (Resting, Place),
-    /// Of each bank whether something may be taken of it.
+    pub(crate) first: Resting,
+    /// Of each bank whether something may be taken of it; nothing of the taker's own.
     pub(crate) opens: [bool; 64],
 }
 
@@ -52,15 +52,11 @@ pub(crate) fn find_opening<L: Ledger>(
 }
 
 /// The head that a taker of `side` prefers; the second where there is no first.
-fn better_head(
-    side: Side,
-    first: Option<(Resting, Place)>,
-    head: (Resting, Place),
-) -> (Resting, Place)
+fn better_head(side: Side, first: Option<Resting>, head: Resting) -> Resting
     ensures value { result ≡ better_head side first head }
 {
     match first {
-        Some(first) if !is_preferred(side, &head.0, &first.0) => first,
+        Some(first) if !is_preferred(side, &head, &first) => first,
         _ => head,
     }
 }
@@ -73,7 +69,7 @@ fn open_head<L: Ledger>(
     order: &SweptOrder,
     bank: BankId,
     steps: &mut Steps<L>,
-) -> Option<(Resting, Place)>
+) -> Option<Resting>
     requires first { order.now.bank < lines.now.banks }
     requires second { bank < lines.now.banks }
     requires weight { IsWeight weight }

@@ -94,7 +94,7 @@ pub fn sweep<L: Ledger>(
     let Some(opening) = find_opening(book, owners, lines, weight, order, steps) else {
         return Ok(SweepPlan::nothing(alloc, order.left));
     };
-    let fill = first_fill(lines, weight, order, &opening.first.0);
+    let fill = first_fill(lines, weight, order, &opening.first);
     let left = order.left - u128::from(fill.lots.count());
     let mut fills = Vec::new(alloc);
     fills.push(fill)?;
@@ -104,7 +104,14 @@ pub fn sweep<L: Ledger>(
             left,
         });
     }
-    let mut walk = Walk::behind_first(book, owners, lines, weight, order, &opening, steps);
+    let mut walk = Walk {
+        order: *order,
+        weight,
+        lines: [0; 64],
+        heads: [None; 64],
+        last: None,
+    };
+    walk.take_first(book, owners, lines, &opening, steps);
     while let Some(fill) = walk.next_fill(book, steps) {
         fills.push(fill)?;
     }

@@ -1,91 +1,107 @@
-ghost use Rattle.std.specs.Prelude.{ℕ, ◌≡◌, ◌≢◌, ◌≤◌, ◌<◌, ◌+◌, ◌*◌, ◌^◌, false, None, length, replicate, slice_index, slice_index_or, IfSome};
+ghost use Rattle.std.specs.Prelude.{ℕ, ◌≡◌, ◌≢◌, ◌≤◌, ◌<◌, ◌+◌, ◌*◌, ◌^◌, false, true, length, slice_index, slice_index_or, IfSome};
 ghost use Rattle.std.specs.List.{Contains};
 ghost use Rattle.fx_amounts.specs.Quantity.{IsWeight};
 ghost use Rattle.fx_rules.specs.Lists.{total};
 ghost use Rattle.credit_lines.specs.Credit.{line_in};
 ghost use Rattle.global_book.specs.Book.{AreOwners, IsBook};
-ghost use Rattle.match_sweep.specs.inside.Heads.{AreDear, CameBefore, IsFound, IsOpening, to_come};
-ghost use Rattle.match_sweep.specs.inside.Walks.{BeginsBehind, IsPicked, IsReady, IsRenewed, StepsOn, Takes, first_fill, head_of, is_ahead, leads, may_take_head, reach_of, steps_behind};
+ghost use Rattle.match_sweep.specs.inside.Heads.{CameBefore, IsOpening};
+ghost use Rattle.match_sweep.specs.inside.Walks.{AreOpened, BeginsBehind, IsBare, IsPicked, IsReady, IsRenewed, OpensBank, StepsOn, Takes, first_fill, head_of, is_ahead, leads, may_take_head, steps_behind};
 
-use crate::heads::{head_behind, is_preferred, other_head};
+use crate::heads::{head_behind, is_preferred};
 use crate::opening::Opening;
 use credit_lines::CreditLines;
 use fx_amounts::BankId;
 use fx_rules::{Fill, Resting, SweptOrder};
 use global_book::PairBook;
-use price_levels::{Place, Steps};
+use price_levels::Steps;
 use std::sync::ledger::Ledger;
 
-/// A sweep as it goes from best order to best order. It changes no book.
+/// A sweep as it goes from best order to best order. It changes no book. It is large, and stays where it was made.
 #[derive(Drop)]
 pub(crate) struct Walk {
     /// The order, with the lots that it still wants.
     pub(crate) order: SweptOrder,
     /// What a lot costs, in credit units.
-    weight: u32,
-    /// What is left of the lines with each bank, in credit units; nothing with the order's own.
-    lines: [u64; 64],
-    /// Of each bank with which the line pays for a lot, the best order that the sweep may still come to, with its place, where
-    /// the order takes its price. That of the bank that was taken from last is out of date.
-    heads: [Option<(Resting, Place)>; 64],
+    pub(crate) weight: u32,
+    /// What is left of the lines with the banks of which something may be taken, in credit units; nothing with others.
+    pub(crate) lines: [u64; 64],
+    /// Of each of these banks the best order that the sweep may still come to, where the order takes its price. That of the
+    /// bank that was taken from last is out of date.
+    pub(crate) heads: [Option<Resting>; 64],
     /// The order that was taken last, if there is one.
-    last: Option<(Resting, Place)>,
+    pub(crate) last: Option<Resting>,
 }
 
 impl Walk {
-    /// Behind its first fill, by the lines of the order's bank, where a lot costs `weight` credit units. The banks are those that
-    /// have an order.
-    pub(crate) fn behind_first<L: Ledger>(
-        book: &PairBook,
-        owners: &[BankId],
-        lines: &CreditLines,
-        weight: u32,
-        order: &SweptOrder,
-        opening: &Opening,
-        steps: &mut Steps<L>,
-    ) -> Walk
-        requires owners { AreOwners book.now owners.now }
-        requires valid { IsBook book.now }
-        requires opening { IsOpening book.now lines.now weight order.now owners.now opening.now }
-        requires banks { book.now.banks ≡ lines.now.banks }
-        requires bank { order.now.bank < lines.now.banks }
-        requires weight { IsWeight weight }
-        requires left { 1 ≤ order.now.left }
-        ensures begins { BeginsBehind book.now lines.now weight order.now (first_fill lines.now weight order.now opening.now.first.0) result }
-        ensures steps { CameBefore book.now.orders order.now.arrival → steps.new + 1 ≤ steps.old + length owners.now }
-    {
-        let mut walk = Walk {
-            order: *order,
-            weight,
-            lines: lines_of(book.banks(), lines, order.bank),
-            heads: [None; 64],
-            last: None,
-        };
-        walk.find_heads(book, owners, opening, steps);
-        let (maker, place) = opening.first;
-        walk.take(maker, place);
-        walk
-    }
-
-    /// Finds the heads as the sweep begins, but for that of the bank that it takes from first. It looks only at the banks that
-    /// have an order, and of which something may be taken.
-    fn find_heads<L: Ledger>(
+    /// Takes first what was found, by the lines of the order's bank, where a lot costs `weight` credit units. The banks are those
+    /// that have an order. The walk has found no line and no head so far.
+    pub(crate) fn take_first<L: Ledger>(
         &mut self,
         book: &PairBook,
         owners: &[BankId],
+        lines: &CreditLines,
         opening: &Opening,
         steps: &mut Steps<L>,
     )
+        requires bare { IsBare self.old }
         requires owners { AreOwners book.now owners.now }
-        requires first { Contains owners.now opening.now.first.0.bank }
-        requires none { self.old.heads ≡ replicate 64 None }
-        requires shut { (bank : ℕ) → Contains owners.now bank → slice_index_or opening.now.opens bank false ≡ false → 1 ≤ reach_of self.old bank → AreDear self.old.order (to_come self.old.order bank None book.now.orders) }
-        ensures same { self.new ≡ record self.old { heads = self.new.heads } }
-        ensures heads { (bank : ℕ) → bank < book.now.banks → bank ≢ opening.now.first.0.bank → 1 ≤ reach_of self.old bank → IsFound self.old.order (to_come self.old.order bank None book.now.orders) (head_of self.new bank) }
+        requires valid { IsBook book.now }
+        requires opening { IsOpening book.now lines.now self.old.weight self.old.order owners.now opening.now }
+        requires banks { book.now.banks ≡ lines.now.banks }
+        requires bank { self.old.order.bank < lines.now.banks }
+        requires weight { IsWeight self.old.weight }
+        requires left { 1 ≤ self.old.order.left }
+        ensures begins { BeginsBehind book.now lines.now self.old.weight self.old.order (first_fill lines.now self.old.weight self.old.order opening.now.first) self.new }
+        ensures steps { CameBefore book.now.orders self.old.order.arrival → steps.new + 1 ≤ steps.old + length owners.now }
+    {
+        self.open_banks(book, owners, lines, opening, steps);
+        self.take(opening.first);
+    }
+
+    /// Finds the lines with the banks of which something may be taken, and the heads of all of them but that which it takes from
+    /// first. The banks are those that have an order.
+    fn open_banks<L: Ledger>(
+        &mut self,
+        book: &PairBook,
+        owners: &[BankId],
+        lines: &CreditLines,
+        opening: &Opening,
+        steps: &mut Steps<L>,
+    )
+        requires bare { IsBare self.old }
+        requires within { (bank : ℕ) → Contains owners.now bank → bank < lines.now.banks }
+        requires bank { self.old.order.bank < lines.now.banks }
+        requires others { (bank : ℕ) → slice_index_or opening.now.opens bank false ≡ true → bank ≢ self.old.order.bank }
+        requires first { Contains owners.now opening.now.first.bank }
+        ensures opened { AreOpened book.now lines.now owners.now opening.now self.old self.new }
         ensures steps { CameBefore book.now.orders self.old.order.arrival → steps.new + 1 ≤ steps.old + length owners.now }
     {
         for owner in owners {
-            self.heads[owner.index()] = other_head(book, &self.order, opening, *owner, steps);
+            if opening.opens[owner.index()] {
+                self.open_bank(book, lines, *owner, opening.first.bank, steps);
+            }
+        }
+    }
+
+    /// Finds the line with a bank, and its head unless the sweep takes from it first.
+    fn open_bank<L: Ledger>(
+        &mut self,
+        book: &PairBook,
+        lines: &CreditLines,
+        bank: BankId,
+        first: BankId,
+        steps: &mut Steps<L>,
+    )
+        requires own { self.old.order.bank < lines.now.banks }
+        requires bank { bank < lines.now.banks }
+        requires other { bank ≢ self.old.order.bank }
+        ensures opens { OpensBank book.now lines.now self.old self.new bank first }
+        ensures steps { CameBefore book.now.orders self.old.order.arrival → steps.new ≤ steps.old + 1 }
+        ensures first { bank ≡ first → steps.new ≡ steps.old }
+    {
+        self.lines[bank.index()] = lines.eff(self.order.bank, bank).get();
+        if bank != first {
+            self.heads[bank.index()] = head_behind(book, &self.order, bank, None, steps);
         }
     }
 
@@ -104,8 +120,8 @@ impl Walk {
             return None;
         }
         self.renew_head(book, steps);
-        let (maker, place) = self.best_head(book.owners())?;
-        Some(self.take(maker, place))
+        let maker = self.best_head(book.owners())?;
+        Some(self.take(maker))
     }
 
     /// Finds the head anew of the bank that was taken from last.
@@ -114,15 +130,15 @@ impl Walk {
         ensures renewed { IsRenewed book.now self.old self.new }
         ensures steps { CameBefore book.now.orders self.old.order.arrival → steps.new ≤ steps.old + steps_behind self.old.last }
     {
-        let Some((order, place)) = self.last else {
+        let Some(last) = self.last else {
             return;
         };
-        if self.lines[order.bank.index()] >= u64::from(self.weight) {
-            self.heads[order.bank.index()] = head_behind(
+        if self.lines[last.bank.index()] >= u64::from(self.weight) {
+            self.heads[last.bank.index()] = head_behind(
                 book,
                 &self.order,
-                order.bank,
-                Some(&place),
+                last.bank,
+                Some(&last),
                 steps,
             );
         }
@@ -133,7 +149,7 @@ impl Walk {
         requires { number < 64 }
         ensures value { result ≡ may_take_head self.now number (head_of self.now number) }
     {
-        let Some((head, _)) = self.heads[number] else {
+        let Some(head) = self.heads[number] else {
             return false;
         };
         self.lines[number] >= u64::from(self.weight)
@@ -146,7 +162,7 @@ impl Walk {
         requires second { other < 64 }
         ensures value { result ≡ is_ahead self.now.order.side (head_of self.now number) (head_of self.now other) }
     {
-        let (Some((head, _)), Some((other, _))) = (self.heads[number], self.heads[other]) else {
+        let (Some(head), Some(other)) = (self.heads[number], self.heads[other]) else {
             return false;
         };
         is_preferred(self.order.side, &head, &other)
@@ -165,7 +181,7 @@ impl Walk {
     }
 
     /// The best of the heads of these banks that may be taken.
-    fn best_head(&self, owners: &[BankId]) -> Option<(Resting, Place)>
+    fn best_head(&self, owners: &[BankId]) -> Option<Resting>
         ensures picked { IsPicked self.now owners.now result }
     {
         let mut best = None;
@@ -179,18 +195,18 @@ impl Walk {
     }
 
     /// Takes an order, with whose bank the line pays for a lot.
-    fn take(&mut self, maker: Resting, place: Place) -> Fill
+    fn take(&mut self, maker: Resting) -> Fill
         requires left { 1 ≤ self.old.order.left }
         requires weight { IsWeight self.old.weight }
         requires line { self.old.weight ≤ slice_index self.old.lines maker.bank }
-        ensures taken { Takes self.old self.new (maker, place) result }
+        ensures taken { Takes self.old self.new maker result }
     {
         let line = self.lines[maker.bank.index()];
         let lots = self.order.amount(&maker, line / u64::from(self.weight));
         let fill = self.order.fill_with(&maker, lots);
         self.lines[maker.bank.index()] = line - lots.cost(self.weight).get();
         self.order.left -= u128::from(lots.count());
-        self.last = Some((maker, place));
+        self.last = Some(maker);
         fill
     }
 }

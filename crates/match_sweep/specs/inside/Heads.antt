@@ -9,7 +9,7 @@ use Rattle.fx_rules.specs.Lists.{Among, Each}
 use Rattle.fx_rules.specs.Sweep.{Taker, is_opposite, is_preferred, IsBest}
 use Rattle.fx_rules.specs.Plan.{is_behind, open_behind}
 use Rattle.price_levels.specs.declared.place.Place.{Place}
-use Rattle.global_book.specs.Book.{Book, is_of, IsPlaceOf}
+use Rattle.global_book.specs.Book.{Book, is_of}
 use Rattle.credit_lines.specs.Credit.{Credit, line_in}
 use Rattle.match_sweep.specs.declared.opening.Opening.{Opening}
 
@@ -17,10 +17,10 @@ use Rattle.match_sweep.specs.declared.opening.Opening.{Opening}
 abbrev pub AreDear : Taker → List Resting → Type 0
 AreDear t orders = Each (λ order. crosses t.side t.price order.price ≡ false) orders
 
--- of some orders the best is found, with its place; or none is, where a taker takes the price of none
-abbrev pub IsFound : Taker → List Resting → Option (Resting × Place) → Type 0
+-- of some orders the best is found; or none is, where a taker takes the price of none
+abbrev pub IsFound : Taker → List Resting → Option Resting → Type 0
 IsFound t orders None = AreDear t orders
-IsFound t orders (Some found) = IsBest t.side orders found.0 × IsPlaceOf found.0 found.1
+IsFound t orders (Some found) = IsBest t.side orders found
 
 -- A taker may still come to an order of a bank, whatever its price and the bank's line: the order is on the other side, it
 -- arrived before the taker, and it stands behind the last one taken, where there is one.
@@ -32,7 +32,7 @@ abbrev pub to_come : Taker → ℕ → Option Resting → List Resting → List 
 to_come t bank last orders = filter (is_to_come t bank last) orders
 
 -- of each of the banks that can be reached for a lot, the best order that the taker may come to is at its head
-abbrev pub AreHeads : (ℕ → ℕ) → Taker → Option Resting → List Resting → ℕ → (ℕ → Option (Resting × Place)) → Type 0
+abbrev pub AreHeads : (ℕ → ℕ) → Taker → Option Resting → List Resting → ℕ → (ℕ → Option Resting) → Type 0
 AreHeads reaches t last orders banks heads =
     (bank : ℕ) → bank < banks → 1 ≤ reaches bank → IsFound t (to_come t bank last orders) (heads bank)
 
@@ -43,14 +43,14 @@ IsShut book credit weight t bank = bank ≢ t.bank → 1 ≤ line_in credit t.ba
 
 -- the head of a bank may be taken as a sweep begins: the bank is another than the taker's, the line with it pays for a lot,
 -- and the taker takes the head's price
-pub record IsOpenHead (book : Book) (credit : Credit) (weight : ℕ) (t : Taker) (bank : ℕ) (head : Resting × Place) : Type 0 where
+pub record IsOpenHead (book : Book) (credit : Credit) (weight : ℕ) (t : Taker) (bank : ℕ) (head : Resting) : Type 0 where
   pub other : bank ≢ t.bank
   pub reach : 1 ≤ line_in credit t.bank bank / weight
   pub found : IsFound t (to_come t bank None book.orders) (Some head)
-  pub taken : crosses t.side t.price head.0.price ≡ true
+  pub taken : crosses t.side t.price head.price ≡ true
 
 -- that head is found, or nothing is taken of the bank
-abbrev pub OpensHead : Book → Credit → ℕ → Taker → ℕ → Option (Resting × Place) → Type 0
+abbrev pub OpensHead : Book → Credit → ℕ → Taker → ℕ → Option Resting → Type 0
 OpensHead book credit weight t bank None = IsShut book credit weight t bank
 OpensHead book credit weight t bank (Some head) = IsOpenHead book credit weight t bank head
 
@@ -58,13 +58,14 @@ OpensHead book credit weight t bank (Some head) = IsOpenHead book credit weight 
 abbrev pub first_open : Book → Credit → ℕ → Taker → List Resting
 first_open book credit weight t = open_behind (λ bank. line_in credit t.bank bank / weight) t None book.orders
 
--- of these banks those are marked of which something may be taken, and the best head of all is found
+-- of these banks those are marked of which something may be taken, the taker's own not, and the best head of all is found
 pub record IsOpening (book : Book) (credit : Credit) (weight : ℕ) (t : Taker) (banks : List ℕ) (opening : Opening) : Type 0 where
   pub long : length opening.opens ≡ 64
   pub shut : (bank : ℕ) → Contains banks bank → slice_index_or opening.opens bank false ≡ false → IsShut book credit weight t bank
-  pub first : IsOpenHead book credit weight t opening.first.0.bank opening.first
+  pub others : (bank : ℕ) → slice_index_or opening.opens bank false ≡ true → bank ≢ t.bank
+  pub first : IsOpenHead book credit weight t opening.first.bank opening.first
   pub best : (order : Resting) → Among order (first_open book credit weight t) → Contains banks order.bank →
-      is_preferred t.side order opening.first.0 ≡ false
+      is_preferred t.side order opening.first ≡ false
 
 -- so it is, or nothing may be taken of any of these banks
 abbrev pub OpensAt : Book → Credit → ℕ → Taker → List ℕ → Option Opening → Type 0
@@ -72,14 +73,18 @@ OpensAt book credit weight t banks None = (bank : ℕ) → Contains banks bank �
 OpensAt book credit weight t banks (Some opening) = IsOpening book credit weight t banks opening
 
 -- the head that a taker prefers, where there is a first one
-abbrev pub better_head : Side → Option (Resting × Place) → Resting × Place → Resting × Place
+abbrev pub better_head : Side → Option Resting → Resting → Resting
 better_head side None head = head
-better_head side (Some first) head = if is_preferred side head.0 first.0 then head else first
+better_head side (Some first) head = if is_preferred side head first then head else first
 
 -- an opening, where a head was found
-abbrev pub opening_of : Option (Resting × Place) → List Bool → Option Opening
+abbrev pub opening_of : Option Resting → List Bool → Option Opening
 opening_of None opens = None
 opening_of (Some first) opens = Some (record { first = first; opens = opens })
+
+-- where an order stands, by its price and arrival alone
+abbrev pub place_of : Resting → Place
+place_of order = record { price = order.price; arrival = order.arrival; key = 0 }
 
 -- every order arrived before this
 abbrev pub CameBefore : List Resting → ℕ → Type 0

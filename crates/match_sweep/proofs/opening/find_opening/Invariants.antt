@@ -1,4 +1,4 @@
-use Rattle.std.proofs.Common.{◌≡◌, ◌≤◌, ◌+◌, length, take}
+use Rattle.std.proofs.Common.{ℕ, ◌≡◌, ◌≢◌, ◌≤◌, ◌+◌, false, true, get_or, length, take}
 use Rattle.match_sweep.specs.inside.Heads.{CameBefore, OpensAt, opening_of}
 use Rattle.match_sweep.proofs.opening.find_opening.Given as goal
 
@@ -6,6 +6,7 @@ use Rattle.match_sweep.proofs.opening.find_opening.Given as goal
 abbrev pub invariant-loop-owner : goal.invariant-loop-owner
 invariant-loop-owner g l = record {
   full : length l.opens ≡ 64;
+  others : (bank : ℕ) → get_or l.opens bank false ≡ true → bank ≢ l.order.bank;
   opening : OpensAt l.book l.lines l.weight l.order (take l.owner-index l.owners) (opening_of l.first l.opens);
   steps : CameBefore l.book.orders l.order.arrival → l.steps ≤ l.fn.steps + l.owner-index;
 }

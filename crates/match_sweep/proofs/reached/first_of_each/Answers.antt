@@ -6,7 +6,7 @@ use Rattle.std.proofs.lemmas.List.Elements.{Contains-append_left, Contains-push,
 use Rattle.std.specs.List.{Contains}
 use Rattle.match_sweep.specs.declared.reached.BankLevel.{BankLevel}
 use Rattle.match_sweep.specs.inside.Reaches.{IsHead}
-use Rattle.match_sweep.proofs.Heading.{none_at, one_set}
+use Rattle.match_sweep.proofs.Tables.{one_set, replicate-at}
 use Rattle.match_sweep.proofs.Passed.{contains_or}
 use Rattle.match_sweep.proofs.Reaching.{first_head, none_owned}
 use Rattle.match_sweep.proofs.reached.first_of_each.Goals as goal
@@ -15,7 +15,7 @@ pub loop-owner-init : goal.loop-owner-init
 loop-owner-init c = record {
   full = refl;
   firsts = λ bank there. absurd (omega (arith, there.1));
-  left = λ bank _. none_at {X = BankLevel} 64 bank;
+  left = λ bank _. replicate-at {X = Option BankLevel} None 64 bank;
 }
 
 pub loop-owner-preserved : goal.loop-owner-preserved

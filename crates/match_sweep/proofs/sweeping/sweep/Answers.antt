@@ -33,7 +33,7 @@ only fills new fill none is = is ∙ ap (λ (fs : List Fill). fs ++ fill ∷ [])
 pub returns-then-left-eq0-clause-sweep : goal.returns-then-left-eq0-clause-sweep
 returns-then-left-eq0-clause-sweep g c =
     let t : Taker = c.args.order.now in
-    let fill : Fill = first_fill c.args.lines.now c.args.weight t c.in-Some.opening.first.0 in
+    let fill : Fill = first_fill c.args.lines.now c.args.weight t c.in-Some.opening.first in
     let whole : t.left - fill.lots ≡ 0 =
     omega (arith, c.from.ensures, c.count.ensures.value, c.if-left-eq0.true, ap (λ (f : Fill). f.lots) c.first_fill-fill.ensures.value) in
     let fills_is : c.from_vec.result ≡ fill ∷ [] =
@@ -46,13 +46,13 @@ returns-then-left-eq0-clause-sweep g c =
 pub loop-fill-init : goal.loop-fill-init
 loop-fill-init g c =
     let t : Taker = c.args.order.now in
-    let begins = c.behind_first-walk.ensures.begins in
-    let fill : Fill = first_fill c.args.lines.now c.args.weight t c.in-Some.opening.first.0 in
+    let begins = c.take_first.ensures.begins in
+    let fill : Fill = first_fill c.args.lines.now c.args.weight t c.in-Some.opening.first in
     let fills_is : c.push.new.self.items ≡ fill ∷ [] =
     only c.new-fills.result.items c.push.new.self.items c.first_fill-fill.result c.new-fills.ensures.items c.in_ok-push.ensures.items ∙ ap (λ (f : Fill). f ∷ []) c.first_fill-fill.ensures.value in
     let one : length c.push.new.self.items ≡ 1 = ap length fills_is in
     record {
-      gone = gone-behind c.args.book.now c.args.lines.now c.args.weight t c.behind_first-walk.result fill c.push.new.self.items fills_is begins;
+      gone = gone-behind c.args.book.now c.args.lines.now c.args.weight t c.take_first.new.self fill c.push.new.self.items fills_is begins;
       some = omega (arith, one);
       steps = λ _. omega (arith, one, begins.leads.counted);
     }
@@ -120,7 +120,7 @@ returns-clause-steps g c = λ came.
       most,
       all,
       c.find_opening.ensures.steps came,
-      c.behind_first-walk.ensures.steps came,
+      c.take_first.ensures.steps came,
       was.steps came,
       c.next_fill.ensures.counted before,
       c.owners-owners.ensures.owners.few,

@@ -3,7 +3,7 @@ use Rattle.std.proofs.Common.{ℕ, ◌≡◌, ◌≢◌, ◌≤◌, ◌<◌, ◌
 use Rattle.std.proofs.Math.ListN.{set, length-set}
 use Rattle.std.proofs.lemmas.Bool.{cases_eq, cases_lt}
 use Rattle.credit_lines.specs.Credit.{line_in}
-use Rattle.match_sweep.proofs.Tables.{total-most, zeros-at, set-most, filled-set}
+use Rattle.match_sweep.proofs.Tables.{total-most, replicate-at, set-most, filled-set}
 use Rattle.match_sweep.proofs.walk.lines_of.Goals as goal
 
 few_of : (bank banks : ℕ) → ((other : ℕ) → other < 64 → other ≢ bank → banks ≤ 64) → banks ≤ 64
@@ -17,8 +17,8 @@ pub loop-number-init : goal.loop-number-init
 loop-number-init c = record {
   full = refl;
   line = λ other below _ _. absurd (omega (arith, below));
-  own = zeros-at 64 c.args.bank;
-  most = λ place. omega (arith, zeros-at 64 place);
+  own = replicate-at {X = ℕ} 0 64 c.args.bank;
+  most = λ place. omega (arith, replicate-at {X = ℕ} 0 64 place);
   few = λ other below _. absurd (omega (arith, below));
 }
 
