@@ -1,7 +1,7 @@
 -- The levels of the walk from price to price are those of the sweep of an order that takes all that its lines allow.
 use Rattle.std.proofs.Common.{ℕ, suc, ◌≡◌, ◌≢◌, ◌+◌, ◌*◌, ◌/◌, ◌^◌, ◌≤◌, ◌<◌, true, false, ◌&&◌, if◌then◌else◌, eqb, ltb, List, [], ◌∷◌, ◌++◌, length, inl, inr, refl, ap, sym, subst, ◌∙◌, arith, Option, Some, None, get_or, slice_index, take, append_assoc, append-nil, length-append}
 use Rattle.std.proofs.Math.Nat.{div-le_self, le_of_mul-le-mul_right}
-use Rattle.std.proofs.lemmas.Bool.{cases_Bool, cases_lt, and_parts, and_from, both_ways, or_left, or_cases, false_from_ne_true, eqb-true, eq-eqb, ne_eqb, ltb-true}
+use Rattle.std.proofs.lemmas.Bool.{cases_Bool, cases_eq, cases_lt, and_parts, and_from, both_ways, or_left, or_cases, false_from_ne_true, eqb-true, eq-eqb, ne_eqb, ltb-true}
 use Rattle.std.proofs.lemmas.List.{get_or_past, take_all, take_at}
 use Rattle.fx_amounts.specs.Price.{crosses}
 use Rattle.fx_amounts.specs.Quantity.{IsWeight}
@@ -16,16 +16,17 @@ use Rattle.fx_rules.specs.Depth.{with_fill, levels_of}
 use Rattle.fx_rules.proofs.Existing.{planned-exists}
 use Rattle.fx_rules.proofs.ListLemmas.{Among-filter, Each-among, total-append}
 use Rattle.fx_rules.proofs.Opens.{IsOpen, is_open-says}
-use Rattle.fx_rules.proofs.Planning.{open_parts}
+use Rattle.fx_rules.proofs.Planning.{open_own, open_parts}
 use Rattle.global_book.specs.Book.{Book, IsBook, IsHeld, IsPriceOf, is_of, is_worse, is_worse_of}
 use Rattle.credit_lines.specs.Credit.{Credit, line_in}
 use Rattle.match_sweep.specs.declared.reached.LevelWalk.{LevelWalk}
 use Rattle.match_sweep.specs.Reaches.{IsReached, IsUnlimited}
 use Rattle.match_sweep.specs.inside.Reaches.{AreTaken, BeginsAt, HaveLevels, IsBestPrice, TakesLevel, at_end, head_of, line_behind, past_order, price_in, price_of}
+use Rattle.match_sweep.specs.inside.Walks.{AgreeInBook}
 use Rattle.match_sweep.specs.Sweeps.{IsLevelled}
 use Rattle.match_sweep.proofs.Levelling.{Going, IsEager, Taken, lots_of, less_less, less_none, once_more, takes}
 use Rattle.match_sweep.proofs.Picking.{none_among}
-use Rattle.match_sweep.proofs.Planning.{planned-paid, planned-sweep}
+use Rattle.match_sweep.proofs.Planning.{planned-agrees, planned-paid, planned-sweep}
 use Rattle.match_sweep.proofs.Reaching.{better-or_same, better-self, better-trans, taker_same, weight_same, best_level, best_worse, levels_behind, price_there}
 use Rattle.match_sweep.proofs.Stepping.{paid_for}
 
@@ -129,21 +130,18 @@ module _ (book : Book) (valid : IsBook book) where
     pub there : Among order book.orders
     pub is_open : IsOpen t (get_or lines order.bank 0 / weight) order
     pub passes : is_worse_of t.side order.bank past order ≡ true
-    pub bank : order.bank < book.banks
 
   open_here : (t : Taker) (lines : List ℕ) (weight : ℕ) (past : Option ℕ) (order : Resting) → Among order (open_behind (λ bank. get_or lines bank 0 / weight) t (past_order past) book.orders) → OpenHere t lines weight past order
   open_here t lines weight past order among =
       let kept = Among-filter (λ (q : Resting). is_open t (get_or lines q.bank 0 / weight) q && is_behind t.side (past_order past) q) book.orders order among in
       let parts = and_parts (is_open t (get_or lines order.bank 0 / weight) order) (is_behind t.side (past_order past) order) kept.1 in
       let is : IsOpen t (get_or lines order.bank 0 / weight) order = is_open-says t (get_or lines order.bank 0 / weight) order parts.0 in
-      let held : IsHeld book.banks order = Each-among (IsHeld book.banks) book.orders order valid.held kept.0 in
       record {
         there = kept.0;
         is_open = is;
         passes = and_from (is_of order.bank order && is_opposite t.side order.side) (is_worse t.side past order.price)
             (and_from (is_of order.bank order) (is_opposite t.side order.side) (eq-eqb order.bank order.bank refl) is.opposite)
             (is_worse_past t.side past order (early order kept.0) parts.1);
-        bank = held.bank;
       }
 
   -- its bank's head is no worse
@@ -152,9 +150,9 @@ module _ (book : Book) (valid : IsBook book) where
     pub is : price_of walk order.bank ≡ Some head
     pub first : is_better walk.taker order.price head ≡ false
 
-  has_head : (walk : LevelWalk) (t : Taker) (order : Resting) → IsWeight walk.weight → book.banks ≤ 64 → t.side ≡ walk.taker → HaveLevels book walk → OpenHere t walk.lines walk.weight walk.last order → HasHead walk order
+  has_head : (walk : LevelWalk) (t : Taker) (order : Resting) → IsWeight walk.weight → Each (λ (q : Resting). q.bank < 64) book.orders → t.side ≡ walk.taker → HaveLevels book walk → OpenHere t walk.lines walk.weight walk.last order → HasHead walk order
   has_head walk t order weighs few side have here =
-      let level : IsPriceOf walk.taker order.bank walk.last book.orders (price_in (head_of walk order.bank)) = (have order.bank (omega (arith, here.bank, few)) here.is_open.reach).best in
+      let level : IsPriceOf walk.taker order.bank walk.last book.orders (price_in (head_of walk order.bank)) = (have order.bank (Each-among (λ (q : Resting). q.bank < 64) book.orders order few here.there) here.is_open.reach).best in
       let passes : is_worse_of walk.taker order.bank walk.last order ≡ true = subst (λ (s : Side). is_worse_of s order.bank walk.last order ≡ true) side here.passes in
       let pay : walk.weight ≤ slice_index walk.lines order.bank = paid_for (slice_index walk.lines order.bank) walk.weight weighs here.is_open.reach in
       let answer : (found : Option ℕ) → price_in (head_of walk order.bank) ≡ found → IsPriceOf walk.taker order.bank walk.last book.orders found → HasHead walk order = λ found.
@@ -171,17 +169,17 @@ module _ (book : Book) (valid : IsBook book) where
   some_none : (n : ℕ) → None ≡ Some n → ⊥
   some_none n same = cc
 
-  none_left : (walk : LevelWalk) (t : Taker) → IsWeight walk.weight → book.banks ≤ 64 → t.side ≡ walk.taker → HaveLevels book walk → IsBestPrice walk 64 None
+  none_left : (walk : LevelWalk) (t : Taker) → IsWeight walk.weight → Each (λ (q : Resting). q.bank < 64) book.orders → t.side ≡ walk.taker → HaveLevels book walk → IsBestPrice walk 64 None
       → open_behind (λ bank. get_or walk.lines bank 0 / walk.weight) t (past_order walk.last) book.orders ≡ []
   none_left walk t weighs few side have best =
       none_among (open_behind (λ bank. get_or walk.lines bank 0 / walk.weight) t (past_order walk.last) book.orders) (λ order there.
       let here = open_here t walk.lines walk.weight walk.last order there in
       let head = has_head walk t order weighs few side have here in
-      let no' : None ≡ Some head.head = sym (best order.bank (omega (arith, here.bank, few))) ∙ head.is in
+      let no' : None ≡ Some head.head = sym (best order.bank (Each-among (λ (q : Resting). q.bank < 64) book.orders order few here.there)) ∙ head.is in
       some_none head.head no')
 
   -- A taker comes to the orders of the best price.
-  going_to : (walk : LevelWalk) (t : Taker) (price : ℕ) (weighs : IsWeight walk.weight) → book.banks ≤ 64 → t.side ≡ walk.taker → HaveLevels book walk → IsBestPrice walk 64 (Some price) → IsEager t book.orders
+  going_to : (walk : LevelWalk) (t : Taker) (price : ℕ) (weighs : IsWeight walk.weight) → Each (λ (q : Resting). q.bank < 64) book.orders → t.side ≡ walk.taker → HaveLevels book walk → IsBestPrice walk 64 (Some price) → IsEager t book.orders
       → slice_index walk.lines t.bank ≡ 0 → total (λ (n : ℕ). n) walk.lines < t.left → Going walk.weight book.orders price weighs.0 book.orders t walk.lines (past_order walk.last)
   going_to walk t price weighs few side have best eager own enough =
       let worse : is_worse t.side walk.last price ≡ true = subst (λ (s : Side). is_worse s walk.last price ≡ true) (sym side) (best_worse book walk price weighs have best) in
@@ -197,7 +195,7 @@ module _ (book : Book) (valid : IsBook book) where
         opens = λ order there.
             let here = open_here t walk.lines walk.weight walk.last order there in
             let head = has_head walk t order weighs few side have here in
-            let no_better : is_better walk.taker head.head price ≡ false = best.1 order.bank head.head (omega (arith, here.bank, few)) head.is in
+            let no_better : is_better walk.taker head.head price ≡ false = best.1 order.bank head.head (Each-among (λ (q : Resting). q.bank < 64) book.orders order few here.there) head.is in
             let below : is_better t.side order.price price ≡ false
             = subst (λ (s : Side). is_better s order.price price ≡ false) (sym side)
             (elim (better-or_same walk.taker order.price head.head head.first) [
@@ -220,7 +218,7 @@ module _ (book : Book) (valid : IsBook book) where
     pub goes_on : (more : List Fill) (left : ℕ) → Planned walk.weight (slice_index taken.lines) book.orders (less t lots) (Some (at_end price)) more left
         → Planned walk.weight (slice_index walk.lines) book.orders t (past_order walk.last) (fills ++ more) left
 
-  pub level_step : (walk taken : LevelWalk) (t : Taker) (price lots : ℕ) → IsWeight walk.weight → book.banks ≤ 64 → t.side ≡ walk.taker → HaveLevels book walk → IsBestPrice walk 64 (Some price) → IsEager t book.orders
+  pub level_step : (walk taken : LevelWalk) (t : Taker) (price lots : ℕ) → IsWeight walk.weight → Each (λ (q : Resting). q.bank < 64) book.orders → t.side ≡ walk.taker → HaveLevels book walk → IsBestPrice walk 64 (Some price) → IsEager t book.orders
       → slice_index walk.lines t.bank ≡ 0 → total (λ (n : ℕ). n) walk.lines < t.left → length walk.lines ≡ 64 → length taken.lines ≡ 64 → AreTaken book walk taken price lots → LevelStep walk taken t price lots
   level_step walk taken t price lots weighs few side have best eager own enough long long' all =
       let going = going_to walk t price weighs few side have best eager own enough in
@@ -352,7 +350,7 @@ module _ (book : Book) (valid : IsBook book) where
             ∙ sym (append_assoc levels (level_is price lots ∷ []) (levels_of more));
       }
 
-  pub way_on : (first now new : LevelWalk) (bank : ℕ) (levels : List Level) (level : Level) → book.banks ≤ 64 → OnTheWay first now bank levels → length levels < 10 → TakesLevel book now new (Some level)
+  pub way_on : (first now new : LevelWalk) (bank : ℕ) (levels : List Level) (level : Level) → Each (λ (q : Resting). q.bank < 64) book.orders → OnTheWay first now bank levels → length levels < 10 → TakesLevel book now new (Some level)
       → OnTheWay first new bank (levels ++ level ∷ [])
   unfolding level_is
   way_on first now new bank levels level few way short takes' =
@@ -393,6 +391,15 @@ module _ (book : Book) (credit : Credit) (weight bank : ℕ) (side : Side) (firs
   first_taker : first.taker ≡ side
   first_taker = ap (λ (w : LevelWalk). w.taker) begins.is
 
+  lines_agree : (t : Taker) → t.bank ≡ bank → AgreeInBook weight t (slice_index first.lines) (line_in credit t.bank) book.orders
+  lines_agree t mine o there =
+      elim (cases_eq o.bank bank) [
+        | inl same ↦ inr (open_own t (slice_index first.lines o.bank / weight) o (same ∙ sym mine), open_own t (line_in credit t.bank o.bank / weight) o (same ∙ sym mine))
+        | inr differ ↦ inl
+            (Each-among (λ (q : Resting). q.bank ≢ bank → slice_index first.lines q.bank ≡ line_in credit bank q.bank) book.orders o begins.line there differ
+            ∙ ap (λ (b : ℕ). line_in credit b o.bank) (sym mine))
+      ]
+
   levelled_by : (t : Taker) (fills : List Fill) (left : ℕ) (levels : List Level) → t.bank ≡ bank → t.pair ≡ book.pair → Planned first.weight (slice_index first.lines) book.orders t None fills left
       → levels ≡ take 10 (levels_of fills) → IsLevelled book credit weight t levels
   levelled_by t fills left levels mine pair planned is =
@@ -400,8 +407,8 @@ module _ (book : Book) (credit : Credit) (weight bank : ℕ) (side : Side) (firs
       record {
         fills = fills;
         left = left;
-        sweep = planned-sweep book credit weight t (slice_index first.lines) fills left begins.valid banks (subst (λ (b : ℕ). b < credit.banks) (sym mine) bank_in) pair some
-            (λ other below differ. begins.line other below (λ same. differ (same ∙ sym mine)) ∙ ap (λ (b : ℕ). line_in credit b other) (sym mine)) planned';
+        sweep = planned-sweep book credit weight t (line_in credit t.bank) fills left begins.valid banks (subst (λ (b : ℕ). b < credit.banks) (sym mine) bank_in) pair some (λ other below differ. refl)
+            (planned-agrees weight (slice_index first.lines) (line_in credit t.bank) book.orders t None fills left (lines_agree t mine) planned');
         lots = omega (arith, planned-paid weight first.lines book.orders t None fills left some planned', begins.most);
         first = is;
       }

@@ -7,6 +7,7 @@ pub mod Levelling
 pub mod Stepping
 pub mod Reaching
 pub mod LevelSteps
+mod LevelOpening
 pub mod Walking
 mod Beginning
 pub mod Lowering

@@ -1,5 +1,5 @@
 -- Tables of lines and heads, and what lines add up to.
-use Rattle.std.proofs.Common.{ℕ, zero, suc, ◌≡◌, ◌≢◌, ◌+◌, ◌*◌, ◌≤◌, ◌<◌, List, [], ◌∷◌, Option, None, refl, ap, sym, subst, ◌∙◌, arith, inl, inr, length, get_or, replicate, get_or-set_same, get_or-set_other}
+use Rattle.std.proofs.Common.{ℕ, zero, suc, ◌≡◌, ◌≢◌, ◌+◌, ◌*◌, ◌≤◌, ◌<◌, List, [], ◌∷◌, Option, None, refl, sym, subst, ◌∙◌, arith, inl, inr, length, get_or, replicate, get_or-set_same, get_or-set_other}
 use Rattle.std.proofs.Math.ListN.{set}
 use Rattle.std.proofs.lemmas.Bool.{cases_eq}
 use Rattle.fx_rules.specs.Lists.{total}
@@ -31,14 +31,6 @@ one_set {X} P table at entry within here k there =
       | inr differ ↦ subst (P k) (sym (get_or-set_other table at k entry None differ)) (there differ)
     ]
 
--- numbers that are each at most one, with one more of them
-pub set-most : (xs : List ℕ) (i n most : ℕ) → i < length xs → n ≤ most → ((k : ℕ) → get_or xs k 0 ≤ most) → (k : ℕ) → get_or (set xs i n) k 0 ≤ most
-set-most xs i n most within fits each' k =
-    elim (cases_eq k i) [
-      | inl same ↦ subst (λ (j : ℕ). get_or (set xs i n) j 0 ≤ most) (sym same) (omega (arith, get_or-set_same xs i n 0 within))
-      | inr other ↦ omega (arith, get_or-set_other xs i k n 0 other, each' k)
-    ]
-
 -- a bank with which there is no line, after another's line fell
 pub none-kept : (xs : List ℕ) (i own n : ℕ) → i < length xs → n ≤ get_or xs i 0 → get_or xs own 0 ≡ 0 → get_or (set xs i n) own 0 ≡ 0
 none-kept xs i own n within fell none =
@@ -46,19 +38,4 @@ none-kept xs i own n within fell none =
       | inl same ↦ subst (λ (j : ℕ). get_or (set xs i n) j 0 ≡ 0) (sym same)
           (omega (arith, get_or-set_same xs i n 0 within, subst (λ (j : ℕ). get_or xs j 0 ≡ 0) same none))
       | inr other ↦ get_or-set_other xs i own n 0 other ∙ none
-    ]
-
--- the entries below a number, but for one, when the next is written
-abbrev pub Filled : (ℕ → ℕ) → ℕ → ℕ → ℕ → List ℕ → Type 0
-Filled f own banks number xs = (other : ℕ) → other < number → other < banks → other ≢ own → get_or xs other 0 ≡ f other
-
-pub filled-set : (f : ℕ → ℕ) (own banks number at value : ℕ) (xs : List ℕ) → at ≡ number → at < length xs → (number < banks → number ≢ own → value ≡ f number) → Filled f own banks number xs → Filled f own banks (number + 1) (set xs at value)
-filled-set f own banks number at value xs is within value_is filled other below in_banks differ =
-    elim (cases_eq other at) [
-      | inl same ↦
-          let here : other ≡ number = same ∙ is in
-          subst (λ (j : ℕ). get_or (set xs at value) j 0 ≡ f j) (sym here)
-          (ap (λ j. get_or (set xs at value) j 0) (sym is) ∙ get_or-set_same xs at value 0 within
-          ∙ value_is (omega (arith, in_banks, here)) (λ e. differ (here ∙ e)))
-      | inr apart ↦ get_or-set_other xs at other value 0 apart ∙ filled other (omega (arith, below, apart, is)) in_banks differ
     ]

@@ -1,13 +1,12 @@
-ghost use Rattle.std.specs.Prelude.{ℕ, ◌≡◌, ◌≤◌, ◌<◌, ◌*◌, ◌/◌, ◌^◌, true, false, Some, None, slice_index, slice_index_or, IfOk, IfSome};
+ghost use Rattle.std.specs.Prelude.{◌≡◌, ◌≢◌, ◌≤◌, ◌<◌, ◌*◌, ◌/◌, ◌^◌, true, false, Some, None, slice_index, slice_index_or, IfOk, IfSome};
 ghost use Rattle.fx_amounts.specs.Quantity.{IsWeight};
 ghost use Rattle.fx_rules.specs.Lists.{total};
 ghost use Rattle.fx_rules.specs.Sweep.{is_better};
 ghost use Rattle.global_book.specs.Book.{is_worse};
 ghost use Rattle.match_sweep.specs.Reaches.{IsReached};
-ghost use Rattle.match_sweep.specs.inside.Reaches.{AreTaken, BeginsAt, HaveLevels, IsBestAmong, IsBestPrice, IsHead, TakesLevel, TakesOf, bank_level, better_price, price_of};
+ghost use Rattle.match_sweep.specs.inside.Reaches.{AreTaken, BeginsAt, HaveLevels, IsBareLevel, IsBestAmong, IsBestPrice, IsHead, OpensLevel, TakesLevel, TakesOf, bank_level, better_price, price_of};
 
 use crate::heads::is_better;
-use crate::walk::lines_of;
 use credit_lines::CreditLines;
 use fx_amounts::{BankId, Memory, Price, Side};
 use fx_rules::{Level, LevelList, SHOWN_LEVELS};
@@ -31,7 +30,14 @@ pub fn levels_in_reach(
     requires weight { IsWeight weight }
     ensures levels { IfOk result (IsReached book.now lines.now weight bank side) }
 {
-    let mut walk = LevelWalk::new(book, lines, weight, bank, side);
+    let mut walk = LevelWalk {
+        taker: side,
+        weight,
+        lines: [0; 64],
+        heads: [None; 64],
+        last: None,
+    };
+    walk.open_banks(book, lines, bank);
     let mut levels = Vec::new(alloc);
     levels.reserve_exact(SHOWN_LEVELS)?;
     while levels.len() < SHOWN_LEVELS {
@@ -43,14 +49,14 @@ pub fn levels_in_reach(
     Ok(LevelList::from_vec(levels))
 }
 
-/// A walk from price to price over what a bank can reach. It changes no book.
+/// A walk from price to price over what a bank can reach. It changes no book. It is large, and stays where it was made.
 #[derive(Drop)]
 pub(crate) struct LevelWalk {
     /// The side of the orders that would take.
     taker: Side,
     /// What a lot costs, in credit units.
     weight: u32,
-    /// What is left of the lines with each bank, in credit units; nothing with the bank's own.
+    /// What is left of the lines with each bank that has an order, in credit units; nothing with the bank's own.
     lines: [u64; 64],
     /// Of each bank with which the line pays for a lot, its best level behind the last price.
     heads: [Option<BankLevel>; 64],
@@ -69,27 +75,35 @@ struct BankLevel {
 }
 
 impl LevelWalk {
-    /// Before its first level, by the lines of a bank, where a lot costs `weight` credit units.
-    fn new(
-        book: &PairBook,
-        lines: &CreditLines,
-        weight: u32,
-        bank: BankId,
-        taker: Side,
-    ) -> LevelWalk
+    /// Finds the lines of a bank with all others that have an order, and their first levels. The walk has found none so far.
+    fn open_banks(&mut self, book: &PairBook, lines: &CreditLines, bank: BankId)
+        requires bare { IsBareLevel self.old }
         requires banks { book.now.banks ≡ lines.now.banks }
         requires bank { bank < lines.now.banks }
-        requires weight { IsWeight weight }
-        ensures begins { BeginsAt book.now lines.now weight bank taker result }
+        requires weight { IsWeight self.old.weight }
+        ensures begins { BeginsAt book.now lines.now self.old.weight bank self.old.taker self.new }
     {
-        let lines = lines_of(book.banks(), lines, bank);
-        LevelWalk {
-            taker,
-            weight,
-            lines,
-            heads: first_of_each(book, taker, &lines, weight),
-            last: None,
+        prove!(bank.index() < BankId::COUNT);
+        let owners = book.owners();
+        for owner in owners {
+            if *owner != bank {
+                self.open_bank(book, lines, bank, *owner);
+            }
         }
+    }
+
+    /// Finds the line of a bank with another, and the first level of the other where the line pays for a lot.
+    fn open_bank(&mut self, book: &PairBook, lines: &CreditLines, bank: BankId, other: BankId)
+        requires bank { bank < lines.now.banks }
+        requires other { other < lines.now.banks }
+        requires differ { bank ≢ other }
+        requires weight { IsWeight self.old.weight }
+        ensures opens { OpensLevel book.now lines.now self.old self.new bank other }
+        ensures number { other < 64 }
+    {
+        let line = lines.eff(bank, other).get();
+        self.lines[other.index()] = line;
+        self.heads[other.index()] = level_at(book, self.taker, line, self.weight, other, 0);
     }
 
     /// The next level; `None` where nothing more can be reached.
@@ -200,23 +214,4 @@ fn level_at(
     }
     let (price, lots) = book.level_at(bank, taker.opposite(), at)?;
     Some(BankLevel { at, price, lots })
-}
-
-/// The first levels of all banks with which the line pays for a lot. It looks only at the banks that have an order.
-fn first_of_each(
-    book: &PairBook,
-    taker: Side,
-    lines: &[u64; 64],
-    weight: u32,
-) -> [Option<BankLevel>; 64]
-    requires weight { IsWeight weight }
-    ensures heads { (bank : ℕ) → bank < 64 → 1 ≤ slice_index lines.now bank / weight → IsHead taker bank None book.now.orders (slice_index_or result bank None) }
-{
-    let owners = book.owners();
-    let mut heads = [None; 64];
-    for owner in owners {
-        let number = owner.index();
-        heads[number] = level_at(book, taker, lines[number], weight, *owner, 0);
-    }
-    heads
 }

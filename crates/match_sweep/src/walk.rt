@@ -210,36 +210,3 @@ impl Walk {
         fill
     }
 }
-
-/// The line with the bank of this number, in credit units; nothing with the bank itself, or with none.
-fn line_with(banks: usize, lines: &CreditLines, bank: BankId, number: u8) -> u64
-    requires banks { banks ≡ lines.now.banks }
-    requires bank { bank < banks }
-    requires number { number < 64 }
-    ensures line { number < banks → number ≢ bank → result ≡ line_in lines.now bank number }
-    ensures own { number ≡ bank → result ≡ 0 }
-    ensures most { result ≤ 10 ^ 15 }
-    ensures few { number ≢ bank → banks ≤ 64 }
-{
-    match BankId::new(number) {
-        Some(other) if other != bank && other.index() < banks => lines.eff(bank, other).get(),
-        _ => 0,
-    }
-}
-
-/// The lines of a bank with each other bank, of so many banks, in credit units; nothing with itself.
-pub(crate) fn lines_of(banks: usize, lines: &CreditLines, bank: BankId) -> [u64; 64]
-    requires banks { banks ≡ lines.now.banks }
-    requires bank { bank < banks }
-    ensures line { (other : ℕ) → other < banks → other ≢ bank → slice_index result other ≡ line_in lines.now bank other }
-    ensures own { slice_index result bank ≡ 0 }
-    ensures most { total (λ line. line) result ≤ 64 * 10 ^ 15 }
-    ensures few { banks ≤ 64 }
-{
-    let mut table = [0; 64];
-    let count = banks.min(BankId::COUNT) as u8;
-    for number in 0..count {
-        table[usize::from(number)] = line_with(banks, lines, bank, number);
-    }
-    table
-}

@@ -1,11 +1,11 @@
 -- What private functions and proofs alone say of it, beside `specs/Reaches.antt`.
-use Rattle.std.specs.Prelude.{ℕ, ◌≡◌, ◌≢◌, ◌≤◌, ◌<◌, ◌+◌, ◌-◌, ◌*◌, ◌/◌, ◌^◌, min, false, nat_le, if◌then◌else◌, List, length, Option, Some, None, IfSome, slice_get, slice_index, slice_index_or, option_map}
+use Rattle.std.specs.Prelude.{ℕ, ◌≡◌, ◌≢◌, ◌≤◌, ◌<◌, ◌+◌, ◌-◌, ◌*◌, ◌/◌, ◌^◌, min, false, nat_le, if◌then◌else◌, List, length, replicate, Option, Some, None, IfSome, slice_get, slice_index, slice_index_or, option_map}
 use Rattle.std.specs.List.{Contains}
 use Rattle.fx_amounts.specs.declared.side.Side.{Side}
 use Rattle.fx_amounts.specs.declared.side.Side.TheVariants.{Buy}
 use Rattle.fx_rules.specs.declared.orders.Level.{Level}
 use Rattle.fx_rules.specs.declared.orders.Resting.{Resting}
-use Rattle.fx_rules.specs.Lists.{total}
+use Rattle.fx_rules.specs.Lists.{Each, total}
 use Rattle.fx_rules.specs.Sweep.{is_better}
 use Rattle.global_book.specs.Book.{Book, IsBook, IsPriceOf, level_lots, levels_of}
 use Rattle.credit_lines.specs.Credit.{Credit, line_in}
@@ -106,13 +106,44 @@ TakesLevel book old new (Some level) =
     IsBestPrice old 64 (Some level.price)
     × ((taken : LevelWalk) × AreTaken book old taken level.price level.lots × (new ≡ record taken { last = Some level.price }))
 
+-- a walk that has found no line and no level
+pub record IsBareLevel (walk : LevelWalk) : Type 0 where
+  pub lines : walk.lines ≡ replicate 64 0
+  pub last : walk.last ≡ None
+
+-- nothing but lines and heads changed
+pub record KeepsTaker (old new : LevelWalk) : Type 0 where
+  pub same : new ≡ record old { lines = new.lines; heads = new.heads }
+  pub long : length new.lines ≡ length old.lines
+
+-- a bank has its first level at its head, where the line with it pays for a lot
+abbrev pub HasFirst : Book → ℕ → Side → LevelWalk → ℕ → Type 0
+HasFirst book weight taker walk bank = 1 ≤ slice_index walk.lines bank / weight → IsHead taker bank None book.orders (head_of walk bank)
+
+-- the line of a bank with another is found, and the other's first level
+pub record OpensLevel (book : Book) (credit : Credit) (old new : LevelWalk) (bank other : ℕ) : Type 0 where
+  pub keeps : KeepsTaker old new
+  pub line : slice_index new.lines other ≡ line_in credit bank other
+  pub most : line_in credit bank other ≤ 10 ^ 15
+  pub head : HasFirst book old.weight old.taker new other
+  pub others : (third : ℕ) → third ≢ other → (slice_index new.lines third ≡ slice_index old.lines third) × (head_of new third ≡ head_of old third)
+
+-- so they are with each of these banks, and there is no line with the bank's own
+pub record HaveOpened (book : Book) (credit : Credit) (banks : List ℕ) (bank : ℕ) (old new : LevelWalk) : Type 0 where
+  pub keeps : KeepsTaker old new
+  pub most : (other : ℕ) → slice_index new.lines other ≤ 10 ^ 15
+  pub few : (other : ℕ) → Contains banks other → other ≢ bank → other < 64
+  pub lines : (other : ℕ) → Contains banks other → other ≢ bank → slice_index new.lines other ≡ line_in credit bank other
+  pub own : slice_index new.lines bank ≡ 0
+  pub heads : (other : ℕ) → HasFirst book old.weight old.taker new other
+
 -- a walk before its first level, by the lines of a bank
 pub record BeginsAt (book : Book) (credit : Credit) (weight bank : ℕ) (taker : Side) (walk : LevelWalk) : Type 0 where
   pub valid : IsBook book
-  pub few : book.banks ≤ 64
+  pub few : Each (λ order. order.bank < 64) book.orders
   pub long : length walk.lines ≡ 64
   pub heads : HaveLevels book walk
   pub is : walk ≡ record walk { weight = weight; taker = taker; last = None }
   pub own : slice_index walk.lines bank ≡ 0
-  pub line : (other : ℕ) → other < book.banks → other ≢ bank → slice_index walk.lines other ≡ line_in credit bank other
+  pub line : Each (λ order. order.bank ≢ bank → slice_index walk.lines order.bank ≡ line_in credit bank order.bank) book.orders
   pub most : total (λ line. line) walk.lines ≤ 64 * 10 ^ 15

@@ -1,5 +1,5 @@
 -- The store and the level of the order have the lots that are left.
-use Rattle.std.proofs.Common.{◌≡◌, ◌-◌, Some, arith, ap, subst}
+use Rattle.std.proofs.Common.{◌≡◌, ◌-◌, Some, arith, subst}
 use Rattle.order_store.specs.Orders.{Changes, order_at}
 use Rattle.global_book.specs.inside.Levels.{Takes, levels_at}
 use Rattle.global_book.proofs.Finding.{if_some}

@@ -1,5 +1,5 @@
 -- The order goes, and with it its place and the lots of its level.
-use Rattle.std.proofs.Common.{Some, arith, not, length, subst, sym}
+use Rattle.std.proofs.Common.{arith, not, length, subst, sym}
 use Rattle.std.specs.List.{Contains, filter}
 use Rattle.std.specs.Option.{IfSome}
 use Rattle.fx_rules.specs.Sweep.{is_order}

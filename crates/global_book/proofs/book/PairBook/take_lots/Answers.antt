@@ -1,12 +1,11 @@
 -- The order that is found is lowered, or taken out.
-use Rattle.std.proofs.Common.{ℕ, List, Some, ap, ◌∙◌, ◌≡◌, ◌≤◌, arith, false, true, inl, inr, length, map, not, refl, sym, subst}
+use Rattle.std.proofs.Common.{ℕ, List, ap, ◌∙◌, ◌≡◌, ◌≤◌, arith, false, true, inl, inr, length, map, not, refl, sym, subst}
 use Rattle.std.proofs.lemmas.Bool.{cases_lt, false≢true}
 use Rattle.std.specs.List.{filter}
 use Rattle.fx_amounts.specs.Quantity.{IsLots}
 use Rattle.fx_rules.specs.declared.orders.Resting.{Resting}
 use Rattle.fx_rules.specs.Sweep.{is_order}
-use Rattle.order_store.specs.Orders.{IsOf, order_at}
-use Rattle.global_book.specs.Book.{Book, IsBook, first, relotted}
+use Rattle.global_book.specs.Book.{Book, IsBook, relotted}
 use Rattle.global_book.specs.inside.Moves.{Moves}
 use Rattle.global_book.proofs.Finding.{IsFound, first_is, found_order, kept_book, none_is}
 use Rattle.global_book.proofs.Lowered.{first-none, first-some, none-lowered, relotted-lowered, removed-lowered}
