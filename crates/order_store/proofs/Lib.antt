@@ -1,4 +1,4 @@
-pub mod Naming
-pub mod Rooms
-pub mod Numbering
 mod Earliest
+mod Naming
+mod Numbering
+mod Rooms
