@@ -14,7 +14,8 @@ use Rattle.fx_rules.specs.Session.{Header, IsSession}
 use Rattle.fx_rules.proofs.ListLemmas.{EachPair-filter, filter_cons_true, filter_cons_false}
 use Rattle.day_report.specs.declared.currencies.Columns.{Columns}
 use Rattle.day_report.specs.Report.{firsts, currencies, base_code, quote_code}
-use Rattle.day_report.specs.inside.Parts.{with_code, code_at, StandsAt}
+use Rattle.day_report.specs.inside.Parts.{with_code}
+use Rattle.day_report.specs.Sums.{code_at, StandsAt}
 
 pub same_code : (a b : List ℕ) → bytes_eq a b ≡ true → a ≡ b
 same_code a b is = (bytes_eq-Decides a b).0 is

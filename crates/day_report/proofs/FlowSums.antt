@@ -12,8 +12,8 @@ use Rattle.day_report.specs.declared.currencies.Currencies.{Currencies}
 use Rattle.day_report.specs.Report.{base_of, quote_of, base_code, quote_code, currencies, buyer, seller, received, paid}
 use Rattle.fx_rules.specs.inside.Trade.{IsTrade}
 use Rattle.day_report.specs.inside.Trades.{AreTrades, CanAdd}
-use Rattle.day_report.specs.inside.Table.{place, sum_at, HasShape, IsTable}
-use Rattle.day_report.specs.inside.Parts.{code_at, StandsAt, AreCurrencies, got_by, given_by, AreFlows}
+use Rattle.day_report.specs.Table.{place, sum_at, HasShape, IsTable}
+use Rattle.day_report.specs.Sums.{code_at, StandsAt, AreCurrencies, got_by, given_by, AreFlows}
 use Rattle.day_report.proofs.Sums.{when, when_most, total_push}
 use Rattle.day_report.proofs.Bounds.{received-fit, paid-fit, last-trade, fewer-trades, last-base, last-quote}
 use Rattle.day_report.proofs.Balance.{buyer-below, seller-below}

@@ -1,4 +1,4 @@
--- A day follows the market, entry by entry.
+-- The sums of a day follow the market, entry by entry.
 use Rattle.std.proofs.Common.{ℕ, ◌<◌, ◌≤◌, ◌+◌, ◌≡◌, List, [], ◌∷◌, ◌++◌, ap, sym, subst, ◌∙◌, arith, take, drop, length, get_or, append_assoc}
 use Rattle.std.proofs.lemmas.List.{take_more, take_all, take-append-drop}
 use Rattle.fx_rules.specs.declared.outcome.Entry.{Entry}
@@ -15,10 +15,11 @@ use Rattle.fx_rules.proofs.Continuing.{legal-last}
 use Rattle.fx_rules.proofs.Trading.{step-fills}
 use Rattle.credit_lines.specs.Credit.{Credit, IsCredit}
 use Rattle.credit_lines.specs.Market.{StandsFor, FollowsOn}
-use Rattle.day_report.specs.declared.day.Day.{Day}
+use Rattle.day_report.specs.declared.day_sums.DaySums.{DaySums}
 use Rattle.day_report.specs.Trades.{lots_in}
 use Rattle.day_report.specs.inside.Trades.{AreTrades}
-use Rattle.day_report.specs.inside.Parts.{AreVolumes, AreFlows, HasFills, IsDayOf}
+use Rattle.day_report.specs.Sums.{AreVolumes, AreFlows, AreSumsOf}
+use Rattle.day_report.specs.inside.Parts.{HasFills}
 use Rattle.day_report.proofs.Trading.{legal-fits}
 
 -- the fills before a place, the one there, and those behind
@@ -52,15 +53,15 @@ one-more before fills k f within is =
 state-fills : (h : Header) (entries : List Entry) (e : Entry) → IsLegal h (entries ++ e ∷ []) → (state h (entries ++ e ∷ [])).fills ≡ (state h entries).fills ++ fills_of e.outcome
 state-fills h entries e legal = ap (λ (T : State). T.fills) (after_all-push (opening h) entries e) ∙ step-fills h (state h entries) e (legal-last h entries e legal).1
 
--- the fills of an entry that a day can follow fit
+-- the fills of an entry that the sums can follow fit
 pub entry-fits : (h : Header) (entries : List Entry) (e : Entry) (fills : List Fill) → IsLegal h (entries ++ e ∷ []) → fills ≡ fills_of e.outcome → AreTrades h ((state h entries).fills ++ fills)
 entry-fits h entries e fills legal are =
     subst (AreTrades h) (state-fills h entries e legal ∙ ap (λ (fs : List Fill). (state h entries).fills ++ fs) (sym are)) (legal-fits h (entries ++ e ∷ []) legal)
 
--- a day has followed an entry: its lines, and its fills
-pub day-followed : (h : Header) (entries : List Entry) (e : Entry) (fills : List Fill) (old new : Day) (lines : Credit) → IsLegal h (entries ++ e ∷ []) → IsDayOf h (state h entries) old → IsCredit lines → FollowsOn h old.lines lines e → fills ≡ fills_of e.outcome → new.lines ≡ lines
-    → HasFills h ((state h entries).fills ++ fills) new → IsDayOf h (state h (entries ++ e ∷ [])) new
-day-followed h entries e fills old new lines legal is valid follows are same has =
+-- the sums have followed an entry: its lines, and its fills
+pub sums-followed : (h : Header) (entries : List Entry) (e : Entry) (fills : List Fill) (old new : DaySums) (lines : Credit) → IsLegal h (entries ++ e ∷ []) → AreSumsOf h (state h entries) old → IsCredit lines → FollowsOn h old.lines lines e → fills ≡ fills_of e.outcome → new.lines ≡ lines
+    → HasFills h ((state h entries).fills ++ fills) new → AreSumsOf h (state h (entries ++ e ∷ [])) new
+sums-followed h entries e fills old new lines legal is valid follows are same has =
     let last = legal-last h entries e legal in
     let stands : StandsFor h (state h (entries ++ e ∷ [])) lines =
     subst (λ (T : State). StandsFor h T lines) (sym (after_all-push (opening h) entries e)) (follows (state h entries) (legal-sound h entries last.0) is.lines_are last.1) in
@@ -72,6 +73,6 @@ day-followed h entries e fills old new lines legal is valid follows are same has
       flows_are = subst (λ (fs : List Fill). AreFlows h fs new.flows) all has.flows_are;
     }
 
--- the day of all entries
-pub whole-day : (h : Header) (entries : List Entry) (at : ℕ) (day : Day) → length entries ≤ at → IsDayOf h (state h (take at entries)) day → IsDayOf h (state h entries) day
-whole-day h entries at day past is = subst (λ (es : List Entry). IsDayOf h (state h es) day) (take_all at entries past) is
+-- the sums of all entries
+pub whole-sums : (h : Header) (entries : List Entry) (at : ℕ) (sums : DaySums) → length entries ≤ at → AreSumsOf h (state h (take at entries)) sums → AreSumsOf h (state h entries) sums
+whole-sums h entries at sums past is = subst (λ (es : List Entry). AreSumsOf h (state h es) sums) (take_all at entries past) is

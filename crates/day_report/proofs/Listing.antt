@@ -21,8 +21,9 @@ use Rattle.day_report.specs.declared.flows.Flows.{Flows}
 use Rattle.day_report.specs.declared.table.Table.{Table}
 use Rattle.day_report.specs.Report.{volume_of, volumes_of, use_of, uses_of, banks_behind, currencies, net_of, nets_of}
 use Rattle.day_report.specs.inside.Trades.{AreTrades}
-use Rattle.day_report.specs.inside.Table.{sum_at, IsTable, IsSmall}
-use Rattle.day_report.specs.inside.Parts.{AreVolumes, code_at, got_by, given_by, AreFlows}
+use Rattle.day_report.specs.Table.{sum_at, IsTable}
+use Rattle.day_report.specs.inside.Table.{IsSmall}
+use Rattle.day_report.specs.Sums.{AreVolumes, code_at, got_by, given_by, AreFlows}
 use Rattle.day_report.specs.inside.Lists.{use_in, uses_in, net_in, nets_at, nets_in, HaveNets}
 use Rattle.day_report.proofs.Sums.{length_below}
 use Rattle.day_report.proofs.Bounds.{received-fit, paid-fit}

@@ -1,3 +1,5 @@
 pub mod Report
+pub mod Sums
+pub mod Table
 pub mod Trades
 pub mod inside

@@ -15,6 +15,7 @@ use Rattle.fx_rules.specs.Lists.{below}
 use Rattle.day_report.specs.declared.rows.Volume.{Volume}
 use Rattle.day_report.specs.declared.rows.Use.{Use}
 use Rattle.day_report.specs.declared.rows.Net.{Net}
+use Rattle.day_report.specs.declared.rows.Report.{Report}
 
 -- Volumes.
 
@@ -114,6 +115,12 @@ net_of h S bank currency = record {
 -- of each bank each currency
 abbrev pub nets_of : Header → State → List Net
 nets_of h S = flat_map (λ bank. map (net_of h S bank) (currencies h)) (below (bank_count h))
+
+-- A report is that of a state.
+pub record IsReportOf (h : Header) (S : State) (made : Report) : Type 0 where
+  pub volumes_are : made.volumes ≡ volumes_of h S
+  pub uses_are : made.uses ≡ uses_of h S
+  pub nets_are : made.nets ≡ nets_of h S
 
 -- The nets balance.
 

@@ -1,6 +1,7 @@
 ghost use Rattle.std.specs.Prelude.{ℕ, ◌≡◌, ◌<◌, slice_index_or, IfOk, OnOk, length, position, bytes_eq};
 ghost use Rattle.fx_rules.specs.Session.{pair_count};
-ghost use Rattle.day_report.specs.inside.Parts.{AreCurrencies, with_code, StandsAt};
+ghost use Rattle.day_report.specs.Sums.{AreCurrencies, StandsAt};
+ghost use Rattle.day_report.specs.inside.Parts.{with_code};
 
 use fx_amounts::{Memory, PairId};
 use fx_rules::{Code, Session};

@@ -10,6 +10,7 @@
 mod amounts;
 mod currencies;
 mod day;
+mod day_sums;
 mod flows;
 mod places;
 mod rows;
@@ -18,4 +19,5 @@ mod uses;
 mod volumes;
 
 pub use day::{nets_balance, report};
+pub use day_sums::DaySums;
 pub use rows::{Net, NetList, Report, Use, UseList, Volume, VolumeList};

@@ -1,6 +1,6 @@
 ghost use Rattle.std.specs.Prelude.{ℕ, ◌≡◌, ◌≤◌, ◌<◌, ◌+◌, ◌^◌, length, slice_set, IfOk};
-ghost use Rattle.day_report.specs.inside.Table as table;
-ghost use Rattle.day_report.specs.inside.Table.{sum_at, IsTable};
+ghost use Rattle.day_report.specs.Table as table;
+ghost use Rattle.day_report.specs.Table.{sum_at, IsTable};
 
 use fx_amounts::{BankId, Memory};
 use std::alloc::Global;

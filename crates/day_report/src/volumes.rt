@@ -1,6 +1,7 @@
 ghost use Rattle.std.specs.Prelude.{◌≡◌, [], ◌∷◌, ◌<◌, IfOk};
 ghost use Rattle.day_report.specs.inside.Trades.{CanAdd, Adds};
-ghost use Rattle.day_report.specs.inside.Parts.{no_volume, AreVolumes};
+ghost use Rattle.day_report.specs.inside.Parts.{no_volume};
+ghost use Rattle.day_report.specs.Sums.{AreVolumes};
 
 use crate::amounts::amounts_of;
 use crate::places::pair_at;

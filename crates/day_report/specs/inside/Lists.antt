@@ -3,8 +3,9 @@ use Rattle.std.specs.Prelude.{ℕ, nat_lt, List, map, filter, length, pos, ◌-�
 use Rattle.std.specs.List.{flat_map}
 use Rattle.fx_rules.specs.Lists.{below}
 use Rattle.credit_lines.specs.Credit.{Credit, limit_in, used_in, line_in}
-use Rattle.day_report.specs.inside.Table.{sum_at, IsSmall}
-use Rattle.day_report.specs.inside.Parts.{code_at}
+use Rattle.day_report.specs.Table.{sum_at}
+use Rattle.day_report.specs.inside.Table.{IsSmall}
+use Rattle.day_report.specs.Sums.{code_at}
 use Rattle.day_report.specs.declared.rows.Use.{Use}
 use Rattle.day_report.specs.declared.rows.Net.{Net}
 use Rattle.day_report.specs.declared.flows.Flows.{Flows}

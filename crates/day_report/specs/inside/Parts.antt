@@ -1,69 +1,20 @@
--- What the parts of a day hold once some fills were added to them.
-use Rattle.std.specs.Prelude.{ℕ, ◌≡◌, ◌<◌, is_some, position, bytes_eq, if◌then◌else◌, List, [], ◌∷◌, ◌++◌, length, slice_index_or}
+-- What private functions and proofs alone say of the sums of a day, beside `specs/Sums.antt`.
+use Rattle.std.specs.Prelude.{ℕ, is_some, position, bytes_eq, if◌then◌else◌, List, [], ◌∷◌, ◌++◌}
 use Rattle.fx_rules.specs.declared.orders.Fill.{Fill}
-use Rattle.fx_rules.specs.Lists.{total}
-use Rattle.fx_rules.specs.Session.{Header, bank_count, pair_count}
-use Rattle.fx_rules.specs.State.{State}
-use Rattle.credit_lines.specs.Credit.{IsCredit}
-use Rattle.credit_lines.specs.Market.{StandsFor}
-use Rattle.day_report.specs.Report.{volume_of, base_code, quote_code, currencies, received, paid}
-use Rattle.day_report.specs.inside.Trades.{with_fills}
-use Rattle.day_report.specs.inside.Table.{IsTable}
+use Rattle.fx_rules.specs.Session.{Header}
+use Rattle.day_report.specs.Sums.{AreVolumes, AreFlows}
 use Rattle.day_report.specs.declared.rows.Volume.{Volume}
-use Rattle.day_report.specs.declared.currencies.Columns.{Columns}
-use Rattle.day_report.specs.declared.currencies.Currencies.{Currencies}
-use Rattle.day_report.specs.declared.flows.Flows.{Flows}
-use Rattle.day_report.specs.declared.day.Day.{Day}
+use Rattle.day_report.specs.declared.day_sums.DaySums.{DaySums}
 
 -- the volume of a pair without fills
 abbrev pub no_volume : ℕ → Volume
 no_volume pair = record { pair = pair; fills = 0; lots = 0; base = 0; quote = 0 }
 
--- the volumes of the pairs, by their fills
-pub record AreVolumes (h : Header) (fills : List Fill) (volumes : List Volume) : Type 0 where
-  pub count : length volumes ≡ pair_count h
-  pub each : (pair : ℕ) (d : Volume) → pair < pair_count h → slice_index_or volumes pair d ≡ volume_of h (with_fills h fills) pair
-
 -- the codes, with one more where it is not among them
 abbrev pub with_code : List (List ℕ) → List ℕ → List (List ℕ)
 with_code codes code = if is_some (position (λ other. bytes_eq other code) codes) then codes else codes ++ code ∷ []
 
--- the code that stands in a column
-abbrev pub code_at : List (List ℕ) → ℕ → List ℕ
-code_at codes column = slice_index_or codes column []
-
--- a code stands in a column
-pub record StandsAt (codes : List (List ℕ)) (code : List ℕ) (column : ℕ) : Type 0 where
-  pub within : column < length codes
-  pub is : code_at codes column ≡ code
-
--- the currencies of a session's pairs, and the columns of each pair's two
-pub record AreCurrencies (h : Header) (held : Currencies) : Type 0 where
-  pub codes_are : held.codes.items ≡ currencies h
-  pub count : length held.columns.items ≡ pair_count h
-  pub bases : (pair : ℕ) (d : Columns) → pair < pair_count h → StandsAt (currencies h) (base_code h pair) (slice_index_or held.columns.items pair d).base
-  pub quotes : (pair : ℕ) (d : Columns) → pair < pair_count h → StandsAt (currencies h) (quote_code h pair) (slice_index_or held.columns.items pair d).quote
-
--- what each bank got of the currency of each column, and what it gave
-abbrev pub got_by : Header → List Fill → ℕ → ℕ → ℕ
-got_by h fills bank column = total (received h bank (code_at (currencies h) column)) fills
-
-abbrev pub given_by : Header → List Fill → ℕ → ℕ → ℕ
-given_by h fills bank column = total (paid h bank (code_at (currencies h) column)) fills
-
-pub record AreFlows (h : Header) (fills : List Fill) (flows : Flows) : Type 0 where
-  pub currencies_are : AreCurrencies h flows.currencies
-  pub got : IsTable (bank_count h) (length (currencies h)) (got_by h fills) flows.received
-  pub gave : IsTable (bank_count h) (length (currencies h)) (given_by h fills) flows.paid
-
--- volumes and flows of a day are those of some fills
-pub record HasFills (h : Header) (fills : List Fill) (day : Day) : Type 0 where
-  pub volumes_are : AreVolumes h fills day.volumes.items
-  pub flows_are : AreFlows h fills day.flows
-
--- a day is that of a state
-pub record IsDayOf (h : Header) (S : State) (day : Day) : Type 0 where
-  pub credit_is : IsCredit day.lines
-  pub lines_are : StandsFor h S day.lines
-  pub volumes_are : AreVolumes h S.fills day.volumes.items
-  pub flows_are : AreFlows h S.fills day.flows
+-- the volumes and flows are those of some fills
+pub record HasFills (h : Header) (fills : List Fill) (sums : DaySums) : Type 0 where
+  pub volumes_are : AreVolumes h fills sums.volumes.items
+  pub flows_are : AreFlows h fills sums.flows

@@ -1,23 +1,7 @@
--- Tables of sums.
-use Rattle.std.specs.Prelude.{ℕ, ◌≡◌, ◌<◌, ◌+◌, ◌*◌, ◌^◌, length, slice_index}
+-- What private functions and proofs alone say of it, beside `specs/Table.antt`.
+use Rattle.std.specs.Prelude.{ℕ, ◌<◌, ◌^◌}
 use Rattle.day_report.specs.declared.table.Table.{Table}
-
--- where a row and a column meet, row by row
-abbrev pub place : ℕ → ℕ → ℕ → ℕ
-place columns row column = row * columns + column
-
-abbrev pub sum_at : Table → ℕ → ℕ → ℕ
-sum_at table row column = slice_index table.cells.items (place table.columns row column)
-
--- a table of so many rows and columns
-pub record HasShape (rows columns : ℕ) (table : Table) : Type 0 where
-  pub columns_are : table.columns ≡ columns
-  pub full : length table.cells.items ≡ rows * columns
-
--- its sums are these
-pub record IsTable (rows columns : ℕ) (sums : ℕ → ℕ → ℕ) (table : Table) : Type 0 where
-  pub shape : HasShape rows columns table
-  pub each : (row column : ℕ) → row < rows → column < columns → sum_at table row column ≡ sums row column
+use Rattle.day_report.specs.Table.{sum_at, HasShape}
 
 -- sums that are below 2^127, so that the difference of two is an `i128`
 pub record IsSmall (rows columns : ℕ) (table : Table) : Type 0 where

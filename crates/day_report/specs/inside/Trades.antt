@@ -3,7 +3,6 @@ use Rattle.std.specs.Prelude.{◌≤◌, List, [], ◌∷◌, ◌++◌}
 use Rattle.fx_rules.specs.declared.orders.Fill.{Fill}
 use Rattle.fx_rules.specs.Lists.{Each}
 use Rattle.fx_rules.specs.Session.{Header, IsSession}
-use Rattle.fx_rules.specs.State.{State, opening}
 use Rattle.fx_rules.specs.inside.Trade.{IsTrade}
 use Rattle.day_report.specs.Trades.{lots_in}
 
@@ -22,7 +21,3 @@ CanAdd h Of fill = (fills : List Fill) × Of fills × AreTrades h (fills ++ fill
 -- Fills were added to what is known of those before.
 abbrev pub Adds : (List Fill → Type 0) → (List Fill → Type 0) → List Fill → Type 0
 Adds Of Of' more = (fills : List Fill) → Of fills → Of' (fills ++ more)
-
--- a state with these fills
-abbrev pub with_fills : Header → List Fill → State
-with_fills h fills = record (opening h) { fills = fills }

@@ -1,7 +1,8 @@
 use Rattle.std.proofs.Common.{◌≡◌, ◌<◌, ◌+◌, length, get_or, ap, ◌∙◌, arith}
 use Rattle.std.proofs.lemmas.List.{length_push}
 use Rattle.day_report.specs.Report.{base_code, quote_code}
-use Rattle.day_report.specs.inside.Parts.{with_code, StandsAt}
+use Rattle.day_report.specs.inside.Parts.{with_code}
+use Rattle.day_report.specs.Sums.{StandsAt}
 use Rattle.day_report.specs.declared.currencies.Columns.{Columns}
 use Rattle.day_report.proofs.Codes.{firsts_more, stand-more, stands_then, base_read, quote_read}
 use Rattle.day_report.proofs.currencies.Currencies.open.Goals as goal

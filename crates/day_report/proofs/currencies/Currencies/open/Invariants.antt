@@ -1,7 +1,7 @@
 use Rattle.std.proofs.Common.{ℕ, ◌≡◌, ◌<◌, length, take, slice_index_or}
 use Rattle.std.specs.List.{flat_map}
 use Rattle.day_report.specs.Report.{firsts, base_code, quote_code}
-use Rattle.day_report.specs.inside.Parts.{StandsAt}
+use Rattle.day_report.specs.Sums.{StandsAt}
 use Rattle.day_report.specs.declared.currencies.Columns.{Columns}
 use Rattle.day_report.proofs.Codes.{two_codes}
 use Rattle.day_report.proofs.currencies.Currencies.open.Given as goal

@@ -1,7 +1,7 @@
 use Rattle.std.proofs.Common.{◌≡◌, ◌^◌, ◌<◌, length, get_or, refl, ap, ◌∙◌, arith}
 use Rattle.std.proofs.lemmas.Int.{ints}
 use Rattle.std.proofs.lemmas.List.{get_or_read}
-use Rattle.day_report.specs.inside.Table.{sum_at}
+use Rattle.day_report.specs.Table.{sum_at}
 use Rattle.day_report.proofs.Listing.{map-step, net-made}
 use Rattle.day_report.proofs.flows.Flows.push_nets.Goals as goal
 

@@ -1,7 +1,7 @@
 use Rattle.std.proofs.Common.{◌≡◌, List, ◌++◌, take}
 use Rattle.fx_rules.specs.declared.orders.Fill.{Fill}
 use Rattle.day_report.specs.inside.Parts.{HasFills}
-use Rattle.day_report.proofs.day.Day.add_all.Given as goal
+use Rattle.day_report.proofs.day_sums.DaySums.add_all.Given as goal
 
 -- whatever the fills before were, those so far were added to them
 abbrev pub invariant-loop-fill : goal.invariant-loop-fill

@@ -1,9 +1,10 @@
 use Rattle.std.proofs.Common.{List, ◌++◌, refl, sym, subst, take, append-nil}
 use Rattle.std.proofs.lemmas.List.{take_all}
 use Rattle.fx_rules.specs.declared.orders.Fill.{Fill}
-use Rattle.day_report.specs.inside.Parts.{AreVolumes, AreFlows, HasFills}
+use Rattle.day_report.specs.Sums.{AreVolumes, AreFlows}
+use Rattle.day_report.specs.inside.Parts.{HasFills}
 use Rattle.day_report.proofs.Following.{trades-at, one-more}
-use Rattle.day_report.proofs.day.Day.add_all.Goals as goal
+use Rattle.day_report.proofs.day_sums.DaySums.add_all.Goals as goal
 
 pub loop-fill-init : goal.loop-fill-init
 loop-fill-init c = record {

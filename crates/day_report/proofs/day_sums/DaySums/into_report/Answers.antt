@@ -1,12 +1,14 @@
 use Rattle.std.proofs.Common.{ℕ, List, length, ap, sym, subst, ◌∙◌}
+use Rattle.fx_rules.specs.History.{state}
 use Rattle.day_report.specs.inside.Lists.{nets_in, HaveNets}
 use Rattle.day_report.proofs.Listing.{volumes-listed, uses-listed, nets-listed, flows-small}
-use Rattle.day_report.proofs.day.Day.into_report.Goals as goal
+use Rattle.day_report.proofs.Trading.{legal-fits}
+use Rattle.day_report.proofs.day_sums.DaySums.into_report.Goals as goal
 
 pub nets-requires-clause-fit : goal.nets-requires-clause-fit
 nets-requires-clause-fit c =
     subst (λ (names : List (List ℕ)). HaveNets (length names) c.args.self.flows) (sym c.banks-banks.ensures.value)
-    (flows-small c.args.session.now c.requires.0.fills c.args.self.flows c.requires.2 c.requires.1.flows_are)
+    (flows-small c.args.session.now (state c.args.session.now c.requires.sums.0).fills c.args.self.flows (legal-fits c.args.session.now c.requires.sums.0 c.requires.sums.1) c.requires.sums.2.flows_are)
 
 pub returns : goal.returns
 returns c =
