@@ -20,7 +20,7 @@ steps-taken h S entries zero steps = tt
 steps-taken h S [] (suc n) steps = tt
 steps-taken h S (e ∷ entries) (suc n) steps = (steps.0, steps-taken h (after_entry S e) entries n steps.1)
 
-taken : (entries : List Entry) (i : ℕ) (e : Entry) → i < length entries → e ≡ get_or entries i e → take (i + 1) entries ≡ take i entries ++ e ∷ []
+pub taken : (entries : List Entry) (i : ℕ) (e : Entry) → i < length entries → e ≡ get_or entries i e → take (i + 1) entries ≡ take i entries ++ e ∷ []
 taken entries i e within is = take_more entries i e within ∙ ap (λ (f : Entry). take i entries ++ f ∷ []) (sym is)
 
 pub legal-to : (h : Header) (entries : List Entry) (i : ℕ) (e : Entry) → IsLegal h entries → i < length entries → e ≡ get_or entries i e → IsLegal h (take i entries ++ e ∷ [])

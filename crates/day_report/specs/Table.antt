@@ -1,5 +1,5 @@
 -- Tables of sums.
-use Rattle.std.specs.Prelude.{ℕ, ◌≡◌, ◌<◌, ◌+◌, ◌*◌, ◌^◌, length, slice_index}
+use Rattle.std.specs.Prelude.{ℕ, ◌≡◌, ◌<◌, ◌+◌, ◌*◌, length, slice_index}
 use Rattle.day_report.specs.declared.table.Table.{Table}
 
 -- where a row and a column meet, row by row

@@ -1,14 +1,15 @@
 -- Notices added one after another to the desks of their banks.
 use Rattle.std.proofs.Common.{ℕ, zero, suc, ◌≡◌, ◌+◌, ◌<◌, eqb, cond, List, [], ◌∷◌, ◌++◌, inl, inr, length, take, refl, ap, ap₂, sym, subst, ◌∙◌, arith, append_assoc, append-nil, add-zero, length-append, get_or, set, replicate}
 use Rattle.std.proofs.lemmas.Bool.{cases_eq, cond-true, cond-false, eq-eqb, ne_eqb}
-use Rattle.std.proofs.lemmas.List.{get_or-set_same, get_or-set_other, length-set, take_all}
+use Rattle.std.proofs.lemmas.List.{get_or-set_same, get_or-set_other, length-set}
 use Rattle.std.specs.List.{flat_map}
 use Rattle.fx_rules.specs.declared.outcome.Entry.{Entry}
 use Rattle.fx_rules.specs.Session.{Header, bank_count}
 use Rattle.reply_lines.specs.Rows.{row, fields_text}
-use Rattle.reply_lines.specs.inside.Desks.{DeskSoFar, desk_with, nothing_yet, with_notice, with_notices, HaveGot, AreDesksOf}
-use Rattle.reply_lines.specs.Notices.{Notice, notice_line, notice_lines, notices}
-use Rattle.reply_lines.proofs.Items.{flat_more}
+use Rattle.reply_lines.specs.Desks.{DeskSoFar, desk_with, nothing_yet, AreDesksOf}
+use Rattle.reply_lines.specs.inside.Desks.{with_notice, with_notices, HaveGot}
+use Rattle.reply_lines.specs.Notices.{Notice, notice_line, notice_lines, notices_in, notices}
+use Rattle.reply_lines.proofs.Items.{flat_more, flat_last}
 
 -- a line has its line feed at least
 pub row-some : (first : List ℕ) (rest : List (List ℕ)) → 0 < length (row first rest)
@@ -70,12 +71,6 @@ got-more h f xs i x before between after within is so_far one =
     (λ bank. sym (flat_more (f bank) xs i x within is))
     (got-then h (λ bank. flat_map (f bank) (take i xs)) (λ bank. f bank x) before between after so_far one)
 
--- and of all
-pub got-all : {X : Type 0} (h : Header) (f : ℕ → X → List Notice) (xs : List X) (i : ℕ) (before after : List DeskSoFar) → i ≡ length xs → HaveGot h (λ bank. flat_map (f bank) (take i xs)) before after → HaveGot h (λ bank. flat_map (f bank) xs) before after
-got-all h f xs i before after is so_far =
-    got-same h (λ bank. flat_map (f bank) (take i xs)) (λ bank. flat_map (f bank) xs) before after
-    (λ bank. ap (flat_map (f bank)) (ap (λ n. take n xs) is ∙ take_all (length xs) xs (omega arith))) so_far
-
 get_or-replicate : (n bank : ℕ) → get_or (replicate n nothing_yet) bank nothing_yet ≡ nothing_yet
 get_or-replicate zero bank = refl
 get_or-replicate (suc n) zero = refl
@@ -85,14 +80,27 @@ length-replicate : (n : ℕ) → length (replicate n nothing_yet) ≡ n
 length-replicate zero = refl
 length-replicate (suc n) = ap suc (length-replicate n)
 
--- desks that had nothing and got all notices of a history are the desks of it
-pub desks-all : (h : Header) (entries : List Entry) (before after : List DeskSoFar) → before ≡ replicate (bank_count h) nothing_yet → HaveGot h (λ bank. notices bank entries) before after → AreDesksOf h entries after
-desks-all h entries before after none got =
-    let many : length before ≡ bank_count h = ap length none ∙ length-replicate (bank_count h) in record {
-      banks = got.count ∙ many;
-      each = λ bank within.
-          let all : 0 + length (notices bank entries) ≡ length (notices bank entries) = omega arith in
-          got.each bank (subst (λ n. bank < n) (sym many) within)
-          ∙ ap (λ desk. with_notices h desk (notices bank entries)) (ap (λ desks. get_or desks bank nothing_yet) none ∙ get_or-replicate (bank_count h) bank)
-          ∙ with_notices-is h nothing_yet (notices bank entries) ∙ ap (λ n. desk_with n (notice_lines h 0 (notices bank entries))) all;
-    }
+-- a desk that had nothing and got these notices
+desk-of : (h : Header) (ns : List Notice) → with_notices h nothing_yet ns ≡ desk_with (length ns) (notice_lines h 0 ns)
+desk-of h ns =
+    let all : 0 + length ns ≡ length ns = omega arith in
+    with_notices-is h nothing_yet ns ∙ ap (λ n. desk_with n (notice_lines h 0 ns)) all
+
+-- desks without a notice are those of a session before its first command
+pub desks-none : (h : Header) (desks : List DeskSoFar) → desks ≡ replicate (bank_count h) nothing_yet → AreDesksOf h [] desks
+desks-none h desks none = record {
+  banks = ap length none ∙ length-replicate (bank_count h);
+  each = λ bank within. ap (λ all. get_or all bank nothing_yet) none ∙ get_or-replicate (bank_count h) bank;
+}
+
+-- the desks of a history, with the notices of one entry more
+pub desks-more : (h : Header) (entries : List Entry) (e : Entry) (before after : List DeskSoFar) → AreDesksOf h entries before → HaveGot h (λ bank. notices_in bank e) before after → AreDesksOf h (entries ++ e ∷ []) after
+desks-more h entries e before after are got = record {
+  banks = got.count ∙ are.banks;
+  each = λ bank within.
+      got.each bank (subst (λ n. bank < n) (sym are.banks) within)
+      ∙ ap (λ desk. with_notices h desk (notices_in bank e)) (are.each bank within ∙ sym (desk-of h (notices bank entries)))
+      ∙ sym (with_notices-append h nothing_yet (notices bank entries) (notices_in bank e))
+      ∙ ap (with_notices h nothing_yet) (sym (flat_last (notices_in bank) entries e))
+      ∙ desk-of h (notices bank (entries ++ e ∷ []));
+}

@@ -7,4 +7,6 @@ mod Reporting
 mod Shown
 mod Outputs
 mod Gathering
+mod Following
+mod Journals
 mod Levels

@@ -1,5 +1,5 @@
 -- A legal history has an output; what was written of a text tells how the writing of the output ended.
-use Rattle.std.proofs.Common.{ℕ, ◌≡◌, List, [], ◌++◌, Option, Result, Ok, Err, OnOk, IsErrAnd, refl, sym, subst, ◌∙◌, arith}
+use Rattle.std.proofs.Common.{ℕ, ◌≡◌, List, [], ◌++◌, Option, Result, Ok, Err, OnOk, IsErrAnd, refl, ap, sym, subst, ◌∙◌, arith}
 use Rattle.std.specs.List.{flat_map}
 use Rattle.fx_edges.specs.Writing.{Wrote}
 use Rattle.fx_pieces.specs.Gathered.{Gathered}
@@ -24,16 +24,25 @@ pub on_ok : {T E P Q : Type 0} (result : Result T E) → (P → Q) → OnOk resu
 on_ok (Ok value) leads known = leads known
 on_ok (Err e) leads known = tt
 
+-- what is known of a result that is Ok
+pub on_ok_of : {T E P : Type 0} (result : Result T E) → P → OnOk result P
+on_ok_of (Ok value) known = known
+on_ok_of (Err e) known = tt
+
 -- a call that met a fault, handed on by one that had more to write
 pub cut_short : {K T U : Type 0} {written : K → Option (List ℕ)} {faults : K → ℕ} {held : List ℕ} {a : K} {rest : List ℕ} {b : K} {text : List ℕ} {e : SinkFault} (result : Result U SinkFault) (more : List ℕ) → IsErrAnd result (λ fault. fault ≡ e) → Gathered {T = T} written faults held a rest b text (Err e) → Gathered {T = U} written faults held a rest b (text ++ more) result
 cut_short (Ok value) more same wrote = absurd same
 cut_short {U = U} {written = written} {faults = faults} {held = held} {a = a} {rest = rest} {b = b} {text = text} (Err fault) more same wrote =
     subst (λ (e : SinkFault). Gathered {T = U} written faults held a rest b (text ++ more) (Err e)) (sym same) (Gathered-of_longer wrote (IsPrefixOf-append text more))
 
+-- a text that is this one
+pub of_text : {K T : Type 0} {written : K → Option (List ℕ)} {faults : K → ℕ} {held : List ℕ} {a : K} {rest : List ℕ} {b : K} {text same : List ℕ} {result : Result T SinkFault} → text ≡ same → Gathered {T = T} written faults held a rest b text result → Gathered {T = T} written faults held a rest b same result
+of_text {T = T} {written = written} {faults = faults} {held = held} {a = a} {rest = rest} {b = b} {result = result} is wrote =
+    subst (λ (text : List ℕ). Gathered {T = T} written faults held a rest b text result) is wrote
+
 -- lines of the items of a list that is this one
 pub of_items : {K T X : Type 0} {written : K → Option (List ℕ)} {faults : K → ℕ} {held : List ℕ} {a : K} {rest : List ℕ} {b : K} {xs ys : List X} (print : X → List ℕ) (result : Result T SinkFault) → xs ≡ ys → Gathered {T = T} written faults held a rest b (flat_map print xs) result → Gathered {T = T} written faults held a rest b (flat_map print ys) result
-of_items {T = T} {X = X} {written = written} {faults = faults} {held = held} {a = a} {rest = rest} {b = b} print result same wrote =
-    subst (λ (zs : List X). Gathered {T = T} written faults held a rest b (flat_map print zs) result) same wrote
+of_items print result same wrote = of_text (ap (flat_map print) same) wrote
 
 pub day-books : (h : Header) (entries : List Entry) → IsLegal h entries → (books : ℕ → ℕ → LocalBook) × AreBooks h (state h entries) books
 day-books h entries legal = books-exist h (state h entries) legal.session (legal-sound h entries legal)

@@ -8,12 +8,7 @@ use Rattle.fx_rules.specs.declared.outcome.Entry.{Entry}
 use Rattle.fx_rules.specs.Session.{Header, pair_count}
 use Rattle.reply_lines.specs.Books.{LocalBook, book_line, book_lines_below, books_below}
 use Rattle.reply_lines.specs.Notices.{desk_text}
-use Rattle.reply_lines.specs.Output.{entry_line, desks_below}
-
-pub entries-prefix : (h : Header) (entries : List Entry) (i : ℕ) (e : Entry) → i < length entries → e ≡ get_or entries i e → IsPrefixOf (flat_map (entry_line h) (take i entries) ++ entry_line h e) (flat_map (entry_line h) entries)
-entries-prefix h entries i e within is =
-    subst (λ (x : Entry). IsPrefixOf (flat_map (entry_line h) (take i entries) ++ entry_line h x) (flat_map (entry_line h) entries)) (sym is)
-    (IsPrefixOf-flat_map (entry_line h) entries i e within)
+use Rattle.reply_lines.specs.Output.{desks_below}
 
 pub desks-prefix : (h : Header) (entries : List Entry) (bank banks : ℕ) → bank < banks → IsPrefixOf (desks_below h entries bank ++ desk_text h entries bank) (desks_below h entries banks)
 desks-prefix h entries bank zero within = absurd (omega arith)

@@ -1,5 +1,5 @@
 -- Every entry of a legal history can be printed.
-use Rattle.std.proofs.Common.{ℕ, ◌<◌, ◌≡◌, ltb, List, sym, subst, Option, Some, None}
+use Rattle.std.proofs.Common.{ℕ, ◌<◌, ◌≡◌, ltb, List, [], ◌∷◌, ◌++◌, sym, subst, Option, Some, None}
 use Rattle.std.proofs.lemmas.Bool.{cond_both}
 use Rattle.fx_rules.specs.declared.command.Command.{Command}
 use Rattle.fx_rules.specs.declared.command.Command.TheVariants.{Order, Cancel, Reduce, Pull, Line, Show, Book, Bad}
@@ -10,17 +10,18 @@ use Rattle.fx_rules.specs.declared.outcome.Outcome.TheVariants.{Ordered, Killed,
 use Rattle.fx_rules.specs.declared.outcome.Entry.{Entry}
 use Rattle.fx_rules.specs.declared.orders.Fill.{Fill}
 use Rattle.fx_rules.specs.declared.orders.Resting.{Resting}
-use Rattle.fx_rules.specs.Lists.{Each}
 use Rattle.fx_rules.specs.Session.{Header, pair_count}
 use Rattle.fx_rules.specs.State.{State}
 use Rattle.fx_rules.specs.Sweep.{Taker}
 use Rattle.fx_rules.specs.Raise.{order_of}
 use Rattle.fx_rules.specs.Step.{IsCommand, IsOrdered, IsOutcome, taker_of, fills_of, cancel_answer, reduce_answer}
-use Rattle.fx_rules.specs.History.{IsLegal}
+use Rattle.fx_rules.specs.History.{IsLegal, state}
 use Rattle.fx_rules.specs.inside.Trade.{IsTrade}
 use Rattle.fx_rules.proofs.ListLemmas.{Each-weaker}
-use Rattle.fx_rules.proofs.Trading.{Each-legal, step-trades}
-use Rattle.reply_lines.specs.Prints.{IsAnswerOf, IsFillOf, IsEntryOf}
+use Rattle.fx_rules.proofs.Continuing.{legal-last}
+use Rattle.fx_rules.proofs.Soundness.{legal-sound}
+use Rattle.fx_rules.proofs.Trading.{step-trades}
+use Rattle.reply_lines.specs.inside.Prints.{IsAnswerOf, IsFillOf, IsEntryOf}
 
 -- an outcome that is no local book
 answer_plain : (h : Header) (command : Command) (outcome told : Outcome) → outcome ≡ told → IsAnswerOf h command told → IsAnswerOf h command outcome
@@ -64,13 +65,14 @@ outcome-answer h S bank (Bad reason) outcome valid is = answer_plain h (Bad reas
 fill-of : (h : Header) (fill : Fill) → IsTrade h fill → IsFillOf h fill
 fill-of h fill is = record { pair = is.pair; taker = is.taker; maker = is.maker }
 
-pub legal-prints : (h : Header) (entries : List Entry) → IsLegal h entries → Each (IsEntryOf h) entries
-legal-prints h entries legal =
-    Each-legal h (IsEntryOf h)
-    (λ S e sound step. record {
-      sender = step.sender;
-      command = step.command;
-      answer = outcome-answer h S e.bank e.command e.outcome step.command step.outcome;
-      fills = Each-weaker (IsTrade h) (IsFillOf h) (fill-of h) (fills_of e.outcome) (step-trades h S e legal.session sound step);
-    })
-    entries legal
+-- the last entry of a legal history
+pub last-prints : (h : Header) (entries : List Entry) (e : Entry) → IsLegal h (entries ++ e ∷ []) → IsEntryOf h e
+last-prints h entries e legal =
+    let last = legal-last h entries e legal in
+    let S : State = state h entries in
+    record {
+      sender = last.1.sender;
+      command = last.1.command;
+      answer = outcome-answer h S e.bank e.command e.outcome last.1.command last.1.outcome;
+      fills = Each-weaker (IsTrade h) (IsFillOf h) (fill-of h) (fills_of e.outcome) (step-trades h S e legal.session (legal-sound h entries last.0) last.1);
+    }

@@ -1,9 +1,10 @@
 pub mod Rows
 pub mod Notices
 pub mod Books
+pub mod Desks
 pub mod Report
 pub mod Output
-pub mod Prints
+pub mod Day
 pub mod Faults
 pub mod Laws
 pub mod inside

@@ -1,4 +1,5 @@
 pub mod Books
 pub mod Day
 pub mod Desks
+pub mod Prints
 pub mod Report

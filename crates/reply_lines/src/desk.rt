@@ -4,10 +4,11 @@ ghost use Rattle.std.specs.List.{flat_map};
 ghost use Rattle.fx_pieces.specs.Gathered.{Gathered};
 ghost use Rattle.fx_rules.specs.Lists.{Each};
 ghost use Rattle.fx_rules.specs.Session.{bank_count, pair_count};
-ghost use Rattle.reply_lines.specs.inside.Desks.{nothing_yet, with_line, HaveGot, AreDesksOf, IsNoticeTo};
+ghost use Rattle.reply_lines.specs.Desks.{nothing_yet, AreDesksOf};
+ghost use Rattle.reply_lines.specs.inside.Desks.{with_line, HaveGot, IsNoticeTo};
 ghost use Rattle.reply_lines.specs.Notices.{Notice, reply_notices, fill_notices, notices_in, desk_line, desk_text};
 ghost use Rattle.reply_lines.specs.Output.{desks_text};
-ghost use Rattle.reply_lines.specs.Prints.{IsAnswerOf, IsFillOf, IsEntryOf};
+ghost use Rattle.reply_lines.specs.inside.Prints.{IsAnswerOf, IsFillOf, IsEntryOf};
 
 use crate::lines::write_made;
 use crate::notices::{make_desk, make_fill, make_reply};
@@ -27,7 +28,7 @@ pub(crate) struct Desk {
 
 impl Model for Desk {
     ghost use Rattle.std.specs.Prelude.{◌≤◌, vec_len};
-    ghost use Rattle.reply_lines.specs.inside.Desks.{DeskSoFar, desk_with};
+    ghost use Rattle.reply_lines.specs.Desks.{DeskSoFar, desk_with};
 
     ghost Value = { DeskSoFar };
 
@@ -80,25 +81,8 @@ impl Desk {
     }
 }
 
-/// The desks of all banks after a history, gathered in one walk over it.
-pub(crate) fn desks_of(
-    alloc: Global,
-    session: &Session,
-    entries: &[Entry],
-) -> Result<Vec<Desk>, Memory>
-    requires entries { Each (IsEntryOf session.now) entries.now }
-    ensures desks { IfOk result (λ desks. AreDesksOf session.now entries.now desks.items) }
-{
-    let mut desks = no_desks(alloc, session.banks().len())?;
-    let mut line = Vec::new(alloc);
-    for entry in entries {
-        add_entry(session, entry, &mut desks, &mut line)?;
-    }
-    Ok(desks)
-}
-
 /// So many banks' desks, without a notice yet.
-fn no_desks(alloc: Global, banks: usize) -> Result<Vec<Desk>, Memory>
+pub(crate) fn no_desks(alloc: Global, banks: usize) -> Result<Vec<Desk>, Memory>
     ensures none { IfOk result (λ desks. desks.items ≡ replicate banks nothing_yet) }
 {
     let mut desks = Vec::new(alloc);
@@ -109,7 +93,7 @@ fn no_desks(alloc: Global, banks: usize) -> Result<Vec<Desk>, Memory>
 }
 
 /// Adds the notices of an entry: the reply to its sender, and then those of its fills.
-fn add_entry(
+pub(crate) fn add_entry(
     session: &Session,
     entry: &Entry,
     desks: &mut Vec<Desk>,

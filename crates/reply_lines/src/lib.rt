@@ -2,7 +2,10 @@
 #![tactic(auto)]
 
 mod books;
+mod day;
+mod day_notices;
 mod desk;
+mod journal;
 mod laws;
 mod lines;
 mod notices;
@@ -10,5 +13,6 @@ mod output;
 mod report;
 mod row;
 
+pub use day::DayText;
 pub use laws::one_output;
-pub use output::{Ending, OutFault, write_day, write_day_from, write_output, write_output_from};
+pub use output::{Ending, OutFault, write_output};

@@ -4,7 +4,7 @@ ghost use Rattle.fx_amounts.specs.Quantity.{IsDecimals};
 ghost use Rattle.reply_lines.specs.Rows.{row, fields_text, side_text};
 ghost use Rattle.fx_rules.specs.Session.{bank_count, pair_count, bank_name};
 ghost use Rattle.reply_lines.specs.Notices.{booked_pair, level_fields, book_fields, reply_fields, fill_fields, trade_fields, amount_fields};
-ghost use Rattle.reply_lines.specs.Prints.{IsAnswerOf};
+ghost use Rattle.reply_lines.specs.inside.Prints.{IsAnswerOf};
 
 use crate::row::{
     begin_row, begin_word_row, end_row, push_field, push_number_field, push_price_field,

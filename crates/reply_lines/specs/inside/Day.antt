@@ -1,17 +1,40 @@
--- What is found of a history before it is printed.
+-- What is found of a history before its last parts are printed, and what a history has that can be printed.
+use Rattle.std.specs.Prelude.{ℕ, ◌≡◌, List, ◌++◌}
 use Rattle.fx_rules.specs.declared.outcome.Entry.{Entry}
-use Rattle.std.specs.Prelude.{◌≡◌, List}
 use Rattle.fx_rules.specs.Session.{Header}
-use Rattle.fx_rules.specs.History.{state}
+use Rattle.fx_rules.specs.State.{State}
+use Rattle.fx_rules.specs.History.{IsLegal, state}
 use Rattle.day_report.specs.Report.{volumes_of, uses_of, nets_of}
-use Rattle.reply_lines.specs.inside.Desks.{AreDesksOf}
+use Rattle.pair_host.specs.Standing.{StandsFor}
+use Rattle.reply_lines.specs.Books.{LocalBook, books_text}
+use Rattle.reply_lines.specs.Report.{report_text}
+use Rattle.reply_lines.specs.Output.{desks_text}
+use Rattle.reply_lines.specs.Desks.{AreDesksOf}
+use Rattle.reply_lines.specs.Day.{AreNoticesOf, IsTextOf}
 use Rattle.reply_lines.specs.inside.Report.{IsReportOf}
-use Rattle.reply_lines.specs.declared.output.Day.{Day}
+use Rattle.reply_lines.specs.declared.day.DayText.{DayText}
+use Rattle.reply_lines.specs.declared.day_notices.Findings.{Findings}
+use Rattle.reply_lines.specs.declared.journal.Followed.{Followed}
 
 -- the report is that of the state at the end, and each bank's desk has its notices
-pub record IsDayOf (h : Header) (entries : List Entry) (day : Day) : Type 0 where
-  pub report : IsReportOf h day.report
-  pub volumes : day.report.volumes ≡ volumes_of h (state h entries)
-  pub uses : day.report.uses ≡ uses_of h (state h entries)
-  pub nets : day.report.nets ≡ nets_of h (state h entries)
-  pub desks : AreDesksOf h entries day.desks.items
+pub record AreFindingsOf (h : Header) (entries : List Entry) (found : Findings) : Type 0 where
+  pub report : IsReportOf h found.report
+  pub volumes : found.report.volumes ≡ volumes_of h (state h entries)
+  pub uses : found.report.uses ≡ uses_of h (state h entries)
+  pub nets : found.report.nets ≡ nets_of h (state h entries)
+  pub desks : AreDesksOf h entries found.desks.items
+
+-- the entries are a legal history, of which the day tells, and the market stands for the state after it
+pub record IsDayOf {M : Type 0} (stands : M → Header → State → Type 0) (h : Header) (entries : List Entry) (day : DayText) (market : M) : Type 0 where
+  pub legal : IsLegal h entries
+  pub text : IsTextOf h entries day
+  pub at_the_end : stands market h (state h entries)
+
+-- the market stands for the state after these entries, and what they give notice of is told
+pub record HasFollowed (h : Header) (entries : List Entry) (followed : Followed) : Type 0 where
+  pub market : StandsFor h (state h entries) followed.market
+  pub notices : AreNoticesOf h entries followed.notices
+
+-- what stands behind the journal, up to the last lines
+abbrev pub closing_text : Header → List Entry → (ℕ → ℕ → LocalBook) → List ℕ
+closing_text h entries books = desks_text h entries ++ (books_text h books ++ report_text h (state h entries))

@@ -1,24 +1,12 @@
--- Each bank's desk, gathered in one walk over a history.
+-- What private functions and proofs alone say of it, beside `specs/Desks.antt`.
 use Rattle.std.specs.Prelude.{ℕ, ◌≡◌, ◌<◌, ◌+◌, List, [], ◌∷◌, ◌++◌, length, slice_index_or}
 use Rattle.fx_amounts.specs.Numeral.{numeral}
 use Rattle.fx_rules.specs.declared.orders.Fill.{Fill}
-use Rattle.fx_rules.specs.declared.outcome.Entry.{Entry}
-use Rattle.fx_rules.specs.Session.{Header, bank_count}
+use Rattle.fx_rules.specs.Session.{Header}
 use Rattle.reply_lines.specs.declared.desk.Party.{Party}
 use Rattle.reply_lines.specs.Rows.{row}
-use Rattle.reply_lines.specs.Notices.{Notice, notice_line, notice_lines, notices, fill_fields}
-
--- how many notices a desk has so far, and their lines
-pub record DeskSoFar : Type 0 where
-  pub count : ℕ
-  pub lines : List ℕ
-
-abbrev pub desk_with : ℕ → List ℕ → DeskSoFar
-desk_with count lines = record { count = count; lines = lines }
-
--- a desk without a notice
-abbrev pub nothing_yet : DeskSoFar
-nothing_yet = desk_with 0 []
+use Rattle.reply_lines.specs.Notices.{Notice, notice_line, fill_fields}
+use Rattle.reply_lines.specs.Desks.{DeskSoFar, desk_with, nothing_yet}
 
 -- a desk with one line more
 abbrev pub with_line : DeskSoFar → List ℕ → DeskSoFar
@@ -42,9 +30,3 @@ pub record HaveGot (h : Header) (more : ℕ → List Notice) (before after : Lis
   pub count : length after ≡ length before
   pub each : (bank : ℕ) → bank < length before →
       slice_index_or after bank nothing_yet ≡ with_notices h (slice_index_or before bank nothing_yet) (more bank)
-
--- each bank's desk has its notices of a history
-pub record AreDesksOf (h : Header) (entries : List Entry) (desks : List DeskSoFar) : Type 0 where
-  pub banks : length desks ≡ bank_count h
-  pub each : (bank : ℕ) → bank < bank_count h →
-      slice_index_or desks bank nothing_yet ≡ desk_with (length (notices bank entries)) (notice_lines h 0 (notices bank entries))

@@ -1,7 +1,7 @@
 use Rattle.std.proofs.Common.{List}
 use Rattle.fx_pieces.specs.Gathered.{Kept}
 use Rattle.fx_rules.specs.declared.outcome.Entry.{Entry}
-use Rattle.reply_lines.specs.inside.Desks.{AreDesksOf}
+use Rattle.reply_lines.specs.Desks.{AreDesksOf}
 use Rattle.reply_lines.specs.Output.{desks_below}
 use Rattle.reply_lines.proofs.desk.write_desks.Given as goal
 

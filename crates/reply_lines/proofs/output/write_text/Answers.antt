@@ -1,24 +1,64 @@
--- The day that was found and the market are those of the history.
-use Rattle.fx_pieces.proofs.Gathering.{Gathered-wanting}
-use Rattle.reply_lines.specs.Output.{day_text}
-use Rattle.reply_lines.proofs.Printable.{legal-prints}
+-- The market and what is found are those of the history.
+use Rattle.std.proofs.Common.{◌++◌, Err}
+use Rattle.fx_edges.specs.declared.sink.SinkFault.TheVariants.{Memory}
+use Rattle.fx_pieces.proofs.Gathering.{Gathered-then, Gathered-wanting}
+use Rattle.reply_lines.specs.Output.{day_text, journal_text}
+use Rattle.reply_lines.specs.inside.Day.{closing_text}
+use Rattle.reply_lines.proofs.Outputs.{cut_short}
 use Rattle.reply_lines.proofs.output.write_text.Goals as goal
 
-pub write_day_text-requires : goal.write_day_text-requires
-write_day_text-requires g c = record {
-  entries = legal-prints c.args.session.now c.args.entries.now c.requires.legal;
-  market = record { entries = c.args.entries.now; legal = c.requires.legal; at_the_end = c.requires.market };
-  day = c.in-Ok.ensures.day;
-}
+pub into_findings-requires : goal.into_findings-requires
+into_findings-requires g c = record { told = (c.args.entries.now, c.requires.legal, c.in_ok-market.ensures.followed.notices) }
+
+pub write_closing-requires : goal.write_closing-requires
+write_closing-requires g c =
+    let followed = c.in_ok-market.ensures.followed in
+    record {
+      market = record { entries = c.args.entries.now; legal = c.requires.legal; at_the_end = followed.market };
+      found = (c.args.entries.now, c.in-Ok.ensures.found c.args.entries.now followed.notices);
+    }
+
+pub returns-in_err-write_head : goal.returns-in_err-write_head
+unfolding day_text
+returns-in_err-write_head g c =
+    let h = c.args.session.now in
+    let entries = c.args.entries.now in
+    record {
+      wrote = λ books are. cut_short c.from_residual.result (journal_text h entries ++ closing_text h entries books) c.from_residual.ensures.1 c.in_err-write_head.ensures.wrote;
+    }
+
+pub returns-in_err-market : goal.returns-in_err-market
+unfolding day_text
+returns-in_err-market g c =
+    let h = c.args.session.now in
+    let entries = c.args.entries.now in
+    record {
+      wrote = λ books are.
+          Gathered-then c.from_residual-in_err-market.result c.in_ok-write_head.ensures.wrote
+          (cut_short c.from_residual-in_err-market.result (closing_text h entries books) c.from_residual-in_err-market.ensures.1 c.in_err-market.ensures.wrote);
+    }
 
 pub returns-in-Ok : goal.returns-in-Ok
-returns-in-Ok g c = record {
-  wrote = λ books are. c.write_day_text.ensures.wrote books
-      (record { entries = c.args.entries.now; legal = c.requires.legal; at_the_end = c.requires.market; are_books = are });
-}
+unfolding day_text
+returns-in-Ok g c =
+    let entries = c.args.entries.now in
+    let followed = c.in_ok-market.ensures.followed in
+    record {
+      wrote = λ books are.
+          Gathered-then c.write_closing.result c.in_ok-write_head.ensures.wrote
+          (Gathered-then c.write_closing.result c.in_ok-market.ensures.wrote
+          (c.write_closing.ensures.wrote entries books (c.in-Ok.ensures.found entries followed.notices)
+          (record { entries = entries; legal = c.requires.legal; at_the_end = followed.market; are_books = are })));
+    }
 
-pub returns-in-Err : goal.returns-in-Err
-returns-in-Err g c = record {
-  wrote = λ books are. Gathered-wanting g.K.Sink.written g.K.Sink.faults c.args.pieces.now c.args.out.now c.args.pieces.now
-      (day_text c.args.session.now c.args.entries.now books);
-}
+pub returns : goal.returns
+unfolding day_text
+returns g c =
+    let h = c.args.session.now in
+    let entries = c.args.entries.now in
+    record {
+      wrote = λ books are.
+          Gathered-then (Err Memory) c.in_ok-write_head.ensures.wrote
+          (Gathered-then (Err Memory) c.in_ok-market.ensures.wrote
+          (Gathered-wanting g.K.Sink.written g.K.Sink.faults c.write_journal.new.pieces c.write_journal.new.out c.write_journal.new.pieces (closing_text h entries books)));
+    }

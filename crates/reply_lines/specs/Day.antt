@@ -1,0 +1,22 @@
+-- What the output tells of a day so far.
+use Rattle.std.specs.Prelude.{◌≡◌, List, length}
+use Rattle.std.specs.List.{flat_map}
+use Rattle.fx_rules.specs.declared.outcome.Entry.{Entry}
+use Rattle.fx_rules.specs.Session.{Header}
+use Rattle.fx_rules.specs.History.{state}
+use Rattle.day_report.specs.Sums.{AreSumsOf}
+use Rattle.reply_lines.specs.Desks.{AreDesksOf}
+use Rattle.reply_lines.specs.Output.{entry_line}
+use Rattle.reply_lines.specs.declared.day.DayText.{DayText}
+use Rattle.reply_lines.specs.declared.day_notices.DayNotices.{DayNotices}
+
+-- each bank's desk has its notices of these entries, and the sums are those of the state after them
+pub record AreNoticesOf (h : Header) (entries : List Entry) (told : DayNotices) : Type 0 where
+  pub desks : AreDesksOf h entries told.desks.items
+  pub sums : AreSumsOf h (state h entries) told.sums
+
+-- the day tells of these entries: it has their number, their lines of the journal, and what they give notice of
+pub record IsTextOf (h : Header) (entries : List Entry) (day : DayText) : Type 0 where
+  pub count : day.count ≡ length entries
+  pub journal : day.journal.items ≡ flat_map (entry_line h) entries
+  pub notices : AreNoticesOf h entries day.notices

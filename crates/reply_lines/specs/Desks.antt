@@ -1,0 +1,23 @@
+-- Each bank's desk, as it is gathered in one walk over a history.
+use Rattle.std.specs.Prelude.{ℕ, ◌≡◌, ◌<◌, List, [], length, slice_index_or}
+use Rattle.fx_rules.specs.declared.outcome.Entry.{Entry}
+use Rattle.fx_rules.specs.Session.{Header, bank_count}
+use Rattle.reply_lines.specs.Notices.{notice_lines, notices}
+
+-- how many notices a desk has so far, and their lines
+pub record DeskSoFar : Type 0 where
+  pub count : ℕ
+  pub lines : List ℕ
+
+abbrev pub desk_with : ℕ → List ℕ → DeskSoFar
+desk_with count lines = record { count = count; lines = lines }
+
+-- a desk without a notice
+abbrev pub nothing_yet : DeskSoFar
+nothing_yet = desk_with 0 []
+
+-- each bank's desk has its notices of a history
+pub record AreDesksOf (h : Header) (entries : List Entry) (desks : List DeskSoFar) : Type 0 where
+  pub banks : length desks ≡ bank_count h
+  pub each : (bank : ℕ) → bank < bank_count h →
+      slice_index_or desks bank nothing_yet ≡ desk_with (length (notices bank entries)) (notice_lines h 0 (notices bank entries))

@@ -1,0 +1,187 @@
+ghost use Rattle.std.specs.Prelude.{◌≡◌, ℕ, List, [], ◌∷◌, ◌++◌, IfOk, OnOk};
+ghost use Rattle.fx_edges.specs.Writing.{Wrote};
+ghost use Rattle.fx_pieces.specs.Gathered.{Gathered};
+ghost use Rattle.fx_rules.specs.declared.outcome.Entry.{Entry};
+ghost use Rattle.fx_rules.specs.History.{IsLegal, state};
+ghost use Rattle.reply_lines.specs.Books.{LocalBook, AreBooks};
+ghost use Rattle.reply_lines.specs.Faults.{WroteOutput};
+ghost use Rattle.reply_lines.specs.Output.{day_text, journal_line, last_text, IsDayText, IsOutput};
+ghost use Rattle.reply_lines.specs.Day.{IsTextOf};
+ghost use Rattle.reply_lines.specs.inside.Day.{IsDayOf};
+
+use crate::day_notices::DayNotices;
+use crate::journal::{push_entry_line, write_journal_line};
+use crate::output::{Ending, OutFault, write_closing, write_end, write_head};
+use fx_amounts::Memory;
+use fx_edges::{Sink, SinkFault};
+use fx_pieces::Pieces;
+use fx_rules::{Entry, Market, Session};
+use std::alloc::Global;
+
+/// What the output tells of a day so far: the journal's lines, each bank's desk, and the sums over the fills. It keeps no entry.
+#[derive(Drop)]
+pub struct DayText {
+    /// How many entries the journal has.
+    count: usize,
+    /// Their lines.
+    journal: Vec<u8>,
+    notices: DayNotices,
+}
+
+impl DayText {
+    /// The day of a session before its first command. `Memory` for want of memory.
+    pub fn open(alloc: Global, session: &Session) -> Result<DayText, Memory>
+        ensures opens { IfOk result (IsTextOf session.now []) }
+    {
+        Ok(DayText {
+            count: 0,
+            journal: Vec::new(alloc),
+            notices: DayNotices::open(alloc, session)?,
+        })
+    }
+
+    /// Adds the next entry of a legal history. After `Memory` the day is good for nothing more.
+    pub fn add(&mut self, session: &Session, entry: &Entry) -> Result<(), Memory>
+        requires next { (entries : List Entry) × IsLegal session.now (entries ++ entry.now ∷ []) × IsTextOf session.now entries self.old }
+        ensures added { OnOk result ((entries : List Entry) →
+            IsLegal session.now (entries ++ entry.now ∷ []) → IsTextOf session.now entries self.old →
+            IsTextOf session.now (entries ++ entry.now ∷ []) self.new) }
+    {
+        push_entry_line(session, entry, &mut self.journal)?;
+        self.notices.add(session, entry)?;
+        self.count += 1;
+        Ok(())
+    }
+
+    /// Writes the output of the history that the day tells of: header, journal, desks, local books, report and the last lines,
+    /// which tell of the strays and of how the reading ended. The market stands for the state after the history. After a fault
+    /// a prefix of it was appended; the fault is `Write` only where the sink's count of faults rose, and `Memory` only where it
+    /// stayed. The sink gets it in pieces of 64 KiB at least, and the last one. The report is found before the first byte is
+    /// written.
+    pub fn write<M: Market, K: Sink>(
+        self,
+        alloc: Global,
+        session: &Session,
+        market: &M,
+        strays: u64,
+        ending: Ending,
+        out: &mut K,
+    ) -> Result<(), OutFault>
+        requires told { (entries : List Entry) × IsLegal session.now entries × IsTextOf session.now entries self × M.stands market.now session.now (state session.now entries) }
+        ensures wrote { (entries : List Entry) →
+            IsLegal session.now entries → IsTextOf session.now entries self → M.stands market.now session.now (state session.now entries) →
+            WroteOutput K.written K.faults out.old out.new (IsOutput session.now entries strays ending) result }
+    {
+        match self.write_whole(alloc, session, market, strays, ending, out) {
+            Ok(()) => Ok(()),
+            Err(fault) => Err(OutFault::from(fault)),
+        }
+    }
+
+    /// Writes the output without its last lines. Faults are as those of `write`.
+    pub fn write_day<M: Market, K: Sink>(
+        self,
+        alloc: Global,
+        session: &Session,
+        market: &M,
+        out: &mut K,
+    ) -> Result<(), OutFault>
+        requires told { (entries : List Entry) × IsLegal session.now entries × IsTextOf session.now entries self × M.stands market.now session.now (state session.now entries) }
+        ensures wrote { (entries : List Entry) →
+            IsLegal session.now entries → IsTextOf session.now entries self → M.stands market.now session.now (state session.now entries) →
+            WroteOutput K.written K.faults out.old out.new (IsDayText session.now entries) result }
+    {
+        match self.write_part(alloc, session, market, out) {
+            Ok(()) => Ok(()),
+            Err(fault) => Err(OutFault::from(fault)),
+        }
+    }
+
+    /// Writes the output.
+    fn write_whole<M: Market, K: Sink>(
+        self,
+        alloc: Global,
+        session: &Session,
+        market: &M,
+        strays: u64,
+        ending: Ending,
+        out: &mut K,
+    ) -> Result<(), SinkFault>
+        requires told { (entries : List Entry) × IsDayOf M.stands session.now entries self market.now }
+        ensures wrote { (entries : List Entry) (books : ℕ → ℕ → LocalBook) →
+            IsDayOf M.stands session.now entries self market.now → AreBooks session.now (state session.now entries) books →
+            Wrote K.written K.faults out.old out.new (day_text session.now entries books ++ last_text strays ending) result }
+    {
+        let mut line = Vec::new(alloc);
+        let mut pieces = Pieces::new(alloc);
+        match self.write_text(alloc, session, market, &mut line, &mut pieces, out) {
+            Ok(()) => write_end(strays, ending, &mut line, &mut pieces, out),
+            Err(fault) => Err(fault),
+        }
+    }
+
+    /// Writes all but the last lines of the output.
+    fn write_part<M: Market, K: Sink>(
+        self,
+        alloc: Global,
+        session: &Session,
+        market: &M,
+        out: &mut K,
+    ) -> Result<(), SinkFault>
+        requires told { (entries : List Entry) × IsDayOf M.stands session.now entries self market.now }
+        ensures wrote { (entries : List Entry) (books : ℕ → ℕ → LocalBook) →
+            IsDayOf M.stands session.now entries self market.now → AreBooks session.now (state session.now entries) books →
+            Wrote K.written K.faults out.old out.new (day_text session.now entries books) result }
+    {
+        let mut line = Vec::new(alloc);
+        let mut pieces = Pieces::new(alloc);
+        match self.write_text(alloc, session, market, &mut line, &mut pieces, out) {
+            Ok(()) => pieces.hand_on(out),
+            Err(fault) => Err(fault),
+        }
+    }
+
+    /// Writes all but the last lines, of which the last piece is not yet handed on.
+    fn write_text<M: Market, K: Sink>(
+        self,
+        alloc: Global,
+        session: &Session,
+        market: &M,
+        line: &mut Vec<u8>,
+        pieces: &mut Pieces,
+        out: &mut K,
+    ) -> Result<(), SinkFault>
+        requires told { (entries : List Entry) × IsDayOf M.stands session.now entries self market.now }
+        ensures wrote { (entries : List Entry) (books : ℕ → ℕ → LocalBook) →
+            IsDayOf M.stands session.now entries self market.now → AreBooks session.now (state session.now entries) books →
+            Gathered K.written K.faults pieces.old out.old pieces.new out.new (day_text session.now entries books) result }
+    {
+        let DayText {
+            count,
+            journal,
+            notices,
+        } = self;
+        let Ok(found) = notices.into_findings(alloc, session) else {
+            return Err(SinkFault::Memory);
+        };
+        write_head(session, line, pieces, out)?;
+        write_journal_text(count, &journal, line, pieces, out)?;
+        write_closing(session, market, &found, line, pieces, out)
+    }
+}
+
+/// Writes a journal of so many lines.
+fn write_journal_text<K: Sink>(
+    count: usize,
+    lines: &[u8],
+    line: &mut Vec<u8>,
+    pieces: &mut Pieces,
+    out: &mut K,
+) -> Result<(), SinkFault>
+    ensures wrote { Gathered K.written K.faults pieces.old out.old pieces.new out.new (journal_line count ++ lines.now) result }
+{
+    match write_journal_line(count, line, pieces, out) {
+        Ok(()) => pieces.put(lines, out),
+        Err(fault) => Err(fault),
+    }
+}
