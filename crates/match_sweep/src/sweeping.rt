@@ -1,17 +1,18 @@
-ghost use Rattle.std.specs.Prelude.{◌≡◌, ◌≢◌, ◌≤◌, ◌<◌, ◌+◌, ◌*◌, ◌/◌, ◌^◌, [], length, IfOk};
+ghost use Rattle.std.specs.Prelude.{◌≡◌, ◌≢◌, ◌≤◌, ◌<◌, ◌+◌, ◌*◌, ◌/◌, ◌^◌, [], ◌∷◌, length, IfOk};
 ghost use Rattle.fx_amounts.specs.Quantity.{IsWeight};
 ghost use Rattle.fx_rules.specs.Lists.{Each, total};
 ghost use Rattle.credit_lines.specs.Credit.{line_in};
-ghost use Rattle.global_book.specs.Book.{IsBook};
+ghost use Rattle.global_book.specs.Book.{AreOwners, IsBook};
 ghost use Rattle.match_sweep.specs.Takers.{swept_in};
 ghost use Rattle.match_sweep.specs.Sweeps.{IsSweep};
+ghost use Rattle.match_sweep.specs.inside.Heads.{CameBefore, IsOpening};
 ghost use Rattle.match_sweep.specs.inside.Walks.{first_fill};
 
-use crate::opening::find_opening;
+use crate::opening::{Opening, find_opening};
 use crate::taker::Taker;
 use crate::walk::Walk;
 use credit_lines::CreditLines;
-use fx_amounts::Memory;
+use fx_amounts::{BankId, Memory};
 use fx_rules::{Fill, FillList, Plan, Resting, SweptOrder};
 use global_book::PairBook;
 use price_levels::Steps;
@@ -104,6 +105,36 @@ pub fn sweep<L: Ledger>(
             left,
         });
     }
+    walk_on(book, owners, lines, weight, order, &opening, fills, steps)
+}
+
+/// The rest of a sweep behind its first fill. It stands apart, since a function pays for its tables as it begins, and most
+/// sweeps make one fill.
+fn walk_on<L: Ledger>(
+    book: &PairBook,
+    owners: &[BankId],
+    lines: &CreditLines,
+    weight: u32,
+    order: &SweptOrder,
+    opening: &Opening,
+    mut fills: Vec<Fill>,
+    steps: &mut Steps<L>,
+) -> Result<SweepPlan, Memory>
+    requires owners { AreOwners book.now owners.now }
+    requires valid { IsBook book.now }
+    requires opening { IsOpening book.now lines.now weight order.now owners.now opening.now }
+    requires banks { book.now.banks ≡ lines.now.banks }
+    requires bank { order.now.bank < lines.now.banks }
+    requires pair { order.now.pair ≡ book.now.pair }
+    requires weight { IsWeight weight }
+    requires left { 1 ≤ order.now.left }
+    requires first { fills.items ≡ first_fill lines.now weight order.now opening.now.first ∷ [] }
+    ensures sweep { IfOk result (λ sweep. IsSweep book.now lines.now weight order.now sweep.fills sweep.left) }
+    ensures sum { IfOk result (λ sweep. total (λ fill. fill.lots) sweep.fills + sweep.left ≡ order.now.left) }
+    ensures lots { IfOk result (λ sweep. total (λ fill. fill.lots) sweep.fills ≤ 64 * 10 ^ 15) }
+    ensures steps { CameBefore book.now.orders order.now.arrival → IfOk result (λ sweep. steps.new + 1 ≤ steps.old + length owners.now + length sweep.fills) }
+    ensures some { IfOk result (λ sweep. 1 ≤ length sweep.fills) }
+{
     let mut walk = Walk {
         order: *order,
         weight,
@@ -111,7 +142,7 @@ pub fn sweep<L: Ledger>(
         heads: [None; 64],
         last: None,
     };
-    walk.take_first(book, owners, lines, &opening, steps);
+    walk.take_first(book, owners, lines, opening, steps);
     while let Some(fill) = walk.next_fill(book, steps) {
         fills.push(fill)?;
     }

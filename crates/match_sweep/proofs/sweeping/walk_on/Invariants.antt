@@ -2,7 +2,7 @@ use Rattle.std.proofs.Common.{◌≤◌, ◌+◌, length}
 use Rattle.match_sweep.specs.inside.Heads.{CameBefore}
 use Rattle.match_sweep.specs.inside.Walks.{steps_behind}
 use Rattle.match_sweep.proofs.Walking.{Gone}
-use Rattle.match_sweep.proofs.sweeping.sweep.Given as goal
+use Rattle.match_sweep.proofs.sweeping.walk_on.Given as goal
 
 -- the fills are those of the walk so far, a step for each
 abbrev pub invariant-loop-fill : goal.invariant-loop-fill
