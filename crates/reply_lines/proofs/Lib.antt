@@ -7,6 +7,7 @@ mod Reporting
 mod Shown
 mod Outputs
 mod Gathering
+mod Telling
 mod Following
 mod Journals
 mod Levels

@@ -1,5 +1,6 @@
 pub mod Books
 pub mod Day
 pub mod Desks
+pub mod Fills
 pub mod Prints
 pub mod Report

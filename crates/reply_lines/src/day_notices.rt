@@ -5,6 +5,7 @@ ghost use Rattle.reply_lines.specs.Day.{AreNoticesOf};
 ghost use Rattle.reply_lines.specs.inside.Day.{AreFindingsOf};
 
 use crate::desk::{Desk, add_entry, no_desks};
+use crate::notices::FillTexts;
 use day_report::{DaySums, Report};
 use fx_amounts::Memory;
 use fx_rules::{Entry, Session};
@@ -17,6 +18,8 @@ pub(crate) struct DayNotices {
     sums: DaySums,
     /// The last notice that was made; its memory is used again.
     line: Vec<u8>,
+    /// What the notices of the last fill have in common; its memory is used again.
+    texts: FillTexts,
 }
 
 /// What is found of a history once it has ended.
@@ -37,6 +40,7 @@ impl DayNotices {
             desks: no_desks(alloc, session.banks().len())?,
             sums: DaySums::open(alloc, session)?,
             line: Vec::new(alloc),
+            texts: FillTexts::new(alloc),
         })
     }
 
@@ -48,7 +52,13 @@ impl DayNotices {
             AreNoticesOf session.now (entries ++ entry.now ∷ []) self.new) }
     {
         self.sums.follow(session, entry);
-        add_entry(session, entry, &mut self.desks, &mut self.line)
+        add_entry(
+            session,
+            entry,
+            &mut self.desks,
+            &mut self.line,
+            &mut self.texts,
+        )
     }
 
     /// What is found of the history once it has ended.

@@ -3,7 +3,7 @@ ghost use Rattle.fx_rules.specs.declared.outcome.Entry.{Entry};
 ghost use Rattle.std.specs.List.{flat_map};
 ghost use Rattle.fx_pieces.specs.Gathered.{Gathered};
 ghost use Rattle.fx_rules.specs.Lists.{Each};
-ghost use Rattle.fx_rules.specs.Session.{bank_count, pair_count};
+ghost use Rattle.fx_rules.specs.Session.{bank_count};
 ghost use Rattle.reply_lines.specs.Desks.{nothing_yet, AreDesksOf};
 ghost use Rattle.reply_lines.specs.inside.Desks.{with_line, HaveGot, IsNoticeTo};
 ghost use Rattle.reply_lines.specs.Notices.{Notice, reply_notices, fill_notices, notices_in, desk_line, desk_text};
@@ -11,7 +11,7 @@ ghost use Rattle.reply_lines.specs.Output.{desks_text};
 ghost use Rattle.reply_lines.specs.inside.Prints.{IsAnswerOf, IsFillOf, IsEntryOf};
 
 use crate::lines::write_made;
-use crate::notices::{make_desk, make_fill, make_reply};
+use crate::notices::{FillTexts, make_desk, make_fill, make_reply};
 use fx_amounts::{BankId, Memory, Side};
 use fx_edges::{Sink, SinkFault};
 use fx_pieces::Pieces;
@@ -92,19 +92,21 @@ pub(crate) fn no_desks(alloc: Global, banks: usize) -> Result<Vec<Desk>, Memory>
     Ok(desks)
 }
 
-/// Adds the notices of an entry: the reply to its sender, and then those of its fills.
+/// Adds the notices of an entry: the reply to its sender, and then those of its fills. Each is made in the line, those of a fill
+/// from its texts.
 pub(crate) fn add_entry(
     session: &Session,
     entry: &Entry,
     desks: &mut Vec<Desk>,
     line: &mut Vec<u8>,
+    texts: &mut FillTexts,
 ) -> Result<(), Memory>
     requires entry { IsEntryOf session.now entry.now }
     requires desks { length desks.old.items ≡ bank_count session.now }
     ensures ok { OnOk result (HaveGot session.now (λ bank. notices_in bank entry.now) desks.old.items desks.new.items) }
 {
     add_reply(session, entry, desks, line)?;
-    add_fills(session, entry.outcome.fills(), desks, line)
+    add_fills(session, entry.outcome.fills(), desks, line, texts)
 }
 
 /// Adds the reply to an entry to its sender's desk.
@@ -137,13 +139,14 @@ fn add_fills(
     fills: &[Fill],
     desks: &mut Vec<Desk>,
     line: &mut Vec<u8>,
+    texts: &mut FillTexts,
 ) -> Result<(), Memory>
     requires fills { Each (IsFillOf session.now) fills.now }
     requires desks { length desks.old.items ≡ bank_count session.now }
     ensures ok { OnOk result (HaveGot session.now (λ bank. flat_map (fill_notices bank) fills.now) desks.old.items desks.new.items) }
 {
     for fill in fills {
-        add_fill(session, fill, desks, line)?;
+        add_fill(session, fill, desks, line, texts)?;
     }
     Ok(())
 }
@@ -163,11 +166,13 @@ fn add_fill(
     fill: &Fill,
     desks: &mut Vec<Desk>,
     line: &mut Vec<u8>,
+    texts: &mut FillTexts,
 ) -> Result<(), Memory>
     requires fill { IsFillOf session.now fill.now }
     requires desks { length desks.old.items ≡ bank_count session.now }
     ensures ok { OnOk result (HaveGot session.now (λ bank. fill_notices bank fill.now) desks.old.items desks.new.items) }
 {
+    texts.make(session, fill)?;
     let taker = Party {
         bank: fill.taker,
         number: fill.taker_number,
@@ -180,23 +185,22 @@ fn add_fill(
         side: fill.taker_side.opposite(),
         other: fill.taker,
     };
-    add_notice(session, fill, &taker, desks, line)?;
-    add_notice(session, fill, &maker, desks, line)
+    add_notice(session, &taker, texts, desks, line)?;
+    add_notice(session, &maker, texts, desks, line)
 }
 
 /// Adds a fill to the desk of one of its banks.
 fn add_notice(
     session: &Session,
-    fill: &Fill,
     party: &Party,
+    texts: &FillTexts,
     desks: &mut Vec<Desk>,
     line: &mut Vec<u8>,
 ) -> Result<(), Memory>
-    requires pair { fill.now.pair < pair_count session.now }
     requires bank { party.now.bank < length desks.old.items }
     requires other { party.now.other < bank_count session.now }
     ensures ok { OnOk result ((notice : Notice) →
-        IsNoticeTo session.now fill.now party.now notice →
+        IsNoticeTo session.now texts.now party.now notice →
         HaveGot session.now (λ bank. if party.now.bank == bank then notice ∷ [] else []) desks.old.items desks.new.items) }
 {
     let desk = &mut desks[party.bank.index()];
@@ -207,7 +211,7 @@ fn add_notice(
         party.number,
         party.side,
         party.other,
-        fill,
+        texts,
         line,
     )?;
     desk.add(line)

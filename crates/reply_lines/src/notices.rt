@@ -3,14 +3,16 @@ ghost use Rattle.fx_amounts.specs.Numeral.{numeral};
 ghost use Rattle.fx_amounts.specs.Quantity.{IsDecimals};
 ghost use Rattle.reply_lines.specs.Rows.{row, fields_text, side_text};
 ghost use Rattle.fx_rules.specs.Session.{bank_count, pair_count, bank_name};
-ghost use Rattle.reply_lines.specs.Notices.{booked_pair, level_fields, book_fields, reply_fields, fill_fields, trade_fields, amount_fields};
+ghost use Rattle.reply_lines.specs.Notices.{booked_pair, level_fields, book_fields, reply_fields, trade_fields, amount_fields};
+ghost use Rattle.reply_lines.specs.inside.Fills.{AreTextsOf, fill_line};
 ghost use Rattle.reply_lines.specs.inside.Prints.{IsAnswerOf};
 
 use crate::row::{
-    begin_row, begin_word_row, end_row, push_field, push_number_field, push_price_field,
+    begin_row, begin_word_row, end_row, push_field, push_number_field, push_price_field, push_text,
 };
 use fx_amounts::{BankId, Memory, PairId, Side, base_amount, quote_amount};
 use fx_rules::{Command, Fill, Level, Outcome, Session};
+use std::alloc::Global;
 
 // At `Memory` each of these calls leaves the line empty, as those of `row.rt` do.
 
@@ -134,6 +136,36 @@ fn push_levels(decimals: u8, levels: &[Level], line: &mut Vec<u8>) -> Result<(),
     Ok(())
 }
 
+/// What the two notices of a fill have in common, so that it is made once for both.
+#[derive(Drop)]
+pub(crate) struct FillTexts {
+    /// The fill's pair, lots and price, a space before each.
+    trade: Vec<u8>,
+    /// Its base and quote amounts, a space before each.
+    amounts: Vec<u8>,
+}
+
+impl FillTexts {
+    /// Those of no fill yet. It takes no memory.
+    pub(crate) fn new(alloc: Global) -> FillTexts {
+        FillTexts {
+            trade: Vec::new(alloc),
+            amounts: Vec::new(alloc),
+        }
+    }
+
+    /// Makes those of a fill, in place of what there was. After `Memory` they are of no fill.
+    pub(crate) fn make(&mut self, session: &Session, fill: &Fill) -> Result<(), Memory>
+        requires pair { fill.now.pair < pair_count session.now }
+        ensures ok { OnOk result (AreTextsOf session.now fill.now self.new) }
+    {
+        self.trade.clear();
+        push_trade(session, fill, &mut self.trade)?;
+        self.amounts.clear();
+        push_amounts(session, fill, &mut self.amounts)
+    }
+}
+
 /// Makes the line of a fill as one of its banks sees it, with its number on the desk: its own order's number and side,
 /// and the other bank.
 pub(crate) fn make_fill(
@@ -142,19 +174,18 @@ pub(crate) fn make_fill(
     own_number: u32,
     side: Side,
     other: BankId,
-    fill: &Fill,
+    texts: &FillTexts,
     line: &mut Vec<u8>,
 ) -> Result<(), Memory>
-    requires pair { fill.now.pair < pair_count session.now }
     requires other { other < bank_count session.now }
-    ensures ok { OnOk result (line.new.items ≡ row (numeral number) (fill_fields session.now own_number side other fill.now)) }
+    ensures ok { OnOk result (line.new.items ≡ fill_line session.now number own_number side other texts.now) }
     ensures memory { OnErr result (line.new.items ≡ []) }
 {
     begin_row(number, line)?;
     push_own_side(own_number, side, line)?;
-    push_trade(session, fill, line)?;
+    push_text(&texts.trade, line)?;
     push_field(name_of(session, other), line)?;
-    push_amounts(session, fill, line)?;
+    push_text(&texts.amounts, line)?;
     end_row(line)
 }
 

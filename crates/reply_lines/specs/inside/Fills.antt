@@ -1,0 +1,18 @@
+-- What the two notices of a fill have in common, made once for both.
+use Rattle.std.specs.Prelude.{ℕ, ◌≡◌, List, [], ◌∷◌, ◌++◌, codes}
+use Rattle.fx_amounts.specs.Numeral.{numeral}
+use Rattle.fx_amounts.specs.declared.side.Side.{Side}
+use Rattle.fx_rules.specs.declared.orders.Fill.{Fill}
+use Rattle.fx_rules.specs.Session.{Header, bank_name}
+use Rattle.reply_lines.specs.Rows.{fields_text, side_text}
+use Rattle.reply_lines.specs.Notices.{trade_fields, amount_fields}
+use Rattle.reply_lines.specs.declared.notices.FillTexts.{FillTexts}
+
+pub record AreTextsOf (h : Header) (fill : Fill) (texts : FillTexts) : Type 0 where
+  pub trade : texts.trade.items ≡ fields_text (trade_fields h fill)
+  pub amounts : texts.amounts.items ≡ fields_text (amount_fields h fill)
+
+-- the line of a fill, put together from its texts and from what one of its banks sees
+abbrev pub fill_line : Header → ℕ → ℕ → Side → ℕ → FillTexts → List ℕ
+fill_line h number own_number side other texts =
+    numeral number ++ fields_text (codes "FILL" ∷ numeral own_number ∷ side_text side ∷ []) ++ texts.trade.items ++ 32 ∷ bank_name h other ++ texts.amounts.items ++ 10 ∷ []
