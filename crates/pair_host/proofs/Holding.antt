@@ -8,7 +8,7 @@ use Rattle.fx_rules.specs.Session.{Header, bank_count, pair_count}
 use Rattle.fx_rules.specs.State.{State, orders_in}
 use Rattle.global_book.specs.Book.{Book}
 use Rattle.credit_table.specs.Table.{Table, Stands}
-use Rattle.pair_host.specs.Standing.{HostState, StandsFor}
+use Rattle.pair_host.specs.Standing.{HostState, StandsFor, IsBookOf, AreBooksOf}
 use Rattle.pair_host.specs.inside.Books.{IsBookAt, AreBooks, AreHosted, AreEmpty, HaveOrders, EachBook, host_of}
 
 no_book : Book
@@ -37,6 +37,23 @@ stands-by h S books table of = record {
       get_or-map (λ (b : Book). b.orders) books pair no_book [] within' ∙ of.orders pair no_book within';
   credit = of.credit;
 }
+
+-- ---- books that are made before the host is
+
+pub hosted-of : (h : Header) (S : State) (books : List Book) (table : Table) → AreBooksOf h S books → Stands h S table → AreHosted books table
+hosted-of h S books table are credit = record {
+  count = are.count ∙ ap pair_count (sym credit.session);
+  are = λ place none within.
+      let its : IsBookOf h S place (get_or books place none) = are.each place none (omega (arith, are.count, within)) in
+      record { pair = its.made_of; made_for = its.made_for ∙ ap bank_count (sym credit.session) };
+}
+
+pub stands-of : (h : Header) (S : State) (books : List Book) (table : Table) → AreBooksOf h S books → Stands h S table → StandsFor h S (host_of books table)
+stands-of h S books table are credit = stands-by h S books table (record {
+  count = are.count;
+  orders = λ place none within. (are.each place none (omega (arith, are.count, within))).orders;
+  credit = credit;
+})
 
 -- ---- one book changes
 
@@ -125,7 +142,7 @@ same-host books at book new table table' is orders same =
 -- ---- one book more
 
 -- what holds of each book at its place holds with one more at the end
-each-push : (P : ℕ → Book → Type 0) (books : List Book) (book : Book) → ((place : ℕ) (none : Book) → place < length books → P place (get_or books place none)) → P (length books) book
+pub each-push : (P : ℕ → Book → Type 0) (books : List Book) (book : Book) → ((place : ℕ) (none : Book) → place < length books → P place (get_or books place none)) → P (length books) book
     → (place : ℕ) (none : Book) → place < length (books ++ book ∷ []) → P place (get_or (books ++ book ∷ []) place none)
 each-push P books book all last place none within =
     elim (cases_lt place (length books)) [

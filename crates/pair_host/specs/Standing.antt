@@ -2,10 +2,11 @@
 use Rattle.std.specs.Prelude.{ℕ, ◌≡◌, ◌<◌, List, [], length, slice_index_or}
 use Rattle.fx_rules.specs.declared.orders.Resting.{Resting}
 use Rattle.fx_rules.specs.declared.outcome.Entry.{Entry}
-use Rattle.fx_rules.specs.Session.{Header, IsSession, pair_count}
+use Rattle.fx_rules.specs.Session.{Header, IsSession, bank_count, pair_count}
 use Rattle.fx_rules.specs.State.{State, orders_in}
 use Rattle.fx_rules.specs.History.{IsStep, after_entry}
 use Rattle.fx_rules.specs.Sound.{IsSound}
+use Rattle.global_book.specs.Book.{Book}
 use Rattle.credit_table.specs.Table.{Table, Stands}
 
 -- the orders that rest in each pair, in arrival order, the pairs in the order of the header; and the credit table
@@ -36,3 +37,14 @@ pub record IsNextOf (host : HostState) (entry : Entry) : Type 0 where
 abbrev pub FollowsOn : HostState → HostState → Entry → Type 0
 FollowsOn old new entry =
     (h : Header) (S : State) → IsSession h → IsSound h S → StandsFor h S old → IsStep h S entry → StandsFor h (after_entry S entry) new
+
+-- a book is a pair's in a state: it was made for the pair and for the session's banks, and has the pair's orders
+pub record IsBookOf (h : Header) (S : State) (pair : ℕ) (book : Book) : Type 0 where
+  pub made_of : book.pair ≡ pair
+  pub made_for : book.banks ≡ bank_count h
+  pub orders : book.orders ≡ orders_in pair S.orders
+
+-- the books of all pairs in a state, in the order of the header
+pub record AreBooksOf (h : Header) (S : State) (books : List Book) : Type 0 where
+  pub count : length books ≡ pair_count h
+  pub each : (pair : ℕ) (none : Book) → pair < pair_count h → IsBookOf h S pair (slice_index_or books pair none)
