@@ -1,4 +1,5 @@
 pub mod Staying
 pub mod Keeping
+pub mod Room
 pub mod Signing
 pub mod Lines

@@ -1,19 +1,19 @@
 -- Who signs the entry of a command in one pair: its sender and the pair, and nobody else.
-use Rattle.std.proofs.Common.{ℕ, ◌≡◌, ◌≢◌, ◌+◌, ◌<◌, ◌^◌, ◌==◌, true, false, List, [], ◌∷◌, ◌++◌, Some, ap, sym, subst, ◌∙◌, eq-eqb, ne_eqb, arith}
+use Rattle.std.proofs.Common.{ℕ, ◌≡◌, ◌≢◌, ◌<◌, ◌^◌, ◌==◌, true, false, List, [], ◌∷◌, ◌++◌, Some, refl, ap, sym, subst, ◌∙◌, eq-eqb, ne_eqb, arith}
 use mathlib.Core.List.{IsPrefix}
 use Rattle.fx_rules.specs.declared.command.Command.{Command}
 use Rattle.fx_rules.specs.declared.command.Command.TheVariants.{Order, Cancel, Reduce, Pull, Line, Show, Book, Bad}
 use Rattle.fx_rules.specs.declared.outcome.Outcome.{Outcome}
 use Rattle.fx_rules.specs.declared.outcome.Entry.{Entry}
-use Rattle.fx_rules.specs.Session.{Header, IsSession, pair_count, sender_count}
+use Rattle.fx_rules.specs.Session.{Header, pair_count, sender_count}
 use Rattle.fx_rules.specs.Step.{IsCommand, IsOutcome}
 use Rattle.fx_rules.specs.History.{IsLegal, state, own}
 use Rattle.fx_rules.specs.Keyed.{pair_key, is_about, touches_key}
+use Rattle.fx_rules.proofs.Continuing.{legal-last}
 use Rattle.fx_rules.proofs.KeyedLemmas.{touches-pair, touches-other}
 use Rattle.fx_chronicle.specs.Touching.{touched, pends, without}
 use Rattle.fx_chronicle.specs.Faces.{Witness, witness}
 use Rattle.fx_chronicle.proofs.Pending.{pends-touched, pends-without, signed_by_two}
-use Rattle.global_book.specs.Book as books
 use Rattle.pair_steps.specs.declared.sender.Sender.{Sender}
 use Rattle.pair_steps.specs.Sending.{IsNextIn, pair_of}
 use Rattle.pair_steps.specs.Carries.{entry_of}
@@ -22,6 +22,7 @@ use Rattle.credit_book.specs.Recorded.{Recorded, IsCreditBook, key_count, record
 use Rattle.credit_book.specs.Serving.{IsServed}
 use Rattle.credit_book.proofs.Entering.{goes_on, served}
 use Rattle.pair_shards.specs.Shards.{PairState, IsShard}
+use Rattle.pair_shards.specs.inside.Shards.{IsPrepared}
 
 -- ---- which pair a command is about
 
@@ -51,35 +52,55 @@ about_other (Line bank limit) pair key is apart = cc
 about_other (Show bank) pair key is apart = cc
 about_other (Bad reason) pair key is apart = cc
 
--- ---- who signs
+-- ---- the entry that is prepared
 
--- A shard and a pass whose bank's command is about its pair: `shard` and `pass` as the call began, the keys as they are when they
--- sign.
-pub record AreKeys (h : Header) (shard : PairState) (pass : Witness Entry) (entry : Entry) (pass_key front_key : ℕ) : Type 0 where
-  pub pass_is : pass_key ≡ pass.key
-  pub bank_is : entry.bank ≡ pass.key
-  pub bank : entry.bank < 65
-  pub about : pair_of entry.command ≡ Some shard.book.pair
-  pub front_is : front_key ≡ pair_key shard.book.pair
-  pub pair : shard.book.pair < pair_count h
-
-pub are_keys : (h : Header) (shard caught kept : PairState) (pass mid : Witness Entry) (entry : Entry) → IsShard h caught → caught.book ≡ shard.book → kept.front ≡ caught.front → mid ≡ pass → entry.bank ≡ pass.key → entry.bank < sender_count h → pair_of entry.command ≡ Some shard.book.pair → IsSession h
-    → AreKeys h shard pass entry mid.key kept.front.key
-are_keys h shard caught kept pass mid entry is book_is front_is mid_is bank_is sends about session = record {
-  pass_is = ap (λ (w : Witness Entry). w.key) mid_is;
+-- `first` is the credit book as the call began, `mid` once the sender is known
+pub prepared : (h : Header) (first mid : Recorded) (sender : Sender) (key : ℕ) (command : Command) (outcome copy : Outcome) → mid ≡ first → IsCreditBook h mid → IsNextIn (state h first.history.entries) sender → sender.bank ≡ key → sender.bank < sender_count h → sender.number < 2 ^ 32 → IsCommand h key command
+    → IsOutcome h (state h mid.history.entries) sender.bank command outcome → copy ≡ outcome → IsPrepared h first.history.entries key command sender (entry_of sender command copy) outcome
+prepared h first mid sender key command outcome copy same kept next bank_is sends most may is copied = record {
+  next = next;
   bank_is = bank_is;
-  bank = omega (arith, sends, session.banks_most);
-  about = about;
-  front_is = ap (λ (w : Witness Entry). w.key) front_is ∙ is.key ∙ ap (λ (b : books.Book). pair_key b.pair) book_is;
-  pair = subst (λ (b : books.Book). b.pair < pair_count h) book_is is.pair;
+  made_of = ap (entry_of sender command) copied;
+  legal = goes_on h first.history.entries sender key command outcome copy (subst (λ (b : Recorded). IsLegal h b.history.entries) same kept.legal) next bank_is sends most may
+      (subst (λ (b : Recorded). IsOutcome h (state h b.history.entries) sender.bank command outcome) same is) copied;
 }
 
+-- it is the last, once it is entered, behind what a shard that had caught up has seen
+pub is_last : (h : Header) (caught now after : Recorded) (front : Witness Entry) (bank pass_key : ℕ) (command : Command) (sender : Sender) (entry : Entry) (outcome : Outcome) {places : ℕ} → now ≡ record caught { history = record caught.history { room = places } } → after ≡ signed_by pass_key (recorded now entry)
+    → front.seen ≡ caught.history.entries → IsPrepared h caught.history.entries bank command sender entry outcome → after.history.entries ≡ front.seen ++ entry_of sender command outcome ∷ []
+is_last h caught now after front bank pass_key command sender entry outcome now_is after_is seen_is is =
+    ap (λ (b : Recorded). b.history.entries) after_is
+    ∙ ap (λ (b : Recorded). b.history.entries ++ entry ∷ []) now_is
+    ∙ ap (λ (es : List Entry). es ++ entry ∷ []) (sym seen_is)
+    ∙ ap (λ (e : Entry). front.seen ++ e ∷ []) is.made_of
+
+-- ---- who signs
+
+-- the keys of a pass and of a shard, whose entry this is, as they sign
+pub record AreKeys (h : Header) (pair : ℕ) (entry : Entry) (pass_key front_key : ℕ) : Type 0 where
+  pub bank_is : entry.bank ≡ pass_key
+  pub bank : entry.bank < 65
+  pub about : pair_of entry.command ≡ Some pair
+  pub front_is : front_key ≡ pair_key pair
+  pub within : pair < pair_count h
+
+pub are_keys : (h : Header) (shard : PairState) (before : List Entry) (bank pass_key : ℕ) (command : Command) (sender : Sender) (entry : Entry) (outcome : Outcome) → IsShard h shard → IsPrepared h before bank command sender entry outcome → pair_of command ≡ Some shard.book.pair → pass_key ≡ bank
+    → AreKeys h shard.book.pair entry pass_key shard.front.key
+are_keys h shard before bank pass_key command sender entry outcome kept is about pass_is =
+    let last = legal-last h before entry is.legal in
+    record {
+      bank_is = ap (λ (e : Entry). e.bank) is.made_of ∙ is.bank_is ∙ sym pass_is;
+      bank = omega (arith, last.1.sender, last.0.session.banks_most);
+      about = ap (λ (e : Entry). pair_of e.command) is.made_of ∙ about;
+      front_is = kept.key;
+      within = kept.pair;
+    }
+
 -- once its sender has signed, the pair has to
-pub pair_pends : (h : Header) (shard : PairState) (pass : Witness Entry) (entry : Entry) (pass_key front_key : ℕ) (credit new : Recorded) → AreKeys h shard pass entry pass_key front_key → credit.history.keys ≡ key_count h → new ≡ signed_by pass_key (recorded credit entry) → pends new.history.pending front_key ≡ true
-pair_pends h shard pass entry pass_key front_key credit new keys count new_is =
-    let pair : ℕ = shard.book.pair in
-    let apart : front_key ≢ pass_key = λ same. omega (arith, same, keys.front_is, keys.pass_is, keys.bank_is, keys.bank) in
-    let below : front_key < key_count h = omega (arith, keys.front_is, keys.pair) in
+pub pair_pends : (h : Header) (pair : ℕ) (entry : Entry) (pass_key front_key : ℕ) (credit new : Recorded) → AreKeys h pair entry pass_key front_key → credit.history.keys ≡ key_count h → new ≡ signed_by pass_key (recorded credit entry) → pends new.history.pending front_key ≡ true
+pair_pends h pair entry pass_key front_key credit new keys count new_is =
+    let apart : front_key ≢ pass_key = λ same. omega (arith, same, keys.front_is, keys.bank_is, keys.bank) in
+    let below : front_key < key_count h = omega (arith, keys.front_is, keys.within) in
     ap (λ (b : Recorded). pends b.history.pending front_key) new_is
     ∙ pends-without pass_key front_key (touched touches_key entry credit.history.keys) apart
     ∙ ap (λ n. pends (touched touches_key entry n) front_key) count
@@ -88,32 +109,25 @@ pair_pends h shard pass entry pass_key front_key credit new keys count new_is =
     ∙ touches-pair entry pair (about_pair entry.command pair keys.about)
 
 -- and nobody else
-pub signed_by_both : (h : Header) (shard : PairState) (pass : Witness Entry) (entry : Entry) (pass_key front_key : ℕ) (credit mid new : Recorded) → AreKeys h shard pass entry pass_key front_key → mid ≡ signed_by pass_key (recorded credit entry) → new ≡ signed_by front_key mid → new.history.pending ≡ []
-signed_by_both h shard pass entry pass_key front_key credit mid new keys mid_is new_is =
+pub signed_by_both : (h : Header) (pair : ℕ) (entry : Entry) (pass_key front_key : ℕ) (credit mid new : Recorded) → AreKeys h pair entry pass_key front_key → mid ≡ signed_by pass_key (recorded credit entry) → new ≡ signed_by front_key mid → new.history.pending ≡ []
+signed_by_both h pair entry pass_key front_key credit mid new keys mid_is new_is =
     ap (λ (b : Recorded). b.history.pending) new_is
     ∙ ap (λ (b : Recorded). without front_key b.history.pending) mid_is
     ∙ signed_by_two touches_key entry credit.history.keys pass_key front_key
-    (λ k below apart other. touches-other entry k (λ same. apart (same ∙ keys.bank_is ∙ sym keys.pass_is)) (about_other entry.command shard.book.pair k keys.about (λ same. other (same ∙ sym keys.front_is))))
+    (λ k below apart other. touches-other entry k (λ same. apart (same ∙ keys.bank_is)) (about_other entry.command pair k keys.about (λ same. other (same ∙ sym keys.front_is))))
 
--- ---- the entry that is made
+-- ---- what it is to the history and the pass
 
--- `caught` is the credit book once the shard has caught up, `mid` when the answer is found, `now` once room is made
-pub made : (h : Header) (caught mid now : Recorded) (sender : Sender) (key : ℕ) (command : Command) (outcome copy : Outcome) {places : ℕ} → mid ≡ caught → IsCreditBook h mid → IsNextIn (state h caught.history.entries) sender → sender.bank ≡ key → sender.bank < sender_count h → sender.number < 2 ^ 32 → IsCommand h key command
-    → IsOutcome h (state h mid.history.entries) sender.bank command outcome → copy ≡ outcome → now ≡ record mid { history = record mid.history { room = places } } → IsLegal h (now.history.entries ++ entry_of sender command copy ∷ [])
-made h caught mid now sender key command outcome copy mid_is book next bank_is sends most may is copied now_is =
-    subst (λ (es : List Entry). IsLegal h (es ++ entry_of sender command copy ∷ [])) (sym (ap (λ (b : Recorded). b.history.entries) now_is))
-    (goes_on h mid.history.entries sender key command outcome copy book.legal (subst (λ (b : Recorded). IsNextIn (state h b.history.entries) sender) (sym mid_is) next) bank_is sends most may is copied)
-
--- and what it is to the history and the pass; `first` is the credit book as the call began, `after` once the entry is recorded, `last`
--- once all have signed
-pub serves : (h : Header) (first caught mid now after last : Recorded) (pass met pass' : Witness Entry) (sender : Sender) (command : Command) (outcome copy : Outcome) (pass_key front_key : ℕ) {places : ℕ} → caught ≡ first → mid ≡ caught → IsCreditBook h mid → IsNextIn (state h caught.history.entries) sender → sender.bank ≡ pass.key → copy ≡ outcome
-    → now ≡ record mid { history = record mid.history { room = places } } → met ≡ pass → IsLegal h (now.history.entries ++ entry_of sender command copy ∷ []) → after ≡ signed_by pass_key (recorded now (entry_of sender command copy)) → last ≡ signed_by front_key after
-    → IsPrefix met.seen now.history.entries → own met.key now.history.entries ≡ own met.key met.met → pass' ≡ witness met.key (now.history.entries ++ entry_of sender command copy ∷ []) → IsServed h first.history.entries pass command last.history.entries pass' outcome
-serves h first caught mid now after last pass met pass' sender command outcome copy pass_key front_key caught_is mid_is book next bank_is copied now_is met_is legal after_is last_is begins owns pass_is =
-    let e : Entry = entry_of sender command copy in
-    let mid_entries : mid.history.entries ≡ first.history.entries = ap (λ (b : Recorded). b.history.entries) (mid_is ∙ caught_is) in
-    let entries : now.history.entries ≡ first.history.entries = ap (λ (b : Recorded). b.history.entries) now_is ∙ mid_entries in
-    served h first.history.entries now.history.entries last.history.entries pass met pass' sender command outcome copy entries met_is
-    (subst (IsLegal h) mid_entries book.legal) (subst (λ (es : List Entry). IsLegal h (es ++ e ∷ [])) entries legal)
-    (subst (λ (b : Recorded). IsNextIn (state h b.history.entries) sender) caught_is next) bank_is copied begins owns
-    (ap (λ (b : Recorded). b.history.entries) last_is ∙ ap (λ (b : Recorded). b.history.entries) after_is) pass_is
+-- `first` is the credit book as the call began, `caught` once the shard has caught up, `now` once the history has room; `met` is the
+-- pass as it enters the entry
+pub serves : (h : Header) (first caught now : Recorded) (after : List Entry) (pass met pass' : Witness Entry) (sender : Sender) (command : Command) (entry : Entry) (outcome : Outcome) {places : ℕ} → caught ≡ first → now ≡ record caught { history = record caught.history { room = places } } → met ≡ pass
+    → IsPrepared h caught.history.entries pass.key command sender entry outcome → IsPrefix met.seen now.history.entries → own met.key now.history.entries ≡ own met.key met.met → after ≡ now.history.entries ++ entry ∷ [] → pass' ≡ witness met.key (now.history.entries ++ entry ∷ [])
+    → IsServed h first.history.entries pass command after pass' outcome
+serves h first caught now after pass met pass' sender command entry outcome caught_is now_is met_is is begins owns after_is pass_is =
+    let start : now.history.entries ≡ caught.history.entries = ap (λ (b : Recorded). b.history.entries) now_is in
+    let e : Entry = entry_of sender command outcome in
+    let with_entry : now.history.entries ++ entry ∷ [] ≡ now.history.entries ++ e ∷ [] = ap (λ (last : Entry). now.history.entries ++ last ∷ []) is.made_of in
+    subst (λ (b : Recorded). IsServed h b.history.entries pass command after pass' outcome) caught_is
+    (served h caught.history.entries now.history.entries after pass met pass' sender command outcome outcome start met_is
+    (legal-last h caught.history.entries entry is.legal).0 (subst (λ (last : Entry). IsLegal h (caught.history.entries ++ last ∷ [])) is.made_of is.legal)
+    is.next is.bank_is refl begins owns (after_is ∙ with_entry) (pass_is ∙ ap (witness met.key) with_entry))

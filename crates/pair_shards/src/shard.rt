@@ -1,4 +1,5 @@
 ghost use Rattle.std.specs.Prelude.{◌≡◌, ◌<◌, ◌+◌, ◌-◌, ◌^◌, ◌++◌, [], ◌∷◌, true, Some, length, IfOk, OnOk, OnErr};
+ghost use Rattle.std.specs.Sync.Mutex.{mutex_guard_value};
 ghost use Rattle.fx_rules.specs.Session.{pair_count, sender_count};
 ghost use Rattle.fx_rules.specs.Keyed.{pair_key};
 ghost use Rattle.fx_rules.specs.Step.{IsCommand, IsOutcome};
@@ -8,19 +9,21 @@ ghost use Rattle.fx_chronicle.specs.Faces.{witness};
 ghost use Rattle.pair_steps.specs.Sending.{IsNextIn, pair_of};
 ghost use Rattle.pair_steps.specs.Carries.{HasRoomFor, entry_of};
 ghost use Rattle.credit_raise.specs.UnderWay.{IsUnderWay, command_of};
-ghost use Rattle.credit_book.specs.Recorded.{signed_by};
+ghost use Rattle.credit_book.specs.Recorded.{IsCreditBook, signed_by};
 ghost use Rattle.credit_book.specs.Serving.{IsServed};
-ghost use Rattle.pair_shards.specs.Shards.{AreOfLast, IsShard};
+ghost use Rattle.pair_shards.specs.Shards.{AreOfLast, HasRoomOf, IsShard};
+ghost use Rattle.pair_shards.specs.inside.Shards.{IsPrepared};
 
-use credit_book::{CreditBook, Pass};
+use credit_book::{CreditBook, Pass, SignedBook};
 use credit_raise::Raising;
-use fx_amounts::{Memory, PairId};
+use fx_amounts::{BankId, Memory, PairId};
 use fx_chronicle::{Front, Naming};
 use fx_rules::{Command, Entry, Outcome, Plan, Session};
 use global_book::PairBook;
 use pair_steps::Sender;
 use std::alloc::Global;
 use std::marker::Model;
+use std::sync::MutexGuard;
 
 /// A pair's book, and the front of the pair's key. Contracts see both. The book is the pair's in the state after the entries that the
 /// front has seen.
@@ -38,6 +41,15 @@ impl<N: Naming> Model for Shard<N> {
     ghost view = { λ s. record { book = s.book; front = s.front } };
 
     ghost invariant = { λ s. IsShard N.session (record { book = s.book; front = s.front }) };
+}
+
+/// A command in a pair with its answer. Nothing is made of it yet.
+struct Prepared {
+    sender: Sender,
+    /// Its entry.
+    entry: Entry,
+    /// What its bank is told.
+    outcome: Outcome,
 }
 
 impl<N: Naming> Shard<N> {
@@ -87,6 +99,25 @@ impl<N: Naming> Shard<N> {
         credit.catch_up(&mut self.front);
     }
 
+    /// Makes room in the book for what may come to rest of a bank's command. The book's orders stay as they are. At `Memory` there
+    /// may be none.
+    pub fn make_room(&mut self, bank: BankId, command: &Command) -> Result<(), Memory>
+        requires bank { bank < sender_count N.session }
+        ensures has_room { OnOk result (HasRoomOf self.new.book bank command.now) }
+        ensures orders { self.new.book.orders ≡ self.old.book.orders }
+        ensures pair { self.new.book.pair ≡ self.old.book.pair }
+        ensures front { self.new.front ≡ self.old.front }
+        ensures kept { IsShard N.session self.new }
+    {
+        // The room is the bank's, whatever its command's number will be.
+        let sender = Sender {
+            bank,
+            number: 1,
+            arrival: 0,
+        };
+        pair_steps::reserve(&mut self.book, &sender, command)
+    }
+
     /// Serves a bank's command in its pair: an order, a cancel, a reduction, a pull or a local book. It catches up first; then all
     /// memory is taken before anything changes, so that after `Memory` the book's orders, the credit book and the pass are as
     /// they were.
@@ -110,6 +141,72 @@ impl<N: Naming> Shard<N> {
         ensures book_memory { OnErr result (self.new.book.orders ≡ self.old.book.orders) }
     {
         self.catch_up(credit);
+        self.make_room(pass.bank(), command)?;
+        let Prepared {
+            sender,
+            entry,
+            outcome,
+        } = self.prepare(alloc, credit, pass, command)?;
+        credit.enter(pass, entry);
+        self.settle(credit, &sender, command, &outcome);
+        Ok(outcome)
+    }
+
+    /// Serves a bank's command in its pair, as `serve` does, with the credit book as it lies behind its lock. The lock is given back
+    /// once the command's entry is recorded and signed, and the book is changed without it. Room was made in the book
+    /// before. After `Memory` the book's orders, the credit book and the pass are as they were.
+    pub fn serve_under(
+        &mut self,
+        alloc: Global,
+        mut credit: MutexGuard<'_, SignedBook<N>>,
+        pass: &mut Pass<N>,
+        command: &Command,
+    ) -> Result<Outcome, Memory>
+        requires command { IsCommand N.session pass.old.key command.now }
+        requires pair { pair_of command.now ≡ Some self.old.book.pair }
+        requires few { length (own pass.old.key pass.old.met) < 2 ^ 32 - 1 }
+        requires room { HasRoomOf self.old.book pass.old.key command.now }
+        ensures served { IfOk result (IsServed N.session (mutex_guard_value credit.entry).book.history.entries pass.old command.now pass.new.seen pass.new) }
+        ensures front { OnOk result (self.new.front ≡ witness self.old.front.key pass.new.seen) }
+        ensures pair { self.new.book.pair ≡ self.old.book.pair }
+        ensures pass_memory { OnErr result (pass.new ≡ pass.old) }
+        ensures book_memory { OnErr result (self.new.book.orders ≡ self.old.book.orders) }
+    {
+        let credit_book = &mut credit.book;
+        self.catch_up(credit_book);
+        let Prepared {
+            sender,
+            entry,
+            outcome,
+        } = self.prepare(alloc, credit_book, pass, command)?;
+        credit_book.enter(pass, entry);
+        credit_book.sign(&mut self.front);
+        drop(credit);
+        pair_steps::carry_out(&mut self.book, &sender, command, &outcome);
+        Ok(outcome)
+    }
+
+    /// The entry of a command in its pair, once it has caught up, and what its bank is told. It takes the memory for both, and the
+    /// history's room. Nothing changes.
+    fn prepare(
+        &self,
+        alloc: Global,
+        credit: &mut CreditBook<N>,
+        pass: &mut Pass<N>,
+        command: &Command,
+    ) -> Result<Prepared, Memory>
+        requires signed { credit.old.history.pending ≡ [] }
+        requires caught_up { self.now.front.seen ≡ credit.old.history.entries }
+        requires command { IsCommand N.session pass.old.key command.now }
+        requires pair { pair_of command.now ≡ Some self.now.book.pair }
+        requires few { length (own pass.old.key pass.old.met) < 2 ^ 32 - 1 }
+        ensures prepared { IfOk result (λ prepared. IsPrepared N.session credit.old.history.entries pass.old.key command.now prepared.sender prepared.entry prepared.outcome) }
+        ensures value { credit.new ≡ record credit.old { history = record credit.old.history { room = credit.new.history.room } } }
+        ensures room { OnOk result (0 < credit.new.history.room) }
+        ensures memory { OnErr result (credit.new ≡ credit.old) }
+        ensures pass { pass.new ≡ pass.old }
+        ensures kept { IsCreditBook N.session credit.new }
+    {
         let sender = credit.sender(pass);
         let outcome = self.answer(alloc, credit, &sender, command)?;
         let entry = Entry {
@@ -118,11 +215,12 @@ impl<N: Naming> Shard<N> {
             command: *command,
             outcome: outcome.copy()?,
         };
-        self.reserve(&sender, command)?;
         credit.reserve()?;
-        credit.enter(pass, entry);
-        self.settle(credit, &sender, command, &outcome);
-        Ok(outcome)
+        Ok(Prepared {
+            sender,
+            entry,
+            outcome,
+        })
     }
 
     /// The market's answer to a command in its pair, once it has caught up. Nothing changes.
@@ -141,17 +239,6 @@ impl<N: Naming> Shard<N> {
     {
         let weight = credit.weight(self.book.pair());
         pair_steps::answer(alloc, &self.book, credit.lines(), weight, sender, command)
-    }
-
-    /// Makes room in the book for what may come to rest of a command.
-    fn reserve(&mut self, sender: &Sender, command: &Command) -> Result<(), Memory>
-        requires sender { sender.now.bank < sender_count N.session }
-        ensures has_room { OnOk result (HasRoomFor self.new.book sender.now command.now) }
-        ensures orders { self.new.book.orders ≡ self.old.book.orders }
-        ensures pair { self.new.book.pair ≡ self.old.book.pair }
-        ensures front { self.new.front ≡ self.old.front }
-    {
-        pair_steps::reserve(&mut self.book, sender, command)
     }
 
     /// Signs the entry of a command in its pair, the last one, and makes what came of it in the book.
@@ -213,5 +300,13 @@ impl<N: Naming> Shard<N> {
     {
         credit.sign(&mut self.front);
         match_sweep::carry(&mut self.book, plan);
+    }
+
+    /// Its book.
+    pub fn into_book(self) -> PairBook
+        ensures value { result ≡ self.book }
+        ensures kept { IsShard N.session self }
+    {
+        self.book
     }
 }
