@@ -50,7 +50,7 @@ pub(crate) struct ShardRoom<N: Naming> {
 }
 
 impl<N: Naming> Host<N> {
-    /// A command in one pair: it has the pair's lock, and then the credit lock.
+    /// A command in one pair: it has the pair's lock, and beside it the credit lock until its entry is recorded.
     fn serve_in<R: Wait, G: Gate>(
         &self,
         rt: &R,
@@ -69,8 +69,9 @@ impl<N: Naming> Host<N> {
         let _turn = self.turn.read(rt);
         let mut shard = lock_pair(rt, &self.shards, pair);
         gate.inside(rt, pair);
-        let mut credit = lock_soon(rt, &self.credit);
-        shard.serve(self.alloc, &mut credit.book, pass, command)
+        shard.make_room(pass.bank(), command)?;
+        let credit = lock_soon(rt, &self.credit);
+        shard.serve_under(self.alloc, credit, pass, command)
     }
 
     /// A credit change: it keeps the commands in pairs out, and then has the credit lock. It asks for each pair's lock as the

@@ -1,8 +1,9 @@
 //! The host with a lock for each pair and one for the credit book: any threads may submit, those of different pairs side by
 //! side, and what they are told is one legal history.
 //!
-//! A command in a pair takes its pair's lock, then the credit lock. A credit change, which is about all pairs, keeps every
-//! command of a pair out while it works. A show command and a line that could not be read take the credit lock alone.
+//! A command in a pair takes its pair's lock, then the credit lock, which it gives back before it changes the pair's book. A credit
+//! change, which is about all pairs, keeps every command of a pair out while it works. A show command and a line that could not be
+//! read take the credit lock alone.
 #![tactic(auto)]
 
 mod change;
