@@ -8,7 +8,7 @@ ghost use Rattle.order_store.specs.Orders.{order_at};
 ghost use Rattle.fx_rules.specs.Sweep.{IsBest, is_order};
 ghost use Rattle.global_book.specs.Book.{AreInTime, AreOwners, HasRoom, KeepsRoom, IsBook, IsPlaceOf, IsPriceOf, Rests, RestsAbove, first, is_of, is_of_from, levels_of, TakesRoom, owned, relotted, sought};
 ghost use Rattle.global_book.specs.Lowered.{lowered_in};
-ghost use Rattle.global_book.specs.inside.Moves.{AreOfBook, Moves};
+ghost use Rattle.global_book.specs.inside.Moves.{AreOfOneBook, Moves};
 ghost use Rattle.global_book.specs.inside.Search.{end_of};
 ghost use Rattle.global_book.specs.inside.Rows.{is_own};
 
@@ -397,7 +397,7 @@ fn lower_at(
 )
     requires at { order_at orders.old key.0 ≡ Some order.now }
     requires less { left < order.now.left }
-    requires own { (own : List OwnRows) × AreOfBook orders.old own levels.old }
+    requires own { (own : List OwnRows) × AreOfOneBook orders.old own levels.old }
     ensures moves { (own : List OwnRows) → Moves (map (relotted order.now.bank order.now.number left)) orders.old orders.new own own levels.old levels.new }
 {
     let gone = order.left.count() - left.count();
@@ -408,7 +408,7 @@ fn lower_at(
 /// Takes the order under a key out.
 fn remove_at(orders: &mut OrderStore, rows: &mut Owners, levels: &mut BankLevels, key: OrderKey)
     requires live { IsSome (order_at orders.old key.0) }
-    requires own { AreOfBook orders.old rows.old levels.old }
+    requires own { AreOfOneBook orders.old rows.old levels.old }
     ensures moves { IfSome (order_at orders.old key.0) (λ order. Moves (filter (λ other. not (is_order order.bank order.number other))) orders.old orders.new rows.old rows.new levels.old levels.new) }
 {
     let order = orders.remove(key);

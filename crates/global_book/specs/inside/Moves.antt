@@ -9,8 +9,8 @@ use Rattle.global_book.specs.inside.Levels.{LevelSides, levels_at}
 use Rattle.global_book.specs.inside.Rows.{IsStored, flat}
 
 -- the orders, rows and levels are those of a book
-abbrev pub AreOfBook : Orders → List OwnRows → List LevelSides → Type 0
-AreOfBook orders own levels = (banks : ℕ) × IsStored banks orders own levels
+abbrev pub AreOfOneBook : Orders → List OwnRows → List LevelSides → Type 0
+AreOfOneBook orders own levels = (banks : ℕ) × IsStored banks orders own levels
 
 -- The list of the orders is changed so, no room goes, and the orders, rows and levels are a book's still.
 pub record Moves (change : List Resting → List Resting) (old new : Orders) (own own' : List OwnRows) (levels levels' : List LevelSides) : Type 0 where
