@@ -108,8 +108,8 @@ pub fn sweep<L: Ledger>(
     walk_on(book, owners, lines, weight, order, &opening, fills, steps)
 }
 
-/// The rest of a sweep behind its first fill. It stands apart, since a function pays for its tables as it begins, and most
-/// sweeps make one fill.
+/// The rest of a sweep behind its first fill, which `fills` has. It stands apart since a function pays for its tables as it
+/// begins, and a sweep of one fill needs none.
 fn walk_on<L: Ledger>(
     book: &PairBook,
     owners: &[BankId],
