@@ -1,8 +1,7 @@
 use crate::fixture::{QUIET, TRADES, TRADING, history, holds, session};
-use flat_host::FlatHost;
 use fx_edges::{MemorySink, SteadySink};
 use fx_pieces::Pieces;
-use reply_lines::{DayText, Ending, OutFault, write_output};
+use reply_lines::{Ending, OutFault, write_output};
 use std::alloc::Global;
 use std::test::Fail;
 
@@ -22,7 +21,7 @@ pub(crate) fn output(
 }
 
 /// Commands of which each outcome comes once at least.
-const BUSY: &[u8] = b"BETA SELL EUR/USD 1.08420 2 DAY
+pub(crate) const BUSY: &[u8] = b"BETA SELL EUR/USD 1.08420 2 DAY
 ALFA BUY EUR/USD 1.08425 3 DAY
 BETA BOOK EUR/USD
 ALFA REDUCE EUR/USD 1 1
@@ -209,15 +208,6 @@ fn a_day_without_commands(rt: HostRuntime) -> Result<(), Fail> {
     let mut out = MemorySink::new(7, Vec::new(rt.alloc()));
     write_output(rt.alloc(), &session, &entries, 3, Ending::Cut, &mut out)?;
     assert!(rt; out.written() == QUIET_DAY);
-    let market = FlatHost::open(rt.alloc(), &session)?;
-    let mut out = MemorySink::new(7, Vec::new(rt.alloc()));
-    let day = DayText::open(rt.alloc(), &session)?;
-    day.write(rt.alloc(), &session, &market, 3, Ending::Cut, &mut out)?;
-    assert!(rt; out.written() == QUIET_DAY);
-    let mut out = MemorySink::new(7, Vec::new(rt.alloc()));
-    let day = DayText::open(rt.alloc(), &session)?;
-    day.write_day(rt.alloc(), &session, &market, &mut out)?;
-    assert!(rt; out.written() == &QUIET_DAY[..QUIET_DAY.len() - 13]);
     Ok(())
 }
 
