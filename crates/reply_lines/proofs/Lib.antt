@@ -8,6 +8,5 @@ mod Shown
 mod Outputs
 mod Gathering
 mod Telling
-mod Following
 mod Journals
 mod Levels

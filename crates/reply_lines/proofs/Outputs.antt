@@ -24,11 +24,6 @@ pub on_ok : {T E P Q : Type 0} (result : Result T E) → (P → Q) → OnOk resu
 on_ok (Ok value) leads known = leads known
 on_ok (Err e) leads known = tt
 
--- what is known of a result that is Ok
-pub on_ok_of : {T E P : Type 0} (result : Result T E) → P → OnOk result P
-on_ok_of (Ok value) known = known
-on_ok_of (Err e) known = tt
-
 -- a call that met a fault, handed on by one that had more to write
 pub cut_short : {K T U : Type 0} {written : K → Option (List ℕ)} {faults : K → ℕ} {held : List ℕ} {a : K} {rest : List ℕ} {b : K} {text : List ℕ} {e : SinkFault} (result : Result U SinkFault) (more : List ℕ) → IsErrAnd result (λ fault. fault ≡ e) → Gathered {T = T} written faults held a rest b text (Err e) → Gathered {T = U} written faults held a rest b (text ++ more) result
 cut_short (Ok value) more same wrote = absurd same

@@ -1,11 +1,10 @@
-ghost use Rattle.std.specs.Prelude.{◌≡◌, List, [], ◌∷◌, ◌++◌, length, IfOk, OnOk};
+ghost use Rattle.std.specs.Prelude.{◌≡◌, ◌++◌, length, IfOk, OnOk};
 ghost use Rattle.std.specs.List.{flat_map};
 ghost use Rattle.fx_pieces.specs.Gathered.{Gathered};
-ghost use Rattle.fx_rules.specs.declared.outcome.Entry.{Entry};
 ghost use Rattle.fx_rules.specs.History.{IsLegal};
 ghost use Rattle.reply_lines.specs.Output.{entry_line, journal_line, journal_text};
+ghost use Rattle.reply_lines.specs.Day.{AreNoticesOf};
 ghost use Rattle.reply_lines.specs.inside.Prints.{IsEntryOf};
-ghost use Rattle.reply_lines.specs.inside.Day.{HasFollowed};
 
 use crate::day_notices::DayNotices;
 use crate::lines::write_made;
@@ -15,7 +14,6 @@ use fx_edges::{Sink, SinkFault};
 use fx_pieces::Pieces;
 use fx_rules::{Entry, Session};
 use order_lines::command_text;
-use pair_host::PairHost;
 use std::alloc::Global;
 
 /// Writes the line that begins the journal.
@@ -46,57 +44,6 @@ pub(crate) fn push_entry_line(
     Ok(())
 }
 
-/// A market that has followed the entries of a day so far, and what they give notice of.
-#[derive(Drop)]
-pub(crate) struct Followed {
-    pub market: PairHost,
-    pub notices: DayNotices,
-}
-
-impl Followed {
-    /// That of a session before its first command.
-    fn open(alloc: Global, session: &Session) -> Result<Followed, Memory>
-        ensures opens { IfOk result (HasFollowed session.now []) }
-    {
-        Ok(Followed {
-            market: PairHost::open(alloc, session)?,
-            notices: DayNotices::open(alloc, session)?,
-        })
-    }
-
-    /// Follows the next entry. After `Memory` it is good for nothing more.
-    fn follow(&mut self, session: &Session, entry: &Entry) -> Result<(), Memory>
-        requires next { (entries : List Entry) × IsLegal session.now (entries ++ entry.now ∷ []) × HasFollowed session.now entries self.old }
-        ensures follows { OnOk result ((entries : List Entry) →
-            IsLegal session.now (entries ++ entry.now ∷ []) → HasFollowed session.now entries self.old →
-            HasFollowed session.now (entries ++ entry.now ∷ []) self.new) }
-    {
-        self.market.follow(entry)?;
-        self.notices.add(session, entry)
-    }
-
-    /// Follows the next entry, and writes its line of the journal.
-    fn follow_and_write<K: Sink>(
-        &mut self,
-        session: &Session,
-        entry: &Entry,
-        line: &mut Vec<u8>,
-        pieces: &mut Pieces,
-        out: &mut K,
-    ) -> Result<(), SinkFault>
-        requires next { (entries : List Entry) × IsLegal session.now (entries ++ entry.now ∷ []) × HasFollowed session.now entries self.old }
-        ensures follows { OnOk result ((entries : List Entry) →
-            IsLegal session.now (entries ++ entry.now ∷ []) → HasFollowed session.now entries self.old →
-            HasFollowed session.now (entries ++ entry.now ∷ []) self.new) }
-        ensures wrote { Gathered K.written K.faults pieces.old out.old pieces.new out.new (entry_line session.now entry.now) result }
-    {
-        match self.follow(session, entry) {
-            Ok(()) => write_entry(session, entry, line, pieces, out),
-            Err(Memory) => Err(SinkFault::Memory),
-        }
-    }
-}
-
 /// Writes an entry's line of the journal.
 fn write_entry<K: Sink>(
     session: &Session,
@@ -113,7 +60,7 @@ fn write_entry<K: Sink>(
     write_made(made, line, pieces, out)
 }
 
-/// Writes the journal of a legal history, and follows its entries meanwhile.
+/// Writes the journal of a legal history, and gathers what its entries give notice of.
 pub(crate) fn write_journal<K: Sink>(
     alloc: Global,
     session: &Session,
@@ -121,10 +68,10 @@ pub(crate) fn write_journal<K: Sink>(
     line: &mut Vec<u8>,
     pieces: &mut Pieces,
     out: &mut K,
-) -> Result<Followed, SinkFault>
+) -> Result<DayNotices, SinkFault>
     requires legal { IsLegal session.now entries.now }
     ensures wrote { Gathered K.written K.faults pieces.old out.old pieces.new out.new (journal_text session.now entries.now) result }
-    ensures followed { IfOk result (HasFollowed session.now entries.now) }
+    ensures told { IfOk result (AreNoticesOf session.now entries.now) }
 {
     match write_journal_line(entries.len(), line, pieces, out) {
         Ok(()) => write_entries(alloc, session, entries, line, pieces, out),
@@ -132,7 +79,7 @@ pub(crate) fn write_journal<K: Sink>(
     }
 }
 
-/// Writes the lines of all entries, and follows these meanwhile.
+/// Writes the lines of all entries, and gathers what these give notice of.
 fn write_entries<K: Sink>(
     alloc: Global,
     session: &Session,
@@ -140,19 +87,22 @@ fn write_entries<K: Sink>(
     line: &mut Vec<u8>,
     pieces: &mut Pieces,
     out: &mut K,
-) -> Result<Followed, SinkFault>
+) -> Result<DayNotices, SinkFault>
     requires legal { IsLegal session.now entries.now }
     ensures wrote { Gathered K.written K.faults pieces.old out.old pieces.new out.new (flat_map (entry_line session.now) entries.now) result }
-    ensures followed { IfOk result (HasFollowed session.now entries.now) }
+    ensures told { IfOk result (AreNoticesOf session.now entries.now) }
 {
-    let Ok(mut followed) = Followed::open(alloc, session) else {
+    let Ok(mut notices) = DayNotices::open(alloc, session) else {
         return Err(SinkFault::Memory);
     };
     for entry in entries {
-        match followed.follow_and_write(session, entry, line, pieces, out) {
+        let Ok(()) = notices.add(session, entry) else {
+            return Err(SinkFault::Memory);
+        };
+        match write_entry(session, entry, line, pieces, out) {
             Ok(()) => {}
             Err(fault) => return Err(fault),
         }
     }
-    Ok(followed)
+    Ok(notices)
 }

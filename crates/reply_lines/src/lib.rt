@@ -15,4 +15,4 @@ mod row;
 
 pub use day::DayText;
 pub use laws::one_output;
-pub use output::{Ending, OutFault, write_output};
+pub use output::{Ending, OutFault, write_output, write_output_from};

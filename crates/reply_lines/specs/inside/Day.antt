@@ -5,16 +5,14 @@ use Rattle.fx_rules.specs.Session.{Header}
 use Rattle.fx_rules.specs.State.{State}
 use Rattle.fx_rules.specs.History.{IsLegal, state}
 use Rattle.day_report.specs.Report.{volumes_of, uses_of, nets_of}
-use Rattle.pair_host.specs.Standing.{StandsFor}
 use Rattle.reply_lines.specs.Books.{LocalBook, books_text}
 use Rattle.reply_lines.specs.Report.{report_text}
 use Rattle.reply_lines.specs.Output.{desks_text}
 use Rattle.reply_lines.specs.Desks.{AreDesksOf}
-use Rattle.reply_lines.specs.Day.{AreNoticesOf, IsTextOf}
+use Rattle.reply_lines.specs.Day.{IsTextOf}
 use Rattle.reply_lines.specs.inside.Report.{IsReportOf}
 use Rattle.reply_lines.specs.declared.day.DayText.{DayText}
 use Rattle.reply_lines.specs.declared.day_notices.Findings.{Findings}
-use Rattle.reply_lines.specs.declared.journal.Followed.{Followed}
 
 -- the report is that of the state at the end, and each bank's desk has its notices
 pub record AreFindingsOf (h : Header) (entries : List Entry) (found : Findings) : Type 0 where
@@ -29,11 +27,6 @@ pub record IsDayOf {M : Type 0} (stands : M → Header → State → Type 0) (h 
   pub legal : IsLegal h entries
   pub text : IsTextOf h entries day
   pub at_the_end : stands market h (state h entries)
-
--- the market stands for the state after these entries, and what they give notice of is told
-pub record HasFollowed (h : Header) (entries : List Entry) (followed : Followed) : Type 0 where
-  pub market : StandsFor h (state h entries) followed.market
-  pub notices : AreNoticesOf h entries followed.notices
 
 -- what stands behind the journal, up to the last lines
 abbrev pub closing_text : Header → List Entry → (ℕ → ℕ → LocalBook) → List ℕ

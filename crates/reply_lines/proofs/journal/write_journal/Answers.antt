@@ -10,12 +10,12 @@ pub returns-in-Ok : goal.returns-in-Ok
 unfolding journal_text
 returns-in-Ok g c = record {
   wrote = Gathered-then c.write_entries.result c.in-Ok.ensures.wrote c.write_entries.ensures.wrote;
-  followed = c.write_entries.ensures.followed;
+  told = c.write_entries.ensures.told;
 }
 
 pub returns-in-Err : goal.returns-in-Err
 unfolding journal_text
 returns-in-Err g c = record {
   wrote = Gathered-of_longer c.in-Err.ensures.wrote (IsPrefixOf-append (journal_line (length c.args.entries.now)) (flat_map (entry_line c.args.session.now) c.args.entries.now));
-  followed = tt;
+  told = tt;
 }
