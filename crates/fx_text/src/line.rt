@@ -98,9 +98,10 @@ pub enum LineView<'a> {
 impl<'a> LineView<'a> {
     ghost use Rattle.fx_text.specs.Lines.{line_of, line_seen, is_passed_over};
 
-    // The line of a part that a line feed ends.
+    /// The line of a part of a text that a line feed ends, where it lies: without the carriage return that may end it, and
+    /// long where more than 256 bytes are left. Takes no memory.
     #[tactic(auto, unfolding(crate::specs::Lines::line_of))]
-    pub(crate) fn of(part: &'a [u8]) -> LineView<'a>
+    pub fn of(part: &'a [u8]) -> LineView<'a>
         ensures { line_seen result ≡ line_of part.now }
     {
         let text = without_carriage_return(part);

@@ -122,9 +122,25 @@ pub fn journal_from(session: &Session, line: &Line) -> Option<(BankId, Command)>
     ensures spelled { (bank : ℕ) (command : Command) → bank < bank_count session.now → IsCommand session.now bank command
         → IsSpelled session.now line.now bank command → result ≡ Some (bank, command) }
 {
+    journal_in(session, &line.view())
+}
+
+/// The same of a line where it lies.
+pub fn journal_in(session: &Session, line: &LineView<'_>) -> Option<(BankId, Command)>
+    ensures reads { result ≡ journal_line session.now (line_seen line.now) }
+
+    // What is read is a bank's of the session and in range.
+    ensures bank { IfSome result (λ entry. entry.0 < bank_count session.now) }
+    ensures range { IfSome result (λ entry. IsCommand session.now entry.0 entry.1) }
+
+    // What is read is spelled so, and what is spelled so is read, a bad command too.
+    ensures spelling { IfSome result (λ entry. IsSpelled session.now (line_seen line.now) entry.0 entry.1) }
+    ensures spelled { (bank : ℕ) (command : Command) → bank < bank_count session.now → IsCommand session.now bank command
+        → IsSpelled session.now (line_seen line.now) bank command → result ≡ Some (bank, command) }
+{
     // The clauses on spelling rest on a valid session, as each is.
     let _banks = session.banks();
-    recorded_by(session, &line.view())
+    recorded_by(session, line)
 }
 
 #[tactic(auto, unfolding(crate::specs::Grammar::journal_line))]
