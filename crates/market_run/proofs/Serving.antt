@@ -57,7 +57,8 @@ pub length-served : {M : Type 0} (was now : Ran M) (sent : List Sent) → Served
 length-served was now sent served =
     sym (length-map now.entries sent_by) ∙ ap length served ∙ length-append (map sent_by was.entries) sent ∙ ap (λ n. n + length sent) (length-map was.entries sent_by)
 
-each-at : (h : Header) (all : List Sent) (n : ℕ) (s : Sent) → Each (IsSentOf h) all → n < length all → s ≡ get_or all n s → IsSentOf h s
+-- the command at a place is one that its sender may send
+pub each-at : (h : Header) (all : List Sent) (n : ℕ) (s : Sent) → Each (IsSentOf h) all → n < length all → s ≡ get_or all n s → IsSentOf h s
 each-at h [] n s valid within at' = absurd (omega arith)
 each-at h (x ∷ xs) zero s valid within at' = subst (IsSentOf h) (sym at') valid.0
 each-at h (x ∷ xs) (suc n) s valid within at' = each-at h xs n s valid.1 (omega arith) at'

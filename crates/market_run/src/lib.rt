@@ -1,4 +1,4 @@
-//! The one loop over one market: commands are served one after another, and each adds its entry to the history.
+//! The loop over one market that keeps its history: commands are served one after another, and each adds its entry.
 #![tactic(auto)]
 
 mod running;
