@@ -2,6 +2,7 @@
 #![tactic(auto)]
 
 mod lanes;
+mod market;
 mod run;
 mod whole;
 

@@ -1,17 +1,20 @@
 ghost use Rattle.std.specs.Prelude.{◌≡◌, ◌≤◌, ◌++◌, [], IfOk, OnOk, OnErr, List};
 ghost use Rattle.fx_rules.specs.declared.command.Sent.{Sent as SentCommand};
-ghost use Rattle.fx_rules.specs.History.{IsLegal};
+ghost use Rattle.fx_rules.specs.History.{IsLegal, state};
 ghost use Rattle.credit_book.specs.Recorded.{key_count};
 ghost use Rattle.fx_desk.specs.Streams.{HasStreams};
+ghost use Rattle.pair_host.specs.Standing.{StandsFor};
 ghost use Rattle.threaded_run.specs.Lanes.{CanServe, HaveServed, HaveServedPart};
 
 use crate::lanes::{fill_lanes, lanes_of, passes_of};
+use crate::market::market_of;
 use fx_amounts::Memory;
 use fx_chronicle::{Blank, Naming};
 use fx_desk::Pass;
 use fx_host::{Host, close_host, open_host};
 use fx_rules::{Entry, Gate, Sent, Session};
 use gateway_workers::{Lane, run_round};
+use pair_host::PairHost;
 use std::alloc::Global;
 use std::sync::Wait;
 use std::thread::Threads;
@@ -63,15 +66,18 @@ impl<N: Naming + Send + Sync> ThreadedRun<N> {
         serve_lanes(rt, &self.host, &mut self.lanes, sent, workers, gate)
     }
 
-    /// The history of all that was served.
-    pub fn close(self, alloc: Global) -> Result<Vec<Entry>, Memory>
-        ensures legal { IfOk result (λ history. IsLegal N.session history.items) }
-        ensures streams { IfOk result (λ history. (sent : List SentCommand) → HaveServed N.session sent self.lanes.items → HasStreams sent history.items) }
+    /// The history of all that was served, and the market in the state after it, with the books that served it.
+    pub fn close(self, alloc: Global, session: &Session) -> Result<(Vec<Entry>, PairHost), Memory>
+        requires session { session.now ≡ N.session }
+        ensures legal { IfOk result (λ closed. IsLegal N.session closed.0.items) }
+        ensures streams { IfOk result (λ closed. (sent : List SentCommand) → HaveServed N.session sent self.lanes.items → HasStreams sent closed.0.items) }
+        ensures market { IfOk result (λ closed. StandsFor N.session (state N.session closed.0.items) closed.1) }
     {
         let ThreadedRun { host, lanes } = self;
         let passes = passes_of(alloc, lanes)?;
-        let (history, _shards) = close_host(host, passes);
-        Ok(history)
+        let (history, shards) = close_host(host, passes);
+        let market = market_of(alloc, session, &history, shards)?;
+        Ok((history, market))
     }
 }
 
