@@ -1,7 +1,7 @@
 -- A header that is read line by line.
 use Rattle.std.proofs.Common.{◌≡◌, ℕ, ◌+◌, ◌<◌, ◌≤◌, true, false, List, [], ◌∷◌, length, Some, Result, Ok, Err, refl, sym, ap, ◌∙◌, arith}
 use Rattle.std.proofs.lemmas.Bool.{cond-true, cond-false, lt-ltb, le-ltb}
-use Rattle.fx_text.specs.Lines.{line_of}
+use Rattle.fx_text.specs.Lines.{line_of, line_seen}
 use Rattle.fx_rules.specs.Session.{Header}
 use Rattle.session_head.specs.Head.{Head, Begun, Drafting, Started, Faulted, with_line, answer_to, session_of, IsStarted}
 use Rattle.session_head.specs.declared.reason.HeadReason.{HeadReason}
@@ -37,7 +37,7 @@ header_stops text at offset head (TooLong part there long is) =
     ∙ ap (λ (n : ℕ). Err n) (sym is)
 
 -- a line was read
-header_reads : (text : List ℕ) (at : ℕ) (read : ReadLine) (head after : Head) (is : IsReadAt text at read) → after ≡ with_line head read.line
+header_reads : (text : List ℕ) (at : ℕ) (read : ReadLine) (head after : Head) (is : IsReadAt text at read) → after ≡ with_line head (line_seen read.line)
     → header_in (length text) head (lines_from text at) ≡ headed (record { at = at; part = is.part }) after (header_in (length text) after (lines_from text read.next))
 header_reads text at read head after is then =
     let line : LineAt = record { at = at; part = is.part } in
@@ -71,18 +71,18 @@ started line (Started lines session) on header next is there =
 started line (Faulted number reason) on header next is there = cc
 
 -- the header goes on
-pub header_more : (text : List ℕ) (at : ℕ) (read : ReadLine) (head after : Head) → IsReadAt text at read → after ≡ with_line head read.line → Ok More ≡ answer_to after
+pub header_more : (text : List ℕ) (at : ℕ) (read : ReadLine) (head after : Head) → IsReadAt text at read → after ≡ with_line head (line_seen read.line) → Ok More ≡ answer_to after
     → header_in (length text) head (lines_from text at) ≡ header_in (length text) after (lines_from text read.next)
 header_more text at read head after is then more = header_reads text at read head after is then ∙ goes_on (record { at = at; part = is.part }) after (header_in (length text) after (lines_from text read.next)) more
 
 -- the line has a fault
-pub header_wrong : (text : List ℕ) (at : ℕ) (read : ReadLine) (head after : Head) (number : ℕ) (reason : HeadReason) → IsReadAt text at read → after ≡ with_line head read.line → Err (Fault number reason) ≡ answer_to after
+pub header_wrong : (text : List ℕ) (at : ℕ) (read : ReadLine) (head after : Head) (number : ℕ) (reason : HeadReason) → IsReadAt text at read → after ≡ with_line head (line_seen read.line) → Err (Fault number reason) ≡ answer_to after
     → header_in (length text) head (lines_from text at) ≡ Err at
 header_wrong text at read head after number reason is then fault =
     header_reads text at read head after is then ∙ fails (record { at = at; part = is.part }) after (header_in (length text) after (lines_from text read.next)) number reason fault
 
 -- the line is START
-pub header_whole : (text : List ℕ) (at : ℕ) (read : ReadLine) (head after : Head) (header : Header) → IsReadAt text at read → after ≡ with_line head read.line → session_of after ≡ Some header
+pub header_whole : (text : List ℕ) (at : ℕ) (read : ReadLine) (head after : Head) (header : Header) → IsReadAt text at read → after ≡ with_line head (line_seen read.line) → session_of after ≡ Some header
     → header_in (length text) head (lines_from text at) ≡ Ok (record { session = header; next = read.next })
 header_whole text at read head after header is then whole =
     header_reads text at read head after is then
@@ -103,4 +103,4 @@ read-falls text at read is = omega (arith, is.next_is)
 
 pub header_stopped : (text : List ℕ) (at : ℕ) (head : Head) (stop : Stop) → ReadsLine text at (Err stop) → (there : Result Headed ℕ) → there ≡ header_in (length text) head (lines_from text at) → Answers (Err stop) there
 header_stopped text at head (Wrong offset) stops there is = is ∙ header_stops text at offset head stops
-header_stopped text at head Memory stops there is = tt
+header_stopped text at head Memory stops there is = absurd stops

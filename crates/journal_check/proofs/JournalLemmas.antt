@@ -1,17 +1,19 @@
 -- A journal that is read line by line.
 use Rattle.std.proofs.Common.{◌≡◌, ℕ, zero, suc, ◌+◌, ◌<◌, true, false, List, [], ◌∷◌, ◌++◌, length, map, Option, Some, None, Result, Ok, Err, refl, sym, ap, ◌∙◌, arith}
 use Rattle.std.proofs.lemmas.Bool.{cond-true, cond-false, lt-ltb, le-ltb}
-use Rattle.fx_text.specs.Lines.{line_of}
-use Rattle.std.proofs.lemmas.List.{length-map, length_push}
+use Rattle.fx_text.specs.Lines.{line_of, line_seen}
+use Rattle.std.proofs.lemmas.List.{length-map, length_push, map-append}
 use Rattle.fx_rules.specs.Session.{Header}
 use Rattle.fx_rules.specs.declared.outcome.Entry.{Entry}
 use Rattle.fx_rules.specs.Sending.{sent_by}
+use Rattle.pair_host.specs.Standing.{HostState, stands}
+use Rattle.day_run.specs.Serving.{Day, HasServed, ServesOn}
 use Rattle.order_lines.specs.Grammar.{journal_line}
 use Rattle.journal_check.specs.Lines.{LineAt, is_long, lines_from}
 use Rattle.fx_rules.specs.declared.command.Command.{Command}
 use Rattle.fx_rules.specs.declared.command.Sent.{Sent}
 use Rattle.journal_check.specs.Listed.{counted, count_told, count_of, said_by, sent_in, commands_in}
-use Rattle.journal_check.specs.inside.Stops.{IsReadAt, IsStopAt, Missing, TooLong, ReadsLine, Answers, AnswersBy}
+use Rattle.journal_check.specs.inside.Stops.{IsReadAt, IsStopAt, Missing, TooLong, ReadsLine, Answers, ReadsEntries}
 use Rattle.journal_check.specs.declared.line.ReadLine.{ReadLine}
 use Rattle.journal_check.specs.declared.stop.Stop.{Stop}
 use Rattle.journal_check.specs.declared.stop.Stop.TheVariants.{Wrong, Memory}
@@ -37,17 +39,17 @@ count_stops text at offset (TooLong part there long is) =
     ∙ count_of-long (length text) (record { at = at; part = part }) (lines_from text (at + length part + 1)) (lt-ltb 256 (length part) long)
     ∙ ap (λ (n : ℕ). Err n) (sym is)
 
-count_reads : (text : List ℕ) (at : ℕ) (read : ReadLine) (told : Option ℕ) (is : IsReadAt text at read) → told ≡ count_told read.line
+count_reads : (text : List ℕ) (at : ℕ) (read : ReadLine) (told : Option ℕ) (is : IsReadAt text at read) → told ≡ count_told (line_seen read.line)
     → count_of (length text) (lines_from text at) ≡ counted (record { at = at; part = is.part }) told
 count_reads text at read told is then =
     ap (count_of (length text)) is.there.lines
     ∙ count_of-short (length text) (record { at = at; part = is.part }) (lines_from text (at + length is.part + 1)) (le-ltb 256 (length is.part) is.short)
     ∙ ap (counted (record { at = at; part = is.part })) (ap (count_told) (sym is.line_is) ∙ sym then)
 
-pub count_wrong : (text : List ℕ) (at : ℕ) (read : ReadLine) → IsReadAt text at read → None ≡ count_told read.line → count_of (length text) (lines_from text at) ≡ Err at
+pub count_wrong : (text : List ℕ) (at : ℕ) (read : ReadLine) → IsReadAt text at read → None ≡ count_told (line_seen read.line) → count_of (length text) (lines_from text at) ≡ Err at
 count_wrong text at read is then = count_reads text at read None is then
 
-pub count_right : (text : List ℕ) (at : ℕ) (read : ReadLine) (entries : ℕ) → IsReadAt text at read → Some entries ≡ count_told read.line
+pub count_right : (text : List ℕ) (at : ℕ) (read : ReadLine) (entries : ℕ) → IsReadAt text at read → Some entries ≡ count_told (line_seen read.line)
     → count_of (length text) (lines_from text at) ≡ Ok (record { entries = entries; next = read.next })
 count_right text at read entries is then =
     count_reads text at read (Some entries) is then ∙ ap (λ (next : ℕ). Ok (record { entries = entries; next = next })) (sym is.next_is)
@@ -81,7 +83,7 @@ commands_stop h text at offset before (suc count) some (TooLong part there long 
     ∙ commands_in-long h (length text) before count (record { at = at; part = part }) (lines_from text (at + length part + 1)) (lt-ltb 256 (length part) long)
     ∙ ap (λ (n : ℕ). Err n) (sym is)
 
-commands_read : (h : Header) (text : List ℕ) (at : ℕ) (before : List Sent) (count : ℕ) (read : ReadLine) (said : Option (ℕ × Command)) (is : IsReadAt text at read) → said ≡ journal_line h read.line
+commands_read : (h : Header) (text : List ℕ) (at : ℕ) (before : List Sent) (count : ℕ) (read : ReadLine) (said : Option (ℕ × Command)) (is : IsReadAt text at read) → said ≡ journal_line h (line_seen read.line)
     → commands_in h (length text) before (suc count) (lines_from text at) ≡ sent_in (record { at = at; part = is.part }) said (λ sent. commands_in h (length text) (before ++ sent ∷ []) count (lines_from text read.next))
 commands_read h text at before count read said is then =
     let line : LineAt = record { at = at; part = is.part } in
@@ -90,16 +92,16 @@ commands_read h text at before count read said is then =
     ∙ ap (λ (o : Option (ℕ × Command)). sent_in line o (λ sent. commands_in h (length text) (before ++ sent ∷ []) count (lines_from text (at + length is.part + 1)))) (ap (journal_line h) (sym is.line_is) ∙ sym then)
     ∙ ap (λ (n : ℕ). sent_in line said (λ sent. commands_in h (length text) (before ++ sent ∷ []) count (lines_from text n))) (sym is.next_is)
 
-pub commands_wrong : (h : Header) (text : List ℕ) (at : ℕ) (before : List Sent) (count : ℕ) (read : ReadLine) → 0 < count → IsReadAt text at read → None ≡ journal_line h read.line
+pub commands_wrong : (h : Header) (text : List ℕ) (at : ℕ) (before : List Sent) (count : ℕ) (read : ReadLine) → 0 < count → IsReadAt text at read → None ≡ journal_line h (line_seen read.line)
     → commands_in h (length text) before count (lines_from text at) ≡ Err at
 commands_wrong h text at before zero read some is then = absurd (omega arith)
 commands_wrong h text at before (suc count) read some is then = commands_read h text at before count read None is then
 
-more_sent : (h : Header) (text : List ℕ) (at : ℕ) (before : List Sent) (count : ℕ) (read : ReadLine) (sent : ℕ × Command) → IsReadAt text at read → Some sent ≡ journal_line h read.line
+more_sent : (h : Header) (text : List ℕ) (at : ℕ) (before : List Sent) (count : ℕ) (read : ReadLine) (sent : ℕ × Command) → IsReadAt text at read → Some sent ≡ journal_line h (line_seen read.line)
     → commands_in h (length text) before (suc count) (lines_from text at) ≡ commands_in h (length text) (before ++ said_by sent ∷ []) count (lines_from text read.next)
 more_sent h text at before count read sent is then = commands_read h text at before count read (Some sent) is then
 
-pub commands_more : (h : Header) (text : List ℕ) (at : ℕ) (before after : List Sent) (count left : ℕ) (read : ReadLine) (sent : ℕ × Command) → IsReadAt text at read → Some sent ≡ journal_line h read.line → count ≡ left + 1 → after ≡ before ++ said_by sent ∷ []
+pub commands_more : (h : Header) (text : List ℕ) (at : ℕ) (before after : List Sent) (count left : ℕ) (read : ReadLine) (sent : ℕ × Command) → IsReadAt text at read → Some sent ≡ journal_line h (line_seen read.line) → count ≡ left + 1 → after ≡ before ++ said_by sent ∷ []
     → commands_in h (length text) before count (lines_from text at) ≡ commands_in h (length text) after left (lines_from text read.next)
 commands_more h text at before after count left read sent is then one after_is =
     let up : count ≡ suc left = omega arith in
@@ -111,14 +113,33 @@ commands_more h text at before after count left read sent is then one after_is =
 
 pub count_stopped : (text : List ℕ) (at : ℕ) (stop : Stop) → ReadsLine text at (Err stop) → Answers (Err stop) (count_of (length text) (lines_from text at))
 count_stopped text at (Wrong offset) stops = count_stops text at offset stops
-count_stopped text at Memory stops = tt
+count_stopped text at Memory stops = absurd stops
 
-pub commands_stopped : {A : Type 0} (f : A → List Sent) (h : Header) (text : List ℕ) (at : ℕ) (before : List Sent) (count : ℕ) (stop : Stop) (there : Result (List Sent) ℕ) → 0 < count → ReadsLine text at (Err stop)
-    → there ≡ commands_in h (length text) before count (lines_from text at) → AnswersBy f (Err stop) there
-commands_stopped f h text at before count (Wrong offset) there some stops is = is ∙ commands_stop h text at offset before count some stops
-commands_stopped f h text at before count Memory there some stops is = tt
+pub commands_stopped : (h : Header) (text : List ℕ) (at : ℕ) (before : List Sent) (count : ℕ) (stop : Stop) (there : Result (List Sent) ℕ) → 0 < count → ReadsLine text at (Err stop)
+    → there ≡ commands_in h (length text) before count (lines_from text at) → ReadsEntries h (Err stop) there
+commands_stopped h text at before count (Wrong offset) there some stops is = is ∙ commands_stop h text at offset before count some stops
+commands_stopped h text at before count Memory there some stops is = absurd stops
 
--- an entry more
-pub sent_more : (old new : List Entry) (sent : Sent) → map sent_by new ≡ map sent_by old ++ sent ∷ [] → length new ≡ length old + 1
-sent_more old new sent same =
-    sym (length-map new sent_by) ∙ ap length same ∙ length_push (map sent_by old) sent ∙ ap (λ (n : ℕ). n + 1) (length-map old sent_by)
+-- Entries that are served as they are read
+
+-- so many were read up to an offset, and so many are left
+pub record HasReadSome (h : Header) (text : List ℕ) (there : Result (List Sent) ℕ) (run : Day HostState) (count left at : ℕ) : Type 0 where
+  pub entries : List Entry
+  pub has_served : HasServed stands h entries run
+  pub size : length entries ≡ count
+  pub reads : there ≡ commands_in h (length text) (map sent_by entries) left (lines_from text at)
+
+-- one more was read
+pub entry_read : (h : Header) (text : List ℕ) (there : Result (List Sent) ℕ) (was now : Day HostState) (count left left' at : ℕ) (read : ReadLine) (said : ℕ × Command) → HasReadSome h text there was count left at
+    → IsReadAt text at read → Some said ≡ journal_line h (line_seen read.line) → left ≡ left' + 1 → ServesOn stands h was now (said_by said ∷ []) → HasReadSome h text there now (count + 1) left' read.next
+entry_read h text there was now count left left' at read said has is then one on =
+    let went = on has.entries has.has_served in
+    let sent : map sent_by (has.entries ++ went.more) ≡ map sent_by has.entries ++ said_by said ∷ [] =
+    map-append sent_by has.entries went.more ∙ ap (λ (more : List Sent). map sent_by has.entries ++ more) went.sent_is in
+    record {
+      entries = has.entries ++ went.more;
+      has_served = went.has_served;
+      size = sym (length-map (has.entries ++ went.more) sent_by) ∙ ap length sent ∙ length_push (map sent_by has.entries) (said_by said)
+          ∙ ap (λ (n : ℕ). n + 1) (length-map has.entries sent_by ∙ has.size);
+      reads = has.reads ∙ commands_more h text at (map sent_by has.entries) (map sent_by (has.entries ++ went.more)) left left' read said is then one sent;
+    }

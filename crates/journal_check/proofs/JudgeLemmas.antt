@@ -9,7 +9,7 @@ use Rattle.journal_check.specs.Listed.{Listed, ◌>>=◌, header_in, count_of, c
 use Rattle.journal_check.specs.Compared.{beginning}
 use Rattle.fx_rules.specs.Sending.{sent_by}
 use Rattle.journal_check.specs.Verdict.{last_in, last_behind, day_verdict, IsJudged, IsVerdict, IsVerdictOn}
-use Rattle.journal_check.specs.inside.Stops.{Answers, AnswersBy, IsComparedWith, Judges}
+use Rattle.journal_check.specs.inside.Stops.{Answers, ReadsEntries, IsComparedWith, Judges}
 use Rattle.journal_check.specs.declared.check.Verdict.{Verdict}
 use Rattle.journal_check.specs.declared.check.Verdict.TheVariants.{No}
 use Rattle.journal_check.specs.declared.header.Headed.{Headed}
@@ -49,10 +49,10 @@ pub judged_count : (text : List ℕ) (header : Headed) (stop : Stop) → header_
 judged_count text header (Wrong offset) read is = unlisted text offset (listed_journal text header (Err offset) read is)
 judged_count text header Memory read is = tt
 
-pub judged_commands : {A : Type 0} (f : A → List Sent) (text : List ℕ) (header : Headed) (count : Counted) (stop : Stop) → header_in (length text) (Begun 0) (lines_from text 0) ≡ Ok header → count_of (length text) (lines_from text header.next) ≡ Ok count
-    → AnswersBy f (Err stop) (commands_in header.session (length text) [] count.entries (lines_from text count.next)) → Judges text (Err stop)
-judged_commands f text header count (Wrong offset) read counts is = unlisted text offset (listed_commands text header count (Err offset) read counts is)
-judged_commands f text header count Memory read counts is = tt
+pub judged_commands : (text : List ℕ) (header : Headed) (count : Counted) (stop : Stop) → header_in (length text) (Begun 0) (lines_from text 0) ≡ Ok header → count_of (length text) (lines_from text header.next) ≡ Ok count
+    → ReadsEntries header.session (Err stop) (commands_in header.session (length text) [] count.entries (lines_from text count.next)) → Judges text (Err stop)
+judged_commands text header count (Wrong offset) read counts is = unlisted text offset (listed_commands text header count (Err offset) read counts is)
+judged_commands text header count Memory read counts is = tt
 
 verdict_behind : (text day : List ℕ) (read : Result ℕ ℕ) → beginning 0 day text ≡ read → day_verdict text day ≡ last_behind text read
 unfolding day_verdict

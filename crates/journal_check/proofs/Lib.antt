@@ -10,4 +10,3 @@ pub mod JournalWalk
 pub mod LastLines
 pub mod Exactly
 pub mod Agreeing
-pub mod AtTheEnd

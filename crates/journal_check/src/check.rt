@@ -42,8 +42,8 @@ fn judge(alloc: Global, text: &[u8]) -> Result<Verdict, Stop>
     ensures { Judges text.now result }
 {
     let headed = read_header(alloc, text)?;
-    let counted = read_count(alloc, text, headed.next)?;
+    let counted = read_count(text, headed.next)?;
     let run = read_entries(alloc, &headed.session, text, &counted)?;
-    let end = compare_day(alloc, text, &headed.session, run.entries(), run.market())?;
+    let end = compare_day(alloc, text, &headed.session, run)?;
     Ok(last_lines(text, end))
 }

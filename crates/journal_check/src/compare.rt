@@ -1,14 +1,16 @@
-ghost use Rattle.std.specs.Prelude.{◌≡◌, ◌≢◌, ◌≤◌, ◌<◌, length, take, slice_get, Some, None, IfOk};
-ghost use Rattle.fx_rules.specs.History.{IsLegal, state};
+ghost use Rattle.std.specs.Prelude.{◌≡◌, ◌≢◌, ◌≤◌, ◌<◌, List, length, take, slice_get, Some, None, IfOk};
+ghost use Rattle.fx_rules.specs.declared.outcome.Entry.{Entry};
+ghost use Rattle.day_run.specs.Serving.{HasServed};
 ghost use Rattle.journal_check.specs.inside.Comparing.{told};
 ghost use Rattle.journal_check.specs.inside.Stops.{IsComparedWith, end_of};
 ghost use Rattle.pair_host.specs.Standing.{stands};
 
 use crate::stop::Stop;
+use day_run::DayRun;
 use fx_edges::{Sink, SinkFault};
-use fx_rules::{Entry, Session};
+use fx_rules::Session;
 use pair_host::PairHost;
-use reply_lines::{OutFault, write_day_from};
+use reply_lines::OutFault;
 use std::alloc::Global;
 use std::marker::Model;
 
@@ -111,22 +113,20 @@ fn agreeing_by_bytes(text: &[u8], piece: &[u8]) -> usize
     piece.len()
 }
 
-/// Compares a text with the output of a legal history, up to its last lines: where that ends in the text, or the first place
-/// where the text has another byte or has ended. The market is that of the state after the history.
+/// Compares a text with the output of the history that a run has served, up to its last lines: where that ends in the text, or
+/// the first place where the text has another byte or has ended.
 pub(crate) fn compare_day(
     alloc: Global,
     text: &[u8],
     session: &Session,
-    entries: &[Entry],
-    market: &PairHost,
+    run: DayRun<PairHost>,
 ) -> Result<usize, Stop>
-    requires legal { IsLegal session.now entries.now }
-    requires market { stands market.now session.now (state session.now entries.now) }
-    ensures compared { IsComparedWith session.now entries.now text.now result }
+    requires served { (entries : List Entry) × HasServed stands session.now entries run }
+    ensures compared { (entries : List Entry) → HasServed stands session.now entries run → IsComparedWith session.now entries text.now result }
     ensures within { IfOk result (λ end. end ≤ length text.now) }
 {
     let mut comparison = Comparison::new(text);
-    match write_day_from(alloc, session, entries, market, &mut comparison) {
+    match run.write_day(alloc, session, &mut comparison) {
         Ok(()) => comparison.end(),
         // The text differed, and nothing more was written.
         Err(OutFault::Write) => comparison.end(),

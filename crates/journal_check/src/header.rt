@@ -26,11 +26,11 @@ pub(crate) fn read_header(alloc: Global, text: &[u8]) -> Result<Headed, Stop>
     let mut reader = HeadReader::new(alloc);
     let mut at = 0;
     loop {
-        let read = match read_line(alloc, text, at) {
+        let read = match read_line(text, at) {
             Ok(read) => read,
             Err(stop) => return Err(stop),
         };
-        match reader.line(&read.line) {
+        match reader.line_in(&read.line) {
             Ok(HeadStep::More) => at = read.next,
             Ok(HeadStep::Start) => {
                 return Ok(Headed {

@@ -1,17 +1,15 @@
-ghost use Rattle.std.specs.Prelude.{◌≡◌, ◌≤◌, ◌^◌, length, map, [], IfOk, IfSome};
-ghost use Rattle.market_run.specs.Running.{HasRun};
-ghost use Rattle.pair_host.specs.Standing.{stands};
+ghost use Rattle.std.specs.Prelude.{◌≡◌, ◌≤◌, ◌^◌, length, [], IfOk, IfSome};
+ghost use Rattle.fx_text.specs.Lines.{line_seen};
 ghost use Rattle.journal_check.specs.Lines.{lines_from};
 ghost use Rattle.journal_check.specs.Listed.{count_of, count_told, commands_in, most_entries};
-ghost use Rattle.journal_check.specs.inside.Stops.{Answers, AnswersBy};
-ghost use Rattle.fx_rules.specs.Sending.{sent_by};
+ghost use Rattle.journal_check.specs.inside.Stops.{Answers, ReadsEntries};
 
 use crate::line::read_line;
 use crate::stop::Stop;
+use day_run::{DayRun, open_day};
 use fx_rules::{Sent, Session};
-use fx_text::{Line, fields, number};
-use market_run::Run;
-use order_lines::journal_from;
+use fx_text::{LineView, fields, number};
+use order_lines::journal_in;
 use pair_host::PairHost;
 use std::alloc::Global;
 
@@ -28,13 +26,13 @@ pub(crate) struct Counted {
 }
 
 /// Reads the line that begins a journal: `JOURNAL` and how many entries it has, at most 2^28.
-pub(crate) fn read_count(alloc: Global, text: &[u8], at: usize) -> Result<Counted, Stop>
+pub(crate) fn read_count(text: &[u8], at: usize) -> Result<Counted, Stop>
     requires { at ≤ length text.now }
     ensures answers { Answers result (count_of (length text.now) (lines_from text.now at)) }
     ensures within { IfOk result (λ counted. counted.next ≤ length text.now) }
     ensures few { IfOk result (λ counted. counted.entries ≤ 2 ^ 28) }
 {
-    let read = match read_line(alloc, text, at) {
+    let read = match read_line(text, at) {
         Ok(read) => read,
         Err(stop) => return Err(stop),
     };
@@ -48,14 +46,14 @@ pub(crate) fn read_count(alloc: Global, text: &[u8], at: usize) -> Result<Counte
 }
 
 /// The number of entries that a line tells, where `JOURNAL` and that number are its two fields.
-fn count_told(line: &Line) -> Option<u64>
-    ensures value { result ≡ count_told line.now }
+fn count_told(line: &LineView<'_>) -> Option<u64>
+    ensures value { result ≡ count_told (line_seen line.now) }
     ensures most { IfSome result (λ entries. entries ≤ 2 ^ 28) }
 {
-    let Line::Whole(text) = line else {
+    let LineView::Whole(text) = *line else {
         return None;
     };
-    let fields = fields(text.as_slice());
+    let fields = fields(text);
     if fields.count() != 2 || fields.field(0) != b"JOURNAL".as_slice() {
         return None;
     }
@@ -68,26 +66,23 @@ pub(crate) fn read_entries(
     session: &Session,
     text: &[u8],
     counted: &Counted,
-) -> Result<Run<PairHost>, Stop>
+) -> Result<DayRun<PairHost>, Stop>
     requires within { counted.now.next ≤ length text.now }
     requires few { counted.now.entries ≤ 2 ^ 28 }
-    ensures answers { AnswersBy (λ run. map sent_by run.entries) result
+    ensures run { ReadsEntries session.now result
         (commands_in session.now (length text.now) [] counted.now.entries (lines_from text.now counted.now.next)) }
-    ensures run { IfOk result (HasRun stands session.now) }
 {
-    // A legal history rests on a valid session, as each is.
-    let _banks = session.banks();
-    let mut run = Run::new(alloc, PairHost::open(alloc, session)?);
+    let mut run = open_day(alloc, session)?;
     let mut at = counted.next;
     for _entry in 0..counted.entries {
-        let read = match read_line(alloc, text, at) {
+        let read = match read_line(text, at) {
             Ok(read) => read,
             Err(stop) => return Err(stop),
         };
-        let Some((bank, command)) = journal_from(session, &read.line) else {
+        let Some((bank, command)) = journal_in(session, &read.line) else {
             return Err(Stop::Wrong { offset: at as u64 });
         };
-        run.serve(Sent { bank, command })?;
+        run.serve(session, Sent { bank, command })?;
         at = read.next;
     }
     Ok(run)

@@ -1,10 +1,3 @@
-use Rattle.std.proofs.Common.{List, map, subst, Ok, Err}
-use Rattle.fx_rules.specs.declared.outcome.Entry.{Entry}
-use Rattle.pair_host.specs.Standing.{HostState, stands}
-use Rattle.market_run.specs.Ran.{Ran}
-use Rattle.journal_check.proofs.AtTheEnd.{at_the_end}
-use Rattle.journal_check.specs.inside.Stops.{IsComparedWith}
-use Rattle.fx_rules.specs.Sending.{sent_by}
 use Rattle.std.proofs.lemmas.Result.{err_from_is_err_and}
 use Rattle.journal_check.proofs.JudgeLemmas.{judged_header, judged_count, judged_commands, judged_apart, judged_last}
 use Rattle.journal_check.proofs.check.judge.Goals as goal
@@ -20,23 +13,23 @@ returns-in_err-counted c =
 pub returns-in_err-run : goal.returns-in_err-run
 returns-in_err-run c =
     let p = err_from_is_err_and c.from_residual-in_err-run.result c.from_residual-in_err-run.ensures.1 in
-    rw (p.1, p.2) (judged_commands {A = Ran HostState} (λ (run : Ran HostState). map sent_by run.entries) c.args.text.now c.in_ok-headed.headed c.in_ok-counted.counted c.in_err-run.field-0.0 c.in_ok-headed.ensures.answers c.in_ok-counted.ensures.answers c.in_err-run.ensures.answers)
+    rw (p.1, p.2) (judged_commands c.args.text.now c.in_ok-headed.headed c.in_ok-counted.counted c.in_err-run.field-0.0 c.in_ok-headed.ensures.answers c.in_ok-counted.ensures.answers c.in_err-run.ensures.run)
 
 pub returns-in_err-end : goal.returns-in_err-end
 returns-in_err-end c =
     let p = err_from_is_err_and c.from_residual-in_err-end.result c.from_residual-in_err-end.ensures.1 in
-    rw (p.1, p.2) (judged_apart c.args.text.now c.in_ok-headed.headed c.in_ok-counted.counted c.in_ok-run.run'.entries c.in_err-end.field-0.0
-    (record { header_is = c.in_ok-headed.ensures.answers; count_is = c.in_ok-counted.ensures.answers; commands_are = c.in_ok-run.ensures.answers; legal = c.in_ok-run.ensures.run.legal })
-    (subst (λ (entries : List Entry). IsComparedWith c.in_ok-headed.headed.session entries c.args.text.now (Err c.in_err-end.field-0.0)) c.entries.ensures.entries c.in_err-end.ensures.compared))
+    let its = c.in_ok-run.ensures.run in
+    rw (p.1, p.2) (judged_apart c.args.text.now c.in_ok-headed.headed c.in_ok-counted.counted its.entries c.in_err-end.field-0.0
+    (record { header_is = c.in_ok-headed.ensures.answers; count_is = c.in_ok-counted.ensures.answers; commands_are = its.in_order; legal = its.has_served.legal })
+    (c.in_err-end.ensures.compared its.entries its.has_served))
 
 pub returns : goal.returns
 returns c =
-    judged_last c.args.text.now c.in_ok-headed.headed c.in_ok-counted.counted c.in_ok-run.run'.entries c.in_ok-end.end c.last_lines.result
-    (record { header_is = c.in_ok-headed.ensures.answers; count_is = c.in_ok-counted.ensures.answers; commands_are = c.in_ok-run.ensures.answers; legal = c.in_ok-run.ensures.run.legal })
-    (subst (λ (entries : List Entry). IsComparedWith c.in_ok-headed.headed.session entries c.args.text.now (Ok c.in_ok-end.end)) c.entries.ensures.entries c.in_ok-end.ensures.compared)
+    let its = c.in_ok-run.ensures.run in
+    judged_last c.args.text.now c.in_ok-headed.headed c.in_ok-counted.counted its.entries c.in_ok-end.end c.last_lines.result
+    (record { header_is = c.in_ok-headed.ensures.answers; count_is = c.in_ok-counted.ensures.answers; commands_are = its.in_order; legal = its.has_served.legal })
+    (c.in_ok-end.ensures.compared its.entries its.has_served)
     c.last_lines.ensures
 
 pub compare_day-requires : goal.compare_day-requires
-compare_day-requires c =
-    let end = at_the_end stands c.in_ok-headed.headed.session c.in_ok-run.run' c.market.ensures.market c.entries.ensures.entries c.in_ok-run.ensures.run in
-    record { legal = end.0; market = end.1 }
+compare_day-requires c = record { served = (c.in_ok-run.ensures.run.entries, c.in_ok-run.ensures.run.has_served) }

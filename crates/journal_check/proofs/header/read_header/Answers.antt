@@ -8,26 +8,18 @@ returns-in-Err-clause-answers c = header_stopped c.args.text.now c.loop-read.at 
 pub returns-in-Ok-Start-clause-answers : goal.returns-in-Ok-Start-clause-answers
 returns-in-Ok-Start-clause-answers c =
     c.loop-read.invariant.reads
-    ∙ header_whole c.args.text.now c.loop-read.at c.in-Ok.read c.loop-read.reader c.line.new.self c.session_of.result c.in-Ok.ensures c.in-Ok-Start.ensures.read c.session_of.ensures
+    ∙ header_whole c.args.text.now c.loop-read.at c.in-Ok.read c.loop-read.reader c.line_in.new.self c.session_of.result c.in-Ok.ensures c.in-Ok-Start.ensures.read c.session_of.ensures
 
 pub returns-in-Err-Fault-clause-answers : goal.returns-in-Err-Fault-clause-answers
 returns-in-Err-Fault-clause-answers c =
     c.loop-read.invariant.reads
-    ∙ header_wrong c.args.text.now c.loop-read.at c.in-Ok.read c.loop-read.reader c.line.new.self c.in-Err-Fault.field-0-0 c.in-Err-Fault.field-0-1 c.in-Ok.ensures
+    ∙ header_wrong c.args.text.now c.loop-read.at c.in-Ok.read c.loop-read.reader c.line_in.new.self c.in-Err-Fault.field-0-0 c.in-Err-Fault.field-0-1 c.in-Ok.ensures
     (rw c.in-Err-Fault.field-0-is at c.in-Err-Fault.ensures.read) (rw c.in-Err-Fault.field-0-is at c.in-Err-Fault.ensures.answer)
-
-pub loop-read-preserved-in-Ok-More : goal.loop-read-preserved-in-Ok-More
-loop-read-preserved-in-Ok-More c = record {
-  within = read-within c.args.text.now c.loop-read.at c.in-Ok.read c.in-Ok.ensures;
-  not_yet = (rw c.in-Ok-More.field-0-is at c.in-Ok-More.ensures.goes_on) (λ same. cc);
-  reads = c.loop-read.invariant.reads
-      ∙ header_more c.args.text.now c.loop-read.at c.in-Ok.read c.loop-read.reader c.line.new.self c.in-Ok.ensures c.in-Ok-More.ensures.read (rw c.in-Ok-More.field-0-is at c.in-Ok-More.ensures.answer);
-}
 
 pub loop-read-preserved : goal.loop-read-preserved
 loop-read-preserved c = record {
   within = read-within c.args.text.now c.loop-read.at c.in-Ok.read c.in-Ok.ensures;
   not_yet = (rw c.in-Ok-More.field-0-is at c.in-Ok-More.ensures.goes_on) (λ same. cc);
   reads = c.loop-read.invariant.reads
-      ∙ header_more c.args.text.now c.loop-read.at c.in-Ok.read c.loop-read.reader c.line.new.self c.in-Ok.ensures c.in-Ok-More.ensures.read (rw c.in-Ok-More.field-0-is at c.in-Ok-More.ensures.answer);
+      ∙ header_more c.args.text.now c.loop-read.at c.in-Ok.read c.loop-read.reader c.line_in.new.self c.in-Ok.ensures c.in-Ok-More.ensures.read (rw c.in-Ok-More.field-0-is at c.in-Ok-More.ensures.answer);
 }
