@@ -1,7 +1,7 @@
 -- A text that is served round by round.
 use Rattle.std.proofs.Common.{◌≡◌, ℕ, suc, ◌+◌, ◌-◌, ◌^◌, ◌<◌, ◌≤◌, List, [], ◌∷◌, ◌++◌, length, map, Option, Some, None, Result, Ok, Err, refl, sym, ap, ◌∙◌, subst, arith, inl, inr, length-append}
 use Rattle.std.specs.Prelude.{IsErrAnd}
-use Rattle.std.proofs.lemmas.List.{length-map}
+use Rattle.std.proofs.lemmas.List.{length-map, map-append}
 use Rattle.fx_amounts.specs.declared.memory.Memory.{Memory as AmountsMemory}
 use Rattle.fx_rules.specs.declared.command.Sent.{Sent}
 use Rattle.fx_rules.specs.declared.outcome.Entry.{Entry}
@@ -26,14 +26,13 @@ use Rattle.session_script.specs.declared.ends.TextEnd.TheVariants.{EndLine, Earl
 use Rattle.session_script.specs.declared.ends.Stop.{Stop}
 use Rattle.session_script.specs.declared.ends.Stop.TheVariants as stops
 use Rattle.session_script.specs.declared.reading.Reading.{Reading}
-use Rattle.market_run.specs.Ran.{Ran as MarketRan}
-use Rattle.market_run.specs.Running.{HasRun, CanServe, Served}
+use Rattle.day_run.specs.Serving.{Day, HasServed, MayServe, ServesOn}
 use Rattle.pair_host.specs.Standing.{HostState, stands}
 use Rattle.fx_chronicle.specs.Faces.{Witness, no_session}
 use Rattle.gateway_workers.specs.declared.lane.Lane.{Lane}
 use Rattle.threaded_run.specs.Lanes.{HaveServed, CanServe as CanServeLanes}
 use Rattle.fx_cli.specs.Headline.{IsHeadline, IsSerial}
-use Rattle.fx_cli.specs.inside.Rounds.{IsServed, IsHistoryOfText}
+use Rattle.fx_cli.specs.inside.Rounds.{IsServing, HasServedRound, IsServed, IsHistoryOfText}
 use Rattle.fx_cli.specs.Run.{RanText, Ran}
 use Rattle.fx_cli.specs.Status.{status_at, status_of, ending_of}
 use Rattle.fx_cli.specs.inside.Status.{written_status}
@@ -169,41 +168,48 @@ wrote_of written faults out out' result session h entries history strays ending 
 -- In the order of the lines
 
 -- a run that opens has served nothing
-pub read_open : {S : Type 0} {left : S → Option (List ℕ)} {faults : S → ℕ} {a b : S} {reading : Reading} {h : Header} (entries : List Entry) → entries ≡ [] → HasRead left faults a b reading h (sent_at reading.intake.stage)
-    → HasRead left faults a b reading h (map sent_by entries ++ sent_at reading.intake.stage)
-read_open {left = left} {faults = faults} {a = a} {b = b} {reading = reading} {h = h} entries none has =
-    subst (λ (es : List Entry). HasRead left faults a b reading h (map sent_by es ++ sent_at reading.intake.stage)) (sym none) has
+pub serving_open : {S : Type 0} {left : S → Option (List ℕ)} {faults : S → ℕ} {a b : S} {reading : Reading} {h : Header} (session : Header) (run : Day HostState) → HasRead left faults a b reading h (sent_at reading.intake.stage)
+    → session_at reading.intake.stage ≡ Some session → HasServed stands session [] run → IsServing left faults a b reading h run
+serving_open session run has is opens =
+    record { entries = []; has_read = has; has_served = subst (λ (g : Header). HasServed stands g [] run) (same_session session has is) opens }
 
--- it is one of the session of the text
-pub run_of : {S : Type 0} {left : S → Option (List ℕ)} {faults : S → ℕ} {a b : S} {reading : Reading} {h : Header} {all : List Sent} (session : Header) (run : MarketRan HostState) → HasRead left faults a b reading h all → session_at reading.intake.stage ≡ Some session
-    → HasRun stands session run → HasRun stands h run
-run_of session run has is has_run = subst (λ (g : Header). HasRun stands g run) (same_session session has is) has_run
-
--- it has served the text, and its output was written
-pub serial_ran : {S K T : Type 0} (left : S → Option (List ℕ)) (failed : S → ℕ) (written : K → Option (List ℕ)) (faults : K → ℕ) (result : Result T OutFault) (a b : S) (out out' : K) (reading : Reading) (h session : Header) (run : MarketRan HostState) (end : TextEnd) (entries : List Entry) (strays : ℕ) (ending : Ending) (status : Status)
-    → IsServed left failed a b reading h run end → session_at reading.intake.stage ≡ Some session → entries ≡ run.entries → strays_at reading.intake.stage ≡ strays → ending ≡ ending_of end
-    → WroteOutput written faults out out' (IsOutput session entries strays ending) result → status ≡ written_status end result → Ran IsSerial left failed written faults a b out out' status
-serial_ran left failed written faults result a b out out' reading h session run end entries strays ending status served is are strays_is ending_is wrote status_is =
-    ran-written IsSerial left failed written faults result a b out out' reading h (map sent_by run.entries) end run.entries strays status served.has_read served.ended (sym strays_is)
-    (serial_of h (map sent_by run.entries) run.entries served.has_run.legal refl) served.has_run.legal
-    (omega (arith, served.has_read.says.few, served.has_read.within, length-map run.entries sent_by))
-    (wrote_of written faults out out' result session h entries run.entries strays ending (ending_of end) (same_session session served.has_read is) are ending_is wrote) status_is
-
-pub can_serve : {S : Type 0} {left : S → Option (List ℕ)} {faults : S → ℕ} {a b : S} {reading : Reading} (h : Header) (run : MarketRan HostState) (sent : List Sent) → HasRead left faults a b reading h (map sent_by run.entries ++ sent_at reading.intake.stage) → HasRun stands h run
-    → sent ≡ sent_at reading.intake.stage → CanServe stands run sent
-can_serve {reading = reading} h run sent has has_run is =
-    let valid : Each (IsSentOf h) (sent_at reading.intake.stage) = round_valid h (map sent_by run.entries) (sent_at reading.intake.stage) has.says.valid in
-    record {
-      session = h;
-      has_run = has_run;
+-- the commands of a round can be served
+pub may_serve : {S : Type 0} {left : S → Option (List ℕ)} {faults : S → ℕ} {a b : S} {reading : Reading} {h : Header} (session : Header) (run : Day HostState) (sent : List Sent) → IsServing left faults a b reading h run
+    → session_at reading.intake.stage ≡ Some session → sent ≡ sent_at reading.intake.stage → MayServe stands session run sent
+may_serve {reading = reading} {h = h} session run sent serving session_is is =
+    let valid : Each (IsSentOf h) (sent_at reading.intake.stage) = round_valid h (map sent_by serving.entries) (sent_at reading.intake.stage) serving.has_read.says.valid in
+    subst (λ (g : Header). MayServe stands g run sent) (sym (same_session session serving.has_read session_is))
+    (record {
+      entries = serving.entries;
+      has_served = serving.has_served;
       valid = subst (Each (IsSentOf h)) (sym is) valid;
-      few = omega (arith, round_few (map sent_by run.entries) (sent_at reading.intake.stage) has, length-map run.entries sent_by, ap (λ (all : List Sent). length all) is);
+      few = omega (arith, round_few (map sent_by serving.entries) (sent_at reading.intake.stage) serving.has_read, length-map serving.entries sent_by, ap (λ (all : List Sent). length all) is);
+    })
+
+-- and then they are
+pub round_served : {S : Type 0} {left : S → Option (List ℕ)} {faults : S → ℕ} {a b : S} {reading : Reading} {h : Header} (session : Header) (was now : Day HostState) (sent : List Sent) → IsServing left faults a b reading h was
+    → session_at reading.intake.stage ≡ Some session → sent ≡ sent_at reading.intake.stage → ServesOn stands session was now sent → HasServedRound left faults a b reading h now
+round_served {left = left} {faults = faults} {a = a} {b = b} {reading = reading} {h = h} session was now sent serving session_is is on =
+    let went = (subst (λ (g : Header). ServesOn stands g was now sent) (same_session session serving.has_read session_is) on) serving.entries serving.has_served in
+    record {
+      entries = serving.entries ++ went.more;
+      has_read = subst (λ (all : List Sent). HasRead left faults a b reading h all)
+          (sym (map-append sent_by serving.entries went.more ∙ ap (λ (more : List Sent). map sent_by serving.entries ++ more) (went.sent_is ∙ is))) serving.has_read;
+      has_served = went.has_served;
     }
 
-pub round_served : {S : Type 0} {left : S → Option (List ℕ)} {faults : S → ℕ} {a b : S} {reading : Reading} {h : Header} (was now : MarketRan HostState) (sent : List Sent) → HasRead left faults a b reading h (map sent_by was.entries ++ sent_at reading.intake.stage)
-    → sent ≡ sent_at reading.intake.stage → Served was now sent → HasRead left faults a b reading h (map sent_by now.entries)
-round_served {left = left} {faults = faults} {a = a} {b = b} {reading = reading} {h = h} was now sent has is served =
-    subst (λ (all : List Sent). HasRead left faults a b reading h all) (sym (served ∙ ap (λ (more : List Sent). map sent_by was.entries ++ more) is)) has
+-- it has served the text, and its output was written
+pub serial_ran : {S K T : Type 0} (left : S → Option (List ℕ)) (failed : S → ℕ) (written : K → Option (List ℕ)) (faults : K → ℕ) (result : Result T OutFault) (a b : S) (out out' : K) (reading : Reading) (h session : Header) (run : Day HostState) (end : TextEnd) (strays : ℕ) (ending : Ending) (status : Status)
+    → IsServed left failed a b reading h run end → session_at reading.intake.stage ≡ Some session → strays_at reading.intake.stage ≡ strays → ending ≡ ending_of end
+    → ((entries : List Entry) → HasServed stands session entries run → WroteOutput written faults out out' (IsOutput session entries strays ending) result) → status ≡ written_status end result → Ran IsSerial left failed written faults a b out out' status
+serial_ran left failed written faults result a b out out' reading h session run end strays ending status served is strays_is ending_is wrote status_is =
+    let all = served.all in
+    let same : session ≡ h = same_session session all.has_read is in
+    ran-written IsSerial left failed written faults result a b out out' reading h (map sent_by all.entries) end all.entries strays status all.has_read served.ended (sym strays_is)
+    (serial_of h (map sent_by all.entries) all.entries all.has_served.legal refl) all.has_served.legal
+    (omega (arith, all.has_read.says.few, all.has_read.within, length-map all.entries sent_by))
+    (wrote_of written faults out out' result session h all.entries all.entries strays ending (ending_of end) same refl ending_is
+    (wrote all.entries (subst (λ (g : Header). HasServed stands g all.entries run) (sym same) all.has_served))) status_is
 
 -- On threads
 

@@ -1,8 +1,4 @@
-ghost use Rattle.std.specs.Prelude.{◌++◌, map};
 ghost use Rattle.fx_rules.specs.Session.{Header as SessionHeader};
-ghost use Rattle.fx_rules.specs.Sending.{sent_by};
-ghost use Rattle.market_run.specs.Running.{HasRun};
-ghost use Rattle.pair_host.specs.Standing.{stands};
 ghost use Rattle.session_script.specs.Stage.{sent_at};
 ghost use Rattle.session_script.specs.Rounds.{HasRead};
 ghost use Rattle.fx_cli.specs.Headline.{IsSerial};
@@ -11,12 +7,10 @@ ghost use Rattle.fx_cli.specs.Run.{Ran};
 
 use crate::ending::{ending_of, written_status};
 use crate::status::Status;
+use day_run::{DayRun, open_day};
 use fx_amounts::Memory;
 use fx_edges::{Sink, Source};
-use market_run::Run;
 use pair_host::PairHost;
-use reply_lines::write_output_from;
-use serial_run::open_run;
 use session_script::{Reading, TextEnd};
 use std::alloc::Global;
 
@@ -41,22 +35,14 @@ fn serve_text<S: Source, K: Sink>(
     requires begun { (before : S) × (h : SessionHeader) × HasRead S.left S.faults before source.old reading.old h (sent_at reading.old.intake.stage) }
     ensures ran { (before : S) (h : SessionHeader) → HasRead S.left S.faults before source.old reading.old h (sent_at reading.old.intake.stage) → Ran IsSerial S.left S.faults K.written K.faults before source.new out.old out.new result }
 {
-    let Ok(mut run) = open_run(alloc, &reading.script().session) else {
+    let Ok(mut run) = open_day(alloc, &reading.script().session) else {
         return Status::Memory;
     };
     let Ok(end) = serve_rounds(reading, source, &mut run) else {
         return Status::Memory;
     };
     let script = reading.script();
-    let written = write_output_from(
-        alloc,
-        &script.session,
-        run.entries(),
-        run.market(),
-        script.strays,
-        ending_of(end),
-        out,
-    );
+    let written = run.write(alloc, &script.session, script.strays, ending_of(end), out);
     written_status(end, written)
 }
 
@@ -64,13 +50,14 @@ fn serve_text<S: Source, K: Sink>(
 fn serve_rounds<S: Source>(
     reading: &mut Reading,
     source: &mut S,
-    run: &mut Run<PairHost>,
+    run: &mut DayRun<PairHost>,
 ) -> Result<TextEnd, Memory>
-    requires serving { IsServing S.left S.faults source.old reading.old run.old }
-    ensures served { (before : S) (h : SessionHeader) → HasRead S.left S.faults before source.old reading.old h (map sent_by run.old.entries ++ sent_at reading.old.intake.stage) → HasRun stands h run.old → ServedText S.left S.faults before source.new reading.new h run.new result }
+    requires serving { (before : S) × (h : SessionHeader) × IsServing S.left S.faults before source.old reading.old h run.old }
+    ensures served { (before : S) (h : SessionHeader) → IsServing S.left S.faults before source.old reading.old h run.old → ServedText S.left S.faults before source.new reading.new h run.new result }
 {
     loop {
-        run.serve_all(&reading.script().sent)?;
+        let script = reading.script();
+        run.serve_all(&script.session, &script.sent)?;
         if let Some(end) = reading.end() {
             return Ok(end);
         }

@@ -3,4 +3,4 @@
 
 mod run;
 
-pub use run::{open_run, run_in_order};
+pub use run::run_in_order;

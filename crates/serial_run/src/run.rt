@@ -11,7 +11,7 @@ use pair_host::PairHost;
 use std::alloc::Global;
 
 /// The run of a session as it opens, by one host over the pair books.
-pub fn open_run(alloc: Global, session: &Session) -> Result<Run<PairHost>, Memory>
+fn open_run(alloc: Global, session: &Session) -> Result<Run<PairHost>, Memory>
     ensures run { IfOk result (HasRun stands session.now) }
     ensures none { IfOk result (λ run. run.entries ≡ []) }
 {

@@ -11,8 +11,7 @@ use Rattle.fx_rules.specs.History.{IsLegal}
 use Rattle.fx_chronicle.specs.Faces.{Witness}
 use Rattle.fx_desk.specs.Streams.{HasStreams}
 use Rattle.gateway_workers.specs.declared.lane.Lane.{Lane}
-use Rattle.market_run.specs.Ran.{Ran}
-use Rattle.market_run.specs.Running.{HasRun}
+use Rattle.day_run.specs.Serving.{Day, HasServed}
 use Rattle.pair_host.specs.Standing.{HostState, stands}
 use Rattle.session_script.specs.Stage.{sent_at}
 use Rattle.session_script.specs.Rounds.{HasRead, TookPromptly}
@@ -21,14 +20,7 @@ use Rattle.session_script.specs.declared.reading.Reading.{Reading}
 use Rattle.threaded_run.specs.Lanes.{HaveServed}
 
 module _ {S : Type 0} (left : S → Option (List ℕ)) (faults : S → ℕ) where
-  -- a run has served what was read of its session in former rounds, in the order of the lines
-  pub record IsServing (now : S) (reading : Reading) (run : Ran HostState) : Type 0 where
-    pub before : S
-    pub session : Header
-    pub has_read : HasRead left faults before now reading session (map sent_by run.entries ++ sent_at reading.intake.stage)
-    pub has_run : HasRun stands session run
-
-  -- and so have lanes, each bank's in its order
+  -- lanes have served what was read of their session in former rounds, each bank's in its order
   pub record AreServing (now : S) (reading : Reading) (h : Header) (lanes : List (Lane (Witness Entry))) : Type 0 where
     pub before : S
     pub sent : List Sent
@@ -36,13 +28,24 @@ module _ {S : Type 0} (left : S → Option (List ℕ)) (faults : S → ℕ) wher
     pub served : HaveServed h sent lanes
 
   module _ (before now : S) (reading : Reading) (h : Header) where
-    -- the text ended so, and the run has served all its commands in the order of the lines
-    pub record IsServed (run : Ran HostState) (end : TextEnd) : Type 0 where
-      pub ended : reading.end ≡ Some end
-      pub has_read : HasRead left faults before now reading h (map sent_by run.entries)
-      pub has_run : HasRun stands h run
+    -- a run has served what was read of its session in former rounds, in the order of the lines
+    pub record IsServing (run : Day HostState) : Type 0 where
+      pub entries : List Entry
+      pub has_read : HasRead left faults before now reading h (map sent_by entries ++ sent_at reading.intake.stage)
+      pub has_served : HasServed stands h entries run
 
-    abbrev pub ServedText : Ran HostState → Result TextEnd Memory → Type 0
+    -- and what was read in this round too
+    pub record HasServedRound (run : Day HostState) : Type 0 where
+      pub entries : List Entry
+      pub has_read : HasRead left faults before now reading h (map sent_by entries)
+      pub has_served : HasServed stands h entries run
+
+    -- the text ended so, and the run has served all its commands in the order of the lines
+    pub record IsServed (run : Day HostState) (end : TextEnd) : Type 0 where
+      pub ended : reading.end ≡ Some end
+      pub all : HasServedRound run
+
+    abbrev pub ServedText : Day HostState → Result TextEnd Memory → Type 0
     ServedText run (Ok end) = IsServed run end
     ServedText run (Err memory) = TookPromptly left faults before now
 

@@ -4,59 +4,52 @@ use Rattle.fx_amounts.specs.declared.memory.Memory.{Memory}
 use Rattle.fx_rules.specs.Sending.{sent_by}
 use Rattle.session_script.specs.declared.ends.TextEnd.{TextEnd}
 use Rattle.fx_cli.specs.inside.Rounds.{ServedText}
-use Rattle.fx_cli.proofs.Served.{can_serve, for_want, less_to_read, promptly, round_served, taken_within}
+use Rattle.fx_cli.proofs.Served.{may_serve, for_want, less_to_read, promptly, round_served, taken_within}
 use Rattle.fx_cli.proofs.serial.serve_rounds.Goals as goal
 
 pub serve_all-requires : goal.serve_all-requires
 serve_all-requires g c =
     let its = c.requires.serving in
-    let so_far = c.loop-reading.invariant.serving its.before its.session its.has_read its.has_run in
-    record { can_serve = can_serve its.session c.loop-reading.run c.deref.result.now so_far.0 so_far.1 (c.deref.ensures.value ∙ sym c.script.ensures.sent) }
+    let so_far = c.loop-reading.invariant.serving its.0 its.1 its.2 in
+    record { may_serve = may_serve c.script-script.result.now.session c.loop-reading.run c.deref.result.now so_far c.script-script.ensures.session (c.deref.ensures.value ∙ sym c.script-script.ensures.sent) }
 
 pub returns-in_err-serve_all : goal.returns-in_err-serve_all
 returns-in_err-serve_all g c = record {
-  served = λ before h has runs.
+  served = λ before h serving.
       for_want c.from_residual.result _ (λ (r : Result TextEnd Memory). ServedText g.S.Source.left g.S.Source.faults before c.loop-reading.source c.loop-reading.reading h c.serve_all.new.self r) c.from_residual.ensures.1
-      (λ memory. promptly (c.loop-reading.invariant.serving before h has runs).0);
+      (λ memory. promptly (c.loop-reading.invariant.serving before h serving).has_read);
 }
 
 pub returns-in-Some : goal.returns-in-Some
 returns-in-Some g c =
     let ended : c.loop-reading.reading.end ≡ Some c.in-Some.end = search rules in
     record {
-      served = λ before h has runs.
-          let so_far = c.loop-reading.invariant.serving before h has runs in
-          record {
-            ended = ended;
-            has_read = round_served c.loop-reading.run c.serve_all.new.self c.deref.result.now so_far.0 (c.deref.ensures.value ∙ sym c.script.ensures.sent) c.in_ok-serve_all.ensures.served;
-            has_run = c.serve_all.ensures.run h so_far.1;
-          };
+      served = λ before h serving. record {
+        ended = ended;
+        all = round_served c.script-script.result.now.session c.loop-reading.run c.serve_all.new.self c.deref.result.now (c.loop-reading.invariant.serving before h serving) c.script-script.ensures.session (c.deref.ensures.value ∙ sym c.script-script.ensures.sent) c.in_ok-serve_all.ensures.served;
+      };
     }
 
 pub loop-reading-preserved : goal.loop-reading-preserved
 loop-reading-preserved g c = record {
-  serving = λ before h has runs.
-      let so_far = c.loop-reading.invariant.serving before h has runs in (
-        c.in_ok-read_round.ensures.read before h (map sent_by c.serve_all.new.self.entries)
-            (round_served c.loop-reading.run c.serve_all.new.self c.deref.result.now so_far.0 (c.deref.ensures.value ∙ sym c.script.ensures.sent) c.in_ok-serve_all.ensures.served),
-        c.serve_all.ensures.run h so_far.1,
-      );
+  serving = λ before h serving.
+      let round = round_served c.script-script.result.now.session c.loop-reading.run c.serve_all.new.self c.deref.result.now (c.loop-reading.invariant.serving before h serving) c.script-script.ensures.session (c.deref.ensures.value ∙ sym c.script-script.ensures.sent) c.in_ok-serve_all.ensures.served in
+      record { entries = round.entries; has_read = c.in_ok-read_round.ensures.read before h (map sent_by round.entries) round.has_read; has_served = round.has_served };
 }
 
 pub loop-reading-smaller : goal.loop-reading-smaller
 loop-reading-smaller g c =
     let goes_on : c.loop-reading.reading.end ≡ None = search rules in
     let its = c.requires.serving in
-    let so_far = c.loop-reading.invariant.serving its.before its.session its.has_read its.has_run in
-    let has = c.in_ok-read_round.ensures.read its.before its.session (map sent_by c.serve_all.new.self.entries)
-    (round_served c.loop-reading.run c.serve_all.new.self c.deref.result.now so_far.0 (c.deref.ensures.value ∙ sym c.script.ensures.sent) c.in_ok-serve_all.ensures.served) in
+    let so_far = c.loop-reading.invariant.serving its.0 its.1 its.2 in
+    let round = round_served c.script-script.result.now.session c.loop-reading.run c.serve_all.new.self c.deref.result.now so_far c.script-script.ensures.session (c.deref.ensures.value ∙ sym c.script-script.ensures.sent) c.in_ok-serve_all.ensures.served in
+    let has = c.in_ok-read_round.ensures.read its.0 its.1 (map sent_by round.entries) round.has_read in
     less_to_read c.loop-reading.reading.end c.read_round.new.self.end c.loop-reading.reading.intake.taken c.read_round.new.self.intake.taken goes_on c.in_ok-read_round.ensures.further (taken_within has)
 
 pub returns-in_err-read_round : goal.returns-in_err-read_round
 returns-in_err-read_round g c = record {
-  served = λ before h has runs.
-      let so_far = c.loop-reading.invariant.serving before h has runs in
+  served = λ before h serving.
+      let round = round_served c.script-script.result.now.session c.loop-reading.run c.serve_all.new.self c.deref.result.now (c.loop-reading.invariant.serving before h serving) c.script-script.ensures.session (c.deref.ensures.value ∙ sym c.script-script.ensures.sent) c.in_ok-serve_all.ensures.served in
       for_want c.from_residual-in_err-read_round.result _ (λ (r : Result TextEnd Memory). ServedText g.S.Source.left g.S.Source.faults before c.read_round.new.source c.read_round.new.self h c.serve_all.new.self r) c.from_residual-in_err-read_round.ensures.1
-      (λ memory. c.in_err-read_round.ensures.memory before h (map sent_by c.serve_all.new.self.entries)
-      (round_served c.loop-reading.run c.serve_all.new.self c.deref.result.now so_far.0 (c.deref.ensures.value ∙ sym c.script.ensures.sent) c.in_ok-serve_all.ensures.served));
+      (λ memory. c.in_err-read_round.ensures.memory before h (map sent_by round.entries) round.has_read);
 }
