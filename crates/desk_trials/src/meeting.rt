@@ -76,7 +76,7 @@ fn two_workers_meet(rt: HostRuntime) -> Result<(), Fail> {
         },
     ];
     let gate = MeetingGate::new();
-    let history = run_on_threads(&rt, &session, &sent, 2, &gate)?;
+    let (history, _market) = run_on_threads(&rt, &session, &sent, 2, &gate)?;
     let entries = history.as_slice();
     assert!(rt;
         !gate.has_given_up.load(Ordering::SeqCst),

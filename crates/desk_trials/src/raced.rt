@@ -127,7 +127,7 @@ fn a_line_raced_by_two_pairs_pays_for_one(rt: HostRuntime) -> Result<(), Fail> {
         order(BETA, Side::Buy, GBPUSD, Life::Ioc),
     ];
     let gate = RacingGate::new();
-    let history = run_on_threads(&rt, &session, &sent, 2, &gate)?;
+    let (history, _market) = run_on_threads(&rt, &session, &sent, 2, &gate)?;
     let entries = history.as_slice();
     assert!(rt;
         !gate.has_given_up.load(Ordering::SeqCst),

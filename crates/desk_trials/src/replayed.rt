@@ -76,7 +76,7 @@ fn is_one_history<R: AllocGlobal + Threads + Wait + Sync>(
     requires few { length sent.now < 2 ^ 32 }
     requires workers { 1 ≤ workers }
 {
-    let history = run_on_threads(rt, session, sent, workers, &OpenGate)?;
+    let (history, _market) = run_on_threads(rt, session, sent, workers, &OpenGate)?;
     if history.len() != sent.len() || !has_streams(&history, sent) {
         return Ok(false);
     }

@@ -61,7 +61,7 @@ fn a_show_goes_before_a_credit_change_that_is_held(rt: HostRuntime) -> Result<()
         is_gama_done: AtomicBool::new(false),
         has_given_up: AtomicBool::new(false),
     };
-    let history = run_on_threads(&rt, &session, &sent, 3, &gate)?;
+    let (history, _market) = run_on_threads(&rt, &session, &sent, 3, &gate)?;
     let entries = history.as_slice();
     assert!(rt;
         !gate.has_given_up.load(Ordering::SeqCst),

@@ -78,7 +78,7 @@ fn pairs_are_served_side_by_side(rt: HostRuntime) -> Result<(), Fail> {
         is_done: AtomicBool::new(false),
         has_given_up: AtomicBool::new(false),
     };
-    let history = run_on_threads(&rt, &session, &sent, 2, &gate)?;
+    let (history, _market) = run_on_threads(&rt, &session, &sent, 2, &gate)?;
     let entries = history.as_slice();
     assert!(rt;
         !gate.has_given_up.load(Ordering::SeqCst),

@@ -8,7 +8,7 @@ use Rattle.fx_rules.specs.declared.outcome.Entry.{Entry}
 use Rattle.fx_rules.specs.Lists.{Each}
 use Rattle.fx_rules.specs.Session.{Header}
 use Rattle.fx_rules.specs.Sending.{IsSentOf, sent_by}
-use Rattle.fx_rules.specs.History.{IsLegal}
+use Rattle.fx_rules.specs.History.{IsLegal, state}
 use Rattle.fx_desk.proofs.Streams.{streams-length}
 use Rattle.reply_lines.specs.Output.{IsOutput}
 use Rattle.reply_lines.specs.Faults.{WroteOutput}
@@ -237,14 +237,18 @@ read_here {left = left} {faults = faults} {a = a} {b = b} {reading = reading} {h
     subst (λ (g : Header). HasRead left faults a b reading g all) (header_same (session_at reading.intake.stage) h has.session) has
 
 -- the history that threads made of the text, and its output was written
-pub history_legal : {S : Type 0} {left : S → Option (List ℕ)} {failed : S → ℕ} {a b : S} {reading : Reading} {h : Header} {end : TextEnd} {history : List Entry} (session : Header) (entries : List Entry) → IsHistoryOfText left failed a b reading h end history → session_at reading.intake.stage ≡ Some session → entries ≡ history → IsLegal session entries
-history_legal {history = history} session entries is session_is are =
-    subst (λ (es : List Entry). IsLegal session es) (sym are) (subst (λ (g : Header). IsLegal g history) (sym (same_session session is.has_read session_is)) is.legal)
+pub history_stands : {S : Type 0} {left : S → Option (List ℕ)} {failed : S → ℕ} {a b : S} {reading : Reading} {h : Header} {end : TextEnd} {history : List Entry} {market : HostState} (session : Header) (entries : List Entry) → IsHistoryOfText left failed a b reading h end history market → session_at reading.intake.stage ≡ Some session → entries ≡ history
+    → IsLegal session entries × stands market session (state session entries)
+history_stands {history = history} {market = market} session entries is session_is are =
+    let same : session ≡ _ = same_session session is.has_read session_is in (
+      subst (λ (es : List Entry). IsLegal session es) (sym are) (subst (λ (g : Header). IsLegal g history) (sym same) is.legal),
+      subst (λ (es : List Entry). stands market session (state session es)) (sym are) (subst (λ (g : Header). stands market g (state g history)) (sym same) is.market),
+    )
 
-pub threads_ran : {S K T : Type 0} (left : S → Option (List ℕ)) (failed : S → ℕ) (written : K → Option (List ℕ)) (faults : K → ℕ) (result : Result T OutFault) (a b : S) (out out' : K) (reading : Reading) (h session : Header) (end : TextEnd) (history entries : List Entry) (strays : ℕ) (ending : Ending) (status : Status)
-    → IsHistoryOfText left failed a b reading h end history → session_at reading.intake.stage ≡ Some session → entries ≡ history → strays_at reading.intake.stage ≡ strays → ending ≡ ending_of end
+pub threads_ran : {S K T : Type 0} (left : S → Option (List ℕ)) (failed : S → ℕ) (written : K → Option (List ℕ)) (faults : K → ℕ) (result : Result T OutFault) (a b : S) (out out' : K) (reading : Reading) (h session : Header) (end : TextEnd) (history entries : List Entry) (market : HostState) (strays : ℕ) (ending : Ending) (status : Status)
+    → IsHistoryOfText left failed a b reading h end history market → session_at reading.intake.stage ≡ Some session → entries ≡ history → strays_at reading.intake.stage ≡ strays → ending ≡ ending_of end
     → WroteOutput written faults out out' (IsOutput session entries strays ending) result → status ≡ written_status end result → Ran IsHeadline left failed written faults a b out out' status
-threads_ran left failed written faults result a b out out' reading h session end history entries strays ending status is session_is are strays_is ending_is wrote status_is =
+threads_ran left failed written faults result a b out out' reading h session end history entries market strays ending status is session_is are strays_is ending_is wrote status_is =
     ran-written IsHeadline left failed written faults result a b out out' reading h is.sent end history strays status is.has_read is.ended (sym strays_is)
     (headline_of h is.sent history is.legal is.streams) is.legal
     (omega (arith, is.has_read.says.few, is.has_read.within, streams-length is.sent history is.streams))

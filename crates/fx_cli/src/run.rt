@@ -15,7 +15,8 @@ use fx_amounts::Memory;
 use fx_chronicle::{Blank, Naming};
 use fx_edges::{Sink, Source};
 use fx_rules::{Entry, Gate};
-use reply_lines::write_output;
+use pair_host::PairHost;
+use reply_lines::write_output_from;
 use session_script::{Reading, TextEnd};
 use std::marker::Brand;
 use std::sync::Wait;
@@ -56,15 +57,17 @@ fn serve_text<R: AllocGlobal + Threads + Wait + Sync, S: Source, K: Sink, G: Gat
     let Ok(blank) = Blank::new(rt.alloc(), keys_of(&reading.script().session)) else {
         return Status::Memory;
     };
-    let Ok((end, history)) = serve_at::<Brand, R, S, G>(rt, blank, workers, reading, source, gate)
-    else {
+    let Ok((end, history, market)) = serve_at::<Brand, R, S, G>(
+        rt, blank, workers, reading, source, gate,
+    ) else {
         return Status::Memory;
     };
     let script = reading.script();
-    let written = write_output(
+    let written = write_output_from(
         rt.alloc(),
         &script.session,
         &history,
+        &market,
         script.strays,
         ending_of(end),
         out,
@@ -72,7 +75,8 @@ fn serve_text<R: AllocGlobal + Threads + Wait + Sync, S: Source, K: Sink, G: Gat
     written_status(end, written)
 }
 
-/// Runs the session of a reading at a host of this blank, and answers how the text ended and the history.
+/// Runs the session of a reading at a host of this blank, and answers how the text ended, the history, and the market in the state
+/// after it.
 fn serve_at<
     N: Naming + Send + Sync,
     R: AllocGlobal + Threads + Wait + Sync,
@@ -85,7 +89,7 @@ fn serve_at<
     reading: &mut Reading,
     source: &mut S,
     gate: &G,
-) -> Result<(TextEnd, Vec<Entry>), Memory>
+) -> Result<(TextEnd, Vec<Entry>, PairHost), Memory>
     requires table { blank.table ≡ N.table }
     requires keys { blank.keys ≡ key_count N.session }
     requires workers { 1 ≤ workers }
@@ -95,8 +99,8 @@ fn serve_at<
 {
     let mut run = ThreadedRun::<N>::open(rt.alloc(), blank, &reading.script().session)?;
     let end = serve_rounds(rt, workers, &mut run, reading, source, gate)?;
-    let history = run.close(rt.alloc())?;
-    Ok((end, history))
+    let (history, market) = run.close(rt.alloc(), &reading.script().session)?;
+    Ok((end, history, market))
 }
 
 /// Serves the commands of a reading, round by round, and answers how the text ended.

@@ -1,13 +1,15 @@
 ghost use Rattle.std.specs.Prelude.{◌≡◌, ◌≤◌, ◌^◌, IfOk, length};
 ghost use Rattle.fx_rules.specs.Lists.{Each};
 ghost use Rattle.fx_rules.specs.Sending.{IsSentOf};
-ghost use Rattle.fx_rules.specs.History.{IsLegal};
+ghost use Rattle.fx_rules.specs.History.{IsLegal, state};
+ghost use Rattle.pair_host.specs.Standing.{StandsFor};
 
 use fx_amounts::Memory;
 use fx_edges::SteadySink;
 use fx_rules::{Entry, Gate, Sent, Session};
 use journal_check::{Verdict, check_output};
-use reply_lines::{Ending, OutFault, write_output};
+use pair_host::PairHost;
+use reply_lines::{Ending, OutFault, write_output_from};
 use std::alloc::Global;
 use std::sync::Wait;
 use std::thread::Threads;
@@ -37,22 +39,28 @@ pub(crate) fn threaded_check<R: AllocGlobal + Threads + Wait + Sync, G: Gate + S
     ensures entries { IfOk result (λ threaded. threaded.entries ≡ length sent.now) }
     ensures verdict { IfOk result (λ threaded. threaded.verdict ≡ Verdict.Yes) }
 {
-    let history = run_on_threads(rt, session, sent, workers, gate)?;
-    let verdict = check_history(rt.alloc(), session, &history)?;
+    let (history, market) = run_on_threads(rt, session, sent, workers, gate)?;
+    let verdict = check_history(rt.alloc(), session, &history, &market)?;
     Ok(ThreadedCheck {
         entries: history.len() as u64,
         verdict,
     })
 }
 
-/// Checks the output of a legal history. The output is made in memory.
-fn check_history(alloc: Global, session: &Session, entries: &[Entry]) -> Result<Verdict, Memory>
+/// Checks the output of a legal history, with the market in the state after it. The output is made in memory.
+fn check_history(
+    alloc: Global,
+    session: &Session,
+    entries: &[Entry],
+    market: &PairHost,
+) -> Result<Verdict, Memory>
     requires legal { IsLegal session.now entries.now }
     requires few { length entries.now ≤ 2 ^ 28 }
+    requires market { StandsFor session.now (state session.now entries.now) market.now }
     ensures verdict { IfOk result (λ verdict. verdict ≡ Verdict.Yes) }
 {
     let mut output = SteadySink::new(alloc);
-    match write_output(alloc, session, entries, 0, Ending::End, &mut output) {
+    match write_output_from(alloc, session, entries, market, 0, Ending::End, &mut output) {
         Ok(()) => check_output(alloc, output.written()),
         Err(OutFault::Memory) => Err(Memory),
         // Such a sink never fails.

@@ -7,7 +7,7 @@ use Rattle.fx_rules.specs.declared.command.Sent.{Sent}
 use Rattle.fx_rules.specs.declared.outcome.Entry.{Entry}
 use Rattle.fx_rules.specs.Session.{Header}
 use Rattle.fx_rules.specs.Sending.{sent_by}
-use Rattle.fx_rules.specs.History.{IsLegal}
+use Rattle.fx_rules.specs.History.{IsLegal, state}
 use Rattle.fx_chronicle.specs.Faces.{Witness}
 use Rattle.fx_desk.specs.Streams.{HasStreams}
 use Rattle.gateway_workers.specs.declared.lane.Lane.{Lane}
@@ -60,14 +60,15 @@ module _ {S : Type 0} (left : S → Option (List ℕ)) (faults : S → ℕ) wher
     LanesServedText lanes (Ok end) = AreServed lanes end
     LanesServedText lanes (Err memory) = TookPromptly left faults before now
 
-    -- and this is the history that they made
-    pub record IsHistoryOfText (end : TextEnd) (history : List Entry) : Type 0 where
+    -- and this is the history that they made, with the market in the state after it
+    pub record IsHistoryOfText (end : TextEnd) (history : List Entry) (market : HostState) : Type 0 where
       pub ended : reading.end ≡ Some end
       pub sent : List Sent
       pub has_read : HasRead left faults before now reading h sent
       pub legal : IsLegal h history
       pub streams : HasStreams sent history
+      pub market : stands market h (state h history)
 
-    abbrev pub ThreadsServedText : Result (TextEnd × Vec Entry Global) Memory → Type 0
-    ThreadsServedText (Ok done) = IsHistoryOfText done.0 done.1.items
+    abbrev pub ThreadsServedText : Result (TextEnd × Vec Entry Global × HostState) Memory → Type 0
+    ThreadsServedText (Ok done) = IsHistoryOfText done.0 done.1.items done.2
     ThreadsServedText (Err memory) = TookPromptly left faults before now

@@ -2,7 +2,7 @@
 use Rattle.std.proofs.Common.{refl}
 use Rattle.session_script.specs.Stage.{session_at}
 use Rattle.fx_cli.specs.Headline.{IsHeadline}
-use Rattle.fx_cli.proofs.Served.{header_or_none, history_legal, promptly, ran-memory, read_here, threads_ran}
+use Rattle.fx_cli.proofs.Served.{header_or_none, history_stands, promptly, ran-memory, read_here, threads_ran}
 use Rattle.fx_cli.proofs.run.serve_text.Goals as goal
 
 pub returns-in_default : goal.returns-in_default
@@ -17,15 +17,16 @@ returns-in_default-serve_at g c = record {
       (c.in_default-serve_at.ensures.served before (read_here has)) refl;
 }
 
-pub write_output-written-requires : goal.write_output-written-requires
-write_output-written-requires g c =
+pub write_output_from-written-requires : goal.write_output_from-written-requires
+write_output_from-written-requires g c =
     let begun = c.requires.begun in
-    record { legal = history_legal {h = header_or_none (session_at c.args.reading.now.intake.stage)} c.script-script.result.now.session c.deref.result.now (c.in-Ok-serve_at.ensures.served begun.0 (read_here begun.2)) c.script-script.ensures.session c.deref.ensures.value }
+    let end = history_stands {h = header_or_none (session_at c.args.reading.now.intake.stage)} c.script-script.result.now.session c.deref.result.now (c.in-Ok-serve_at.ensures.served begun.0 (read_here begun.2)) c.script-script.ensures.session c.deref.ensures.value in
+    record { legal = end.0; market = end.1 }
 
 pub returns : goal.returns
 returns g c = record {
   ran = λ before h has.
-      threads_ran g.S.Source.left g.S.Source.faults g.K.Sink.written g.K.Sink.faults c.write_output-written.result before c.serve_at.new.source c.args.out.now c.write_output-written.new.out
-      c.serve_at.new.reading (header_or_none (session_at c.args.reading.now.intake.stage)) c.script-script.result.now.session c.in-Ok-serve_at.end c.in-Ok-serve_at.history.items c.deref.result.now c.script-script.result.now.strays c.ending_of.result c.written_status.result
-      (c.in-Ok-serve_at.ensures.served before (read_here has)) c.script-script.ensures.session c.deref.ensures.value c.script-script.ensures.strays c.ending_of.ensures c.write_output-written.ensures.wrote c.written_status.ensures;
+      threads_ran g.S.Source.left g.S.Source.faults g.K.Sink.written g.K.Sink.faults c.write_output_from-written.result before c.serve_at.new.source c.args.out.now c.write_output_from-written.new.out
+      c.serve_at.new.reading (header_or_none (session_at c.args.reading.now.intake.stage)) c.script-script.result.now.session c.in-Ok-serve_at.end c.in-Ok-serve_at.history.items c.deref.result.now c.in-Ok-serve_at.market c.script-script.result.now.strays c.ending_of.result c.written_status.result
+      (c.in-Ok-serve_at.ensures.served before (read_here has)) c.script-script.ensures.session c.deref.ensures.value c.script-script.ensures.strays c.ending_of.ensures c.write_output_from-written.ensures.wrote c.written_status.ensures;
 }
