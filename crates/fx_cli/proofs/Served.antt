@@ -242,7 +242,7 @@ pub history_stands : {S : Type 0} {left : S → Option (List ℕ)} {failed : S �
 history_stands {history = history} {market = market} session entries is session_is are =
     let same : session ≡ _ = same_session session is.has_read session_is in (
       subst (λ (es : List Entry). IsLegal session es) (sym are) (subst (λ (g : Header). IsLegal g history) (sym same) is.legal),
-      subst (λ (es : List Entry). stands market session (state session es)) (sym are) (subst (λ (g : Header). stands market g (state g history)) (sym same) is.market),
+      subst (λ (es : List Entry). stands market session (state session es)) (sym are) (subst (λ (g : Header). stands market g (state g history)) (sym same) is.at_the_end),
     )
 
 pub threads_ran : {S K T : Type 0} (left : S → Option (List ℕ)) (failed : S → ℕ) (written : K → Option (List ℕ)) (faults : K → ℕ) (result : Result T OutFault) (a b : S) (out out' : K) (reading : Reading) (h session : Header) (end : TextEnd) (history entries : List Entry) (market : HostState) (strays : ℕ) (ending : Ending) (status : Status)

@@ -67,7 +67,7 @@ module _ {S : Type 0} (left : S → Option (List ℕ)) (faults : S → ℕ) wher
       pub has_read : HasRead left faults before now reading h sent
       pub legal : IsLegal h history
       pub streams : HasStreams sent history
-      pub market : stands market h (state h history)
+      pub at_the_end : stands market h (state h history)
 
     abbrev pub ThreadsServedText : Result (TextEnd × Vec Entry Global × HostState) Memory → Type 0
     ThreadsServedText (Ok done) = IsHistoryOfText done.0 done.1.items done.2

@@ -17,8 +17,8 @@ returns-in_err-end g c = record {
       (λ memory. c.in_err-end.ensures.served before [] has c.in_ok-run.ensures.opened);
 }
 
-pub close-history-requires : goal.close-history-requires
-close-history-requires g c =
+pub close-requires : goal.close-requires
+close-requires g c =
     let begun = c.requires.begun in
     record { session = same_session c.script-2.result.now.session (c.in_ok-end.ensures.served begun.0 [] begun.1 c.in_ok-run.ensures.opened).has_read c.script-2.ensures.session }
 
@@ -39,6 +39,6 @@ returns g c = record {
         has_read = all.has_read;
         legal = c.in_ok-history.ensures.legal;
         streams = c.in_ok-history.ensures.streams all.sent all.served;
-        market = c.in_ok-history.ensures.market;
+        at_the_end = c.in_ok-history.ensures.market;
       };
 }
