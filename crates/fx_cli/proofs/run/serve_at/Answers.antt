@@ -17,10 +17,10 @@ returns-in_err-end g c = record {
       (λ memory. c.in_err-end.ensures.served before [] has c.in_ok-run.ensures.opened);
 }
 
-pub close-requires : goal.close-requires
-close-requires g c =
+pub close-requires-clause-session : goal.close-requires-clause-session
+close-requires-clause-session g c lifetimes outlive =
     let begun = c.requires.begun in
-    record { session = same_session c.script-2.result.now.session (c.in_ok-end.ensures.served begun.0 [] begun.1 c.in_ok-run.ensures.opened).has_read c.script-2.ensures.session }
+    same_session c.script-2.result.now.session (c.in_ok-end.ensures.served begun.0 [] begun.1 c.in_ok-run.ensures.opened).has_read c.script-2.ensures.session
 
 pub returns-in_err-history : goal.returns-in_err-history
 returns-in_err-history g c = record {
