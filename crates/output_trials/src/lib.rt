@@ -9,3 +9,5 @@ mod fixture;
 mod outputs;
 #[cfg(test)]
 mod reports;
+#[cfg(test)]
+mod told;

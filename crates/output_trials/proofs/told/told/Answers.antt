@@ -1,0 +1,27 @@
+use Rattle.std.proofs.Common.{List, sym, subst, take}
+use Rattle.std.proofs.lemmas.List.{take_all}
+use Rattle.fx_rules.specs.declared.outcome.Entry.{Entry}
+use Rattle.day_report.proofs.Trading.{legal-to, taken}
+use Rattle.reply_lines.specs.Day.{IsTextOf}
+use Rattle.output_trials.proofs.told.told.Goals as goal
+
+pub add-requires : goal.add-requires
+add-requires c = record {
+  next = (
+    take c.loop-entry.entry-index c.args.entries.now,
+    legal-to c.args.session.now c.args.entries.now c.loop-entry.entry-index c.entry-item.result c.requires.legal c.loop-entry-test.true c.entry-item.is,
+    c.loop-entry.invariant,
+  );
+}
+
+pub loop-entry-preserved : goal.loop-entry-preserved
+loop-entry-preserved c =
+    subst (λ (es : List Entry). IsTextOf c.args.session.now es c.add.new.self)
+    (sym (taken c.args.entries.now c.loop-entry.entry-index c.entry-item.result c.loop-entry-test.true c.entry-item.is))
+    (c.in_ok-add.ensures.added (take c.loop-entry.entry-index c.args.entries.now)
+    (legal-to c.args.session.now c.args.entries.now c.loop-entry.entry-index c.entry-item.result c.requires.legal c.loop-entry-test.true c.entry-item.is) c.loop-entry.invariant)
+
+pub returns : goal.returns
+returns c = record {
+  told = subst (λ (es : List Entry). IsTextOf c.args.session.now es c.loop-entry.day) (take_all c.loop-entry.entry-index c.args.entries.now c.loop-entry-test.false) c.loop-entry.invariant;
+}
