@@ -1,6 +1,6 @@
 -- How a text is found among names and among pairs.
-use Rattle.std.proofs.Common.{◌≡◌, ◌∙◌, ◌++◌, ◌∷◌, [], ◌-◌, ◌<◌, ◌≤◌, ◌^◌, ◌&&◌, ℕ, min, Bool, true, false, not, List, Some, None, All, length, take, drop, replicate, get_or, position, cond, nat_lt, nat_eq, bytes_eq, refl, sym, ap, ap₂, arith, ⊎_elim}
-use Rattle.std.proofs.lemmas.Bool.{cases_lt, and_parts, cond-false, le-ltb, eqb-true, eq-eqb, false_from_ne_true}
+use Rattle.std.proofs.Common.{◌≡◌, ◌∙◌, ◌++◌, ◌∷◌, [], ◌-◌, ◌<◌, ◌≤◌, ◌^◌, ◌&&◌, ℕ, min, Bool, true, false, not, List, Some, None, All, length, take, drop, replicate, get_or, position, cond, nat_lt, nat_eq, bytes_eq, subst, refl, sym, ap, ap₂, arith, ⊎_elim}
+use Rattle.std.proofs.lemmas.Bool.{cases_lt, and_parts, cond-false, cond-true, le-ltb, lt-ltb, eqb-true, eq-eqb, false_from_ne_true}
 use Rattle.std.proofs.lemmas.List.{take_at, drop_at, take_all, length-take, drop-drop, drop-replicate}
 use Rattle.std.proofs.lemmas.List.Sums.{position_or_len_is, fails_before_first, passes_at_first, prefix_len-le-length}
 use Rattle.std.proofs.Math.Seq.{get_or-append_seam}
@@ -8,7 +8,7 @@ use Rattle.std.proofs.lemmas.Nat.{from_le_bytes-to_le_bytes_8}
 use Rattle.std.specs.Cmp.Lexicographic.{bytes_decides}
 use Rattle.std.specs.Cmp.Derive.{both_true}
 use Rattle.std.specs.Int.{w64, from_le_bytes, to_le_bytes}
-use Rattle.std.specs.List.{position_or_len}
+use Rattle.std.specs.List.{position_or_len, AllPairs}
 use Rattle.fx_rules.specs.Names.{padded}
 use Rattle.fx_rules.specs.Session.{IsPairRule, pair_text}
 use Rattle.fx_rules.specs.declared.session.PairRule.{PairRule}
@@ -38,6 +38,15 @@ position_none p (x ∷ xs) fails =
     let all = x ∷ xs in
     let past : position_or_len p all ≡ length all = position_or_len_is p all (length all) x (omega arith) (λ k within. fails k x within) (λ inside. absurd (omega (arith, inside))) in
     sym (ap (λ n. cond (nat_lt n (length all)) (Some n) None) past ∙ cond-false _ _ _ (le-ltb (length all) (length all) (omega arith)))
+
+-- where each two elements are apart, one that passes is found, since no two that pass are apart
+pub position_alone : {X : Type 0} (R : X → X → Type 0) (p : X → Bool) (xs : List X) (at : ℕ) (x : X)
+    → AllPairs R xs → ((y : X) → p y ≡ true → ¬ (R y x)) → at < length xs → get_or xs at x ≡ x → p x ≡ true → Some at ≡ position p xs
+position_alone R p xs at x apart alone within is passes =
+    let first : position_or_len p xs ≡ at = position_or_len_is p xs at x (omega arith)
+    (λ k before. false_from_ne_true _ (λ other. alone (get_or xs k x) other (subst (λ y. R (get_or xs k x) y) is (apart k at x before within))))
+    (λ _. ap p is ∙ passes) in
+    sym (ap (λ n. cond (nat_lt n (length xs)) (Some n) None) first ∙ cond-true (nat_lt at (length xs)) (Some at) None (lt-ltb at (length xs) within))
 
 -- the text of a pair, in its parts
 parts_of_pair : (text : List ℕ) → length text ≡ 7 → get_or text 3 0 ≡ 47 → take 3 text ++ 47 ∷ drop 4 text ≡ text

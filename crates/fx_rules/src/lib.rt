@@ -7,6 +7,7 @@
 mod command;
 mod depth;
 mod gates;
+mod guesses;
 mod keyed;
 mod laws;
 mod lists;

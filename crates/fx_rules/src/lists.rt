@@ -31,13 +31,6 @@ impl<T> ListOf<T> {
     {
         self.items.as_slice()
     }
-
-    /// The items as they were handed in or grown. It takes no memory.
-    pub fn into_vec(self) -> Vec<T>
-        ensures items { result.items ≡ self }
-    {
-        self.items
-    }
 }
 
 impl<T: Copy> ListOf<T> {

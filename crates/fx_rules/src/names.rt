@@ -115,6 +115,11 @@ impl<'a> SoughtName<'a> {
             word: word_of(bytes),
         }
     }
+
+    /// The word of the text, as a name stores it.
+    pub(crate) fn word(&self) -> u64 {
+        self.word
+    }
 }
 
 /// Eight bytes as one number.

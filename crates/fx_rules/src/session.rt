@@ -2,6 +2,7 @@ ghost use Rattle.std.specs.Prelude.{◌≡◌, ◌≢◌, ◌↔◌, ◌≤◌, 
 ghost use Rattle.fx_rules.specs.Names.{is_name};
 ghost use Rattle.fx_rules.specs.Session.{Header, IsSession, IsPairRule, AreSamePair, bank_count, pair_count, opening_limit, weight_of, decimals_of, lot_of, bank_of, pair_of, pair_text, pair_name};
 
+use crate::guesses::Guesses;
 use crate::names::{Code, Name, SoughtName};
 use fx_amounts::{BankId, PairId, Units};
 use std::marker::Model;
@@ -41,6 +42,10 @@ pub struct Session {
     pairs: Vec<PairRule>,
     /// Row by row: the limit that bank i sets on bank j stands at `i * banks + j`.
     limits: Vec<Units>,
+    /// Where a bank of a name is looked for first.
+    bank_guesses: Guesses,
+    /// Where a pair that is written so is looked for first.
+    pair_guesses: Guesses,
 }
 
 impl Model for Session {
@@ -64,10 +69,14 @@ impl Session {
             && are_valid_pairs(&pairs)
             && are_valid_limits(banks.len(), &limits)
         {
+            let bank_guesses = guesses_of_banks(&banks);
+            let pair_guesses = guesses_of_pairs(&pairs);
             Some(Session {
                 banks,
                 pairs,
                 limits,
+                bank_guesses,
+                pair_guesses,
             })
         } else {
             None
@@ -130,7 +139,7 @@ impl Session {
         ensures named { IfSome result (λ bank. slice_get self.now.banks bank ≡ Some text.now) }
         ensures none { IfNone result (¬ (Contains self.now.banks text.now)) }
     {
-        let place = place_of_bank(&self.banks, text)?;
+        let place = place_of_bank_by(&self.banks, &self.bank_guesses, text)?;
         BankId::new(place as u8)
     }
 
@@ -142,7 +151,7 @@ impl Session {
             (λ pair. option_map pair_text (slice_get self.now.pairs pair) ≡ Some text.now) }
         ensures none { IfNone result (All (λ rule. pair_text rule ≢ text.now) self.now.pairs) }
     {
-        let place = place_of_pair_text(&self.pairs, text)?;
+        let place = place_of_pair_text(&self.pairs, &self.pair_guesses, text)?;
         PairId::new(place as u8)
     }
 }
@@ -162,6 +171,41 @@ fn are_valid_banks(banks: &[Name]) -> bool
         }
     }
     true
+}
+
+/// Guesses that tell of each bank but where two share a slot.
+fn guesses_of_banks(banks: &[Name]) -> Guesses
+    requires { length banks.now ≤ 64 }
+{
+    let mut guesses = Guesses::new();
+    for (place, name) in banks.iter().enumerate() {
+        guesses.tell(&SoughtName::of(name.as_bytes()), place as u8);
+    }
+    guesses
+}
+
+/// Guesses that tell of each pair but where two share a slot.
+fn guesses_of_pairs(pairs: &[PairRule]) -> Guesses
+    requires { length pairs.now ≤ 32 }
+{
+    let mut guesses = Guesses::new();
+    for (place, rule) in pairs.iter().enumerate() {
+        guesses.tell(&SoughtName::of(&rule.text()), place as u8);
+    }
+    guesses
+}
+
+/// The place of the bank of that name, where all names differ. Where it guessed right it looks at one name.
+fn place_of_bank_by(banks: &[Name], guesses: &Guesses, text: &[u8]) -> Option<usize>
+    requires { AllPairs (λ a b. a ≢ b) banks.now }
+    ensures value { result ≡ position (λ name. bytes_eq name text.now) banks.now }
+{
+    let sought = SoughtName::of(text);
+    let guess = guesses.place(&sought);
+    match banks.get(guess) {
+        Some(name) if name.is(&sought) => Some(guess),
+        _ => place_of_bank(banks, text),
+    }
 }
 
 /// The place of the first bank of that name.
@@ -199,12 +243,13 @@ fn place_of_pair(pairs: &[PairRule], base: &[u8], quote: &[u8]) -> Option<usize>
     ensures value { result
         ≡ position (λ rule. bytes_eq rule.base base.now && bytes_eq rule.quote quote.now) pairs.now }
 {
-    pairs.iter().position(|rule| rule.base.as_bytes() == base && rule.quote.as_bytes() == quote)
+    pairs.iter().position(|rule| is_of(rule, base, quote))
 }
 
-/// The place of the first pair that is written so.
-fn place_of_pair_text(pairs: &[PairRule], text: &[u8]) -> Option<usize>
-    requires { All IsPairRule pairs.now }
+/// The place of the pair that is written so, where all pairs differ.
+fn place_of_pair_text(pairs: &[PairRule], guesses: &Guesses, text: &[u8]) -> Option<usize>
+    requires valid { All IsPairRule pairs.now }
+    requires differ { AllPairs (λ a b. ¬ (AreSamePair a b)) pairs.now }
     ensures value { result ≡ position (λ rule. bytes_eq (pair_text rule) text.now) pairs.now }
 {
     if text.len() != 7 || text[3] != b'/' {
@@ -212,7 +257,26 @@ fn place_of_pair_text(pairs: &[PairRule], text: &[u8]) -> Option<usize>
     }
     let (base, rest) = text.split_at(3);
     let (_, quote) = rest.split_at(1);
-    place_of_pair(pairs, base, quote)
+    place_of_pair_by(pairs, guesses.place(&SoughtName::of(text)), base, quote)
+}
+
+/// The place of the pair of those two currencies, where all pairs differ. Where it is the guess it looks at one pair.
+fn place_of_pair_by(pairs: &[PairRule], guess: usize, base: &[u8], quote: &[u8]) -> Option<usize>
+    requires { AllPairs (λ a b. ¬ (AreSamePair a b)) pairs.now }
+    ensures value { result
+        ≡ position (λ rule. bytes_eq rule.base base.now && bytes_eq rule.quote quote.now) pairs.now }
+{
+    match pairs.get(guess) {
+        Some(rule) if is_of(rule, base, quote) => Some(guess),
+        _ => place_of_pair(pairs, base, quote),
+    }
+}
+
+/// Whether a pair is of those two currencies.
+fn is_of(rule: &PairRule, base: &[u8], quote: &[u8]) -> bool
+    ensures value { result ≡ bytes_eq rule.now.base base.now && bytes_eq rule.now.quote quote.now }
+{
+    rule.base.as_bytes() == base && rule.quote.as_bytes() == quote
 }
 
 /// Whether a pair's terms are in range.

@@ -33,7 +33,6 @@ fn copies_are_equal(rt: HostRuntime) -> Result<(), Fail> {
     };
     assert!(rt; (filled, rests) == (3, 1));
     assert!(rt; copied.as_slice() == fills.as_slice());
-    assert!(rt; copied.into_vec().as_slice() == fills.as_slice());
     Ok(())
 }
 

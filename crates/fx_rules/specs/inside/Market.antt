@@ -1,5 +1,5 @@
 -- What private functions and proofs alone say of it, beside `specs/Market.antt`.
-use Rattle.std.specs.Prelude.{◌+◌, List, ◌++◌}
+use Rattle.std.specs.Prelude.{List, ◌++◌}
 use Rattle.fx_rules.specs.declared.outcome.Entry.{Entry}
 use Rattle.fx_rules.specs.Session.{Header}
 use Rattle.fx_rules.specs.State.{State}
