@@ -107,7 +107,7 @@ impl Replay {
                 break;
             };
             let taker = self.swept(order, left);
-            let lots = taker.amount(&maker, self.line / u64::from(self.weight));
+            let lots = taker.amount_by_line(&maker, self.line, self.weight);
             self.trade(&taker, &maker, lots)?;
             left -= lots.count();
         }

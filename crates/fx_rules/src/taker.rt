@@ -1,4 +1,5 @@
-ghost use Rattle.std.specs.Prelude.{◌≡◌, ◌≤◌};
+ghost use Rattle.std.specs.Prelude.{◌≡◌, ◌≤◌, ◌/◌};
+ghost use Rattle.fx_amounts.specs.Quantity.{IsWeight};
 ghost use Rattle.fx_rules.specs.Sweep.{amount, fill_with, at_rest};
 ghost use Rattle.fx_rules.specs.Raise.{taker_of_resting};
 
@@ -67,6 +68,21 @@ impl SweptOrder {
         let within = reach.min(u64::from(maker.left.count()));
         let lots = self.left.min(u128::from(within));
         Lots::new(lots as u32).unwrap()
+    }
+
+    /// The same where a line of so many credit units pays for what can be reached, at `weight` credit units a lot, 1 to 10^6. It
+    /// wants a lot at least, and the line pays for one. Most lines pay for all that both want; then nothing is divided.
+    pub fn amount_by_line(&self, maker: &Resting, line: u64, weight: u32) -> Lots
+        requires left { 1 ≤ self.now.left }
+        requires weight { IsWeight weight }
+        requires line { weight ≤ line }
+        ensures value { result ≡ amount self.now maker.now (line / weight) }
+    {
+        let wanted = self.amount(maker, u64::from(maker.left.count()));
+        if wanted.cost(weight).get() <= line {
+            return wanted;
+        }
+        self.amount(maker, line / u64::from(weight))
     }
 
     /// Its fill with a resting order, at the resting order's price.

@@ -1,4 +1,4 @@
-ghost use Rattle.std.specs.Prelude.{◌≡◌, ◌≢◌, ◌≤◌, ◌<◌, ◌*◌, ◌/◌, ◌^◌, true, false, Some, None, slice_index, slice_index_or, IfOk, IfSome};
+ghost use Rattle.std.specs.Prelude.{◌≡◌, ◌≢◌, ◌≤◌, ◌<◌, ◌*◌, ◌/◌, ◌^◌, min, true, false, Some, None, slice_index, slice_index_or, IfOk, IfSome};
 ghost use Rattle.fx_amounts.specs.Quantity.{IsWeight};
 ghost use Rattle.fx_rules.specs.Lists.{total};
 ghost use Rattle.fx_rules.specs.Sweep.{is_better};
@@ -175,7 +175,7 @@ impl LevelWalk {
         if head.price != price || line < weight {
             return 0;
         }
-        let taken = head.lots.min(u128::from(line / weight)) as u64;
+        let taken = lots_by_line(head.lots, line, weight);
         let left = line - taken * weight;
         self.lines[at] = left;
         // There are no more levels than orders.
@@ -183,6 +183,20 @@ impl LevelWalk {
         self.heads[at] = level_at(book, self.taker, left, self.weight, bank, head.at + 1);
         taken
     }
+}
+
+/// How many of so many lots a line pays for. Most lines pay for all; then nothing is divided.
+fn lots_by_line(lots: u128, line: u64, weight: u64) -> u64
+    requires { IsWeight weight }
+    ensures value { result ≡ min lots (line / weight) }
+{
+    if lots <= u128::from(u32::MAX) {
+        let wanted = lots as u64;
+        if wanted * weight <= line {
+            return wanted;
+        }
+    }
+    lots.min(u128::from(line / weight)) as u64
 }
 
 /// The better of two prices for a taker of a side, where there are any.

@@ -163,7 +163,7 @@ fn first_fill(lines: &CreditLines, weight: u32, order: &SweptOrder, maker: &Rest
     requires reach { 1 ≤ line_in lines.now order.now.bank maker.now.bank / weight }
     ensures value { result ≡ first_fill lines.now weight order.now maker.now }
 {
-    let reach = lines.reach(order.bank, maker.bank, weight);
-    let lots = order.amount(maker, reach);
+    let line = lines.eff(order.bank, maker.bank).get();
+    let lots = order.amount_by_line(maker, line, weight);
     order.fill_with(maker, lots)
 }

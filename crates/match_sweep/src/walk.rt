@@ -202,7 +202,7 @@ impl Walk {
         ensures taken { Takes self.old self.new maker result }
     {
         let line = self.lines[maker.bank.index()];
-        let lots = self.order.amount(&maker, line / u64::from(self.weight));
+        let lots = self.order.amount_by_line(&maker, line, self.weight);
         let fill = self.order.fill_with(&maker, lots);
         self.lines[maker.bank.index()] = line - lots.cost(self.weight).get();
         self.order.left -= u128::from(lots.count());

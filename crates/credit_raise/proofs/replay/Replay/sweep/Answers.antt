@@ -1,5 +1,6 @@
 -- Each turn of the loop is one fill; at the end nothing is left, or nothing more is open.
-use Rattle.std.proofs.Common.{ℕ, ◌≡◌, ◌≤◌, ◌-◌, ◌*◌, ◌/◌, ◌++◌, ◌∷◌, [], List, refl, sym, ap, subst, ◌∙◌, arith, inl, inr, min, append_assoc, append-nil}
+use Rattle.std.proofs.Common.{ℕ, ◌≡◌, ◌-◌, ◌*◌, ◌/◌, ◌++◌, ◌∷◌, [], List, refl, sym, ap, subst, ◌∙◌, arith, inl, inr, min, append_assoc, append-nil}
+use Rattle.std.proofs.Math.Nat.{le-div_iff_mul-le}
 use Rattle.fx_rules.specs.declared.orders.Fill.{Fill}
 use Rattle.fx_rules.specs.declared.orders.Resting.{Resting}
 use Rattle.fx_rules.specs.Sweep.{Taker, fill_with}
@@ -8,14 +9,15 @@ use Rattle.credit_raise.specs.inside.Playing.{SweptAmong, lessened}
 use Rattle.credit_raise.proofs.Playing.{paid-append, lessened_all-append, maker-of, sweep-step, one_more}
 use Rattle.credit_raise.proofs.replay.Replay.sweep.Goals as goal
 
-pub amount-lots-requires-clause-reach : goal.amount-lots-requires-clause-reach
-amount-lots-requires-clause-reach g c =
+pub amount_by_line-lots-requires-clause-line : goal.amount_by_line-lots-requires-clause-line
+amount_by_line-lots-requires-clause-line g c =
     let line : ℕ = c.loop-left.self.line in
-    let maker = maker-of (line / c.loop-left.self.weight) c.args.other (taker_of_resting c.loop-left.self.book.pair c.args.order.now) c.loop-left.self.book.orders c.in-Some.maker c.in-Some.ensures.best.there in
-    subst (λ n. 1 ≤ line / n) (sym c.from.ensures) maker.reached
+    let weight : ℕ = c.loop-left.self.weight in
+    let maker = maker-of (line / weight) c.args.other (taker_of_resting c.loop-left.self.book.pair c.args.order.now) c.loop-left.self.book.orders c.in-Some.maker c.in-Some.ensures.best.there in
+    omega (arith, (le-div_iff_mul-le {k = weight} {x = 1} {y = line} (omega (arith, c.requires.weight.0, c.loop-left.invariant.weight))).0 maker.reached)
 
-pub amount-lots-requires-clause-left : goal.amount-lots-requires-clause-left
-amount-lots-requires-clause-left g c = omega (arith, c.loop-left-test.true, ap (λ (t : Taker). t.left) c.swept-taker.ensures.value)
+pub amount_by_line-lots-requires-clause-left : goal.amount_by_line-lots-requires-clause-left
+amount_by_line-lots-requires-clause-left g c = omega (arith, c.loop-left-test.true, ap (λ (t : Taker). t.left) c.swept-taker.ensures.value)
 
 pub trade-requires-clause-waits : goal.trade-requires-clause-waits
 trade-requires-clause-waits g c =
@@ -26,7 +28,7 @@ loop-left-preserved g c =
     let was = c.loop-left.invariant in
     let order : Resting = c.args.order.now in
     let maker : Resting = c.in-Some.maker in
-    let lots : ℕ = c.amount-lots.result in
+    let lots : ℕ = c.amount_by_line-lots.result in
     let weight : ℕ = c.loop-left.self.weight in
     let line : ℕ = c.loop-left.self.line in
     let pair : ℕ = c.loop-left.self.book.pair in
@@ -34,8 +36,7 @@ loop-left-preserved g c =
     let f : Fill = fill_with t maker lots in
     let own : List Fill = was.own ++ f ∷ [] in
     let lots_is : lots ≡ min c.loop-left.left (min maker.left (line / weight)) =
-    c.amount-lots.ensures.value ∙ ap (λ (k : Taker). min k.left (min maker.left (line / c.from.result))) c.swept-taker.ensures.value
-    ∙ ap (λ n. min c.loop-left.left (min maker.left (line / n))) c.from.ensures in
+    c.amount_by_line-lots.ensures.value ∙ ap (λ (k : Taker). min k.left (min maker.left (line / weight))) c.swept-taker.ensures.value in
     record {
       most = omega (arith, was.most);
       own = own;

@@ -62,10 +62,10 @@ returns c =
     let is : IsHead walk.taker bank walk.last orders (Some head) = head_there c.args.book.now walk bank head c.requires.weight pay headed c.requires.head in
     let same : head.price ≡ c.args.price = equal head.price c.args.price (sym c.ne.ensures ∙ c.if-ne.false) in
     record {
-      taken = subst (λ (w : ℕ). TakesOf c.args.book.now walk (record walk { lines = slice_set walk.lines at (slice_index walk.lines at - c.min-taken.result * w); heads = slice_set walk.heads at c.level_at.result }) bank c.args.price c.min-taken.result) (sym c.from-weight.ensures)
-          (takes_some c.args.book.now walk bank at c.args.price head.lots c.min-taken.result c.level_at.result c.requires.weight at_is within_lines within pay
+      taken = subst (λ (w : ℕ). TakesOf c.args.book.now walk (record walk { lines = slice_set walk.lines at (slice_index walk.lines at - c.lots_by_line-taken.result * w); heads = slice_set walk.heads at c.level_at.result }) bank c.args.price c.lots_by_line-taken.result) (sym c.from-weight.ensures)
+          (takes_some c.args.book.now walk bank at c.args.price head.lots c.lots_by_line-taken.result c.level_at.result c.requires.weight at_is within_lines within pay
           (is.lots ∙ ap (λ (p : ℕ). level_lots walk.taker bank p orders) same)
-          (omega (arith, c.min-taken.ensures, c.from.ensures, ap (λ w. slice_index walk.lines at / w) c.from-weight.ensures))
-          (λ reach. subst (IsHead walk.taker bank (Some c.args.price) orders) (sym (c.level_at.ensures.level (subst (λ (w : ℕ). 1 ≤ (slice_index walk.lines at - c.min-taken.result * w) / walk.weight) (sym c.from-weight.ensures) reach)))
+          (omega (arith, c.lots_by_line-taken.ensures, ap (λ w. slice_index walk.lines at / w) c.from-weight.ensures))
+          (λ reach. subst (IsHead walk.taker bank (Some c.args.price) orders) (sym (c.level_at.ensures.level (subst (λ (w : ℕ). 1 ≤ (slice_index walk.lines at - c.lots_by_line-taken.result * w) / walk.weight) (sym c.from-weight.ensures) reach)))
           (subst (λ (p : ℕ). IsHead walk.taker bank (Some p) orders (bank_level walk.taker bank orders (head.at + 1))) same (next_head walk.taker bank walk.last orders head is))));
     }
