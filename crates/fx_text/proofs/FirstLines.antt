@@ -13,6 +13,7 @@ use Rattle.fx_text.specs.Lines.{parts_of, all_but_last, last_of, line_of, lines_
 use Rattle.fx_text.specs.inside.Held.{IsHeld, IsFirstPart}
 use Rattle.fx_text.specs.declared.line.Line.{Line}
 use Rattle.fx_text.proofs.PartsLemmas.{Unbroken, Unbroken-last, onto_front, slice_split-onto_front}
+use Rattle.fx_text.proofs.LineTexts.{extended_within}
 use Rattle.fx_text.proofs.LinesLemmas.{is_line_feed, line_of-take, IsHeld-held_of, IsHeld-nil}
 use Rattle.fx_text.proofs.JoinedFields.{some_parts, keeps_first, keeps_last}
 
@@ -98,20 +99,10 @@ IsHeld-rest text held is all = subst IsHeld (sym (all ∙ held-rest text is)) (I
 pub IsHeld-part : (old piece part behind held : List ℕ) → IsHeld old → IsFirstPart piece part behind → held ≡ take 258 (old ++ part) → IsHeld held
 IsHeld-part old piece part behind held is first all = IsHeld-rest (old ++ part) held (IsRest-held old part is first.whole) all
 
-shorter_take : (more : List ℕ) (room count : ℕ) → count ≡ min (length more) room → take count more ≡ take room more
-shorter_take more room count is = ⊎_elim
-    (λ (short : length more < room). take_all count more (omega arith) ∙ sym (take_all room more (omega arith)))
-    (λ (long : room ≤ length more). let same : count ≡ room = omega arith in ap (λ (n : ℕ). take n more) same)
-    (cases_lt (length more) room)
-
 -- bytes that are added in a fixed room
 pub extended : (bytes old more : List ℕ) (len count : ℕ) → length bytes ≡ 258 → len ≤ 258 → take len bytes ≡ old → count ≡ min (length more) (258 - len)
     → take len bytes ++ take count more ≡ take 258 (old ++ more)
-extended bytes old more len count room within is all =
-    let size : length old ≡ len = omega (arith, ap length is, length-take len bytes) in
-    let seam : take (length old + (258 - len)) (old ++ more) ≡ old ++ take (258 - len) more = take-append-add old more (258 - len) in
-    let full : length old + (258 - len) ≡ 258 = omega arith in
-    ap₂ (λ (front back : List ℕ). front ++ back) is (shorter_take more (258 - len) count all) ∙ sym seam ∙ ap (λ (n : ℕ). take n (old ++ more)) full
+extended bytes old more len count room within is all = extended_within 258 bytes old more len count room within is all
 
 -- the lines of what was held and of a piece, as they are cut
 pub record CutsOn (before piece held rest : List ℕ) (done : List Line) : Type 0 where

@@ -2,6 +2,7 @@ pub mod FieldLemmas
 pub mod FieldTexts
 pub mod FirstLines
 pub mod JoinedFields
+pub mod LineTexts
 pub mod LinesLemmas
 pub mod NumberLemmas
 pub mod PartsLemmas

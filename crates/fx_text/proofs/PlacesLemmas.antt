@@ -1,15 +1,15 @@
 -- The digits behind a price's point.
-use Rattle.std.proofs.Common.{◌≡◌, ℕ, zero, suc, ◌+◌, ◌-◌, ◌*◌, ◌/◌, ◌%◌, ◌^◌, ◌<◌, ◌≤◌, min, List, [], ◌∷◌, ◌++◌, refl, sym, ap, ap₂, ◌∙◌, arith, div-add-mod', Ok, length, take, drop, decimal, append_assoc, append-nil, add-zero, add-one, replicate, inl, inr}
+use Rattle.std.proofs.Common.{◌≡◌, ℕ, zero, suc, ◌+◌, ◌-◌, ◌*◌, ◌/◌, ◌%◌, ◌^◌, ◌<◌, ◌≤◌, min, List, [], ◌∷◌, ◌++◌, refl, sym, ap, ap₂, ◌∙◌, arith, div-add-mod', Ok, length, take, drop, decimal, append_assoc, append-nil, length-append, add-zero, add-one, replicate, inl, inr}
 use Rattle.std.proofs.lemmas.Bool.{cases_lt}
-use Rattle.std.proofs.lemmas.List.{replicate_more, take_all}
+use Rattle.std.proofs.lemmas.List.{replicate_more, take_all, take_at, drop_at}
 use Rattle.std.proofs.lemmas.Nat.{div-mul-add, mod-mul-add, mod_below}
 use native.Mathlib.Nat.{pow-succ', one-le-pow, pow-le-pow_right}
-use Rattle.std.proofs.Math.Nat.{div-eq_of_lt}
+use Rattle.std.proofs.Math.Nat.{div-eq_of_lt, mod-eq_of_lt, div-div-eq-div-mul}
 use Rattle.fx_amounts.specs.Numeral.{numeral}
 use Rattle.fx_amounts.specs.Price.{IsPrice}
 use Rattle.fx_amounts.specs.PriceText.{last_digits, price_text, price_of}
 use Rattle.fx_amounts.proofs.NumeralLemmas.{numeral-digit, numeral-step, decimal-numeral}
-use Rattle.fx_amounts.proofs.PriceTextLemmas.{price_of-price_text, price_of_ticks-in}
+use Rattle.fx_amounts.proofs.PriceTextLemmas.{price_of-price_text, price_of_ticks-in, EndsIn-last_digits}
 
 -- a number of ten times as many, split at its last digit
 record LastDigit (unit t : ℕ) : Type 0 where
@@ -138,3 +138,52 @@ price_text-whole ticks = refl
 
 pub price_read_back : (decimals ticks : ℕ) → IsPrice ticks → price_of decimals (price_text decimals ticks) ≡ Ok ticks
 price_read_back decimals ticks is = price_of-price_text decimals ticks ∙ price_of_ticks-in ticks is
+
+-- a number of more than `count` digits ends in the last `count`
+numeral-split : (count t : ℕ) → 10 ^ count ≤ t → numeral t ≡ numeral (t / 10 ^ count) ++ last_digits count t
+numeral-split zero t large =
+    let whole : t / 1 ≡ t = omega arith in
+    ap numeral (sym whole) ∙ sym (append-nil (numeral (t / 1)))
+numeral-split (suc count) t large =
+    let power : 10 ^ suc count ≡ 10 * 10 ^ count = pow-succ' 10 count in
+    let some : 1 ≤ 10 ^ count = one-le-pow count 10 (omega arith) in
+    let quotient : t / 10 / 10 ^ count ≡ t / 10 ^ suc count = div-div-eq-div-mul t 10 (10 ^ count) ∙ ap (λ (p : ℕ). t / p) (sym power) in
+    numeral-step t (omega arith)
+    ∙ ap (λ (front : List ℕ). front ++ (48 + t % 10) ∷ []) (numeral-split count (t / 10) (omega arith))
+    ∙ append_assoc (numeral (t / 10 / 10 ^ count)) (last_digits count (t / 10)) ((48 + t % 10) ∷ [])
+    ∙ ap (λ (n : ℕ). numeral n ++ last_digits (suc count) t) quotient
+
+-- what itoa writes of a price of 1 or more, cut where its point stands
+pub record AtPoint (decimals ticks : ℕ) (text : List ℕ) : Type 0 where
+  pub some : decimals ≤ length text
+  pub whole : take (length text - decimals) text ≡ numeral (ticks / 10 ^ decimals)
+  pub places : drop (length text - decimals) text ≡ last_digits decimals ticks
+
+at_point : (decimals ticks : ℕ) (whole places text : List ℕ) → whole ≡ numeral (ticks / 10 ^ decimals) → places ≡ last_digits decimals ticks → text ≡ whole ++ places → AtPoint decimals ticks text
+at_point decimals ticks whole places text front last is =
+    let size : length places ≡ decimals = ap (λ (t : List ℕ). length t) last ∙ (EndsIn-last_digits decimals ticks).len in
+    let sum : length text ≡ length whole + length places = ap (λ (t : List ℕ). length t) is ∙ length-append whole places in
+    let point : length text - decimals ≡ length whole = omega arith in
+    record {
+      some = omega arith;
+      whole = ap₂ take point is ∙ take_at whole places (length whole) refl ∙ front;
+      places = ap₂ drop point is ∙ drop_at whole places (length whole) refl ∙ last;
+    }
+
+pub AtPoint-decimal : (decimals ticks unit : ℕ) (text : List ℕ) → unit ≡ 10 ^ decimals → unit ≤ ticks → ticks < 10 ^ 10 → text ≡ decimal ticks → AtPoint decimals ticks text
+AtPoint-decimal decimals ticks unit text is large fits written =
+    at_point decimals ticks (numeral (ticks / 10 ^ decimals)) (last_digits decimals ticks) text refl refl
+    (written ∙ decimal-numeral ticks (omega arith) ∙ numeral-split decimals ticks (omega arith))
+
+-- what itoa writes of a price below 1 behind a leading one
+pub BehindOne-below : (decimals ticks unit : ℕ) (text : List ℕ) → unit ≡ 10 ^ decimals → ticks < unit → unit ≤ 10 ^ 10 → text ≡ decimal (unit + ticks) → BehindOne decimals ticks text
+BehindOne-below decimals ticks unit text is below most written =
+    BehindOne-decimal decimals ticks unit text is (omega arith) most (written ∙ ap (λ (rest : ℕ). decimal (unit + rest)) (sym (mod-eq_of_lt below)))
+
+-- the two pieces of a price below 1, and the three of a larger one
+pub price_text-below : (decimals ticks unit : ℕ) (places : List ℕ) → 0 < decimals → unit ≡ 10 ^ decimals → ticks < unit → places ≡ last_digits decimals ticks
+    → price_text decimals ticks ≡ (48 ∷ 46 ∷ []) ++ places
+price_text-below decimals ticks unit places some is below digits =
+    price_text-places decimals ticks some (48 ∷ []) places
+    (sym (ap numeral (ap (λ (u : ℕ). ticks / u) (sym is) ∙ div-eq_of_lt below) ∙ numeral-digit 0 (omega arith)))
+    digits

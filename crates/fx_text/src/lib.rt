@@ -5,6 +5,7 @@
 mod cutter;
 mod field;
 mod line;
+mod line_text;
 mod numeral;
 mod push;
 mod split;
@@ -12,6 +13,7 @@ mod split;
 pub use cutter::{LineCutter, first_line};
 pub use field::Fields;
 pub use line::{Bytes, Line, LineView};
+pub use line_text::LineText;
 pub use numeral::number;
 pub use push::{push_number, push_price, push_signed};
 pub use split::fields;

@@ -1,0 +1,151 @@
+ghost use Rattle.std.specs.Prelude.{◌≡◌, [], ◌∷◌, ◌<◌, ◌≤◌, ◌^◌, ◌++◌, length, take};
+ghost use Rattle.fx_amounts.specs.Numeral.{numeral};
+ghost use Rattle.fx_amounts.specs.PriceText.{price_text};
+ghost use Rattle.fx_amounts.specs.Quantity.{IsDecimals};
+
+use fx_amounts::Price;
+use itoa::Buffer;
+use std::marker::Model;
+
+/// The most bytes of a line that is made.
+const ROOM: usize = 256;
+
+/// The text of a line that is being made, in a fixed room of 256 bytes, so that it takes no memory. What goes beyond
+/// the room is left out.
+#[derive(Debug, Drop)]
+pub struct LineText {
+    bytes: [u8; ROOM],
+    len: usize,
+}
+
+impl Model for LineText {
+    ghost use Rattle.std.specs.Prelude.{List, ℕ, ◌≤◌, take};
+
+    ghost Value = { List ℕ };
+
+    ghost view = { λ line. take line.len line.bytes };
+
+    ghost invariant = { λ line. line.len ≤ 256 };
+}
+
+impl LineText {
+    /// A line without a byte.
+    pub fn new() -> LineText
+        ensures { result ≡ [] }
+    {
+        LineText {
+            bytes: [0; ROOM],
+            len: 0,
+        }
+    }
+
+    /// The bytes so far.
+    pub fn as_slice(&self) -> &[u8]
+        ensures bytes { result.now ≡ self.now }
+        ensures few { length self.now ≤ 256 }
+    {
+        self.bytes.split_at(self.len).0
+    }
+
+    /// Forgets all bytes.
+    pub fn clear(&mut self)
+        ensures { self.new ≡ [] }
+    {
+        self.len = 0;
+    }
+
+    /// Appends bytes, as many as there is room for.
+    #[inline(always)]
+    pub fn push(&mut self, text: &[u8])
+        ensures { self.new ≡ take 256 (self.old ++ text.now) }
+    {
+        let count = text.len().min(ROOM - self.len);
+        self.bytes[self.len..self.len + count].copy_from_slice(&text[..count]);
+        self.len += count;
+    }
+
+    /// Appends a byte, where there is room for it.
+    #[inline(always)]
+    pub fn push_byte(&mut self, byte: u8)
+        ensures { self.new ≡ take 256 (self.old ++ byte ∷ []) }
+    {
+        if self.len < ROOM {
+            self.bytes[self.len] = byte;
+            self.len += 1;
+        }
+    }
+
+    /// Appends a number's decimal digits.
+    pub fn push_number(&mut self, value: u64)
+        ensures { self.new ≡ take 256 (self.old ++ numeral value) }
+    {
+        let mut buffer = Buffer::new();
+        self.push(buffer.format(value).as_bytes());
+    }
+
+    /// Appends a price's one spelling, where a tick is the last of `decimals` decimal places.
+    pub fn push_price(&mut self, price: Price, decimals: u8)
+        requires { IsDecimals decimals }
+        ensures { self.new ≡ take 256 (self.old ++ price_text decimals price) }
+    {
+        let ticks = u64::from(price.ticks());
+        let unit = unit_of(decimals);
+        let mut buffer = Buffer::new();
+        if decimals == 0 {
+            self.push_number(ticks);
+        } else if ticks < unit {
+            // A leading one, which is left out, keeps the zeros in front of the other digits.
+            let (_, places) = buffer.format(unit + ticks).as_bytes().split_at(1);
+            self.push(b"0.");
+            self.push(places);
+        } else {
+            let digits = buffer.format(ticks).as_bytes();
+            let (whole, places) = digits.split_at(digits.len() - usize::from(decimals));
+            self.push(whole);
+            self.push_byte(b'.');
+            self.push(places);
+        }
+    }
+
+    /// Appends a field behind a space.
+    #[inline(always)]
+    pub fn push_field(&mut self, text: &[u8])
+        ensures { self.new ≡ take 256 (self.old ++ 32 ∷ text.now) }
+    {
+        self.push_byte(b' ');
+        self.push(text);
+    }
+
+    /// Appends a number behind a space.
+    pub fn push_number_field(&mut self, value: u64)
+        ensures { self.new ≡ take 256 (self.old ++ 32 ∷ numeral value) }
+    {
+        self.push_byte(b' ');
+        self.push_number(value);
+    }
+
+    /// Appends a price behind a space, where a tick is the last of `decimals` decimal places.
+    pub fn push_price_field(&mut self, price: Price, decimals: u8)
+        requires { IsDecimals decimals }
+        ensures { self.new ≡ take 256 (self.old ++ 32 ∷ price_text decimals price) }
+    {
+        self.push_byte(b' ');
+        self.push_price(price, decimals);
+    }
+}
+
+// The ticks of a price of 1.
+fn unit_of(decimals: u8) -> u64
+    requires { IsDecimals decimals }
+    ensures value { result ≡ 10 ^ decimals }
+{
+    match decimals {
+        0 => 1,
+        1 => 10,
+        2 => 100,
+        3 => 1_000,
+        4 => 10_000,
+        5 => 100_000,
+        _ => 1_000_000,
+    }
+}
