@@ -1,26 +1,24 @@
 -- A line as it grows by its fields.
-use Rattle.std.proofs.Common.{◌≡◌, ℕ, List, [], ◌∷◌, ◌++◌, length, map, take, refl, sym, ap, ◌∙◌, arith, append-nil, append_assoc, length-append, ap₂}
-use Rattle.std.proofs.lemmas.Grind.{flat_map-append}
-use Rattle.std.proofs.lemmas.List.Folds.{flat_map-map}
-use Rattle.std.proofs.lemmas.List.{take-take, take-append-le, take_all}
+use Rattle.std.proofs.Common.{◌≡◌, ℕ, ◌≤◌, List, [], ◌∷◌, ◌++◌, length, take, refl, sym, ap, ◌∙◌, arith, append-nil}
+use Rattle.std.proofs.lemmas.List.{length-take, take_all}
 use Rattle.std.specs.List.{join_with_byte, flat_map}
+use Rattle.fx_amounts.specs.Numeral.{numeral}
+use Rattle.fx_amounts.specs.declared.side.Side.{Side}
 use Rattle.fx_rules.specs.Session.{Header, bank_name}
 use Rattle.fx_rules.specs.declared.command.Command.{Command}
 use Rattle.fx_rules.specs.declared.command.Command.TheVariants as command
-use Rattle.order_lines.specs.inside.Printing.{field_text, fields_text, second_field, third_field, details}
-use Rattle.order_lines.specs.Spelling.{command_fields, command_text_of}
-use Rattle.order_lines.specs.declared.writing.Field.{Field}
+use Rattle.fx_rules.specs.declared.command.Life.{Life}
+use Rattle.fx_text.proofs.LineTexts.{pushed_two}
+use Rattle.order_lines.specs.inside.Printing.{fields_text, word_field, subject_field, details}
+use Rattle.order_lines.specs.Spelling.{price_spelled, command_fields, command_text_of}
+use Rattle.order_lines.specs.Words.{life_text}
 
 -- fields with one space between each two are the first and, with a space before each, the others
 join_with_byte-first : (c : ℕ) (first : List ℕ) (rest : List (List ℕ)) → join_with_byte c (first ∷ rest) ≡ first ++ flat_map (λ field. c ∷ field) rest
 join_with_byte-first c first [] = sym (append-nil first)
 join_with_byte-first c first (second ∷ more) = ap (λ (text : List ℕ). first ++ (c ∷ text)) (join_with_byte-first c second more)
 
--- the fields behind the sender's name
-abbrev behind_name : Command → List Field
-behind_name said = (second_field said ∷ third_field said ∷ []) ++ details said
-
-command_fields-named : (h : Header) (bank : ℕ) (said : Command) → command_fields h bank said ≡ bank_name h bank ∷ map (field_text h) (behind_name said)
+command_fields-named : (h : Header) (bank : ℕ) (said : Command) → command_fields h bank said ≡ bank_name h bank ∷ word_field said ∷ subject_field h said ∷ details h said
 command_fields-named h bank (command.Order side pair price lots life) = refl
 command_fields-named h bank (command.Cancel pair number) = refl
 command_fields-named h bank (command.Reduce pair number lots) = refl
@@ -30,38 +28,57 @@ command_fields-named h bank (command.Show other) = refl
 command_fields-named h bank (command.Book pair) = refl
 command_fields-named h bank (command.Bad fault) = refl
 
--- the line of a command: its sender's name, its word with what it is about, and its details
+-- the line of a command: its sender's name, its word, what it is about, and its details
 command_text_of-parts : (h : Header) (bank : ℕ) (said : Command)
-    → command_text_of h bank said ≡ bank_name h bank ++ (fields_text h (second_field said ∷ third_field said ∷ []) ++ fields_text h (details said))
+    → command_text_of h bank said ≡ bank_name h bank ++ ((32 ∷ word_field said) ++ ((32 ∷ subject_field h said) ++ fields_text (details h said)))
 unfolding command_text_of
 command_text_of-parts h bank said =
     ap (join_with_byte 32) (command_fields-named h bank said)
-    ∙ join_with_byte-first 32 (bank_name h bank) (map (field_text h) (behind_name said))
-    ∙ ap (λ (text : List ℕ). bank_name h bank ++ text) (flat_map-map (λ (text : List ℕ). 32 ∷ text) (field_text h) (behind_name said))
-    ∙ ap (λ (text : List ℕ). bank_name h bank ++ text) (flat_map-append (λ (field : Field). 32 ∷ field_text h field) (second_field said ∷ third_field said ∷ []) (details said))
+    ∙ join_with_byte-first 32 (bank_name h bank) (word_field said ∷ subject_field h said ∷ details h said)
 
--- what stood before an addition stands, where the sum was kept
-pub kept_before : (start added now after : List ℕ) (few many : ℕ) → now ≡ start ++ added → few ≡ length start → many ≡ length now → take many after ≡ now → take few after ≡ start
-kept_before start added now after few many is size size' kept =
-    sym (take-take few many after (omega (arith, ap length is, length-append start added)))
-    ∙ ap (take few) (kept ∙ is)
-    ∙ take-append-le few start added (omega arith)
-    ∙ take_all few start (omega arith)
+-- the four pieces of a line, one after the other
+pub whole_line : (h : Header) (bank : ℕ) (said : Command) (start named worded about after : List ℕ) → named ≡ take 256 (start ++ bank_name h bank) → worded ≡ take 256 (named ++ 32 ∷ word_field said)
+    → about ≡ take 256 (worded ++ 32 ∷ subject_field h said) → after ≡ take 256 (about ++ fields_text (details h said)) → after ≡ take 256 (start ++ command_text_of h bank said)
+whole_line h bank said start named worded about after first second third last =
+    let word : List ℕ = 32 ∷ word_field said in
+    let subject : List ℕ = 32 ∷ subject_field h said in
+    let rest : List ℕ = fields_text (details h said) in
+    pushed_two start named after (bank_name h bank) (word ++ (subject ++ rest)) first
+    (pushed_two named worded after word (subject ++ rest) second (pushed_two worded about after subject rest third last))
+    ∙ ap (λ (text : List ℕ). take 256 (start ++ text)) (sym (command_text_of-parts h bank said))
 
--- the sender's name, the word and what it is about stand behind the start
-pub worded_line : (h : Header) (bank : ℕ) (fields : List Field) (start named worded : List ℕ) → named ≡ start ++ bank_name h bank → worded ≡ named ++ fields_text h fields
-    → worded ≡ start ++ (bank_name h bank ++ fields_text h fields)
-worded_line h bank fields start named worded first then =
-    then ∙ ap (λ (text : List ℕ). text ++ fields_text h fields) first ∙ append_assoc start (bank_name h bank) (fields_text h fields)
+-- what was cut to the room is within it
+pub within_room : (text now : List ℕ) → now ≡ take 256 text → length now ≤ 256
+within_room text now is = omega (arith, ap (λ (t : List ℕ). length t) is, length-take 256 text)
 
-pub whole_line : (h : Header) (bank : ℕ) (said : Command) (second third : Field) (start named worded after : List ℕ) → second ≡ second_field said → third ≡ third_field said
-    → named ≡ start ++ bank_name h bank → worded ≡ named ++ fields_text h (second ∷ third ∷ []) → after ≡ worded ++ fields_text h (details said) → after ≡ start ++ command_text_of h bank said
-whole_line h bank said second third start named worded after second_is third_is first then last =
-    let fields : List Field = second ∷ third ∷ [] in
-    let same : fields ≡ second_field said ∷ third_field said ∷ [] = ap₂ (λ (a b : Field). a ∷ b ∷ []) second_is third_is in
-    last
-    ∙ ap (λ (text : List ℕ). text ++ fields_text h (details said)) (worded_line h bank fields start named worded first then)
-    ∙ append_assoc start (bank_name h bank ++ fields_text h fields) (fields_text h (details said))
-    ∙ ap (λ (text : List ℕ). start ++ text) (append_assoc (bank_name h bank) (fields_text h fields) (fields_text h (details said)))
-    ∙ ap (λ (those : List Field). start ++ (bank_name h bank ++ (fields_text h those ++ fields_text h (details said)))) same
-    ∙ ap (λ (text : List ℕ). start ++ text) (sym (command_text_of-parts h bank said))
+-- no field more, the last one, and one before others
+no_field : (start : List ℕ) → length start ≤ 256 → start ≡ take 256 (start ++ [])
+no_field start within = sym (ap (take 256) (append-nil start) ∙ take_all 256 start within)
+
+last_field : (start after field : List ℕ) → after ≡ take 256 (start ++ 32 ∷ field) → after ≡ take 256 (start ++ fields_text (field ∷ []))
+last_field start after field is = is ∙ ap (λ (text : List ℕ). take 256 (start ++ text)) (sym (append-nil (32 ∷ field)))
+
+one_field : (start one after field : List ℕ) (fields : List (List ℕ)) → one ≡ take 256 (start ++ 32 ∷ field) → after ≡ take 256 (one ++ fields_text fields) → after ≡ take 256 (start ++ fields_text (field ∷ fields))
+one_field start one after field fields first rest = pushed_two start one after (32 ∷ field) (fields_text fields) first rest
+
+-- a text that the room is enough for
+pub fits_room : (text now : List ℕ) → length text ≤ 256 → now ≡ take 256 text → now ≡ text
+fits_room text now within is = is ∙ take_all 256 text within
+
+-- the details of each command that has some, and of those that have none
+pub order_details : (h : Header) (said : Command) (side : Side) (pair price lots : ℕ) (life : Life) (start one two after : List ℕ) → said ≡ command.Order side pair price lots life
+    → one ≡ take 256 (start ++ 32 ∷ price_spelled h pair price) → two ≡ take 256 (one ++ 32 ∷ numeral lots) → after ≡ take 256 (two ++ 32 ∷ life_text life)
+    → after ≡ take 256 (start ++ fields_text (details h said))
+order_details h said side pair price lots life start one two after is first second third =
+    one_field start one after (price_spelled h pair price) (numeral lots ∷ life_text life ∷ []) first
+    (one_field one two after (numeral lots) (life_text life ∷ []) second (last_field two after (life_text life) third))
+    ∙ ap (λ (s : Command). take 256 (start ++ fields_text (details h s))) (sym is)
+
+pub reduce_details : (h : Header) (said : Command) (pair number lots : ℕ) (start one after : List ℕ) → said ≡ command.Reduce pair number lots
+    → one ≡ take 256 (start ++ 32 ∷ numeral number) → after ≡ take 256 (one ++ 32 ∷ numeral lots) → after ≡ take 256 (start ++ fields_text (details h said))
+reduce_details h said pair number lots start one after is first second =
+    one_field start one after (numeral number) (numeral lots ∷ []) first (last_field one after (numeral lots) second)
+    ∙ ap (λ (s : Command). take 256 (start ++ fields_text (details h s))) (sym is)
+
+pub no_details : (h : Header) (said : Command) (start : List ℕ) → details h said ≡ [] → length start ≤ 256 → start ≡ take 256 (start ++ fields_text (details h said))
+no_details h said start none within = no_field start within ∙ ap (λ (fields : List (List ℕ)). take 256 (start ++ fields_text fields)) (sym none)

@@ -15,7 +15,7 @@ use Rattle.order_lines.specs.Spelling.{price_spelled, command_fields, command_te
 use Rattle.order_lines.specs.Words.{side_word}
 use Rattle.order_lines.specs.declared.word.Word.TheVariants as word
 use Rattle.fx_text.proofs.FieldTexts.{IsField-numeral, IsField-price_text}
-use Rattle.fx_text.proofs.JoinedFields.{IsField, fields_of-join, join-visible, line_of-join}
+use Rattle.fx_text.proofs.JoinedFields.{IsField, fields_of-join, join-visible, length-join, line_of-join}
 use Rattle.order_lines.proofs.FieldTexts.{IsField-bank, IsField-pair, IsField-word, IsField-life, IsField-bad, no_rule}
 use Rattle.order_lines.proofs.SaidLines.{journal_line-spelled, code_range}
 
@@ -49,10 +49,11 @@ few_fields h bank (command.Show other) = (omega arith, omega arith)
 few_fields h bank (command.Book pair) = (omega arith, omega arith)
 few_fields h bank (command.Bad fault) = (omega arith, omega arith)
 
--- the line of a command has its fields, no byte below the space, and cut out of a text it is whole and read back
+-- the line of a command has its fields, no byte below the space and at most 246 bytes, and cut out of a text it is whole and read back
 pub record IsWritten (h : Header) (bank : ℕ) (said : Command) : Type 0 where
   pub fields : fields_of (command_text_of h bank said) ≡ command_fields h bank said
   pub visible : All (λ byte. 32 ≤ byte) (command_text_of h bank said)
+  pub short : length (command_text_of h bank said) ≤ 246
   pub whole : line_of (command_text_of h bank said) ≡ Whole (command_text_of h bank said)
   pub read_back : journal_line h (line_of (command_text_of h bank said)) ≡ Some (bank, said)
 
@@ -66,6 +67,7 @@ IsWritten-command h bank said session within is =
     record {
       fields = fields;
       visible = join-visible (command_fields h bank said) all;
+      short = omega (arith, few.1, length-join (command_fields h bank said) all);
       whole = whole;
       read_back = ap (journal_line h) whole ∙ journal_line-spelled h (Whole (command_text_of h bank said)) bank said session within is fields;
     }

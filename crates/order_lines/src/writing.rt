@@ -1,7 +1,7 @@
-ghost use Rattle.std.specs.Prelude.{◌≡◌, ◌<◌, ◌≤◌, ◌++◌, take, vec_len, All, OnOk, OnErr};
-ghost use Rattle.fx_rules.specs.Session.{bank_count};
+ghost use Rattle.std.specs.Prelude.{◌≡◌, [], ◌∷◌, ◌<◌, ◌≤◌, ◌++◌, length, take, All, OnOk, OnErr};
+ghost use Rattle.fx_rules.specs.Session.{bank_count, pair_count, bank_name, pair_name};
 ghost use Rattle.fx_rules.specs.Step.{IsCommand};
-ghost use Rattle.order_lines.specs.inside.Printing.{field_text, fields_text, second_field, third_field, details, IsFieldOf, AreFieldsOf};
+ghost use Rattle.order_lines.specs.inside.Printing.{fields_text, word_field, subject_field, details, IsSubjectOf};
 ghost use Rattle.fx_text.specs.Fields.{fields_of};
 ghost use Rattle.fx_text.specs.Lines.{line_of};
 ghost use Rattle.order_lines.specs.Grammar.{journal_line};
@@ -9,9 +9,9 @@ ghost use Rattle.order_lines.specs.Spelling.{command_fields, command_text_of};
 
 use crate::reading::decimals;
 use crate::word::{BAD, Word, life_text};
-use fx_amounts::{BankId, Memory, PairId, Price};
-use fx_rules::{Command, Life, Session};
-use fx_text::{Line, push_number, push_price};
+use fx_amounts::{BankId, Memory, PairId};
+use fx_rules::{Command, Session};
+use fx_text::{Line, LineText};
 
 /// Appends the journal's line of a command of a bank, without a line feed. After `Err` the list is as it was.
 pub fn command_text(
@@ -36,6 +36,16 @@ pub fn command_text(
     append_command(session, bank, command, out)
 }
 
+/// Makes the journal's line of a command of a bank, with its line feed, in place of what there was. It takes no memory.
+pub fn command_line(session: &Session, bank: BankId, command: &Command, line: &mut LineText)
+    requires bank { bank < bank_count session.now }
+    requires command { IsCommand session.now bank command.now }
+    ensures { line.new ≡ command_text_of session.now bank command.now ++ 10 ∷ [] }
+{
+    make_command(session, bank, command, line);
+    line.push_byte(b'\n');
+}
+
 fn append_command(
     session: &Session,
     bank: BankId,
@@ -47,79 +57,89 @@ fn append_command(
     ensures ok { OnOk result (out.new.items ≡ out.old.items ++ command_text_of session.now bank command.now) }
     ensures err { OnErr result (out.new.items ≡ out.old.items) }
 {
-    let before = out.len();
-    let pushed = push_command(session, bank, command, out);
-    if pushed.is_err() {
-        out.truncate(before);
-    }
-    pushed
+    let mut line = LineText::new();
+    make_command(session, bank, command, &mut line);
+    out.extend_from_slice(line.as_slice())?;
+    Ok(())
 }
 
-/// A field of a line that is to be written.
-#[derive(Clone, Copy)]
-enum Field {
-    Bank(BankId),
-    Word(Word),
-    /// The word of a bad line.
-    Bad,
-    Pair(PairId),
-    Price(PairId, Price),
-    Number(u64),
-    Life(Life),
-}
-
-// After `Err` a part of the line may be appended.
-fn push_command(
-    session: &Session,
-    bank: BankId,
-    command: &Command,
-    out: &mut Vec<u8>,
-) -> Result<(), Memory>
+// Makes the line of a command without a line feed, which leaves room for more bytes.
+fn make_command(session: &Session, bank: BankId, command: &Command, line: &mut LineText)
     requires bank { bank < bank_count session.now }
     requires command { IsCommand session.now bank command.now }
-    ensures ok { OnOk result (out.new.items ≡ out.old.items ++ command_text_of session.now bank command.now) }
-    ensures err { OnErr result (take (vec_len out.old) out.new.items ≡ out.old.items) }
+    ensures made { line.new ≡ command_text_of session.now bank command.now }
+    ensures short { length (command_text_of session.now bank command.now) ≤ 246 }
 {
-    push_field(session, Field::Bank(bank), out)?;
-    push_fields(session, &[second_field(command), third_field(command)], out)?;
-    push_details(session, command, out)
+    // The bound on the line rests on a valid session, as each is.
+    let _banks = session.banks();
+    line.clear();
+    push_command(session, bank, command, line);
+}
+
+// Appends the line of a command.
+fn push_command(session: &Session, bank: BankId, command: &Command, line: &mut LineText)
+    requires bank { bank < bank_count session.now }
+    requires command { IsCommand session.now bank command.now }
+    ensures { line.new ≡ take 256 (line.old ++ command_text_of session.now bank command.now) }
+{
+    line.push(name_of(session, bank));
+    line.push_field(word_of(command));
+    push_subject(session, command, line);
+    push_details(session, command, line);
 }
 
 // The field behind the sender's name: the command's word.
-fn second_field(command: &Command) -> Field
-    ensures { result ≡ second_field command.now }
+fn word_of(command: &Command) -> &'static [u8]
+    ensures { result.now ≡ word_field command.now }
 {
     match *command {
-        Command::Order { side, .. } => Field::Word(Word::of_side(side)),
-        Command::Cancel { .. } => Field::Word(Word::Cancel),
-        Command::Reduce { .. } => Field::Word(Word::Reduce),
-        Command::Pull { .. } => Field::Word(Word::Pull),
-        Command::Line { .. } => Field::Word(Word::Line),
-        Command::Show { .. } => Field::Word(Word::Show),
-        Command::Book { .. } => Field::Word(Word::Book),
-        Command::Bad { .. } => Field::Bad,
+        Command::Order { side, .. } => Word::of_side(side).as_bytes(),
+        Command::Cancel { .. } => Word::Cancel.as_bytes(),
+        Command::Reduce { .. } => Word::Reduce.as_bytes(),
+        Command::Pull { .. } => Word::Pull.as_bytes(),
+        Command::Line { .. } => Word::Line.as_bytes(),
+        Command::Show { .. } => Word::Show.as_bytes(),
+        Command::Book { .. } => Word::Book.as_bytes(),
+        Command::Bad { .. } => BAD,
     }
 }
 
-// The field behind the word: the pair, the bank or the fault that the command is about.
-fn third_field(command: &Command) -> Field
-    ensures { result ≡ third_field command.now }
+// Appends the field behind the word: the pair, the bank or the fault that the command is about.
+fn push_subject(session: &Session, command: &Command, line: &mut LineText)
+    requires { IsSubjectOf session.now command.now }
+    ensures { line.new ≡ take 256 (line.old ++ 32 ∷ subject_field session.now command.now) }
 {
     match *command {
-        Command::Order { pair, .. } => Field::Pair(pair),
-        Command::Cancel { pair, .. } => Field::Pair(pair),
-        Command::Reduce { pair, .. } => Field::Pair(pair),
-        Command::Pull { pair } | Command::Book { pair } => Field::Pair(pair),
-        Command::Line { bank, .. } | Command::Show { bank } => Field::Bank(bank),
-        Command::Bad { reason } => Field::Number(u64::from(reason.code())),
+        Command::Order { pair, .. } => push_pair(session, pair, line),
+        Command::Cancel { pair, .. } => push_pair(session, pair, line),
+        Command::Reduce { pair, .. } => push_pair(session, pair, line),
+        Command::Pull { pair } | Command::Book { pair } => push_pair(session, pair, line),
+        Command::Line { bank, .. } | Command::Show { bank } => {
+            line.push_field(name_of(session, bank));
+        }
+        Command::Bad { reason } => line.push_number_field(u64::from(reason.code())),
     }
 }
 
-// Appends the fields behind the third. After `Err` a part of them may be appended.
-fn push_details(session: &Session, command: &Command, out: &mut Vec<u8>) -> Result<(), Memory>
-    requires { AreFieldsOf session.now (details command.now) }
-    ensures ok { OnOk result (out.new.items ≡ out.old.items ++ fields_text session.now (details command.now)) }
-    ensures err { OnErr result (take (vec_len out.old) out.new.items ≡ out.old.items) }
+fn name_of(session: &Session, bank: BankId) -> &[u8]
+    requires { bank < bank_count session.now }
+    ensures { result.now ≡ bank_name session.now bank }
+{
+    session.banks()[bank.index()].as_bytes()
+}
+
+fn push_pair(session: &Session, pair: PairId, line: &mut LineText)
+    requires { pair < pair_count session.now }
+    ensures { line.new ≡ take 256 (line.old ++ 32 ∷ pair_name session.now pair) }
+{
+    line.push_field(&session.rule(pair).text());
+}
+
+// Appends the fields behind the third.
+fn push_details(session: &Session, command: &Command, line: &mut LineText)
+    requires subject { IsSubjectOf session.now command.now }
+    requires room { length line.old ≤ 256 }
+    ensures { line.new ≡ take 256 (line.old ++ fields_text (details session.now command.now)) }
 {
     match *command {
         Command::Order {
@@ -129,57 +149,17 @@ fn push_details(session: &Session, command: &Command, out: &mut Vec<u8>) -> Resu
             life,
             ..
         } => {
-            let price = Field::Price(pair, price);
-            let lots = Field::Number(u64::from(lots.count()));
-            push_fields(session, &[price, lots, Field::Life(life)], out)
+            line.push_price_field(price, decimals(session, pair));
+            line.push_number_field(u64::from(lots.count()));
+            line.push_field(life_text(life));
         }
-        Command::Cancel { number, .. } => {
-            push_fields(session, &[Field::Number(u64::from(number))], out)
-        }
+        Command::Cancel { number, .. } => line.push_number_field(u64::from(number)),
         Command::Reduce { number, lots, .. } => {
-            let number = Field::Number(u64::from(number));
-            let lots = Field::Number(u64::from(lots.count()));
-            push_fields(session, &[number, lots], out)
+            line.push_number_field(u64::from(number));
+            line.push_number_field(u64::from(lots.count()));
         }
-        Command::Line { limit, .. } => push_fields(session, &[Field::Number(limit.get())], out),
+        Command::Line { limit, .. } => line.push_number_field(limit.get()),
         Command::Pull { .. } | Command::Show { .. } | Command::Book { .. } | Command::Bad { .. } =>
-            Ok(()),
+            {}
     }
-}
-
-// Appends fields, a space before each. After `Err` a part of them may be appended.
-fn push_fields(session: &Session, fields: &[Field], out: &mut Vec<u8>) -> Result<(), Memory>
-    requires { AreFieldsOf session.now fields.now }
-    ensures ok { OnOk result (out.new.items ≡ out.old.items ++ fields_text session.now fields.now) }
-    ensures err { OnErr result (take (vec_len out.old) out.new.items ≡ out.old.items) }
-{
-    for field in fields {
-        out.push(b' ')?;
-        push_field(session, *field, out)?;
-    }
-    Ok(())
-}
-
-fn push_field(session: &Session, field: Field, out: &mut Vec<u8>) -> Result<(), Memory>
-    requires { IsFieldOf session.now field }
-    ensures ok { OnOk result (out.new.items ≡ out.old.items ++ field_text session.now field) }
-    ensures err { OnErr result (out.new.items ≡ out.old.items) }
-{
-    match field {
-        Field::Bank(bank) => push_text(session.banks()[bank.index()].as_bytes(), out),
-        Field::Word(word) => push_text(word.as_bytes(), out),
-        Field::Bad => push_text(BAD, out),
-        Field::Pair(pair) => push_text(&session.pairs()[pair.index()].text(), out),
-        Field::Price(pair, price) => push_price(price, decimals(session, pair), out),
-        Field::Number(number) => push_number(u128::from(number), out),
-        Field::Life(life) => push_text(life_text(life), out),
-    }
-}
-
-fn push_text(text: &[u8], out: &mut Vec<u8>) -> Result<(), Memory>
-    ensures ok { OnOk result (out.new.items ≡ out.old.items ++ text.now) }
-    ensures err { OnErr result (out.new.items ≡ out.old.items) }
-{
-    out.extend_from_slice(text)?;
-    Ok(())
 }

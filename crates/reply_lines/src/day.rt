@@ -16,6 +16,7 @@ use fx_amounts::Memory;
 use fx_edges::{Sink, SinkFault};
 use fx_pieces::Pieces;
 use fx_rules::{Entry, Market, Session};
+use fx_text::LineText;
 use std::alloc::Global;
 
 /// What the output tells of a day so far: the journal's lines, each bank's desk, and the sums over the fills. It keeps no entry.
@@ -25,6 +26,8 @@ pub struct DayText {
     count: usize,
     /// Their lines.
     journal: Vec<u8>,
+    /// The last of them.
+    line: LineText,
     notices: DayNotices,
 }
 
@@ -36,6 +39,7 @@ impl DayText {
         Ok(DayText {
             count: 0,
             journal: Vec::new(alloc),
+            line: LineText::new(),
             notices: DayNotices::open(alloc, session)?,
         })
     }
@@ -47,7 +51,7 @@ impl DayText {
             IsLegal session.now (entries ++ entry.now ∷ []) → IsTextOf session.now entries self.old →
             IsTextOf session.now (entries ++ entry.now ∷ []) self.new) }
     {
-        push_entry_line(session, entry, &mut self.journal)?;
+        push_entry_line(session, entry, &mut self.line, &mut self.journal)?;
         self.notices.add(session, entry)?;
         self.count += 1;
         Ok(())
@@ -160,6 +164,7 @@ impl DayText {
             count,
             journal,
             notices,
+            ..
         } = self;
         let Ok(found) = notices.into_findings(alloc, session) else {
             return Err(SinkFault::Memory);

@@ -13,7 +13,8 @@ use fx_amounts::Memory;
 use fx_edges::{Sink, SinkFault};
 use fx_pieces::Pieces;
 use fx_rules::{Entry, Session};
-use order_lines::command_text;
+use fx_text::LineText;
+use order_lines::command_line;
 use std::alloc::Global;
 
 /// Writes the line that begins the journal.
@@ -30,17 +31,18 @@ pub(crate) fn write_journal_line<K: Sink>(
     write_made(made, line, pieces, out)
 }
 
-/// Appends an entry's line of the journal.
+/// Appends an entry's line of the journal. It is made in the line.
 pub(crate) fn push_entry_line(
     session: &Session,
     entry: &Entry,
+    line: &mut LineText,
     text: &mut Vec<u8>,
 ) -> Result<(), Memory>
     requires entry { IsEntryOf session.now entry.now }
     ensures ok { OnOk result (text.new.items ≡ text.old.items ++ entry_line session.now entry.now) }
 {
-    command_text(session, entry.bank, &entry.command, text)?;
-    text.push(b'\n')?;
+    command_line(session, entry.bank, &entry.command, line);
+    text.extend_from_slice(line.as_slice())?;
     Ok(())
 }
 
@@ -48,16 +50,15 @@ pub(crate) fn push_entry_line(
 fn write_entry<K: Sink>(
     session: &Session,
     entry: &Entry,
-    line: &mut Vec<u8>,
     pieces: &mut Pieces,
     out: &mut K,
 ) -> Result<(), SinkFault>
     requires entry { IsEntryOf session.now entry.now }
     ensures wrote { Gathered K.written K.faults pieces.old out.old pieces.new out.new (entry_line session.now entry.now) result }
 {
-    line.clear();
-    let made = push_entry_line(session, entry, line);
-    write_made(made, line, pieces, out)
+    let mut line = LineText::new();
+    command_line(session, entry.bank, &entry.command, &mut line);
+    pieces.put(line.as_slice(), out)
 }
 
 /// Writes the journal of a legal history, and gathers what its entries give notice of.
@@ -74,7 +75,7 @@ pub(crate) fn write_journal<K: Sink>(
     ensures told { IfOk result (AreNoticesOf session.now entries.now) }
 {
     match write_journal_line(entries.len(), line, pieces, out) {
-        Ok(()) => write_entries(alloc, session, entries, line, pieces, out),
+        Ok(()) => write_entries(alloc, session, entries, pieces, out),
         Err(fault) => Err(fault),
     }
 }
@@ -84,7 +85,6 @@ fn write_entries<K: Sink>(
     alloc: Global,
     session: &Session,
     entries: &[Entry],
-    line: &mut Vec<u8>,
     pieces: &mut Pieces,
     out: &mut K,
 ) -> Result<DayNotices, SinkFault>
@@ -99,7 +99,7 @@ fn write_entries<K: Sink>(
         let Ok(()) = notices.add(session, entry) else {
             return Err(SinkFault::Memory);
         };
-        match write_entry(session, entry, line, pieces, out) {
+        match write_entry(session, entry, pieces, out) {
             Ok(()) => {}
             Err(fault) => return Err(fault),
         }
