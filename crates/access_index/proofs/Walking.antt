@@ -6,7 +6,7 @@ use Rattle.fx_amounts.specs.declared.side.Side.{Side}
 use Rattle.price_levels.specs.declared.place.Place.{Place}
 use Rattle.price_levels.specs.Ladder.{sorts_before, IsSorted, IsFirst, IsFirstOf, first_where}
 use Rattle.price_levels.proofs.Sorting.{before_self, before_trans, Contains_cases}
-use Rattle.price_levels.proofs.Firsts.{first_found, first_none, front_found, front_none}
+use Rattle.price_levels.proofs.Firsts.{first_found, first_none, front_of_all}
 use Rattle.access_index.specs.Owned.{is_ahead, stands_behind}
 use Rattle.access_index.specs.inside.Search.{Walks, left_in}
 
@@ -128,10 +128,7 @@ pub first_of_all : (side : Side) (past : Option Place) (places : List Place) (fi
     → IsFirstOf (stands_behind side past) side places first
 first_of_all side past places first is_past sorted found =
     subst (λ (p : Option Place). IsFirstOf (stands_behind side p) side places first) (sym is_past)
-    (elim first as (λ (f : Option Place). f ≡ slice_get places 0 → IsFirstOf (λ (_ : Place). true) side places f) [
-      | None ↦ λ none other there. absurd (front_none places (sym none) other there)
-      | Some next ↦ λ some. front_found side places next sorted (sym some)
-    ] found)
+    (subst (IsFirstOf (λ (_ : Place). true) side places) (sym found) (front_of_all side places sorted))
 
 pub left_falls : (side : Side) (places : List Place) (place : Place) (next : Option Place) → IsSorted side places → next ≡ first_where (sorts_before side place) places
     → left_in side places next < left_in side places (Some place)

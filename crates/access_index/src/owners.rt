@@ -1,9 +1,9 @@
-ghost use Rattle.std.specs.Prelude.{◌≡◌, ◌≢◌, ◌+◌, ◌≤◌, ◌<◌, ◌==◌, ℕ, min, None, [], length, not, nat_lt, vec_len, vec_capacity, OnOk, IfOk, IfSome};
+ghost use Rattle.std.specs.Prelude.{◌≡◌, ◌≢◌, ◌+◌, ◌≤◌, ◌<◌, ◌==◌, ℕ, min, None, [], length, not, nat_lt, slice_get, vec_len, vec_capacity, OnOk, IfOk, IfSome};
 ghost use Rattle.std.specs.List.{All, Contains, filter};
 ghost use Rattle.std.specs.List.Sorted.{IsPartitionedBy};
-ghost use Rattle.std.specs.Option.{option_copied};
+ghost use Rattle.std.specs.Option.{option_copied, option_map};
 ghost use Rattle.fx_amounts.specs.declared.side.Side.{Side as OneSide};
-ghost use Rattle.price_levels.specs.Ladder.{IsFirstOf, IsNewArrival};
+ghost use Rattle.price_levels.specs.Ladder.{IsFirstOf, IsNewArrival, IsSorted};
 ghost use Rattle.access_index.specs.Listed.{listed};
 ghost use Rattle.access_index.specs.inside.Listed.{with_bank};
 ghost use Rattle.access_index.specs.Owned.{AreInTime, AreOwned, OwnerGains, OwnerLoses, OwnersGrow, is_ahead, row_at, stands_behind};
@@ -11,7 +11,7 @@ ghost use Rattle.access_index.specs.inside.Owned.{AreEmpty};
 
 use crate::search::{first_in_time, first_place_behind};
 use crate::sides::Sides;
-use fx_amounts::{BankId, Memory, Side};
+use fx_amounts::{BankId, Memory, Price, Side};
 use price_levels::{Levels, Place, Steps};
 use std::alloc::Global;
 use std::marker::Model;
@@ -114,6 +114,19 @@ impl Owners {
             return None;
         }
         Some(levels)
+    }
+
+    /// The price of the first place of a bank and a side; `None` exactly where the bank has no order of that side. It
+    /// counts no step.
+    pub fn front_price(&self, bank: BankId, side: Side) -> Option<Price>
+        ensures price { result ≡ option_map (λ place. place.price) (slice_get (row_at self.now bank side).places 0) }
+        ensures sorted { IsSorted side (row_at self.now bank side).places }
+        ensures valid { AreOwned self.now }
+    {
+        if bank.index() >= self.rows.len() {
+            return None;
+        }
+        self.rows[bank.index()].of(side).front_price()
     }
 
     /// The first place of a bank and a side whose order arrived before `before` and that stands behind the place `past`,

@@ -159,3 +159,9 @@ module _ (banks : ℕ) (orders : Orders) (own : List OwnRows) (kept : IsKept ban
       let lots : ℕ = lots_where (is_level (opposite side) bank first.price) orders.slots in
       let level : IsLevel (opposite side) bank past resting (first.price, lots) = next_found found first lots resting is_found is seen refl in
       subst (λ (n : ℕ). IsLevel (opposite side) bank past resting (first.price, n)) level.lots level
+
+  -- the same of what is found, whether it is a place or none
+  pub price_of_found : (found : Option Place) (resting : List Resting) → IsFirstOf (stands_behind side (option_map end_of past)) side (row_at own bank side).places found
+      → flat orders.slots ≡ resting → IsPriceOf (opposite side) bank past resting (option_map (λ (p : Place). p.price) found)
+  price_of_found None resting is seen = no_level None resting refl is seen
+  price_of_found (Some first) resting is seen = price_found (Some first) first resting refl is seen

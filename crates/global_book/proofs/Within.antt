@@ -20,7 +20,7 @@ use Rattle.global_book.proofs.Bests.{best_listed}
 use Rattle.global_book.proofs.Searching.{first_owned, order_of}
 
 -- a price that is no worse than one that is taken is taken
-better_or_same : (side : Side) (price p q : ℕ) → is_better side q p ≡ false → crosses side price q ≡ true → crosses side price p ≡ true
+pub better_or_same : (side : Side) (price p q : ℕ) → is_better side q p ≡ false → crosses side price q ≡ true → crosses side price p ≡ true
 better_or_same Buy price p q not_worse taken = le-leb p price (omega (arith, ltb-false q p not_worse, leb-true q price taken))
 better_or_same Sell price p q not_worse taken = le-leb price p (omega (arith, ltb-false p q not_worse, leb-true price q taken))
 

@@ -358,6 +358,14 @@ impl PairBook {
         Some((self.orders.get(OrderKey(place.key)), place))
     }
 
+    /// The best price at which a bank has orders of a side; `None` where it has none. It reads no order and counts no step.
+    pub fn best_price(&self, bank: BankId, side: Side) -> Option<Price>
+        ensures price { IsPriceOf (opposite side) bank None self.now.orders result }
+        ensures valid { IsBook self.now }
+    {
+        self.rows.front_price(bank, side)
+    }
+
     /// The best price, worse than `past` where there is one, at which a bank has orders of a side; `None` where there is no
     /// such price. One step at most.
     pub fn next_price<L: Ledger>(

@@ -1,8 +1,8 @@
-ghost use Rattle.std.specs.Prelude.{IfSome, true, ◌≡◌, ◌≤◌, ◌+◌};
+ghost use Rattle.std.specs.Prelude.{IfSome, None, IsTrue, ◌↔◌, false, true, ◌≡◌, ◌≤◌, ◌+◌};
 ghost use Rattle.std.specs.Option.{option_copied, option_map};
-ghost use Rattle.fx_amounts.specs.Price.{crosses};
+ghost use Rattle.fx_amounts.specs.Price.{IsPrice, crosses};
 ghost use Rattle.fx_rules.specs.Sweep.{is_better, is_preferred};
-ghost use Rattle.match_sweep.specs.inside.Heads.{CameBefore, IsFound, place_of, to_come};
+ghost use Rattle.match_sweep.specs.inside.Heads.{AreDear, CameBefore, HasTaken, IsFound, IsWithin, place_of, to_come};
 
 use fx_amounts::{BankId, Price, Side};
 use fx_rules::{Resting, SweptOrder};
@@ -34,6 +34,57 @@ pub(crate) fn head_behind<L: Ledger>(
         steps,
     )?;
     Some(head)
+}
+
+/// The prices that an order takes, in ticks: those from `least` to `most`. They are found once for a look at many banks.
+#[derive(Clone, Copy)]
+pub(crate) struct TakenPrices {
+    least: u32,
+    most: u32,
+}
+
+impl TakenPrices {
+    /// The prices that this order takes.
+    pub(crate) fn of(order: &SweptOrder) -> Self
+        ensures taken { HasTaken order.now result }
+    {
+        let limit = order.price.ticks();
+        match order.side {
+            Side::Buy => TakenPrices {
+                least: Price::LEAST,
+                most: limit,
+            },
+            Side::Sell => TakenPrices {
+                least: limit,
+                most: Price::MOST,
+            },
+        }
+    }
+
+    /// Whether this is one of them.
+    fn contains(&self, price: Price) -> bool
+        ensures within { IsTrue result ↔ IsWithin self.now price }
+        ensures price { IsPrice price }
+    {
+        self.least <= price.ticks() && price.ticks() <= self.most
+    }
+}
+
+/// Whether an order, which takes these prices, takes the best one that a bank has for it. Where it does not, it takes none of the
+/// bank's orders. It counts no step.
+pub(crate) fn takes_best(
+    book: &PairBook,
+    order: &SweptOrder,
+    prices: &TakenPrices,
+    bank: BankId,
+) -> bool
+    requires taken { HasTaken order.now prices.now }
+    ensures dear { result ≡ false → AreDear order.now (to_come order.now bank None book.now.orders) }
+{
+    match book.best_price(bank, order.side.opposite()) {
+        Some(price) => prices.contains(price),
+        None => false,
+    }
 }
 
 /// Where an order stands, by its price and arrival alone: what stands behind it does not hang on its key.

@@ -1,9 +1,9 @@
 ghost use Rattle.std.specs.Prelude.{◌≡◌, ◌≤◌, ◌<◌, ◌+◌, length};
 ghost use Rattle.fx_amounts.specs.Quantity.{IsWeight};
 ghost use Rattle.global_book.specs.Book.{AreOwners, IsBook};
-ghost use Rattle.match_sweep.specs.inside.Heads.{CameBefore, OpensAt, OpensHead, better_head};
+ghost use Rattle.match_sweep.specs.inside.Heads.{CameBefore, HasTaken, OpensAt, OpensHead, better_head};
 
-use crate::heads::{head_behind, is_preferred};
+use crate::heads::{TakenPrices, head_behind, is_preferred, takes_best};
 use credit_lines::CreditLines;
 use fx_amounts::{BankId, Side};
 use fx_rules::{Resting, SweptOrder};
@@ -37,10 +37,11 @@ pub(crate) fn find_opening<L: Ledger>(
     ensures opening { OpensAt book.now lines.now weight order.now owners.now result }
     ensures steps { CameBefore book.now.orders order.now.arrival → steps.new ≤ steps.old + length owners.now }
 {
+    let prices = TakenPrices::of(order);
     let mut first = None;
     let mut opens = [false; 64];
     for owner in owners {
-        if let Some(head) = open_head(book, lines, weight, order, *owner, steps) {
+        if let Some(head) = open_head(book, lines, weight, order, &prices, *owner, steps) {
             opens[owner.index()] = true;
             first = Some(better_head(order.side, first, head));
         }
@@ -67,21 +68,22 @@ fn open_head<L: Ledger>(
     lines: &CreditLines,
     weight: u32,
     order: &SweptOrder,
+    prices: &TakenPrices,
     bank: BankId,
     steps: &mut Steps<L>,
 ) -> Option<Resting>
+    requires taken { HasTaken order.now prices.now }
     requires first { order.now.bank < lines.now.banks }
     requires second { bank < lines.now.banks }
     requires weight { IsWeight weight }
     ensures head { OpensHead book.now lines.now weight order.now bank result }
     ensures steps { CameBefore book.now.orders order.now.arrival → steps.new ≤ steps.old + 1 }
 {
-    if bank == order.bank {
+    if !takes_best(book, order, prices, bank) || bank == order.bank {
         return None;
     }
-    let head = head_behind(book, order, bank, None, steps)?;
     if lines.eff(order.bank, bank).get() < u64::from(weight) {
         return None;
     }
-    Some(head)
+    head_behind(book, order, bank, None, steps)
 }

@@ -4,7 +4,7 @@ use Rattle.std.proofs.lemmas.Bool.{cases_Bool, both_ways, cond-true, cond-false}
 use Rattle.std.specs.List.{Contains, filter, slice_get}
 use Rattle.fx_amounts.specs.declared.side.Side.{Side}
 use Rattle.price_levels.specs.declared.place.Place.{Place}
-use Rattle.price_levels.specs.Ladder.{Sorts, InOrder, IsSorted, IsFirst, first_where}
+use Rattle.price_levels.specs.Ladder.{Sorts, InOrder, IsSorted, IsFirst, IsFirstOf, first_where}
 use Rattle.price_levels.proofs.Sorting.{Each-contains, Contains_later, Contains_first, Contains_cases}
 
 first_where-yes : (test : Place → Bool) (x : Place) (xs : List Place) → test x ≡ true → first_where test (x ∷ xs) ≡ Some x
@@ -74,3 +74,8 @@ front_found side (x ∷ xs) place sorted found =
 pub front_none : (places : List Place) → slice_get places 0 ≡ None → (other : Place) → Contains places other → ⊥
 front_none [] none other there = absurd (omega (arith, there.1))
 front_none (x ∷ xs) none other there = cc
+
+-- the first of all, or none where there is none
+pub front_of_all : (side : Side) (places : List Place) → IsSorted side places → IsFirstOf (λ _. true) side places (slice_get places 0)
+front_of_all side [] sorted = λ other there. absurd (front_none [] refl other there)
+front_of_all side (x ∷ xs) sorted = front_found side (x ∷ xs) x sorted refl

@@ -1,5 +1,6 @@
 ghost use Rattle.std.specs.Prelude.{◌≡◌, ◌≢◌, ◌+◌, ◌≤◌, ◌<◌, ◌↔◌, [], not, slice_get, Some, IfSome, IfNone, IsTrue, OnOk};
 ghost use Rattle.std.specs.List.{Contains};
+ghost use Rattle.std.specs.Option.{option_map};
 ghost use Rattle.price_levels.specs.declared.place.Place.{Place};
 ghost use Rattle.price_levels.specs.Ladder.{IsSorted, IsNewArrival, Gains, Loses, first_where};
 ghost use Rattle.price_levels.specs.Ladder as ladder;
@@ -10,7 +11,7 @@ use crate::cut::Cut;
 use crate::place::Place;
 use crate::spot::Spot;
 use crate::steps::Steps;
-use fx_amounts::{Memory, Side};
+use fx_amounts::{Memory, Price, Side};
 use std::alloc::Global;
 use std::marker::Model;
 use std::sync::ledger::Ledger;
@@ -132,6 +133,14 @@ impl Levels {
     {
         steps.tick();
         self.front
+    }
+
+    /// The price of the first place of all; `None` where there is none. It counts no step.
+    pub fn front_price(&self) -> Option<Price>
+        ensures price { result ≡ option_map (λ place. place.price) (slice_get self.now.places 0) }
+        ensures sorted { IsSorted self.now.side self.now.places }
+    {
+        Some(self.front?.price)
     }
 
     /// The first place that stands after this one, which need not be there; `None` where there is none.

@@ -3,7 +3,7 @@
 use Rattle.std.specs.Prelude.{ℕ, ◌≡◌, ◌≢◌, ◌≤◌, ◌<◌, ◌/◌, Bool, true, false, ◌&&◌, nat_lt, if◌then◌else◌, List, filter, length, Option, Some, None, slice_index_or}
 use Rattle.std.specs.List.{Contains}
 use Rattle.fx_amounts.specs.declared.side.Side.{Side}
-use Rattle.fx_amounts.specs.Price.{crosses}
+use Rattle.fx_amounts.specs.Price.{IsPrice, crosses}
 use Rattle.fx_rules.specs.declared.orders.Resting.{Resting}
 use Rattle.fx_rules.specs.Lists.{Among, Each}
 use Rattle.fx_rules.specs.Sweep.{Taker, is_opposite, is_preferred, IsBest}
@@ -11,11 +11,21 @@ use Rattle.fx_rules.specs.Plan.{is_behind, open_behind}
 use Rattle.price_levels.specs.declared.place.Place.{Place}
 use Rattle.global_book.specs.Book.{Book, is_of}
 use Rattle.credit_lines.specs.Credit.{Credit, line_in}
+use Rattle.match_sweep.specs.declared.heads.TakenPrices.{TakenPrices}
 use Rattle.match_sweep.specs.declared.opening.Opening.{Opening}
 
 -- a taker takes the price of none of these orders
 abbrev pub AreDear : Taker → List Resting → Type 0
 AreDear t orders = Each (λ order. crosses t.side t.price order.price ≡ false) orders
+
+-- a price is one of these
+pub record IsWithin (prices : TakenPrices) (price : ℕ) : Type 0 where
+  pub least : prices.least ≤ price
+  pub most : price ≤ prices.most
+
+-- each price that a taker takes is one of these
+pub record HasTaken (t : Taker) (prices : TakenPrices) : Type 0 where
+  pub has : (price : ℕ) → IsPrice price → crosses t.side t.price price ≡ true → IsWithin prices price
 
 -- of some orders the best is found; or none is, where a taker takes the price of none
 abbrev pub IsFound : Taker → List Resting → Option Resting → Type 0

@@ -1,4 +1,4 @@
-use Rattle.std.proofs.Common.{◌<◌, Option, Some, ap, sym, subst, ◌∙◌, arith}
+use Rattle.std.proofs.Common.{◌<◌, Option, Some, sym, subst, arith}
 use Rattle.std.specs.Option.{option_copied}
 use Rattle.price_levels.specs.declared.place.Place.{Place}
 use Rattle.access_index.specs.Owned.{is_ahead}

@@ -1,6 +1,5 @@
-use Rattle.std.proofs.Common.{Option, ap}
+use Rattle.std.proofs.Common.{ap}
 use Rattle.std.specs.Option.{option_copied}
-use Rattle.price_levels.specs.declared.place.Place.{Place}
 use Rattle.access_index.proofs.Walking.{first_behind_one, first_of_all}
 use Rattle.access_index.proofs.search.first_place_behind.Goals as goal
 

@@ -1,4 +1,4 @@
-use Rattle.std.proofs.Common.{Option, ap, sym, subst, ◌∙◌, ◌≡◌}
+use Rattle.std.proofs.Common.{ap, subst, ◌∙◌, ◌≡◌}
 use Rattle.std.specs.Option.{option_copied}
 use Rattle.fx_amounts.specs.declared.side.Side.{Side}
 use Rattle.price_levels.specs.Ladder.{Ladder, IsFirstOf}
