@@ -1,9 +1,10 @@
 -- What a crash leaves while a keeper writes.
-use Rattle.std.proofs.Common.{◌≡◌, inl, ℕ, ◌+◌, ◌-◌, ◌^◌, ◌<◌, ◌≤◌, List, ◌++◌, length, length-drop, take, drop, take_all, take-append-drop, length-append, Option, None, Some, option_map, Result, Ok, Err, OnOk, refl, sym, ◌∙◌, ap, subst, arith}
+use Rattle.std.proofs.Common.{◌≡◌, inl, ℕ, ◌+◌, ◌-◌, ◌^◌, ◌<◌, ◌≤◌, List, ◌++◌, length, length-drop, take, drop, take_all, take-append-drop, length-append, Option, None, Some, option_map, Result, Ok, Err, OnOk, IsErrOf, refl, sym, ◌∙◌, ap, subst, arith}
 use Rattle.std.proofs.Math.Seq.{take-append-add}
 use Rattle.std.proofs.lemmas.List.{take-append-le, drop-take, length-take}
 use Rattle.keep_disk.proofs.Reading.{take_shorter}
 use Rattle.fx_disk.specs.declared.disk.DiskStop.{DiskStop}
+use Rattle.fx_disk.specs.declared.disk.DiskStop.TheVariants.{Failed}
 use Rattle.fx_disk.specs.Disk.{WhereTold, with_piece, Torn, TornBy, NoMore, Only, Called, LeavesOnly}
 use Rattle.fx_disk.proofs.Leaving.{Torn-refl, leaves_at_start, leaves_weaker, leaves_then, leaves_call}
 use Rattle.keep_disk.specs.Blocks.{whole_blocks, IsClosedAt, HasOrLacks}
@@ -65,7 +66,7 @@ module _ {D : Type 0} (bytes : D → Option (List ℕ)) (may_leave : D → List 
     same = refl;
     no_more = λ image may. may;
     every_moment = leaves_at_start moment left_since disk (may_leave disk) (only_now disk);
-    count = omega arith;
+    count = refl;
   }
 
   pub Untouched-moments : {T : Type 0} (start before now : D) (result : Result T DiskStop) → Untouched bytes may_leave moment left_since faults start before → Called bytes may_leave moment left_since faults before now result
@@ -74,12 +75,12 @@ module _ {D : Type 0} (bytes : D → Option (List ℕ)) (may_leave : D → List 
       leaves_call moment left_since bytes may_leave faults start before now result (may_leave start) so_far.every_moment called (λ image may. so_far.no_more image (fewer image may))
 
   pub Untouched-call : {T : Type 0} (start before now : D) (result : Result T DiskStop) → Untouched bytes may_leave moment left_since faults start before → Called bytes may_leave moment left_since faults before now result
-      → NoMore (may_leave before) (may_leave now) → bytes now ≡ bytes before → Untouched bytes may_leave moment left_since faults start now
-  Untouched-call start before now result so_far called fewer same = record {
+      → NoMore (may_leave before) (may_leave now) → bytes now ≡ bytes before → (IsErrOf result Failed → ⊥) → Untouched bytes may_leave moment left_since faults start now
+  Untouched-call start before now result so_far called fewer same worked = record {
     same = same ∙ so_far.same;
     no_more = λ image may. so_far.no_more image (fewer image may);
     every_moment = Untouched-moments start before now result so_far called fewer;
-    count = omega (arith, so_far.count, called.count);
+    count = called.steady worked ∙ so_far.count;
   }
 
   pub Untouched-then : (start middle now : D) → Untouched bytes may_leave moment left_since faults start middle → Untouched bytes may_leave moment left_since faults middle now → Untouched bytes may_leave moment left_since faults start now
@@ -87,12 +88,15 @@ module _ {D : Type 0} (bytes : D → Option (List ℕ)) (may_leave : D → List 
     same = second.same ∙ first.same;
     no_more = λ image may. first.no_more image (second.no_more image may);
     every_moment = leaves_then moment left_since start middle now (may_leave start) first.every_moment (leaves_weaker moment left_since middle now (may_leave middle) (may_leave start) first.no_more second.every_moment);
-    count = omega (arith, first.count, second.count);
+    count = second.count ∙ first.count;
   }
 
 pub both_ok : {T E : Type 0} (result : Result T E) (P Q R : Type 0) → (P → Q → R) → OnOk result P → OnOk result Q → OnOk result R
 both_ok (Ok value) P Q R f p q = f p q
 both_ok (Err e) P Q R f p q = tt
+
+pub not_err : {T E : Type 0} {result : Result T E} {value : T} {error : E} → result ≡ Ok value → IsErrOf result error → ⊥
+not_err ok err = absurd (cc)
 
 -- A file that is read in parts
 

@@ -46,10 +46,11 @@ pub record HasFirst (start more : List (List ℕ)) (least : ℕ) (image : List �
   pub within : count ≤ length more
   pub blocks : whole_blocks image ≡ start ++ take count more
 
--- A fault of the disk or of the sink comes only where its own count rose, and the sink's count rises at nothing else.
+-- A fault of the disk or of the sink comes only where its own count rose, and each count rises at nothing else.
 pub record RunCauses {D K T : Type 0} (disk_faults : D → ℕ) (sink_faults : K → ℕ) (before now : D) (out_before out_now : K) (result : Result T RunFault) : Type 0 where
   pub disk_count : disk_faults before ≤ disk_faults now
   pub disk : IsErrOf result Disk → Rose (disk_faults before) (disk_faults now)
+  pub disk_steady : (IsErrOf result Disk → ⊥) → disk_faults now ≡ disk_faults before
   pub sink : IsErrOf result Write → Rose (sink_faults out_before) (sink_faults out_now)
   pub sink_count : (IsErrOf result Write → ⊥) → sink_faults out_now ≡ sink_faults out_before
 

@@ -23,7 +23,7 @@ pub enum RunFault {
     /// The sink failed, and its count of faults rose.
     #[error("a notice could not be written")]
     Write,
-    /// There wasn't enough memory. The file is to be opened again.
+    /// There wasn't enough memory, and neither count rose. The file is to be opened again.
     #[error("out of memory")]
     Memory,
 }

@@ -1,4 +1,4 @@
-ghost use Rattle.std.specs.Prelude.{◌≡◌, ℕ, ◌+◌, ◌≤◌, List, length, Option, option_map, OnOk};
+ghost use Rattle.std.specs.Prelude.{◌≡◌, ◌↔◌, ℕ, ◌+◌, ◌≤◌, List, length, Option, option_map, OnOk};
 ghost use Rattle.fx_disk.specs.Disk.{WhereTold, with_piece, TornBy, Only, LeavesOnly};
 ghost use Rattle.keep_disk.specs.Keeping.{HasCause};
 ghost use Rattle.keep_disk.specs.inside.Keeping.{TornFrom, Untouched};
@@ -12,14 +12,14 @@ pub enum KeepFault {
     /// The disk failed, and its count of faults rose.
     #[error("the disk failed")]
     Disk,
-    /// There wasn't enough memory.
+    /// There wasn't enough memory. The disk's count of faults is as it was.
     #[error("out of memory")]
     Memory,
 }
 
 /// The fault that a disk's stop is to a keeper.
 pub(crate) fn fault_of(stop: DiskStop) -> KeepFault
-    ensures { result ≡ KeepFault.Disk → stop ≡ DiskStop.Failed }
+    ensures { result ≡ KeepFault.Disk ↔ stop ≡ DiskStop.Failed }
 {
     match stop {
         DiskStop::Failed => KeepFault::Disk,

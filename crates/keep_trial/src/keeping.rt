@@ -14,7 +14,7 @@ use std::alloc::Global;
 
 /// Appends the blocks of the next `count` numbers, and writes each number once its block is on the disk. After a fault the disk
 /// has the blocks from before and those of the first so many numbers behind them, and each that was written is among these. The
-/// fault is `Disk` or `Write` only where that count of faults rose.
+/// fault is `Disk` or `Write` only where that count of faults rose, and each count rises at nothing else.
 pub fn append<D: Disk, K: Sink>(
     alloc: Global,
     disk: &mut D,
@@ -50,7 +50,7 @@ fn are_in_order(alloc: Global, found: &[Body], dots: usize) -> Result<bool, Memo
 }
 
 /// How many blocks the file has, and whether they are those of 1, 2, 3 and so on. The disk keeps its blocks, whatever the answer,
-/// and the fault is `Disk` only where its count of faults rose.
+/// and the fault is `Disk` only where its count of faults rose, which rises at nothing else.
 pub fn count<D: Disk>(alloc: Global, disk: &mut D, dots: usize) -> Result<(usize, bool), RunFault>
     ensures blocks { IfOk result (λ found. WhereTold (D.bytes disk.old) (λ file. found.0 ≡ length (whole_blocks file))) }
     ensures in_order { IfOk result (λ found. WhereTold (D.bytes disk.old) (λ file.
@@ -58,6 +58,7 @@ pub fn count<D: Disk>(alloc: Global, disk: &mut D, dots: usize) -> Result<(usize
     ensures every_moment { WhereTold (D.bytes disk.old) (λ file. Only file (D.may_leave disk.old) →
         LeavesOnly D.moment D.left_since disk.old disk.new (λ image. whole_blocks image ≡ whole_blocks file)) }
     ensures cause { IsErrOf result RunFault.Disk → Rose (D.faults disk.old) (D.faults disk.new) }
+    ensures steady { (IsErrOf result RunFault.Disk → ⊥) → D.faults disk.new ≡ D.faults disk.old }
 {
     let keeper = open_keeper(alloc, disk)?;
     let found = keeper.bodies();

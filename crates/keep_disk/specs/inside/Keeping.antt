@@ -1,5 +1,5 @@
 -- What private functions and proofs alone say of it, beside `specs/Keeping.antt`.
-use Rattle.std.specs.Prelude.{◌≡◌, ℕ, ◌≤◌, List, Option}
+use Rattle.std.specs.Prelude.{◌≡◌, ℕ, List, Option}
 use Rattle.fx_disk.specs.Disk.{NoMore, Torn, LeavesOnly}
 
 -- one of these images, after a write of n bytes that a crash cut short
@@ -12,4 +12,4 @@ pub record Untouched {D : Type 0} (bytes : D → Option (List ℕ)) (may_leave :
   pub same : bytes now ≡ bytes before
   pub no_more : NoMore (may_leave before) (may_leave now)
   pub every_moment : LeavesOnly moment left_since before now (may_leave before)
-  pub count : faults before ≤ faults now
+  pub count : faults now ≡ faults before

@@ -1,6 +1,6 @@
 use Rattle.std.proofs.Common.{◌≡◌, ◌∙◌, ◌-◌, ◌≤◌, length, sym, arith, rules}
 use Rattle.std.proofs.lemmas.Grind.{common_steps}
-use Rattle.keep_disk.proofs.Moments.{fill_within, fill_more, fill_length, Untouched-call}
+use Rattle.keep_disk.proofs.Moments.{fill_within, fill_more, fill_length, Untouched-call, not_err}
 use Rattle.keep_disk.proofs.read.fill.Goals as goal
 
 pub loop-at-preserved : goal.loop-at-preserved
@@ -11,7 +11,7 @@ loop-at-preserved g c =
     record {
       within = fill_within c.loop-at.at c.in-Ok.count c.loop-at.into c.read_at.new.into _ within room;
       untouched = Untouched-call g.D.Disk.bytes g.D.Disk.may_leave g.D.Disk.moment g.D.Disk.left_since g.D.Disk.faults
-          c.args.disk.now c.loop-at.disk c.read_at.new.self c.read_at.result c.loop-at.invariant.untouched c.read_at.ensures.called c.read_at.ensures.images c.in-Ok.ensures.bytes;
+          c.args.disk.now c.loop-at.disk c.read_at.new.self c.read_at.result c.loop-at.invariant.untouched c.read_at.ensures.called c.read_at.ensures.images c.in-Ok.ensures.bytes (not_err c.in-Ok.is);
       read = λ file told same. fill_more c.loop-at.at c.in-Ok.count c.loop-at.into c.read_at.new.into _ file within room
           (c.loop-at.invariant.read file told (sym (fill_length c.loop-at.at c.loop-at.into c.read_at.new.into within long) ∙ same))
           (c.in-Ok.ensures.gives file (c.loop-at.invariant.untouched.same ∙ told));

@@ -1,7 +1,8 @@
-use Rattle.std.proofs.Common.{Option, [], ◌∷◌, ◌++◌, refl, sym, subst, arith}
+use Rattle.std.proofs.Common.{Option, [], ◌∷◌, ◌++◌, refl, sym, ◌∙◌, subst}
 use Rattle.std.specs.Iterator.{Yields}
 use Rattle.std.proofs.iter.Next.{Yields-more}
 use Rattle.keep_disk.specs.declared.rounds.Round.{Round}
+use Rattle.keep_disk.proofs.Moments.{not_err}
 use Rattle.keep_disk.proofs.Telling.{kept_none, kept_stopped, kept_more, kept_cut, on_err_always}
 use Rattle.keep_disk.proofs.rounds.keep_rounds.Goals as goal
 
@@ -11,7 +12,7 @@ loop-round-init g c = record {
       c.args.disk.now c.args.out.now c.args.rounds.now (g.met.D.Disk.only_now c.args.disk.now) (λ file told. (c.requires file told).1);
   at_rest = c.requires;
   bodies = refl;
-  count = omega arith;
+  count = refl;
 }
 
 pub returns-in_err-round-clause-part : goal.returns-in_err-round-clause-part
@@ -51,7 +52,7 @@ loop-round-preserved g c = record {
       c.in_ok-keep_round.ensures.tells c.in_ok-keep_round.ensures.kept c.in_ok-keep_round.ensures.told;
   at_rest = c.in_ok-keep_round.ensures.at_rest;
   bodies = cc;
-  count = omega (arith, c.keep_round.ensures.causes.disk_count, c.loop-round.invariant.count);
+  count = c.keep_round.ensures.causes.disk_steady (not_err c.in_ok-keep_round.was) ∙ c.loop-round.invariant.count;
 }
 
 pub returns-clause-all : goal.returns-clause-all
