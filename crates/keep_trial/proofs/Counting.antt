@@ -59,16 +59,17 @@ numbers_came s (r ∷ rounds) t came le =
     (omega (arith, rest.0), omega (arith, rest.1), rest.2)
 
 module _ {D K : Type 0} (bytes : D → Option (List ℕ)) (may_leave : D → List ℕ → Type 0) (moment : D → ℕ) (left_since : D → ℕ → List ℕ → Type 0)
-    (written : K → Option (List ℕ)) (faults : K → ℕ) (dots : ℕ) (file : List ℕ) where
+    (written : K → Option (List ℕ)) (faults : K → ℕ) (dots count : ℕ) (file : List ℕ) where
   -- an image with the file's blocks
   first_none : (begun : ℕ) (image : List ℕ) → whole_blocks image ≡ whole_blocks file → HasFirst (whole_blocks file) (bodies dots (next_number file) begun) 0 image
   first_none begun image is = first_longer (whole_blocks file) [] (bodies dots (next_number file) begun) 0 image (first_all (whole_blocks file) [] 0 image (omega arith) (is ∙ sym (append-nil (whole_blocks file))))
 
   -- the file could not be opened
   pub kept_unopened : (before now : D) (k : K) → ((disk : D) (t : ℕ) (image : List ℕ) → t ≤ moment disk → may_leave disk image → left_since disk t image)
-      → LeavesOnly moment left_since before now (λ image. whole_blocks image ≡ whole_blocks file) → KeptNumbers may_leave moment left_since written faults dots file before now k k
+      → LeavesOnly moment left_since before now (λ image. whole_blocks image ≡ whole_blocks file) → KeptNumbers may_leave moment left_since written faults dots count file before now k k
   kept_unopened before now k counts_now leaves = record {
     begun = 0;
+    no_more = omega arith;
     printed = 0;
     every_moment = leaves_weaker moment left_since before now (λ (image : List ℕ). whole_blocks image ≡ whole_blocks file) (HasFirst (whole_blocks file) [] 0) (first_none 0) leaves;
     images = λ image may. first_none 0 image (leaves.each image (counts_now now (moment before) image leaves.later may));
@@ -77,7 +78,7 @@ module _ {D K : Type 0} (bytes : D → Option (List ℕ)) (may_leave : D → Lis
 
   module _ (before opened now : D) (out_before out_now : K) (s : Numbers) (told : bytes before ≡ Some file) (tells : is_some (bytes opened) ≡ is_some (bytes before))
       (reads : (disk : D) → WhereTold (bytes disk) (λ f. may_leave disk f)) (same : (image : List ℕ) → may_leave opened image → whole_blocks image ≡ whole_blocks file)
-      (dotted : s.dots ≡ dots) (next : s.next ≡ next_number file) where
+      (dotted : s.dots ≡ dots) (next : s.next ≡ next_number file) (le : s.next ≤ s.end) (end : s.end ≡ min (s.next + count) (2 ^ 64 - 1)) where
     -- what the opened file reads
     read : (f : List ℕ) × (bytes opened ≡ Some f) × (whole_blocks f ≡ whole_blocks file)
     read = let f = told_now (bytes before) (bytes opened) file tells told in (f.0, f.1, same f.0 (reads opened f.0 f.1))
@@ -86,9 +87,9 @@ module _ {D K : Type 0} (bytes : D → Option (List ℕ)) (may_leave : D → Lis
     blocks_are rounds t came =
         bodies_came s rounds t came ∙ ap (λ (d : ℕ). bodies d s.next (length rounds)) dotted ∙ ap (λ (n : ℕ). bodies dots n (length rounds)) next
 
-    pub all_numbers : (count : ℕ) (last ended : Numbers) → s.next ≤ s.end → s.end ≡ min (s.next + count) (2 ^ 64 - 1) → GivesNumber last None ended
+    pub all_numbers : (last ended : Numbers) → GivesNumber last None ended
         → KeptAll bytes may_leave moment left_since written faults GivesNumber opened now out_before out_now s last → AllNumbers may_leave written faults dots (room file count) file now out_before out_now
-    all_numbers count last ended le end none all =
+    all_numbers last ended none all =
         let came = numbers_came s all.rounds last all.came le in
         let many : length all.rounds ≡ room file count = omega (arith, came.0, came.1, came.2, none.0, next, end) in
         let blocks = blocks_are all.rounds last all.came ∙ ap (λ (n : ℕ). bodies dots (next_number file) n) many in
@@ -100,9 +101,10 @@ module _ {D K : Type 0} (bytes : D → Option (List ℕ)) (may_leave : D → Lis
         }
 
     module _ (leaves : LeavesOnly moment left_since before opened (λ image. whole_blocks image ≡ whole_blocks file)) where
-      pub kept_numbers : KeptPart bytes may_leave moment left_since written faults GivesNumber opened now out_before out_now s → KeptNumbers may_leave moment left_since written faults dots file before now out_before out_now
+      pub kept_numbers : KeptPart bytes may_leave moment left_since written faults GivesNumber opened now out_before out_now s → KeptNumbers may_leave moment left_since written faults dots count file before now out_before out_now
       kept_numbers part = record {
         begun = length part.rounds;
+        no_more = let came = numbers_came s part.rounds part.last part.came le in omega (arith, came.0, came.1, came.2, next, end);
         printed = part.count;
         every_moment =
             leaves_then moment left_since before opened now (HasFirst (whole_blocks file) (bodies dots (next_number file) (length part.rounds)) 0)
@@ -118,7 +120,7 @@ module _ {D K : Type 0} (bytes : D → Option (List ℕ)) (may_leave : D → Lis
       }
 
       -- some numbers were begun with, and all of them are kept
-      pub kept_all : (last : Numbers) → KeptAll bytes may_leave moment left_since written faults GivesNumber opened now out_before out_now s last → KeptNumbers may_leave moment left_since written faults dots file before now out_before out_now
+      pub kept_all : (last : Numbers) → KeptAll bytes may_leave moment left_since written faults GivesNumber opened now out_before out_now s last → KeptNumbers may_leave moment left_since written faults dots count file before now out_before out_now
       kept_all last all =
           let front : take (length all.rounds) all.rounds ≡ all.rounds = take_all (length all.rounds) all.rounds (omega arith) in
           kept_numbers record {
@@ -135,6 +137,6 @@ module _ {D K : Type 0} (bytes : D → Option (List ℕ)) (may_leave : D → Lis
       pub kept_either : {T E : Type 0} (result : Result T E) (ended : Numbers)
           → OnOk result ((last : Numbers) × GivesNumber last None ended × KeptAll bytes may_leave moment left_since written faults GivesNumber opened now out_before out_now s last)
           → OnErr result (KeptPart bytes may_leave moment left_since written faults GivesNumber opened now out_before out_now s)
-          → KeptNumbers may_leave moment left_since written faults dots file before now out_before out_now
+          → KeptNumbers may_leave moment left_since written faults dots count file before now out_before out_now
       kept_either (Ok value) ended all part = kept_all all.0 all.2
       kept_either (Err fault) ended all part = kept_numbers part

@@ -36,11 +36,12 @@ next_number file = length (whole_blocks file) + 1
 abbrev pub room : List ℕ → ℕ → ℕ
 room file count = min count (2 ^ 64 - 1 - next_number file)
 
--- Some numbers were begun with. At every moment since the start every image had the file's blocks, and behind them those of the first
--- so many of these; now it has at least those of which a byte was printed.
+-- Some of so many numbers were begun with. At every moment since the start every image had the file's blocks, and behind them those of
+-- the first so many of these; now it has at least those of which a byte was printed.
 pub record KeptNumbers {D K : Type 0} (may_leave : D → List ℕ → Type 0) (moment : D → ℕ) (left_since : D → ℕ → List ℕ → Type 0)
-    (written : K → Option (List ℕ)) (faults : K → ℕ) (dots : ℕ) (file : List ℕ) (before now : D) (out_before out_now : K) : Type 0 where
+    (written : K → Option (List ℕ)) (faults : K → ℕ) (dots count : ℕ) (file : List ℕ) (before now : D) (out_before out_now : K) : Type 0 where
   pub begun : ℕ
+  pub no_more : begun ≤ room file count
   pub printed : ℕ
   pub every_moment : LeavesOnly moment left_since before now (HasFirst (whole_blocks file) (bodies dots (next_number file) begun) 0)
   pub images : (image : List ℕ) → may_leave now image → HasFirst (whole_blocks file) (bodies dots (next_number file) begun) printed image

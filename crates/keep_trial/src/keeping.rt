@@ -23,7 +23,7 @@ pub fn append<D: Disk, K: Sink>(
     dots: usize,
 ) -> Result<(), RunFault>
     ensures kept { WhereTold (D.bytes disk.old) (λ file. Only file (D.may_leave disk.old) →
-        KeptNumbers D.may_leave D.moment D.left_since K.written K.faults dots file disk.old disk.new out.old out.new) }
+        KeptNumbers D.may_leave D.moment D.left_since K.written K.faults dots count file disk.old disk.new out.old out.new) }
     ensures all { OnOk result (WhereTold (D.bytes disk.old) (λ file.
         AllNumbers D.may_leave K.written K.faults dots (room file count) file disk.new out.old out.new)) }
     ensures causes { RunCauses D.faults K.faults disk.old disk.new out.old out.new result }
