@@ -60,7 +60,7 @@ pub(crate) fn follow_in_pair(
     ensures table { OnErr result (table.new ≡ table.old) }
 {
     let sender = table.sender(entry.bank);
-    reserve(book, &sender, &entry.command)?;
+    reserve(book, sender.bank, &entry.command)?;
     table.follow(entry);
     carry_out(book, &sender, &entry.command, &entry.outcome);
     Ok(())

@@ -1,6 +1,5 @@
 -- A pair as it lies behind its lock: its book, and what it has seen of the history.
 use Rattle.std.specs.Prelude.{ℕ, ◌≡◌, ◌<◌, ◌++◌, List, [], ◌∷◌}
-use Rattle.fx_rules.specs.declared.command.Command.{Command}
 use Rattle.fx_rules.specs.declared.orders.Fill.{Fill}
 use Rattle.fx_rules.specs.declared.outcome.Entry.{Entry}
 use Rattle.fx_rules.specs.Session.{Header, bank_count, pair_count}
@@ -10,8 +9,6 @@ use Rattle.fx_rules.specs.History.{IsLegal, state}
 use Rattle.fx_chronicle.specs.Faces.{Witness}
 use Rattle.global_book.specs.Book.{Book}
 use Rattle.credit_raise.specs.UnderWay.{Makes}
-use Rattle.pair_steps.specs.declared.sender.Sender.{Sender}
-use Rattle.pair_steps.specs.Carries.{HasRoomFor}
 
 -- the pair's book, and the front of its key
 pub record PairState : Type 0 where
@@ -35,7 +32,3 @@ pub record AreOfLast (h : Header) (entries : List Entry) (pair : ℕ) (fills : L
   pub last : Entry
   pub ends : entries ≡ before ++ last ∷ []
   pub makes : Makes (state h before) (state h entries) pair fills
-
--- there is room in a pair's book for what may come to rest of a bank's command, whatever the command's number is
-abbrev pub HasRoomOf : Book → ℕ → Command → Type 0
-HasRoomOf book bank command = (sender : Sender) → sender.bank ≡ bank → HasRoomFor book sender command

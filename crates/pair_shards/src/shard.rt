@@ -11,7 +11,7 @@ ghost use Rattle.pair_steps.specs.Carries.{HasRoomFor, entry_of};
 ghost use Rattle.credit_raise.specs.UnderWay.{IsUnderWay, command_of};
 ghost use Rattle.credit_book.specs.Recorded.{IsCreditBook, signed_by};
 ghost use Rattle.credit_book.specs.Serving.{IsServed};
-ghost use Rattle.pair_shards.specs.Shards.{AreOfLast, HasRoomOf, IsShard};
+ghost use Rattle.pair_shards.specs.Shards.{AreOfLast, IsShard};
 ghost use Rattle.pair_shards.specs.inside.Shards.{IsPrepared};
 
 use credit_book::{CreditBook, Pass, SignedBook};
@@ -103,19 +103,13 @@ impl<N: Naming> Shard<N> {
     /// may be none.
     pub fn make_room(&mut self, bank: BankId, command: &Command) -> Result<(), Memory>
         requires bank { bank < sender_count N.session }
-        ensures has_room { OnOk result (HasRoomOf self.new.book bank command.now) }
+        ensures has_room { OnOk result (HasRoomFor self.new.book bank command.now) }
         ensures orders { self.new.book.orders ≡ self.old.book.orders }
         ensures pair { self.new.book.pair ≡ self.old.book.pair }
         ensures front { self.new.front ≡ self.old.front }
         ensures kept { IsShard N.session self.new }
     {
-        // The room is the bank's, whatever its command's number will be.
-        let sender = Sender {
-            bank,
-            number: 1,
-            arrival: 0,
-        };
-        pair_steps::reserve(&mut self.book, &sender, command)
+        pair_steps::reserve(&mut self.book, bank, command)
     }
 
     /// Serves a bank's command in its pair: an order, a cancel, a reduction, a pull or a local book. It catches up first; then all
@@ -165,7 +159,7 @@ impl<N: Naming> Shard<N> {
         requires command { IsCommand N.session pass.old.key command.now }
         requires pair { pair_of command.now ≡ Some self.old.book.pair }
         requires few { length (own pass.old.key pass.old.met) < 2 ^ 32 - 1 }
-        requires room { HasRoomOf self.old.book pass.old.key command.now }
+        requires room { HasRoomFor self.old.book pass.old.key command.now }
         ensures served { IfOk result (IsServed N.session (mutex_guard_value credit.entry).book.history.entries pass.old command.now pass.new.seen pass.new) }
         ensures front { OnOk result (self.new.front ≡ witness self.old.front.key pass.new.seen) }
         ensures pair { self.new.book.pair ≡ self.old.book.pair }
@@ -253,7 +247,7 @@ impl<N: Naming> Shard<N> {
         requires last { credit.old.history.entries ≡ self.old.front.seen ++ entry_of sender.now command.now outcome.now ∷ [] }
         requires next { IsNextIn (state N.session self.old.front.seen) sender.now }
         requires pair { pair_of command.now ≡ Some self.old.book.pair }
-        requires room { HasRoomFor self.old.book sender.now command.now }
+        requires room { HasRoomFor self.old.book sender.now.bank command.now }
         ensures front { self.new.front ≡ witness self.old.front.key credit.old.history.entries }
         ensures pair { self.new.book.pair ≡ self.old.book.pair }
         ensures value { credit.new ≡ signed_by self.old.front.key credit.old }

@@ -203,7 +203,7 @@ pub record CanCarry (book : Book) (sender : Sender) (side : Side) (rests : ℕ) 
   pub absent : Each (λ (o : Resting). is_order sender.bank sender.number o ≡ false) (carried book.orders fills)
   pub number : 1 ≤ sender.number
 
-pub can_carry : (book : Book) (sender : Sender) (command : Command) (outcome : Outcome) (side : Side) (pair price lots : ℕ) (life : Life) (done rests : ℕ) (fills : List Fill) → command ≡ Order side pair price lots life → outcome ≡ Ordered done rests fills → pair_of command ≡ Some book.pair → HasRoomFor book sender command → IsStepOfSome book sender command outcome → CanCarry book sender side rests fills
+pub can_carry : (book : Book) (sender : Sender) (command : Command) (outcome : Outcome) (side : Side) (pair price lots : ℕ) (life : Life) (done rests : ℕ) (fills : List Fill) → command ≡ Order side pair price lots life → outcome ≡ Ordered done rests fills → pair_of command ≡ Some book.pair → HasRoomFor book sender.bank command → IsStepOfSome book sender command outcome → CanCarry book sender side rests fills
 can_carry book sender command outcome side pair price lots life done rests fills command_is outcome_is pair_is room some =
     let h : Header = some.session in
     let S : State = some.before in
@@ -221,7 +221,7 @@ can_carry book sender command outcome side pair price lots life done rests fills
     λ o there. came_before h S sender t fills swept.left some.valid of.sound of.next of.step.sender asked.0 swept.swept o (subst (Among o) orders_are there) in
     record {
       most = omega (arith, swept.most, asked.2.1);
-      room = λ more. subst (HasRoomFor book sender) (ap (Order side pair price lots) (swept.day more)) (subst (HasRoomFor book sender) command_is room);
+      room = λ more. subst (HasRoomFor book sender.bank) (ap (Order side pair price lots) (swept.day more)) (subst (HasRoomFor book sender.bank) command_is room);
       last = Each-of (λ (o : Resting). o.arrival < sender.arrival) (carried book.orders fills) (λ o there. (came o there).arrival);
       absent = Each-of (λ (o : Resting). is_order sender.bank sender.number o ≡ false) (carried book.orders fills) (λ o there. (came o there).number);
       number = omega (arith, of.next.number);

@@ -19,9 +19,9 @@ use Rattle.pair_steps.specs.declared.sender.Sender.{Sender}
 use Rattle.pair_steps.specs.Sending.{IsNextIn}
 
 -- there is room for what may come to rest of a command: of a Day order, one order of its bank and side
-abbrev pub HasRoomFor : Book → Sender → Command → Type 0
-HasRoomFor book sender (Order side pair price lots Day) = HasRoom book sender.bank side
-HasRoomFor book sender _ = Unit {0}
+abbrev pub HasRoomFor : Book → ℕ → Command → Type 0
+HasRoomFor book bank (Order side pair price lots Day) = HasRoom book bank side
+HasRoomFor book bank _ = Unit {0}
 
 -- the entry that a command and its outcome make
 abbrev pub entry_of : Sender → Command → Outcome → Entry

@@ -7,16 +7,16 @@ ghost use Rattle.pair_steps.specs.Sending.{pair_of};
 ghost use Rattle.pair_steps.specs.Carries.{FollowsOn, HasRoomFor, IsStepOfSome, order_at_rest, orders_after, with_rest};
 
 use crate::sender::Sender;
-use fx_amounts::{Lots, Memory, Price, Side};
+use fx_amounts::{BankId, Lots, Memory, Price, Side};
 use fx_rules::{Command, Fill, Life, Outcome, Resting};
 use global_book::PairBook;
 use match_sweep::carry_fills;
 
-/// Makes room for what may come to rest of a command: of a Day order, and of no other. At `Memory` there may be none. The
-/// sender is one of the book's banks.
-pub fn reserve(book: &mut PairBook, sender: &Sender, command: &Command) -> Result<(), Memory>
-    requires bank { sender.now.bank < book.old.banks }
-    ensures has_room { OnOk result (HasRoomFor book.new sender.now command.now) }
+/// Makes room for what may come to rest of a bank's command: of a Day order, and of no other. At `Memory` there may be none.
+/// The bank is one of the book's.
+pub fn reserve(book: &mut PairBook, bank: BankId, command: &Command) -> Result<(), Memory>
+    requires bank { bank < book.old.banks }
+    ensures has_room { OnOk result (HasRoomFor book.new bank command.now) }
     ensures room { KeepsRoom book.old book.new }
     ensures pair { book.new.pair ≡ book.old.pair }
     ensures banks { book.new.banks ≡ book.old.banks }
@@ -27,7 +27,7 @@ pub fn reserve(book: &mut PairBook, sender: &Sender, command: &Command) -> Resul
             side,
             life: Life::Day,
             ..
-        } => book.reserve(sender.bank, side),
+        } => book.reserve(bank, side),
         _ => Ok(()),
     }
 }
@@ -40,7 +40,7 @@ pub fn reserve(book: &mut PairBook, sender: &Sender, command: &Command) -> Resul
 pub fn carry_out(book: &mut PairBook, sender: &Sender, command: &Command, outcome: &Outcome)
     requires step { IsStepOfSome book.old sender.now command.now outcome.now }
     requires pair { pair_of command.now ≡ Some book.old.pair }
-    requires room { HasRoomFor book.old sender.now command.now }
+    requires room { HasRoomFor book.old sender.now.bank command.now }
     ensures orders { book.new.orders ≡ orders_after sender.now command.now outcome.now book.old.orders }
     ensures follows { FollowsOn book.old book.new sender.now command.now outcome.now }
     ensures pair { book.new.pair ≡ book.old.pair }
@@ -54,7 +54,7 @@ pub fn carry_out(book: &mut PairBook, sender: &Sender, command: &Command, outcom
 fn change(book: &mut PairBook, sender: &Sender, command: &Command, outcome: &Outcome)
     requires step { IsStepOfSome book.old sender.now command.now outcome.now }
     requires pair { pair_of command.now ≡ Some book.old.pair }
-    requires room { HasRoomFor book.old sender.now command.now }
+    requires room { HasRoomFor book.old sender.now.bank command.now }
     ensures orders { book.new.orders ≡ orders_after sender.now command.now outcome.now book.old.orders }
     ensures pair { book.new.pair ≡ book.old.pair }
     ensures banks { book.new.banks ≡ book.old.banks }

@@ -29,12 +29,12 @@ pub fn prepare(
     requires weight { IsWeight weight }
     requires pair { pair_of command.now ≡ Some book.old.pair }
     ensures answers { IfOk result (AnswersEach book.new lines.now weight sender.now command.now) }
-    ensures has_room { OnOk result (HasRoomFor book.new sender.now command.now) }
+    ensures has_room { OnOk result (HasRoomFor book.new sender.now.bank command.now) }
     ensures room { KeepsRoom book.old book.new }
     ensures pair { book.new.pair ≡ book.old.pair }
     ensures banks { book.new.banks ≡ book.old.banks }
     ensures orders { book.new.orders ≡ book.old.orders }
 {
-    reserve(book, sender, command)?;
+    reserve(book, sender.bank, command)?;
     answer(alloc, book, lines, weight, sender, command)
 }

@@ -1,12 +1,13 @@
-use Rattle.std.proofs.Common.{sym, subst, ◌∙◌}
+use Rattle.std.proofs.Common.{sym, subst}
 use Rattle.pair_steps.specs.Carries.{HasRoomFor}
 use Rattle.pair_shards.specs.Shards.{PairState}
 use Rattle.fx_host.proofs.Serving.{serves-submitted}
 use Rattle.fx_host.proofs.host.Host.serve_in.Goals as goal
 
 pub serve_under-requires-clause-room : goal.serve_under-requires-clause-room
-serve_under-requires-clause-room g c = λ sender is.
-    subst (λ (shard : PairState). HasRoomFor shard.book sender c.args.command.now) (sym c.deref_mut-2.ensures.value) (c.in_ok-make_room.ensures.has_room sender (is ∙ sym c.bank.ensures.value))
+serve_under-requires-clause-room g c =
+    subst (λ (shard : PairState). HasRoomFor shard.book c.args.pass.now.key c.args.command.now) (sym c.deref_mut-2.ensures.value)
+    (subst (λ bank. HasRoomFor c.make_room.new.self.book bank c.args.command.now) c.bank.ensures.value c.in_ok-make_room.ensures.has_room)
 
 pub returns-clause-submitted : goal.returns-clause-submitted
 returns-clause-submitted g c = serves-submitted _ _ _ _ _ _ _ c.serve_under.ensures.served

@@ -43,8 +43,8 @@ carry_out-requires-clause-step g c =
 
 pub carry_out-requires-clause-room : goal.carry_out-requires-clause-room
 carry_out-requires-clause-room g c =
-    subst (λ (b : Book). HasRoomFor b c.in_ok-sender.field-0.sender c.args.command.now) (sym (ap (λ (s : PairState). s.book) c.self.view_is ∙ c.catch_up.ensures.book))
-    (c.requires.room c.in_ok-sender.field-0.sender c.in_ok-sender.ensures.prepared.bank_is)
+    subst (λ (b : Book). HasRoomFor b c.in_ok-sender.field-0.sender.bank c.args.command.now) (sym (ap (λ (s : PairState). s.book) c.self.view_is ∙ c.catch_up.ensures.book))
+    (subst (λ bank. HasRoomFor c.args.self.now.book bank c.args.command.now) (sym c.in_ok-sender.ensures.prepared.bank_is) c.requires.room)
 
 pub invariant_of-self : goal.invariant_of-self
 invariant_of-self g c =
