@@ -83,10 +83,25 @@ impl LineText {
         self.push(buffer.format(value).as_bytes());
     }
 
+    /// Appends a large number's decimal digits.
+    pub fn push_wide(&mut self, value: u128)
+        ensures text { self.new ≡ take 256 (self.old ++ numeral value) }
+        ensures few { length (numeral value) ≤ 39 }
+    {
+        match u64::try_from(value) {
+            Ok(small) => self.push_number(small),
+            Err(_) => {
+                let mut buffer = Buffer::new();
+                self.push(buffer.format(value).as_bytes());
+            }
+        }
+    }
+
     /// Appends a price's one spelling, where a tick is the last of `decimals` decimal places.
     pub fn push_price(&mut self, price: Price, decimals: u8)
         requires { IsDecimals decimals }
-        ensures { self.new ≡ take 256 (self.old ++ price_text decimals price) }
+        ensures text { self.new ≡ take 256 (self.old ++ price_text decimals price) }
+        ensures few { length (price_text decimals price) ≤ 40 }
     {
         let ticks = u64::from(price.ticks());
         let unit = unit_of(decimals);
@@ -118,16 +133,27 @@ impl LineText {
 
     /// Appends a number behind a space.
     pub fn push_number_field(&mut self, value: u64)
-        ensures { self.new ≡ take 256 (self.old ++ 32 ∷ numeral value) }
+        ensures text { self.new ≡ take 256 (self.old ++ 32 ∷ numeral value) }
+        ensures few { length (numeral value) ≤ 20 }
     {
         self.push_byte(b' ');
         self.push_number(value);
     }
 
+    /// Appends a large number behind a space.
+    pub fn push_wide_field(&mut self, value: u128)
+        ensures text { self.new ≡ take 256 (self.old ++ 32 ∷ numeral value) }
+        ensures few { length (numeral value) ≤ 39 }
+    {
+        self.push_byte(b' ');
+        self.push_wide(value);
+    }
+
     /// Appends a price behind a space, where a tick is the last of `decimals` decimal places.
     pub fn push_price_field(&mut self, price: Price, decimals: u8)
         requires { IsDecimals decimals }
-        ensures { self.new ≡ take 256 (self.old ++ 32 ∷ price_text decimals price) }
+        ensures text { self.new ≡ take 256 (self.old ++ 32 ∷ price_text decimals price) }
+        ensures few { length (price_text decimals price) ≤ 40 }
     {
         self.push_byte(b' ');
         self.push_price(price, decimals);

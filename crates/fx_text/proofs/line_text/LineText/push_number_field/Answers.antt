@@ -1,7 +1,11 @@
-use Rattle.std.proofs.Common.{◌∷◌, []}
+use Rattle.std.proofs.Common.{◌∷◌, [], arith}
 use Rattle.fx_amounts.specs.Numeral.{numeral}
+use Rattle.fx_text.proofs.FieldTexts.{length-numeral}
 use Rattle.fx_text.proofs.LineTexts.{pushed_two}
 use Rattle.fx_text.proofs.line_text.LineText.push_number_field.Goals as goal
 
-pub returns : goal.returns
-returns c = pushed_two c.args.self.now c.push_byte.new.self c.push_number.new.self (32 ∷ []) (numeral c.args.value) c.push_byte.ensures c.push_number.ensures
+pub returns-clause-text : goal.returns-clause-text
+returns-clause-text c = pushed_two c.args.self.now c.push_byte.new.self c.push_number.new.self (32 ∷ []) (numeral c.args.value) c.push_byte.ensures c.push_number.ensures
+
+pub returns-clause-few : goal.returns-clause-few
+returns-clause-few c = length-numeral 19 c.args.value (omega arith)
