@@ -1,6 +1,5 @@
 -- A line as it grows by its fields.
-use Rattle.std.proofs.Common.{◌≡◌, ℕ, ◌≤◌, List, [], ◌∷◌, ◌++◌, length, take, refl, sym, ap, ◌∙◌, arith, append-nil}
-use Rattle.std.proofs.lemmas.List.{length-take, take_all}
+use Rattle.std.proofs.Common.{◌≡◌, ℕ, ◌≤◌, List, [], ◌∷◌, ◌++◌, length, take, refl, sym, ap, ◌∙◌, append-nil}
 use Rattle.std.specs.List.{join_with_byte, flat_map}
 use Rattle.fx_amounts.specs.Numeral.{numeral}
 use Rattle.fx_amounts.specs.declared.side.Side.{Side}
@@ -8,7 +7,7 @@ use Rattle.fx_rules.specs.Session.{Header, bank_name}
 use Rattle.fx_rules.specs.declared.command.Command.{Command}
 use Rattle.fx_rules.specs.declared.command.Command.TheVariants as command
 use Rattle.fx_rules.specs.declared.command.Life.{Life}
-use Rattle.fx_text.proofs.LineTexts.{pushed_two}
+use Rattle.fx_text.proofs.LineTexts.{pushed_two, no_field, last_field, one_field}
 use Rattle.order_lines.specs.inside.Printing.{fields_text, word_field, subject_field, details}
 use Rattle.order_lines.specs.Spelling.{price_spelled, command_fields, command_text_of}
 use Rattle.order_lines.specs.Words.{life_text}
@@ -46,24 +45,6 @@ whole_line h bank said start named worded about after first second third last =
     pushed_two start named after (bank_name h bank) (word ++ (subject ++ rest)) first
     (pushed_two named worded after word (subject ++ rest) second (pushed_two worded about after subject rest third last))
     ∙ ap (λ (text : List ℕ). take 256 (start ++ text)) (sym (command_text_of-parts h bank said))
-
--- what was cut to the room is within it
-pub within_room : (text now : List ℕ) → now ≡ take 256 text → length now ≤ 256
-within_room text now is = omega (arith, ap (λ (t : List ℕ). length t) is, length-take 256 text)
-
--- no field more, the last one, and one before others
-no_field : (start : List ℕ) → length start ≤ 256 → start ≡ take 256 (start ++ [])
-no_field start within = sym (ap (take 256) (append-nil start) ∙ take_all 256 start within)
-
-last_field : (start after field : List ℕ) → after ≡ take 256 (start ++ 32 ∷ field) → after ≡ take 256 (start ++ fields_text (field ∷ []))
-last_field start after field is = is ∙ ap (λ (text : List ℕ). take 256 (start ++ text)) (sym (append-nil (32 ∷ field)))
-
-one_field : (start one after field : List ℕ) (fields : List (List ℕ)) → one ≡ take 256 (start ++ 32 ∷ field) → after ≡ take 256 (one ++ fields_text fields) → after ≡ take 256 (start ++ fields_text (field ∷ fields))
-one_field start one after field fields first rest = pushed_two start one after (32 ∷ field) (fields_text fields) first rest
-
--- a text that the room is enough for
-pub fits_room : (text now : List ℕ) → length text ≤ 256 → now ≡ take 256 text → now ≡ text
-fits_room text now within is = is ∙ take_all 256 text within
 
 -- the details of each command that has some, and of those that have none
 pub order_details : (h : Header) (said : Command) (side : Side) (pair price lots : ℕ) (life : Life) (start one two after : List ℕ) → said ≡ command.Order side pair price lots life

@@ -1,5 +1,5 @@
 -- The line of a fill is put together from its texts.
-use Rattle.std.proofs.Common.{ℕ, ◌≡◌, ◌++◌, ◌∷◌, [], append_assoc, rules}
+use Rattle.std.proofs.Common.{ℕ, ◌≡◌, append_assoc, rules}
 use Rattle.fx_amounts.specs.Numeral.{numeral}
 use Rattle.fx_amounts.specs.declared.side.Side.{Side}
 use Rattle.fx_rules.specs.declared.orders.Fill.{Fill}

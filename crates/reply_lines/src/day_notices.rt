@@ -9,6 +9,7 @@ use crate::notices::FillTexts;
 use day_report::{DaySums, Report};
 use fx_amounts::Memory;
 use fx_rules::{Entry, Session};
+use fx_text::LineText;
 use std::alloc::Global;
 
 /// What the entries of a day so far give notice of: to each bank on its desk, and by the sums to all.
@@ -18,6 +19,8 @@ pub(crate) struct DayNotices {
     sums: DaySums,
     /// The last notice that was made; its memory is used again.
     line: Vec<u8>,
+    /// The last reply that shows no local book.
+    text: LineText,
     /// What the notices of the last fill have in common; its memory is used again.
     texts: FillTexts,
 }
@@ -40,6 +43,7 @@ impl DayNotices {
             desks: no_desks(alloc, session.banks().len())?,
             sums: DaySums::open(alloc, session)?,
             line: Vec::new(alloc),
+            text: LineText::new(),
             texts: FillTexts::new(alloc),
         })
     }
@@ -57,6 +61,7 @@ impl DayNotices {
             entry,
             &mut self.desks,
             &mut self.line,
+            &mut self.text,
             &mut self.texts,
         )
     }

@@ -6,16 +6,17 @@ ghost use Rattle.fx_rules.specs.Lists.{Each};
 ghost use Rattle.fx_rules.specs.Session.{bank_count};
 ghost use Rattle.reply_lines.specs.Desks.{nothing_yet, AreDesksOf};
 ghost use Rattle.reply_lines.specs.inside.Desks.{with_line, HaveGot, IsNoticeTo};
-ghost use Rattle.reply_lines.specs.Notices.{Notice, reply_notices, fill_notices, notices_in, desk_line, desk_text};
+ghost use Rattle.reply_lines.specs.Notices.{Notice, reply_line, reply_notices, fill_notices, notices_in, desk_line, desk_text};
 ghost use Rattle.reply_lines.specs.Output.{desks_text};
 ghost use Rattle.reply_lines.specs.inside.Prints.{IsAnswerOf, IsFillOf, IsEntryOf};
 
 use crate::lines::write_made;
-use crate::notices::{FillTexts, make_desk, make_fill, make_reply};
+use crate::notices::{FillTexts, booked_pair, make_book_reply, make_desk, make_fill, make_reply};
 use fx_amounts::{BankId, Memory, Side};
 use fx_edges::{Sink, SinkFault};
 use fx_pieces::Pieces;
-use fx_rules::{Entry, Fill, Session};
+use fx_rules::{Entry, Fill, Outcome, Session};
+use fx_text::LineText;
 use std::alloc::Global;
 use std::marker::Model;
 
@@ -79,6 +80,33 @@ impl Desk {
         self.count += 1;
         Ok(())
     }
+
+    /// Adds the reply to an entry, which is made in the text, or in the line where it shows a local book. Without memory for it
+    /// the desk stays.
+    fn reply(
+        &mut self,
+        session: &Session,
+        entry: &Entry,
+        line: &mut Vec<u8>,
+        text: &mut LineText,
+    ) -> Result<(), Memory>
+        requires answer { IsAnswerOf session.now entry.now.command entry.now.outcome }
+        ensures ok { OnOk result (self.new ≡ with_line self.old (reply_line session.now (self.old.count + 1) entry.now)) }
+    {
+        let notice = self.next_number();
+        match &entry.outcome {
+            Outcome::Depth { bids, asks } => {
+                let pair = booked_pair(&entry.command);
+                let (bids, asks) = (bids.as_slice(), asks.as_slice());
+                make_book_reply(session, notice, entry.number, pair, bids, asks, line)?;
+                self.add(line)
+            }
+            outcome => {
+                make_reply(notice, entry.number, outcome, text);
+                self.add(text.as_slice())
+            }
+        }
+    }
 }
 
 /// So many banks' desks, without a notice yet.
@@ -99,13 +127,14 @@ pub(crate) fn add_entry(
     entry: &Entry,
     desks: &mut Vec<Desk>,
     line: &mut Vec<u8>,
+    text: &mut LineText,
     texts: &mut FillTexts,
 ) -> Result<(), Memory>
     requires entry { IsEntryOf session.now entry.now }
     requires desks { length desks.old.items ≡ bank_count session.now }
     ensures ok { OnOk result (HaveGot session.now (λ bank. notices_in bank entry.now) desks.old.items desks.new.items) }
 {
-    add_reply(session, entry, desks, line)?;
+    add_reply(session, entry, desks, line, text)?;
     add_fills(session, entry.outcome.fills(), desks, line, texts)
 }
 
@@ -115,22 +144,13 @@ fn add_reply(
     entry: &Entry,
     desks: &mut Vec<Desk>,
     line: &mut Vec<u8>,
+    text: &mut LineText,
 ) -> Result<(), Memory>
     requires answer { IsAnswerOf session.now entry.now.command entry.now.outcome }
     requires sender { entry.now.bank < length desks.old.items }
     ensures ok { OnOk result (HaveGot session.now (λ bank. reply_notices bank entry.now) desks.old.items desks.new.items) }
 {
-    let desk = &mut desks[entry.bank.index()];
-    let number = desk.next_number();
-    make_reply(
-        session,
-        number,
-        entry.number,
-        &entry.command,
-        &entry.outcome,
-        line,
-    )?;
-    desk.add(line)
+    desks[entry.bank.index()].reply(session, entry, line, text)
 }
 
 /// Adds the notices of fills, in order.

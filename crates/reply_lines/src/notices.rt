@@ -1,100 +1,122 @@
-ghost use Rattle.std.specs.Prelude.{◌≡◌, ◌∷◌, [], ◌<◌, ◌+◌, ◌++◌, codes, OnOk, OnErr};
+ghost use Rattle.std.specs.Prelude.{◌≡◌, ◌∷◌, [], ◌<◌, ◌≤◌, ◌++◌, codes, length, take, OnOk, OnErr};
 ghost use Rattle.fx_amounts.specs.Numeral.{numeral};
 ghost use Rattle.fx_amounts.specs.Quantity.{IsDecimals};
 ghost use Rattle.reply_lines.specs.Rows.{row, fields_text, side_text};
 ghost use Rattle.fx_rules.specs.Session.{bank_count, pair_count, bank_name};
-ghost use Rattle.reply_lines.specs.Notices.{booked_pair, level_fields, book_fields, reply_fields, trade_fields, amount_fields};
+ghost use Rattle.reply_lines.specs.Notices.{booked_pair, level_fields, book_fields, trade_fields, amount_fields};
 ghost use Rattle.reply_lines.specs.inside.Fills.{AreTextsOf, fill_line};
-ghost use Rattle.reply_lines.specs.inside.Prints.{IsAnswerOf};
+ghost use Rattle.reply_lines.specs.inside.Replies.{plain_fields};
 
 use crate::row::{
     begin_row, begin_word_row, end_row, push_field, push_number_field, push_price_field, push_text,
 };
-use fx_amounts::{BankId, Memory, PairId, Side, base_amount, quote_amount};
+use fx_amounts::{BankId, Memory, PairId, Side, Units, base_amount, quote_amount};
 use fx_rules::{Command, Fill, Level, Outcome, Session};
+use fx_text::LineText;
 use std::alloc::Global;
 
-// At `Memory` each of these calls leaves the line empty, as those of `row.rt` do.
+// At `Memory` a call leaves the line empty, as those of `row.rt` do.
 
-/// Makes the line of the reply to a bank's command `number`, with its number `notice` on the desk.
-pub(crate) fn make_reply(
+/// Makes the line of the reply to a bank's command `number`, with its number `notice` on the desk, where the reply shows no
+/// local book.
+pub(crate) fn make_reply(notice: u128, number: u32, outcome: &Outcome, line: &mut LineText)
+    ensures { line.new ≡ row (numeral notice) (codes "REPLY" ∷ numeral number ∷ plain_fields outcome.now) }
+{
+    line.clear();
+    line.push_wide(notice);
+    push_count(b"REPLY", number, line);
+    push_outcome(outcome, line);
+    line.push_byte(b'\n');
+}
+
+/// Makes the line of the reply to a bank's command `number` for the local book of a pair.
+pub(crate) fn make_book_reply(
     session: &Session,
     notice: u128,
     number: u32,
-    command: &Command,
-    outcome: &Outcome,
+    pair: PairId,
+    bids: &[Level],
+    asks: &[Level],
     line: &mut Vec<u8>,
 ) -> Result<(), Memory>
-    requires { IsAnswerOf session.now command.now outcome.now }
+    requires { pair < pair_count session.now }
     ensures ok { OnOk result (line.new.items ≡ row (numeral notice)
-        (codes "REPLY" ∷ numeral number ∷ reply_fields session.now command.now outcome.now)) }
+        (codes "REPLY" ∷ numeral number ∷ codes "BOOK" ∷ book_fields session.now pair bids.now asks.now)) }
     ensures memory { OnErr result (line.new.items ≡ []) }
 {
     begin_row(notice, line)?;
     push_field(b"REPLY", line)?;
     push_number_field(u128::from(number), line)?;
-    push_outcome(session, command, outcome, line)?;
+    push_field(b"BOOK", line)?;
+    push_book(session, pair, bids, asks, line)?;
     end_row(line)
 }
 
-/// Appends the fields of an outcome.
-fn push_outcome(
-    session: &Session,
-    command: &Command,
-    outcome: &Outcome,
-    line: &mut Vec<u8>,
-) -> Result<(), Memory>
-    requires { IsAnswerOf session.now command.now outcome.now }
-    ensures ok { OnOk result (line.new.items ≡ line.old.items ++ fields_text (reply_fields session.now command.now outcome.now)) }
-    ensures memory { OnErr result (line.new.items ≡ []) }
+/// Appends the fields of an outcome that is no local book.
+fn push_outcome(outcome: &Outcome, line: &mut LineText)
+    requires { length line.old ≤ 256 }
+    ensures text { line.new ≡ take 256 (line.old ++ fields_text (plain_fields outcome.now)) }
+    ensures few { length (fields_text (plain_fields outcome.now)) ≤ 84 }
 {
     match outcome {
         Outcome::Ordered { filled, rests, .. } => push_counts(b"ORDERED", *filled, *rests, line),
-        Outcome::Killed => push_field(b"KILLED", line),
+        Outcome::Killed => line.push_field(b"KILLED"),
         Outcome::Cancelled { left } => push_count(b"CANCELLED", *left, line),
         Outcome::Reduced { left } => push_count(b"REDUCED", *left, line),
         Outcome::NotLess { left } => push_count(b"NOTLESS", *left, line),
-        Outcome::Nothing => push_field(b"NOTHING", line),
+        Outcome::Nothing => line.push_field(b"NOTHING"),
         Outcome::Pulled { count } => push_count(b"PULLED", *count, line),
-        Outcome::LineSet { limit, .. } => {
-            push_field(b"LIMIT", line)?;
-            push_number_field(u128::from(limit.get()), line)
-        }
-        Outcome::Shown { limit, used, eff } => {
-            push_field(b"SHOWN", line)?;
-            push_number_field(u128::from(limit.get()), line)?;
-            push_number_field(u128::from(used.get()), line)?;
-            push_number_field(u128::from(eff.get()), line)
-        }
-        Outcome::Depth { bids, asks } => {
-            push_field(b"BOOK", line)?;
-            let pair = booked_pair(command);
-            push_book(session, pair, bids.as_slice(), asks.as_slice(), line)
-        }
+        Outcome::LineSet { limit, .. } => push_units(b"LIMIT", *limit, line),
+        Outcome::Shown { limit, used, eff } => push_line(*limit, *used, *eff, line),
+        Outcome::Depth { .. } => {}
         Outcome::Rejected { reason } => push_count(b"BAD", u32::from(reason.code()), line),
     }
 }
 
 /// Appends a word and a number.
-fn push_count(word: &[u8], count: u32, line: &mut Vec<u8>) -> Result<(), Memory>
-    ensures ok { OnOk result (line.new.items ≡ line.old.items ++ fields_text (word.now ∷ numeral count ∷ [])) }
-    ensures memory { OnErr result (line.new.items ≡ []) }
+fn push_count(word: &[u8], count: u32, line: &mut LineText)
+    requires { length word.now ≤ 20 }
+    ensures text { line.new ≡ take 256 (line.old ++ fields_text (word.now ∷ numeral count ∷ [])) }
+    ensures few { length (fields_text (word.now ∷ numeral count ∷ [])) ≤ 84 }
 {
-    push_field(word, line)?;
-    push_number_field(u128::from(count), line)
+    line.push_field(word);
+    line.push_number_field(u64::from(count));
 }
 
 /// Appends a word and two numbers.
-fn push_counts(word: &[u8], first: u32, second: u32, line: &mut Vec<u8>) -> Result<(), Memory>
-    ensures ok { OnOk result (line.new.items ≡ line.old.items ++ fields_text (word.now ∷ numeral first ∷ numeral second ∷ [])) }
-    ensures memory { OnErr result (line.new.items ≡ []) }
+fn push_counts(word: &[u8], first: u32, second: u32, line: &mut LineText)
+    requires { length word.now ≤ 20 }
+    ensures text { line.new ≡ take 256 (line.old ++ fields_text (word.now ∷ numeral first ∷ numeral second ∷ [])) }
+    ensures few { length (fields_text (word.now ∷ numeral first ∷ numeral second ∷ [])) ≤ 84 }
 {
-    push_count(word, first, line)?;
-    push_number_field(u128::from(second), line)
+    line.push_field(word);
+    line.push_number_field(u64::from(first));
+    line.push_number_field(u64::from(second));
+}
+
+/// Appends a word and credit units.
+fn push_units(word: &[u8], units: Units, line: &mut LineText)
+    requires { length word.now ≤ 20 }
+    ensures text { line.new ≡ take 256 (line.old ++ fields_text (word.now ∷ numeral units ∷ [])) }
+    ensures few { length (fields_text (word.now ∷ numeral units ∷ [])) ≤ 84 }
+{
+    line.push_field(word);
+    line.push_number_field(units.get());
+}
+
+/// Appends a limit, what is used, and the line between two banks.
+fn push_line(limit: Units, used: Units, eff: Units, line: &mut LineText)
+    ensures text { line.new ≡ take 256 (line.old ++ fields_text (codes "SHOWN" ∷ numeral limit ∷ numeral used ∷ numeral eff ∷ [])) }
+    ensures few { length (fields_text (codes "SHOWN" ∷ numeral limit ∷ numeral used ∷ numeral eff ∷ [])) ≤ 84 }
+{
+    line.push_field(b"SHOWN");
+    line.push_number_field(limit.get());
+    line.push_number_field(used.get());
+    line.push_number_field(eff.get());
 }
 
 /// The pair whose book a command asks for; the first pair where it asks for none.
-fn booked_pair(command: &Command) -> PairId
+pub(crate) fn booked_pair(command: &Command) -> PairId
     ensures { result ≡ booked_pair command.now }
 {
     match command {

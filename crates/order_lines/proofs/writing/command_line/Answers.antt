@@ -1,6 +1,6 @@
 use Rattle.std.proofs.Common.{◌∙◌, ◌++◌, ◌∷◌, [], List, ℕ, ap, take, arith, length-append}
 use Rattle.order_lines.specs.Spelling.{command_text_of}
-use Rattle.order_lines.proofs.Printed.{fits_room}
+use Rattle.fx_text.proofs.LineTexts.{fits_room}
 use Rattle.order_lines.proofs.writing.command_line.Goals as goal
 
 pub returns : goal.returns

@@ -1,6 +1,6 @@
 use Rattle.std.proofs.Common.{◌∙◌, ◌++◌, List, ℕ, ap, take, arith}
 use Rattle.order_lines.specs.Spelling.{command_text_of}
-use Rattle.order_lines.proofs.Printed.{fits_room}
+use Rattle.fx_text.proofs.LineTexts.{fits_room}
 use Rattle.order_lines.proofs.WrittenCommands.{IsWritten-command}
 use Rattle.order_lines.proofs.writing.make_command.Goals as goal
 

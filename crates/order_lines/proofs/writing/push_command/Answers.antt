@@ -1,6 +1,7 @@
 use Rattle.std.proofs.Common.{◌∙◌, ◌++◌, ◌∷◌, List, ℕ, ap, take}
 use Rattle.order_lines.specs.inside.Printing.{subject_field}
-use Rattle.order_lines.proofs.Printed.{whole_line, within_room}
+use Rattle.fx_text.proofs.LineTexts.{within_room}
+use Rattle.order_lines.proofs.Printed.{whole_line}
 use Rattle.order_lines.proofs.writing.push_command.Goals as goal
 
 pub push_details-requires-clause-room : goal.push_details-requires-clause-room

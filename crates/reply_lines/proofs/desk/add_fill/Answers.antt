@@ -1,5 +1,5 @@
 -- The taker's bank gets its notice, and then the maker's.
-use Rattle.std.proofs.Common.{arith, sym}
+use Rattle.std.proofs.Common.{arith}
 use Rattle.reply_lines.specs.Notices.{taken_notices, given_notices}
 use Rattle.reply_lines.specs.Notices.Notice.{Took, Gave}
 use Rattle.reply_lines.proofs.Gathering.{got-then}

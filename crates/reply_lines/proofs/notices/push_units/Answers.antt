@@ -1,0 +1,15 @@
+use Rattle.std.proofs.Common.{◌∙◌, ◌++◌, ◌∷◌, [], ◌≤◌, ℕ, ap, take, length, arith}
+use Rattle.fx_amounts.specs.Numeral.{numeral}
+use Rattle.fx_text.proofs.LineTexts.{last_field, one_field, length-spaced}
+use Rattle.reply_lines.proofs.notices.push_units.Goals as goal
+
+pub returns-clause-text : goal.returns-clause-text
+returns-clause-text c =
+    one_field c.args.line.now c.push_field.new.self c.push_number_field.new.self c.args.word.now (numeral c.args.units ∷ []) c.push_field.ensures
+    (last_field c.push_field.new.self c.push_number_field.new.self (numeral c.args.units)
+    (c.push_number_field.ensures.text ∙ ap (λ (n : ℕ). take 256 (c.push_field.new.self ++ 32 ∷ numeral n)) c.get.ensures.value))
+
+pub returns-clause-few : goal.returns-clause-few
+returns-clause-few c =
+    let units : length (numeral c.args.units) ≤ 20 = omega (arith, c.push_number_field.ensures.few, ap (λ (n : ℕ). length (numeral n)) c.get.ensures.value) in
+    omega (arith, length-spaced (c.args.word.now ∷ numeral c.args.units ∷ []) (c.requires, (units, tt)))
