@@ -140,18 +140,18 @@ pub ends_within : (cs : List Held) (k : ℕ) → k < length cs → start cs k + 
 ends_within cs k within =
     omega (arith, ap length (around_at cs k within), length-append (places_of (take k cs)) ((chunk_at cs k).places ++ places_of (drop (suc k) cs)), length-append (chunk_at cs k).places (places_of (drop (suc k) cs)))
 
-few_not : (c d : Held) (cs : List Held) → (FitsNext (c ∷ (d ∷ cs)) 0 → ⊥) → 65 ≤ length c.places + length d.places
+few_not : (c d : Held) (cs : List Held) → (FitsNext (c ∷ (d ∷ cs)) 0 → ⊥) → 33 ≤ length c.places + length d.places
 few_not c d cs none =
-    elim (cases_lt (length c.places + length d.places) 65) [
+    elim (cases_lt (length c.places + length d.places) 33) [
       | inl few ↦ absurd (none (record { next = omega arith; few = omega arith }))
       | inr many ↦ many
     ]
 
 -- where no two neighbours fit in one, there are few chunks for the places
-pub crowded : (c : Held) (cs : List Held) → ((k : ℕ) → FitsNext (c ∷ cs) k → ⊥) → 65 * suc (length cs) + length c.places ≤ 2 * length (places_of (c ∷ cs)) + 65
+pub crowded : (c : Held) (cs : List Held) → ((k : ℕ) → FitsNext (c ∷ cs) k → ⊥) → 33 * suc (length cs) + length c.places ≤ 2 * length (places_of (c ∷ cs)) + 33
 crowded c [] none = omega (arith, length-append c.places [])
 crowded c (d ∷ cs) none =
-    let rest : 65 * suc (length cs) + length d.places ≤ 2 * length (places_of (d ∷ cs)) + 65 =
+    let rest : 33 * suc (length cs) + length d.places ≤ 2 * length (places_of (d ∷ cs)) + 33 =
     crowded d cs (λ k fits. none (suc k) (record { next = omega (arith, fits.next); few = fits.few })) in
-    let apart : 65 ≤ length c.places + length d.places = few_not c d cs (none 0) in
+    let apart : 33 ≤ length c.places + length d.places = few_not c d cs (none 0) in
     omega (arith, length-append c.places (places_of (d ∷ cs)))

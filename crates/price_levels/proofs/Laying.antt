@@ -60,17 +60,17 @@ second_halved (x ∷ cs) (suc k) c d within = second_halved cs k c d (omega arit
 
 -- the two halves of a full chunk
 pub record AreHalves (whole first second : Held) : Type 0 where
-  pub front : first.places ≡ take 32 whole.places
-  pub back : second.places ≡ drop 32 whole.places
-  pub full : length whole.places ≡ 64
+  pub front : first.places ≡ take 16 whole.places
+  pub back : second.places ≡ drop 16 whole.places
+  pub full : length whole.places ≡ 32
 
-first_length : (whole first second : Held) → AreHalves whole first second → length first.places ≡ 32
-first_length whole first second halves = ap length halves.front ∙ length-take-le 32 whole.places (omega (arith, halves.full))
+first_length : (whole first second : Held) → AreHalves whole first second → length first.places ≡ 16
+first_length whole first second halves = ap length halves.front ∙ length-take-le 16 whole.places (omega (arith, halves.full))
 
-second_length : (whole first second : Held) → AreHalves whole first second → length second.places ≡ 32
+second_length : (whole first second : Held) → AreHalves whole first second → length second.places ≡ 16
 second_length whole first second halves =
-    let e : length second.places ≡ length (drop 32 whole.places) = ap length halves.back in
-    omega (arith, length-drop 32 whole.places, halves.full)
+    let e : length second.places ≡ length (drop 16 whole.places) = ap length halves.back in
+    omega (arith, length-drop 16 whole.places, halves.full)
 
 pub halved : (cs new : List Held) (k : ℕ) (c d : Held) (ok : Bool) → k < length cs → AreHalves (chunk_at cs k) c d → ok ≡ true
     → new ≡ cond ok (insert (set cs k c) (k + 1) d) (set cs k c) → new ≡ insert (set cs k c) (suc k) d
@@ -82,8 +82,8 @@ pub IsHalved-from : (cs new : List Held) (k : ℕ) (c d : Held) → k < length c
 IsHalved-from cs new k c d within halves is =
     subst (λ (ys : List Held). IsHalved cs ys k) (sym is) (record {
       places = places_of-halved cs k c d within
-          (ap (λ (ys : List Place). ys ++ d.places) halves.front ∙ ap (λ (ys : List Place). take 32 (chunk_at cs k).places ++ ys) halves.back
-          ∙ take-append-drop 32 (chunk_at cs k).places);
+          (ap (λ (ys : List Place). ys ++ d.places) halves.front ∙ ap (λ (ys : List Place). take 16 (chunk_at cs k).places ++ ys) halves.back
+          ∙ take-append-drop 16 (chunk_at cs k).places);
       count = length-insert (set cs k c) (suc k) d (omega (arith, length-set cs k c)) ∙ ap (λ (n : ℕ). n + 1) (length-set cs k c);
       before = take-halved cs k c d within;
       first = ap (λ (h : Held). length h.places) (first_halved cs k c d within) ∙ first_length (chunk_at cs k) c d halves;
@@ -91,7 +91,7 @@ IsHalved-from cs new k c d within halves is =
     })
 
 pub used_halved : (most : ℕ) (cs new : List Held) (k : ℕ) (c d : Held) → k < length cs → AreHalves (chunk_at cs k) c d → All (IsChunk most) cs
-    → (chunk_at cs k).capacity ≤ c.capacity → min most 64 ≤ d.capacity → new ≡ insert (set cs k c) (suc k) d → All (IsChunk most) new
+    → (chunk_at cs k).capacity ≤ c.capacity → min most 32 ≤ d.capacity → new ≡ insert (set cs k c) (suc k) d → All (IsChunk most) new
 used_halved most cs new k c d within halves all wider wide is =
     let was : IsChunk most (chunk_at cs k) = All-get_or (IsChunk most) cs k no_chunk within all in
     subst (All (IsChunk most)) (sym (is ∙ halved_at cs k c d within))
@@ -163,7 +163,7 @@ none_behind cs k rest at past index =
     sym (slice_get_past (places_of cs) at (omega (arith, ap (λ (ys : List Held). length (places_of ys)) (take_all k cs past))))
 
 -- a chunk that has as many places as there are at most in one
-pub many : (c : Chunks) (k : ℕ) → IsLaidOut c → c.count < c.most → k < length c.chunks.items → 64 ≤ length (chunk_at c.chunks.items k).places → 64 < c.most
+pub many : (c : Chunks) (k : ℕ) → IsLaidOut c → c.count < c.most → k < length c.chunks.items → 32 ≤ length (chunk_at c.chunks.items k).places → 32 < c.most
 many c k laid room within full = omega (arith, ends_within c.chunks.items k within, laid.count)
 
 -- the chunks with one that changed
@@ -230,7 +230,7 @@ all_spares_widened old new most widened all k d within =
     let more : (get_or old k d).capacity ≤ (get_or new k d).capacity = widened.room k d (omega (arith, widened.count)) in
     record { none = widened.places k d (omega (arith, widened.count)) ∙ was.none; room = omega (arith, was.room) }
 
-crowded_out : (cs : List Held) (most : ℕ) → All (IsChunk most) cs → 0 < length cs → 2 * most + 64 ≤ 65 * length cs + 1 → length (places_of cs) < most
+crowded_out : (cs : List Held) (most : ℕ) → All (IsChunk most) cs → 0 < length cs → 2 * most + 32 ≤ 33 * length cs + 1 → length (places_of cs) < most
     → ((k : ℕ) → FitsNext cs k → ⊥) → ⊥
 crowded_out [] most all some enough few none = omega arith
 crowded_out (c ∷ cs) most all some enough few none =
@@ -238,7 +238,7 @@ crowded_out (c ∷ cs) most all some enough few none =
     omega (arith, crowded c cs none)
 
 -- where no two neighbours fit in one, not all chunks are in use
-pub spare_left : (c : Chunks) → IsLaidOut c → c.count < c.most → 64 < c.most → ((k : ℕ) → FitsNext c.chunks.items k → ⊥) → 0 < length c.spares.items
+pub spare_left : (c : Chunks) → IsLaidOut c → c.count < c.most → 32 < c.most → ((k : ℕ) → FitsNext c.chunks.items k → ⊥) → 0 < length c.spares.items
 spare_left c laid room wide none =
     elim (cases_lt 0 (length c.spares.items)) [
       | inl some ↦ some

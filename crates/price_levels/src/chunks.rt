@@ -13,7 +13,7 @@ use fx_amounts::{Memory, Side};
 use std::alloc::Global;
 
 /// How many places a chunk has at most.
-const CHUNK: usize = 64;
+const CHUNK: usize = 32;
 
 /// The places of a row in chunks, none of them empty, so that a change moves the places of one chunk and not of all. Chunks to come
 /// wait beside them: with those there are as many as any order of changes may need, which is about twice as many as
@@ -86,12 +86,12 @@ impl Chunks {
         widen_each(&mut self.spares, most)
     }
 
-    /// Adds empty chunks with room for `most` places, at most 64, until there are so many chunks in all.
+    /// Adds empty chunks with room for `most` places, at most 32, until there are so many chunks in all.
     fn add_spares(&mut self, chunks: usize, most: usize) -> Result<(), Memory>
         requires laid { IsLaidOut self.old }
         requires wide_chunks { All (λ chunk. most ≤ chunk.capacity) self.old.chunks.items }
         requires wide_spares { All (λ chunk. most ≤ chunk.capacity) self.old.spares.items }
-        requires wider { min self.old.most 64 ≤ most }
+        requires wider { min self.old.most 32 ≤ most }
         ensures laid { IsLaidOut self.new }
         ensures chunks { self.new.chunks.items ≡ self.old.chunks.items }
         ensures wide_spares { All (λ chunk. most ≤ chunk.capacity) self.new.spares.items }
@@ -148,7 +148,7 @@ impl Chunks {
     fn join(&mut self, chunk: usize)
         requires laid { IsLaidOut self.old }
         requires fits { FitsNext self.old.chunks.items chunk }
-        requires wide { 64 < self.old.most }
+        requires wide { 32 < self.old.most }
         ensures laid { IsLaidOut self.new }
         ensures spare { 0 < length self.new.spares.items }
         ensures most { self.new.most ≡ self.old.most }
@@ -284,7 +284,7 @@ impl Chunks {
         requires seat { IsSeat self.old.chunks.items seat }
         ensures laid { IsLaidOut self.new }
         ensures seat { IsSeat self.new.chunks.items result }
-        ensures room { length (chunk_at self.new.chunks.items result.chunk).places < 64 }
+        ensures room { length (chunk_at self.new.chunks.items result.chunk).places < 32 }
         ensures same { offset self.new.chunks.items result ≡ offset self.old.chunks.items seat }
         ensures most { self.new.most ≡ self.old.most }
         ensures count { self.new.count ≡ self.old.count }
@@ -307,9 +307,9 @@ impl Chunks {
     fn halve(&mut self, chunk: usize)
         requires laid { IsLaidOut self.old }
         requires spare { 0 < length self.old.spares.items }
-        requires wide { 64 < self.old.most }
+        requires wide { 32 < self.old.most }
         requires chunk { chunk < length self.old.chunks.items }
-        requires full { length (chunk_at self.old.chunks.items chunk).places ≡ 64 }
+        requires full { length (chunk_at self.old.chunks.items chunk).places ≡ 32 }
         ensures laid { IsLaidOut self.new }
         ensures halved { IsHalved self.old.chunks.items self.new.chunks.items chunk }
         ensures most { self.new.most ≡ self.old.most }
@@ -358,7 +358,7 @@ pub(crate) fn nth(chunks: &[Chunk], at: usize) -> Option<Place>
 /// How many chunks serve for so many places, however they come and go.
 fn chunks_for(places: usize) -> usize
     ensures one { 1 ≤ result }
-    ensures enough { 64 < places → 2 * places + 64 ≤ 65 * result + 1 }
+    ensures enough { 32 < places → 2 * places + 32 ≤ 33 * result + 1 }
 {
     if places <= CHUNK {
         1
@@ -369,7 +369,7 @@ fn chunks_for(places: usize) -> usize
 
 /// The first chunk that fits in one with the next; `None` where none does.
 fn first_fitting(chunks: &[Chunk]) -> Option<usize>
-    requires { All (λ chunk. length chunk.places ≤ 64) chunks.now }
+    requires { All (λ chunk. length chunk.places ≤ 32) chunks.now }
     ensures fits { IfSome result (FitsNext chunks.now) }
     ensures none { result ≡ None → (k : ℕ) → FitsNext chunks.now k → ⊥ }
 {

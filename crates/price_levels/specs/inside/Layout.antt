@@ -33,16 +33,16 @@ pub record IsSeat (chunks : List Held) (spot : Spot) : Type 0 where
   pub chunk : spot.chunk < length chunks
   pub at : spot.at ≤ length (chunk_at chunks spot.chunk).places
 
--- a chunk that is in use: it has a place, 64 at most, and room for those that can be in one chunk
+-- a chunk that is in use: it has a place, 32 at most, and room for those that can be in one chunk
 pub record IsChunk (most : ℕ) (chunk : Held) : Type 0 where
   pub some : 1 ≤ length chunk.places
-  pub few : length chunk.places ≤ 64
-  pub room : min most 64 ≤ chunk.capacity
+  pub few : length chunk.places ≤ 32
+  pub room : min most 32 ≤ chunk.capacity
 
 -- a chunk to come
 pub record IsSpare (most : ℕ) (chunk : Held) : Type 0 where
   pub none : chunk.places ≡ []
-  pub room : min most 64 ≤ chunk.capacity
+  pub room : min most 32 ≤ chunk.capacity
 
 -- how many chunks there are, with those to come
 abbrev pub count_of : Chunks → ℕ
@@ -59,26 +59,26 @@ pub record IsLaidOut (chunks : Chunks) : Type 0 where
   pub spare : All (IsSpare chunks.most) chunks.spares.items
   pub seats : HasSeats (count_of chunks) chunks
   pub one : 0 < chunks.most → 0 < count_of chunks
-  pub enough : 64 < chunks.most → 2 * chunks.most + 64 ≤ 65 * count_of chunks + 1
+  pub enough : 32 < chunks.most → 2 * chunks.most + 32 ≤ 33 * count_of chunks + 1
   pub count : chunks.count ≡ length (places_of chunks.chunks.items)
   pub within : chunks.count ≤ chunks.most
 
 -- an insertion that parts a chunk finds one to come
 abbrev pub HasSpare : Chunks → Type 0
-HasSpare chunks = 64 < chunks.most → 0 < length chunks.spares.items
+HasSpare chunks = 32 < chunks.most → 0 < length chunks.spares.items
 
 -- a chunk and the next one fit in one
 pub record FitsNext (chunks : List Held) (k : ℕ) : Type 0 where
   pub next : suc k < length chunks
-  pub few : length (chunk_at chunks k).places + length (chunk_at chunks (suc k)).places ≤ 64
+  pub few : length (chunk_at chunks k).places + length (chunk_at chunks (suc k)).places ≤ 32
 
--- a chunk was parted in two of 32 places
+-- a chunk was parted in two of 16 places
 pub record IsHalved (old new : List Held) (k : ℕ) : Type 0 where
   pub places : places_of new ≡ places_of old
   pub count : length new ≡ length old + 1
   pub before : take k new ≡ take k old
-  pub first : length (chunk_at new k).places ≡ 32
-  pub second : length (chunk_at new (suc k)).places ≡ 32
+  pub first : length (chunk_at new k).places ≡ 16
+  pub second : length (chunk_at new (suc k)).places ≡ 16
 
 -- each chunk has the places that it had, and room for as many at least
 pub record AreWidened (old new : List Held) : Type 0 where

@@ -14,4 +14,4 @@ returns-in-Some-clause-spare c = λ full.
     let some : 0 < length cs = omega (arith, item.3.0, ap length c.deref.ensures.value) in
     c.requires.spare
     (many c.args.self.now k c.requires.laid c.requires.room (omega arith)
-    (omega (arith, leb-true 64 c.len-in-Some.result full, c.len-in-Some.ensures, ap (λ (h : Held). length h.places) is)))
+    (omega (arith, leb-true 32 c.len-in-Some.result full, c.len-in-Some.ensures, ap (λ (h : Held). length h.places) is)))

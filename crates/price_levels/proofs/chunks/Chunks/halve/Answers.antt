@@ -7,8 +7,8 @@ use Rattle.price_levels.specs.declared.place.Place.{Place}
 use Rattle.price_levels.proofs.Laying.{AreHalves, IsHalved-from, halved, read_chunk, taken_last, taken_length, used_halved}
 use Rattle.price_levels.proofs.chunks.Chunks.halve.Goals as goal
 
-parted : (places : List Place) (whole half : List Place) → half ≡ [] → half ++ drop 32 whole ≡ drop 32 whole
-parted places whole half none = ap (λ (ys : List Place). ys ++ drop 32 whole) none
+parted : (places : List Place) (whole half : List Place) → half ≡ [] → half ++ drop 16 whole ≡ drop 16 whole
+parted places whole half none = ap (λ (ys : List Place). ys ++ drop 16 whole) none
 
 pub returns-clause-halved : goal.returns-clause-halved
 returns-clause-halved c =
@@ -16,8 +16,8 @@ returns-clause-halved c =
     let spares = taken_last (IsSpare c.args.self.now.most) c.args.self.now.spares.items c.take_last-half.new.self.items c.take_last-half.result c.take_last-half.ensures.items c.requires.laid.spare in
     let read : c.index_mut-whole.result.now ≡ chunk_at cs c.args.chunk = read_chunk cs c.args.chunk c.index_mut-whole.result.now c.requires.chunk c.index_mut-whole.ensures.value in
     let halves : AreHalves (chunk_at cs c.args.chunk) c.move_tail.new.self c.move_tail.new.other = record {
-      front = c.move_tail.ensures.kept ∙ ap (λ (h : Held). take 32 h.places) read;
-      back = c.move_tail.ensures.moved ∙ parted [] c.index_mut-whole.result.now.places c.take_last-half.result.places spares.1.none ∙ ap (λ (h : Held). drop 32 h.places) read;
+      front = c.move_tail.ensures.kept ∙ ap (λ (h : Held). take 16 h.places) read;
+      back = c.move_tail.ensures.moved ∙ parted [] c.index_mut-whole.result.now.places c.take_last-half.result.places spares.1.none ∙ ap (λ (h : Held). drop 16 h.places) read;
       full = c.requires.full;
     } in
     let room : vec_len c.args.self.now.chunks < vec_capacity c.args.self.now.chunks = omega (arith, c.requires.laid.seats.0, c.requires.spare, c.args.self.now.chunks.ok.0) in
@@ -30,8 +30,8 @@ returns-clause-laid c =
     let spares = taken_last (IsSpare c.args.self.now.most) c.args.self.now.spares.items c.take_last-half.new.self.items c.take_last-half.result c.take_last-half.ensures.items c.requires.laid.spare in
     let read : c.index_mut-whole.result.now ≡ chunk_at cs c.args.chunk = read_chunk cs c.args.chunk c.index_mut-whole.result.now c.requires.chunk c.index_mut-whole.ensures.value in
     let halves : AreHalves (chunk_at cs c.args.chunk) c.move_tail.new.self c.move_tail.new.other = record {
-      front = c.move_tail.ensures.kept ∙ ap (λ (h : Held). take 32 h.places) read;
-      back = c.move_tail.ensures.moved ∙ parted [] c.index_mut-whole.result.now.places c.take_last-half.result.places spares.1.none ∙ ap (λ (h : Held). drop 32 h.places) read;
+      front = c.move_tail.ensures.kept ∙ ap (λ (h : Held). take 16 h.places) read;
+      back = c.move_tail.ensures.moved ∙ parted [] c.index_mut-whole.result.now.places c.take_last-half.result.places spares.1.none ∙ ap (λ (h : Held). drop 16 h.places) read;
       full = c.requires.full;
     } in
     let room : vec_len c.args.self.now.chunks < vec_capacity c.args.self.now.chunks = omega (arith, c.requires.laid.seats.0, c.requires.spare, c.args.self.now.chunks.ok.0) in
