@@ -1,13 +1,14 @@
 -- The first line that ends in a text.
-use Rattle.std.proofs.Common.{◌≡◌, ℕ, ◌+◌, ◌-◌, ◌<◌, ◌≤◌, min, Bool, false, nat_lt, List, [], ◌∷◌, ◌++◌, length, map, take, drop, get_or, position, Some, None, refl, sym, ap, ◌∙◌, subst, arith, length-drop, append_assoc, append-nil, All, inl, inr}
-use Rattle.std.proofs.lemmas.Bool.{eqb-true, cases_Bool}
+use Rattle.std.proofs.Common.{◌≡◌, ℕ, ◌+◌, ◌-◌, ◌<◌, ◌≤◌, min, Bool, false, nat_lt, List, [], ◌∷◌, ◌++◌, length, map, take, drop, get_or, position, Option, Some, None, cond, true, lt-ltb, le-ltb, refl, sym, ap, ap₂, ◌∙◌, subst, arith, length-drop, append_assoc, append-nil, All, ⊎_elim, inl, inr}
+use Rattle.std.proofs.lemmas.Bool.{eqb-true, cases_Bool, cases_lt, cond-true, cond-false, false_from_ne_true}
 use Rattle.std.proofs.lemmas.Bool.Decides.{nat_tests}
-use Rattle.std.proofs.lemmas.List.Sums.{fails_before_first}
+use Rattle.std.proofs.lemmas.List.Sums.{fails_before_first, position_or_len_is}
 use Rattle.std.specs.List.{position_or_len}
 use Rattle.std.proofs.lemmas.List.{length-take, get_or-take, get_or_default, take-append-drop, drop_more, drop-drop}
 use Rattle.std.proofs.lemmas.List.Quantifiers.{position-Some}
 use Rattle.std.proofs.lemmas.List.Elements.{All-take}
 use Rattle.std.proofs.lemmas.List.Splits.{slice_split_none, slice_split_at}
+use Rattle.memchr.specs.Find.{IsFirstByte, is_byte}
 use Rattle.fx_text.specs.Lines.{parts_of, all_but_last, last_of, line_of, lines_of, rest_of, held_of, IsRest, IsFirstLine}
 use Rattle.fx_text.specs.inside.Held.{IsHeld, IsFirstPart}
 use Rattle.fx_text.specs.declared.line.Line.{Line}
@@ -43,6 +44,17 @@ none_passes p xs none k d within =
       | inl found ↦ absurd (let wrong : Some (position_or_len p xs) ≡ None = rw found at none in cc)
       | inr past ↦ fails_before_first p xs k d (let bound : length xs ≤ position_or_len p xs = grind (arith, nat_tests) in omega arith)
     ]
+
+-- where a search for its byte finds it
+position-at : (text : List ℕ) (i : ℕ) → i ≤ length text → ((k : ℕ) → k < i → is_line_feed (get_or text k 0) ≡ false) → (i < length text → is_line_feed (get_or text i 0) ≡ true)
+    → position is_line_feed text ≡ cond (nat_lt i (length text)) (Some i) None
+position-at text i within none there = ap (λ (n : ℕ). cond (nat_lt n (length text)) (Some n) None) (position_or_len_is is_line_feed text i 0 within none there)
+
+pub position-first_byte : (text : List ℕ) (found : Option ℕ) → IsFirstByte (is_byte 10) text found → found ≡ position is_line_feed text
+position-first_byte text None none =
+    sym (position-at text (length text) (omega arith) (λ k below. false_from_ne_true _ (none k (omega arith) below)) (λ past. absurd (omega arith)) ∙ cond-false _ _ _ (le-ltb (length text) (length text) (omega arith)))
+position-first_byte text (Some i) found =
+    sym (position-at text i (omega (arith, found.0.high)) (λ k below. false_from_ne_true _ (found.0.before k (omega arith) below)) (λ _. found.1) ∙ cond-true _ _ _ (lt-ltb i (length text) found.0.high))
 
 pub IsFirstPart-split : (text part rest behind : List ℕ) (at : ℕ) → Some at ≡ position is_line_feed text → part ≡ take at text → rest ≡ drop at text → behind ≡ drop 1 rest → IsFirstPart text part behind
 IsFirstPart-split text part rest behind at is front back past =

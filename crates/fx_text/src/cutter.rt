@@ -5,6 +5,7 @@ ghost use Rattle.fx_text.specs.inside.Held.{IsHeld, IsFirstPart};
 use crate::field::Fields;
 use crate::line::{Line, LineView, MOST_BYTES};
 use fx_amounts::Memory;
+use memchr::memchr;
 use std::marker::Model;
 
 /// What can matter of a line that has not ended: a whole line, the carriage return of its end, and one byte more.
@@ -227,5 +228,5 @@ fn split_at_line_feed(text: &[u8]) -> Option<(&[u8], &[u8])>
 fn line_feed(text: &[u8]) -> Option<usize>
     ensures { result ≡ position (λ byte. byte == 10) text.now }
 {
-    text.iter().position(|byte| *byte == b'\n')
+    memchr(b'\n', text)
 }
