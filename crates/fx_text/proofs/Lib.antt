@@ -1,3 +1,4 @@
+pub mod CutFields
 pub mod FieldLemmas
 pub mod FieldTexts
 pub mod FirstLines

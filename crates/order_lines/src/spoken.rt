@@ -70,7 +70,11 @@ fn spoken_by(session: &Session, line: &LineView<'_>) -> Spoken
     ensures { result ≡ command_line session.now (line_seen line.now) }
 {
     match *line {
-        LineView::Whole(text) => spoken_in(session, &fields(text)),
+        LineView::Whole(text) => {
+            let mut fields = Fields::none();
+            fields.read(text);
+            spoken_in(session, &fields)
+        }
         LineView::Long(_) if line.is_passed_over() => Spoken::Passed,
         LineView::Long(first) => match session.bank_named(first) {
             Some(bank) => Spoken::Of(

@@ -8,4 +8,4 @@ pub returns-then-at-self : goal.returns-then-at-self
 returns-then-at-self c =
     sym (cond-true _ _ _ (lt-ltb c.args.at 8 c.if-at-lt-MOST_KEPT.true)
     ∙ ap (λ (fields : List (List ℕ)). slice_get fields c.args.at) (sym c.self.view_is)
-    ∙ kept_field c.self.inside.kept (fields_of c.self.inside.line.now) c.self.inside.count c.args.at _ c.self.invariant.0 c.self.invariant.1 c.if-at-lt-MOST_KEPT.true c.if-at-self.true)
+    ∙ kept_field c.self.inside.kept.first (fields_of c.self.inside.line.now) c.self.inside.kept.count c.args.at _ c.self.invariant.counted c.self.invariant.eight c.if-at-lt-MOST_KEPT.true c.if-at-self.true)
