@@ -17,21 +17,8 @@ pub(crate) enum Word {
     Book,
 }
 
-const WORDS: [Word; 8] = [
-    Word::Buy,
-    Word::Sell,
-    Word::Cancel,
-    Word::Reduce,
-    Word::Pull,
-    Word::Line,
-    Word::Show,
-    Word::Book,
-];
-
 /// The word of a bad line in a journal. In a session's text it is no word.
 pub(crate) const BAD: &[u8] = b"BAD";
-
-const LIVES: [Life; 3] = [Life::Day, Life::Ioc, Life::Fok];
 
 const FAULTS: [Reject; 11] = [
     Reject::Word,
@@ -52,7 +39,17 @@ impl Word {
     pub(crate) fn from_bytes(text: &[u8]) -> Option<Word>
         ensures { result ≡ word_of text.now }
     {
-        WORDS.iter().copied().find(|word| word.as_bytes() == text)
+        match text {
+            b"BUY" => Some(Word::Buy),
+            b"SELL" => Some(Word::Sell),
+            b"CANCEL" => Some(Word::Cancel),
+            b"REDUCE" => Some(Word::Reduce),
+            b"PULL" => Some(Word::Pull),
+            b"LINE" => Some(Word::Line),
+            b"SHOW" => Some(Word::Show),
+            b"BOOK" => Some(Word::Book),
+            _ => None,
+        }
     }
 
     /// The word of an order.
@@ -109,7 +106,12 @@ pub(crate) fn life_text(life: Life) -> &'static [u8]
 pub(crate) fn life_from(text: &[u8]) -> Option<Life>
     ensures { result ≡ life_of text.now }
 {
-    LIVES.iter().copied().find(|life| life_text(*life) == text)
+    match text {
+        b"DAY" => Some(Life::Day),
+        b"IOC" => Some(Life::Ioc),
+        b"FOK" => Some(Life::Fok),
+        _ => None,
+    }
 }
 
 /// The fault of that number.
