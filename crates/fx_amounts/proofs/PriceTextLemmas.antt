@@ -1,8 +1,8 @@
 -- The spelling of a price, and the price that a text says: each gives the other back.
-use Rattle.std.proofs.Common.{◌≡◌, ◌≢◌, ℕ, zero, suc, ◌+◌, ◌-◌, ◌*◌, ◌/◌, ◌%◌, ◌^◌, ◌<◌, ◌≤◌, true, false, ◌&&◌, List, [], ◌∷◌, ◌++◌, length, get_or, take, drop, refl, sym, ap, filter, ◌∙◌, subst, arith, leb, eqb, length-append, append-nil, add-zero, ⊎_elim, inl, inr, ◌⊎◌, add-one, Result, Ok, Err, IfOk, ◌↔◌}
+use Rattle.std.proofs.Common.{◌≡◌, ◌≢◌, ℕ, zero, suc, ◌+◌, ◌-◌, ◌*◌, ◌/◌, ◌%◌, ◌^◌, ◌<◌, ◌≤◌, true, false, ◌&&◌, List, [], ◌∷◌, ◌++◌, length, get_or, take, drop, IsTrue, SomeIff, Option, Some, None, refl, sym, ap, ap₂, filter, ◌∙◌, subst, arith, leb, eqb, length-append, append-nil, add-zero, ⊎_elim, inl, inr, ◌⊎◌, add-one, Result, Ok, Err, IfOk, ◌↔◌}
 use Rattle.std.proofs.lemmas.Bool.{and_parts, cases_Bool, false_from_ne_true, cases_lt, eqb-true, cond-true, cond-false, leb-true, le-leb, both_ways}
 use Rattle.std.proofs.lemmas.Nat.{div-mul-add, mod-mul-add}
-use Rattle.std.proofs.lemmas.List.{get_or-drop, drop-drop, take_more, take_all, take_at, get_or_at, take-append-drop, length-drop, length-take, drop_more, get_or_past}
+use Rattle.std.proofs.lemmas.List.{take_rest, get_or-drop, drop-drop, take_more, take_all, take_at, get_or_at, take-append-drop, length-drop, length-take, drop_more, get_or_past}
 use Rattle.std.proofs.lemmas.List.Folds.{list_all-append}
 use Rattle.std.proofs.lemmas.List.Elements.{filter-append}
 use native.Mathlib.Nat.{pow-succ', div-div-eq-div-mul}
@@ -248,3 +248,27 @@ Says-price_of decimals text = ⊎_elim
     let none : ¬ (IsPriceText decimals text) = λ spelling. both_ways (is_price_text decimals text) other (ap (is_price_text decimals) spelling.1 ∙ (IsRead-price_text decimals spelling.0).form) in
     subst (λ (r : Result ℕ PriceFault). Says decimals text r) (sym (price_of-form decimals text none)) (says_none decimals text none))
     (cases_Bool (is_price_text decimals text))
+
+-- the ticks of a short text, where it is in the form
+same_some : (found : Option ℕ) (P Q : Type 0) (v w : ℕ) → (P → Q) → (Q → P) → (P → v ≡ w) → SomeIff found P v → SomeIff found Q w
+same_some None P Q v w to back same none = λ q. none (back q)
+same_some (Some x) P Q v w to back same some = (to some.0, some.1 ∙ same some.0)
+
+pub SomeIff-whole_price : (text : List ℕ) (found : Option ℕ) → SomeIff found (IsTrue (is_numeral text)) (digits_value 10 text) → SomeIff found (IsTrue (is_price_text 0 text)) (ticks_of text)
+SomeIff-whole_price text found read =
+    same_some found (IsTrue (is_numeral text)) (IsTrue (is_price_text 0 text)) (digits_value 10 text) (ticks_of text) (λ form. form) (λ form. form)
+    (λ form. sym (ap (digits_value 10) (only_digits text (HasNumeralForm-from_test text form).digits))) read
+
+pub SomeIff-price : (decimals place front : ℕ) (text whole rest fraction : List ℕ) (found : Option ℕ) → decimals ≢ 0 → place ≡ length text - (decimals + 1) → whole ≡ take place text → rest ≡ drop place text
+    → 1 ≤ length rest → get_or rest 0 0 ≡ 46 → IsTrue (is_numeral whole) → front ≡ digits_value 10 whole → fraction ≡ take (length rest - 1) (drop 1 rest)
+    → SomeIff found (IsTrue (list_all is_ascii_digit fraction)) (digits_value_after 10 front fraction) → SomeIff found (IsTrue (is_price_text decimals text)) (ticks_of text)
+SomeIff-price decimals place front text whole rest fraction found some is whole_is rest_is within point first front_is fraction_is read =
+    let form : list_all is_ascii_digit fraction ≡ is_price_text decimals text =
+    ap (list_all is_ascii_digit) fraction_is ∙ is_price_text-parts decimals place text whole rest some is whole_is rest_is within point (sym first) in
+    let behind : rest ≡ 46 ∷ fraction = drop_more rest 0 0 within ∙ ap₂ (λ (byte : ℕ) (more : List ℕ). byte ∷ more) point (sym (take_rest rest 1)) ∙ ap (λ (more : List ℕ). 46 ∷ more) (sym fraction_is) in
+    let split : text ≡ whole ++ 46 ∷ fraction = sym (take-append-drop place text) ∙ ap₂ (λ (one two : List ℕ). one ++ two) (sym whole_is) (sym rest_is ∙ behind) in
+    let ticks : IsTrue (list_all is_ascii_digit fraction) → digits_value_after 10 front fraction ≡ ticks_of text = λ digits.
+    ap (λ (n : ℕ). digits_value_after 10 n fraction) front_is ∙ sym (digits_value_after-append 0 whole fraction)
+    ∙ sym (ap ticks_of split ∙ ap (digits_value 10) (digits_only whole fraction (HasNumeralForm-from_test whole first).digits digits)) in
+    same_some found (IsTrue (list_all is_ascii_digit fraction)) (IsTrue (is_price_text decimals text)) (digits_value_after 10 front fraction) (ticks_of text)
+    (λ digits. sym form ∙ digits) (λ said. form ∙ said) ticks read

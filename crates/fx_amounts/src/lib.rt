@@ -1,9 +1,10 @@
 //! Amounts of a spot foreign-exchange market: prices in ticks, sizes in lots, credit in units, the
-//! numbers of banks and pairs, and the text form of a price. No call here takes memory.
+//! numbers of banks and pairs, and the text form of a number and of a price. No call here takes memory.
 #![tactic(auto)]
 
 mod amount;
 mod memory;
+mod numeral;
 mod price;
 mod price_text;
 mod quantity;
@@ -12,6 +13,7 @@ mod side;
 
 pub use amount::{base_amount, quote_amount};
 pub use memory::Memory;
+pub use numeral::{MOST_SHORT, short_numeral};
 pub use price::Price;
 pub use price_text::{PriceFault, price_from};
 pub use quantity::{Lots, Units};

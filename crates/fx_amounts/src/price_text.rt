@@ -1,10 +1,11 @@
-ghost use Rattle.std.specs.Prelude.{◌≡◌, ℕ, ◌-◌, ◌^◌, ◌↔◌, min, IfOk};
+ghost use Rattle.std.specs.Prelude.{◌≡◌, ℕ, ◌-◌, ◌^◌, ◌≤◌, ◌↔◌, min, length, IsTrue, IfOk, SomeIff};
 ghost use Rattle.std.specs.Char.{is_ascii_digit};
 ghost use Rattle.std.specs.List.{list_all};
 ghost use Rattle.fx_amounts.specs.Numeral.{is_numeral};
 ghost use Rattle.fx_amounts.specs.Price.{IsPrice};
 ghost use Rattle.fx_amounts.specs.PriceText.{fault_code, price_text, is_price_text, ticks_of, price_of_ticks, price_of, IsPriceText};
 
+use crate::numeral::{MOST_SHORT, short_numeral, with_digits};
 use crate::price::Price;
 
 /// Why a text is no price.
@@ -40,14 +41,60 @@ pub fn price_from(text: &[u8], decimals: u8) -> Result<Price, PriceFault>
     said_price(text, decimals)
 }
 
-#[tactic(auto, unfolding(crate::specs::PriceText::price_of))]
 fn said_price(text: &[u8], decimals: u8) -> Result<Price, PriceFault>
+    ensures { result ≡ price_of decimals text.now }
+{
+    if text.len() <= MOST_SHORT {
+        short_price(text, decimals)
+    } else {
+        long_price(text, decimals)
+    }
+}
+
+// The price of a short text, which is looked at once.
+#[tactic(auto, unfolding(crate::specs::PriceText::price_of))]
+fn short_price(text: &[u8], decimals: u8) -> Result<Price, PriceFault>
+    requires { length text.now ≤ 19 }
+    ensures { result ≡ price_of decimals text.now }
+{
+    match short_ticks(text, decimals) {
+        Some(ticks) => price_of_ticks(ticks),
+        None => Err(PriceFault::Form),
+    }
+}
+
+// The ticks of a short text in the form of a price.
+fn short_ticks(text: &[u8], decimals: u8) -> Option<u64>
+    requires { length text.now ≤ 19 }
+    ensures { SomeIff result (IsTrue (is_price_text decimals text.now)) (ticks_of text.now) }
+{
+    if decimals == 0 {
+        return short_numeral(text);
+    }
+    let places = usize::from(decimals);
+    let (whole, rest) = text.split_at(text.len().saturating_sub(places + 1));
+    let front = short_numeral(whole)?;
+    match rest {
+        [b'.', fraction @ ..] => with_digits(front, fraction),
+        _ => None,
+    }
+}
+
+#[tactic(auto, unfolding(crate::specs::PriceText::price_of))]
+fn long_price(text: &[u8], decimals: u8) -> Result<Price, PriceFault>
     ensures { result ≡ price_of decimals text.now }
 {
     if !is_price(text, decimals) {
         return Err(PriceFault::Form);
     }
-    u32::try_from(value_of(text))
+    price_of_ticks(value_of(text))
+}
+
+// The price of so many ticks; more than a `u64` holds may be said as its largest.
+fn price_of_ticks(ticks: u64) -> Result<Price, PriceFault>
+    ensures { result ≡ price_of_ticks ticks }
+{
+    u32::try_from(ticks)
         .ok()
         .and_then(Price::new)
         .ok_or(PriceFault::Range)
