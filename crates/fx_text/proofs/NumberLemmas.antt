@@ -1,17 +1,17 @@
 -- The numbers that texts write.
-use Rattle.std.proofs.Common.{◌≡◌, ℕ, suc, ◌+◌, ◌-◌, ◌*◌, ◌^◌, ◌<◌, ◌≤◌, Bool, true, false, not, ◌&&◌, List, ◌∷◌, length, take, get_or, refl, sym, ap, ◌∙◌, subst, arith, leb, ltb, eqb, ⊎_elim, IfSome, Option, Some, None, ℤ, pos, negsuc, decimal, SFits}
+use Rattle.std.proofs.Common.{◌≡◌, ℕ, suc, ◌+◌, ◌-◌, ◌*◌, ◌^◌, ◌<◌, ◌≤◌, Bool, true, false, not, ◌&&◌, List, ◌∷◌, length, take, get_or, refl, sym, ap, ◌∙◌, subst, arith, leb, ltb, eqb, ⊎_elim, IfSome, SomeIff, IsTrue, Option, Some, None, ℤ, pos, negsuc, decimal, SFits}
 use mir.Syntax.{w128}
 use Rattle.std.specs.Fmt.{signed_decimal}
 use Rattle.std.proofs.lemmas.Bool.{and_parts, and_from, and_right, cases_Bool, cases_lt, false_from_ne_true, both_ways, leb-true, le-leb, lt-leb, cond-true, cond-false}
 use Rattle.std.proofs.lemmas.List.{take_all}
-use Rattle.std.proofs.lemmas.List.Folds.{list_all_more, list_all_at}
-use Rattle.std.proofs.lemmas.Int.Digits.{digits_value_more}
+use Rattle.std.proofs.lemmas.List.Folds.{list_all_at}
 use Rattle.std.proofs.lemmas.Str.Parse.{digits_value-take-le}
-use Rattle.std.specs.Char.{is_ascii_digit, digit_value}
+use Rattle.std.specs.Char.{is_ascii_digit}
 use Rattle.std.specs.List.{list_all}
 use Rattle.std.specs.Str.Parse.{digits_value}
 use Rattle.fx_amounts.specs.Numeral.{numeral, is_numeral}
-use Rattle.fx_amounts.proofs.NumeralLemmas.{is_numeral-numeral, digits_value-numeral, numeral-digits_value, byte-digit_value, decimal-numeral}
+use Rattle.fx_amounts.proofs.DigitLemmas.{digits_value_after-digit, fits-digits}
+use Rattle.fx_amounts.proofs.NumeralLemmas.{is_numeral-numeral, digits_value-numeral, numeral-digits_value, decimal-numeral}
 use Rattle.fx_text.specs.Number.{number_of, signed_numeral}
 use Rattle.fx_text.specs.inside.Number.{begins_a_numeral}
 
@@ -85,26 +85,25 @@ number_of-too_large least most text i large =
     let high : leb (digits_value 10 text) most ≡ false = lt-leb (digits_value 10 text) most (omega (arith, digits_value-take-le 10 text i (omega arith))) in
     cond-false (in_range least most text) (Some (digits_value 10 text)) None (and_right (is_numeral text && leb least (digits_value 10 text)) (leb (digits_value 10 text) most) high)
 
--- one digit more
-pub digits_value-digit : (text : List ℕ) (i : ℕ) → i < length text → is_ascii_digit (get_or text i 0) ≡ true → digits_value 10 (take (i + 1) text) ≡ digits_value 10 (take i text) * 10 + (get_or text i 0 - 48)
-digits_value-digit text i within digit =
-    let value : digit_value (get_or text i 0) ≡ get_or text i 0 - 48 = omega (arith, byte-digit_value (get_or text i 0) digit) in
-    digits_value_more 10 text i within ∙ ap (λ (d : ℕ). digits_value 10 (take i text) * 10 + d) value
-
 -- a byte that the digits before it do not go on with
 pub number_of-stops : (least most : ℕ) (text : List ℕ) (i value : ℕ) → i < length text → value ≡ digits_value 10 (take i text)
     → ¬ ((is_ascii_digit (get_or text i 0) ≡ true) × (value * 10 + (get_or text i 0 - 48) < most + 1)) → number_of least most text ≡ None
 number_of-stops least most text i value within is stops = ⊎_elim
     (λ (digit : is_ascii_digit (get_or text i 0) ≡ true). ⊎_elim
     (λ (fits : value * 10 + (get_or text i 0 - 48) < most + 1). absurd (stops (digit, fits)))
-    (λ (large : most + 1 ≤ value * 10 + (get_or text i 0 - 48)). number_of-too_large least most text (i + 1) (omega (arith, digits_value-digit text i within digit)))
+    (λ (large : most + 1 ≤ value * 10 + (get_or text i 0 - 48)). number_of-too_large least most text (i + 1) (omega (arith, digits_value_after-digit 0 text i within digit)))
     (cases_lt (value * 10 + (get_or text i 0 - 48)) (most + 1)))
     (λ (other : is_ascii_digit (get_or text i 0) ≡ false). number_of-other_byte least most text i within other)
     (cases_Bool (is_ascii_digit (get_or text i 0)))
 
--- and one that they do go on with
-pub list_all-digit : (text : List ℕ) (i : ℕ) → i < length text → list_all is_ascii_digit (take i text) ≡ true → is_ascii_digit (get_or text i 0) ≡ true → list_all is_ascii_digit (take (i + 1) text) ≡ true
-list_all-digit text i within front digit = rw (list_all_more is_ascii_digit text i 0 within, front, digit) refl
+-- a short text, of which no number is too large
+pub number_of-short : (text : List ℕ) (read : Option ℕ) → length text ≤ 19 → SomeIff read (IsTrue (is_numeral text)) (digits_value 10 text) → IfSome read (λ value. value < 10 ^ length text) → read ≡ number_of 0 (2 ^ 64 - 1) text
+unfolding number_of
+number_of-short text None short other below = sym (not_numeral 0 (2 ^ 64 - 1) text (false_from_ne_true (is_numeral text) other))
+number_of-short text (Some value) short is below =
+    let same : digits_value 10 text ≡ value = sym is.1 in
+    let fits : value < 2 ^ 64 = fits-digits value (length text) short below in
+    sym (rw (is.0, same, le-leb 0 value (omega arith), le-leb value (2 ^ 64 - 1) (omega arith)) refl)
 
 -- a text that writes a number
 pub number_of-digits : (most : ℕ) (text : List ℕ) (i value : ℕ) → length text ≤ i → begins_a_numeral text ≡ true → list_all is_ascii_digit (take i text) ≡ true → value ≡ digits_value 10 (take i text) → value ≤ most → number_of 0 most text ≡ Some value

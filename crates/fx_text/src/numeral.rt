@@ -4,6 +4,8 @@ ghost use Rattle.fx_amounts.specs.Numeral.{numeral};
 ghost use Rattle.fx_text.specs.Number.{number_of};
 ghost use Rattle.fx_text.specs.inside.Number.{begins_a_numeral};
 
+use fx_amounts::{MOST_SHORT, short_numeral};
+
 /// The number from `least` to `most` that a text writes: decimal digits, without a leading zero other than in
 /// `0` itself. `None` where the text is no such number. The text may be of any length.
 pub fn number(text: &[u8], least: u64, most: u64) -> Option<u64>
@@ -27,6 +29,17 @@ fn number_within(text: &[u8], least: u64, most: u64) -> Option<u64>
 
 // The number that the text writes, where it is below 2^64.
 fn value_of(text: &[u8]) -> Option<u64>
+    ensures { result ≡ number_of 0 (2 ^ 64 - 1) text.now }
+{
+    if text.len() <= MOST_SHORT {
+        short_numeral(text)
+    } else {
+        long_value(text)
+    }
+}
+
+// The same of a text of any length.
+fn long_value(text: &[u8]) -> Option<u64>
     ensures { result ≡ number_of 0 (2 ^ 64 - 1) text.now }
 {
     if !begins_a_numeral(text) {
