@@ -51,7 +51,7 @@ impl Chunks {
         self.count == 0
     }
 
-    /// Makes room for so many places more, and for some beside them, so that the chunks are seldom looked through.
+    /// Makes room for so many places more, and for some beside them, so that this is seldom done.
     pub(crate) fn reserve(&mut self, places: usize) -> Result<(), Memory>
         requires laid { IsLaidOut self.old }
         ensures laid { IsLaidOut self.new }
@@ -72,9 +72,10 @@ impl Chunks {
         Ok(())
     }
 
-    /// Every chunk has room for so many places in all.
+    /// Every chunk has room for so many places in all, at most 32. Where there can be as many already, each has.
     fn widen(&mut self, most: usize) -> Result<(), Memory>
         requires laid { IsLaidOut self.old }
+        requires few { most ≤ 32 }
         ensures laid { IsLaidOut self.new }
         ensures chunks { OnOk result (All (λ chunk. most ≤ chunk.capacity) self.new.chunks.items) }
         ensures spares { OnOk result (All (λ chunk. most ≤ chunk.capacity) self.new.spares.items) }
@@ -82,6 +83,9 @@ impl Chunks {
         ensures count { self.new.count ≡ self.old.count }
         ensures places { places_of self.new.chunks.items ≡ places_of self.old.chunks.items }
     {
+        if most <= self.most {
+            return Ok(());
+        }
         widen_each(&mut self.chunks, most)?;
         widen_each(&mut self.spares, most)
     }
