@@ -1,4 +1,4 @@
-ghost use Rattle.std.specs.Prelude.{ℕ, ◌≡◌, ◌∷◌, [], OnOk, OnErr, take};
+ghost use Rattle.std.specs.Prelude.{ℕ, ◌≡◌, ◌<◌, ◌∷◌, [], OnOk, OnErr, length, take};
 ghost use Rattle.fx_rules.specs.Session.{Header, IsSession};
 ghost use Rattle.fx_rules.specs.State.{opening};
 ghost use Rattle.market_run.specs.Running.{HasRun, CanServe, RunsOn, Served};
@@ -57,12 +57,13 @@ impl<M: Market> Run<M> {
         Ok(())
     }
 
-    /// Serves commands one after another, each as `serve` does. After `Memory` it has served the first so many of them.
+    /// Serves commands one after another, each as `serve` does. After `Memory` it has served the first so many of them, and
+    /// not all.
     pub fn serve_all(&mut self, sent: &[Sent]) -> Result<(), Memory>
         requires can_serve { CanServe M.stands self.old sent.now }
         ensures run { RunsOn M.stands self.old self.new }
         ensures served { OnOk result (Served self.old self.new sent.now) }
-        ensures begun { OnErr result ((count : ℕ) × Served self.old self.new (take count sent.now)) }
+        ensures begun { OnErr result ((count : ℕ) × (count < length sent.now) × Served self.old self.new (take count sent.now)) }
     {
         for next in sent {
             self.serve(*next)?;
