@@ -24,8 +24,10 @@ pub struct FileDisk<'a> {
 }
 
 impl<'a> FileDisk<'a> {
-    /// The disk over the file, which nothing has touched yet.
-    pub fn new(rt: &'a HostRuntime) -> FileDisk<'a> {
+    /// The disk over the file, which nothing has touched yet. No fault is counted so far.
+    pub fn new(rt: &'a HostRuntime) -> FileDisk<'a>
+        ensures faults { result.faults ≡ 0 }
+    {
         FileDisk {
             rt,
             file: None,

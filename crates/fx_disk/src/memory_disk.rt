@@ -3,7 +3,7 @@ ghost use Rattle.fx_edges.specs.Faults.{one_more};
 ghost use Rattle.fx_disk.specs.Disk.{with_piece, Torn, TornBy, NoMore, Only, WhereTold, Called};
 ghost use Rattle.fx_disk.specs.Model.{state_now, MayLeaveIn, LeftSince};
 ghost use Rattle.fx_disk.specs.ModelLaws.{reads_told, left_now, left_only_now};
-ghost use Rattle.fx_disk.specs.InMemory.{FailingDisk, reads_of, may_leave_of, CalledFailing};
+ghost use Rattle.fx_disk.specs.InMemory.{FailingDisk, reads_of, may_leave_of, CalledFailing, CountedFailing};
 
 use crate::disk::{Disk, DiskStop};
 use crate::tape::CallTape;
@@ -103,6 +103,7 @@ impl Disk for MemoryDisk {
         ensures size { IfOk result (λ size. size ≡ length (reads_of self.old)) }
         ensures tape { self.new.tape ≡ self.old.tape }
         ensures called { CalledFailing self.old self.new result }
+        ensures counted { CountedFailing self.old self.new result }
     {
         match self.count() {
             Ok(()) => Ok(self.tape.bytes().len() as u64),
@@ -119,6 +120,7 @@ impl Disk for MemoryDisk {
         ensures untouched { OnErr result (into.new ≡ into.old) }
         ensures tape { self.new.tape ≡ self.old.tape }
         ensures called { CalledFailing self.old self.new result }
+        ensures counted { CountedFailing self.old self.new result }
     {
         match self.count() {
             Ok(()) => Ok(self.tape.read(at, into)),
@@ -139,6 +141,7 @@ impl Disk for MemoryDisk {
             may_leave_of self.old old → Torn at (length piece.now) old image → may_leave_of self.new image }
         ensures images { TornBy at (length piece.now) (may_leave_of self.old) (may_leave_of self.new) }
         ensures called { CalledFailing self.old self.new result }
+        ensures counted { CountedFailing self.old self.new result }
     {
         if self.begin() {
             match self.tape.note_broken(at, piece.len() as u64) {
@@ -165,6 +168,7 @@ impl Disk for MemoryDisk {
         ensures failed { IsErrOf result DiskStop.Failed → self.new.tape ≡ self.old.tape }
         ensures memory { IsErrOf result DiskStop.Memory → self.new.tape ≡ self.old.tape }
         ensures called { CalledFailing self.old self.new result }
+        ensures counted { CountedFailing self.old self.new result }
     {
         match self.count() {
             Ok(()) => {}
