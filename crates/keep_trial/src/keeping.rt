@@ -50,7 +50,7 @@ fn are_in_order(alloc: Global, found: &[Body], dots: usize) -> Result<bool, Memo
 }
 
 /// How many blocks the file has, and whether they are those of 1, 2, 3 and so on. The disk keeps its blocks, whatever the answer,
-/// and the fault is `Disk` only where its count of faults rose, which rises at nothing else.
+/// and the fault is `Disk` only where its count of faults rose, which rises at nothing else; it is never `Write`.
 pub fn count<D: Disk>(alloc: Global, disk: &mut D, dots: usize) -> Result<(usize, bool), RunFault>
     ensures blocks { IfOk result (λ found. WhereTold (D.bytes disk.old) (λ file. found.0 ≡ length (whole_blocks file))) }
     ensures in_order { IfOk result (λ found. WhereTold (D.bytes disk.old) (λ file.
@@ -59,6 +59,7 @@ pub fn count<D: Disk>(alloc: Global, disk: &mut D, dots: usize) -> Result<(usize
         LeavesOnly D.moment D.left_since disk.old disk.new (λ image. whole_blocks image ≡ whole_blocks file)) }
     ensures cause { IsErrOf result RunFault.Disk → Rose (D.faults disk.old) (D.faults disk.new) }
     ensures steady { (IsErrOf result RunFault.Disk → ⊥) → D.faults disk.new ≡ D.faults disk.old }
+    ensures not_write { IsErrOf result RunFault.Write → ⊥ }
 {
     let keeper = open_keeper(alloc, disk)?;
     let found = keeper.bodies();
