@@ -17,11 +17,11 @@ use std::alloc::Global;
 pub(crate) struct DayNotices {
     desks: Vec<Desk>,
     sums: DaySums,
-    /// The last notice that was made; its memory is used again.
+    /// The last notice that shows a local book; its memory is used again.
     line: Vec<u8>,
-    /// The last reply that shows no local book.
+    /// The last notice that shows none.
     text: LineText,
-    /// What the notices of the last fill have in common; its memory is used again.
+    /// What the notices of the last fill have in common.
     texts: FillTexts,
 }
 
@@ -44,7 +44,7 @@ impl DayNotices {
             sums: DaySums::open(alloc, session)?,
             line: Vec::new(alloc),
             text: LineText::new(),
-            texts: FillTexts::new(alloc),
+            texts: FillTexts::new(),
         })
     }
 

@@ -6,6 +6,7 @@ ghost use Rattle.fx_rules.specs.Lists.{Each};
 ghost use Rattle.fx_rules.specs.Session.{bank_count};
 ghost use Rattle.reply_lines.specs.Desks.{nothing_yet, AreDesksOf};
 ghost use Rattle.reply_lines.specs.inside.Desks.{with_line, HaveGot, IsNoticeTo};
+ghost use Rattle.reply_lines.specs.inside.Fills.{AreShort};
 ghost use Rattle.reply_lines.specs.Notices.{Notice, reply_line, reply_notices, fill_notices, notices_in, desk_line, desk_text};
 ghost use Rattle.reply_lines.specs.Output.{desks_text};
 ghost use Rattle.reply_lines.specs.inside.Prints.{IsAnswerOf, IsFillOf, IsEntryOf};
@@ -135,7 +136,7 @@ pub(crate) fn add_entry(
     ensures ok { OnOk result (HaveGot session.now (λ bank. notices_in bank entry.now) desks.old.items desks.new.items) }
 {
     add_reply(session, entry, desks, line, text)?;
-    add_fills(session, entry.outcome.fills(), desks, line, texts)
+    add_fills(session, entry.outcome.fills(), desks, text, texts)
 }
 
 /// Adds the reply to an entry to its sender's desk.
@@ -158,7 +159,7 @@ fn add_fills(
     session: &Session,
     fills: &[Fill],
     desks: &mut Vec<Desk>,
-    line: &mut Vec<u8>,
+    line: &mut LineText,
     texts: &mut FillTexts,
 ) -> Result<(), Memory>
     requires fills { Each (IsFillOf session.now) fills.now }
@@ -185,14 +186,14 @@ fn add_fill(
     session: &Session,
     fill: &Fill,
     desks: &mut Vec<Desk>,
-    line: &mut Vec<u8>,
+    line: &mut LineText,
     texts: &mut FillTexts,
 ) -> Result<(), Memory>
     requires fill { IsFillOf session.now fill.now }
     requires desks { length desks.old.items ≡ bank_count session.now }
     ensures ok { OnOk result (HaveGot session.now (λ bank. fill_notices bank fill.now) desks.old.items desks.new.items) }
 {
-    texts.make(session, fill)?;
+    texts.make(session, fill);
     let taker = Party {
         bank: fill.taker,
         number: fill.taker_number,
@@ -215,10 +216,11 @@ fn add_notice(
     party: &Party,
     texts: &FillTexts,
     desks: &mut Vec<Desk>,
-    line: &mut Vec<u8>,
+    line: &mut LineText,
 ) -> Result<(), Memory>
     requires bank { party.now.bank < length desks.old.items }
     requires other { party.now.other < bank_count session.now }
+    requires short { AreShort texts.now }
     ensures ok { OnOk result ((notice : Notice) →
         IsNoticeTo session.now texts.now party.now notice →
         HaveGot session.now (λ bank. if party.now.bank == bank then notice ∷ [] else []) desks.old.items desks.new.items) }
@@ -233,8 +235,8 @@ fn add_notice(
         party.other,
         texts,
         line,
-    )?;
-    desk.add(line)
+    );
+    desk.add(line.as_slice())
 }
 
 /// Writes the desks of all banks.

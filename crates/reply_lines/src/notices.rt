@@ -4,16 +4,15 @@ ghost use Rattle.fx_amounts.specs.Quantity.{IsDecimals};
 ghost use Rattle.reply_lines.specs.Rows.{row, fields_text, side_text};
 ghost use Rattle.fx_rules.specs.Session.{bank_count, pair_count, bank_name};
 ghost use Rattle.reply_lines.specs.Notices.{booked_pair, level_fields, book_fields, trade_fields, amount_fields};
-ghost use Rattle.reply_lines.specs.inside.Fills.{AreTextsOf, fill_line};
+ghost use Rattle.reply_lines.specs.inside.Fills.{AreTextsOf, AreShort, fill_line};
 ghost use Rattle.reply_lines.specs.inside.Replies.{plain_fields};
 
 use crate::row::{
-    begin_row, begin_word_row, end_row, push_field, push_number_field, push_price_field, push_text,
+    begin_row, begin_word_row, end_row, push_field, push_number_field, push_price_field,
 };
 use fx_amounts::{BankId, Memory, PairId, Side, Units, base_amount, quote_amount};
 use fx_rules::{Command, Fill, Level, Outcome, Session};
 use fx_text::LineText;
-use std::alloc::Global;
 
 // At `Memory` a call leaves the line empty, as those of `row.rt` do.
 
@@ -162,29 +161,27 @@ fn push_levels(decimals: u8, levels: &[Level], line: &mut Vec<u8>) -> Result<(),
 #[derive(Drop)]
 pub(crate) struct FillTexts {
     /// The fill's pair, lots and price, a space before each.
-    trade: Vec<u8>,
+    trade: LineText,
     /// Its base and quote amounts, a space before each.
-    amounts: Vec<u8>,
+    amounts: LineText,
 }
 
 impl FillTexts {
-    /// Those of no fill yet. It takes no memory.
-    pub(crate) fn new(alloc: Global) -> FillTexts {
+    /// Those of no fill yet.
+    pub(crate) fn new() -> FillTexts {
         FillTexts {
-            trade: Vec::new(alloc),
-            amounts: Vec::new(alloc),
+            trade: LineText::new(),
+            amounts: LineText::new(),
         }
     }
 
-    /// Makes those of a fill, in place of what there was. After `Memory` they are of no fill.
-    pub(crate) fn make(&mut self, session: &Session, fill: &Fill) -> Result<(), Memory>
+    /// Makes those of a fill, in place of what there was.
+    pub(crate) fn make(&mut self, session: &Session, fill: &Fill)
         requires pair { fill.now.pair < pair_count session.now }
-        ensures ok { OnOk result (AreTextsOf session.now fill.now self.new) }
+        ensures texts { AreTextsOf session.now fill.now self.new }
     {
-        self.trade.clear();
-        push_trade(session, fill, &mut self.trade)?;
-        self.amounts.clear();
-        push_amounts(session, fill, &mut self.amounts)
+        make_trade(session, fill, &mut self.trade);
+        make_amounts(session, fill, &mut self.amounts);
     }
 }
 
@@ -197,54 +194,54 @@ pub(crate) fn make_fill(
     side: Side,
     other: BankId,
     texts: &FillTexts,
-    line: &mut Vec<u8>,
-) -> Result<(), Memory>
+    line: &mut LineText,
+)
     requires other { other < bank_count session.now }
-    ensures ok { OnOk result (line.new.items ≡ fill_line session.now number own_number side other texts.now) }
-    ensures memory { OnErr result (line.new.items ≡ []) }
+    requires short { AreShort texts.now }
+    ensures { line.new ≡ fill_line session.now number own_number side other texts.now }
 {
-    begin_row(number, line)?;
-    push_own_side(own_number, side, line)?;
-    push_text(&texts.trade, line)?;
-    push_field(name_of(session, other), line)?;
-    push_text(&texts.amounts, line)?;
-    end_row(line)
+    line.clear();
+    line.push_wide(number);
+    push_own_side(own_number, side, line);
+    line.push(texts.trade.as_slice());
+    line.push_field(name_of(session, other));
+    line.push(texts.amounts.as_slice());
+    line.push_byte(b'\n');
 }
 
 /// Appends the word of a fill, and the number and side of the bank's own order.
-fn push_own_side(own_number: u32, side: Side, line: &mut Vec<u8>) -> Result<(), Memory>
-    ensures ok { OnOk result (line.new.items ≡ line.old.items ++ fields_text (codes "FILL" ∷ numeral own_number ∷ side_text side ∷ [])) }
-    ensures memory { OnErr result (line.new.items ≡ []) }
+fn push_own_side(own_number: u32, side: Side, line: &mut LineText)
+    ensures text { line.new ≡ take 256 (line.old ++ fields_text (codes "FILL" ∷ numeral own_number ∷ side_text side ∷ [])) }
+    ensures few { length (fields_text (codes "FILL" ∷ numeral own_number ∷ side_text side ∷ [])) ≤ 63 }
 {
-    push_field(b"FILL", line)?;
-    push_number_field(u128::from(own_number), line)?;
-    push_field(side_word(side), line)
+    line.push_field(b"FILL");
+    line.push_number_field(u64::from(own_number));
+    line.push_field(side_word(side));
 }
 
-/// Appends a fill's pair, lots and price.
-fn push_trade(session: &Session, fill: &Fill, line: &mut Vec<u8>) -> Result<(), Memory>
+/// Makes the text of a fill's pair, lots and price.
+fn make_trade(session: &Session, fill: &Fill, text: &mut LineText)
     requires pair { fill.now.pair < pair_count session.now }
-    ensures ok { OnOk result (line.new.items ≡ line.old.items ++ fields_text (trade_fields session.now fill.now)) }
-    ensures memory { OnErr result (line.new.items ≡ []) }
+    ensures made { text.new ≡ fields_text (trade_fields session.now fill.now) }
+    ensures few { length (fields_text (trade_fields session.now fill.now)) ≤ 70 }
 {
     let rule = session.rule(fill.pair);
-    push_field(&rule.text(), line)?;
-    push_number_field(u128::from(fill.lots.count()), line)?;
-    push_price_field(fill.price, rule.decimals, line)
+    text.clear();
+    text.push_field(&rule.text());
+    text.push_number_field(u64::from(fill.lots.count()));
+    text.push_price_field(fill.price, rule.decimals);
 }
 
-/// Appends a fill's base and quote amounts.
-fn push_amounts(session: &Session, fill: &Fill, line: &mut Vec<u8>) -> Result<(), Memory>
+/// Makes the text of a fill's base and quote amounts.
+fn make_amounts(session: &Session, fill: &Fill, text: &mut LineText)
     requires pair { fill.now.pair < pair_count session.now }
-    ensures ok { OnOk result (line.new.items ≡ line.old.items ++ fields_text (amount_fields session.now fill.now)) }
-    ensures memory { OnErr result (line.new.items ≡ []) }
+    ensures made { text.new ≡ fields_text (amount_fields session.now fill.now) }
+    ensures few { length (fields_text (amount_fields session.now fill.now)) ≤ 61 }
 {
     let rule = session.rule(fill.pair);
-    push_number_field(u128::from(base_amount(fill.lots, rule.lot)), line)?;
-    push_number_field(
-        quote_amount(fill.lots, rule.lot, fill.price, rule.decimals),
-        line,
-    )
+    text.clear();
+    text.push_number_field(base_amount(fill.lots, rule.lot));
+    text.push_wide_field(quote_amount(fill.lots, rule.lot, fill.price, rule.decimals));
 }
 
 fn side_word(side: Side) -> &'static [u8]
@@ -259,7 +256,8 @@ fn side_word(side: Side) -> &'static [u8]
 /// A bank's name.
 pub(crate) fn name_of(session: &Session, bank: BankId) -> &[u8]
     requires { bank < bank_count session.now }
-    ensures { result.now ≡ bank_name session.now bank }
+    ensures name { result.now ≡ bank_name session.now bank }
+    ensures few { length (bank_name session.now bank) ≤ 8 }
 {
     session.banks()[bank.index()].as_bytes()
 }

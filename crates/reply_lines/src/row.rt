@@ -35,14 +35,6 @@ pub(crate) fn push_field(text: &[u8], line: &mut Vec<u8>) -> Result<(), Memory>
     ensures memory { OnErr result (line.new.items ≡ []) }
 {
     push_byte(b' ', line)?;
-    push_text(text, line)
-}
-
-/// Appends a text as it is: fields with the space before each.
-pub(crate) fn push_text(text: &[u8], line: &mut Vec<u8>) -> Result<(), Memory>
-    ensures ok { OnOk result (line.new.items ≡ line.old.items ++ text.now) }
-    ensures memory { OnErr result (line.new.items ≡ []) }
-{
     match line.extend_from_slice(text) {
         Ok(()) => Ok(()),
         Err(_) => give_up(line),

@@ -10,7 +10,7 @@ use Rattle.reply_lines.proofs.desk.add_fill.Goals as goal
 pub add_notice-requires-2-clause-bank : goal.add_notice-requires-2-clause-bank
 add_notice-requires-2-clause-bank c =
     let f = c.args.fill.now in
-    let taken = c.in_ok-add_notice.ensures.ok (Took f) (fill-told c.args.session.now f.taker_number f.taker_side f.maker f c.in_ok-make.ensures.ok) in
+    let taken = c.in_ok-add_notice.ensures.ok (Took f) (fill-told c.args.session.now f.taker_number f.taker_side f.maker f c.make.ensures.texts) in
     omega (arith, taken.count, c.requires.desks, c.requires.fill.maker)
 
 pub returns : goal.returns
@@ -20,7 +20,7 @@ returns c =
       ok = on_ok c.add_notice-2.result (λ told.
           got-then c.args.session.now (λ bank. taken_notices bank f) (λ bank. given_notices bank f)
           c.args.desks.now.items c.add_notice.new.desks.items c.add_notice-2.new.desks.items
-          (c.in_ok-add_notice.ensures.ok (Took f) (fill-told c.args.session.now f.taker_number f.taker_side f.maker f c.in_ok-make.ensures.ok))
-          (told (Gave f) (rw c.opposite.ensures (fill-told c.args.session.now f.maker_number _ f.taker f c.in_ok-make.ensures.ok))))
+          (c.in_ok-add_notice.ensures.ok (Took f) (fill-told c.args.session.now f.taker_number f.taker_side f.maker f c.make.ensures.texts))
+          (told (Gave f) (rw c.opposite.ensures (fill-told c.args.session.now f.maker_number _ f.taker f c.make.ensures.texts))))
           c.add_notice-2.ensures.ok;
     }
