@@ -126,6 +126,13 @@ fills_of (Ordered done rests fills) = fills
 fills_of (LineSet limit fills) = fills
 fills_of _ = []
 
+-- how many fills and levels an outcome tells
+abbrev pub item_count : Outcome → ℕ
+item_count (Ordered done rests fills) = length fills
+item_count (LineSet limit fills) = length fills
+item_count (Depth bids asks) = length bids + length asks
+item_count _ = 0
+
 -- a command may change what rests in a pair: an order, a cancel, a reduction or a pull in that pair, and a credit change,
 -- which goes through all pairs
 abbrev pub may_change : ℕ → Command → Bool

@@ -1,4 +1,4 @@
-ghost use Rattle.std.specs.Prelude.{◌≡◌, ◌<◌, ◌+◌, ◌^◌, OnErr, OnOk, IfOk, take};
+ghost use Rattle.std.specs.Prelude.{◌≡◌, ◌<◌, ◌+◌, ◌^◌, OnErr, OnOk, IfOk, length, take, vec_capacity};
 ghost use Rattle.fx_rules.specs.Lists.{total};
 ghost use Rattle.fx_rules.specs.Depth.{any_price, levels_of, fill_added};
 
@@ -38,6 +38,9 @@ pub fn add_fill(levels: &mut Vec<Level>, fill: &Fill) -> Result<(), Memory>
     requires lots { total (λ level. level.lots) levels.old.items + fill.now.lots < 2 ^ 64 }
     ensures levels { OnOk result (levels.new.items ≡ fill_added levels.old.items fill.now) }
     ensures memory { OnErr result (levels.new.items ≡ levels.old.items) }
+
+    // It wants memory only where the levels that are due have no room in the list.
+    ensures wanted { OnErr result (vec_capacity levels.old < length (fill_added levels.old.items fill.now)) }
 {
     let price = fill.price;
     let lots = u64::from(fill.lots.count());

@@ -1,4 +1,4 @@
-ghost use Rattle.std.specs.Prelude.{◌≡◌, IfOk};
+ghost use Rattle.std.specs.Prelude.{◌≡◌, ◌<◌, length, IfOk, OnErr};
 
 use fx_amounts::Memory;
 use std::marker::Model;
@@ -34,9 +34,11 @@ impl<T> ListOf<T> {
 }
 
 impl<T: Copy> ListOf<T> {
-    /// A list of the same items, in memory of its own. At `Memory` there is no new list, and this one is as it was.
+    /// A list of the same items, in memory of its own; one without items takes none. At `Memory` there is no new list, and
+    /// this one is as it was.
     pub fn copy(&self) -> Result<Self, Memory>
         ensures equal { IfOk result (λ l. l ≡ self.now) }
+        ensures wanted { OnErr result (0 < length self.now) }
     {
         let mut copied = Vec::new(*self.items.allocator());
         copied.reserve(self.items.len())?;

@@ -1,5 +1,5 @@
-ghost use Rattle.std.specs.Prelude.{◌≡◌, IfOk};
-ghost use Rattle.fx_rules.specs.Step.{fills_of};
+ghost use Rattle.std.specs.Prelude.{◌≡◌, ◌<◌, IfOk, OnErr};
+ghost use Rattle.fx_rules.specs.Step.{fills_of, item_count};
 
 use crate::command::{Command, Reject};
 use crate::lists::ListOf;
@@ -69,9 +69,11 @@ impl Outcome {
         }
     }
 
-    /// An equal outcome, in memory of its own. At `Memory` there is no new outcome, and this one is as it was.
+    /// An equal outcome, in memory of its own; one without fills and levels takes none. At `Memory` there is no new outcome,
+    /// and this one is as it was.
     pub fn copy(&self) -> Result<Outcome, Memory>
         ensures equal { IfOk result (λ outcome. outcome ≡ self.now) }
+        ensures wanted { OnErr result (0 < item_count self.now) }
     {
         Ok(match self {
             Outcome::Ordered {

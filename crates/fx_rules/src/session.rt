@@ -1,6 +1,6 @@
 ghost use Rattle.std.specs.Prelude.{◌≡◌, ◌≢◌, ◌↔◌, ◌≤◌, ◌<◌, ◌+◌, ◌*◌, ◌&&◌, ℕ, IsTrue, SomeIff, All, AllPairs, length, position, slice_index, slice_get, bytes_eq, Contains, IfSome, IfNone, option_map};
 ghost use Rattle.fx_rules.specs.Names.{is_name};
-ghost use Rattle.fx_rules.specs.Session.{Header, IsSession, IsPairRule, AreSamePair, bank_count, pair_count, opening_limit, weight_of, decimals_of, lot_of, bank_of, pair_of, pair_text, pair_name};
+ghost use Rattle.fx_rules.specs.Session.{Header, IsSession, IsPairRule, AreSamePair, bank_count, pair_count, opening_limit, weight_of, decimals_of, lot_of, bank_name, bank_of, pair_of, pair_text, pair_name};
 
 use crate::guesses::Guesses;
 use crate::names::{Code, Name, SoughtName};
@@ -89,6 +89,16 @@ impl Session {
         ensures valid { IsSession self.now }
     {
         self.banks.as_slice()
+    }
+
+    /// The name of a bank, 3 to 8 bytes. It takes no memory.
+    pub fn name(&self, bank: BankId) -> &[u8]
+        requires { bank < bank_count self.now }
+        ensures value { result.now ≡ bank_name self.now bank }
+        ensures most { length result.now ≤ 8 }
+        ensures valid { IsSession self.now }
+    {
+        self.banks[bank.index()].as_bytes()
     }
 
     /// The pairs, in header order. It takes no memory.

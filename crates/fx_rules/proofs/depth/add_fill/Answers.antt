@@ -1,5 +1,6 @@
 -- The last level is taken off, and put back with the fill's lots or before a new one.
-use Rattle.std.proofs.Common.{ℕ, ◌≡◌, ◌+◌, ◌<◌, ◌^◌, true, false, eqb, List, [], ◌∷◌, ◌++◌, arith, refl, sym, ap, ◌∙◌}
+use Rattle.std.proofs.Common.{ℕ, ◌≡◌, ◌+◌, ◌<◌, ◌^◌, true, false, eqb, List, [], ◌∷◌, ◌++◌, ◌≤◌, length, length-append, vec_capacity, Result, Ok, Err, OnErr, arith, refl, sym, ap, ◌∙◌}
+use Rattle.std.proofs.lemmas.Grind.{common_steps}
 use Rattle.fx_rules.specs.declared.orders.Fill.{Fill}
 use Rattle.fx_rules.specs.declared.orders.Level.{Level}
 use Rattle.fx_rules.specs.Lists.{total}
@@ -29,16 +30,27 @@ overflow_add-last c =
     let fits : c.in-Some.last.lots + c.args.fill.now.lots < 2 ^ 64 = last_fits c.args.levels.now.items c.pop.new.self.items c.in-Some.last c.args.fill.now.lots (2 ^ 64) c.in-Some.ensures.items c.requires.lots in
     omega (arith, c.from-lots.ensures, c.count.ensures.value)
 
-pub returns-in-Some : goal.returns-in-Some
-returns-in-Some c = record {
-  memory = _;
-  levels = more_is c.args.levels.now.items c.pop.new.self.items c.push_reserved.new.self.items c.in-Some.last c.args.fill.now c.args.fill.now.price c.from-lots.result
-      c.in-Some.ensures.items (sym c.eq.ensures ∙ c.if-eq.true) refl (c.from-lots.ensures ∙ c.count.ensures.value) c.push_reserved.ensures.items;
-}
+on_err_always : {T E P : Type 0} (r : Result T E) → P → OnErr r P
+on_err_always (Ok x) p = _
+on_err_always (Err e) p = p
 
-pub returns-in_ok-push-in-Some-2 : goal.returns-in_ok-push-in-Some-2
-returns-in_ok-push-in-Some-2 c = record {
-  memory = _;
-  levels = other_is c.args.levels.now.items c.pop.new.self.items c.push_reserved-in-Some-2.new.self.items c.push.new.self.items c.in-Some.last c.args.fill.now c.args.fill.now.price c.from-lots.result
-      c.in-Some.ensures.items (sym c.eq.ensures ∙ c.if-eq.false) refl (c.from-lots.ensures ∙ c.count.ensures.value) c.push_reserved-in-Some-2.ensures.items c.in_ok-push-in-Some-2.ensures.items;
-}
+full_is : (levels rest : List Level) (last : Level) (fill : Fill) (room : ℕ) → levels ≡ rest ++ last ∷ [] → eqb last.price fill.price ≡ false → room ≤ length levels → room < length (fill_added levels fill)
+full_is levels rest last fill room is differ full =
+    let added : length (fill_added levels fill) ≡ length ((rest ++ last ∷ []) ++ level fill.price fill.lots ∷ []) = ap (λ (ls : List Level). length (fill_added ls fill)) is ∙ ap length (last_other rest last fill differ) in
+    omega (arith, added, ap length is, length-append (rest ++ last ∷ []) (level fill.price fill.lots ∷ []))
+
+pub returns-in-Some-clause-levels : goal.returns-in-Some-clause-levels
+returns-in-Some-clause-levels c =
+    more_is c.args.levels.now.items c.pop.new.self.items c.push_reserved.new.self.items c.in-Some.last c.args.fill.now c.args.fill.now.price c.from-lots.result
+    c.in-Some.ensures.items (sym c.eq.ensures ∙ c.if-eq.true) refl (c.from-lots.ensures ∙ c.count.ensures.value) c.push_reserved.ensures.items
+
+pub returns-in_ok-push-in-Some-2-clause-levels : goal.returns-in_ok-push-in-Some-2-clause-levels
+returns-in_ok-push-in-Some-2-clause-levels c =
+    other_is c.args.levels.now.items c.pop.new.self.items c.push_reserved-in-Some-2.new.self.items c.push.new.self.items c.in-Some.last c.args.fill.now c.args.fill.now.price c.from-lots.result
+    c.in-Some.ensures.items (sym c.eq.ensures ∙ c.if-eq.false) refl (c.from-lots.ensures ∙ c.count.ensures.value) c.push_reserved-in-Some-2.ensures.items c.in_ok-push-in-Some-2.ensures.items
+
+pub returns-in_err-push-in-Some-2-clause-wanted : goal.returns-in_err-push-in-Some-2-clause-wanted
+returns-in_err-push-in-Some-2-clause-wanted c =
+    on_err_always c.from_residual.result
+    (full_is c.args.levels.now.items c.pop.new.self.items c.in-Some.last c.args.fill.now (vec_capacity c.args.levels.now)
+    c.in-Some.ensures.items (sym c.eq.ensures ∙ c.if-eq.false) (grind (arith, common_steps)))
