@@ -4,6 +4,7 @@ ghost use Rattle.fx_rules.specs.declared.outcome.Entry.{Entry};
 ghost use Rattle.fx_rules.specs.Session.{Header};
 ghost use Rattle.fx_rules.specs.Step.{IsCommand};
 ghost use Rattle.fx_rules.specs.History.{IsLegal};
+ghost use Rattle.fx_chronicle.specs.Faces.{longer};
 ghost use Rattle.fx_desk.specs.Submitting.{Submitted};
 
 use fx_amounts::Memory;
@@ -53,10 +54,12 @@ pub trait Desk {
         ensures note { known result ≡ seen pass.old }
         ensures same { pass.new ≡ pass.old };
 
-    /// Lets the pass see what the note tells: both are then beginnings of what it has seen. It takes no memory.
+    /// Lets the pass see what the note tells: it has then seen the longer of the two, and both are beginnings of that. It takes
+    /// no memory.
     fn learn(&self, pass: &mut Self::Pass, note: Self::Note)
         ensures bank { bank pass.new ≡ bank pass.old }
         ensures mine { mine pass.new ≡ mine pass.old }
+        ensures seen { seen pass.new ≡ longer (seen pass.old) (known note) }
         ensures own { IsPrefix (seen pass.old) (seen pass.new) }
         ensures told { IsPrefix (known note) (seen pass.new) }
         ensures legal { IsLegal session (seen pass.new) };
