@@ -1,9 +1,9 @@
-ghost use Rattle.std.specs.Prelude.{◌≡◌, ◌≢◌, ◌+◌, ◌≤◌, ◌<◌, ◌==◌, ℕ, min, None, [], length, not, nat_lt, slice_get, vec_len, vec_capacity, OnOk, IfOk, IfSome};
+ghost use Rattle.std.specs.Prelude.{◌≡◌, ◌≢◌, ◌+◌, ◌≤◌, ◌<◌, ◌==◌, ◌++◌, ℕ, min, None, [], length, not, nat_lt, slice_get, vec_len, vec_capacity, OnOk, IfOk, IfSome};
 ghost use Rattle.std.specs.List.{All, Contains, filter};
 ghost use Rattle.std.specs.List.Sorted.{IsPartitionedBy};
 ghost use Rattle.std.specs.Option.{option_copied, option_map};
 ghost use Rattle.fx_amounts.specs.declared.side.Side.{Side as OneSide};
-ghost use Rattle.price_levels.specs.Ladder.{IsFirstOf, IsNewArrival, IsSorted};
+ghost use Rattle.price_levels.specs.Ladder.{IsFirstOf, IsNewArrival, IsSorted, crossing};
 ghost use Rattle.access_index.specs.Listed.{listed};
 ghost use Rattle.access_index.specs.inside.Listed.{with_bank};
 ghost use Rattle.access_index.specs.Owned.{AreInTime, AreOwned, OwnerGains, OwnerLoses, OwnersGrow, is_ahead, row_at, stands_behind};
@@ -127,6 +127,24 @@ impl Owners {
             return None;
         }
         self.rows[bank.index()].of(side).front_price()
+    }
+
+    /// Puts the places of a bank and a side that cross `top`, a price of the other side, behind those that `into` has. It counts
+    /// no step.
+    pub fn gather_crossing(
+        &self,
+        bank: BankId,
+        side: Side,
+        top: Price,
+        into: &mut Vec<Place>,
+    ) -> Result<(), Memory>
+        ensures places { OnOk result (into.new.items ≡ into.old.items ++ crossing side top (row_at self.now bank side).places) }
+        ensures valid { AreOwned self.now }
+    {
+        if bank.index() >= self.rows.len() {
+            return Ok(());
+        }
+        self.rows[bank.index()].of(side).gather_crossing(top, into)
     }
 
     /// The first place of a bank and a side whose order arrived before `before` and that stands behind the place `past`,

@@ -2,6 +2,7 @@
 use Rattle.std.specs.Prelude.{ℕ, ◌≡◌, ◌+◌, ◌≤◌, ◌<◌, ◌^◌, Bool, true, false, ◌&&◌, ◌==◌, nat_le, nat_lt, if◌then◌else◌, List, [], ◌∷◌, filter, length, Option, Some, None, slice_get, slice_index, slice_index_or, option_map}
 use Rattle.std.specs.List.{Contains}
 use Rattle.std.specs.List.Sorted.{IsStrictlyIncreasing}
+use Rattle.fx_amounts.specs.Price.{crosses}
 use Rattle.fx_amounts.specs.Side.{opposite}
 use Rattle.fx_amounts.specs.declared.side.Side.{Side}
 use Rattle.fx_amounts.specs.declared.side.Side.TheVariants.{Buy, Sell}
@@ -117,6 +118,14 @@ with_lots taker price lots (level ∷ levels) =
 -- an order of this bank on the other side of a taker's
 abbrev pub is_across : Side → ℕ → Resting → Bool
 is_across taker bank order = is_of bank order && is_opposite taker order.side
+
+-- a bank's order of a side that crosses a price of the other side
+abbrev pub is_crossing : ℕ → Side → ℕ → Resting → Bool
+is_crossing bank side top order = is_across (opposite side) bank order && crosses side order.price top
+
+-- such orders of a bank and a side
+abbrev pub crossing : ℕ → Side → ℕ → List Resting → List Resting
+crossing bank side top orders = filter (is_crossing bank side top) orders
 
 -- the levels of such orders: each price, from the taker's best one on, with all lots that the bank has there
 abbrev pub levels_of : Side → ℕ → List Resting → List (ℕ × ℕ)

@@ -1,15 +1,16 @@
-ghost use Rattle.std.specs.Prelude.{◌≡◌, ◌+◌, ◌≤◌, ◌<◌, ◌^◌, ◌↔◌, List, [], ◌∷◌, ◌++◌, Some, None, not, map, filter, length, true, false, slice_get, OnOk, IfOk, IfSome, IsSome};
+ghost use Rattle.std.specs.Prelude.{◌≡◌, ◌+◌, ◌≤◌, ◌<◌, ◌^◌, ◌↔◌, List, [], ◌∷◌, ◌++◌, Some, None, not, map, filter, length, true, false, slice_get, vec_capacity, vec_len, All, IsPermutation, OnOk, IfOk, IfSome, IsSome};
 ghost use Rattle.std.specs.Option.{option_copied, option_map};
 ghost use Rattle.fx_amounts.specs.Price.{crosses};
 ghost use Rattle.fx_amounts.specs.Side.{opposite};
 ghost use Rattle.fx_rules.specs.Lists.{Each};
+ghost use Rattle.fx_rules.specs.declared.orders.Resting.{Resting};
 ghost use Rattle.access_index.specs.Sides.{OwnRows};
 ghost use Rattle.order_store.specs.Orders.{order_at};
 ghost use Rattle.fx_rules.specs.Sweep.{IsBest, is_order};
-ghost use Rattle.global_book.specs.Book.{AreInTime, AreOwners, HasRoom, KeepsRoom, IsBook, IsPlaceOf, IsPriceOf, Rests, RestsAbove, first, is_of, is_of_from, levels_of, TakesRoom, owned, relotted, sought};
+ghost use Rattle.global_book.specs.Book.{AreInTime, AreOwners, HasRoom, KeepsRoom, IsBook, IsPlaceOf, IsPriceOf, Rests, RestsAbove, crossing, first, is_of, is_of_from, levels_of, TakesRoom, owned, relotted, sought};
 ghost use Rattle.global_book.specs.Lowered.{lowered_in};
 ghost use Rattle.global_book.specs.inside.Moves.{AreOfOneBook, Moves};
-ghost use Rattle.global_book.specs.inside.Search.{end_of};
+ghost use Rattle.global_book.specs.inside.Search.{end_of, orders_at};
 ghost use Rattle.global_book.specs.inside.Rows.{is_own};
 
 use crate::bank_levels::BankLevels;
@@ -358,6 +359,25 @@ impl PairBook {
         Some((self.orders.get(OrderKey(place.key)), place))
     }
 
+    /// Puts a bank's orders of a side that cross `top`, a price of the other side, behind those that `orders` has. It reads none
+    /// that does not cross, and counts no step.
+    pub fn gather_crossing(
+        &self,
+        bank: BankId,
+        side: Side,
+        top: Price,
+        orders: &mut Vec<Resting>,
+    ) -> Result<(), Memory>
+        ensures gathered { OnOk result ((gathered : List Resting) × (orders.new.items ≡ orders.old.items ++ gathered) × IsPermutation (crossing bank side top self.now.orders) gathered) }
+        ensures valid { IsBook self.now }
+    {
+        let mut places = Vec::new(*orders.allocator());
+        self.rows.gather_crossing(bank, side, top, &mut places)?;
+        orders.reserve(places.len())?;
+        push_orders(&self.orders, &places, orders);
+        Ok(())
+    }
+
     /// The best price at which a bank has orders of a side; `None` where it has none. It reads no order and counts no step.
     pub fn best_price(&self, bank: BankId, side: Side) -> Option<Price>
         ensures price { IsPriceOf (opposite side) bank None self.now.orders result }
@@ -423,6 +443,17 @@ fn remove_at(orders: &mut OrderStore, rows: &mut Owners, levels: &mut BankLevels
     let place = place_of(order.price, order.arrival, key.0);
     rows.remove(order.bank, order.side, &place);
     levels.take(order.bank, order.side, order.price, order.left.count());
+}
+
+/// Puts the orders that stand at these places behind others, where there is room for them.
+fn push_orders(store: &OrderStore, places: &[Place], orders: &mut Vec<Resting>)
+    requires live { All (λ place. IsSome (order_at store.now place.key)) places.now }
+    requires room { vec_len orders.old + length places.now ≤ vec_capacity orders.old }
+    ensures orders { orders.new.items ≡ orders.old.items ++ orders_at store.now places.now }
+{
+    for place in places {
+        orders.push_reserved(store.get(OrderKey(place.key)));
+    }
 }
 
 /// The place of an order of this price and arrival, kept under this key.

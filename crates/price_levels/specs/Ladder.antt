@@ -1,6 +1,7 @@
 -- The places of the resting orders of one side, as contracts see them.
 use Rattle.std.specs.Prelude.{ℕ, ◌≡◌, ◌≢◌, Bool, true, false, ◌&&◌, ◌||◌, ◌==◌, nat_lt, List, [], ◌∷◌, ◌⊎◌, Option, Some, None, slice_get}
 use Rattle.std.specs.List.{AllByRecursion, Contains, filter}
+use Rattle.fx_amounts.specs.Price.{crosses}
 use Rattle.fx_amounts.specs.declared.side.Side.{Side}
 use Rattle.fx_amounts.specs.declared.side.Side.TheVariants.{Buy, Sell}
 use Rattle.price_levels.specs.declared.place.Place.{Place}
@@ -50,6 +51,10 @@ pub record Loses (old new : List Place) (place : Place) : Type 0 where
   pub gone : (other : Place) → Contains new other → other.arrival ≢ place.arrival
   pub keeps : (other : Place) → Contains old other → other.arrival ≢ place.arrival → Contains new other
   pub only : (other : Place) → Contains new other → Contains old other
+
+-- the places of a side that cross a price of the other side
+abbrev pub crossing : Side → ℕ → List Place → List Place
+crossing side top places = filter (λ place. crosses side place.price top) places
 
 -- the first of the places that pass a test
 abbrev pub first_where : (Place → Bool) → List Place → Option Place

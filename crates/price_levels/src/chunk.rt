@@ -1,12 +1,13 @@
-ghost use Rattle.std.specs.Prelude.{◌≡◌, ◌+◌, ◌-◌, ◌≤◌, ◌<◌, true, false, not, [], ◌++◌, length, take, drop, slice_get, OnOk};
-ghost use Rattle.std.specs.List.{insert, remove};
+ghost use Rattle.std.specs.Prelude.{◌≡◌, ◌+◌, ◌-◌, ◌≤◌, ◌<◌, true, false, not, [], ◌++◌, length, take, drop, slice_get, ◌↔◌, IfOk, IsTrue, OnOk};
+ghost use Rattle.std.specs.List.{All, insert, remove};
 ghost use Rattle.std.specs.List.Sorted.{IsPartitionPoint};
-ghost use Rattle.price_levels.specs.Ladder.{IsSorted};
+ghost use Rattle.fx_amounts.specs.Price.{crosses};
+ghost use Rattle.price_levels.specs.Ladder.{IsSorted, crossing};
 ghost use Rattle.price_levels.specs.inside.Held.{in_front, last_is_in_front, passes};
 
 use crate::cut::Cut;
 use crate::place::Place;
-use fx_amounts::{Memory, Side};
+use fx_amounts::{Memory, Price, Side};
 use std::alloc::Global;
 use std::marker::Model;
 
@@ -122,6 +123,39 @@ impl Chunk {
     {
         self.places
             .partition_point(|other| cut.is_passed_by(side, other))
+    }
+
+    /// Puts its places that cross `top`, a price of the other side, behind those that `into` has, and answers whether they are all.
+    pub(crate) fn gather_crossing(
+        &self,
+        side: Side,
+        top: Price,
+        into: &mut Vec<Place>,
+    ) -> Result<bool, Memory>
+        requires sorted { IsSorted side self.now.places }
+        ensures places { IfOk result (λ _. into.new.items ≡ into.old.items ++ crossing side top self.now.places) }
+        ensures all { IfOk result (λ all. IsTrue all ↔ All (λ place. crosses side place.price top ≡ true) self.now.places) }
+    {
+        let all = self.all_cross(side, top);
+        let count = if all {
+            self.places.len()
+        } else {
+            self.places
+                .partition_point(|place| place.price.crosses(top, side))
+        };
+        into.extend_from_slice(&self.places[..count])?;
+        Ok(all)
+    }
+
+    /// Whether all places cross a price of the other side, which the last one tells.
+    fn all_cross(&self, side: Side, top: Price) -> bool
+        requires sorted { IsSorted side self.now.places }
+        ensures { IsTrue result ↔ All (λ place. crosses side place.price top ≡ true) self.now.places }
+    {
+        match &self.last {
+            Some(place) => place.price.crosses(top, side),
+            None => true,
+        }
     }
 
     /// Puts a place at an index, where there is room.

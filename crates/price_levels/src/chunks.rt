@@ -1,7 +1,7 @@
 ghost use Rattle.std.specs.Prelude.{ℕ, ◌≡◌, ◌+◌, ◌*◌, ◌≤◌, ◌<◌, ◌↔◌, min, true, false, None, [], ◌∷◌, ◌++◌, length, slice_get, OnOk, IfSome, IsTrue};
 ghost use Rattle.std.specs.List.{All, insert, remove};
 ghost use Rattle.std.specs.List.Sorted.{IsPartitionPoint};
-ghost use Rattle.price_levels.specs.Ladder.{IsSorted};
+ghost use Rattle.price_levels.specs.Ladder.{IsSorted, crossing};
 ghost use Rattle.price_levels.specs.inside.Held.{in_front, last_is_in_front};
 ghost use Rattle.price_levels.specs.inside.Layout.{AreWidened, FitsNext, HasSeats, HasSpare, IsHalved, IsLaidOut, IsSeat, IsSpot, chunk_at, count_of, offset, places_of};
 
@@ -9,7 +9,7 @@ use crate::chunk::Chunk;
 use crate::cut::Cut;
 use crate::place::Place;
 use crate::spot::Spot;
-use fx_amounts::{Memory, Side};
+use fx_amounts::{Memory, Price, Side};
 use std::alloc::Global;
 
 /// How many places a chunk has at most.
@@ -357,6 +357,26 @@ pub(crate) fn nth(chunks: &[Chunk], at: usize) -> Option<Place>
         rest -= chunk.len();
     }
     None
+}
+
+/// Puts those of a row's places that cross `top`, a price of the other side, behind those that `into` has: they are the
+/// first ones.
+pub(crate) fn gather_crossing(
+    chunks: &[Chunk],
+    side: Side,
+    top: Price,
+    into: &mut Vec<Place>,
+) -> Result<(), Memory>
+    requires sorted { IsSorted side (places_of chunks.now) }
+    ensures places { OnOk result (into.new.items ≡ into.old.items ++ crossing side top (places_of chunks.now)) }
+{
+    for chunk in chunks {
+        let is_whole = chunk.gather_crossing(side, top, into)?;
+        if !is_whole {
+            return Ok(());
+        }
+    }
+    Ok(())
 }
 
 /// How many chunks serve for so many places, however they come and go.

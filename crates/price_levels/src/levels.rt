@@ -1,12 +1,12 @@
-ghost use Rattle.std.specs.Prelude.{◌≡◌, ◌≢◌, ◌+◌, ◌≤◌, ◌<◌, ◌↔◌, [], not, slice_get, Some, IfSome, IfNone, IsTrue, OnOk};
+ghost use Rattle.std.specs.Prelude.{◌≡◌, ◌≢◌, ◌+◌, ◌≤◌, ◌<◌, ◌↔◌, ◌++◌, [], not, slice_get, Some, IfSome, IfNone, IsTrue, OnOk};
 ghost use Rattle.std.specs.List.{Contains};
 ghost use Rattle.std.specs.Option.{option_map};
 ghost use Rattle.price_levels.specs.declared.place.Place.{Place};
-ghost use Rattle.price_levels.specs.Ladder.{IsSorted, IsNewArrival, Gains, Loses, first_where};
+ghost use Rattle.price_levels.specs.Ladder.{IsSorted, IsNewArrival, Gains, Loses, crossing, first_where};
 ghost use Rattle.price_levels.specs.Ladder as ladder;
 ghost use Rattle.price_levels.specs.inside.Layout.{IsLaidOut, places_of};
 
-use crate::chunks::{Chunks, nth};
+use crate::chunks::{Chunks, gather_crossing, nth};
 use crate::cut::Cut;
 use crate::place::Place;
 use crate::spot::Spot;
@@ -161,6 +161,15 @@ impl Levels {
     {
         let spot = self.chunks.find(self.side, Cut::Before(place));
         self.chunks.get(spot)
+    }
+
+    /// Puts the places that cross `top`, a price of the other side, behind those that `into` has. It searches one chunk at most,
+    /// and counts no step.
+    pub fn gather_crossing(&self, top: Price, into: &mut Vec<Place>) -> Result<(), Memory>
+        ensures places { OnOk result (into.new.items ≡ into.old.items ++ crossing self.now.side top self.now.places) }
+        ensures sorted { IsSorted self.now.side self.now.places }
+    {
+        gather_crossing(&self.chunks.chunks, self.side, top, into)
     }
 }
 

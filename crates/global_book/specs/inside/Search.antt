@@ -1,5 +1,5 @@
 -- What a search finds among the orders that are kept.
-use Rattle.std.specs.Prelude.{ℕ, ◌-◌, ◌^◌, ◌≡◌, Bool, true, false, Option, Some, None}
+use Rattle.std.specs.Prelude.{ℕ, ◌-◌, ◌^◌, ◌≡◌, Bool, true, false, List, filter_map, Option, Some, None}
 use Rattle.fx_amounts.specs.declared.side.Side.{Side}
 use Rattle.fx_rules.specs.declared.orders.Resting.{Resting}
 use Rattle.fx_rules.specs.Sweep.{is_preferred}
@@ -18,6 +18,10 @@ pub record IsFoundAt (passes : Resting → Bool) (taker : Side) (orders : Orders
 abbrev pub IsFoundIn : (Resting → Bool) → Side → Orders → Option (Resting × Place) → Type 0
 IsFoundIn passes taker orders None = (key : ℕ) (order : Resting) → order_at orders key ≡ Some order → passes order ≡ false
 IsFoundIn passes taker orders (Some found) = IsFoundAt passes taker orders found
+
+-- the orders that are kept under the keys of these places
+abbrev pub orders_at : Orders → List Place → List Resting
+orders_at orders places = filter_map (λ place. order_at orders place.key) places
 
 -- the place behind all orders of a price
 abbrev pub end_of : ℕ → Place
