@@ -4,4 +4,5 @@ mod Fronting
 mod Edits
 mod Chunking
 mod Parting
+mod Crossing
 mod Laying

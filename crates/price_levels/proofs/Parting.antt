@@ -119,7 +119,7 @@ InOrder-front : (side : Side) (xs ys : List Place) → InOrder side (xs ++ ys) �
 InOrder-front side [] ys sorted = tt
 InOrder-front side (x ∷ xs) ys sorted = (Each-front (Sorts side x) xs ys sorted.0, InOrder-front side xs ys sorted.1)
 
-InOrder-back : (side : Side) (xs ys : List Place) → InOrder side (xs ++ ys) → InOrder side ys
+pub InOrder-back : (side : Side) (xs ys : List Place) → InOrder side (xs ++ ys) → InOrder side ys
 InOrder-back side [] ys sorted = sorted
 InOrder-back side (x ∷ xs) ys sorted = InOrder-back side xs ys sorted.1
 

@@ -1,5 +1,5 @@
 -- The order of places, and what a binary search over sorted places finds.
-use Rattle.std.proofs.Common.{ℕ, zero, suc, ◌≡◌, ◌≢◌, ◌≤◌, ◌<◌, Bool, true, false, ◌&&◌, not, eqb, ltb, List, [], ◌∷◌, length, get_or, drop, ◌⊎◌, inl, inr, refl, ap, sym, subst, ◌∙◌, arith}
+use Rattle.std.proofs.Common.{ℕ, zero, suc, ◌≡◌, ◌≢◌, ◌≤◌, ◌<◌, Bool, true, false, ◌&&◌, not, eqb, ltb, List, [], ◌∷◌, length, get_or, take, drop, ◌⊎◌, inl, inr, refl, ap, sym, subst, ◌∙◌, arith}
 use Rattle.std.proofs.lemmas.Bool.{cases_Bool, cases_lt, and_parts, and_from, or_parts, or_cases, or_left, or_right, eqb-true, ltb-true, ltb-false, lt-ltb, le-ltb, eq-eqb, both_ways}
 use Rattle.std.specs.List.{AllByRecursion as Each, Contains, filter, insert, remove, slice_get}
 use Rattle.std.specs.List.Sorted.{IsPartitionedBy, IsPartitionPoint}
@@ -122,7 +122,7 @@ Each-get_or P [] i d all within = absurd (omega arith)
 Each-get_or P (x ∷ xs) zero d all within = all.0
 Each-get_or P (x ∷ xs) (suc i) d all within = Each-get_or P xs i d all.1 (omega arith)
 
-sorts_at : (side : Side) (xs : List Place) (i j : ℕ) (d : Place) → InOrder side xs → i < j → j < length xs → Sorts side (get_or xs i d) (get_or xs j d)
+pub sorts_at : (side : Side) (xs : List Place) (i j : ℕ) (d : Place) → InOrder side xs → i < j → j < length xs → Sorts side (get_or xs i d) (get_or xs j d)
 sorts_at side [] i j d sorted below within = absurd (omega arith)
 sorts_at side (x ∷ xs) i zero d sorted below within = absurd (omega arith)
 sorts_at side (x ∷ xs) zero (suc j) d sorted below within = Each-get_or (Sorts side x) xs j d sorted.0 (omega arith)
@@ -179,6 +179,19 @@ filter-parted front test is (x ∷ xs) (suc i) upto parted =
     let rest = parted_rest front x xs i upto parted in
     let here : test x ≡ false = is x ∙ ap not rest.0 in
     rw here (filter-parted front test is xs i (omega arith) rest.1)
+
+-- what passes is in front of the point
+pub filter-front : (front : Place → Bool) (xs : List Place) (i : ℕ) → i ≤ length xs → Parted front xs i → filter front xs ≡ take i xs
+filter-front front [] zero upto parted = refl
+filter-front front [] (suc i) upto parted = absurd (omega arith)
+filter-front front (x ∷ xs) zero upto parted =
+    let none = parted_none front x xs parted in
+    let here : front x ≡ false = none.0 in
+    rw here (filter-front front xs zero (omega arith) none.1)
+filter-front front (x ∷ xs) (suc i) upto parted =
+    let rest = parted_rest front x xs i upto parted in
+    let here : front x ≡ true = rest.0 in
+    rw here (ap (λ ys. x ∷ ys) (filter-front front xs i (omega arith) rest.1))
 
 slice_get-drop : (xs : List Place) (i : ℕ) → slice_get (drop i xs) 0 ≡ slice_get xs i
 slice_get-drop [] zero = refl
