@@ -139,6 +139,7 @@ impl Owners {
         into: &mut Vec<Place>,
     ) -> Result<(), Memory>
         ensures places { OnOk result (into.new.items ≡ into.old.items ++ crossing side top (row_at self.now bank side).places) }
+        ensures sorted { IsSorted side (row_at self.now bank side).places }
         ensures valid { AreOwned self.now }
     {
         if bank.index() >= self.rows.len() {
