@@ -9,6 +9,7 @@ pub mod Pulling
 mod Finding
 mod Turns
 mod Bests
+mod Gathering
 pub mod Within
 mod Levelling
 pub mod Levels

@@ -84,7 +84,7 @@ module _ (banks : ℕ) (orders : Orders) (own : List OwnRows) (kept : IsKept ban
       subst (λ o. IsAt orders bank side o place) (some_same it.0 order (sym it.1.there ∙ at)) it.1
 
   -- each order has a place in the row of its bank and side
-  place_of : (side : Side) (key : ℕ) (order : Resting) → order_at orders key ≡ Some order → is_opposite (opposite side) order.side ≡ true
+  pub place_of : (side : Side) (key : ℕ) (order : Resting) → order_at orders key ≡ Some order → is_opposite (opposite side) order.side ≡ true
       → Contains (row_at own order.bank side).places (place_in key order)
   place_of side key order at on_side =
       (kept.own_are order.bank side (kept.resting.held key order at).0).all key order at
