@@ -125,7 +125,7 @@ impl Chunk {
             .partition_point(|other| cut.is_passed_by(side, other))
     }
 
-    /// Puts its places that cross `top`, a price of the other side, behind those that `into` has, and answers whether they are all.
+    /// Puts its places that cross `top`, a price of the other side, behind those that `into` has, and answers whether all of them do.
     pub(crate) fn gather_crossing(
         &self,
         side: Side,
