@@ -25,13 +25,13 @@ use Rattle.credit_raise.proofs.Raised.{turns-owners}
 
 -- ---- sides
 
-pub opposite_is : (a b : Side) → is_opposite a b ≡ true → b ≡ opposite a
+opposite_is : (a b : Side) → is_opposite a b ≡ true → b ≡ opposite a
 opposite_is Buy Buy is = absurd (false≢true is)
 opposite_is Buy Sell is = refl
 opposite_is Sell Buy is = refl
 opposite_is Sell Sell is = absurd (false≢true is)
 
-pub opposite_side : (side : Side) → is_opposite (opposite side) side ≡ true
+opposite_side : (side : Side) → is_opposite (opposite side) side ≡ true
 opposite_side Buy = refl
 opposite_side Sell = refl
 

@@ -27,7 +27,7 @@ opposite_twice Buy = refl
 opposite_twice Sell = refl
 
 -- a better order is preferred
-pub not_better : (side : Side) (o best : Resting) → is_preferred side o best ≡ false → is_better side o.price best.price ≡ false
+not_better : (side : Side) (o best : Resting) → is_preferred side o best ≡ false → is_better side o.price best.price ≡ false
 not_better side o best fails =
     false_from_ne_true (is_better side o.price best.price)
     (λ better. false≢true (sym fails ∙ or_left (is_better side o.price best.price) (eqb o.price best.price && ltb o.arrival best.arrival) better))

@@ -1,13 +1,10 @@
--- Two banks' orders, one of the other's, and what waits after a turn.
-use Rattle.std.proofs.Common.{ℕ, ◌≡◌, ◌≢◌, eqb, ltb, List, [], ◌∷◌, ◌++◌, ◌⊎◌, Some, inl, inr, sym, ◌∙◌}
+-- What waits after a turn, and the other one of two banks.
+use Rattle.std.proofs.Common.{ℕ, ◌≡◌, ◌≢◌, eqb, ltb, List, [], ◌∷◌, ◌++◌, ◌⊎◌, inl, inr, sym, ◌∙◌}
 use Rattle.std.proofs.lemmas.Bool.{cond_both, cond-true, cond-false, eq-eqb, ne_eqb}
 use Rattle.fx_rules.specs.declared.orders.Resting.{Resting}
 use Rattle.fx_rules.specs.Lists.{Each}
 use Rattle.fx_rules.proofs.ListLemmas.{Each-append}
 use Rattle.credit_raise.specs.inside.Playing.{other_of, joined}
-
-pub some_same : (a b : Resting) → Some a ≡ Some b → a ≡ b
-some_same a b same = cc
 
 -- what waits after a turn
 pub Each-joined : (P : Resting → Type 0) (order : Resting) (left : ℕ) (waiting : List Resting) → Each P waiting → P (record order { left = left }) → Each P (joined order left waiting)

@@ -1,4 +1,3 @@
-pub mod Gathered
 pub mod Playing
 pub mod Prices
 pub mod Two

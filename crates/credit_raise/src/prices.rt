@@ -1,8 +1,7 @@
 ghost use Rattle.std.specs.Prelude.{◌≡◌};
-ghost use Rattle.credit_raise.specs.inside.Prices.{AreTops, IsTop, crosses_tops, is_crossed, top_of, tops_meet};
+ghost use Rattle.credit_raise.specs.inside.Prices.{AreTops, IsTop, is_crossed, top_of, tops_meet};
 
 use fx_amounts::{BankId, Price, Side};
-use fx_rules::Resting;
 use global_book::PairBook;
 use price_levels::Steps;
 use std::sync::ledger::Ledger;
@@ -26,7 +25,7 @@ impl Tops {
     }
 
     /// The best price of a side.
-    fn of(&self, side: Side) -> Option<Price>
+    pub(crate) fn of(&self, side: Side) -> Option<Price>
         ensures { result ≡ top_of self.now side }
     {
         match side {
@@ -40,16 +39,6 @@ impl Tops {
         ensures { result ≡ tops_meet self.now other.now }
     {
         is_crossed(self.buy, other.sell) || is_crossed(other.buy, self.sell)
-    }
-
-    /// Whether an order of another bank crosses the best price of the other side.
-    pub(crate) fn are_crossed_by(&self, order: &Resting) -> bool
-        ensures { result ≡ crosses_tops self.now order.now }
-    {
-        match self.of(order.side.opposite()) {
-            Some(top) => order.price.crosses(top, order.side),
-            None => false,
-        }
     }
 }
 

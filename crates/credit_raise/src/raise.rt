@@ -22,11 +22,12 @@ use std::sync::ledger::Ledger;
 /// costs `weight`, 1 to 10^6. Where nothing rests crossed but between the two, they are the fills of the full sweep, in
 /// which each order that rests is swept in arrival order against those that came before it. `left` is 0.
 ///
-/// It looks at the two banks' orders alone, and leaves the book as it is. Those that cross the other bank's best price are gathered
-/// from the best price on, and have their turns in arrival order, as long as the line pays for a lot. What they have left
-/// is kept in a book of its own: each order is put in there at most once, each turn looks into it once, and once more for
-/// each fill. So it takes memory for these orders and for the fills, and the time of that many searches. Where the line does
-/// not pay for a lot, or the two banks' best prices do not cross, it answers at once. `Memory` for want of memory.
+/// It looks at the two banks' orders alone, and leaves the book as it is. Those that cross the other bank's best price are gathered,
+/// with no search from one to the next, and sorted. They have their turns in arrival order, as long as the line pays for a lot.
+/// What they have left is kept in a book of its own: each order is put in there at most once, each turn looks into it once, and
+/// once more for each fill. So it takes memory for these orders and for the fills, and the time of a sort of these orders and of
+/// that many searches. Where the line does not pay for a lot, or the two banks' best prices do not cross, it answers at once.
+/// `Memory` for want of memory.
 pub fn plan_raise<L: Ledger>(
     alloc: Global,
     book: &PairBook,
@@ -74,7 +75,7 @@ fn fills_of_two<L: Ledger>(
     if !tops_i.meet(&tops_j) {
         return Ok(Vec::new(alloc));
     }
-    let turns = live_turns(alloc, book, i, j, &tops_i, &tops_j, steps)?;
+    let turns = live_turns(alloc, book, i, j, &tops_i, &tops_j)?;
     play(alloc, pair, weight, i, j, eff, &turns, steps)
 }
 

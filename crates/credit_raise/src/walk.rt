@@ -1,83 +1,60 @@
 ghost use Rattle.std.specs.Prelude.{◌≡◌, ◌≢◌, IfOk, OnOk};
-ghost use Rattle.std.specs.BTreeMap.{IsOrdered, values};
-ghost use Rattle.std.specs.Ordering.{nat_cmp};
+ghost use Rattle.fx_amounts.specs.Side.{opposite};
 ghost use Rattle.global_book.specs.Book.{IsBook};
-ghost use Rattle.credit_raise.specs.inside.Gathered.{Gathers, IsLiveOf, IsLiveOn};
-ghost use Rattle.credit_raise.specs.inside.Prices.{live_turns};
+ghost use Rattle.credit_raise.specs.inside.Prices.{Gathers, is_live_of, is_live_on, live_turns, top_of};
 
 use crate::prices::Tops;
 use fx_amounts::{BankId, Memory, Side};
 use fx_rules::Resting;
 use global_book::PairBook;
-use price_levels::{Place, Steps};
 use std::alloc::Global;
-use std::collections::BTreeMap;
-use std::sync::ledger::Ledger;
 
-/// Of the orders of two banks those that cross the other bank's best price, in arrival order. One search for each of them, and
-/// four more. `Memory` for want of memory.
-pub(crate) fn live_turns<L: Ledger>(
+/// Of the orders of two banks those that cross the other bank's best price, in arrival order. It reads no other order, and
+/// counts no step. `Memory` for want of memory.
+pub(crate) fn live_turns(
     alloc: Global,
     book: &PairBook,
     i: BankId,
     j: BankId,
     tops_i: &Tops,
     tops_j: &Tops,
-    steps: &mut Steps<L>,
 ) -> Result<Vec<Resting>, Memory>
     requires differ { i ≢ j }
+    requires valid { IsBook book.now }
     ensures turns { IfOk result (λ turns. turns.items ≡ live_turns i j tops_i.now tops_j.now book.now.orders) }
-    ensures valid { IsBook book.now }
 {
-    let mut turns = BTreeMap::new(alloc);
-    gather(book, i, tops_j, &mut turns, steps)?;
-    gather(book, j, tops_i, &mut turns, steps)?;
-    in_order(alloc, &turns)
+    let mut turns = Vec::new(alloc);
+    gather(book, i, tops_j, &mut turns)?;
+    gather(book, j, tops_i, &mut turns)?;
+    turns.sort_unstable_by_key(|order| order.arrival);
+    Ok(turns)
 }
 
-/// Gathered orders in arrival order.
-fn in_order(alloc: Global, turns: &BTreeMap<u64, Resting>) -> Result<Vec<Resting>, Memory>
-    ensures order { IfOk result (λ orders. orders.items ≡ values turns.now) }
-    ensures ordered { IsOrdered nat_cmp turns.now }
-{
-    let orders = turns.values().copied().collect(alloc)?;
-    Ok(orders)
-}
-
-/// Gathers the orders of a bank that cross another bank's best price.
-fn gather<L: Ledger>(
+/// Gathers the orders of a bank that cross another bank's best price, behind those that are there.
+fn gather(
     book: &PairBook,
     bank: BankId,
     tops: &Tops,
-    turns: &mut BTreeMap<u64, Resting>,
-    steps: &mut Steps<L>,
+    turns: &mut Vec<Resting>,
 ) -> Result<(), Memory>
-    ensures gathered { OnOk result (Gathers (IsLiveOf bank tops.now) book.now.orders turns.old turns.new) }
-    ensures valid { IsBook book.now }
+    ensures gathered { OnOk result (Gathers (is_live_of bank tops.now) book.now.orders turns.old.items turns.new.items) }
 {
-    gather_side(book, bank, Side::Buy, tops, turns, steps)?;
-    gather_side(book, bank, Side::Sell, tops, turns, steps)
+    gather_side(book, bank, Side::Buy, tops, turns)?;
+    gather_side(book, bank, Side::Sell, tops, turns)
 }
 
-/// Those of a side, from the best price on.
-fn gather_side<L: Ledger>(
+/// Those of a side. There are none where the other bank has no order of the other side.
+fn gather_side(
     book: &PairBook,
     bank: BankId,
     side: Side,
     tops: &Tops,
-    turns: &mut BTreeMap<u64, Resting>,
-    steps: &mut Steps<L>,
+    turns: &mut Vec<Resting>,
 ) -> Result<(), Memory>
-    ensures gathered { OnOk result (Gathers (IsLiveOn bank side tops.now) book.now.orders turns.old turns.new) }
-    ensures valid { IsBook book.now }
+    ensures gathered { OnOk result (Gathers (is_live_on bank side (top_of tops.now (opposite side))) book.now.orders turns.old.items turns.new.items) }
 {
-    let mut past: Option<Place> = None;
-    while let Some((order, place)) = book.next_best(bank, side, past.as_ref(), steps) {
-        if !tops.are_crossed_by(&order) {
-            return Ok(());
-        }
-        turns.insert(order.arrival, order)?;
-        past = Some(place);
+    match tops.of(side.opposite()) {
+        Some(top) => book.gather_crossing(bank, side, top, turns),
+        None => Ok(()),
     }
-    Ok(())
 }

@@ -1,5 +1,6 @@
 -- The best prices of two banks, and the orders that cross the other bank's.
-use Rattle.std.specs.Prelude.{ℕ, ◌≡◌, ◌==◌, ◌||◌, if◌then◌else◌, Bool, false, List, filter, Option, Some, None}
+use Rattle.std.specs.Prelude.{ℕ, ◌≡◌, ◌==◌, ◌&&◌, ◌||◌, ◌++◌, if◌then◌else◌, Bool, false, List, filter, Option, Some, None}
+use Rattle.std.specs.List.Sorted.{IsPermutation}
 use Rattle.fx_amounts.specs.Price.{crosses}
 use Rattle.fx_amounts.specs.Side.{opposite}
 use Rattle.fx_amounts.specs.declared.side.Side.{Side}
@@ -7,6 +8,7 @@ use Rattle.fx_amounts.specs.declared.side.Side.TheVariants.{Buy, Sell}
 use Rattle.fx_rules.specs.declared.orders.Resting.{Resting}
 use Rattle.fx_rules.specs.Lists.{Among}
 use Rattle.fx_rules.specs.Sweep.{is_better}
+use Rattle.global_book.specs.Book.{is_across, is_of}
 use Rattle.credit_raise.specs.declared.prices.Tops.{Tops}
 use Rattle.credit_raise.specs.inside.Two.{turns}
 
@@ -56,3 +58,17 @@ is_live i tops_i tops_j order = crosses_tops (if order.bank == i then tops_j els
 -- the turns of those orders
 abbrev pub live_turns : ℕ → ℕ → Tops → Tops → List Resting → List Resting
 live_turns i j tops_i tops_j orders = filter (is_live i tops_i tops_j) (turns i j orders)
+
+-- an order of a bank and a side that crosses a best price, where there is one
+abbrev pub is_live_on : ℕ → Side → Option ℕ → Resting → Bool
+is_live_on bank side top order = is_across (opposite side) bank order && crosses_top side order.price top
+
+-- an order of a bank that crosses another bank's best prices
+abbrev pub is_live_of : ℕ → Tops → Resting → Bool
+is_live_of bank tops order = is_of bank order && crosses_tops tops order
+
+-- behind what was there come, in any order, those of some orders that pass a test
+pub record Gathers (test : Resting → Bool) (orders old new : List Resting) : Type 0 where
+  pub gathered : List Resting
+  pub behind : new ≡ old ++ gathered
+  pub all : IsPermutation (filter test orders) gathered

@@ -21,7 +21,7 @@ returns-then-get-from g c =
 pub play-requires-clause-turns : goal.play-requires-clause-turns
 play-requires-clause-turns g c =
     subst (AreTurns c.args.i c.args.j) (sym (c.deref.ensures.value ∙ c.in_ok-turns.ensures.turns))
-    (live-turns c.args.book.now c.args.i c.args.j c.of_bank-tops_i.result c.of_bank-tops_j.result c.in_ok-turns.ensures.valid)
+    (live-turns c.args.book.now c.args.i c.args.j c.of_bank-tops_i.result c.of_bank-tops_j.result c.pair-pair.ensures.valid)
 
 pub returns : goal.returns
 returns g c =
@@ -33,7 +33,7 @@ returns g c =
           (λ fills. Played c.args.book.now.pair c.args.weight i j c.args.eff [] (turns i j orders) fills.items)
           (λ fills played.
           live-played c.args.book.now.pair c.args.weight i j c.args.eff orders c.of_bank-tops_i.result c.of_bank-tops_j.result fills.items
-          c.requires.differ c.in_ok-turns.ensures.valid.rising c.of_bank-tops_i.ensures.tops c.of_bank-tops_j.ensures.tops
+          c.requires.differ c.pair-pair.ensures.valid.rising c.of_bank-tops_i.ensures.tops c.of_bank-tops_j.ensures.tops
           (subst (λ (os : List Resting). Played c.args.book.now.pair c.args.weight i j c.args.eff [] os fills.items) (c.deref.ensures.value ∙ c.in_ok-turns.ensures.turns)
           (subst (λ n. Played n c.args.weight i j c.args.eff [] c.deref.result.now fills.items) c.pair-pair.ensures.value played)))
           c.play.ensures.played;
