@@ -53,7 +53,7 @@ module _ (book : Book) (credit : Credit) (banks more : List ℕ) (bank n : ℕ) 
       let taker_same : now.taker ≡ old.taker = ap (λ (w : LevelWalk). w.taker) was.keeps.same in
       record {
         keeps = record {
-          same = it.keeps.same ∙ ap (λ (w : LevelWalk). record w { lines = new.lines; heads = new.heads }) was.keeps.same;
+          same = it.keeps.same ∙ ap (λ (w : LevelWalk). record w { lines = new.lines; heads = new.heads; ranks = new.ranks }) was.keeps.same;
           long = it.keeps.long ∙ was.keeps.long;
         };
         most = λ other. elim (cases_eq other n) [
@@ -98,7 +98,7 @@ opened-begins-at book credit owners bank old walk valid are below bare opened =
           subst (λ last. IsHead walk.taker other last book.orders (head_of walk other)) (sym last_none)
           (subst (λ (s : Side). IsHead s other None book.orders (head_of walk other)) (sym taker_same)
           (opened.heads other (subst (λ (w : ℕ). 1 ≤ slice_index walk.lines other / w) weight_same reach)));
-      is = opened.keeps.same ∙ ap (λ last. record old { lines = walk.lines; heads = walk.heads; last = last }) bare.last;
+      is = opened.keeps.same ∙ ap (λ last. record old { lines = walk.lines; heads = walk.heads; ranks = walk.ranks; last = last }) bare.last;
       own = opened.own;
       line = Each-of (λ (o : Resting). o.bank ≢ bank → slice_index walk.lines o.bank ≡ line_in credit bank o.bank) book.orders (λ o there differ. opened.lines o.bank (owned o there) differ);
       most = omega (arith, total-most walk.lines (10 ^ 15) opened.most, long);

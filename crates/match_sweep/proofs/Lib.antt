@@ -8,6 +8,7 @@ pub mod Stepping
 pub mod Reaching
 pub mod LevelSteps
 mod LevelOpening
+mod Ranking
 pub mod Walking
 mod Beginning
 pub mod Lowering

@@ -45,10 +45,10 @@ better-or_same Sell a b not_better =
     let most = ltb-false b a not_better in
     elim (cases_eq a b) [ inl same ↦ inl same | inr differ ↦ inr (lt-ltb a b (omega arith)) ]
 
-some_equal : (a b : ℕ) → Some a ≡ Some b → a ≡ b
+pub some_equal : (a b : ℕ) → Some a ≡ Some b → a ≡ b
 some_equal a b same = cc
 
-none_differs : {P : Type 0} (a : ℕ) → None ≡ Some a → P
+pub none_differs : {P : Type 0} (a : ℕ) → None ≡ Some a → P
 none_differs a same = cc
 
 -- one bank more
@@ -275,14 +275,14 @@ worse_head walk bank price head weighs is differ best some =
     (elim (better-or_same walk.taker head price not_better) [ inl same ↦ absurd (differ same) | inr worse ↦ worse ])
 
 -- the lots at the price are taken
-pub takes_some : (book : Book) (walk : LevelWalk) (bank at price lots taken : ℕ) (next : Option BankLevel) → IsWeight walk.weight → at ≡ bank → at < length walk.lines → at < length walk.heads
+pub takes_some : (book : Book) (walk : LevelWalk) (bank at price lots taken : ℕ) (next : Option BankLevel) (ranks : List ℕ) → IsWeight walk.weight → at ≡ bank → at < length walk.lines → at < length walk.heads
     → walk.weight ≤ slice_index walk.lines bank → lots ≡ level_lots walk.taker bank price book.orders → taken ≡ min lots (slice_index walk.lines at / walk.weight)
     → (1 ≤ (slice_index walk.lines at - taken * walk.weight) / walk.weight → IsHead walk.taker bank (Some price) book.orders next)
-    → TakesOf book walk (record walk { lines = set walk.lines at (slice_index walk.lines at - taken * walk.weight); heads = set walk.heads at next }) bank price taken
-takes_some book walk bank at price lots taken next weighs at_is within heads_within pays' lots_are taken_is level =
+    → TakesOf book walk (record walk { lines = set walk.lines at (slice_index walk.lines at - taken * walk.weight); heads = set walk.heads at next; ranks = ranks }) bank price taken
+takes_some book walk bank at price lots taken next ranks weighs at_is within heads_within pays' lots_are taken_is level =
     let line : ℕ = slice_index walk.lines at in
     let rest : ℕ = line - taken * walk.weight in
-    let new : LevelWalk = record walk { lines = set walk.lines at rest; heads = set walk.heads at next } in
+    let new : LevelWalk = record walk { lines = set walk.lines at rest; heads = set walk.heads at next; ranks = ranks } in
     let few : taken * walk.weight ≤ line = lots_cost taken line walk.weight (omega arith) in
     subst (λ (b : ℕ). TakesOf book walk new b price taken) at_is (record {
       taken = record {
@@ -338,7 +338,7 @@ last_same old now lots paid = ap (λ (w : LevelWalk). w.last) paid.same
 
 paid_both : (old now new : LevelWalk) (lots more : ℕ) → IsPaid old now lots → IsPaid now new more → IsPaid old new (lots + more)
 paid_both old now new lots more first second = record {
-  same = second.same ∙ ap (λ (w : LevelWalk). record w { lines = new.lines; heads = new.heads }) first.same;
+  same = second.same ∙ ap (λ (w : LevelWalk). record w { lines = new.lines; heads = new.heads; ranks = new.ranks }) first.same;
   long = second.long ∙ first.long;
   paid = let weigh = weight_same old now lots first in
       let here : more * old.weight + total (λ (n : ℕ). n) new.lines ≡ total (λ (n : ℕ). n) now.lines = ap (λ w. more * w + total (λ (n : ℕ). n) new.lines) (sym weigh) ∙ second.paid in

@@ -100,7 +100,7 @@ fn place_of(order: Option<&Resting>) -> Option<Place>
 }
 
 /// Whether the first price is better than the other for a taker of `side`.
-pub(crate) fn is_better(side: Side, price: Price, other: Price) -> bool
+fn is_better(side: Side, price: Price, other: Price) -> bool
     ensures value { result ≡ is_better side price other }
 {
     match side {

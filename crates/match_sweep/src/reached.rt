@@ -1,12 +1,11 @@
-ghost use Rattle.std.specs.Prelude.{◌≡◌, ◌≢◌, ◌≤◌, ◌<◌, ◌*◌, ◌/◌, ◌^◌, min, true, false, Some, None, slice_index, slice_index_or, IfOk, IfSome};
+ghost use Rattle.std.specs.Prelude.{ℕ, Option, ◌≡◌, ◌≢◌, ◌≤◌, ◌<◌, ◌*◌, ◌/◌, ◌^◌, min, true, false, Some, None, slice_index, slice_index_or, IfOk, IfSome};
 ghost use Rattle.fx_amounts.specs.Quantity.{IsWeight};
 ghost use Rattle.fx_rules.specs.Lists.{total};
 ghost use Rattle.fx_rules.specs.Sweep.{is_better};
 ghost use Rattle.global_book.specs.Book.{is_worse};
 ghost use Rattle.match_sweep.specs.Reaches.{IsReached};
-ghost use Rattle.match_sweep.specs.inside.Reaches.{AreTaken, BeginsAt, HaveLevels, IsBareLevel, IsBestAmong, IsBestPrice, IsHead, OpensLevel, TakesLevel, TakesOf, bank_level, better_price, price_of};
+ghost use Rattle.match_sweep.specs.inside.Reaches.{AreRanked, AreTaken, BeginsAt, HaveLevels, IsBareLevel, IsBestAmong, IsBestPrice, IsHead, IsRank, OpensLevel, Puts, TakesLevel, TakesOf, bank_level, price_of};
 
-use crate::heads::is_better;
 use credit_lines::CreditLines;
 use fx_amounts::{BankId, Memory, Price, Side};
 use fx_rules::{Level, LevelList, SHOWN_LEVELS};
@@ -35,6 +34,7 @@ pub fn levels_in_reach(
         weight,
         lines: [0; 64],
         heads: [None; 64],
+        ranks: [NO_RANK; 64],
         last: None,
     };
     walk.open_banks(book, lines, bank);
@@ -49,6 +49,9 @@ pub fn levels_in_reach(
     Ok(LevelList::from_vec(levels))
 }
 
+/// The rank of a bank of which nothing can be taken. All others are lower: the better a price, the lower its rank.
+const NO_RANK: u32 = u32::MAX;
+
 /// A walk from price to price over what a bank can reach. It changes no book. It is large, and stays where it was made.
 #[derive(Drop)]
 pub(crate) struct LevelWalk {
@@ -60,6 +63,8 @@ pub(crate) struct LevelWalk {
     lines: [u64; 64],
     /// Of each bank with which the line pays for a lot, its best level behind the last price.
     heads: [Option<BankLevel>; 64],
+    /// The rank of each head's price for the taker, where the line with the bank pays for a lot; `NO_RANK` with the others.
+    ranks: [u32; 64],
     /// The price of the last level, where there is one.
     last: Option<Price>,
 }
@@ -82,6 +87,7 @@ impl LevelWalk {
         requires bank { bank < lines.now.banks }
         requires weight { IsWeight self.old.weight }
         ensures begins { BeginsAt book.now lines.now self.old.weight bank self.old.taker self.new }
+        ensures ranked { AreRanked self.new }
     {
         prove!(bank.index() < BankId::COUNT);
         let owners = book.owners();
@@ -100,10 +106,22 @@ impl LevelWalk {
         requires weight { IsWeight self.old.weight }
         ensures opens { OpensLevel book.now lines.now self.old self.new bank other }
         ensures number { other < 64 }
+        ensures ranked { AreRanked self.old → AreRanked self.new }
     {
         let line = lines.eff(bank, other).get();
-        self.lines[other.index()] = line;
-        self.heads[other.index()] = level_at(book, self.taker, line, self.weight, other, 0);
+        let head = level_at(book, self.taker, line, self.weight, other, 0);
+        self.put(other.index(), line, head);
+    }
+
+    /// Writes down what is left of the line with the bank of this number, and its head, which is of use where the line pays for a lot.
+    fn put(&mut self, number: usize, line: u64, head: Option<BankLevel>)
+        requires { number < 64 }
+        ensures puts { Puts self.old self.new number line head }
+        ensures ranked { AreRanked self.old → AreRanked self.new }
+    {
+        self.lines[number] = line;
+        self.heads[number] = head;
+        self.ranks[number] = rank_of(self.taker, self.price_at(number));
     }
 
     /// The next level; `None` where nothing more can be reached.
@@ -111,7 +129,9 @@ impl LevelWalk {
         requires weight { IsWeight self.old.weight }
         requires most { total (λ line. line) self.old.lines ≤ 64 * 10 ^ 15 }
         requires heads { HaveLevels book.now self.old }
+        requires ranked { AreRanked self.old }
         ensures level { TakesLevel book.now self.old self.new result }
+        ensures ranked { AreRanked self.new }
     {
         let price = self.best_price(book.owners())?;
         let lots = self.take_all(book, price);
@@ -133,13 +153,14 @@ impl LevelWalk {
 
     /// The best price of the heads of those of these banks with which the line pays for a lot.
     fn best_price(&self, owners: &[BankId]) -> Option<Price>
+        requires ranked { AreRanked self.now }
         ensures best { IsBestAmong self.now owners.now result }
     {
-        let mut best = None;
+        let mut lowest = NO_RANK;
         for owner in owners {
-            best = better_price(self.taker, best, self.price_at(owner.index()));
+            lowest = lowest.min(self.ranks[owner.index()]);
         }
-        best
+        price_at_rank(self.taker, lowest)
     }
 
     /// Takes of each bank what the line with it pays for of its lots at the best price; how many they are in all.
@@ -148,7 +169,9 @@ impl LevelWalk {
         requires most { total (λ line. line) self.old.lines ≤ 64 * 10 ^ 15 }
         requires heads { HaveLevels book.now self.old }
         requires best { IsBestPrice self.old 64 (Some price) }
+        requires ranked { AreRanked self.old }
         ensures taken { AreTaken book.now self.old self.new price result }
+        ensures ranked { AreRanked self.new }
     {
         let mut lots = 0;
         let owners = book.owners();
@@ -164,23 +187,25 @@ impl LevelWalk {
         requires head { 1 ≤ slice_index self.old.lines bank / self.old.weight → IsHead self.old.taker bank self.old.last book.now.orders (slice_index_or self.old.heads bank None) }
         requires worse { is_worse self.old.taker self.old.last price ≡ true }
         requires best { IfSome (price_of self.old bank) (λ other. is_better self.old.taker other price ≡ false) }
+        requires ranked { AreRanked self.old }
         ensures taken { TakesOf book.now self.old self.new bank price result }
+        ensures ranked { AreRanked self.new }
     {
         let at = bank.index();
+        if self.ranks[at] != rank_of(self.taker, Some(price)) {
+            return 0;
+        }
         let Some(head) = self.heads[at] else {
             return 0;
         };
         let weight = u64::from(self.weight);
         let line = self.lines[at];
-        if head.price != price || line < weight {
-            return 0;
-        }
         let taken = lots_by_line(head.lots, line, weight);
         let left = line - taken * weight;
-        self.lines[at] = left;
         // There are no more levels than orders.
         prove!(head.at < book.len());
-        self.heads[at] = level_at(book, self.taker, left, self.weight, bank, head.at + 1);
+        let next = level_at(book, self.taker, left, self.weight, bank, head.at + 1);
+        self.put(at, left, next);
         taken
     }
 }
@@ -199,14 +224,24 @@ fn lots_by_line(lots: u128, line: u64, weight: u64) -> u64
     lots.min(u128::from(line / weight)) as u64
 }
 
-/// The better of two prices for a taker of a side, where there are any.
-fn better_price(taker: Side, price: Option<Price>, other: Option<Price>) -> Option<Price>
-    ensures { result ≡ better_price taker price other }
+/// The rank of a price for a taker of a side, the best price lowest; `NO_RANK` where there is none.
+fn rank_of(taker: Side, price: Option<Price>) -> u32
+    ensures rank { IsRank taker price result }
 {
-    match (price, other) {
-        (Some(price), Some(other)) if !is_better(taker, other, price) => Some(price),
-        (price, None) => price,
-        (_, other) => other,
+    match (taker, price) {
+        (_, None) => NO_RANK,
+        (Side::Buy, Some(price)) => price.ticks(),
+        (Side::Sell, Some(price)) => NO_RANK - price.ticks(),
+    }
+}
+
+/// The price of a rank for a taker of a side; `None` at `NO_RANK`.
+fn price_at_rank(taker: Side, rank: u32) -> Option<Price>
+    ensures price { (price : Option ℕ) → IsRank taker price rank → result ≡ price }
+{
+    match taker {
+        Side::Buy => Price::new(rank),
+        Side::Sell => Price::new(NO_RANK - rank),
     }
 }
 

@@ -1,8 +1,9 @@
 -- What private functions and proofs alone say of it, beside `specs/Reaches.antt`.
-use Rattle.std.specs.Prelude.{ℕ, ◌≡◌, ◌≢◌, ◌≤◌, ◌<◌, ◌+◌, ◌-◌, ◌*◌, ◌/◌, ◌^◌, min, false, nat_le, if◌then◌else◌, List, length, replicate, Option, Some, None, IfSome, slice_get, slice_index, slice_index_or, option_map}
+use Rattle.std.specs.Prelude.{ℕ, ◌≡◌, ◌≢◌, ◌≤◌, ◌<◌, ◌+◌, ◌-◌, ◌*◌, ◌/◌, ◌^◌, min, false, nat_le, if◌then◌else◌, List, length, replicate, Option, Some, None, IfSome, slice_get, slice_index, slice_index_or, slice_set, option_map}
 use Rattle.std.specs.List.{Contains}
+use Rattle.fx_amounts.specs.Price.{IsPrice}
 use Rattle.fx_amounts.specs.declared.side.Side.{Side}
-use Rattle.fx_amounts.specs.declared.side.Side.TheVariants.{Buy}
+use Rattle.fx_amounts.specs.declared.side.Side.TheVariants.{Buy, Sell}
 use Rattle.fx_rules.specs.declared.orders.Level.{Level}
 use Rattle.fx_rules.specs.declared.orders.Resting.{Resting}
 use Rattle.fx_rules.specs.Lists.{Each, total}
@@ -58,6 +59,24 @@ better_price taker None other = other
 better_price taker (Some price) None = Some price
 better_price taker (Some price) (Some other) = if is_better taker other price then Some other else Some price
 
+-- a price's rank for a taker of a side: the best price has the lowest, and none the last
+abbrev pub rank_of : Side → Option ℕ → ℕ
+rank_of taker None = 2 ^ 32 - 1
+rank_of Buy (Some price) = price
+rank_of Sell (Some price) = 2 ^ 32 - 1 - price
+
+pub record IsRank (taker : Side) (price : Option ℕ) (rank : ℕ) : Type 0 where
+  pub valid : IfSome price IsPrice
+  pub is : rank ≡ rank_of taker price
+
+-- each bank's rank is that of the price that it is asked at
+abbrev pub AreRanked : LevelWalk → Type 0
+AreRanked walk = (bank : ℕ) → bank < 64 → IsRank walk.taker (price_of walk bank) (slice_index walk.ranks bank)
+
+-- a bank's line and head are written down
+abbrev pub Puts : LevelWalk → LevelWalk → ℕ → ℕ → Option BankLevel → Type 0
+Puts old new bank line head = new ≡ record old { lines = slice_set old.lines bank line; heads = slice_set old.heads bank head; ranks = new.ranks }
+
 -- the best price of the heads of so many banks, or there is none
 abbrev pub IsBestPrice : LevelWalk → ℕ → Option ℕ → Type 0
 IsBestPrice walk banks None = (bank : ℕ) → bank < banks → price_of walk bank ≡ None
@@ -82,9 +101,9 @@ pub record IsLeft (old new : LevelWalk) (bank : ℕ) : Type 0 where
   pub line : slice_index new.lines bank ≡ slice_index old.lines bank
   pub head : head_of new bank ≡ head_of old bank
 
--- nothing but lines and heads changed, and the lots are what the lines paid for
+-- nothing but lines, heads and ranks changed, and the lots are what the lines paid for
 pub record IsPaid (old new : LevelWalk) (lots : ℕ) : Type 0 where
-  pub same : new ≡ record old { lines = new.lines; heads = new.heads }
+  pub same : new ≡ record old { lines = new.lines; heads = new.heads; ranks = new.ranks }
   pub long : length new.lines ≡ length old.lines
   pub paid : lots * old.weight + total (λ line. line) new.lines ≡ total (λ line. line) old.lines
 
@@ -109,11 +128,12 @@ TakesLevel book old new (Some level) =
 -- a walk that has found no line and no level
 pub record IsBareLevel (walk : LevelWalk) : Type 0 where
   pub lines : walk.lines ≡ replicate 64 0
+  pub ranks : walk.ranks ≡ replicate 64 (2 ^ 32 - 1)
   pub last : walk.last ≡ None
 
--- nothing but lines and heads changed
+-- nothing but lines, heads and ranks changed
 pub record KeepsTaker (old new : LevelWalk) : Type 0 where
-  pub same : new ≡ record old { lines = new.lines; heads = new.heads }
+  pub same : new ≡ record old { lines = new.lines; heads = new.heads; ranks = new.ranks }
   pub long : length new.lines ≡ length old.lines
 
 -- a bank has its first level at its head, where the line with it pays for a lot

@@ -10,6 +10,7 @@ returns-in_err-price c = record {
     refl,
     best_of_all c.args.book.now c.owners.result.now c.args.self.now None c.owners.ensures.owners c.requires.weight (omega arith) c.requires.heads c.in_err-price.ensures.best,
   );
+  ranked = c.requires.ranked;
 }
 
 pub take_all-lots-requires-clause-best : goal.take_all-lots-requires-clause-best
@@ -22,4 +23,5 @@ returns c = record {
     best_of_all c.args.book.now c.owners.result.now c.args.self.now (Some c.in_ok-price.price) c.owners.ensures.owners c.requires.weight (omega arith) c.requires.heads c.in_ok-price.ensures.best,
     (c.take_all-lots.new.self, c.take_all-lots.ensures.taken, refl),
   );
+  ranked = c.take_all-lots.ensures.ranked;
 }

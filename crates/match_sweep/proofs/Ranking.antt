@@ -1,0 +1,117 @@
+-- The ranks of the heads' prices: the lowest is that of the best price.
+use Rattle.std.proofs.Common.{ℕ, ◌≡◌, ◌++◌, ◌-◌, ◌/◌, ◌≤◌, ◌<◌, ◌^◌, min, false, leb, if◌then◌else◌, List, [], ◌∷◌, length, inl, inr, refl, ap, sym, subst, ◌∙◌, arith, Option, Some, None, IfSome, get_or-set_same, get_or-set_other, slice_index, take}
+use Rattle.std.proofs.Math.ListN.{set}
+use Rattle.std.proofs.lemmas.Bool.{cases_Bool, cases_eq, lt-leb, ltb-true, ltb-false}
+use Rattle.std.proofs.lemmas.List.{get_or-replicate}
+use Rattle.fx_amounts.specs.Quantity.{IsWeight}
+use Rattle.fx_amounts.specs.declared.side.Side.{Side}
+use Rattle.fx_amounts.specs.declared.side.Side.TheVariants.{Buy, Sell}
+use Rattle.fx_rules.specs.Sweep.{is_better}
+use Rattle.match_sweep.specs.declared.reached.BankLevel.{BankLevel}
+use Rattle.match_sweep.specs.declared.reached.LevelWalk.{LevelWalk}
+use Rattle.match_sweep.specs.inside.Reaches.{AreRanked, IsBareLevel, IsBestAmong, IsRank, better_price, head_of, price_in, price_of, rank_of}
+use Rattle.match_sweep.proofs.Reaching.{IsWorseHead, better-on, price_there, worse_head}
+use Rattle.match_sweep.proofs.Stepping.{paid_for}
+use Rattle.match_sweep.proofs.Tables.{replicate-at}
+
+-- Ranks of two prices.
+
+rank-most : (taker : Side) (price : Option ℕ) (rank : ℕ) → IsRank taker price rank → rank ≤ 2 ^ 32 - 1
+rank-most taker None rank is = omega (arith, is.is)
+rank-most Buy (Some price) rank is = omega (arith, is.is, is.valid.1)
+rank-most Sell (Some price) rank is = omega (arith, is.is)
+
+-- the lower of two ranks is that of the better price
+lower : (taker : Side) (a b : Option ℕ) (x y : ℕ) → IsRank taker a x → IsRank taker b y → IsRank taker (better_price taker a b) (min x y)
+lower taker None b x y first second =
+    record { valid = second.valid; is = let it : min x y ≡ y = omega (arith, first.is, rank-most taker b y second) in it ∙ second.is }
+lower taker (Some p) None x y first second =
+    record { valid = first.valid; is = let it : min x y ≡ x = omega (arith, second.is, rank-most taker (Some p) x first) in it ∙ first.is }
+lower Buy (Some p) (Some q) x y first second =
+    elim (cases_Bool (is_better Buy q p)) [
+      | inl better ↦
+          let less = ltb-true q p better in
+          subst (λ (o : Option ℕ). IsRank Buy o (min x y)) (sym (ap (λ b. if b then Some q else Some p) better))
+          (record { valid = second.valid; is = omega (arith, first.is, second.is, less) })
+      | inr other ↦
+          let most = ltb-false q p other in
+          subst (λ (o : Option ℕ). IsRank Buy o (min x y)) (sym (ap (λ b. if b then Some q else Some p) other))
+          (record { valid = first.valid; is = omega (arith, first.is, second.is, most) })
+    ]
+lower Sell (Some p) (Some q) x y first second =
+    elim (cases_Bool (is_better Sell q p)) [
+      | inl better ↦
+          let more = ltb-true p q better in
+          subst (λ (o : Option ℕ). IsRank Sell o (min x y)) (sym (ap (λ b. if b then Some q else Some p) better))
+          (record { valid = second.valid; is = omega (arith, first.is, second.is, more) })
+      | inr other ↦
+          let least = ltb-false p q other in
+          subst (λ (o : Option ℕ). IsRank Sell o (min x y)) (sym (ap (λ b. if b then Some q else Some p) other))
+          (record { valid = first.valid; is = omega (arith, first.is, second.is, least) })
+    ]
+
+-- a rank is that of one price alone
+pub same_rank : (taker : Side) (found : Option ℕ) (price rank other : ℕ) → IsRank taker found rank → IsRank taker (Some price) other → rank ≡ other → found ≡ Some price
+same_rank Buy None price rank other is there same = absurd (omega (arith, is.is, there.is, there.valid.1, same))
+same_rank Sell None price rank other is there same = absurd (omega (arith, is.is, there.is, there.valid.0, there.valid.1, same))
+same_rank Buy (Some found) price rank other is there same = ap Some (let it : found ≡ price = omega (arith, is.is, there.is, same) in it)
+same_rank Sell (Some found) price rank other is there same =
+    ap Some (let it : found ≡ price = omega (arith, is.is, there.is, is.valid.1, there.valid.1, same) in it)
+
+-- and a price has one rank
+pub one_rank : (taker : Side) (found : Option ℕ) (price rank other : ℕ) → IsRank taker found rank → IsRank taker (Some price) other → found ≡ Some price → rank ≡ other
+one_rank taker found price rank other is there same = is.is ∙ ap (rank_of taker) same ∙ sym there.is
+
+-- The ranks of a walk.
+
+-- before any bank is opened
+pub bare-ranked : (walk : LevelWalk) → 1 ≤ walk.weight → IsBareLevel walk → AreRanked walk
+bare-ranked walk some bare = λ bank below.
+    let line : slice_index walk.lines bank ≡ 0 = ap (λ (xs : List ℕ). slice_index xs bank) bare.lines ∙ replicate-at {X = ℕ} 0 64 bank in
+    let none : price_of walk bank ≡ None
+    = ap (λ b. if b then price_in (head_of walk bank) else None) (lt-leb walk.weight (slice_index walk.lines bank) (omega (arith, line, some))) in
+    subst (λ (p : Option ℕ). IsRank walk.taker p (slice_index walk.ranks bank)) (sym none)
+    (record { valid = tt; is = ap (λ (xs : List ℕ). slice_index xs bank) bare.ranks ∙ get_or-replicate 64 bank (2 ^ 32 - 1) 0 (omega arith) })
+
+-- once a bank's line, head and rank are written
+pub put-ranked : (old : LevelWalk) (number line rank : ℕ) (head : Option BankLevel) → number < length old.ranks
+    → IsRank old.taker (price_of (record old { lines = set old.lines number line; heads = set old.heads number head; ranks = set old.ranks number rank }) number) rank
+    → AreRanked old → AreRanked (record old { lines = set old.lines number line; heads = set old.heads number head; ranks = set old.ranks number rank })
+put-ranked old number line rank head within is were = λ bank below.
+    let new : LevelWalk = record old { lines = set old.lines number line; heads = set old.heads number head; ranks = set old.ranks number rank } in
+    elim (cases_eq bank number) [
+      | inl same ↦ subst (λ (b : ℕ). IsRank old.taker (price_of new b) (slice_index new.ranks b)) (sym same)
+          (subst (IsRank old.taker (price_of new number)) (sym (get_or-set_same old.ranks number rank 0 within)) is)
+      | inr differ ↦
+          let price : price_of new bank ≡ price_of old bank
+          = ap (λ l. if leb old.weight l then price_in (head_of new bank) else None) (get_or-set_other old.lines number bank line 0 differ)
+          ∙ ap (λ (h : Option BankLevel). if leb old.weight (slice_index old.lines bank) then price_in h else None) (get_or-set_other old.heads number bank head None differ) in
+          subst (IsRank old.taker (price_of new bank)) (sym (get_or-set_other old.ranks number bank rank 0 differ))
+          (subst (λ (p : Option ℕ). IsRank old.taker p (slice_index old.ranks bank)) (sym price) (were bank below))
+    ]
+
+-- The lowest rank.
+
+-- the lowest rank of these banks
+pub record IsLowest (walk : LevelWalk) (banks : List ℕ) (lowest : ℕ) : Type 0 where
+  pub price : Option ℕ
+  pub rank : IsRank walk.taker price lowest
+  pub best : IsBestAmong walk banks price
+
+pub lowest-begins : (walk : LevelWalk) (banks : List ℕ) → IsLowest walk (take 0 banks) (2 ^ 32 - 1)
+lowest-begins walk banks = record { price = None; rank = record { valid = tt; is = refl }; best = λ bank there. absurd (omega (arith, there.1)) }
+
+pub lowest-on : (walk : LevelWalk) (banks : List ℕ) (n lowest : ℕ) → n < 64 → AreRanked walk → IsLowest walk banks lowest → IsLowest walk (banks ++ n ∷ []) (min lowest (slice_index walk.ranks n))
+lowest-on walk banks n lowest below ranked so_far = record {
+  price = better_price walk.taker so_far.price (price_of walk n);
+  rank = lower walk.taker so_far.price (price_of walk n) lowest (slice_index walk.ranks n) so_far.rank (ranked n below);
+  best = better-on walk banks n so_far.price (price_of walk n) refl so_far.best;
+}
+
+-- a bank with another price than the best one has a worse head, where its line pays
+pub other_rank : (walk : LevelWalk) (bank price : ℕ) (head : Option ℕ) → IsWeight walk.weight → price_in (head_of walk bank) ≡ head → (price_of walk bank ≡ Some price → ⊥)
+    → IfSome (price_of walk bank) (λ other. is_better walk.taker other price ≡ false) → 1 ≤ slice_index walk.lines bank / walk.weight → IsWorseHead walk.taker price (price_in (head_of walk bank))
+other_rank walk bank price None weighs is differ best some = subst (IsWorseHead walk.taker price) (sym is) tt
+other_rank walk bank price (Some head) weighs is differ best some =
+    worse_head walk bank price head weighs is
+    (λ same. differ (price_there walk bank head (paid_for (slice_index walk.lines bank) walk.weight weighs some) is ∙ ap Some same)) best some
