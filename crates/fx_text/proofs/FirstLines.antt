@@ -1,6 +1,6 @@
 -- The first line that ends in a text.
-use Rattle.std.proofs.Common.{◌≡◌, ℕ, ◌+◌, ◌-◌, ◌<◌, ◌≤◌, min, Bool, false, nat_lt, List, [], ◌∷◌, ◌++◌, length, map, take, drop, get_or, position, Option, Some, None, cond, true, lt-ltb, le-ltb, refl, sym, ap, ap₂, ◌∙◌, subst, arith, length-drop, append_assoc, append-nil, All, ⊎_elim, inl, inr}
-use Rattle.std.proofs.lemmas.Bool.{eqb-true, cases_Bool, cases_lt, cond-true, cond-false, false_from_ne_true}
+use Rattle.std.proofs.Common.{◌≡◌, ℕ, ◌+◌, ◌-◌, ◌<◌, ◌≤◌, min, Bool, false, nat_lt, List, [], ◌∷◌, ◌++◌, length, map, take, drop, get_or, position, Option, Some, None, cond, true, lt-ltb, le-ltb, refl, sym, ap, ◌∙◌, subst, arith, length-drop, append_assoc, append-nil, All, inl, inr}
+use Rattle.std.proofs.lemmas.Bool.{eqb-true, cases_Bool, cond-true, cond-false, false_from_ne_true}
 use Rattle.std.proofs.lemmas.Bool.Decides.{nat_tests}
 use Rattle.std.proofs.lemmas.List.Sums.{fails_before_first, position_or_len_is}
 use Rattle.std.specs.List.{position_or_len}

@@ -4,7 +4,8 @@ use Rattle.std.proofs.lemmas.Bool.{cases_lt}
 use Rattle.std.proofs.lemmas.List.{length-take, take-append-le, take_all}
 use Rattle.std.proofs.lemmas.Grind.{flat_map-append}
 use Rattle.std.proofs.Math.Seq.{take-append-add}
-use Rattle.std.specs.List.{flat_map, AllByRecursion}
+use Rattle.std.specs.List.{AllByRecursion}
+use Rattle.fx_text.specs.Fields.{fields_text}
 
 shorter_take : (more : List ℕ) (room count : ℕ) → count ≡ min (length more) room → take count more ≡ take room more
 shorter_take more room count is = ⊎_elim
@@ -48,36 +49,32 @@ within_room text now is = omega (arith, ap (λ (t : List ℕ). length t) is, len
 pub fits_room : (text now : List ℕ) → length text ≤ 256 → now ≡ take 256 text → now ≡ text
 fits_room text now within is = is ∙ take_all 256 text within
 
--- fields with a space before each
-abbrev spaced : List (List ℕ) → List ℕ
-spaced fields = flat_map (λ field. 32 ∷ field) fields
-
 -- no field more, the last one, and one before others
 pub no_field : (start : List ℕ) → length start ≤ 256 → start ≡ take 256 (start ++ [])
 no_field start within = sym (ap (take 256) (append-nil start) ∙ take_all 256 start within)
 
-pub last_field : (start after field : List ℕ) → after ≡ take 256 (start ++ 32 ∷ field) → after ≡ take 256 (start ++ spaced (field ∷ []))
+pub last_field : (start after field : List ℕ) → after ≡ take 256 (start ++ 32 ∷ field) → after ≡ take 256 (start ++ fields_text (field ∷ []))
 last_field start after field is = is ∙ ap (λ (text : List ℕ). take 256 (start ++ text)) (sym (append-nil (32 ∷ field)))
 
-pub one_field : (start one after field : List ℕ) (fields : List (List ℕ)) → one ≡ take 256 (start ++ 32 ∷ field) → after ≡ take 256 (one ++ spaced fields) → after ≡ take 256 (start ++ spaced (field ∷ fields))
-one_field start one after field fields first rest = pushed_two start one after (32 ∷ field) (spaced fields) first rest
+pub one_field : (start one after field : List ℕ) (fields : List (List ℕ)) → one ≡ take 256 (start ++ 32 ∷ field) → after ≡ take 256 (one ++ fields_text fields) → after ≡ take 256 (start ++ fields_text (field ∷ fields))
+one_field start one after field fields first rest = pushed_two start one after (32 ∷ field) (fields_text fields) first rest
 
 -- short fields make a short text
-pub length-spaced : (fields : List (List ℕ)) → AllByRecursion (λ field. length field ≤ 20) fields → length (spaced fields) ≤ 21 * length fields
-length-spaced [] all = omega arith
-length-spaced (field ∷ fields) all = omega (arith, all.0, length-spaced fields all.1, length-append (32 ∷ field) (spaced fields))
+pub length-fields_text : (fields : List (List ℕ)) → AllByRecursion (λ field. length field ≤ 20) fields → length (fields_text fields) ≤ 21 * length fields
+length-fields_text [] all = omega arith
+length-fields_text (field ∷ fields) all = omega (arith, all.0, length-fields_text fields all.1, length-append (32 ∷ field) (fields_text fields))
 
 -- a line whose fields are pushed in two parts behind the first
-pub pushed_row : (first : List ℕ) (head rest : List (List ℕ)) (start one two three after : List ℕ) → start ≡ [] → one ≡ take 256 (start ++ first) → two ≡ take 256 (one ++ spaced head)
-    → three ≡ take 256 (two ++ spaced rest) → after ≡ take 256 (three ++ 10 ∷ []) → length first ≤ 39 → length (spaced head) ≤ 84 → length (spaced rest) ≤ 84
-    → after ≡ first ++ spaced (head ++ rest) ++ 10 ∷ []
+pub pushed_row : (first : List ℕ) (head rest : List (List ℕ)) (start one two three after : List ℕ) → start ≡ [] → one ≡ take 256 (start ++ first) → two ≡ take 256 (one ++ fields_text head)
+    → three ≡ take 256 (two ++ fields_text rest) → after ≡ take 256 (three ++ 10 ∷ []) → length first ≤ 39 → length (fields_text head) ≤ 84 → length (fields_text rest) ≤ 84
+    → after ≡ first ++ fields_text (head ++ rest) ++ 10 ∷ []
 pushed_row first head rest start one two three after empty begun named told ended first_few head_few rest_few =
-    let tail : List ℕ = spaced rest ++ 10 ∷ [] in
-    let text : List ℕ = first ++ (spaced head ++ tail) in
+    let tail : List ℕ = fields_text rest ++ 10 ∷ [] in
+    let text : List ℕ = first ++ (fields_text head ++ tail) in
     let made : after ≡ take 256 (start ++ text) =
-    pushed_two start one after first (spaced head ++ tail) begun (pushed_two one two after (spaced head) tail named (pushed_two two three after (spaced rest) (10 ∷ []) told ended)) in
-    let short : length text ≤ 256 = omega (arith, first_few, head_few, rest_few, length-append first (spaced head ++ tail), length-append (spaced head) tail, length-append (spaced rest) (10 ∷ [])) in
-    let joined : spaced (head ++ rest) ≡ spaced head ++ spaced rest = flat_map-append (λ (field : List ℕ). 32 ∷ field) head rest in
+    pushed_two start one after first (fields_text head ++ tail) begun (pushed_two one two after (fields_text head) tail named (pushed_two two three after (fields_text rest) (10 ∷ []) told ended)) in
+    let short : length text ≤ 256 = omega (arith, first_few, head_few, rest_few, length-append first (fields_text head ++ tail), length-append (fields_text head) tail, length-append (fields_text rest) (10 ∷ [])) in
+    let joined : fields_text (head ++ rest) ≡ fields_text head ++ fields_text rest = flat_map-append (λ (field : List ℕ). 32 ∷ field) head rest in
     fits_room text after short (made ∙ ap (λ (t : List ℕ). take 256 (t ++ text)) empty)
-    ∙ ap (λ (t : List ℕ). first ++ t) (sym (append_assoc (spaced head) (spaced rest) (10 ∷ [])) ∙ ap (λ (t : List ℕ). t ++ 10 ∷ []) (sym joined))
-    ∙ sym (append_assoc first (spaced (head ++ rest)) (10 ∷ []))
+    ∙ ap (λ (t : List ℕ). first ++ t) (sym (append_assoc (fields_text head) (fields_text rest) (10 ∷ [])) ∙ ap (λ (t : List ℕ). t ++ 10 ∷ []) (sym joined))
+    ∙ sym (append_assoc first (fields_text (head ++ rest)) (10 ∷ []))

@@ -1,5 +1,5 @@
 -- The fields of a line.
-use Rattle.std.specs.Prelude.{ℕ, Bool, false, ◌||◌, ◌==◌, nat_lt, List, [], ◌∷◌, length, filter, codes, bytes_eq, slice_index, slice_index_or}
+use Rattle.std.specs.Prelude.{ℕ, Bool, false, ◌||◌, ◌==◌, nat_lt, List, [], ◌∷◌, length, filter, codes, flat_map, bytes_eq, slice_index, slice_index_or}
 use Rattle.std.specs.List.{slice_split}
 
 -- a space or a tab
@@ -17,6 +17,10 @@ fields_of line = filter has_bytes (slice_split is_blank line)
 -- the first field of a line, which is empty where the line has none
 abbrev pub first_field : List ℕ → List ℕ
 first_field line = slice_index_or (fields_of line) 0 []
+
+-- fields with a space before each
+abbrev pub fields_text : List (List ℕ) → List ℕ
+fields_text fields = flat_map (λ field. 32 ∷ field) fields
 
 -- whether a field begins a comment: its first byte is `#`
 abbrev pub is_comment : List ℕ → Bool

@@ -2,7 +2,7 @@
 use Rattle.std.proofs.Common.{ℕ, ◌≡◌, ◌+◌, ◌<◌, List, [], ◌∷◌, ◌++◌, ap, sym, ◌∙◌, length, map, take, get_or}
 use Rattle.std.proofs.lemmas.List.{take_more, map_push, flat_map_more}
 use Rattle.fx_amounts.specs.Numeral.{numeral}
-use Rattle.reply_lines.specs.Rows.{fields_text}
+use Rattle.fx_text.specs.Fields.{fields_text}
 
 -- one more
 pub counts_more : (before counts : List ℕ) (i d : ℕ) → i < length counts → before ++ fields_text (map numeral (take (i + 1) counts)) ≡ (before ++ fields_text (map numeral (take i counts))) ++ 32 ∷ numeral (get_or counts i d)

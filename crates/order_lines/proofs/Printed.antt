@@ -8,7 +8,8 @@ use Rattle.fx_rules.specs.declared.command.Command.{Command}
 use Rattle.fx_rules.specs.declared.command.Command.TheVariants as command
 use Rattle.fx_rules.specs.declared.command.Life.{Life}
 use Rattle.fx_text.proofs.LineTexts.{pushed_two, no_field, last_field, one_field}
-use Rattle.order_lines.specs.inside.Printing.{fields_text, word_field, subject_field, details}
+use Rattle.fx_text.specs.Fields.{fields_text}
+use Rattle.order_lines.specs.inside.Printing.{word_field, subject_field, details}
 use Rattle.order_lines.specs.Spelling.{price_spelled, command_fields, command_text_of}
 use Rattle.order_lines.specs.Words.{life_text}
 

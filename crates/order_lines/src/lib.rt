@@ -8,4 +8,4 @@ mod word;
 mod writing;
 
 pub use spoken::{Spoken, command_from, command_in, journal_from, journal_in};
-pub use writing::{command_line, command_text};
+pub use writing::{command_text, make_command};

@@ -1,8 +1,8 @@
 ghost use Rattle.std.specs.Prelude.{◌≡◌, [], ◌∷◌, ◌<◌, ◌≤◌, ◌++◌, length, take, All, OnOk, OnErr};
-ghost use Rattle.fx_rules.specs.Session.{bank_count, pair_count, bank_name, pair_name};
+ghost use Rattle.fx_rules.specs.Session.{bank_count, pair_count, pair_name};
 ghost use Rattle.fx_rules.specs.Step.{IsCommand};
-ghost use Rattle.order_lines.specs.inside.Printing.{fields_text, word_field, subject_field, details, IsSubjectOf};
-ghost use Rattle.fx_text.specs.Fields.{fields_of};
+ghost use Rattle.order_lines.specs.inside.Printing.{word_field, subject_field, details, IsSubjectOf};
+ghost use Rattle.fx_text.specs.Fields.{fields_of, fields_text};
 ghost use Rattle.fx_text.specs.Lines.{line_of};
 ghost use Rattle.order_lines.specs.Grammar.{journal_line};
 ghost use Rattle.order_lines.specs.Spelling.{command_fields, command_text_of};
@@ -37,12 +37,12 @@ pub fn command_text(
 }
 
 /// Makes the journal's line of a command of a bank, with its line feed, in place of what there was. It takes no memory.
-pub fn command_line(session: &Session, bank: BankId, command: &Command, line: &mut LineText)
+pub fn make_command(session: &Session, bank: BankId, command: &Command, line: &mut LineText)
     requires bank { bank < bank_count session.now }
     requires command { IsCommand session.now bank command.now }
     ensures { line.new ≡ command_text_of session.now bank command.now ++ 10 ∷ [] }
 {
-    make_command(session, bank, command, line);
+    make_text(session, bank, command, line);
     line.push_byte(b'\n');
 }
 
@@ -58,13 +58,13 @@ fn append_command(
     ensures err { OnErr result (out.new.items ≡ out.old.items) }
 {
     let mut line = LineText::new();
-    make_command(session, bank, command, &mut line);
+    make_text(session, bank, command, &mut line);
     out.extend_from_slice(line.as_slice())?;
     Ok(())
 }
 
-// Makes the line of a command without a line feed, which leaves room for more bytes.
-fn make_command(session: &Session, bank: BankId, command: &Command, line: &mut LineText)
+// Makes the text of a command's line, without a line feed, which leaves room for more bytes.
+fn make_text(session: &Session, bank: BankId, command: &Command, line: &mut LineText)
     requires bank { bank < bank_count session.now }
     requires command { IsCommand session.now bank command.now }
     ensures made { line.new ≡ command_text_of session.now bank command.now }
@@ -82,7 +82,7 @@ fn push_command(session: &Session, bank: BankId, command: &Command, line: &mut L
     requires command { IsCommand session.now bank command.now }
     ensures { line.new ≡ take 256 (line.old ++ command_text_of session.now bank command.now) }
 {
-    line.push(name_of(session, bank));
+    line.push(session.name(bank));
     line.push_field(word_of(command));
     push_subject(session, command, line);
     push_details(session, command, line);
@@ -115,17 +115,10 @@ fn push_subject(session: &Session, command: &Command, line: &mut LineText)
         Command::Reduce { pair, .. } => push_pair(session, pair, line),
         Command::Pull { pair } | Command::Book { pair } => push_pair(session, pair, line),
         Command::Line { bank, .. } | Command::Show { bank } => {
-            line.push_field(name_of(session, bank));
+            line.push_field(session.name(bank));
         }
         Command::Bad { reason } => line.push_number_field(u64::from(reason.code())),
     }
-}
-
-fn name_of(session: &Session, bank: BankId) -> &[u8]
-    requires { bank < bank_count session.now }
-    ensures { result.now ≡ bank_name session.now bank }
-{
-    session.banks()[bank.index()].as_bytes()
 }
 
 fn push_pair(session: &Session, pair: PairId, line: &mut LineText)

@@ -5,7 +5,8 @@ use Rattle.std.proofs.lemmas.List.{get_or-set_same, get_or-set_other, length-set
 use Rattle.std.specs.List.{flat_map}
 use Rattle.fx_rules.specs.declared.outcome.Entry.{Entry}
 use Rattle.fx_rules.specs.Session.{Header, bank_count}
-use Rattle.reply_lines.specs.Rows.{row, fields_text}
+use Rattle.fx_text.specs.Fields.{fields_text}
+use Rattle.reply_lines.specs.Rows.{row}
 use Rattle.reply_lines.specs.Desks.{DeskSoFar, desk_with, nothing_yet, AreDesksOf}
 use Rattle.reply_lines.specs.inside.Desks.{with_notice, with_notices, HaveGot}
 use Rattle.reply_lines.specs.Notices.{Notice, notice_line, notice_lines, notices_in, notices}

@@ -5,7 +5,7 @@ use Rattle.std.proofs.lemmas.List.Concat.{flat_map-append}
 use Rattle.fx_amounts.specs.Numeral.{numeral}
 use Rattle.fx_amounts.specs.PriceText.{price_text}
 use Rattle.fx_rules.specs.declared.orders.Level.{Level}
-use Rattle.reply_lines.specs.Rows.{fields_text}
+use Rattle.fx_text.specs.Fields.{fields_text}
 use Rattle.reply_lines.specs.Notices.{fields_of_level, level_fields}
 
 -- the levels so far, and one more

@@ -14,7 +14,7 @@ use Rattle.fx_rules.proofs.SweepSound.{weight_of-least}
 use Rattle.reply_lines.specs.Books.{LocalBook, book_line}
 use Rattle.reply_lines.specs.inside.Books.{AreBooksOf}
 use Rattle.reply_lines.specs.Notices.{book_fields}
-use Rattle.reply_lines.specs.Rows.{fields_text}
+use Rattle.fx_text.specs.Fields.{fields_text}
 
 -- what the market shows is what the books have
 pub shown : {M : Type 0} {stands : M → Header → State → Type 0} {market : M} (h : Header) (books : ℕ → ℕ → LocalBook) (bank pair : ℕ) (bids asks : List Level) → AreBooksOf stands h market books → bank < bank_count h → pair < pair_count h → InEach (stands market) (IsDepthOf bank pair (Depth bids asks)) → (bids ≡ (books bank pair).bids) × (asks ≡ (books bank pair).asks)

@@ -1,12 +1,8 @@
 -- The lines of the output: fields with one space between each two, and a line feed.
 use Rattle.std.specs.Prelude.{ℕ, List, [], ◌∷◌, ◌++◌, codes}
-use Rattle.std.specs.List.{flat_map}
 use Rattle.fx_amounts.specs.declared.side.Side.{Side}
 use Rattle.fx_amounts.specs.declared.side.Side.TheVariants.{Buy, Sell}
-
--- fields, each behind one space
-abbrev pub fields_text : List (List ℕ) → List ℕ
-fields_text fields = flat_map (λ field. 32 ∷ field) fields
+use Rattle.fx_text.specs.Fields.{fields_text}
 
 abbrev pub row : List ℕ → List (List ℕ) → List ℕ
 row first rest = first ++ fields_text rest ++ 10 ∷ []

@@ -5,7 +5,7 @@ ghost use Rattle.reply_lines.specs.Books.{LocalBook, book_line, book_lines_below
 ghost use Rattle.reply_lines.specs.inside.Books.{IsMarketOf, AreBooksOf};
 
 use crate::lines::write_made;
-use crate::notices::{name_of, push_book};
+use crate::notices::push_book;
 use crate::row::{begin_word_row, end_row};
 use fx_amounts::{BankId, Memory, PairId};
 use fx_edges::{Sink, SinkFault};
@@ -116,7 +116,7 @@ fn make_book<M: Market>(
     let Outcome::Depth { bids, asks } = market.depth(bank, pair)? else {
         unreachable!()
     };
-    begin_word_row(name_of(session, bank), line)?;
+    begin_word_row(session.name(bank), line)?;
     push_book(session, pair, bids.as_slice(), asks.as_slice(), line)?;
     end_row(line)
 }

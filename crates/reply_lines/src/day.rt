@@ -26,7 +26,7 @@ pub struct DayText {
     count: usize,
     /// Their lines.
     journal: Vec<u8>,
-    /// The last of them.
+    /// The line that is made: an entry's in the journal, and then those of its notices.
     line: LineText,
     notices: DayNotices,
 }
@@ -52,7 +52,7 @@ impl DayText {
             IsTextOf session.now (entries ++ entry.now ∷ []) self.new) }
     {
         push_entry_line(session, entry, &mut self.line, &mut self.journal)?;
-        self.notices.add(session, entry)?;
+        self.notices.add(session, entry, &mut self.line)?;
         self.count += 1;
         Ok(())
     }

@@ -19,8 +19,6 @@ pub(crate) struct DayNotices {
     sums: DaySums,
     /// The last notice that shows a local book; its memory is used again.
     line: Vec<u8>,
-    /// The last notice that shows none.
-    text: LineText,
     /// What the notices of the last fill have in common.
     texts: FillTexts,
 }
@@ -43,13 +41,18 @@ impl DayNotices {
             desks: no_desks(alloc, session.banks().len())?,
             sums: DaySums::open(alloc, session)?,
             line: Vec::new(alloc),
-            text: LineText::new(),
             texts: FillTexts::new(),
         })
     }
 
-    /// Adds those of the next entry. After `Memory` they are good for nothing more.
-    pub(crate) fn add(&mut self, session: &Session, entry: &Entry) -> Result<(), Memory>
+    /// Adds those of the next entry; one that shows no local book is made in the text. After `Memory` they are good for
+    /// nothing more.
+    pub(crate) fn add(
+        &mut self,
+        session: &Session,
+        entry: &Entry,
+        text: &mut LineText,
+    ) -> Result<(), Memory>
         requires next { (entries : List Entry) × IsLegal session.now (entries ++ entry.now ∷ []) × AreNoticesOf session.now entries self.old }
         ensures added { OnOk result ((entries : List Entry) →
             IsLegal session.now (entries ++ entry.now ∷ []) → AreNoticesOf session.now entries self.old →
@@ -61,7 +64,7 @@ impl DayNotices {
             entry,
             &mut self.desks,
             &mut self.line,
-            &mut self.text,
+            text,
             &mut self.texts,
         )
     }

@@ -14,7 +14,7 @@ use fx_edges::{Sink, SinkFault};
 use fx_pieces::Pieces;
 use fx_rules::{Entry, Session};
 use fx_text::LineText;
-use order_lines::command_line;
+use order_lines::make_command;
 use std::alloc::Global;
 
 /// Writes the line that begins the journal.
@@ -41,23 +41,23 @@ pub(crate) fn push_entry_line(
     requires entry { IsEntryOf session.now entry.now }
     ensures ok { OnOk result (text.new.items ≡ text.old.items ++ entry_line session.now entry.now) }
 {
-    command_line(session, entry.bank, &entry.command, line);
+    make_command(session, entry.bank, &entry.command, line);
     text.extend_from_slice(line.as_slice())?;
     Ok(())
 }
 
-/// Writes an entry's line of the journal.
+/// Writes an entry's line of the journal. It is made in the line.
 fn write_entry<K: Sink>(
     session: &Session,
     entry: &Entry,
+    line: &mut LineText,
     pieces: &mut Pieces,
     out: &mut K,
 ) -> Result<(), SinkFault>
     requires entry { IsEntryOf session.now entry.now }
     ensures wrote { Gathered K.written K.faults pieces.old out.old pieces.new out.new (entry_line session.now entry.now) result }
 {
-    let mut line = LineText::new();
-    command_line(session, entry.bank, &entry.command, &mut line);
+    make_command(session, entry.bank, &entry.command, line);
     pieces.put(line.as_slice(), out)
 }
 
@@ -95,11 +95,12 @@ fn write_entries<K: Sink>(
     let Ok(mut notices) = DayNotices::open(alloc, session) else {
         return Err(SinkFault::Memory);
     };
+    let mut line = LineText::new();
     for entry in entries {
-        let Ok(()) = notices.add(session, entry) else {
+        let Ok(()) = notices.add(session, entry, &mut line) else {
             return Err(SinkFault::Memory);
         };
-        match write_entry(session, entry, pieces, out) {
+        match write_entry(session, entry, &mut line, pieces, out) {
             Ok(()) => {}
             Err(fault) => return Err(fault),
         }

@@ -1,7 +1,8 @@
 ghost use Rattle.std.specs.Prelude.{◌≡◌, ◌∷◌, [], ◌<◌, ◌≤◌, ◌++◌, codes, length, take, OnOk, OnErr};
 ghost use Rattle.fx_amounts.specs.Numeral.{numeral};
 ghost use Rattle.fx_amounts.specs.Quantity.{IsDecimals};
-ghost use Rattle.reply_lines.specs.Rows.{row, fields_text, side_text};
+ghost use Rattle.fx_text.specs.Fields.{fields_text};
+ghost use Rattle.reply_lines.specs.Rows.{row, side_text};
 ghost use Rattle.fx_rules.specs.Session.{bank_count, pair_count, bank_name};
 ghost use Rattle.reply_lines.specs.Notices.{booked_pair, level_fields, book_fields, trade_fields, amount_fields};
 ghost use Rattle.reply_lines.specs.inside.Fills.{AreTextsOf, AreShort, fill_line};
@@ -204,7 +205,7 @@ pub(crate) fn make_fill(
     line.push_wide(number);
     push_own_side(own_number, side, line);
     line.push(texts.trade.as_slice());
-    line.push_field(name_of(session, other));
+    line.push_field(session.name(other));
     line.push(texts.amounts.as_slice());
     line.push_byte(b'\n');
 }
@@ -253,15 +254,6 @@ fn side_word(side: Side) -> &'static [u8]
     }
 }
 
-/// A bank's name.
-pub(crate) fn name_of(session: &Session, bank: BankId) -> &[u8]
-    requires { bank < bank_count session.now }
-    ensures name { result.now ≡ bank_name session.now bank }
-    ensures few { length (bank_name session.now bank) ≤ 8 }
-{
-    session.banks()[bank.index()].as_bytes()
-}
-
 /// Makes the line that begins a bank's desk.
 pub(crate) fn make_desk(
     session: &Session,
@@ -274,7 +266,7 @@ pub(crate) fn make_desk(
     ensures memory { OnErr result (line.new.items ≡ []) }
 {
     begin_word_row(b"DESK", line)?;
-    push_field(name_of(session, bank), line)?;
+    push_field(session.name(bank), line)?;
     push_number_field(count, line)?;
     end_row(line)
 }

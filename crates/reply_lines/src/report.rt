@@ -5,7 +5,6 @@ ghost use Rattle.reply_lines.specs.Report.{volume_line, use_line, net_line, repo
 ghost use Rattle.reply_lines.specs.inside.Report.{IsReportOf};
 
 use crate::lines::{Print, write_lines};
-use crate::notices::name_of;
 use crate::row::{begin_word_row, end_row, push_field, push_number_field, push_signed_field};
 use day_report::{Net, Report, Use, Volume};
 use fx_amounts::Memory;
@@ -54,8 +53,8 @@ impl Print for Use {
 
     fn make_line(&self, session: &Session, line: &mut Vec<u8>) -> Result<(), Memory> {
         begin_word_row(b"USE", line)?;
-        push_field(name_of(session, self.a), line)?;
-        push_field(name_of(session, self.b), line)?;
+        push_field(session.name(self.a), line)?;
+        push_field(session.name(self.b), line)?;
         push_number_field(u128::from(self.limit_ab.get()), line)?;
         push_number_field(u128::from(self.limit_ba.get()), line)?;
         push_number_field(u128::from(self.used.get()), line)?;
@@ -71,7 +70,7 @@ impl Print for Net {
 
     fn make_line(&self, session: &Session, line: &mut Vec<u8>) -> Result<(), Memory> {
         begin_word_row(b"NET", line)?;
-        push_field(name_of(session, self.bank), line)?;
+        push_field(session.name(self.bank), line)?;
         push_field(self.currency.as_bytes(), line)?;
         push_signed_field(self.amount, line)?;
         end_row(line)

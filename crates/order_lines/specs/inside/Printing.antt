@@ -1,5 +1,5 @@
 -- The fields of a line that is to be written.
-use Rattle.std.specs.Prelude.{ℕ, ◌<◌, List, [], ◌∷◌, flat_map}
+use Rattle.std.specs.Prelude.{ℕ, ◌<◌, List, [], ◌∷◌}
 use Rattle.fx_amounts.specs.Numeral.{numeral}
 use Rattle.fx_rules.specs.Reject.{code_of}
 use Rattle.fx_rules.specs.Session.{Header, bank_count, pair_count, bank_name, pair_name}
@@ -8,10 +8,6 @@ use Rattle.fx_rules.specs.declared.command.Command.TheVariants.{Order, Cancel, R
 use Rattle.order_lines.specs.Words.{word_text, side_word, life_text, bad_word}
 use Rattle.order_lines.specs.declared.word.Word.TheVariants as word
 use Rattle.order_lines.specs.Spelling.{price_spelled}
-
--- fields with a space before each
-abbrev pub fields_text : List (List ℕ) → List ℕ
-fields_text fields = flat_map (λ field. 32 ∷ field) fields
 
 -- the field behind the sender's name: the command's word
 abbrev pub word_field : Command → List ℕ

@@ -4,7 +4,8 @@ use Rattle.fx_amounts.specs.Numeral.{numeral}
 use Rattle.fx_amounts.specs.declared.side.Side.{Side}
 use Rattle.fx_rules.specs.declared.orders.Fill.{Fill}
 use Rattle.fx_rules.specs.Session.{Header, bank_name}
-use Rattle.reply_lines.specs.Rows.{fields_text, side_text}
+use Rattle.fx_text.specs.Fields.{fields_text}
+use Rattle.reply_lines.specs.Rows.{side_text}
 use Rattle.reply_lines.specs.Notices.{trade_fields, amount_fields}
 use Rattle.reply_lines.specs.declared.notices.FillTexts.{FillTexts}
 

@@ -1,6 +1,6 @@
 use Rattle.std.proofs.Common.{◌≡◌, ◌++◌, map, take}
 use Rattle.fx_amounts.specs.Numeral.{numeral}
-use Rattle.reply_lines.specs.Rows.{fields_text}
+use Rattle.fx_text.specs.Fields.{fields_text}
 use Rattle.load_summary.proofs.lines.push_counts.Given as goal
 
 -- the counts so far are appended

@@ -2,7 +2,7 @@ use Rattle.std.proofs.Common.{◌∙◌, ◌++◌, List, ℕ, ap, take, arith}
 use Rattle.order_lines.specs.Spelling.{command_text_of}
 use Rattle.fx_text.proofs.LineTexts.{fits_room}
 use Rattle.order_lines.proofs.WrittenCommands.{IsWritten-command}
-use Rattle.order_lines.proofs.writing.make_command.Goals as goal
+use Rattle.order_lines.proofs.writing.make_text.Goals as goal
 
 pub returns-clause-made : goal.returns-clause-made
 returns-clause-made c =

@@ -10,6 +10,6 @@ push_details-requires-clause-room c = within_room (c.push_field.new.self ++ 32 �
 pub returns : goal.returns
 returns c =
     whole_line c.args.session.now c.args.bank c.args.command.now c.args.line.now c.push.new.self c.push_field.new.self c.push_subject.new.line c.push_details.new.line
-    (c.push.ensures ∙ ap (λ (name : List ℕ). take 256 (c.args.line.now ++ name)) c.name_of.ensures)
+    (c.push.ensures ∙ ap (λ (name : List ℕ). take 256 (c.args.line.now ++ name)) c.name.ensures.value)
     (c.push_field.ensures ∙ ap (λ (word : List ℕ). take 256 (c.push.new.self ++ 32 ∷ word)) c.word_of.ensures)
     c.push_subject.ensures c.push_details.ensures

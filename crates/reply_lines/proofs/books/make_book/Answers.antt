@@ -15,10 +15,10 @@ pub returns : goal.returns
 returns g c = record {
   ok = on_ok c.end_row.result (λ ended books are.
       line_of c.args.session.now books c.args.bank c.args.pair c.in-Depth.bids c.in-Depth.asks c.as_slice.result.now c.as_slice-2.result.now
-      c.name_of.result.now c.begin_word_row.new.line.items c.push_book.new.line.items c.end_row.new.line.items
+      c.name.result.now c.begin_word_row.new.line.items c.push_book.new.line.items c.end_row.new.line.items
       are c.requires.bank c.requires.pair
       (subst (λ (outcome : Outcome). InEach (g.M.Market.stands c.args.market.now) (IsDepthOf c.args.bank c.args.pair outcome)) c.in-Depth.is c.in_ok-bids.ensures.depth)
-      c.as_slice.ensures.items c.as_slice-2.ensures.items c.name_of.ensures.name c.in_ok-begin_word_row.ensures.ok c.in_ok-push_book.ensures.ok ended)
+      c.as_slice.ensures.items c.as_slice-2.ensures.items c.name.ensures.value c.in_ok-begin_word_row.ensures.ok c.in_ok-push_book.ensures.ok ended)
       c.end_row.ensures.ok;
   memory = c.end_row.ensures.memory;
 }

@@ -2,7 +2,7 @@ use Rattle.std.proofs.Common.{◌∙◌, ◌++◌, ◌∷◌, [], List, ℕ, ap,
 use Rattle.fx_amounts.specs.Numeral.{numeral}
 use Rattle.fx_amounts.specs.Amount.{base_amount, quote_amount}
 use Rattle.fx_text.proofs.LineTexts.{last_field, one_field, fits_room}
-use Rattle.reply_lines.specs.Rows.{fields_text}
+use Rattle.fx_text.specs.Fields.{fields_text}
 use Rattle.reply_lines.proofs.notices.make_amounts.Goals as goal
 
 pub returns-clause-made : goal.returns-clause-made

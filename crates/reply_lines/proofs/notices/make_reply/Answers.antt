@@ -1,7 +1,7 @@
 use Rattle.std.proofs.Common.{◌++◌, ◌∷◌, [], codes}
 use Rattle.fx_amounts.specs.Numeral.{numeral}
 use Rattle.fx_text.proofs.LineTexts.{within_room, pushed_row}
-use Rattle.reply_lines.specs.Rows.{fields_text}
+use Rattle.fx_text.specs.Fields.{fields_text}
 use Rattle.reply_lines.specs.inside.Replies.{plain_fields}
 use Rattle.reply_lines.proofs.notices.make_reply.Goals as goal
 

@@ -3,7 +3,7 @@ use Rattle.fx_amounts.specs.Numeral.{numeral}
 use Rattle.fx_amounts.specs.PriceText.{price_text}
 use Rattle.fx_rules.proofs.NameTexts.{HasPairBytes-pair_text}
 use Rattle.fx_text.proofs.LineTexts.{last_field, one_field, fits_room}
-use Rattle.reply_lines.specs.Rows.{fields_text}
+use Rattle.fx_text.specs.Fields.{fields_text}
 use Rattle.fx_rules.specs.Session.{pair_name, decimals_of}
 use Rattle.reply_lines.proofs.notices.make_trade.Goals as goal
 

@@ -1,6 +1,6 @@
 use Rattle.std.proofs.Common.{◌∙◌, ◌++◌, ◌∷◌, [], ◌≤◌, ℕ, ap, take, length, arith}
 use Rattle.fx_amounts.specs.Numeral.{numeral}
-use Rattle.fx_text.proofs.LineTexts.{last_field, one_field, length-spaced}
+use Rattle.fx_text.proofs.LineTexts.{last_field, one_field, length-fields_text}
 use Rattle.reply_lines.proofs.notices.push_counts.Goals as goal
 
 pub returns-clause-text : goal.returns-clause-text
@@ -16,4 +16,4 @@ pub returns-clause-few : goal.returns-clause-few
 returns-clause-few c =
     let first : length (numeral c.args.first) ≤ 20 = omega (arith, c.push_number_field.ensures.few, ap (λ (n : ℕ). length (numeral n)) c.from.ensures) in
     let second : length (numeral c.args.second) ≤ 20 = omega (arith, c.push_number_field-2.ensures.few, ap (λ (n : ℕ). length (numeral n)) c.from-2.ensures) in
-    omega (arith, length-spaced (c.args.word.now ∷ numeral c.args.first ∷ numeral c.args.second ∷ []) (c.requires, (first, (second, tt))))
+    omega (arith, length-fields_text (c.args.word.now ∷ numeral c.args.first ∷ numeral c.args.second ∷ []) (c.requires, (first, (second, tt))))

@@ -1,5 +1,5 @@
 use Rattle.std.proofs.Common.{◌≡◌, ◌++◌, take}
-use Rattle.reply_lines.specs.Rows.{fields_text}
+use Rattle.fx_text.specs.Fields.{fields_text}
 use Rattle.reply_lines.specs.Notices.{level_fields}
 use Rattle.reply_lines.proofs.notices.push_levels.Given as goal
 

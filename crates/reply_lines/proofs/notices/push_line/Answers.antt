@@ -1,6 +1,6 @@
 use Rattle.std.proofs.Common.{◌∙◌, ◌++◌, ◌∷◌, [], ◌≤◌, ℕ, ap, take, codes, length, arith}
 use Rattle.fx_amounts.specs.Numeral.{numeral}
-use Rattle.fx_text.proofs.LineTexts.{last_field, one_field, length-spaced}
+use Rattle.fx_text.proofs.LineTexts.{last_field, one_field, length-fields_text}
 use Rattle.reply_lines.proofs.notices.push_line.Goals as goal
 
 pub returns-clause-text : goal.returns-clause-text
@@ -20,4 +20,4 @@ returns-clause-few c =
     let used : length (numeral c.args.used) ≤ 20 = omega (arith, c.push_number_field-2.ensures.few, ap (λ (n : ℕ). length (numeral n)) c.get-2.ensures.value) in
     let eff : length (numeral c.args.eff) ≤ 20 = omega (arith, c.push_number_field-3.ensures.few, ap (λ (n : ℕ). length (numeral n)) c.get-3.ensures.value) in
     let word : length (codes "SHOWN") ≤ 20 = omega arith in
-    omega (arith, length-spaced (codes "SHOWN" ∷ numeral c.args.limit ∷ numeral c.args.used ∷ numeral c.args.eff ∷ []) (word, (limit, (used, (eff, tt)))))
+    omega (arith, length-fields_text (codes "SHOWN" ∷ numeral c.args.limit ∷ numeral c.args.used ∷ numeral c.args.eff ∷ []) (word, (limit, (used, (eff, tt)))))

@@ -1,7 +1,7 @@
 -- A local book has none of these fields.
 use Rattle.std.proofs.Common.{◌∙◌, ◌++◌, List, ℕ, ap, sym, take}
 use Rattle.fx_text.proofs.LineTexts.{no_field}
-use Rattle.reply_lines.specs.Rows.{fields_text}
+use Rattle.fx_text.specs.Fields.{fields_text}
 use Rattle.reply_lines.specs.inside.Replies.{plain_fields}
 use Rattle.reply_lines.proofs.notices.push_outcome.Goals as goal
 

@@ -2,7 +2,7 @@ use Rattle.std.proofs.Common.{◌∙◌, ◌++◌, ◌∷◌, [], ◌≤◌, Lis
 use Rattle.fx_amounts.specs.Numeral.{numeral}
 use Rattle.fx_amounts.specs.declared.side.Side.{Side}
 use Rattle.fx_amounts.specs.declared.side.Side.TheVariants.{Buy, Sell}
-use Rattle.fx_text.proofs.LineTexts.{last_field, one_field, length-spaced}
+use Rattle.fx_text.proofs.LineTexts.{last_field, one_field, length-fields_text}
 use Rattle.reply_lines.specs.Rows.{side_text}
 use Rattle.reply_lines.proofs.notices.push_own_side.Goals as goal
 
@@ -23,4 +23,4 @@ pub returns-clause-few : goal.returns-clause-few
 returns-clause-few c =
     let number : length (numeral c.args.own_number) ≤ 20 = omega (arith, c.push_number_field.ensures.few, ap (λ (n : ℕ). length (numeral n)) c.from.ensures) in
     let word : length (codes "FILL") ≤ 20 = omega arith in
-    omega (arith, length-spaced (codes "FILL" ∷ numeral c.args.own_number ∷ side_text c.args.side ∷ []) (word, (number, (short_side c.args.side, tt))))
+    omega (arith, length-fields_text (codes "FILL" ∷ numeral c.args.own_number ∷ side_text c.args.side ∷ []) (word, (number, (short_side c.args.side, tt))))

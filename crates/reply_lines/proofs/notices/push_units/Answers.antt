@@ -1,6 +1,6 @@
 use Rattle.std.proofs.Common.{◌∙◌, ◌++◌, ◌∷◌, [], ◌≤◌, ℕ, ap, take, length, arith}
 use Rattle.fx_amounts.specs.Numeral.{numeral}
-use Rattle.fx_text.proofs.LineTexts.{last_field, one_field, length-spaced}
+use Rattle.fx_text.proofs.LineTexts.{last_field, one_field, length-fields_text}
 use Rattle.reply_lines.proofs.notices.push_units.Goals as goal
 
 pub returns-clause-text : goal.returns-clause-text
@@ -12,4 +12,4 @@ returns-clause-text c =
 pub returns-clause-few : goal.returns-clause-few
 returns-clause-few c =
     let units : length (numeral c.args.units) ≤ 20 = omega (arith, c.push_number_field.ensures.few, ap (λ (n : ℕ). length (numeral n)) c.get.ensures.value) in
-    omega (arith, length-spaced (c.args.word.now ∷ numeral c.args.units ∷ []) (c.requires, (units, tt)))
+    omega (arith, length-fields_text (c.args.word.now ∷ numeral c.args.units ∷ []) (c.requires, (units, tt)))
