@@ -1,8 +1,9 @@
 -- The numbers that texts write.
-use Rattle.std.proofs.Common.{◌≡◌, ℕ, suc, ◌+◌, ◌-◌, ◌*◌, ◌^◌, ◌<◌, ◌≤◌, Bool, true, false, not, ◌&&◌, List, ◌∷◌, length, take, get_or, refl, sym, ap, ◌∙◌, subst, arith, leb, ltb, eqb, ⊎_elim, IfSome, SomeIff, IsTrue, Option, Some, None, ℤ, pos, negsuc, decimal, SFits}
+use Rattle.std.proofs.Common.{◌≡◌, ◌≢◌, ℕ, suc, ◌+◌, ◌-◌, ◌*◌, ◌^◌, ◌<◌, ◌≤◌, Bool, true, false, not, ◌&&◌, List, [], ◌∷◌, length, take, get_or, refl, sym, ap, ◌∙◌, subst, arith, leb, ltb, eqb, ⊎_elim, IfSome, SomeIff, IsTrue, Option, Some, None, ℤ, pos, negsuc, decimal, SFits}
 use mir.Syntax.{w128}
 use Rattle.std.specs.Fmt.{signed_decimal}
-use Rattle.std.proofs.lemmas.Bool.{and_parts, and_from, and_right, cases_Bool, cases_lt, false_from_ne_true, both_ways, leb-true, le-leb, lt-leb, cond-true, cond-false}
+use Rattle.std.proofs.lemmas.Bool.{and_parts, and_right, cases_Bool, cases_lt, false_from_ne_true, both_ways, leb-true, le-leb, lt-leb, lt-ltb, ne_eqb, cond-true, cond-false}
+use Rattle.std.proofs.Math.Bool.{and-false}
 use Rattle.std.proofs.lemmas.List.{take_all}
 use Rattle.std.proofs.lemmas.List.Folds.{list_all_at}
 use Rattle.std.proofs.lemmas.Str.Parse.{digits_value-take-le}
@@ -13,7 +14,6 @@ use Rattle.fx_amounts.specs.Numeral.{numeral, is_numeral}
 use Rattle.fx_amounts.proofs.DigitLemmas.{digits_value_after-digit, fits-digits}
 use Rattle.fx_amounts.proofs.NumeralLemmas.{is_numeral-numeral, digits_value-numeral, numeral-digits_value, decimal-numeral}
 use Rattle.fx_text.specs.Number.{number_of, signed_numeral}
-use Rattle.fx_text.specs.inside.Number.{begins_a_numeral}
 
 -- a numeral in the range is read as its number
 pub number_of-numeral : (least most value : ℕ) → least ≤ value → value ≤ most → number_of least most (numeral value) ≡ Some value
@@ -61,14 +61,13 @@ not_numeral : (least most : ℕ) (text : List ℕ) → is_numeral text ≡ false
 unfolding number_of
 not_numeral least most text other = rw (other) refl
 
-pub number_of-begins_otherwise : (least most : ℕ) (text : List ℕ) → begins_a_numeral text ≡ false → number_of least most text ≡ None
+pub number_of-no_byte : (least most : ℕ) → number_of least most [] ≡ None
+unfolding is_numeral number_of
+number_of-no_byte least most = refl
+
+pub number_of-leading_zero : (least most : ℕ) (text : List ℕ) → 1 < length text → get_or text 0 0 ≡ 48 → number_of least most text ≡ None
 unfolding is_numeral
-number_of-begins_otherwise least most text other = not_numeral least most text (false_from_ne_true (is_numeral text) (λ form.
-    let some : Bool = ltb 0 (length text) in
-    let digits : Bool = list_all is_ascii_digit text in
-    let leads : Bool = not (ltb 1 (length text) && eqb (get_or text 0 0) 48) in
-    let parts : ((some && digits) ≡ true) × (leads ≡ true) = and_parts (some && digits) leads form in
-    both_ways (some && leads) other (and_from some leads (and_parts some digits parts.0).0 parts.1)))
+number_of-leading_zero least most text long zero = not_numeral least most text (rw (lt-ltb 1 (length text) long, zero) (and-false (ltb 0 (length text) && list_all is_ascii_digit text)))
 
 pub number_of-other_byte : (least most : ℕ) (text : List ℕ) (i : ℕ) → i < length text → is_ascii_digit (get_or text i 0) ≡ false → number_of least most text ≡ None
 unfolding is_numeral
@@ -106,14 +105,13 @@ number_of-short text (Some value) short is below =
     sym (rw (is.0, same, le-leb 0 value (omega arith), le-leb value (2 ^ 64 - 1) (omega arith)) refl)
 
 -- a text that writes a number
-pub number_of-digits : (most : ℕ) (text : List ℕ) (i value : ℕ) → length text ≤ i → begins_a_numeral text ≡ true → list_all is_ascii_digit (take i text) ≡ true → value ≡ digits_value 10 (take i text) → value ≤ most → number_of 0 most text ≡ Some value
+pub number_of-digits : (most : ℕ) (text : List ℕ) (i value : ℕ) → length text ≤ i → 1 < length text → get_or text 0 0 ≢ 48 → list_all is_ascii_digit (take i text) ≡ true → value ≡ digits_value 10 (take i text) → value ≤ most → number_of 0 most text ≡ Some value
 unfolding is_numeral number_of
-number_of-digits most text i value all begins digits is high =
+number_of-digits most text i value all long other digits is high =
     let whole : take i text ≡ text = take_all i text all in
     let is' : digits_value 10 text ≡ value = ap (digits_value 10) (sym whole) ∙ sym is in
     let digits' : list_all is_ascii_digit text ≡ true = ap (list_all is_ascii_digit) (sym whole) ∙ digits in
-    let parts = and_parts (ltb 0 (length text)) (not (ltb 1 (length text) && eqb (get_or text 0 0) 48)) begins in
-    rw (parts.0, digits', parts.1, is', le-leb 0 value (omega arith), le-leb value most high) refl
+    rw (lt-ltb 0 (length text) (omega arith), lt-ltb 1 (length text) long, ne_eqb (get_or text 0 0) 48 other, digits', is', le-leb 0 value (omega arith), le-leb value most high) refl
 
 none_unless : (option : Option ℕ) → ((value : ℕ) → option ≡ Some value → ⊥) → option ≡ None
 none_unless None h = refl

@@ -1,8 +1,7 @@
-ghost use Rattle.std.specs.Prelude.{◌≡◌, ℕ, ◌+◌, ◌-◌, ◌*◌, ◌^◌, ◌<◌, ◌≤◌, IfSome, IsTrue, SomeIff};
+ghost use Rattle.std.specs.Prelude.{◌≡◌, ℕ, ◌+◌, ◌-◌, ◌*◌, ◌^◌, ◌<◌, ◌≤◌, length, IfSome, IsTrue, SomeIff};
 ghost use Rattle.std.specs.Char.{is_ascii_digit};
 ghost use Rattle.fx_amounts.specs.Numeral.{numeral};
 ghost use Rattle.fx_text.specs.Number.{number_of};
-ghost use Rattle.fx_text.specs.inside.Number.{begins_a_numeral};
 
 use fx_amounts::{MOST_SHORT, short_numeral};
 
@@ -38,11 +37,12 @@ fn value_of(text: &[u8]) -> Option<u64>
     }
 }
 
-// The same of a text of any length.
+// The same of a text that is longer, so that it is no number where a zero leads it.
 fn long_value(text: &[u8]) -> Option<u64>
+    requires { 19 < length text.now }
     ensures { result ≡ number_of 0 (2 ^ 64 - 1) text.now }
 {
-    if !begins_a_numeral(text) {
+    if text[0] == b'0' {
         return None;
     }
     let mut value = 0u64;
@@ -50,13 +50,6 @@ fn long_value(text: &[u8]) -> Option<u64>
         value = with_digit(value, *byte)?;
     }
     Some(value)
-}
-
-fn begins_a_numeral(text: &[u8]) -> bool
-    ensures { result ≡ begins_a_numeral text.now }
-{
-    let leads_with_zero = text.len() > 1 && text[0] == b'0';
-    !text.is_empty() && !leads_with_zero
 }
 
 // The number with one digit more behind it.

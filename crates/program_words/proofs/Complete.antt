@@ -7,7 +7,7 @@ use Rattle.std.proofs.lemmas.Option.{none-some}
 use Rattle.std.proofs.lemmas.Slice.Eq.{bytes_eq-Decides}
 use Rattle.std.proofs.lemmas.Bool.Decides.{nat_tests}
 use Rattle.fx_text.specs.Number.{number_of}
-use Rattle.fx_text.proofs.NumberLemmas.{number_of-begins_otherwise, number_of-other_byte}
+use Rattle.fx_text.proofs.NumberLemmas.{number_of-no_byte, number_of-other_byte}
 use Rattle.clap.specs.Words.{Row, Text, takes, subcommand_of}
 use Rattle.program_words.specs.inside.Tool.{tool}
 use Rattle.program_words.specs.inside.Printed.{printed, matched_words}
@@ -37,7 +37,7 @@ hyphen : (a : ℕ) → (a == 45) ≡ true → is_ascii_digit a ≡ false
 hyphen a is = grind (arith, nat_tests)
 
 no_hyphen : (least most value : ℕ) (text : Text) → number_of least most text ≡ Some value → IsPlain text
-no_hyphen least most value [] e = absurd (none-some value (sym (number_of-begins_otherwise least most [] refl) ∙ e))
+no_hyphen least most value [] e = absurd (none-some value (sym (number_of-no_byte least most) ∙ e))
 no_hyphen least most value (a ∷ rest) e = elim (cases_Bool (a == 45)) [
   | inl is ↦ absurd (none-some value (sym (number_of-other_byte least most (a ∷ rest) 0 (omega arith) (hyphen a is)) ∙ e))
   | inr other ↦ plain a rest other
