@@ -1,5 +1,5 @@
 -- What the lines of a text have come to, as they are taken one after another.
-use Rattle.std.specs.Prelude.{ℕ, ◌≡◌, ◌+◌, ◌-◌, ◌^◌, min, Bool, List, [], ◌++◌, Option, Some, None}
+use Rattle.std.specs.Prelude.{ℕ, ◌≡◌, ◌-◌, ◌^◌, min, Bool, List, [], ◌++◌, Option, Some, None}
 use Rattle.fx_rules.specs.Lists.{Each}
 use Rattle.fx_rules.specs.Session.{Header}
 use Rattle.fx_text.specs.declared.line.Line.{Line}

@@ -1,6 +1,6 @@
 mod stage;
 
-ghost use Rattle.std.specs.Prelude.{ℕ, ◌≡◌, ◌≢◌, ◌<◌, ◌≤◌, ◌+◌, ◌^◌, ◌++◌, [], List, Ok, Some, None, OnOk, IsTrue, length};
+ghost use Rattle.std.specs.Prelude.{ℕ, ◌≡◌, ◌≢◌, ◌<◌, ◌≤◌, ◌+◌, ◌^◌, ◌++◌, [], List, Ok, Some, None, IfOk, OnOk, IsTrue, length};
 ghost use Rattle.std.specs.Bool.{MatchBool};
 ghost use Rattle.fx_rules.specs.declared.command.Sent.{Sent as SentCommand};
 ghost use Rattle.fx_rules.specs.Session.{Header as SessionHeader};
@@ -63,6 +63,10 @@ impl Intake {
         ensures took { (before : S) (former : List SentCommand) (input : List ℕ) → ReadsOn S.left S.faults before source.old self.old former input → TookRound S.left S.faults before source.new self.new (former ++ sent_at self.old.stage) input result }
         ensures session { (h : SessionHeader) → session_at self.old.stage ≡ Some h → session_at self.new.stage ≡ Some h }
         ensures further { result ≡ Ok None → self.old.taken < self.new.taken }
+
+        // A round takes 65,536 bytes at most, and just as many where the text goes on.
+        ensures few { IfOk result (λ _. self.new.taken ≤ self.old.taken + 65536) }
+        ensures whole { result ≡ Ok None → self.new.taken ≡ self.old.taken + 65536 }
     {
         self.stage.begin_round();
         let end = INPUT_LIMIT.min(self.taken + ROUND);

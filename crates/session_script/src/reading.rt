@@ -1,4 +1,4 @@
-ghost use Rattle.std.specs.Prelude.{◌≡◌, ◌<◌, ◌++◌, Some, None, IsSome, OnOk, OnErr, List};
+ghost use Rattle.std.specs.Prelude.{◌≡◌, ◌<◌, ◌≤◌, ◌+◌, ◌++◌, Some, None, IsSome, OnOk, OnErr, List};
 ghost use Rattle.fx_rules.specs.declared.command.Sent.{Sent as SentCommand};
 ghost use Rattle.fx_rules.specs.Session.{Header as SessionHeader};
 ghost use Rattle.session_script.specs.Stage.{session_at};
@@ -55,6 +55,8 @@ impl Reading {
         requires goes_on { self.old.end ≡ None }
         ensures read { OnOk result ((before : S) (h : SessionHeader) (all : List SentCommand) → HasRead S.left S.faults before source.old self.old h all → HasRead S.left S.faults before source.new self.new h (all ++ sent_at self.new.intake.stage)) }
         ensures further { OnOk result (self.new.end ≡ None → self.old.intake.taken < self.new.intake.taken) }
+        ensures few { OnOk result (self.new.intake.taken ≤ self.old.intake.taken + 65536) }
+        ensures whole { OnOk result (self.new.end ≡ None → self.new.intake.taken ≡ self.old.intake.taken + 65536) }
         ensures session { session_at self.new.intake.stage ≡ session_at self.old.intake.stage }
         ensures goes_on { OnErr result (self.new.end ≡ None) }
         ensures memory { OnErr result ((before : S) (h : SessionHeader) (all : List SentCommand) → HasRead S.left S.faults before source.old self.old h all → TookPromptly S.left S.faults before source.new) }

@@ -39,6 +39,7 @@ loop-self-init g c = record {
   round = λ before former input reads.
       InRound-begun (former ++ sent_at c.args.self.now.stage) _ refl refl reads (c.begin_round.ensures.begun (lines_of input) former reads.stands.stage);
   session = c.begin_round.ensures.session;
+  within = omega (arith, c.min-end.ensures, c.args.self.now.within);
 }
 
 pub returns-in_default-clause-took : goal.returns-in_default-clause-took
@@ -74,9 +75,11 @@ loop-self-preserved g c =
     let feeds : (text : List ℕ) (sent : List Sent) → StandsFor c.loop-self.self text sent → StandsFor c.feed.new.self (text ++ take c.in-Ok.count into) sent =
     subst (λ (bytes : List ℕ). (text : List ℕ) (sent : List Sent) → StandsFor c.loop-self.self text sent → StandsFor c.feed.new.self (text ++ bytes) sent)
     (fed into (drop c.min-room.result c.loop-self.piece) c.in-Ok.count c.in-Ok.ensures.room.0) c.in_ok-feed.ensures.fed in
+    let piece = IsPiece-read into c.loop-self.piece c.in-Ok.count c.min-room.result c.loop-self.self.taken c.min-end.result c.in-Ok.ensures.room.1 c.in-Ok.ensures.room.0 c.read.auto.into c.min-room.ensures c.loop-self-test.true in
     record {
       round = λ before former input reads. InRound-piece (c.loop-self.invariant.round before former input reads) c.in-Ok.ensures.ok feeds c.if-is_settled.ensures;
       session = λ h is. c.in_ok-feed.ensures.session h (c.loop-self.invariant.session h is);
+      within = omega (arith, piece.fits, c.in_ok-feed.ensures.taken, ap length (fed into (drop c.min-room.result c.loop-self.piece) c.in-Ok.count c.in-Ok.ensures.room.0));
     }
 
 pub returns-then-end-eq-INPUT_LIMIT-clause-took : goal.returns-then-end-eq-INPUT_LIMIT-clause-took

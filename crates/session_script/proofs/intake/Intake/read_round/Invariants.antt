@@ -1,4 +1,4 @@
-use Rattle.std.proofs.Common.{◌-◌, ℕ, ◌≡◌, ◌++◌, List, Some}
+use Rattle.std.proofs.Common.{◌-◌, ℕ, ◌≡◌, ◌≤◌, ◌++◌, List, Some}
 use Rattle.fx_rules.specs.declared.command.Sent.{Sent}
 use Rattle.fx_rules.specs.Session.{Header}
 use Rattle.session_script.specs.Stage.{sent_at, session_at}
@@ -12,6 +12,7 @@ invariant-loop-self g l = record {
   round : (before : _) (former : List Sent) (input : List ℕ) → ReadsOn g.S.Source.left g.S.Source.faults before l.fn.source l.fn.self former input
       → InRound g.S.Source.left g.S.Source.faults before l.source l.self (former ++ sent_at l.fn.self.stage) input;
   session : (h : Header) → session_at l.fn.self.stage ≡ Some h → session_at l.self.stage ≡ Some h;
+  within : l.self.taken ≤ l.end;
 }
 
 abbrev pub decreases-loop-self : goal.decreases-loop-self
