@@ -20,7 +20,7 @@ use fx_chronicle::Naming;
 use fx_rules::{Command, Entry, Outcome};
 use pair_shards::Shard;
 use std::alloc::Global;
-use std::sync::{Mutex, Wait};
+use std::sync::{Mutex, RwLockWriteGuard, Wait};
 
 /// A credit change once every pair had its turn. Nothing is made of it yet.
 struct Planned {
@@ -33,9 +33,11 @@ struct Planned {
 }
 
 /// Serves a bank's credit change. All pairs are planned, and all memory is taken, before anything is made; then it is entered into
-/// the history, and each pair signs it and makes its part. After `Memory` the credit book and the pass are as they were, and so
+/// the history, and each pair signs it and makes its part. It is handed the turn, which the caller so has alone: that says the type,
+/// since no clause can. After `Memory` the credit book and the pass are as they were, and so
 /// are the pairs' books.
 pub(crate) fn change_all<R: Wait, N: Naming>(
+    _alone: &RwLockWriteGuard<'_, ()>,
     rt: &R,
     alloc: Global,
     shards: &[Mutex<Shard<N>>],

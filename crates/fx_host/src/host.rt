@@ -9,7 +9,7 @@ ghost use Rattle.pair_steps.specs.Sending.{pair_of};
 ghost use Rattle.credit_table.specs.Table.{is_of_no_pair};
 
 use crate::change::change_all;
-use crate::locks::{lock_pair, lock_soon, tell_all};
+use crate::locks::{lock_pair_in_turn, lock_soon, tell_all};
 use credit_book::SignedBook;
 use fx_amounts::{BankId, Memory, PairId, Units};
 use fx_chronicle::Naming;
@@ -66,8 +66,8 @@ impl<N: Naming> Host<N> {
         ensures submitted { IfOk result (Submitted N.session pass.old.key pass.old.seen (own pass.old.key pass.old.met) command.now pass.new.seen (own pass.new.key pass.new.met)) }
         ensures memory { OnErr result (pass.new ≡ pass.old) }
     {
-        let _turn = self.turn.read(rt);
-        let mut shard = lock_pair(rt, &self.shards, pair);
+        let turn = self.turn.read(rt);
+        let mut shard = lock_pair_in_turn(&turn, rt, &self.shards, pair);
         gate.inside(rt, pair);
         shard.make_room(pass.bank(), command)?;
         let credit = lock_soon(rt, &self.credit);
@@ -90,10 +90,11 @@ impl<N: Naming> Host<N> {
         ensures submitted { IfOk result (Submitted N.session pass.old.key pass.old.seen (own pass.old.key pass.old.met) (Line other asked) pass.new.seen (own pass.new.key pass.new.met)) }
         ensures memory { OnErr result (pass.new ≡ pass.old) }
     {
-        let _alone = self.turn.write(rt);
+        let alone = self.turn.write(rt);
         tell_all(rt, gate, self.shards.len());
         let mut credit = lock_soon(rt, &self.credit);
         change_all(
+            &alone,
             rt,
             self.alloc,
             &self.shards,

@@ -8,7 +8,7 @@ use fx_chronicle::Naming;
 use fx_rules::Gate;
 use pair_shards::Shard;
 use std::hint::spin_loop;
-use std::sync::{Mutex, MutexGuard, Wait};
+use std::sync::{Mutex, MutexGuard, RwLockReadGuard, Wait};
 
 /// How often a lock is looked for before a thread sleeps until it is free. One look takes some hundredths of a microsecond, and a
 /// command has the locks for a few microseconds.
@@ -51,6 +51,20 @@ pub(crate) fn lock_pair<'a, R: Wait, N: Naming>(
         }
     }
     unreachable!()
+}
+
+/// The same for a command in the pair, which shares the turn for as long as it has the shard: so says the type, since no clause can.
+pub(crate) fn lock_pair_in_turn<'a, R: Wait, N: Naming>(
+    _turn: &'a RwLockReadGuard<'_, ()>,
+    rt: &R,
+    shards: &'a [Mutex<Shard<N>>],
+    pair: PairId,
+) -> MutexGuard<'a, Shard<N>>
+    requires within { pair < length shards.now }
+    ensures pair { (mutex_guard_value result).book.pair ≡ pair }
+    ensures key { (mutex_guard_value result).front.key ≡ pair_key pair }
+{
+    lock_pair(rt, shards, pair)
 }
 
 /// Calls the gate's `inside` once for each of so many pairs, in order.

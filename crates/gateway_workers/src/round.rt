@@ -1,4 +1,4 @@
-ghost use Rattle.std.specs.Prelude.{◌≡◌, ◌<◌, ◌≤◌, ◌↔◌, IsTrue, length, All, Any, OnOk, OnErr};
+ghost use Rattle.std.specs.Prelude.{◌≡◌, ◌<◌, ◌≤◌, ◌*◌, ◌-◌, ◌↔◌, IsTrue, length, All, Any, OnOk, OnErr};
 ghost use Rattle.std.specs.List.{AllZip};
 ghost use Rattle.gateway_workers.specs.Lanes.{IsReadyLane, LaneRan, IsDone, IsBehind};
 ghost use Rattle.gateway_workers.specs.inside.Serving.{IsUnderWay, RunsOn, AllRunOn, AllLanesRan};
@@ -54,7 +54,7 @@ fn serve_in_threads<R: Threads + Wait + Sync, D: Desk + Sync, G: Gate + Sync>(
     requires ready { All (IsReadyLane D.session D.bank D.mine) lanes.old }
     ensures { AllLanesRan D.session D.bank D.seen D.mine lanes.old lanes.new }
 {
-    let size = lanes.len().div_ceil(workers as usize);
+    let size = lanes_of_each(lanes.len(), workers);
     thread::for_each_chunk_mut(
         rt,
         lanes,
@@ -63,6 +63,17 @@ fn serve_in_threads<R: Threads + Wait + Sync, D: Desk + Sync, G: Gate + Sync>(
             requires { All (IsReadyLane D.session D.bank D.mine) part.now }
         { serve_all(rt, desk, gate, part) },
     );
+}
+
+/// How many lanes a thread serves, so that at most `workers` threads (1 or more) serve so many lanes, and no fewer than that takes.
+fn lanes_of_each(lanes: usize, workers: u32) -> usize
+    requires lanes { 0 < lanes }
+    requires workers { 1 ≤ workers }
+    ensures some { 0 < result }
+    ensures enough { lanes ≤ result * workers }
+    ensures fewest { (result - 1) * workers < lanes }
+{
+    lanes.div_ceil(workers as usize)
 }
 
 /// Whether commands of some lane are left.
