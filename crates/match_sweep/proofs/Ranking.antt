@@ -1,5 +1,5 @@
 -- The ranks of the heads' prices: the lowest is that of the best price.
-use Rattle.std.proofs.Common.{ℕ, ◌≡◌, ◌++◌, ◌-◌, ◌/◌, ◌≤◌, ◌<◌, ◌^◌, min, false, leb, if◌then◌else◌, List, [], ◌∷◌, length, inl, inr, refl, ap, sym, subst, ◌∙◌, arith, Option, Some, None, IfSome, get_or-set_same, get_or-set_other, slice_index, take}
+use Rattle.std.proofs.Common.{ℕ, ◌≡◌, ◌++◌, ◌-◌, ◌/◌, ◌≤◌, ◌<◌, ◌^◌, min, true, false, leb, if◌then◌else◌, List, [], ◌∷◌, length, inl, inr, refl, ap, sym, subst, ◌∙◌, arith, Option, Some, None, IfSome, get_or-set_same, get_or-set_other, slice_index, take}
 use Rattle.std.proofs.Math.ListN.{set}
 use Rattle.std.proofs.lemmas.Bool.{cases_Bool, cases_eq, lt-leb, ltb-true, ltb-false}
 use Rattle.std.proofs.lemmas.List.{get_or-replicate}
@@ -21,33 +21,29 @@ rank-most taker None rank is = omega (arith, is.is)
 rank-most Buy (Some price) rank is = omega (arith, is.is, is.valid.1)
 rank-most Sell (Some price) rank is = omega (arith, is.is)
 
+-- a better price has a lower rank, and any other none that is lower
+better-below : (taker : Side) (p q x y : ℕ) → IsRank taker (Some p) x → IsRank taker (Some q) y → is_better taker q p ≡ true → y ≤ x
+better-below Buy p q x y first second better = omega (arith, first.is, second.is, ltb-true q p better)
+better-below Sell p q x y first second better = omega (arith, first.is, second.is, ltb-true p q better)
+
+other-above : (taker : Side) (p q x y : ℕ) → IsRank taker (Some p) x → IsRank taker (Some q) y → is_better taker q p ≡ false → x ≤ y
+other-above Buy p q x y first second other = omega (arith, first.is, second.is, ltb-false q p other)
+other-above Sell p q x y first second other = omega (arith, first.is, second.is, ltb-false p q other)
+
 -- the lower of two ranks is that of the better price
 lower : (taker : Side) (a b : Option ℕ) (x y : ℕ) → IsRank taker a x → IsRank taker b y → IsRank taker (better_price taker a b) (min x y)
 lower taker None b x y first second =
     record { valid = second.valid; is = let it : min x y ≡ y = omega (arith, first.is, rank-most taker b y second) in it ∙ second.is }
 lower taker (Some p) None x y first second =
     record { valid = first.valid; is = let it : min x y ≡ x = omega (arith, second.is, rank-most taker (Some p) x first) in it ∙ first.is }
-lower Buy (Some p) (Some q) x y first second =
-    elim (cases_Bool (is_better Buy q p)) [
+lower taker (Some p) (Some q) x y first second =
+    elim (cases_Bool (is_better taker q p)) [
       | inl better ↦
-          let less = ltb-true q p better in
-          subst (λ (o : Option ℕ). IsRank Buy o (min x y)) (sym (ap (λ b. if b then Some q else Some p) better))
-          (record { valid = second.valid; is = omega (arith, first.is, second.is, less) })
+          subst (λ (o : Option ℕ). IsRank taker o (min x y)) (sym (ap (λ b. if b then Some q else Some p) better))
+          (record { valid = second.valid; is = let it : min x y ≡ y = omega (arith, better-below taker p q x y first second better) in it ∙ second.is })
       | inr other ↦
-          let most = ltb-false q p other in
-          subst (λ (o : Option ℕ). IsRank Buy o (min x y)) (sym (ap (λ b. if b then Some q else Some p) other))
-          (record { valid = first.valid; is = omega (arith, first.is, second.is, most) })
-    ]
-lower Sell (Some p) (Some q) x y first second =
-    elim (cases_Bool (is_better Sell q p)) [
-      | inl better ↦
-          let more = ltb-true p q better in
-          subst (λ (o : Option ℕ). IsRank Sell o (min x y)) (sym (ap (λ b. if b then Some q else Some p) better))
-          (record { valid = second.valid; is = omega (arith, first.is, second.is, more) })
-      | inr other ↦
-          let least = ltb-false p q other in
-          subst (λ (o : Option ℕ). IsRank Sell o (min x y)) (sym (ap (λ b. if b then Some q else Some p) other))
-          (record { valid = first.valid; is = omega (arith, first.is, second.is, least) })
+          subst (λ (o : Option ℕ). IsRank taker o (min x y)) (sym (ap (λ b. if b then Some q else Some p) other))
+          (record { valid = first.valid; is = let it : min x y ≡ x = omega (arith, other-above taker p q x y first second other) in it ∙ first.is })
     ]
 
 -- a rank is that of one price alone

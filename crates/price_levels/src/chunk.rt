@@ -76,53 +76,19 @@ impl Chunk {
         }
     }
 
-    /// Whether there is a place at an index, and it does not stand in front of a point.
-    fn is_behind(&self, at: usize, side: Side, cut: &Cut<'_>) -> bool
-        ensures { result ≡ passes (λ other. not (in_front side cut.now other)) (slice_get self.now.places at) }
-    {
-        match self.places.get(at) {
-            Some(place) => !cut.is_passed_by(side, place),
-            None => false,
-        }
-    }
-
-    /// How many places stand in front of a point. Most searches in a row's first chunk end at one of its first two places; in other
-    /// chunks they end anywhere.
-    pub(crate) fn count_passed(&self, side: Side, cut: &Cut<'_>, is_first: bool) -> usize
+    /// How many places stand in front of a point. It looks at them one by one: a chunk is short, and what is read in order comes
+    /// sooner than what a search by halves leaps to.
+    pub(crate) fn count_passed(&self, side: Side, cut: &Cut<'_>) -> usize
         requires { IsSorted side self.now.places }
         ensures within { result ≤ length self.now.places }
         ensures parted { IsPartitionPoint (λ other. in_front side cut.now other ≡ true) (λ other. in_front side cut.now other ≡ false) self.now.places result }
     {
-        if is_first {
-            self.count_from_front(side, cut)
-        } else {
-            self.count_by_halves(side, cut)
+        for (at, place) in self.places.iter().enumerate() {
+            if !cut.is_passed_by(side, place) {
+                return at;
+            }
         }
-    }
-
-    /// The same, with a look at the first two places before the others are searched.
-    fn count_from_front(&self, side: Side, cut: &Cut<'_>) -> usize
-        requires { IsSorted side self.now.places }
-        ensures within { result ≤ length self.now.places }
-        ensures parted { IsPartitionPoint (λ other. in_front side cut.now other ≡ true) (λ other. in_front side cut.now other ≡ false) self.now.places result }
-    {
-        if self.is_behind(0, side, cut) {
-            return 0;
-        }
-        if self.is_behind(1, side, cut) {
-            return 1;
-        }
-        self.count_by_halves(side, cut)
-    }
-
-    /// The same, by a search by halves.
-    fn count_by_halves(&self, side: Side, cut: &Cut<'_>) -> usize
-        requires { IsSorted side self.now.places }
-        ensures within { result ≤ length self.now.places }
-        ensures parted { IsPartitionPoint (λ other. in_front side cut.now other ≡ true) (λ other. in_front side cut.now other ≡ false) self.now.places result }
-    {
-        self.places
-            .partition_point(|other| cut.is_passed_by(side, other))
+        self.places.len()
     }
 
     /// Puts its places that cross `top`, a price of the other side, behind those that `into` has, and answers whether all of them do.

@@ -1,4 +1,4 @@
-ghost use Rattle.std.specs.Prelude.{ℕ, ◌≡◌, ◌+◌, ◌*◌, ◌≤◌, ◌<◌, ◌↔◌, min, true, false, None, [], ◌∷◌, ◌++◌, length, slice_get, OnOk, IfSome, IsTrue};
+ghost use Rattle.std.specs.Prelude.{ℕ, ◌≡◌, ◌+◌, ◌*◌, ◌≤◌, ◌<◌, ◌↔◌, max, min, true, false, None, [], ◌∷◌, ◌++◌, length, slice_get, OnOk, IfSome, IsTrue};
 ghost use Rattle.std.specs.List.{All, insert, remove};
 ghost use Rattle.std.specs.List.Sorted.{IsPartitionPoint};
 ghost use Rattle.price_levels.specs.Ladder.{IsSorted, crossing};
@@ -51,12 +51,13 @@ impl Chunks {
         self.count == 0
     }
 
-    /// Makes room for so many places more, and for some beside them, so that this is seldom done.
+    /// Makes room for so many places more, and where there was not enough, for 16 beside them at most, so that this is seldom done.
     pub(crate) fn reserve(&mut self, places: usize) -> Result<(), Memory>
         requires laid { IsLaidOut self.old }
         ensures laid { IsLaidOut self.new }
         ensures room { OnOk result (self.new.count + places ≤ self.new.most) }
         ensures kept_room { self.old.most ≤ self.new.most }
+        ensures size { OnOk result (self.new.most ≤ max self.old.most (self.old.count + places + 16)) }
         ensures count { self.new.count ≡ self.old.count }
         ensures places { places_of self.new.chunks.items ≡ places_of self.old.chunks.items }
     {
@@ -174,9 +175,8 @@ impl Chunks {
         ensures parted { IsPartitionPoint (λ other. in_front side cut.entry other ≡ true) (λ other. in_front side cut.entry other ≡ false) (places_of self.now.chunks.items) (offset self.now.chunks.items result) }
     {
         let chunk = self.find_chunk(side, &cut);
-        let is_first = chunk == 0;
         let at = match self.chunks.get(chunk) {
-            Some(chunk) => chunk.count_passed(side, &cut, is_first),
+            Some(chunk) => chunk.count_passed(side, &cut),
             None => 0,
         };
         Spot { chunk, at }

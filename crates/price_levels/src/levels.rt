@@ -1,4 +1,4 @@
-ghost use Rattle.std.specs.Prelude.{◌≡◌, ◌≢◌, ◌+◌, ◌≤◌, ◌<◌, ◌↔◌, ◌++◌, [], not, slice_get, Some, IfSome, IfNone, IsTrue, OnOk};
+ghost use Rattle.std.specs.Prelude.{◌≡◌, ◌≢◌, ◌+◌, ◌≤◌, ◌<◌, ◌↔◌, ◌++◌, [], max, not, slice_get, Some, IfSome, IfNone, IsTrue, OnOk};
 ghost use Rattle.std.specs.List.{Contains};
 ghost use Rattle.std.specs.Option.{option_map};
 ghost use Rattle.price_levels.specs.declared.place.Place.{Place};
@@ -57,10 +57,11 @@ impl Levels {
         self.chunks.is_empty()
     }
 
-    /// Makes room for so many places more. At `Memory` there may be none.
+    /// Makes room for so many places more, and where there was not enough, for 16 beside them at most. At `Memory` there may be none.
     pub fn reserve(&mut self, places: usize) -> Result<(), Memory>
         ensures room { OnOk result (places ≤ self.new.room) }
         ensures kept_room { self.old.room ≤ self.new.room }
+        ensures size { OnOk result (self.new.room ≤ max self.old.room (places + 16)) }
         ensures side { self.new.side ≡ self.old.side }
         ensures places { self.new.places ≡ self.old.places }
         ensures sorted { IsSorted self.new.side self.new.places }
