@@ -1,4 +1,5 @@
 pub mod Rows
 pub mod Listing
+mod Fronting
 mod Walking
 mod Wanting

@@ -8,7 +8,7 @@ use Rattle.fx_amounts.specs.Side.{opposite}
 use Rattle.fx_amounts.specs.declared.side.Side.{Side}
 use Rattle.fx_amounts.specs.declared.side.Side.TheVariants.{Buy, Sell}
 use Rattle.price_levels.specs.declared.place.Place.{Place}
-use Rattle.price_levels.specs.Ladder.{Ladder}
+use Rattle.price_levels.specs.Ladder.{IsSorted, Ladder}
 use Rattle.access_index.specs.Sides.{OwnRows, row_of, RowGains, RowLoses, RowGrows}
 use Rattle.access_index.specs.Owned.{no_rows, row_at, AreOwned, KeepsOthers, OwnerGains, OwnerLoses, OwnersGrow}
 use Rattle.access_index.specs.inside.Owned.{AreEmpty}
@@ -30,12 +30,19 @@ set_other owners at bank rows side differ = ap (λ (r : OwnRows). row_of r side)
 pub read_rows : (owners : List OwnRows) (at : ℕ) (rows : OwnRows) (side : Side) → at < length owners → rows ≡ get_or owners at rows → row_of rows side ≡ row_at owners at side
 read_rows owners at rows side within read = ap (λ (r : OwnRows). row_of r side) (read ∙ get_or_default owners at rows no_rows within)
 
-owned_set : (owners : List OwnRows) (at : ℕ) (rows : OwnRows) → AreOwned owners → at < length owners → ((side : Side) → (row_of rows side).side ≡ side) → AreOwned (set owners at rows)
-owned_set owners at rows are within sides = record {
+owned_set : (owners : List OwnRows) (at : ℕ) (rows : OwnRows) → AreOwned owners → at < length owners → ((side : Side) → (row_of rows side).side ≡ side)
+    → ((side : Side) → IsSorted side (row_of rows side).places) → AreOwned (set owners at rows)
+owned_set owners at rows are within sides sorted = record {
   few = omega (arith, length-set owners at rows, are.few);
   sides = λ bank side. elim (cases_eq bank at) [
     | inl same ↦ ap (λ (b : ℕ). (row_at (set owners at rows) b side).side) same ∙ ap (λ (l : Ladder). l.side) (set_here owners at rows side within) ∙ sides side
     | inr differ ↦ ap (λ (l : Ladder). l.side) (set_other owners at bank rows side differ) ∙ are.sides bank side
+  ];
+  sorted = λ bank side. elim (cases_eq bank at) [
+    | inl same ↦
+        subst (λ (b : ℕ). IsSorted side (row_at (set owners at rows) b side).places) (sym same)
+        (subst (λ (l : Ladder). IsSorted side l.places) (sym (set_here owners at rows side within)) (sorted side))
+    | inr differ ↦ subst (λ (l : Ladder). IsSorted side l.places) (sym (set_other owners at bank rows side differ)) (are.sorted bank side)
   ];
 }
 
@@ -78,20 +85,29 @@ sides_kept : (owners : List OwnRows) (at : ℕ) (rows : OwnRows) (side : Side) �
 sides_kept owners at rows side are within read = ap (λ (l : Ladder). l.side) (read_rows owners at rows side within read) ∙ are.sides at side
 
 pub owned_changed : (owners : List OwnRows) (at : ℕ) (side : Side) (rows rows' : OwnRows) → AreOwned owners → at < length owners → rows ≡ get_or owners at rows
-    → (row_of rows' side).side ≡ (row_of rows side).side → row_of rows' (opposite side) ≡ row_of rows (opposite side) → AreOwned (set owners at rows')
-owned_changed owners at side rows rows' are within read stays other =
-    owned_set owners at rows' are within (both (λ one. (row_of rows' one).side ≡ one) side
-    (stays ∙ sides_kept owners at rows side are within read)
+    → (row_of rows' side).side ≡ (row_of rows side).side → row_of rows' (opposite side) ≡ row_of rows (opposite side)
+    → IsSorted (row_of rows' side).side (row_of rows' side).places → AreOwned (set owners at rows')
+owned_changed owners at side rows rows' are within read stays other sorted =
+    let here : (row_of rows' side).side ≡ side = stays ∙ sides_kept owners at rows side are within read in
+    owned_set owners at rows' are within
+    (both (λ one. (row_of rows' one).side ≡ one) side here
     (ap (λ (l : Ladder). l.side) other ∙ sides_kept owners at rows (opposite side) are within read))
+    (both (λ one. IsSorted one (row_of rows' one).places) side
+    (subst (λ (one : Side). IsSorted one (row_of rows' side).places) here sorted)
+    (subst (λ (l : Ladder). IsSorted (opposite side) l.places) (sym (other ∙ read_rows owners at rows (opposite side) within read)) (are.sorted at (opposite side))))
 
 grown_side : (rows rows' : OwnRows) → RowGrows rows.bids rows'.bids → RowGrows rows.asks rows'.asks → (side : Side) → RowGrows (row_of rows side) (row_of rows' side)
 grown_side rows rows' bids asks Buy = bids
 grown_side rows rows' bids asks Sell = asks
 
+pub grown_places : (rows rows' : OwnRows) → RowGrows rows.bids rows'.bids → RowGrows rows.asks rows'.asks → (side : Side) → (row_of rows' side).places ≡ (row_of rows side).places
+grown_places rows rows' bids asks side = (grown_side rows rows' bids asks side).places
+
 pub owned_grown : (owners : List OwnRows) (at : ℕ) (rows rows' : OwnRows) → AreOwned owners → at < length owners → rows ≡ get_or owners at rows
     → RowGrows rows.bids rows'.bids → RowGrows rows.asks rows'.asks → AreOwned (set owners at rows')
 owned_grown owners at rows rows' are within read bids asks =
     owned_set owners at rows' are within (λ side. (grown_side rows rows' bids asks side).side ∙ sides_kept owners at rows side are within read)
+    (λ side. subst (IsSorted side) (sym ((grown_side rows rows' bids asks side).places ∙ ap (λ (l : Ladder). l.places) (read_rows owners at rows side within read))) (are.sorted at side))
 
 pub owners_grown : (owners : List OwnRows) (at : ℕ) (rows rows' : OwnRows) → at < length owners → rows ≡ get_or owners at rows
     → RowGrows rows.bids rows'.bids → RowGrows rows.asks rows'.asks → OwnersGrow owners (set owners at rows')
@@ -133,7 +149,7 @@ bank_within owners bank side place there =
     ]
 
 -- rows without places
-empty_side : (rows : OwnRows) → AreEmpty rows → (side : Side) → ((row_of rows side).side ≡ side) × ((row_of rows side).places ≡ [])
+pub empty_side : (rows : OwnRows) → AreEmpty rows → (side : Side) → ((row_of rows side).side ≡ side) × ((row_of rows side).places ≡ [])
 empty_side rows are Buy = (are.bids, are.no_bids)
 empty_side rows are Sell = (are.asks, are.no_asks)
 

@@ -6,7 +6,7 @@ use Rattle.fx_amounts.specs.Side.{opposite}
 use Rattle.fx_amounts.specs.declared.side.Side.{Side}
 use Rattle.fx_amounts.specs.declared.side.Side.TheVariants.{Buy, Sell}
 use Rattle.price_levels.specs.declared.place.Place.{Place}
-use Rattle.price_levels.specs.Ladder.{Ladder, sorts_before}
+use Rattle.price_levels.specs.Ladder.{IsSorted, Ladder, sorts_before}
 use Rattle.access_index.specs.Sides.{OwnRows, row_of, RowGains, RowLoses, RowGrows}
 
 -- no rows
@@ -17,10 +17,11 @@ no_rows = record { bids = record { side = Buy; places = []; room = 0 }; asks = r
 abbrev pub row_at : List OwnRows → ℕ → Side → Ladder
 row_at owners bank side = row_of (slice_index_or owners bank no_rows) side
 
--- the rows are those of their sides, of 64 banks at most
+-- the rows are those of their sides, of 64 banks at most, each with its places in order
 pub record AreOwned (owners : List OwnRows) : Type 0 where
   pub few : length owners ≤ 64
   pub sides : (bank : ℕ) (side : Side) → (row_at owners bank side).side ≡ side
+  pub sorted : (bank : ℕ) (side : Side) → IsSorted side (row_at owners bank side).places
 
 -- all rows but those of one bank, and its row of the other side, are as they were
 pub record KeepsOthers (old new : List OwnRows) (bank : ℕ) (side : Side) : Type 0 where

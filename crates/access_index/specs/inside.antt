@@ -1,3 +1,4 @@
 pub mod Listed
 pub mod Owned
 pub mod Search
+pub mod Fronts

@@ -1,6 +1,7 @@
 //! The places of each owner's resting orders in one pair, and the best one that can be reached among all owners.
 #![tactic(auto)]
 
+mod fronts;
 mod owners;
 mod search;
 mod sides;

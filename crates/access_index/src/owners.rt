@@ -1,14 +1,17 @@
-ghost use Rattle.std.specs.Prelude.{◌≡◌, ◌≢◌, ◌+◌, ◌≤◌, ◌<◌, ◌==◌, ◌++◌, ℕ, min, None, [], length, not, nat_lt, slice_get, vec_len, vec_capacity, OnOk, IfOk, IfSome};
+ghost use Rattle.std.specs.Prelude.{◌≡◌, ◌≢◌, ◌+◌, ◌≤◌, ◌<◌, ◌==◌, ◌++◌, ℕ, min, true, false, None, [], length, not, nat_lt, slice_get, vec_len, vec_capacity, OnOk, IfOk, IfSome};
 ghost use Rattle.std.specs.List.{All, Contains, filter};
 ghost use Rattle.std.specs.List.Sorted.{IsPartitionedBy};
 ghost use Rattle.std.specs.Option.{option_copied, option_map};
 ghost use Rattle.fx_amounts.specs.declared.side.Side.{Side as OneSide};
-ghost use Rattle.price_levels.specs.Ladder.{IsFirstOf, IsNewArrival, IsSorted, crossing};
+ghost use Rattle.fx_amounts.specs.Price.{crosses};
+ghost use Rattle.price_levels.specs.declared.place.Place.{Place};
+ghost use Rattle.price_levels.specs.Ladder.{IsFirstOf, IsNewArrival, crossing};
 ghost use Rattle.access_index.specs.Listed.{listed};
 ghost use Rattle.access_index.specs.inside.Listed.{with_bank};
 ghost use Rattle.access_index.specs.Owned.{AreInTime, AreOwned, OwnerGains, OwnerLoses, OwnersGrow, is_ahead, row_at, stands_behind};
 ghost use Rattle.access_index.specs.inside.Owned.{AreEmpty};
 
+use crate::fronts::{Fronts, any_crosses};
 use crate::search::{first_in_time, first_place_behind};
 use crate::sides::Sides;
 use fx_amounts::{BankId, Memory, Price, Side};
@@ -23,18 +26,19 @@ pub struct Owners {
     rows: Vec<Sides>,
     /// The banks that have a place, from the lowest number on. There is room for all.
     listed: Vec<BankId>,
+    fronts: Fronts,
 }
 
 impl Model for Owners {
     ghost use Rattle.std.specs.Prelude.{List, vec_capacity};
     ghost use Rattle.access_index.specs.Sides.{OwnRows};
-    ghost use Rattle.access_index.specs.inside.Listed.{IsIndex};
+    ghost use Rattle.access_index.specs.inside.Fronts.{AreIndexed};
 
     ghost Value = { List OwnRows };
 
     ghost view = { λ o. o.rows.items };
 
-    ghost invariant = { λ o. IsIndex o.rows.items o.listed.items (vec_capacity o.listed) };
+    ghost invariant = { λ o. AreIndexed o.rows.items o.listed.items (vec_capacity o.listed) o.fronts };
 }
 
 impl Owners {
@@ -46,9 +50,14 @@ impl Owners {
     {
         let count = banks.min(BankId::COUNT);
         let rows = empty_rows(alloc, count)?;
+        let fronts = Fronts::none(alloc, count)?;
         let mut listed = Vec::new(alloc);
         listed.reserve_exact(count)?;
-        Ok(Owners { rows, listed })
+        Ok(Owners {
+            rows,
+            listed,
+            fronts,
+        })
     }
 
     /// Makes room for one place of a bank and a side. At `Memory` there may be none.
@@ -73,6 +82,8 @@ impl Owners {
         let rows = &mut self.rows[bank.index()];
         let is_listed = rows.has_places();
         rows.insert(side, place);
+        let front = rows.front_price(side);
+        self.fronts.set(bank, side, front);
         if !is_listed {
             list(&mut self.listed, bank);
         }
@@ -86,6 +97,8 @@ impl Owners {
     {
         let rows = &mut self.rows[bank.index()];
         rows.remove(side, place);
+        let front = rows.front_price(side);
+        self.fronts.set(bank, side, front);
         if !rows.has_places() {
             unlist(&mut self.listed, bank);
         }
@@ -120,13 +133,19 @@ impl Owners {
     /// counts no step.
     pub fn front_price(&self, bank: BankId, side: Side) -> Option<Price>
         ensures price { result ≡ option_map (λ place. place.price) (slice_get (row_at self.now bank side).places 0) }
-        ensures sorted { IsSorted side (row_at self.now bank side).places }
         ensures valid { AreOwned self.now }
     {
-        if bank.index() >= self.rows.len() {
-            return None;
-        }
-        self.rows[bank.index()].of(side).front_price()
+        let front = self.fronts.of(side).get(bank.index())?;
+        *front
+    }
+
+    /// Whether a bank has a place of a side whose price crosses `price`, one of the other side. It counts no step.
+    pub fn any_crosses(&self, side: Side, price: Price) -> bool
+        ensures none { result ≡ false → (bank : ℕ) (place : Place) → Contains (row_at self.now bank side).places place → crosses side place.price price ≡ false }
+        ensures some { result ≡ true → (bank : ℕ) × (place : Place) × Contains (row_at self.now bank side).places place × (crosses side place.price price ≡ true) }
+        ensures valid { AreOwned self.now }
+    {
+        any_crosses(self.fronts.of(side), side, price)
     }
 
     /// Puts the places of a bank and a side that cross `top`, a price of the other side, behind those that `into` has. It counts
@@ -139,7 +158,6 @@ impl Owners {
         into: &mut Vec<Place>,
     ) -> Result<(), Memory>
         ensures places { OnOk result (into.new.items ≡ into.old.items ++ crossing side top (row_at self.now bank side).places) }
-        ensures sorted { IsSorted side (row_at self.now bank side).places }
         ensures valid { AreOwned self.now }
     {
         if bank.index() >= self.rows.len() {

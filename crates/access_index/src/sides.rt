@@ -2,11 +2,12 @@ ghost use Rattle.std.specs.Prelude.{◌≡◌, ◌≤◌, [], OnOk};
 ghost use Rattle.std.specs.List.{Contains};
 ghost use Rattle.fx_amounts.specs.Side.{opposite};
 ghost use Rattle.fx_amounts.specs.declared.side.Side.TheVariants.{Buy, Sell};
-ghost use Rattle.price_levels.specs.Ladder.{IsNewArrival};
+ghost use Rattle.price_levels.specs.Ladder.{IsNewArrival, IsSorted};
 ghost use Rattle.access_index.specs.Listed.{has_places};
+ghost use Rattle.access_index.specs.inside.Fronts.{front_price};
 ghost use Rattle.access_index.specs.Sides.{RowGains, RowLoses, RowGrows, row_of};
 
-use fx_amounts::{Memory, Side};
+use fx_amounts::{Memory, Price, Side};
 use price_levels::{Levels, Place};
 use std::alloc::Global;
 use std::marker::Model;
@@ -57,6 +58,7 @@ impl Sides {
         requires room { 1 ≤ (row_of self.old side).room }
         requires absent { IsNewArrival place.arrival (row_of self.old side).places }
         ensures gains { RowGains (row_of self.old side) (row_of self.new side) place }
+        ensures sorted { IsSorted (row_of self.new side).side (row_of self.new side).places }
         ensures other { row_of self.new (opposite side) ≡ row_of self.old (opposite side) }
     {
         match side {
@@ -69,6 +71,7 @@ impl Sides {
     pub(crate) fn remove(&mut self, side: Side, place: &Place)
         requires there { Contains (row_of self.old side).places place.now }
         ensures loses { RowLoses (row_of self.old side) (row_of self.new side) place.now }
+        ensures sorted { IsSorted (row_of self.new side).side (row_of self.new side).places }
         ensures other { row_of self.new (opposite side) ≡ row_of self.old (opposite side) }
     {
         match side {
@@ -82,6 +85,13 @@ impl Sides {
         ensures { result ≡ has_places self.now }
     {
         !self.bids.is_empty() || !self.asks.is_empty()
+    }
+
+    /// The price of the first place of a side; `None` where there is none.
+    pub(crate) fn front_price(&self, side: Side) -> Option<Price>
+        ensures { result ≡ front_price (row_of self.now side).places }
+    {
+        self.of(side).front_price()
     }
 
     /// The row of a side.

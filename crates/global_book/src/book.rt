@@ -2,7 +2,7 @@ ghost use Rattle.std.specs.Prelude.{◌≡◌, ◌+◌, ◌≤◌, ◌<◌, ◌^
 ghost use Rattle.std.specs.Option.{option_copied, option_map};
 ghost use Rattle.fx_amounts.specs.Price.{crosses};
 ghost use Rattle.fx_amounts.specs.Side.{opposite};
-ghost use Rattle.fx_rules.specs.Lists.{Each};
+ghost use Rattle.fx_rules.specs.Lists.{Among, Each};
 ghost use Rattle.fx_rules.specs.declared.orders.Resting.{Resting};
 ghost use Rattle.access_index.specs.Sides.{OwnRows};
 ghost use Rattle.order_store.specs.Orders.{order_at};
@@ -376,6 +376,15 @@ impl PairBook {
         orders.reserve(places.len())?;
         push_orders(&self.orders, &places, orders);
         Ok(())
+    }
+
+    /// Whether an order of a side crosses `price`, one of the other side. It reads no order and counts no step.
+    pub fn any_crosses(&self, side: Side, price: Price) -> bool
+        ensures none { result ≡ false → Each (λ order. order.side ≡ side → crosses side order.price price ≡ false) self.now.orders }
+        ensures some { result ≡ true → (order : Resting) × Among order self.now.orders × (order.side ≡ side) × (crosses side order.price price ≡ true) }
+        ensures valid { IsBook self.now }
+    {
+        self.rows.any_crosses(side, price)
     }
 
     /// The best price at which a bank has orders of a side; `None` where it has none. It reads no order and counts no step.

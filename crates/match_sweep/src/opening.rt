@@ -37,6 +37,9 @@ pub(crate) fn find_opening<L: Ledger>(
     ensures opening { OpensAt book.now lines.now weight order.now owners.now result }
     ensures steps { CameBefore book.now.orders order.now.arrival → steps.new ≤ steps.old + length owners.now }
 {
+    if !book.any_crosses(order.side.opposite(), order.price) {
+        return None;
+    }
     let prices = TakenPrices::of(order);
     let mut first = None;
     let mut opens = [false; 64];

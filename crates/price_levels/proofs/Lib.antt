@@ -4,5 +4,5 @@ mod Fronting
 mod Edits
 mod Chunking
 mod Parting
-mod Crossing
+pub mod Crossing
 mod Laying

@@ -3,11 +3,15 @@ use Rattle.std.proofs.Common.{ℕ, List, Bool, false, true, get_or, refl, replic
 use Rattle.std.proofs.Math.ListN.{set, length-set}
 use Rattle.std.proofs.lemmas.Bool.{both_ways}
 use Rattle.std.proofs.lemmas.List.{take_all, take_more}
+use Rattle.fx_amounts.specs.Price.{crosses}
+use Rattle.fx_amounts.specs.declared.side.Side.{Side}
+use Rattle.fx_rules.specs.Lists.{Each}
 use Rattle.fx_rules.specs.declared.orders.Resting.{Resting}
 use Rattle.fx_rules.specs.Sweep.{Taker}
 use Rattle.match_sweep.specs.declared.opening.Opening.{Opening}
 use Rattle.match_sweep.specs.inside.Heads.{OpensAt, better_head, opening_of}
 use Rattle.match_sweep.proofs.Beginning.{NotOwn, marked-apart, opened_past, opened_with}
+use Rattle.match_sweep.proofs.Finding.{none-dear}
 use Rattle.match_sweep.proofs.Stepping.{owner_within}
 use Rattle.match_sweep.proofs.Tables.{replicate-at}
 use Rattle.match_sweep.proofs.opening.find_opening.Goals as goal
@@ -76,3 +80,10 @@ returns-in_err-first-clause-opening g c =
     (subst (λ (banks : List ℕ). OpensAt c.args.book.now c.args.lines.now c.args.weight t banks None) (take_all c.loop-owner.owner-index owners c.loop-owner-test.false)
     (subst (λ (f : Option Resting). OpensAt c.args.book.now c.args.lines.now c.args.weight t (take c.loop-owner.owner-index owners) (opening_of f c.loop-owner.opens)) c.in_err-first.was
     c.loop-owner.invariant.opening))
+
+pub returns-then-not-any_crosses-clause-opening : goal.returns-then-not-any_crosses-clause-opening
+returns-then-not-any_crosses-clause-opening g c bank there differ some =
+    let t : Taker = c.args.order.now in
+    none-dear c.args.book.now.orders t bank
+    (subst (λ (s : Side). Each (λ o. o.side ≡ s → crosses s o.price t.price ≡ false) c.args.book.now.orders) c.opposite.ensures
+    (c.any_crosses.ensures.none c.if-not-any_crosses.true))

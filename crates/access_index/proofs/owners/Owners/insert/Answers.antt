@@ -4,6 +4,7 @@ use Rattle.price_levels.specs.Ladder.{Ladder, IsNewArrival}
 use Rattle.access_index.specs.Sides.{OwnRows, row_of}
 use Rattle.access_index.specs.Owned.{OwnerGains, row_at}
 use Rattle.access_index.proofs.Rows.{owned_changed, owner_gained, read_rows}
+use Rattle.access_index.proofs.Fronting.{fronts_changed}
 use Rattle.access_index.proofs.Listing.{gained_has, index_gained, index_parted, index_same, read_has, room_to_list}
 use Rattle.access_index.proofs.owners.Owners.insert.Goals as goal
 
@@ -24,8 +25,8 @@ returns-then-not-is_listed-clause-gains c =
 pub returns-then-not-is_listed-clause-valid : goal.returns-then-not-is_listed-clause-valid
 returns-then-not-is_listed-clause-valid c =
     let within : c.index.result < length c.self.inside.rows.items = omega (arith, c.requires.bank, c.index.ensures.value, ap length c.self.view_is) in
-    owned_changed c.self.inside.rows.items c.index.result c.args.side c.index_mut-rows.result.now c.insert.new.self c.self.invariant.owned within c.index_mut-rows.ensures.value
-    c.insert.ensures.gains.side c.insert.ensures.other
+    owned_changed c.self.inside.rows.items c.index.result c.args.side c.index_mut-rows.result.now c.insert.new.self c.self.invariant.index.owned within c.index_mut-rows.ensures.value
+    c.insert.ensures.gains.side c.insert.ensures.other c.insert.ensures.sorted
 
 pub returns-else-not-is_listed-clause-gains : goal.returns-else-not-is_listed-clause-gains
 returns-else-not-is_listed-clause-gains c =
@@ -37,34 +38,44 @@ returns-else-not-is_listed-clause-gains c =
 pub returns-else-not-is_listed-clause-valid : goal.returns-else-not-is_listed-clause-valid
 returns-else-not-is_listed-clause-valid c =
     let within : c.index.result < length c.self.inside.rows.items = omega (arith, c.requires.bank, c.index.ensures.value, ap length c.self.view_is) in
-    owned_changed c.self.inside.rows.items c.index.result c.args.side c.index_mut-rows.result.now c.insert.new.self c.self.invariant.owned within c.index_mut-rows.ensures.value
-    c.insert.ensures.gains.side c.insert.ensures.other
+    owned_changed c.self.inside.rows.items c.index.result c.args.side c.index_mut-rows.result.now c.insert.new.self c.self.invariant.index.owned within c.index_mut-rows.ensures.value
+    c.insert.ensures.gains.side c.insert.ensures.other c.insert.ensures.sorted
 
 pub list-requires-clause-room : goal.list-requires-clause-room
 list-requires-clause-room c =
     let within : c.index.result < length c.self.inside.rows.items = omega (arith, c.requires.bank, c.index.ensures.value, ap length c.self.view_is) in
-    let room = room_to_list c.self.inside.rows.items c.self.inside.listed.items (vec_capacity c.self.inside.listed) c.index.result c.args.bank c.insert.new.self c.self.invariant c.index.ensures.value within
+    let room = room_to_list c.self.inside.rows.items c.self.inside.listed.items (vec_capacity c.self.inside.listed) c.index.result c.args.bank c.insert.new.self c.self.invariant.index c.index.ensures.value within
     (sym (read_has c.self.inside.rows.items c.index.result c.index_mut-rows.result.now within c.index_mut-rows.ensures.value) ∙ sym c.has_places-is_listed.ensures ∙ c.if-not-is_listed.true)
     (gained_has c.index_mut-rows.result.now c.insert.new.self c.args.side c.args.place c.insert.ensures.gains) in
     omega (arith, room)
 
 pub list-requires-clause-in_order : goal.list-requires-clause-in_order
-list-requires-clause-in_order c = index_parted c.self.inside.rows.items c.self.inside.listed.items _ c.args.bank c.self.invariant
+list-requires-clause-in_order c = index_parted c.self.inside.rows.items c.self.inside.listed.items _ c.args.bank c.self.invariant.index
 
 pub invariant_of-self : goal.invariant_of-self
 invariant_of-self c =
     let within : c.index.result < length c.self.inside.rows.items = omega (arith, c.requires.bank, c.index.ensures.value, ap length c.self.view_is) in
-    index_gained c.self.inside.rows.items c.self.inside.listed.items c.list.new.banks.items _ _ c.index.result c.args.bank c.insert.new.self c.self.invariant
-    (returns-then-not-is_listed-clause-valid c) c.index.ensures.value within
-    (sym (read_has c.self.inside.rows.items c.index.result c.index_mut-rows.result.now within c.index_mut-rows.ensures.value) ∙ sym c.has_places-is_listed.ensures ∙ c.if-not-is_listed.true)
-    (gained_has c.index_mut-rows.result.now c.insert.new.self c.args.side c.args.place c.insert.ensures.gains)
-    c.list.ensures.banks c.list.ensures.room
+    record {
+      index =
+          index_gained c.self.inside.rows.items c.self.inside.listed.items c.list.new.banks.items _ _ c.index.result c.args.bank c.insert.new.self c.self.invariant.index
+          (returns-then-not-is_listed-clause-valid c) c.index.ensures.value within
+          (sym (read_has c.self.inside.rows.items c.index.result c.index_mut-rows.result.now within c.index_mut-rows.ensures.value) ∙ sym c.has_places-is_listed.ensures ∙ c.if-not-is_listed.true)
+          (gained_has c.index_mut-rows.result.now c.insert.new.self c.args.side c.args.place c.insert.ensures.gains)
+          c.list.ensures.banks c.list.ensures.room;
+      fronts = fronts_changed c.self.inside.rows.items c.self.inside.fronts c.set.new.self c.index.result c.args.bank c.args.side c.index_mut-rows.result.now c.insert.new.self c.front_price-front.result
+          c.self.invariant.fronts c.index.ensures.value c.index_mut-rows.ensures.value c.insert.ensures.other c.front_price-front.ensures c.set.ensures.set c.set.ensures.other;
+    }
 
 pub invariant_of-self-else-not-is_listed : goal.invariant_of-self-else-not-is_listed
 invariant_of-self-else-not-is_listed c =
     let within : c.index.result < length c.self.inside.rows.items = omega (arith, c.requires.bank, c.index.ensures.value, ap length c.self.view_is) in
-    index_same c.self.inside.rows.items c.self.inside.listed.items _ c.index.result c.insert.new.self c.self.invariant
-    (returns-else-not-is_listed-clause-valid c) within
-    (gained_has c.index_mut-rows.result.now c.insert.new.self c.args.side c.args.place c.insert.ensures.gains
-    ∙ sym c.if-not-is_listed.false ∙ c.has_places-is_listed.ensures
-    ∙ read_has c.self.inside.rows.items c.index.result c.index_mut-rows.result.now within c.index_mut-rows.ensures.value)
+    record {
+      index =
+          index_same c.self.inside.rows.items c.self.inside.listed.items _ c.index.result c.insert.new.self c.self.invariant.index
+          (returns-else-not-is_listed-clause-valid c) within
+          (gained_has c.index_mut-rows.result.now c.insert.new.self c.args.side c.args.place c.insert.ensures.gains
+          ∙ sym c.if-not-is_listed.false ∙ c.has_places-is_listed.ensures
+          ∙ read_has c.self.inside.rows.items c.index.result c.index_mut-rows.result.now within c.index_mut-rows.ensures.value);
+      fronts = fronts_changed c.self.inside.rows.items c.self.inside.fronts c.set.new.self c.index.result c.args.bank c.args.side c.index_mut-rows.result.now c.insert.new.self c.front_price-front.result
+          c.self.invariant.fronts c.index.ensures.value c.index_mut-rows.ensures.value c.insert.ensures.other c.front_price-front.ensures c.set.ensures.set c.set.ensures.other;
+    }

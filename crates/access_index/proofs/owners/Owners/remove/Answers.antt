@@ -6,6 +6,7 @@ use Rattle.price_levels.specs.Ladder.{Ladder}
 use Rattle.access_index.specs.Sides.{OwnRows, row_of}
 use Rattle.access_index.specs.Owned.{OwnerLoses, row_at}
 use Rattle.access_index.proofs.Rows.{bank_within, owned_changed, owner_lost, read_rows}
+use Rattle.access_index.proofs.Fronting.{fronts_changed}
 use Rattle.access_index.proofs.Listing.{contains_has, index_lost, index_same, read_has}
 use Rattle.access_index.proofs.owners.Owners.remove.Goals as goal
 
@@ -36,8 +37,8 @@ pub returns-then-not-has_places-clause-valid : goal.returns-then-not-has_places-
 returns-then-not-has_places-clause-valid c =
     let there = bank_within c.args.self.now c.args.bank c.args.side c.args.place.now c.requires.there in
     let within : c.index.result < length c.self.inside.rows.items = omega (arith, there, c.index.ensures.value, ap length c.self.view_is) in
-    owned_changed c.self.inside.rows.items c.index.result c.args.side c.index_mut-rows.result.now c.remove.new.self c.self.invariant.owned within c.index_mut-rows.ensures.value
-    c.remove.ensures.loses.side c.remove.ensures.other
+    owned_changed c.self.inside.rows.items c.index.result c.args.side c.index_mut-rows.result.now c.remove.new.self c.self.invariant.index.owned within c.index_mut-rows.ensures.value
+    c.remove.ensures.loses.side c.remove.ensures.other c.remove.ensures.sorted
 
 pub returns-else-not-has_places-clause-loses : goal.returns-else-not-has_places-clause-loses
 returns-else-not-has_places-clause-loses c =
@@ -51,25 +52,35 @@ pub returns-else-not-has_places-clause-valid : goal.returns-else-not-has_places-
 returns-else-not-has_places-clause-valid c =
     let there = bank_within c.args.self.now c.args.bank c.args.side c.args.place.now c.requires.there in
     let within : c.index.result < length c.self.inside.rows.items = omega (arith, there, c.index.ensures.value, ap length c.self.view_is) in
-    owned_changed c.self.inside.rows.items c.index.result c.args.side c.index_mut-rows.result.now c.remove.new.self c.self.invariant.owned within c.index_mut-rows.ensures.value
-    c.remove.ensures.loses.side c.remove.ensures.other
+    owned_changed c.self.inside.rows.items c.index.result c.args.side c.index_mut-rows.result.now c.remove.new.self c.self.invariant.index.owned within c.index_mut-rows.ensures.value
+    c.remove.ensures.loses.side c.remove.ensures.other c.remove.ensures.sorted
 
 pub invariant_of-self : goal.invariant_of-self
 invariant_of-self c =
     let there = bank_within c.args.self.now c.args.bank c.args.side c.args.place.now c.requires.there in
     let within : c.index.result < length c.self.inside.rows.items = omega (arith, there, c.index.ensures.value, ap length c.self.view_is) in
-    index_lost c.self.inside.rows.items c.self.inside.listed.items c.unlist.new.banks.items _ _ c.index.result c.args.bank c.remove.new.self c.self.invariant
-    (returns-then-not-has_places-clause-valid c) c.index.ensures.value within (sym c.has_places.ensures ∙ c.if-not-has_places.true)
-    c.unlist.ensures.banks c.unlist.ensures.room
+    record {
+      index =
+          index_lost c.self.inside.rows.items c.self.inside.listed.items c.unlist.new.banks.items _ _ c.index.result c.args.bank c.remove.new.self c.self.invariant.index
+          (returns-then-not-has_places-clause-valid c) c.index.ensures.value within (sym c.has_places.ensures ∙ c.if-not-has_places.true)
+          c.unlist.ensures.banks c.unlist.ensures.room;
+      fronts = fronts_changed c.self.inside.rows.items c.self.inside.fronts c.set.new.self c.index.result c.args.bank c.args.side c.index_mut-rows.result.now c.remove.new.self c.front_price-front.result
+          c.self.invariant.fronts c.index.ensures.value c.index_mut-rows.ensures.value c.remove.ensures.other c.front_price-front.ensures c.set.ensures.set c.set.ensures.other;
+    }
 
 pub invariant_of-self-else-not-has_places : goal.invariant_of-self-else-not-has_places
 invariant_of-self-else-not-has_places c =
     let there = bank_within c.args.self.now c.args.bank c.args.side c.args.place.now c.requires.there in
     let within : c.index.result < length c.self.inside.rows.items = omega (arith, there, c.index.ensures.value, ap length c.self.view_is) in
-    index_same c.self.inside.rows.items c.self.inside.listed.items _ c.index.result c.remove.new.self c.self.invariant
-    (returns-else-not-has_places-clause-valid c) within
-    (sym c.has_places.ensures ∙ c.if-not-has_places.false
-    ∙ sym (contains_has c.index_mut-rows.result.now c.args.side c.args.place.now
-    (there_read c.self.inside.rows.items c.args.self.now c.index.result c.args.bank c.args.side c.args.place.now c.index_mut-rows.result.now within
-    c.index_mut-rows.ensures.value c.index.ensures.value c.self.view_is c.requires.there))
-    ∙ read_has c.self.inside.rows.items c.index.result c.index_mut-rows.result.now within c.index_mut-rows.ensures.value)
+    record {
+      index =
+          index_same c.self.inside.rows.items c.self.inside.listed.items _ c.index.result c.remove.new.self c.self.invariant.index
+          (returns-else-not-has_places-clause-valid c) within
+          (sym c.has_places.ensures ∙ c.if-not-has_places.false
+          ∙ sym (contains_has c.index_mut-rows.result.now c.args.side c.args.place.now
+          (there_read c.self.inside.rows.items c.args.self.now c.index.result c.args.bank c.args.side c.args.place.now c.index_mut-rows.result.now within
+          c.index_mut-rows.ensures.value c.index.ensures.value c.self.view_is c.requires.there))
+          ∙ read_has c.self.inside.rows.items c.index.result c.index_mut-rows.result.now within c.index_mut-rows.ensures.value);
+      fronts = fronts_changed c.self.inside.rows.items c.self.inside.fronts c.set.new.self c.index.result c.args.bank c.args.side c.index_mut-rows.result.now c.remove.new.self c.front_price-front.result
+          c.self.invariant.fronts c.index.ensures.value c.index_mut-rows.ensures.value c.remove.ensures.other c.front_price-front.ensures c.set.ensures.set c.set.ensures.other;
+    }

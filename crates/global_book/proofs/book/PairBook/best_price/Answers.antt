@@ -12,7 +12,7 @@ returns-clause-price g =
     subst (IsPriceOf (opposite g.args.side) g.args.bank None g.args.self.now.orders) (sym g.front_price.ensures.price)
     (price_of_found g.self.inside.banks g.self.inside.orders g.self.inside.rows g.self.invariant.kept g.args.bank g.args.side None
     (slice_get (row_at g.self.inside.rows g.args.bank g.args.side).places 0) g.args.self.now.orders
-    (front_of_all g.args.side (row_at g.self.inside.rows g.args.bank g.args.side).places g.front_price.ensures.sorted)
+    (front_of_all g.args.side (row_at g.self.inside.rows g.args.bank g.args.side).places (g.front_price.ensures.valid.sorted g.args.bank g.args.side))
     (ap (λ (b : Book). b.orders) g.self.view_is))
 
 pub returns-clause-valid : goal.returns-clause-valid

@@ -36,7 +36,7 @@ returns-clause-gathered c =
       found,
       c.push_orders.ensures.orders ∙ ap (λ (xs : List Place). c.reserve.new.self.items ++ orders_at c.self.inside.orders xs) places ∙ ap (λ (xs : List Resting). xs ++ found) c.reserve.ensures.items,
       gathered c.self.inside.banks c.self.inside.orders c.self.inside.rows c.self.invariant.kept c.args.bank c.args.side c.args.top c.args.self.now.orders
-          (ap (λ (b : Book). b.orders) c.self.view_is) book.rising c.gather_crossing.ensures.sorted,
+          (ap (λ (b : Book). b.orders) c.self.view_is) book.rising (c.gather_crossing.ensures.valid.sorted c.args.bank c.args.side),
     )
 
 pub returns-clause-valid : goal.returns-clause-valid
