@@ -1,9 +1,10 @@
-ghost use Rattle.std.specs.Prelude.{ℕ, ◌≡◌, ◌≢◌, ◌≤◌, ◌<◌, ◌+◌, ◌-◌, ◌^◌, IfOk, OnOk, length};
+ghost use Rattle.std.specs.Prelude.{ℕ, ◌≡◌, ◌≢◌, ◌≤◌, ◌<◌, ◌+◌, ◌-◌, ◌*◌, ◌/◌, ◌^◌, IfOk, OnOk, length};
 ghost use Rattle.fx_amounts.specs.Quantity.{IsLots, IsUnits};
 ghost use Rattle.fx_rules.specs.Lists.{Each};
 ghost use Rattle.fx_rules.specs.Session.{Header, bank_count, pair_count};
 ghost use Rattle.fx_rules.specs.Step.{IsCommand};
 ghost use Rattle.fx_rules.specs.Sending.{IsSentOf};
+ghost use Rattle.made_session.specs.Session.{made_header};
 
 use crate::draws::Draws;
 use fx_amounts::{BankId, Lots, Memory, PairId, Price, Side, Units};
@@ -22,7 +23,9 @@ pub fn trial_day(
 ) -> Result<(Session, Vec<Sent>), Memory>
     requires banks { (2 ≤ banks) × (banks ≤ 64) }
     requires pairs { (1 ≤ pairs) × (pairs ≤ 32) }
+    ensures session { IfOk result (λ day. day.0 ≡ made_header seed banks pairs) }
     ensures valid { IfOk result (λ day. Each (IsSentOf day.0) day.1.items) }
+    ensures count { IfOk result (λ day. length day.1.items ≡ 2 * (count / 2 + bank_count day.0 * pair_count day.0)) }
 {
     let (session, _drawn) = load_session(alloc, seed, banks, pairs, 1)?;
     let sent = halves(alloc, &session, seed, count / 2)?;
@@ -32,10 +35,11 @@ pub fn trial_day(
 /// Twice so many commands, and local books.
 fn halves(alloc: Global, session: &Session, seed: u64, count: u32) -> Result<Vec<Sent>, Memory>
     ensures valid { IfOk result (λ sent. Each (IsSentOf session.now) sent.items) }
+    ensures count { IfOk result (λ sent. length sent.items ≡ 2 * (count + bank_count session.now * pair_count session.now)) }
 {
     let mut draws = Draws::new(seed);
     let mut sent = Vec::new(alloc);
-    for _half in 0..2 {
+    for _half in 0..2u32 {
         add_commands(session, count, &mut draws, &mut sent)?;
         add_books(session, &mut sent)?;
     }
@@ -82,6 +86,7 @@ fn add_commands(
 fn add_books(session: &Session, sent: &mut Vec<Sent>) -> Result<(), Memory>
     requires valid { Each (IsSentOf session.now) sent.old.items }
     ensures valid { OnOk result (Each (IsSentOf session.now) sent.new.items) }
+    ensures count { OnOk result (length sent.new.items ≡ length sent.old.items + bank_count session.now * pair_count session.now) }
 {
     for number in 0..session.banks().len() {
         add_books_of(session, BankId::new(number as u8).unwrap(), sent)?;
@@ -94,6 +99,7 @@ fn add_books_of(session: &Session, bank: BankId, sent: &mut Vec<Sent>) -> Result
     requires bank { bank < bank_count session.now }
     requires valid { Each (IsSentOf session.now) sent.old.items }
     ensures valid { OnOk result (Each (IsSentOf session.now) sent.new.items) }
+    ensures count { OnOk result (length sent.new.items ≡ length sent.old.items + pair_count session.now) }
 {
     for number in 0..session.pairs().len() {
         let pair = PairId::new(number as u8).unwrap();
@@ -111,6 +117,7 @@ pub fn add_probes(session: &Session, orders: u32, sent: &mut Vec<Sent>) -> Resul
     requires valid { Each (IsSentOf session.now) sent.old.items }
     requires orders { orders < 2 ^ 32 - 1 }
     ensures valid { OnOk result (Each (IsSentOf session.now) sent.new.items) }
+    ensures count { OnOk result (length sent.new.items ≡ length sent.old.items + bank_count session.now * (pair_count session.now * orders)) }
 {
     for number in 0..session.banks().len() {
         add_probes_of(session, BankId::new(number as u8).unwrap(), orders, sent)?;
@@ -129,6 +136,7 @@ fn add_probes_of(
     requires orders { orders < 2 ^ 32 - 1 }
     requires valid { Each (IsSentOf session.now) sent.old.items }
     ensures valid { OnOk result (Each (IsSentOf session.now) sent.new.items) }
+    ensures count { OnOk result (length sent.new.items ≡ length sent.old.items + pair_count session.now * orders) }
 {
     for number in 0..session.pairs().len() {
         add_probes_in(
@@ -155,6 +163,7 @@ fn add_probes_in(
     requires orders { orders < 2 ^ 32 - 1 }
     requires valid { Each (IsSentOf session.now) sent.old.items }
     ensures valid { OnOk result (Each (IsSentOf session.now) sent.new.items) }
+    ensures count { OnOk result (length sent.new.items ≡ length sent.old.items + orders) }
 {
     for place in 0..orders {
         sent.push(Sent {
