@@ -67,16 +67,16 @@ fn no_prices(alloc: Global, banks: usize) -> Result<Vec<Option<Price>>, Memory>
     Ok(prices)
 }
 
-/// Whether one of these prices of a side crosses `price`, one of the other side.
+/// Whether one of these prices of a side crosses `price`, one of the other side. It looks at all of them, which takes less time than to
+/// ask after each.
 pub(crate) fn any_crosses(fronts: &[Option<Price>], side: Side, price: Price) -> bool
     ensures { IsTrue result ↔ Any (λ front. front_crosses side price front ≡ true) fronts.now }
 {
+    let mut any = false;
     for front in fronts {
-        if crosses(*front, side, price) {
-            return true;
-        }
+        any |= crosses(*front, side, price);
     }
-    false
+    any
 }
 
 /// Whether there is a price, and it crosses another.
