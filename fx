@@ -16,6 +16,10 @@ import tempfile
 import time
 
 HERE = os.path.dirname(os.path.realpath(__file__))
+sys.path.insert(0, f"{HERE}/tools")
+sys.dont_write_bytecode = True
+from sources.crates import read_crates
+
 TOP = "fx_cli"
 PROGRAM = f"{HERE}/crates/{TOP}/out/{TOP}"
 REFUSED, GAVE_UP = 70, 75
@@ -29,9 +33,7 @@ def say(text):
 
 def crates():
     """Each crate of the repository with those that it stands on."""
-    with open(f"{HERE}/crates.txt", encoding="utf-8") as file:
-        lines = [line.split("#")[0].split(":") for line in file]
-    named = {line[0].split()[0]: line[1].split() for line in lines if len(line) == 2}
+    named = read_crates()
     return {name: [it for it in below if it in named] for name, below in named.items()}
 
 

@@ -1,25 +1,15 @@
 #!/usr/bin/env bash
-# What the section BOOKS costs of a run of `serial`: bench/books.sh [BANKS PAIRS ORDERS]. It builds the program first where that is
-# needed. The orders all rest, so that the local books at the end are deep. The best of five runs counts, of each of three:
-# the commands alone (the output can't be written, so the run ends at its first piece), the whole run, and the whole run of the same
-# orders where each bank pulls its own at the end, so that all books are empty. What the last two differ by is the section's cost.
+# What the section BOOKS costs of a run of `serial`: bench/books.sh [BANKS PAIRS ORDERS]. The orders all rest, so that the local
+# books at the end are deep. The best of five runs counts, of each of three: the commands alone (the output can't be written, so the
+# run ends at its first piece), the whole run, and the whole run of the same orders where each bank pulls its own at the end, so that
+# all books are empty. What the last two differ by is the section's cost.
 set -eu
 cd "$(dirname "$0")/.."
-./fx build
-program=crates/fx_cli/out/fx_cli
-folder=$(mktemp -d)
-trap 'rm -rf "$folder"' EXIT
+. bench/common.sh
 
-# The best time of five runs of the program on a text, in milliseconds.
-best() {
-    local least= started ended
-    for _ in 1 2 3 4 5; do
-        started=$(date +%s%N)
-        "$program" serial < "$1" > "$2" 2> "$folder/err" || grep -q '^write failed$' "$folder/err"
-        ended=$(date +%s%N)
-        if [ -z "$least" ] || [ $((ended - started)) -lt "$least" ]; then least=$((ended - started)); fi
-    done
-    echo $((least / 1000000))
+# The program on a text, with its output in a file; a write that fails is no failure.
+serve() {
+    "$program" serial < "$1" > "$2" 2> "$folder/err" || grep -q '^write failed$' "$folder/err"
 }
 
 banks=${1:-16} pairs=${2:-4} orders=${3:-20000}
@@ -34,8 +24,8 @@ pairs_named=$(sed -n 's/^PAIR \([^ ]*\) .*/\1/p' "$folder/in")
     echo END
 } > "$folder/pulled"
 
-alone=$(best "$folder/in" /dev/full)
-whole=$(best "$folder/in" "$folder/out")
-empty=$(best "$folder/pulled" "$folder/out_pulled")
+alone=$(best 5 serve "$folder/in" /dev/full)
+whole=$(best 5 serve "$folder/in" "$folder/out")
+empty=$(best 5 serve "$folder/pulled" "$folder/out_pulled")
 printf '%s banks %s pairs %s resting orders: commands alone %s ms, with the output %s ms, with the output and empty books %s ms; BOOKS %s%% of the run\n' \
     "$banks" "$pairs" "$orders" "$alone" "$whole" "$empty" "$((100 * (whole - empty) / (whole > 0 ? whole : 1)))"

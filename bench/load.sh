@@ -1,28 +1,18 @@
 #!/usr/bin/env bash
-# Times `load` at growing sizes, by numbers of workers: bench/load.sh [SEED BANKS PAIRS COMMANDS]. It builds the program first
-# where that is needed. The best of five runs counts. It fails where a run fails, or where two runs of one session differ in what
-# they write.
+# Times `load` at growing sizes, by numbers of workers: bench/load.sh [SEED BANKS PAIRS COMMANDS]. The best of five runs counts. It
+# fails where a run fails, or where two runs of one session differ in what they write.
 set -eu
 shopt -s inherit_errexit
 cd "$(dirname "$0")/.."
-./fx build
-program=crates/fx_cli/out/fx_cli
-folder=$(mktemp -d)
-trap 'rm -rf "$folder"' EXIT
+. bench/common.sh
 
-# The best time of five runs with so many workers, in milliseconds.
-best() {
-    local workers=$1 least= started ended
+# The load with so many workers, which has to write what the first run wrote.
+load() {
+    local workers=$1
     shift
-    for _ in 1 2 3 4 5; do
-        started=$(date +%s%N)
-        "$program" load "$@" --workers "$workers" > "$folder/out"
-        ended=$(date +%s%N)
-        [ -e "$folder/first" ] || cp "$folder/out" "$folder/first"
-        cmp "$folder/first" "$folder/out" >&2
-        if [ -z "$least" ] || [ $((ended - started)) -lt "$least" ]; then least=$((ended - started)); fi
-    done
-    echo $((least / 1000000))
+    "$program" load "$@" --workers "$workers" > "$folder/out"
+    [ -e "$folder/first" ] || cp "$folder/out" "$folder/first"
+    cmp "$folder/first" "$folder/out" >&2
 }
 
 # All counts of workers on one session, and what it came to.
@@ -30,7 +20,7 @@ row() {
     local workers taken times=
     rm -f "$folder/first"
     for workers in 1 4 64; do
-        taken=$(best "$workers" "$@")
+        taken=$(best 5 load "$workers" "$@")
         times="$times $workers workers $taken ms;"
     done
     printf '%3s banks %3s pairs %6s commands:%s %s\n' "$2" "$3" "$4" "$times" "$(sed -n 2p "$folder/first")"

@@ -1,30 +1,20 @@
 #!/usr/bin/env bash
-# Times `serial` on made sessions: bench/serial.sh [BANKS PAIRS COMMANDS KIND]. It builds the program first where that is needed.
-# The best of five runs counts. What reading alone costs is the run of the same text with its commands as comments.
+# Times `serial` on made sessions: bench/serial.sh [BANKS PAIRS COMMANDS KIND]. The best of five runs counts. What reading alone
+# costs is the run of the same text with its commands as comments.
 set -eu
 cd "$(dirname "$0")/.."
-./fx build
-program=crates/fx_cli/out/fx_cli
-folder=$(mktemp -d)
-trap 'rm -rf "$folder"' EXIT
+. bench/common.sh
 
-# The best time of five runs of the program on a text, in milliseconds.
-best() {
-    local least= started ended
-    for _ in 1 2 3 4 5; do
-        started=$(date +%s%N)
-        "$program" serial < "$1" > "$folder/out"
-        ended=$(date +%s%N)
-        if [ -z "$least" ] || [ $((ended - started)) -lt "$least" ]; then least=$((ended - started)); fi
-    done
-    echo $((least / 1000000))
+# The program on a text.
+serve() {
+    "$program" serial < "$1" > "$folder/out"
 }
 
 row() {
     python3 bench/make_session.py "$1" "$2" "$3" "$4" > "$folder/in"
     sed 's/^B[0-9][0-9] /#&/' "$folder/in" > "$folder/passed"
     printf '%-8s %3s banks %3s pairs %7s commands: %6s ms, of which reading %s ms; output %s bytes\n' \
-        "$4" "$1" "$2" "$3" "$(best "$folder/in")" "$(best "$folder/passed")" "$(wc -c < "$folder/out")"
+        "$4" "$1" "$2" "$3" "$(best 5 serve "$folder/in")" "$(best 5 serve "$folder/passed")" "$(wc -c < "$folder/out")"
 }
 
 if [ $# -eq 4 ]; then

@@ -18,7 +18,7 @@ KINDS = (("64", "32", "mixed"), ("64", "32", "thick"), ("2", "32", "raced"), ("1
 
 
 def session(banks, pairs, commands, kind, seed):
-    words = [sys.executable, os.path.join(HERE, "make_session.py"), banks, pairs, str(commands), kind, str(seed)]
+    words = [sys.executable, os.path.join(HERE, "..", "bench", "make_session.py"), banks, pairs, str(commands), kind, str(seed)]
     return subprocess.run(words, stdout=subprocess.PIPE, check=True).stdout
 
 
@@ -71,7 +71,7 @@ def main():
         fault = is_right(told.program, session(banks, pairs, told.commands, kind, seed), workers)
         if fault:
             wrong += 1
-            print(f"wrong: make_session.py {banks} {pairs} {told.commands} {kind} {seed}, {workers} workers: {fault}")
+            print(f"wrong: bench/make_session.py {banks} {pairs} {told.commands} {kind} {seed}, {workers} workers: {fault}")
         counts[kind, workers] = counts.get((kind, workers), 0) + 1
         number += 1
     for (kind, workers), count in sorted(counts.items()):

@@ -1,7 +1,7 @@
 #!/usr/bin/env python3
 """Kills a program in the middle of appends to a real journal file, and opens the file again.
 
-    bench/kill_trial.py [KILLS [FOLDER]]      100 kills, in a new folder below FOLDER (else the system's for such)
+    trials/kill_trial.py [KILLS [FOLDER]]      100 kills, in a new folder below FOLDER (else the system's for such)
 
 The program is crates/keep_trial, built by `rt run` in that folder. It appends numbered blocks to fx.journal and prints
 each number once its block is synced. After each kill the same program opens the file again, as the kill left it, and has
