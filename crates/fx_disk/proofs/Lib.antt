@@ -1,4 +1,4 @@
+pub mod Files
 pub mod Images
 pub mod Leaving
 pub mod Moments
-pub mod Untold

@@ -1,4 +1,5 @@
 pub mod Disk
+pub mod FileCalls
 pub mod InMemory
 pub mod Model
 pub mod ModelLaws

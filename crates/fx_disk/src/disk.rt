@@ -35,8 +35,8 @@ pub trait Disk {
         ensures images { NoMore (may_leave self.old) (may_leave self.new) };
 
     /// Moves bytes of the file from the place `at` on into the front of `into`, and answers how many: at
-    /// least 1 where the file has a byte there and `into` has room. The rest of `into` stays, and after a
-    /// stop all of it.
+    /// least 1 where the file has a byte there and `into` has room. Behind them, and after a stop
+    /// throughout, `into` may hold anything.
     fn read_at(&mut self, at: u64, into: &mut [u8]) -> Result<usize, DiskStop>
         ensures called { Called bytes may_leave moment left_since faults self.old self.new result }
         ensures room { IfOk result (λ count. count ≤ length into.old) }
@@ -46,8 +46,6 @@ pub trait Disk {
             count ≤ length (drop at file))) }
         ensures least { IfOk result (λ count. WhereTold (bytes self.old) (λ file.
             at < length file → 0 < length into.old → 0 < count)) }
-        ensures rest { IfOk result (λ count. drop count into.new ≡ drop count into.old) }
-        ensures untouched { OnErr result (into.new ≡ into.old) }
         ensures bytes { OnOk result (bytes self.new ≡ bytes self.old) }
         ensures images { NoMore (may_leave self.old) (may_leave self.new) };
 
