@@ -3,7 +3,7 @@
 
     trials/kill_trial.py [KILLS [FOLDER]]      100 kills, in a new folder below FOLDER (else the system's for such)
 
-The program is crates/keep_trial, built by `rt run` in that folder. It appends numbered blocks to fx.journal and prints
+The program is crates/disk_trials, built by `rt run` in that folder. It appends numbered blocks to fx.journal and prints
 each number once its block is synced. After each kill the same program opens the file again, as the kill left it, and has
 to find the blocks of 1, 2, 3 and so on, all that were printed among them and at most one more. The next run goes on with
 that file; after ten kills a new one is begun.
@@ -19,7 +19,7 @@ import tempfile
 import time
 
 HERE = os.path.dirname(os.path.abspath(__file__))
-PROGRAM = os.path.join(HERE, "..", "crates", "keep_trial", "out", "keep_trial")
+PROGRAM = os.path.join(HERE, "..", "crates", "disk_trials", "out", "disk_trials")
 KILLS_A_FILE = 10
 LONGEST = 0.3  # seconds until a kill, at most
 FRAME = 9  # bytes of a block beside its body

@@ -1,12 +1,12 @@
-use crate::fixture::{Numbers, blocks_of, keep};
+use crate::keeping::{append, count};
 use fx_disk::{MemoryDisk, SteadyDisk};
 use fx_edges::{MemorySink, SteadySink};
 use keep_disk::RunFault;
 use std::alloc::{AllocError, Global};
 use std::test::Fail;
 
-/// The block of number 0, and a gate that opens none.
-const LEFT: [u8; 10] = [1, 0, 0, 0, 0, 0, 0, 0, 0, 1];
+/// The block of number 1, without dots, and a gate that opens none.
+const LEFT: [u8; 11] = [1, 0, 0, 0, 0, 0, 0, 0, 1, b'1', 1];
 
 /// Opening that makes five calls, and each append four.
 const CALLS: u64 = 5 + 3 * 4;
@@ -21,10 +21,11 @@ fn a_disk_fails_at_each_call(rt: HostRuntime) -> Result<(), Fail> {
     for call in 1..=CALLS + 1 {
         let mut disk = MemoryDisk::new(LEFT.to_vec(alloc)?, only(alloc, call)?);
         let mut out = SteadySink::new(alloc);
-        let kept = keep(alloc, &mut disk, &mut out, Numbers::new(alloc, 1, 4));
+        let kept = append(alloc, &mut disk, &mut out, 3, 0);
+        // Of each number two bytes are told.
         let told = out.written().len() / 2;
         let mut again = SteadyDisk::new(disk.bytes().to_vec(alloc)?);
-        let blocks = blocks_of(alloc, &mut again)?;
+        let found = count(alloc, &mut again, 0)?;
         // A second sync that failed left the block whole, and untold.
         let whole = 1 + told + usize::from(call > 5 && call % 4 == 1);
         let want = if call > CALLS {
@@ -32,7 +33,7 @@ fn a_disk_fails_at_each_call(rt: HostRuntime) -> Result<(), Fail> {
         } else {
             Err(RunFault::Disk)
         };
-        assert!(rt; kept == want && blocks == Some(whole), "call {call}");
+        assert!(rt; kept == want && found == (whole, true), "call {call}");
     }
     Ok(())
 }
@@ -43,16 +44,16 @@ fn a_sink_fails_at_each_call(rt: HostRuntime) -> Result<(), Fail> {
     for call in 1..=7u64 {
         let mut disk = SteadyDisk::new(LEFT.to_vec(alloc)?);
         let mut out = MemorySink::new(1, only(alloc, call)?);
-        let kept = keep(alloc, &mut disk, &mut out, Numbers::new(alloc, 1, 4));
+        let kept = append(alloc, &mut disk, &mut out, 3, 0);
         let told = out.written().len();
-        let blocks = blocks_of(alloc, &mut disk)?;
+        let found = count(alloc, &mut disk, 0)?;
         // The block stands of which a part was told.
         let want = if call > 6 {
             (Ok(()), 4)
         } else {
             (Err(RunFault::Write), 2 + told / 2)
         };
-        assert!(rt; kept == want.0 && blocks == Some(want.1), "call {call}");
+        assert!(rt; kept == want.0 && found == (want.1, true), "call {call}");
     }
     Ok(())
 }

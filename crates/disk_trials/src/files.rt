@@ -1,4 +1,4 @@
-use crate::fixture::{Numbers, blocks_of, keep};
+use crate::keeping::{append, count};
 use fx_disk::FileDisk;
 use fx_edges::SteadySink;
 use keep_disk::RunFault;
@@ -8,42 +8,30 @@ use std::test::Fail;
 /// The file of a `FileDisk`, in the folder that the tests run in.
 const NAME: &str = "fx.journal";
 
+/// The dots of each block.
+const DOTS: usize = 3;
+
 #[test]
 fn a_real_file_keeps_its_blocks(rt: HostRuntime) -> Result<(), Fail> {
     let alloc = rt.alloc();
     let _ = fs::remove_file(&rt, NAME);
     let mut out = SteadySink::new(alloc);
-    let first = keep(
-        alloc,
-        &mut FileDisk::new(&rt),
-        &mut out,
-        Numbers::new(alloc, 0, 50),
-    );
-    assert!(rt; first == Ok(()) && out.written().len() == 100);
-    assert!(rt; blocks_of(alloc, &mut FileDisk::new(&rt))? == Some(50));
+    let first = append(alloc, &mut FileDisk::new(&rt), &mut out, 50, DOTS);
+    assert!(rt; first == Ok(()) && out.written().len() == 9 * 2 + 41 * 3);
+    assert!(rt; count(alloc, &mut FileDisk::new(&rt), DOTS)? == (50, true));
 
-    // Fifty blocks of 9 bytes and a body, and the last gate. The last block is cut off.
+    // Fifty blocks of 9 bytes, the digits and the dots, and the last gate. The last block is cut off.
     let whole = fs::read(&rt, NAME)?;
-    assert!(rt; whole.len() == 50 * 9 + 49 * 50 / 2 + 1);
-    fs::write(&rt, NAME, &whole[..whole.len().saturating_sub(30)])?;
-    assert!(rt; blocks_of(alloc, &mut FileDisk::new(&rt))? == Some(49));
-    let second = keep(
-        alloc,
-        &mut FileDisk::new(&rt),
-        &mut out,
-        Numbers::new(alloc, 49, 52),
-    );
-    assert!(rt; second == Ok(()) && blocks_of(alloc, &mut FileDisk::new(&rt))? == Some(52));
+    assert!(rt; whole.len() == 50 * (9 + DOTS) + 9 + 41 * 2 + 1);
+    fs::write(&rt, NAME, &whole[..whole.len().saturating_sub(10)])?;
+    assert!(rt; count(alloc, &mut FileDisk::new(&rt), DOTS)? == (49, true));
+    let second = append(alloc, &mut FileDisk::new(&rt), &mut out, 3, DOTS);
+    assert!(rt; second == Ok(()) && count(alloc, &mut FileDisk::new(&rt), DOTS)? == (52, true));
 
     // A folder of that name is no file.
     fs::remove_file(&rt, NAME)?;
     fs::create_dir(&rt, NAME)?;
-    let third = keep(
-        alloc,
-        &mut FileDisk::new(&rt),
-        &mut out,
-        Numbers::new(alloc, 0, 1),
-    );
+    let third = append(alloc, &mut FileDisk::new(&rt), &mut out, 1, DOTS);
     assert!(rt; third == Err(RunFault::Disk));
     fs::remove_dir(&rt, NAME)?;
     Ok(())

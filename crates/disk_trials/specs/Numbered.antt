@@ -5,7 +5,7 @@ use Rattle.fx_disk.specs.Disk.{LeavesOnly}
 use Rattle.keep_disk.specs.declared.rounds.Round.{Round}
 use Rattle.keep_disk.specs.Blocks.{whole_blocks}
 use Rattle.keep_disk.specs.Rounds.{HasFirst}
-use Rattle.keep_trial.specs.declared.numbers.Numbers.{Numbers}
+use Rattle.disk_trials.specs.declared.numbers.Numbers.{Numbers}
 
 -- a number's digits and as many dots
 abbrev pub body : ℕ → ℕ → List ℕ

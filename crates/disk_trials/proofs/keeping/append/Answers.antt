@@ -1,9 +1,9 @@
 use Rattle.std.proofs.Common.{◌≡◌, ◌+◌, ◌-◌, ◌^◌, ◌≤◌, ◌∙◌, min, length, ap, arith}
 use Rattle.std.proofs.lemmas.Result.{on_ok_weaker}
-use Rattle.keep_trial.specs.declared.numbers.Numbers.{Numbers}
-use Rattle.keep_trial.specs.Numbered.{next_number}
-use Rattle.keep_trial.proofs.Counting.{kept_unopened, kept_either, all_numbers}
-use Rattle.keep_trial.proofs.keeping.append.Goals as goal
+use Rattle.disk_trials.specs.declared.numbers.Numbers.{Numbers}
+use Rattle.disk_trials.specs.Numbered.{next_number}
+use Rattle.disk_trials.proofs.Counting.{kept_unopened, kept_either, all_numbers}
+use Rattle.disk_trials.proofs.keeping.append.Goals as goal
 
 pub returns-in_err-keeper-clause-kept : goal.returns-in_err-keeper-clause-kept
 returns-in_err-keeper-clause-kept g c = λ file told only.

@@ -1,5 +1,5 @@
 ghost use Rattle.std.specs.Prelude.{◌≡◌, ◌-◌, IfOk};
-ghost use Rattle.keep_trial.specs.Numbered.{body, GivesNumber};
+ghost use Rattle.disk_trials.specs.Numbered.{body, GivesNumber};
 
 use fx_amounts::Memory;
 use itoa::Buffer;

@@ -3,7 +3,7 @@ ghost use Rattle.fx_edges.specs.Faults.{Rose};
 ghost use Rattle.fx_disk.specs.Disk.{WhereTold, Only, LeavesOnly};
 ghost use Rattle.keep_disk.specs.Blocks.{whole_blocks};
 ghost use Rattle.keep_disk.specs.Rounds.{RunCauses};
-ghost use Rattle.keep_trial.specs.Numbered.{bodies, room, KeptNumbers, AllNumbers};
+ghost use Rattle.disk_trials.specs.Numbered.{bodies, room, KeptNumbers, AllNumbers};
 
 use crate::numbers::{Numbers, body_of};
 use fx_amounts::Memory;

@@ -2,9 +2,9 @@ use Rattle.std.proofs.Common.{◌≡◌, ◌<◌, ◌∙◌, ◌+◌, ◌++◌, 
 use Rattle.std.proofs.lemmas.List.{take_more}
 use Rattle.std.proofs.lemmas.Slice.Eq.{bytes_eq-Decides}
 use Rattle.std.specs.Str.{bytes_eq}
-use Rattle.keep_trial.specs.Numbered.{body, bodies}
-use Rattle.keep_trial.proofs.Counting.{bodies_more, bodies_at}
-use Rattle.keep_trial.proofs.keeping.are_in_order.Goals as goal
+use Rattle.disk_trials.specs.Numbered.{body, bodies}
+use Rattle.disk_trials.proofs.Counting.{bodies_more, bodies_at}
+use Rattle.disk_trials.proofs.keeping.are_in_order.Goals as goal
 
 differ : (a b : List ℕ) (they_do : Bool) → they_do ≡ not (bytes_eq a b) → they_do ≡ true → a ≡ b → ⊥
 differ a b they_do is said same = true≢false (sym said ∙ is ∙ ap not ((bytes_eq-Decides a b).1 same))

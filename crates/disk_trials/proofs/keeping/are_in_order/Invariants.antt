@@ -1,6 +1,6 @@
 use Rattle.std.proofs.Common.{◌≡◌, take}
-use Rattle.keep_trial.specs.Numbered.{bodies}
-use Rattle.keep_trial.proofs.keeping.are_in_order.Given as goal
+use Rattle.disk_trials.specs.Numbered.{bodies}
+use Rattle.disk_trials.proofs.keeping.are_in_order.Given as goal
 
 abbrev pub invariant-loop-body : goal.invariant-loop-body
 invariant-loop-body l = record {

@@ -11,8 +11,8 @@ use Rattle.keep_disk.specs.Blocks.{whole_blocks}
 use Rattle.keep_disk.specs.Rounds.{bodies_of, text_of, HasFirst, KeptAll, KeptPart}
 use Rattle.fx_disk.proofs.Leaving.{leaves_weaker, leaves_then}
 use Rattle.keep_disk.proofs.Telling.{told_now, first_all, first_longer}
-use Rattle.keep_trial.specs.declared.numbers.Numbers.{Numbers}
-use Rattle.keep_trial.specs.Numbered.{body, line, bodies, lines, GivesNumber, next_number, room, KeptNumbers, AllNumbers}
+use Rattle.disk_trials.specs.declared.numbers.Numbers.{Numbers}
+use Rattle.disk_trials.specs.Numbered.{body, line, bodies, lines, GivesNumber, next_number, room, KeptNumbers, AllNumbers}
 
 -- one number more
 pub bodies_more : (dots first count : ℕ) → bodies dots first (suc count) ≡ bodies dots first count ++ body dots (first + count) ∷ []
