@@ -1,4 +1,4 @@
-ghost use Rattle.std.specs.Prelude.{◌≡◌, ℕ, ◌<◌, ◌≤◌, List, length, take, drop, Option, IfOk, OnErr};
+ghost use Rattle.std.specs.Prelude.{◌≡◌, ℕ, ◌<◌, ◌≤◌, List, length, take, Option, IfOk, OnErr};
 ghost use Rattle.std.specs.Io.{ReadsAtMost};
 ghost use Rattle.std.specs.Io.KnownBytes.{IsAtEnd};
 ghost use Rattle.fx_edges.specs.Faults.{Rose};
@@ -18,18 +18,16 @@ pub trait Source {
     ghost faults: { Self → ℕ };
 
     /// Moves the next bytes into the front of `into`, and answers how many: 0 for an `into` with room
-    /// only at the end. The rest of `into` stays. After `ReadFailed` the source has what it had, and
-    /// `into` is as it was.
+    /// only at the end. Behind them `into` may hold anything. After `ReadFailed` it may hold anything
+    /// throughout, and the source has what it had.
     fn read(&mut self, into: &mut [u8]) -> Result<usize, ReadFailed>
         ensures room { ReadsAtMost result into.new }
         ensures ok { IfOk result (λ count.
             Took left faults self.old self.new (take count into.new)) }
-        ensures rest { IfOk result (λ count. drop count into.new ≡ drop count into.old) }
         ensures end { IfOk result (λ count.
             count ≡ 0 → 0 < length into.old → IsAtEnd (left self.old)) }
 
         ensures failed { OnErr result (left self.new ≡ left self.old) }
-        ensures untouched { OnErr result (into.new ≡ into.old) }
         ensures cause { OnErr result (Rose (faults self.old) (faults self.new)) }
         ensures count { faults self.old ≤ faults self.new };
 }
