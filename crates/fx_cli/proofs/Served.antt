@@ -36,7 +36,7 @@ use Rattle.fx_cli.specs.inside.Rounds.{IsServing, HasServedRound, IsServed, IsHi
 use Rattle.fx_cli.specs.Run.{RanText, Ran}
 use Rattle.fx_cli.specs.Status.{status_at, status_of, ending_of}
 use Rattle.fx_cli.specs.inside.Status.{written_status}
-use Rattle.fx_cli.specs.TopCall.{IsOutputOf}
+use Rattle.fx_cli.specs.TopCall.{KindOfText, IsOutputOf}
 use Rattle.fx_cli.specs.declared.status.Status.{Status}
 use Rattle.fx_cli.specs.declared.status.Status.TheVariants.{ReadFault, Memory}
 use Rattle.fx_cli.proofs.HeadlineLaws.{headline_of, serial_of}
@@ -68,9 +68,9 @@ read_status (Early early.Cut) is = cc
 read_status (Early early.ReadFault) is = refl
 read_status (Early early.TooMuch) is = cc
 
-module _ (IsRight : Header → List Sent → List Entry → Type 0) {S K : Type 0} (left : S → Option (List ℕ)) (failed : S → ℕ) (written : K → Option (List ℕ)) (faults : K → ℕ) where
+module _ (IsTextOf : KindOfText) {S K : Type 0} (left : S → Option (List ℕ)) (failed : S → ℕ) (written : K → Option (List ℕ)) (faults : K → ℕ) where
   -- want of memory before anything was written
-  pub ran-memory : (a b : S) (out out' : K) → TookPromptly left failed a b → out' ≡ out → Ran IsRight left failed written faults a b out out' Memory
+  pub ran-memory : (a b : S) (out out' : K) → TookPromptly left failed a b → out' ≡ out → Ran IsTextOf left failed written faults a b out out' Memory
   ran-memory a b out out' took unwritten = record {
     input = took.input;
     took = took.took;
@@ -90,7 +90,7 @@ module _ (IsRight : Header → List Sent → List Entry → Type 0) {S K : Type 
   stop_fault (stops.Early early.TooMuch) is = absurd cc
   stop_fault stops.Memory is = absurd cc
 
-  pub ran-stopped : (a b : S) (out : K) (stop : Stop) (status : Status) → HasStopped left failed a b stop → status ≡ status_of stop → Ran IsRight left failed written faults a b out out status
+  pub ran-stopped : (a b : S) (out : K) (stop : Stop) (status : Status) → HasStopped left failed a b stop → status ≡ status_of stop → Ran IsTextOf left failed written faults a b out out status
   ran-stopped a b out stop status has is = record {
     input = has.input;
     took = has.took;
@@ -102,6 +102,14 @@ module _ (IsRight : Header → List Sent → List Entry → Type 0) {S K : Type 
     followed = (is, refl);
   }
 
+  -- a text was written, whole or in part
+  written_so : {T : Type 0} (result : Result T OutFault) (before now : K) (end : TextEnd) (input : List ℕ) (known : Option (List ℕ)) (is_output : List ℕ → Type 0) → ((text : List ℕ) → is_output text → IsTextOf end input known text)
+      → WroteOutput written faults before now is_output result → RanText IsTextOf written faults before now end input known (written_status end result)
+  written_so (Ok done) before now end input known is_output outputs wrote = inl (refl, (wrote.text, outputs wrote.text wrote.is_text, wrote.ok))
+  written_so (Err outs.Write) before now end input known is_output outputs wrote = inr (inl (refl, (wrote.text, outputs wrote.text wrote.is_text, wrote.fault), wrote.cause refl))
+  written_so (Err outs.Memory) before now end input known is_output outputs wrote = inr (inr (refl, inr (wrote.text, outputs wrote.text wrote.is_text, wrote.fault)))
+
+module _ (IsRight : Header → List Sent → List Entry → Type 0) {S K : Type 0} (left : S → Option (List ℕ)) (failed : S → ℕ) (written : K → Option (List ℕ)) (faults : K → ℕ) where
   -- the text was served to its end, and its output written
   output_of : (a b : S) (reading : Reading) (h : Header) (sent : List Sent) (end : TextEnd) (history : List Entry) (text : List ℕ) (has : HasRead left failed a b reading h sent) → reading.end ≡ Some end
       → IsRight h sent history → IsLegal h history → length history ≤ 2 ^ 26 → IsOutput h history (strays_at reading.intake.stage) (ending_of end) text → IsOutputOf IsRight end has.input (left b) text
@@ -115,15 +123,9 @@ module _ (IsRight : Header → List Sent → List Entry → Type 0) {S K : Type 
     as_listed = outputs_list h history (strays_at reading.intake.stage) (ending_of end) text legal (omega (arith, few)) output;
   }
 
-  written_so : {T : Type 0} (result : Result T OutFault) (before now : K) (end : TextEnd) (input : List ℕ) (known : Option (List ℕ)) (is_output : List ℕ → Type 0) → ((text : List ℕ) → is_output text → IsOutputOf IsRight end input known text)
-      → WroteOutput written faults before now is_output result → RanText IsRight written faults before now end input known (written_status end result)
-  written_so (Ok done) before now end input known is_output outputs wrote = inl (refl, (wrote.text, outputs wrote.text wrote.is_text, wrote.ok))
-  written_so (Err outs.Write) before now end input known is_output outputs wrote = inr (inl (refl, (wrote.text, outputs wrote.text wrote.is_text, wrote.fault), wrote.cause refl))
-  written_so (Err outs.Memory) before now end input known is_output outputs wrote = inr (inr (refl, inr (wrote.text, outputs wrote.text wrote.is_text, wrote.fault)))
-
   pub ran-written : {T : Type 0} (result : Result T OutFault) (a b : S) (out out' : K) (reading : Reading) (h : Header) (sent : List Sent) (end : TextEnd) (history : List Entry) (strays : ℕ) (status : Status) → HasRead left failed a b reading h sent → reading.end ≡ Some end
       → strays ≡ strays_at reading.intake.stage → IsRight h sent history → IsLegal h history → length history ≤ 2 ^ 26 → WroteOutput written faults out out' (IsOutput h history strays (ending_of end)) result
-      → status ≡ written_status end result → Ran IsRight left failed written faults a b out out' status
+      → status ≡ written_status end result → Ran (IsOutputOf IsRight) left failed written faults a b out out' status
   ran-written result a b out out' reading h sent end history strays status has ended strays_is right legal few wrote is = record {
     input = has.input;
     took = has.took;
@@ -132,8 +134,8 @@ module _ (IsRight : Header → List Sent → List Entry → Type 0) {S K : Type 
     read = Ok end;
     came = ((h, has.says.session), subst (Progressed (left b) has.input) ended has.ended);
     cause = λ fault. has.cause (ended ∙ read_status end fault);
-    followed = subst (RanText IsRight written faults out out' end has.input (left b)) (sym is)
-        (written_so result out out' end has.input (left b) (IsOutput h history strays (ending_of end))
+    followed = subst (RanText (IsOutputOf IsRight) written faults out out' end has.input (left b)) (sym is)
+        (written_so (IsOutputOf IsRight) left failed written faults result out out' end has.input (left b) (IsOutput h history strays (ending_of end))
         (λ text output. output_of a b reading h sent end history text has ended right legal few (subst (λ (n : ℕ). IsOutput h history n (ending_of end) text) strays_is output)) wrote);
   }
 
@@ -201,7 +203,7 @@ round_served {left = left} {faults = faults} {a = a} {b = b} {reading = reading}
 -- it has served the text, and its output was written
 pub serial_ran : {S K T : Type 0} (left : S → Option (List ℕ)) (failed : S → ℕ) (written : K → Option (List ℕ)) (faults : K → ℕ) (result : Result T OutFault) (a b : S) (out out' : K) (reading : Reading) (h session : Header) (run : Day HostState) (end : TextEnd) (strays : ℕ) (ending : Ending) (status : Status)
     → IsServed left failed a b reading h run end → session_at reading.intake.stage ≡ Some session → strays_at reading.intake.stage ≡ strays → ending ≡ ending_of end
-    → ((entries : List Entry) → HasServed stands session entries run → WroteOutput written faults out out' (IsOutput session entries strays ending) result) → status ≡ written_status end result → Ran IsSerial left failed written faults a b out out' status
+    → ((entries : List Entry) → HasServed stands session entries run → WroteOutput written faults out out' (IsOutput session entries strays ending) result) → status ≡ written_status end result → Ran (IsOutputOf IsSerial) left failed written faults a b out out' status
 serial_ran left failed written faults result a b out out' reading h session run end strays ending status served is strays_is ending_is wrote status_is =
     let all = served.all in
     let same : session ≡ h = same_session session all.has_read is in
@@ -247,7 +249,7 @@ history_stands {history = history} {market = market} session entries is session_
 
 pub threads_ran : {S K T : Type 0} (left : S → Option (List ℕ)) (failed : S → ℕ) (written : K → Option (List ℕ)) (faults : K → ℕ) (result : Result T OutFault) (a b : S) (out out' : K) (reading : Reading) (h session : Header) (end : TextEnd) (history entries : List Entry) (market : HostState) (strays : ℕ) (ending : Ending) (status : Status)
     → IsHistoryOfText left failed a b reading h end history market → session_at reading.intake.stage ≡ Some session → entries ≡ history → strays_at reading.intake.stage ≡ strays → ending ≡ ending_of end
-    → WroteOutput written faults out out' (IsOutput session entries strays ending) result → status ≡ written_status end result → Ran IsHeadline left failed written faults a b out out' status
+    → WroteOutput written faults out out' (IsOutput session entries strays ending) result → status ≡ written_status end result → Ran (IsOutputOf IsHeadline) left failed written faults a b out out' status
 threads_ran left failed written faults result a b out out' reading h session end history entries market strays ending status is session_is are strays_is ending_is wrote status_is =
     ran-written IsHeadline left failed written faults result a b out out' reading h is.sent end history strays status is.has_read is.ended (sym strays_is)
     (headline_of h is.sent history is.legal is.streams) is.legal

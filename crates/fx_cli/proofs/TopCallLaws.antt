@@ -3,10 +3,7 @@ use Rattle.std.proofs.Common.{◌≡◌, ℕ, ◌≤◌, ◌<◌, List, [], ◌�
 use Rattle.std.specs.Prelude.{IfSome}
 use Rattle.std.specs.Io.KnownBytes.{prepend_known}
 use Rattle.std.proofs.lemmas.List.{append_cancel_right, append-nil, length-append, take_all, take-append-le}
-use Rattle.fx_rules.specs.declared.outcome.Entry.{Entry}
-use Rattle.fx_rules.specs.declared.command.Sent.{Sent}
 use Rattle.fx_rules.specs.Lists.{Among}
-use Rattle.fx_rules.specs.Session.{Header}
 use Rattle.fx_edges.specs.Faults.{Rose}
 use Rattle.fx_edges.specs.Reading.{Took}
 use Rattle.fx_edges.specs.Writing.{Appended}
@@ -24,11 +21,11 @@ use Rattle.session_script.specs.declared.ends.TextEnd.TheVariants.{EndLine, Earl
 use Rattle.session_script.specs.declared.ends.Stop.{Stop}
 use Rattle.session_script.specs.declared.ends.Stop.TheVariants as stops
 use Rattle.fx_cli.specs.Run.{GotPartOf, RanText, ReadCame, status_read, Followed, Ran}
-use Rattle.fx_cli.specs.SessionCall.{DidSession}
+use Rattle.fx_cli.specs.SessionCall.{SourceCauses, GotText, IsHeader, DidSession}
 use Rattle.fx_cli.specs.Status.{status_at, status_of}
-use Rattle.fx_cli.specs.TopCall.{EndsExactly, GotOutput, GotPart, GotSoFar, GotNothing, IsSessionText}
+use Rattle.fx_cli.specs.TopCall.{KindOfText, EndsExactly, GotWhole, GotPart, GotSoFar, GotNothing, IsSessionText}
 use Rattle.fx_cli.specs.declared.status.Status.{Status}
-use Rattle.fx_cli.specs.declared.status.Status.TheVariants.{Done, Usage, Header as HeadFault, Cut, ReadFault, WriteFault, Memory, TooMuch, Differs}
+use Rattle.fx_cli.specs.declared.status.Status.TheVariants.{Done, Usage, Header as HeadFault, Cut, ReadFault, WriteFault, Memory, TooMuch}
 use Rattle.session_script.proofs.ScriptReading.{GoesOn-nil, prompt_here}
 use Rattle.session_script.proofs.ScriptLaws.{HasSession-no_fault, HasFault-more}
 
@@ -93,14 +90,6 @@ memory_no_end : IsNoEnd Memory
 unfolding end_of
 memory_no_end = refl
 
-differs_no_end : IsNoEnd Differs
-unfolding end_of
-differs_no_end = refl
-
-usage_no_end : IsNoEnd Usage
-unfolding end_of
-usage_no_end = refl
-
 no_end : (end : TextEnd) (status : Status) → IsNoEnd status → status_at end ≡ status → ⊥
 no_end end status none is = let e : Some end ≡ None = sym (end_is end) ∙ ap end_of is ∙ none in cc
 
@@ -132,19 +121,26 @@ write_no_stop : IsNoStop WriteFault
 unfolding stop_of
 write_no_stop = refl
 
-differs_no_stop : IsNoStop Differs
-unfolding stop_of
-differs_no_stop = refl
-
-usage_no_stop : IsNoStop Usage
-unfolding stop_of
-usage_no_stop = refl
-
 some_stop : (a b : Stop) → Some a ≡ Some b → a ≡ b
 some_stop a b e = cc
 
 same_stop : (stop other : Stop) → status_of stop ≡ status_of other → stop ≡ other
 same_stop stop other same = some_stop stop other (sym (stop_is stop) ∙ ap stop_of same ∙ stop_is other)
+
+-- the statuses that a session's run ends with
+abbrev Answers : Status → Type 0
+Answers status = IsHeader status ⊎ Among status (Done ∷ Cut ∷ ReadFault ∷ WriteFault ∷ Memory ∷ TooMuch ∷ [])
+
+end_answers : (end : TextEnd) → Answers (status_at end)
+end_answers EndLine = inr (inl refl)
+end_answers (Early early.Cut) = inr (inr (inl refl))
+end_answers (Early early.ReadFault) = inr (inr (inr (inl refl)))
+end_answers (Early early.TooMuch) = inr (inr (inr (inr (inr (inr (inl refl))))))
+
+stop_answers : (stop : Stop) → Answers (status_of stop)
+stop_answers (stops.Header line reason) = inl (line, reason, refl)
+stop_answers (stops.Early end) = end_answers (Early end)
+stop_answers stops.Memory = inr (inr (inr (inr (inr (inl refl)))))
 
 stop_told : (stop other : Stop) (result : Status) → (other ≡ stops.Memory → ⊥) → Among result (status_of stop ∷ Memory ∷ []) → result ≡ status_of other → stop ≡ other
 stop_told stop other result differ (inl one) is = same_stop stop other (sym one ∙ is)
@@ -258,19 +254,19 @@ memory_alone result stop (inl one) is = inr (inl (one ∙ is))
 memory_alone result stop (inr (inl one)) is = inr (inl one)
 memory_alone result stop (inr (inr none)) is = absurd none
 
-module _ (IsRight : Header → List Sent → List Entry → Type 0) {K : Type 0} (written : K → Option (List ℕ)) (faults : K → ℕ) (out out' : K) where
+module _ (IsTextOf : KindOfText) {K : Type 0} (written : K → Option (List ℕ)) (faults : K → ℕ) (out out' : K) where
   abbrev Whole : TextEnd → List ℕ → Option (List ℕ) → Type 0
-  Whole end input left = GotOutput IsRight written faults out out' end input left
+  Whole end input left = GotWhole IsTextOf written faults out out' end input left
 
   abbrev Part : TextEnd → List ℕ → Option (List ℕ) → Type 0
-  Part end input left = GotPartOf IsRight written faults out out' end input left
+  Part end input left = GotPartOf IsTextOf written faults out out' end input left
 
   abbrev Text : TextEnd → List ℕ → Option (List ℕ) → Status → Type 0
-  Text end input left status = RanText IsRight written faults out out' end input left status
+  Text end input left status = RanText IsTextOf written faults out out' end input left status
 
   -- what was done at the status that was told; want of memory may have taken a status' place
   abbrev pub After : List ℕ → Option (List ℕ) → Result TextEnd Stop → Status → Type 0
-  After input left (Ok end) status = RanText IsRight written faults out out' end input left status
+  After input left (Ok end) status = RanText IsTextOf written faults out out' end input left status
   After input left (Err stop) status = Among status (status_of stop ∷ Memory ∷ []) × (out' ≡ out)
 
   whole_part : (end : TextEnd) (input : List ℕ) (left : Option (List ℕ)) → Whole end input left → Part end input left
@@ -281,7 +277,7 @@ module _ (IsRight : Header → List Sent → List Entry → Type 0) {K : Type 0}
   text_memory end input left status (inr (inl (is, part, rose))) = inr (inr (refl, inr part))
   text_memory end input left status (inr (inr (is, some))) = inr (inr (refl, some))
 
-  pub After-told : (input : List ℕ) (left : Option (List ℕ)) (read : Result TextEnd Stop) (status result : Status) → Followed IsRight written faults out out' input left read status → Among result (status ∷ Memory ∷ []) → After input left read result
+  pub After-told : (input : List ℕ) (left : Option (List ℕ)) (read : Result TextEnd Stop) (status result : Status) → Followed IsTextOf written faults out out' input left read status → Among result (status ∷ Memory ∷ []) → After input left read result
   After-told input left (Ok end) status result ran (inl same) = subst (λ (s : Status). Text end input left s) (sym same) ran
   After-told input left (Ok end) status result ran (inr (inl same)) = subst (λ (s : Status). Text end input left s) (sym same) (text_memory end input left status ran)
   After-told input left (Ok end) status result ran (inr (inr none)) = absurd none
@@ -320,7 +316,7 @@ module _ (IsRight : Header → List Sent → List Entry → Type 0) {K : Type 0}
 
   -- an early end that was told
   pub early_told : (read : Result TextEnd Stop) (result : Status) (input rest : List ℕ) (end : EarlyEnd) → After input (Some rest) read result → ReadCame (Some rest) input read → result ≡ status_at (Early end)
-      → EndedEarly (Some rest) input end × GotSoFar IsRight written faults out out' end input (Some rest)
+      → EndedEarly (Some rest) input end × GotSoFar IsTextOf written faults out out' end input (Some rest)
   early_told (Ok found) result input rest end ran came is =
       let told = text_end found (Early end) input (Some rest) result ran is in (
         subst (TextEnded (Some rest) input) told.0 came.1,
@@ -353,7 +349,7 @@ module _ (IsRight : Header → List Sent → List Entry → Type 0) {K : Type 0}
     always = λ much. among_stop result (status_of stop) TooMuch (WriteFault ∷ []) ran.0 (much_stop input rest stop came much);
   }
 
-  pub done_whole : (read : Result TextEnd Stop) (result : Status) (input rest : List ℕ) → After input (Some rest) read result → result ≡ Done → GotOutput IsRight written faults out out' EndLine input (Some rest)
+  pub done_whole : (read : Result TextEnd Stop) (result : Status) (input rest : List ℕ) → After input (Some rest) read result → result ≡ Done → GotWhole IsTextOf written faults out out' EndLine input (Some rest)
   done_whole (Ok end) result input rest ran is =
       let told = text_end end EndLine input (Some rest) result ran is in subst (λ (e : TextEnd). Whole e input (Some rest)) told.0 told.1
   done_whole (Err stop) result input rest ran is = absurd (no_stop stop result Done done_no_stop ran.0 is)
@@ -367,26 +363,26 @@ module _ (IsRight : Header → List Sent → List Entry → Type 0) {K : Type 0}
   fault_rose input left (Ok end) result ran is = (text_fault end input left result ran is).1
   fault_rose input left (Err stop) result ran is = absurd (no_stop stop result WriteFault write_no_stop ran.0 is)
 
-  some_text : (end : TextEnd) (input : List ℕ) (left : Option (List ℕ)) → Part end input left → GotPart IsRight written faults out out' input left
+  some_text : (end : TextEnd) (input : List ℕ) (left : Option (List ℕ)) → Part end input left → GotPart IsTextOf written faults out out' input left
   some_text end input left part = (end, part.0, part.1, part.2)
 
-  pub fault_part : (read : Result TextEnd Stop) (result : Status) (input rest : List ℕ) → After input (Some rest) read result → result ≡ WriteFault → GotPart IsRight written faults out out' input (Some rest)
+  pub fault_part : (read : Result TextEnd Stop) (result : Status) (input rest : List ℕ) → After input (Some rest) read result → result ≡ WriteFault → GotPart IsTextOf written faults out out' input (Some rest)
   fault_part (Ok end) result input rest ran is = some_text end input (Some rest) (text_fault end input (Some rest) result ran is).0
   fault_part (Err stop) result input rest ran is = absurd (no_stop stop result WriteFault write_no_stop ran.0 is)
 
   nothing_so : out' ≡ out → GotNothing written faults out out'
   nothing_so same = subst (λ (k : K). Appended written faults out k []) (sym same) (Appended-nil written faults out)
 
-  some_part : (end : TextEnd) (input : List ℕ) (left : Option (List ℕ)) → (out' ≡ out) ⊎ Part end input left → GotNothing written faults out out' ⊎ GotPart IsRight written faults out out' input left
+  some_part : (end : TextEnd) (input : List ℕ) (left : Option (List ℕ)) → (out' ≡ out) ⊎ Part end input left → GotNothing written faults out out' ⊎ GotPart IsTextOf written faults out out' input left
   some_part end input left (inl none) = inl (nothing_so none)
   some_part end input left (inr part) = inr (some_text end input left part)
 
-  text_part : (end : TextEnd) (input : List ℕ) (left : Option (List ℕ)) (result : Status) → Text end input left result → result ≡ Memory → GotNothing written faults out out' ⊎ GotPart IsRight written faults out out' input left
+  text_part : (end : TextEnd) (input : List ℕ) (left : Option (List ℕ)) (result : Status) → Text end input left result → result ≡ Memory → GotNothing written faults out out' ⊎ GotPart IsTextOf written faults out out' input left
   text_part end input left result (inl (is, all)) same = inr (some_text end input left (whole_part end input left all))
   text_part end input left result (inr (inl (is, part, rose))) same = inr (some_text end input left part)
   text_part end input left result (inr (inr (is, some))) same = some_part end input left some
 
-  pub memory_part : (read : Result TextEnd Stop) (result : Status) (input rest : List ℕ) → After input (Some rest) read result → result ≡ Memory → GotNothing written faults out out' ⊎ GotPart IsRight written faults out out' input (Some rest)
+  pub memory_part : (read : Result TextEnd Stop) (result : Status) (input rest : List ℕ) → After input (Some rest) read result → result ≡ Memory → GotNothing written faults out out' ⊎ GotPart IsTextOf written faults out out' input (Some rest)
   memory_part (Ok end) result input rest ran is = text_part end input (Some rest) result ran is
   memory_part (Err stop) result input rest ran is = inl (nothing_so ran.1)
 
@@ -403,14 +399,14 @@ module _ (IsRight : Header → List Sent → List Entry → Type 0) {K : Type 0}
   read_told input left (Ok end) result ran is = ap status_at (text_end end (Early early.ReadFault) input left result ran is).0
   read_told input left (Err stop) result ran is = ap status_of (stop_told stop (stops.Early early.ReadFault) result (λ same. cc) ran.0 is)
 
-  -- a status that is never told
-  never : (input : List ℕ) (left : Option (List ℕ)) (read : Result TextEnd Stop) (result status : Status) → IsNoEnd status → IsNoStop status → (status ≡ WriteFault → ⊥) → (status ≡ Memory → ⊥) → After input left read result → result ≡ status → ⊥
-  never input left (Ok end) result status none stopless write memory ran is =
-      elim (text_other end input left result status none ran is) [
-        | inl fault ↦ write fault
-        | inr want ↦ memory want
-      ]
-  never input left (Err stop) result status none stopless write memory ran is = no_stop stop result status stopless ran.0 is
+  -- no other status is told
+  pub after_answers : (input : List ℕ) (left : Option (List ℕ)) (read : Result TextEnd Stop) (result : Status) → After input left read result → Answers result
+  after_answers input left (Ok end) result (inl (is, all)) = subst Answers (sym is) (end_answers end)
+  after_answers input left (Ok end) result (inr (inl (is, part, rose))) = inr (inr (inr (inr (inl is))))
+  after_answers input left (Ok end) result (inr (inr (is, some))) = inr (inr (inr (inr (inr (inl is)))))
+  after_answers input left (Err stop) result (inl is, same) = subst Answers (sym is) (stop_answers stop)
+  after_answers input left (Err stop) result (inr (inl is), same) = inr (inr (inr (inr (inr (inl is)))))
+  after_answers input left (Err stop) result (inr (inr none), same) = absurd none
 
   -- Completeness
 
@@ -428,18 +424,18 @@ module _ (IsRight : Header → List Sent → List Entry → Type 0) {K : Type 0}
 
 -- What was done with a word that runs a session
 
-module _ (IsRight : Header → List Sent → List Entry → Type 0) {S K : Type 0} (left : S → Option (List ℕ)) (failed : S → ℕ) (written : K → Option (List ℕ)) (faults : K → ℕ) (source source' : S) (out out' : K) where
+module _ (IsTextOf : KindOfText) {S K : Type 0} (left : S → Option (List ℕ)) (failed : S → ℕ) (written : K → Option (List ℕ)) (faults : K → ℕ) (source source' : S) (out out' : K) where
   abbrev TheRun : Status → Type 0
-  TheRun status = Ran IsRight left failed written faults source source' out out' status
+  TheRun status = Ran IsTextOf left failed written faults source source' out out' status
 
-  after_told : (status result : Status) (ran : TheRun status) → Among result (status ∷ Memory ∷ []) → After IsRight written faults out out' ran.input (left source') ran.read result
-  after_told status result ran tells = After-told IsRight written faults out out' ran.input (left source') ran.read status result ran.followed tells
+  after_told : (status result : Status) (ran : TheRun status) → Among result (status ∷ Memory ∷ []) → After IsTextOf written faults out out' ran.input (left source') ran.read result
+  after_told status result ran tells = After-told IsTextOf written faults out out' ran.input (left source') ran.read status result ran.followed tells
 
   -- where the source tells its bytes
-  after_at : (status result : Status) (ran : TheRun status) (input rest : List ℕ) → Among result (status ∷ Memory ∷ []) → left source ≡ Some (input ++ rest) → left source' ≡ Some rest → After IsRight written faults out out' input (Some rest) ran.read result
+  after_at : (status result : Status) (ran : TheRun status) (input rest : List ℕ) → Among result (status ∷ Memory ∷ []) → left source ≡ Some (input ++ rest) → left source' ≡ Some rest → After IsTextOf written faults out out' input (Some rest) ran.read result
   after_at status result ran input rest tells had now =
-      subst (λ (bytes : List ℕ). After IsRight written faults out out' bytes (Some rest) ran.read result) (Took-is left failed source source' ran.input input rest ran.took had now)
-      (subst (λ (known : Option (List ℕ)). After IsRight written faults out out' ran.input known ran.read result) now (after_told status result ran tells))
+      subst (λ (bytes : List ℕ). After IsTextOf written faults out out' bytes (Some rest) ran.read result) (Took-is left failed source source' ran.input input rest ran.took had now)
+      (subst (λ (known : Option (List ℕ)). After IsTextOf written faults out out' ran.input known ran.read result) now (after_told status result ran tells))
 
   came_at : (status : Status) (ran : TheRun status) (input rest : List ℕ) → left source ≡ Some (input ++ rest) → left source' ≡ Some rest → ReadCame (Some rest) input ran.read
   came_at status ran input rest had now =
@@ -450,7 +446,7 @@ module _ (IsRight : Header → List Sent → List Entry → Type 0) {S K : Type 
   complete_ran status result bytes ran tells had is reads writes =
       let split = told_bytes bytes ran.input (left source') (sym had ∙ ran.took.moved) in
       let had' : left source ≡ Some (ran.input ++ split.0) = had ∙ ap (λ (text : List ℕ). Some text) split.2 in
-      served IsRight written faults out out' ran.read result ran.input split.0 (after_at status result ran ran.input split.0 tells had' split.1) (came_at status ran ran.input split.0 had' split.1) ran.within
+      served IsTextOf written faults out out' ran.read result ran.input split.0 (after_at status result ran ran.input split.0 tells had' split.1) (came_at status ran ran.input split.0 had' split.1) ran.within
       (subst (λ (text : List ℕ). IsSessionText text) split.2 is) (λ fault. reads (ran.cause fault)) writes
 
   complete_known : (status result : Status) (known : Option (List ℕ)) (ran : TheRun status) → Among result (status ∷ Memory ∷ []) → left source ≡ known
@@ -462,30 +458,50 @@ module _ (IsRight : Header → List Sent → List Entry → Type 0) {S K : Type 
   before_fault input rest ended = (ended.1, ended.2)
 
   -- the run, and the status that was told of it
-  pub session_did : (status result : Status) → TheRun status → Among result (status ∷ Memory ∷ []) → DidSession IsRight left failed written faults source source' out out' result
-  session_did status result ran tells = record {
+  source_causes : (status result : Status) → TheRun status → Among result (status ∷ Memory ∷ []) → SourceCauses [] left failed source source' result
+  source_causes status result ran tells = record {
     taken = record { bytes = ran.input; took = ran.took; within = ran.within };
     prompt = λ input rest had now. subst (λ (bytes : List ℕ). IsPrompt bytes) (Took-is left failed source source' ran.input input rest ran.took had now) ran.prompt;
-    header = λ input rest had now line reason. header_exactly IsRight written faults out out' ran.read result input rest line reason (after_at status result ran input rest tells had now) (came_at status ran input rest had now);
-    cut = λ input rest had now. cut_exactly IsRight written faults out out' ran.read result input rest (after_at status result ran input rest tells had now) (came_at status ran input rest had now);
-    too_much = λ input rest had now. much_exactly IsRight written faults out out' ran.read result input rest (after_at status result ran input rest tells had now) (came_at status ran input rest had now);
-    read_fault = λ is. ran.cause (read_told IsRight written faults out out' ran.input (left source') ran.read result (after_told status result ran tells) is);
+    header = λ input rest had now line reason. header_exactly IsTextOf written faults out out' ran.read result input rest line reason (after_at status result ran input rest tells had now) (came_at status ran input rest had now);
+    cut = λ input rest had now. cut_exactly IsTextOf written faults out out' ran.read result input rest (after_at status result ran input rest tells had now) (came_at status ran input rest had now);
+    too_much = λ input rest had now. much_exactly IsTextOf written faults out out' ran.read result input rest (after_at status result ran input rest tells had now) (came_at status ran input rest had now);
+    read_fault = λ is. ran.cause (read_told IsTextOf written faults out out' ran.input (left source') ran.read result (after_told status result ran tells) is);
     read_before = λ is input rest had now.
-        before_fault input rest (early_told IsRight written faults out out' ran.read result input rest early.ReadFault (after_at status result ran input rest tells had now) (came_at status ran input rest had now) is).0;
-    done = λ is input rest had now. done_whole IsRight written faults out out' ran.read result input rest (after_at status result ran input rest tells had now) is;
-    so_far = λ end is input rest had now. (early_told IsRight written faults out out' ran.read result input rest end (after_at status result ran input rest tells had now) (came_at status ran input rest had now) is).1;
-    write_fault = λ is. fault_rose IsRight written faults out out' ran.input (left source') ran.read result (after_told status result ran tells) is;
-    part = λ is input rest had now. fault_part IsRight written faults out out' ran.read result input rest (after_at status result ran input rest tells had now) is;
-    memory = λ is input rest had now. memory_part IsRight written faults out out' ran.read result input rest (after_at status result ran input rest tells had now) is;
-    nothing = λ line reason is. header_nothing IsRight written faults out out' ran.input (left source') ran.read result line reason (after_told status result ran tells) is;
-    no_verdict = λ is. never IsRight written faults out out' ran.input (left source') ran.read result Differs differs_no_end differs_no_stop (λ same. cc) (λ same. cc) (after_told status result ran tells) is;
+        before_fault input rest (early_told IsTextOf written faults out out' ran.read result input rest early.ReadFault (after_at status result ran input rest tells had now) (came_at status ran input rest had now) is).0;
+  }
+
+  got_text : (status result : Status) → TheRun status → Among result (status ∷ Memory ∷ []) → GotText IsTextOf left written faults source source' out out' result
+  got_text status result ran tells = record {
+    done = λ is input rest had now. done_whole IsTextOf written faults out out' ran.read result input rest (after_at status result ran input rest tells had now) is;
+    so_far = λ end is input rest had now. (early_told IsTextOf written faults out out' ran.read result input rest end (after_at status result ran input rest tells had now) (came_at status ran input rest had now) is).1;
+    write_fault = λ is. fault_rose IsTextOf written faults out out' ran.input (left source') ran.read result (after_told status result ran tells) is;
+    part = λ is input rest had now. fault_part IsTextOf written faults out out' ran.read result input rest (after_at status result ran input rest tells had now) is;
+    memory = λ is input rest had now. memory_part IsTextOf written faults out out' ran.read result input rest (after_at status result ran input rest tells had now) is;
+    nothing = λ line reason is. header_nothing IsTextOf written faults out out' ran.input (left source') ran.read result line reason (after_told status result ran tells) is;
+  }
+
+  pub session_did : (status result : Status) → TheRun status → Among result (status ∷ Memory ∷ []) → DidSession IsTextOf left failed written faults source source' out out' result
+  session_did status result ran tells = record {
+    causes = source_causes status result ran tells;
+    got = got_text status result ran tells;
+    answers = after_answers IsTextOf written faults out out' ran.input (left source') ran.read result (after_told status result ran tells);
     complete = complete_known status result (left source) ran tells refl;
   }
 
   -- a run is no refusal of the words
   pub session_accepts : (status : Status) → TheRun status → status ≡ Usage → ⊥
   session_accepts status ran is =
-      never IsRight written faults out out' ran.input (left source') ran.read status Usage usage_no_end usage_no_stop (λ same. cc) (λ same. cc) (after_told status status ran (inl refl)) is
+      usage_never (subst Answers is (after_answers IsTextOf written faults out out' ran.input (left source') ran.read status (after_told status status ran (inl refl))))
+    where
+      usage_never : Answers Usage → ⊥
+      usage_never (inl (line, reason, is)) = cc
+      usage_never (inr (inl is)) = cc
+      usage_never (inr (inr (inl is))) = cc
+      usage_never (inr (inr (inr (inl is)))) = cc
+      usage_never (inr (inr (inr (inr (inl is))))) = cc
+      usage_never (inr (inr (inr (inr (inr (inl is)))))) = cc
+      usage_never (inr (inr (inr (inr (inr (inr (inl is))))))) = cc
+      usage_never (inr (inr (inr (inr (inr (inr (inr none))))))) = none
 
   -- a run that did not begin, for want of memory
   pub not_begun : source' ≡ source → out' ≡ out → TheRun Memory

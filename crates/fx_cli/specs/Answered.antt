@@ -4,7 +4,7 @@ use Rattle.std.specs.declared.alloc.Global.{Global}
 use Rattle.program_words.specs.Forms.{task_of}
 use Rattle.program_words.specs.declared.task.Task.{Task}
 use Rattle.program_words.specs.declared.task.Task.TheVariants.{Run, Serial, Check, Load}
-use Rattle.fx_cli.specs.TopCall.{EndsExactly, ToldErr}
+use Rattle.fx_cli.specs.TopCall.{EndsExactly, IsOutputOf, ToldErr}
 use Rattle.fx_cli.specs.Headline.{IsHeadline, IsSerial}
 use Rattle.fx_cli.specs.SessionCall.{DidSession}
 use Rattle.fx_cli.specs.CheckCall.{DidCheck}
@@ -24,8 +24,8 @@ pub record Answered {S K E : Type 0} (left : S → Option (List ℕ)) (failed : 
   pub untouched : asked words ≡ None → (source' ≡ source) × (out' ≡ out)
   -- what came of a session, on threads and in the order of its lines, of the check of an output, and of a load: what was
   -- read and written, and the cause of each status
-  pub run : (workers : ℕ) → asked words ≡ Some (Run workers) → DidSession IsHeadline left failed written faults source source' out out' status
-  pub serial : asked words ≡ Some Serial → DidSession IsSerial left failed written faults source source' out out' status
+  pub run : (workers : ℕ) → asked words ≡ Some (Run workers) → DidSession (IsOutputOf IsHeadline) left failed written faults source source' out out' status
+  pub serial : asked words ≡ Some Serial → DidSession (IsOutputOf IsSerial) left failed written faults source source' out out' status
   pub check : asked words ≡ Some Check → DidCheck left failed written faults source source' out out' status
   pub load : (seed banks pairs commands workers : ℕ) → asked words ≡ Some (Load seed banks pairs commands workers) →
       DidLoad written faults seed banks pairs commands source source' out out' status

@@ -40,23 +40,27 @@ pub record IsOutputOf (IsRight : Header → List Sent → List Entry → Type 0)
   pub exactly : IsOutput session history (strays_of session input) (ending_of end) text
   pub as_listed : listed text ≡ Ok (record { session = session; commands = map sent_by history })
 
--- a sink got exactly that output
-abbrev pub GotOutput : (IsRight : Header → List Sent → List Entry → Type 0) {K : Type 0} (written : K → Option (List ℕ)) (faults : K → ℕ) (before now : K) → TextEnd → List ℕ → Option (List ℕ) → Type 0
-GotOutput IsRight written faults before now end input left = (text : List ℕ) × IsOutputOf IsRight end input left text × Appended written faults before now text
+-- What a text is said to be of an input that ended so, where the source has `left` still: the end, the input, `left` and the text.
+abbrev pub KindOfText : Type 1
+KindOfText = TextEnd → List ℕ → Option (List ℕ) → List ℕ → Type 0
+
+-- a sink got exactly that text
+abbrev pub GotWhole : (IsTextOf : KindOfText) {K : Type 0} (written : K → Option (List ℕ)) (faults : K → ℕ) (before now : K) → TextEnd → List ℕ → Option (List ℕ) → Type 0
+GotWhole IsTextOf written faults before now end input left = (text : List ℕ) × IsTextOf end input left text × Appended written faults before now text
 
 -- a sink got a prefix of it, however the input ended
-abbrev pub GotPart : (IsRight : Header → List Sent → List Entry → Type 0) {K : Type 0} (written : K → Option (List ℕ)) (faults : K → ℕ) (before now : K) → List ℕ → Option (List ℕ) → Type 0
-GotPart IsRight written faults before now input left = (end : TextEnd) × (text : List ℕ) × IsOutputOf IsRight end input left text × AppendedPart written faults before now text
+abbrev pub GotPart : (IsTextOf : KindOfText) {K : Type 0} (written : K → Option (List ℕ)) (faults : K → ℕ) (before now : K) → List ℕ → Option (List ℕ) → Type 0
+GotPart IsTextOf written faults before now input left = (end : TextEnd) × (text : List ℕ) × IsTextOf end input left text × AppendedPart written faults before now text
 
 -- a sink got nothing
 abbrev pub GotNothing : {K : Type 0} (written : K → Option (List ℕ)) (faults : K → ℕ) (before now : K) → Type 0
 GotNothing written faults before now = Appended written faults before now []
 
--- Where an input ended before its END line: a sink got the output of its whole lines so far, or nothing where START was not
+-- Where an input ended before its END line: a sink got the text of its whole lines so far, or nothing where START was not
 -- read.
-abbrev pub GotSoFar : (IsRight : Header → List Sent → List Entry → Type 0) {K : Type 0} (written : K → Option (List ℕ)) (faults : K → ℕ) (before now : K) → EarlyEnd → List ℕ → Option (List ℕ) → Type 0
-GotSoFar IsRight written faults before now end input left =
-    (HasStarted input × GotOutput IsRight written faults before now (Early end) input left) ⊎ (HasNotStarted input × GotNothing written faults before now)
+abbrev pub GotSoFar : (IsTextOf : KindOfText) {K : Type 0} (written : K → Option (List ℕ)) (faults : K → ℕ) (before now : K) → EarlyEnd → List ℕ → Option (List ℕ) → Type 0
+GotSoFar IsTextOf written faults before now end input left =
+    (HasStarted input × GotWhole IsTextOf written faults before now (Early end) input left) ⊎ (HasNotStarted input × GotNothing written faults before now)
 
 -- the statuses at which a check writes nothing on standard output
 abbrev pub WritesNothing : Status → Type 0

@@ -8,6 +8,7 @@ ghost use Rattle.threaded_run.specs.Lanes.{HaveServed};
 ghost use Rattle.fx_cli.specs.Headline.{IsHeadline};
 ghost use Rattle.fx_cli.specs.inside.Rounds.{AreServing, LanesServedText, ThreadsServedText};
 ghost use Rattle.fx_cli.specs.Run.{Ran};
+ghost use Rattle.fx_cli.specs.TopCall.{IsOutputOf};
 
 use crate::ending::{ending_of, written_status};
 use crate::status::Status;
@@ -33,7 +34,7 @@ pub fn run<R: AllocGlobal + Threads + Wait + Sync, S: Source, K: Sink, G: Gate +
     gate: &G,
 ) -> Status
     requires workers { 1 ≤ workers }
-    ensures ran { Ran IsHeadline S.left S.faults K.written K.faults source.old source.new out.old out.new result }
+    ensures ran { Ran (IsOutputOf IsHeadline) S.left S.faults K.written K.faults source.old source.new out.old out.new result }
 {
     match Reading::begin(rt.alloc(), source) {
         Ok(mut reading) => serve_text(rt, workers, &mut reading, source, out, gate),
@@ -52,7 +53,7 @@ fn serve_text<R: AllocGlobal + Threads + Wait + Sync, S: Source, K: Sink, G: Gat
 ) -> Status
     requires workers { 1 ≤ workers }
     requires begun { (before : S) × (h : SessionHeader) × HasRead S.left S.faults before source.old reading.old h (sent_at reading.old.intake.stage) }
-    ensures ran { (before : S) (h : SessionHeader) → HasRead S.left S.faults before source.old reading.old h (sent_at reading.old.intake.stage) → Ran IsHeadline S.left S.faults K.written K.faults before source.new out.old out.new result }
+    ensures ran { (before : S) (h : SessionHeader) → HasRead S.left S.faults before source.old reading.old h (sent_at reading.old.intake.stage) → Ran (IsOutputOf IsHeadline) S.left S.faults K.written K.faults before source.new out.old out.new result }
 {
     let Ok(blank) = Blank::new(rt.alloc(), keys_of(&reading.script().session)) else {
         return Status::Memory;

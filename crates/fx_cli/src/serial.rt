@@ -4,6 +4,7 @@ ghost use Rattle.session_script.specs.Rounds.{HasRead};
 ghost use Rattle.fx_cli.specs.Headline.{IsSerial};
 ghost use Rattle.fx_cli.specs.inside.Rounds.{IsServing, ServedText};
 ghost use Rattle.fx_cli.specs.Run.{Ran};
+ghost use Rattle.fx_cli.specs.TopCall.{IsOutputOf};
 
 use crate::ending::{ending_of, written_status};
 use crate::status::Status;
@@ -17,7 +18,7 @@ use std::alloc::Global;
 /// Runs the session of the source's bytes in the order of its lines, as they are read, and answers the status that the run
 /// ends with.
 pub fn serial<S: Source, K: Sink>(alloc: Global, source: &mut S, out: &mut K) -> Status
-    ensures ran { Ran IsSerial S.left S.faults K.written K.faults source.old source.new out.old out.new result }
+    ensures ran { Ran (IsOutputOf IsSerial) S.left S.faults K.written K.faults source.old source.new out.old out.new result }
 {
     match Reading::begin(alloc, source) {
         Ok(mut reading) => serve_text(alloc, &mut reading, source, out),
@@ -33,7 +34,7 @@ fn serve_text<S: Source, K: Sink>(
     out: &mut K,
 ) -> Status
     requires begun { (before : S) × (h : SessionHeader) × HasRead S.left S.faults before source.old reading.old h (sent_at reading.old.intake.stage) }
-    ensures ran { (before : S) (h : SessionHeader) → HasRead S.left S.faults before source.old reading.old h (sent_at reading.old.intake.stage) → Ran IsSerial S.left S.faults K.written K.faults before source.new out.old out.new result }
+    ensures ran { (before : S) (h : SessionHeader) → HasRead S.left S.faults before source.old reading.old h (sent_at reading.old.intake.stage) → Ran (IsOutputOf IsSerial) S.left S.faults K.written K.faults before source.new out.old out.new result }
 {
     let Ok(mut run) = open_day(alloc, &reading.script().session) else {
         return Status::Memory;

@@ -5,7 +5,7 @@ ghost use Rattle.fx_cli.specs.Headline.{IsHeadline, IsSerial};
 ghost use Rattle.fx_cli.specs.Check.{Checked};
 ghost use Rattle.fx_cli.specs.Load.{Loaded};
 ghost use Rattle.fx_cli.specs.Run.{Ran};
-ghost use Rattle.fx_cli.specs.TopCall.{ToldErr};
+ghost use Rattle.fx_cli.specs.TopCall.{IsOutputOf, ToldErr};
 ghost use Rattle.fx_cli.specs.inside.TopCall.{Refused};
 
 use crate::check::check;
@@ -58,8 +58,8 @@ fn follow<R: AllocGlobal + Threads + Wait + Sync, S: Source, K: Sink, G: Gate + 
     out: &mut K,
     gate: &G,
 ) -> Status
-    ensures run { (workers : ℕ) → asked words.now ≡ Some (Task.Run workers) → Ran IsHeadline S.left S.faults K.written K.faults source.old source.new out.old out.new result }
-    ensures serial { asked words.now ≡ Some Task.Serial → Ran IsSerial S.left S.faults K.written K.faults source.old source.new out.old out.new result }
+    ensures run { (workers : ℕ) → asked words.now ≡ Some (Task.Run workers) → Ran (IsOutputOf IsHeadline) S.left S.faults K.written K.faults source.old source.new out.old out.new result }
+    ensures serial { asked words.now ≡ Some Task.Serial → Ran (IsOutputOf IsSerial) S.left S.faults K.written K.faults source.old source.new out.old out.new result }
     ensures check { asked words.now ≡ Some Task.Check → Checked S.left S.faults K.written K.faults source.old source.new out.old out.new result }
     ensures load { (seed banks pairs commands workers : ℕ) → asked words.now ≡ Some (Task.Load seed banks pairs commands workers) → Loaded K.written K.faults out.old out.new seed banks pairs commands result }
     ensures unread { (seed banks pairs commands workers : ℕ) → asked words.now ≡ Some (Task.Load seed banks pairs commands workers) → source.new ≡ source.old }

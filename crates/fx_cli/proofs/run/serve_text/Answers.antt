@@ -2,18 +2,19 @@
 use Rattle.std.proofs.Common.{refl}
 use Rattle.session_script.specs.Stage.{session_at}
 use Rattle.fx_cli.specs.Headline.{IsHeadline}
+use Rattle.fx_cli.specs.TopCall.{IsOutputOf}
 use Rattle.fx_cli.proofs.Served.{header_or_none, history_stands, promptly, ran-memory, read_here, threads_ran}
 use Rattle.fx_cli.proofs.run.serve_text.Goals as goal
 
 pub returns-in_default : goal.returns-in_default
 returns-in_default g c = record {
-  ran = λ before h has. ran-memory IsHeadline g.S.Source.left g.S.Source.faults g.K.Sink.written g.K.Sink.faults before c.args.source.now c.args.out.now c.args.out.now (promptly has) refl;
+  ran = λ before h has. ran-memory (IsOutputOf IsHeadline) g.S.Source.left g.S.Source.faults g.K.Sink.written g.K.Sink.faults before c.args.source.now c.args.out.now c.args.out.now (promptly has) refl;
 }
 
 pub returns-in_default-serve_at : goal.returns-in_default-serve_at
 returns-in_default-serve_at g c = record {
   ran = λ before h has.
-      ran-memory IsHeadline g.S.Source.left g.S.Source.faults g.K.Sink.written g.K.Sink.faults before c.serve_at.new.source c.args.out.now c.args.out.now
+      ran-memory (IsOutputOf IsHeadline) g.S.Source.left g.S.Source.faults g.K.Sink.written g.K.Sink.faults before c.serve_at.new.source c.args.out.now c.args.out.now
       (c.in_default-serve_at.ensures.served before (read_here has)) refl;
 }
 

@@ -2,6 +2,7 @@
 use Rattle.std.proofs.Common.{rules, ◌≡◌}
 use Rattle.fx_cli.specs.Headline.{IsSerial}
 use Rattle.fx_cli.specs.Status.{status_of}
+use Rattle.fx_cli.specs.TopCall.{IsOutputOf}
 use Rattle.fx_cli.proofs.Served.{ran-stopped}
 use Rattle.fx_cli.proofs.serial.serial.Goals as goal
 
@@ -11,4 +12,4 @@ returns-in-Ok g c = record { ran = c.serve_text.ensures.ran c.args.source.now c.
 pub returns-in-Err : goal.returns-in-Err
 returns-in-Err g c =
     let is : c.from.result ≡ status_of c.in-Err.stop = search rules in
-    record { ran = ran-stopped IsSerial g.S.Source.left g.S.Source.faults g.K.Sink.written g.K.Sink.faults c.args.source.now c.begin.new.source c.args.out.now c.in-Err.stop c.from.result c.in-Err.ensures.begun is }
+    record { ran = ran-stopped (IsOutputOf IsSerial) g.S.Source.left g.S.Source.faults g.K.Sink.written g.K.Sink.faults c.args.source.now c.begin.new.source c.args.out.now c.in-Err.stop c.from.result c.in-Err.ensures.begun is }

@@ -4,12 +4,13 @@ use Rattle.fx_rules.specs.Session.{Header}
 use Rattle.day_run.specs.Serving.{HasServed}
 use Rattle.pair_host.specs.Standing.{stands}
 use Rattle.fx_cli.specs.Headline.{IsSerial}
+use Rattle.fx_cli.specs.TopCall.{IsOutputOf}
 use Rattle.fx_cli.proofs.Served.{promptly, ran-memory, same_session, serving_open, serial_ran}
 use Rattle.fx_cli.proofs.serial.serve_text.Goals as goal
 
 pub returns-in_default : goal.returns-in_default
 returns-in_default g c = record {
-  ran = λ before h has. ran-memory IsSerial g.S.Source.left g.S.Source.faults g.K.Sink.written g.K.Sink.faults before c.args.source.now c.args.out.now c.args.out.now (promptly has) refl;
+  ran = λ before h has. ran-memory (IsOutputOf IsSerial) g.S.Source.left g.S.Source.faults g.K.Sink.written g.K.Sink.faults before c.args.source.now c.args.out.now c.args.out.now (promptly has) refl;
 }
 
 pub serve_rounds-requires : goal.serve_rounds-requires
@@ -20,7 +21,7 @@ serve_rounds-requires g c =
 pub returns-in_default-serve_rounds : goal.returns-in_default-serve_rounds
 returns-in_default-serve_rounds g c = record {
   ran = λ before h has.
-      ran-memory IsSerial g.S.Source.left g.S.Source.faults g.K.Sink.written g.K.Sink.faults before c.serve_rounds.new.source c.args.out.now c.args.out.now
+      ran-memory (IsOutputOf IsSerial) g.S.Source.left g.S.Source.faults g.K.Sink.written g.K.Sink.faults before c.serve_rounds.new.source c.args.out.now c.args.out.now
       (c.in_default-serve_rounds.ensures.served before h (serving_open c.script.result.now.session c.in-Ok.run' has c.script.ensures.session c.in-Ok.ensures.opens)) refl;
 }
 

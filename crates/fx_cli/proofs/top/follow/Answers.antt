@@ -1,17 +1,18 @@
 -- Where there is no memory for the words, nothing was begun.
 use Rattle.std.proofs.Common.{refl}
 use Rattle.fx_cli.specs.Headline.{IsHeadline, IsSerial}
+use Rattle.fx_cli.specs.TopCall.{IsOutputOf}
 use Rattle.fx_cli.proofs.TopCallLaws.{not_begun}
 use Rattle.fx_cli.proofs.CheckLaws.{check_not_begun}
 use Rattle.fx_cli.proofs.top.follow.Goals as goal
 
 pub returns-in-Err-Memory-clause-run : goal.returns-in-Err-Memory-clause-run
 returns-in-Err-Memory-clause-run g c = λ workers asked.
-    not_begun IsHeadline g.S.Source.left g.S.Source.faults g.K.Sink.written g.K.Sink.faults c.args.source.now c.args.source.now c.args.out.now c.args.out.now refl refl
+    not_begun (IsOutputOf IsHeadline) g.S.Source.left g.S.Source.faults g.K.Sink.written g.K.Sink.faults c.args.source.now c.args.source.now c.args.out.now c.args.out.now refl refl
 
 pub returns-in-Err-Memory-clause-serial : goal.returns-in-Err-Memory-clause-serial
 returns-in-Err-Memory-clause-serial g c = λ asked.
-    not_begun IsSerial g.S.Source.left g.S.Source.faults g.K.Sink.written g.K.Sink.faults c.args.source.now c.args.source.now c.args.out.now c.args.out.now refl refl
+    not_begun (IsOutputOf IsSerial) g.S.Source.left g.S.Source.faults g.K.Sink.written g.K.Sink.faults c.args.source.now c.args.source.now c.args.out.now c.args.out.now refl refl
 
 pub returns-in-Err-Memory-clause-check : goal.returns-in-Err-Memory-clause-check
 returns-in-Err-Memory-clause-check g c = λ asked.

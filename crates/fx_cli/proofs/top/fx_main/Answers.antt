@@ -1,5 +1,6 @@
 -- What the words asked for was done, and the status told.
 use Rattle.fx_cli.specs.Headline.{IsHeadline, IsSerial}
+use Rattle.fx_cli.specs.TopCall.{IsOutputOf}
 use Rattle.fx_cli.proofs.TopCallLaws.{session_did, told_usage}
 use Rattle.fx_cli.proofs.CheckLaws.{check_did}
 use Rattle.fx_cli.proofs.LoadLaws.{load_did}
@@ -11,10 +12,10 @@ returns g c = record {
     usage = told_usage c.follow-status.result c.tell.result c.tell.ensures.same c.follow-status.ensures.usage (λ other. (c.follow-status.ensures.other other).usage);
     untouched = λ other. ((c.follow-status.ensures.other other).unread, (c.follow-status.ensures.other other).unwritten);
     run = λ workers asked.
-        session_did IsHeadline g.S.Source.left g.S.Source.faults g.K.Sink.written g.K.Sink.faults c.args.source.now c.follow-status.new.source c.args.out.now c.follow-status.new.out
+        session_did (IsOutputOf IsHeadline) g.S.Source.left g.S.Source.faults g.K.Sink.written g.K.Sink.faults c.args.source.now c.follow-status.new.source c.args.out.now c.follow-status.new.out
         c.follow-status.result c.tell.result (c.follow-status.ensures.run workers asked) c.tell.ensures.same;
     serial = λ asked.
-        session_did IsSerial g.S.Source.left g.S.Source.faults g.K.Sink.written g.K.Sink.faults c.args.source.now c.follow-status.new.source c.args.out.now c.follow-status.new.out
+        session_did (IsOutputOf IsSerial) g.S.Source.left g.S.Source.faults g.K.Sink.written g.K.Sink.faults c.args.source.now c.follow-status.new.source c.args.out.now c.follow-status.new.out
         c.follow-status.result c.tell.result (c.follow-status.ensures.serial asked) c.tell.ensures.same;
     check = λ asked.
         check_did g.S.Source.left g.S.Source.faults g.K.Sink.written g.K.Sink.faults c.args.source.now c.follow-status.new.source c.args.out.now c.follow-status.new.out
