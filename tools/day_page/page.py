@@ -4,9 +4,10 @@ import json
 import os
 import re
 
+from reading.output import ENDINGS
+
 from . import charts
 from .checking import RIGHT, UNCHECKED, WRONG
-from .reading import ENDINGS
 
 HERE = os.path.dirname(os.path.realpath(__file__))
 # How many lines the list of those nearest to the limit has, and up to how many currencies all charts of nets stand side by side.

@@ -1,0 +1,222 @@
+"""Sums an output up for the page of a day. Of a long day no more is held than `Day` says.
+
+What the text tells twice, once in the desks and once in the report, is compared, and each difference is kept.
+"""
+import heapq
+from array import array
+from collections import deque
+from dataclasses import dataclass, field
+
+from reading.output import (
+    COMMANDS, KINDS, Fill, Lines, Matching, read_books, read_count, read_desk, read_end, read_entries, read_header, read_nets, read_notices, read_uses, read_volumes,
+)
+
+MOST_BINS = 240
+
+
+@dataclass
+class PairFills:
+    """A pair's fills: of all of them sums by bin of the history, and of the last of them each."""
+
+    bins: int
+    kept: int
+    count: int = 0
+    lots: int = 0
+    first: tuple = None
+    last: tuple = None
+    newest: list = field(default_factory=list)
+
+    def __post_init__(self):
+        self.fills, self.bought, self.sold, self.turnover = ([0] * self.bins for _ in range(4))
+        self.low, self.high = [None] * self.bins, [None] * self.bins
+
+    def add(self, place, fill):
+        """Takes a fill: its bin, and itself as (entry, turn, ticks, lots, buyer, seller, whether the taker bought)."""
+        _, _, ticks, lots, _, _, buys = fill
+        self.count += 1
+        self.lots += lots
+        self.fills[place] += 1
+        (self.bought if buys else self.sold)[place] += lots
+        self.turnover[place] += lots * ticks
+        low, high = self.low[place], self.high[place]
+        self.low[place] = ticks if low is None or ticks < low else low
+        self.high[place] = ticks if high is None or ticks > high else high
+        self.first = fill if self.first is None or fill < self.first else self.first
+        self.last = fill if self.last is None or fill > self.last else self.last
+        if len(self.newest) < self.kept:
+            heapq.heappush(self.newest, fill)
+        else:
+            heapq.heappushpop(self.newest, fill)
+
+
+@dataclass
+class Desk:
+    """What one bank was told: how many replies of each kind, its last notices, its fills by pair and side (how many, lots, base, quote),
+    what they use with each other bank, and what it gets from each by currency, below 0 where it owes."""
+
+    count: int
+    notices: deque
+    commands: int = 0
+    fills: int = 0
+    kinds: dict = field(default_factory=dict)
+    traded: dict = field(default_factory=dict)
+    used: dict = field(default_factory=dict)
+    gets: dict = field(default_factory=dict)
+
+
+@dataclass
+class Use:
+    """The credit between two banks, in credit units: both limits, what is used, and the line that is left."""
+
+    first: int
+    second: int
+    limits: tuple
+    used: int
+    left: int
+
+    @property
+    def share(self):
+        """What part of the lesser limit is used, from 0 to 1, or None where there is no credit."""
+        lesser = min(self.limits)
+        return min(1.0, self.used / lesser) if lesser else (1.0 if self.used else None)
+
+
+class Day:
+    """A day as it is summed up. `kept` is how many of a desk's notices, of a bank's commands and of a pair's fills are held at most."""
+
+    def __init__(self, kept, header):
+        self.kept, self.header = kept, header
+        self.banks, self.pairs, self.currencies = header.banks, header.pairs, header.currencies
+        self.opening, self.entries, self.kinds = header.opening, 0, dict.fromkeys(KINDS, 0)
+        self.places, self.sent = [], []
+        self.desks, self.fills, self.books = [], [], []
+        self.volumes, self.uses, self.nets = [], [], []
+        self.strays, self.ending, self.differences, self.lines = 0, "", [], 0
+
+    def differs(self, what):
+        self.differences.append(what)
+
+
+def sum_journal(lines, day):
+    """Counts the commands, and notes for each bank the entries of the history that are its."""
+    day.entries = read_count(lines)
+    day.places = [array("I") for _ in day.banks]
+    day.sent = [deque(maxlen=day.kept) for _ in day.banks]
+    counts = dict.fromkeys(COMMANDS, 0)
+    for place, entry in enumerate(read_entries(lines, day.header, day.entries)):
+        counts[entry.word] += 1
+        day.places[entry.bank].append(place)
+        day.sent[entry.bank].append(entry.line)
+    day.kinds = {word.decode(): count for word, count in counts.items()}
+    bins = max(1, min(MOST_BINS, day.entries))
+    day.fills = [PairFills(bins, day.kept) for _ in day.pairs]
+
+
+def sum_desks(lines, day):
+    """Reads what each bank was told, and sums up its fills."""
+    matching = Matching(day.places)
+    for bank, name in enumerate(day.banks):
+        desk = Desk(read_desk(lines, day.header, bank), deque(maxlen=day.kept))
+        day.desks.append(desk)
+        matching.open_desk()
+        for notice in read_notices(lines, day.header, bank, desk.count, len(day.places[bank])):
+            if isinstance(notice, Fill):
+                take_fill(lines, day, desk, bank, notice)
+                place_fill(day, bank, notice, matching.told(bank, notice))
+            else:
+                desk.commands += 1
+                desk.kinds[notice.kind] = desk.kinds.get(notice.kind, 0) + 1
+            desk.notices.append(notice.line)
+        for other, there, here in matching.close_desk(bank):
+            day.differs(f"{day.banks[other]} and {name} were told of {there} and {here} fills with each other")
+
+
+def take_fill(lines, day, desk, bank, fill):
+    """Adds a fill's notice to its desk's sums."""
+    pair = day.pairs[fill.pair]
+    if (fill.base, fill.quote) != (fill.lots * pair.lot, fill.lots * pair.unit * fill.ticks):
+        day.differs(f"the amounts at line {lines.number} are not those of {fill.lots} lots at {fill.price.decode()}")
+    sums = desk.traded.setdefault((fill.pair, fill.buys), [0, 0, 0, 0])
+    for place, amount in enumerate((1, fill.lots, fill.base, fill.quote)):
+        sums[place] += amount
+    desk.used[fill.other] = desk.used.get(fill.other, 0) + fill.lots * pair.weight
+    base, quote = (fill.base, -fill.quote) if fill.buys else (-fill.base, fill.quote)
+    for code, amount in ((pair.base, base), (pair.quote, quote)):
+        desk.gets[fill.other, code] = desk.gets.get((fill.other, code), 0) + amount
+    desk.fills += 1
+
+
+def place_fill(day, bank, fill, place):
+    """Adds a fill to its pair's, once both of its notices were read."""
+    if place is None:
+        return
+    sums = day.fills[fill.pair]
+    buyer, seller = (bank, fill.other) if fill.buys else (fill.other, bank)
+    taker_buys = fill.buys != place.first_takes
+    sums.add(place.entry * sums.bins // day.entries, (place.entry, place.turn, fill.ticks, fill.lots, buyer, seller, taker_buys))
+
+
+def sum_books(lines, day):
+    """Keeps the local books, at most ten levels a side."""
+    day.books = [(bids, asks) for _, _, bids, asks in read_books(lines, day.header)]
+
+
+def sum_report(lines, day):
+    """Reads the report, and compares it with the sums of the desks' fills."""
+    day.volumes = list(read_volumes(lines, day.header))
+    day.uses = [Use(first, second, (here, there), used, left) for first, second, here, there, used, left in read_uses(lines, day.header)]
+    day.nets = [amount for _, _, amount in read_nets(lines, day.header)]
+    compare_volumes(day)
+    compare_uses(day)
+    compare_nets(day)
+
+
+def compare_volumes(day):
+    """Each fill stands on two desks, so a pair's volume is half of what all desks tell."""
+    for at, (pair, volume) in enumerate(zip(day.pairs, day.volumes)):
+        told = [desk.traded[at, buys] for desk in day.desks for buys in (False, True) if (at, buys) in desk.traded]
+        if [2 * amount for amount in volume] != [sum(column) for column in zip(*told)] and (any(volume) or told):
+            day.differs(f"the volume of {pair.name} is not what the desks' fills add up to")
+
+
+def compare_uses(day):
+    for use in day.uses:
+        names = day.banks[use.first], day.banks[use.second]
+        for here, there in ((use.first, use.second), (use.second, use.first)):
+            if day.desks[here].used.get(there, 0) != use.used:
+                day.differs(f"what {names[0]} and {names[1]} have used is not what the fills on the desk of {day.banks[here]} cost")
+        if use.left != max(0, min(use.limits) - use.used):
+            day.differs(f"the line of {names[0]} and {names[1]} is not what their limits leave")
+
+
+def compare_nets(day):
+    nets = iter(day.nets)
+    for name, desk in zip(day.banks, day.desks):
+        sums = dict.fromkeys(day.currencies, 0)
+        for (_, code), amount in desk.gets.items():
+            sums[code] += amount
+        for code in day.currencies:
+            if next(nets) != sums[code]:
+                day.differs(f"the net of {name} in {code} is not what its desk's fills add up to")
+
+
+def sum_end(lines, day):
+    day.strays, day.ending = read_end(lines)
+    day.lines = lines.number
+
+
+def read_day(pieces, kept, tell=lambda part: None):
+    """Sums up an output that comes in pieces of bytes; `tell` is called with the part that is read now."""
+    lines = Lines(pieces)
+    tell("header")
+    day = Day(kept, read_header(lines))
+    for part, take in (
+        ("journal", sum_journal),
+        ("desks", sum_desks),
+        ("local books", sum_books),
+        ("report", sum_report),
+        ("last lines", sum_end),
+    ):
+        tell(part)
+        take(lines, day)
+    return day

@@ -1,0 +1,98 @@
+"""What the tools have in common on the command line: how they open texts, tell what went wrong, and end."""
+import argparse
+import hashlib
+import os
+import sys
+from collections.abc import Callable, Iterator
+from typing import BinaryIO
+
+from .output import PIECE, BadLine
+
+UNREADABLE = 2
+
+
+class Failed(Exception):
+    """The end of the run, with its exit status."""
+
+    def __init__(self, what: str, status: int = UNREADABLE):
+        super().__init__(what)
+        self.status = status
+
+
+class Parser(argparse.ArgumentParser):
+    """Takes the words of a tool; its page of help is the tool's own text. Wrong words end with status 2."""
+
+    def __init__(self, name: str, text: str):
+        summary, _, rest = text.partition("\n\n")
+        super().__init__(prog=name, description=summary, epilog=rest, formatter_class=argparse.RawDescriptionHelpFormatter)
+
+    def error(self, message: str):
+        raise Failed(f"{message}; {self.prog} --help tells the words")
+
+
+class Text:
+    """A text that is read once, with its SHA-256; `-` is standard input."""
+
+    def __init__(self, path: str):
+        self.path, self.size, self.digest = path, 0, hashlib.sha256()
+        self.name = printable("standard input" if path == "-" else path)
+        try:
+            self.file: BinaryIO = sys.stdin.buffer if path == "-" else open(path, "rb")
+        except OSError as fault:
+            raise self.unreadable(fault) from fault
+
+    def read(self, count: int) -> bytes:
+        try:
+            piece = self.file.read(count)
+        except OSError as fault:
+            raise self.unreadable(fault) from fault
+        self.digest.update(piece)
+        self.size += len(piece)
+        return piece
+
+    def pieces(self) -> Iterator[bytes]:
+        while piece := self.read(PIECE):
+            yield piece
+
+    def sha256(self) -> str:
+        """The SHA-256 of the whole text, of which the part that nobody asked for is read now."""
+        for _ in self.pieces():
+            pass
+        return self.digest.hexdigest()
+
+    def unreadable(self, fault: OSError) -> Failed:
+        return Failed(f"{self.name} can't be read: {fault.strerror}")
+
+    def no_output(self, bad: BadLine) -> Failed:
+        return Failed(f"{self.name} is no output: {bad}")
+
+
+def printable(text: str | bytes) -> str:
+    """A text as it may stand in one line for people: bytes that are no printable ASCII as \\xNN, and a long one cut off."""
+    if isinstance(text, str):
+        return "".join(letter if letter.isprintable() else "?" for letter in text)
+    shown = "".join(chr(byte) if 32 <= byte < 127 else "\\t" if byte == 9 else f"\\x{byte:02x}" for byte in text[:120])
+    return shown + (f"... ({len(text)} bytes)" if len(text) > 120 else "")
+
+
+def only_one_input(parser: Parser, paths: list[str | None]) -> None:
+    """Standard input can be one of the texts, and not two."""
+    if paths.count("-") > 1:
+        parser.error("standard input can be one text alone")
+
+
+def end(name: str, run: Callable[[list[str]], int]) -> None:
+    """Runs a tool on its words and ends with its status; a fault is told in one line on standard error."""
+    try:
+        status = run(sys.argv[1:])
+        sys.stdout.flush()
+    except Failed as failed:
+        print(f"{name}: {printable(str(failed))}", file=sys.stderr)
+        status = failed.status
+    except BrokenPipeError:
+        os.dup2(os.open(os.devnull, os.O_WRONLY), sys.stdout.fileno())  # Who read it wanted no more.
+        status = 141
+    except KeyboardInterrupt:
+        print(f"{name}: stopped", file=sys.stderr)
+        status = 130
+    sys.exit(status)
