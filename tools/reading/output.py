@@ -70,10 +70,11 @@ class BadLine(Exception):
 
 
 class Lines:
-    """The lines of a text that comes in pieces, without their line feeds, counted from 1; one piece is held at a time."""
+    """The lines of a text that comes in pieces, without their line feeds, counted from 1; one piece is held at a time. `kept` can be
+    a list, which then gets the lines that are read."""
 
     def __init__(self, pieces: Iterable[bytes]):
-        self.number, self.source = 0, self.cut(pieces)
+        self.number, self.source, self.kept = 0, self.cut(pieces), None
 
     def cut(self, pieces: Iterable[bytes]) -> Iterator[bytes]:
         rest = b""
@@ -95,6 +96,8 @@ class Lines:
         """The next line; `wanted` says what it should be."""
         for line in self.source:
             self.number += 1
+            if self.kept is not None:
+                self.kept.append(line)
             return line
         self.number += 1
         raise self.bad(f"the text ends where {wanted} is wanted")

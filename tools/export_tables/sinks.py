@@ -1,0 +1,117 @@
+"""Where the rows go: a folder of CSV files, or an SQLite file. Each is made beside its place and moved there once it is whole."""
+import csv
+import os
+import shutil
+import sqlite3
+import tempfile
+from collections.abc import Sequence
+
+from reading.command_line import Failed
+
+from .tables import INDEXES, TABLES
+
+TOO_LARGE, UNWRITABLE = 3, 5
+
+
+def unwritable(path: str, fault: OSError | sqlite3.Error) -> Failed:
+    return Failed(f"{path} can't be written: {getattr(fault, 'strerror', None) or fault}", UNWRITABLE)
+
+
+def only_new(path: str) -> None:
+    """What is there already is left as it is."""
+    if os.path.lexists(path):
+        raise Failed(f"{path} is there already", UNWRITABLE)
+
+
+class CsvFolder:
+    """A folder with a file for each table: a line of the column names, and then a line for each row; what is not there is empty."""
+
+    def __init__(self, path: str):
+        only_new(path)
+        self.path = os.path.abspath(path)
+        try:
+            self.made = tempfile.mkdtemp(prefix=".export-", dir=os.path.dirname(self.path))
+            self.files = {table.name: open(f"{self.made}/{table.name}.csv", "w", encoding="ascii", newline="") for table in TABLES}
+        except OSError as fault:
+            raise unwritable(path, fault) from fault
+        self.writers = {name: csv.writer(file, lineterminator="\n") for name, file in self.files.items()}
+        for table in TABLES:
+            self.write(table.name, [[column.name for column in table.columns]])
+
+    def write(self, table: str, rows: Sequence[Sequence]) -> None:
+        try:
+            self.writers[table].writerows(rows)
+        except OSError as fault:
+            raise unwritable(self.path, fault) from fault
+
+    def keep(self) -> None:
+        """Closes the files and moves the folder to its place."""
+        try:
+            for file in self.files.values():
+                file.close()
+            os.chmod(self.made, 0o777 & ~mask())
+            os.rename(self.made, self.path)
+        except OSError as fault:
+            raise unwritable(self.path, fault) from fault
+
+    def drop(self) -> None:
+        """Takes away what is not whole."""
+        for file in self.files.values():
+            try:
+                file.close()
+            except OSError:
+                pass  # What it still held is dropped as well.
+        shutil.rmtree(self.made, ignore_errors=True)
+
+
+class SqliteFile:
+    """An SQLite file. Its constraints are declared, and the keys looked at as rows come; foreign keys are not, since the rows keep them."""
+
+    def __init__(self, path: str):
+        only_new(path)
+        self.path = os.path.abspath(path)
+        try:
+            place, self.made = tempfile.mkstemp(prefix=".export-", dir=os.path.dirname(self.path))
+            os.close(place)
+        except OSError as fault:
+            raise unwritable(path, fault) from fault
+        self.base = sqlite3.connect(self.made, isolation_level=None)
+        for step in ("PRAGMA journal_mode = OFF", "PRAGMA synchronous = OFF", "PRAGMA cache_size = -65536", "BEGIN"):
+            self.base.execute(step)
+        strict = "STRICT" if sqlite3.sqlite_version_info >= (3, 37) else ""
+        for table in TABLES:
+            self.base.execute(table.schema(strict))
+        self.insertions = {table.name: table.insertion() for table in TABLES}
+
+    def write(self, table: str, rows: Sequence[Sequence]) -> None:
+        try:
+            self.base.executemany(self.insertions[table], rows)
+        except OverflowError as fault:
+            raise Failed("an amount is above 2^63 - 1, which SQLite can't hold exactly: --csv has no such limit", TOO_LARGE) from fault
+        except sqlite3.IntegrityError as fault:
+            raise Failed(f"this is no right output, as ./fx check will tell: {fault}", 1) from fault
+        except sqlite3.Error as fault:
+            raise unwritable(self.path, fault) from fault
+
+    def keep(self) -> None:
+        """Makes the indexes, closes the file and moves it to its place."""
+        try:
+            for step in (*INDEXES, "COMMIT"):
+                self.base.execute(step)
+            self.base.close()
+            os.chmod(self.made, 0o666 & ~mask())
+            os.rename(self.made, self.path)
+        except (OSError, sqlite3.Error) as fault:
+            raise unwritable(self.path, fault) from fault
+
+    def drop(self) -> None:
+        """Takes away what is not whole."""
+        self.base.close()
+        if os.path.exists(self.made):
+            os.remove(self.made)
+
+
+def mask() -> int:
+    now = os.umask(0)
+    os.umask(now)
+    return now

@@ -1,0 +1,1 @@
+"""The trials of tools/explain, tools/covers, tools/export and tools/compare, which tools/tools_test runs."""
