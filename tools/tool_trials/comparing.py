@@ -21,7 +21,7 @@ class Compare(Trial):
             (b"NET ALFA EUR 2000000", b"NET ALFA EUR 3", "nets: 1 difference\n    ALFA EUR: A 2000000, B 3\n"),
             (b"USE BETA GAMA 800", b"USE BETA GAMA 801", "uses: 1 difference\n    BETA GAMA limit of BETA: A 800, B 801\n"),
             (b"VOLUME EUR/USD 3", b"VOLUME EUR/USD 4", "volumes: 1 difference\n    EUR/USD fills: A 3, B 4\n"),
-            (b"REPLY 4 KILLED", b"REPLY 4 NOTHING", "    GAMA KILLED: A 1, B none\n    GAMA NOTHING: A 1, B 2\n"),
+            (b"REPLY 3 KILLED", b"REPLY 3 NOTHING", "    GAMA KILLED: A 1, B none\n    GAMA NOTHING: A none, B 1\n"),
             (b"ORDERED 5 0", b"ORDERED 4 1", "of command 5 of the histories BETA was told in A 2 REPLY 2 ORDERED 5 0; in B 2 REPLY 2 ORDERED 4 1\nat most one"),
             (b"STRAYS 0\nEND", b"STRAYS 1\nCUT", "    strays: A 0, B 1\n    ending: A END, B CUT\n"),
             (b"LINE DELT BETA 400\n", b"", "header: 2 differences\n    16: A LINE DELT BETA 400, B START\n"),

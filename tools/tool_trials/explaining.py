@@ -106,7 +106,7 @@ class AgainstProgram(Trial):
     def test_verdicts(self) -> None:
         """Each line's verdict is the program's: its journal, its strays, its ending and its statuses are what the reading makes of the text."""
         judged = 0
-        for seed in range(24):
+        for seed in range(18):
             judged += self.compare(faulty(seed))
         for text in (b"", b"FXBOOK 1\n", HEAD, HEAD + b"END", HEAD + b"END\r", HEAD + b"END\nx", b"\xef\xbb\xbf" + HEAD, HEAD.replace(b"\n", b"\r\n") + b"END\r\n"):
             self.compare(text)

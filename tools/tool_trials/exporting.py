@@ -2,6 +2,7 @@
 import csv
 import os
 import re
+import shutil
 import sqlite3
 
 from .common import HERE, MORNING, Trial, made, needs_program, program, ran, read
@@ -77,15 +78,17 @@ class Export(Trial):
 
     def test_faulty_texts_leave_nothing(self) -> None:
         right = read(MORNING[1])
-        large = right.replace(b"1000000 1084100", b"1000000 99999999999999999999").replace(b"7000000 7588200", b"7000000 100000000000000006504099")
+        large = right.replace(b"1000000 1084100", b"1000000 99999999999999999999").replace(b"7000000 7588200", b"7000000 100000000000006504099")
         for text, status in (
             (right[:-1], 2), (b"", 2), (right.replace(b"KILLED", b"KILED"), 2), (right.replace(b"VOLUME EUR/USD 3", b"VOLUME EUR/USD 4"), 1),
-            (right.replace(b"NET ALFA EUR 2000000", b"NET ALFA EUR 99999999999999999999"), 3), (large, 1),
+            (right.replace(b"NET ALFA EUR 2000000", b"NET ALFA EUR 99999999999999999999"), 3), (large, 3),
         ):
             for word in ("--csv", "--sqlite"):
                 found, _, err = ran("export", "-", word, f"{self.folder}/made", text=text)
                 self.assertEqual((found, err.count("\n")), (status, 1) if status != 3 or word == "--sqlite" else (0, 0), (text[:40], err))
                 self.assertEqual(os.listdir(self.folder), [] if found else ["made"])
+                shutil.rmtree(f"{self.folder}/made", ignore_errors=True)
+        self.file("made", b"")
         self.assertEqual(ran("export", MORNING[1], "--sqlite", f"{self.folder}/made")[0], 5)
         self.assertEqual(ran("export", MORNING[1], "--sqlite", f"{self.folder}/none/made")[0], 5)
 
