@@ -4,27 +4,36 @@
   ./fx WORDS..   the program with these words, as ./fx serial < examples/morning.fx. Where the proved program is not built,
                  or a source is newer, the same sources run at once with the toolchain's run-time checks.
   ./fx build     proves and builds the program with all processors; from then on ./fx starts it at once.
+  ./fx package   makes a Debian package of the proved program and its pages.
+  ./fx help      tells all words, with examples, bounds and exit statuses.
 
-A run with run-time checks passes standard input, output and error and the exit status on byte for byte. Its own ends are
-status 70, the toolchain refused the sources, and 75, it gave up on the run: then nothing was written to standard output.
+A run with run-time checks passes standard input, output and error and the exit status on byte for byte. What ./fx ends with
+itself stands in tools/command/table.py.
 """
+import signal
+import sys
+
+# Ctrl-C ends the run with its status and without a traceback, from here on.
+if signal.getsignal(signal.SIGINT) is not signal.SIG_IGN:
+    signal.signal(signal.SIGINT, lambda *_: sys.exit(130))
+
+import contextlib
 import os
 import re
 import subprocess
-import sys
 import tempfile
 import time
 
 HERE = os.path.dirname(os.path.realpath(__file__))
 sys.path.insert(0, f"{HERE}/tools")
 sys.dont_write_bytecode = True
+from command.table import GAVE_UP, MOST_BYTES, MOST_MINUTES, NO_PACKAGE, REFUSED, UNPROVED
+from command.words import HELP, fault_of
 from sources.crates import read_crates
 
 TOP = "fx_cli"
 PROGRAM = f"{HERE}/crates/{TOP}/out/{TOP}"
-REFUSED, GAVE_UP = 70, 75
-# A run with run-time checks is cut off where it has written so much, or took so many seconds.
-MOST_BYTES, MOST_SECONDS = 1 << 20, 600
+WRONG_WORDS = 1
 
 
 def say(text):
@@ -52,22 +61,29 @@ def is_current():
     return all(os.path.getmtime(file) <= built for file in [f"{HERE}/crates.txt", *files])
 
 
+@contextlib.contextmanager
 def rt(words, **how):
-    """Starts a command of the toolchain."""
+    """A running command of the toolchain, which is ended where this run is stopped."""
     try:
-        return subprocess.Popen(["rt", *words], **how)
+        run = subprocess.Popen(["rt", *words], **how)
     except FileNotFoundError:
         say("the Rattle toolchain's command rt is not on the PATH")
         sys.exit(REFUSED)
+    try:
+        yield run
+    finally:
+        if run.poll() is None:
+            run.terminate()
+            run.wait()
 
 
 def run_checked(words):
     """Runs the sources with run-time checks, and answers the exit status."""
-    say("this run is checked as it goes and is not the proved program, which ./fx build makes")
-    known = {"RT_SECONDS": str(MOST_SECONDS), **os.environ}
+    say(UNPROVED)
+    known = {"RT_SECONDS": str(60 * MOST_MINUTES), **os.environ}
     with tempfile.TemporaryFile() as out, tempfile.TemporaryFile() as err:
-        run = rt(["try", "--", *words], cwd=f"{HERE}/crates/{TOP}", stdout=out, stderr=err, env=known)
-        run.wait()
+        with rt(["try", "--", *words], cwd=f"{HERE}/crates/{TOP}", stdout=out, stderr=err, env=known) as run:
+            run.wait()
         out.seek(0)
         err.seek(0)
         wrote, said = out.read(), err.read()
@@ -80,7 +96,7 @@ def run_checked(words):
         sys.stdout.flush()
         return int(ended[1])
     if ended or b"\nrun=no-answer" in said:
-        say(f"the toolchain ended the run: it lets one write less than 1 MiB and take {MOST_SECONDS // 60} minutes. Nothing of it was written; ./fx build makes the program, which has no such limit")
+        say(f"the toolchain ended the run: it lets one write less than 1 MiB and take {MOST_MINUTES} minutes. Nothing of it was written; ./fx build makes the program, which has no such limit")
         return GAVE_UP
     say("the toolchain refused the sources")
     return REFUSED
@@ -91,30 +107,39 @@ def clock(started):
     return f"{seconds // 60}:{seconds % 60:02}"
 
 
+def prove():
+    """Proves all crates side by side, and answers whether it went well."""
+    started, every, done, block = time.monotonic(), crates(), 0, []
+    jobs, known = len(os.sched_getaffinity(0)), {**os.environ, "PYTHONUNBUFFERED": "1"}
+    say(f"proving {len(every)} crates, {jobs} at a time; the first time this takes about half an hour")
+    with rt(["all", "check", "--jobs", str(jobs)], cwd=HERE, stdout=subprocess.PIPE, stderr=subprocess.STDOUT, env=known) as proof:
+        for line in proof.stdout:
+            begins = re.match(rb"== (\w+)$", line)
+            if begins and begins[1].decode() in every:
+                done, block = done + 1, []
+                say(f"{clock(started)}  {done} of {len(every)}  {begins[1].decode()}")
+            block.append(line)
+        if proof.wait() == 0:
+            return True
+    sys.stderr.buffer.write(b"".join(block))
+    say("the program is not built: the toolchain refused the sources, as told above")
+    return False
+
+
 def build():
-    """Proves all crates side by side, and then builds the program; answers the exit status."""
+    """Proves all crates, and then builds the program; answers the exit status."""
     if is_current():
         say("the program is proved and built already")
         return 0
-    started, every, done, block = time.monotonic(), crates(), 0, []
+    started = time.monotonic()
     if os.path.exists(PROGRAM):
         os.remove(PROGRAM)
-    jobs, known = len(os.sched_getaffinity(0)), {**os.environ, "PYTHONUNBUFFERED": "1"}
-    say(f"proving {len(every)} crates, {jobs} at a time; the first time this takes some minutes")
-    proof = rt(["all", "check", "--jobs", str(jobs)], cwd=HERE, stdout=subprocess.PIPE, stderr=subprocess.STDOUT, env=known)
-    for line in proof.stdout:
-        begins = re.match(rb"== (\w+)$", line)
-        if begins and begins[1].decode() in every:
-            done, block = done + 1, []
-            say(f"{clock(started)}  {done} of {len(every)}  {begins[1].decode()}")
-        block.append(line)
-    if proof.wait():
-        sys.stderr.buffer.write(b"".join(block))
-        say("the program is not built: the toolchain refused the sources, as told above")
+    if not prove():
         return REFUSED
     # It builds the program and runs it once, on nothing, whose status says nothing here.
     with tempfile.TemporaryFile() as log:
-        rt(["run", "--", "serial"], cwd=f"{HERE}/crates/{TOP}", stdin=subprocess.DEVNULL, stdout=log, stderr=log).wait()
+        with rt(["run", "--", "serial"], cwd=f"{HERE}/crates/{TOP}", stdin=subprocess.DEVNULL, stdout=log, stderr=log) as run:
+            run.wait()
         if not os.access(PROGRAM, os.X_OK):
             log.seek(0)
             sys.stderr.buffer.write(log.read())
@@ -125,9 +150,38 @@ def build():
     return 0
 
 
+def package(folder):
+    """Makes the Debian package, and answers the exit status."""
+    from command.package import Refused, make_package
+
+    if not is_current():
+        say("the program is not built, or a source is newer than it: no package was made. ./fx build proves and builds it")
+        return NO_PACKAGE
+    try:
+        print(make_package(HERE, PROGRAM, folder))
+    except Refused as fault:
+        say(f"{fault}: no package was made")
+        return NO_PACKAGE
+    return 0
+
+
+def print_help():
+    from command.pages import help_page
+
+    print(help_page(), end="")
+    return 0
+
+
 def main(words):
-    if words == ["build"]:
+    if fault := fault_of(words):
+        say(f"{fault}; ./fx help tells the words, with examples")
+        return WRONG_WORDS
+    if words[0] in HELP:
+        return print_help()
+    if words[0] == "build":
         return build()
+    if words[0] == "package":
+        return package(words[1] if len(words) > 1 else f"{HERE}/out")
     if is_current():
         os.execv(PROGRAM, [PROGRAM, *words])
     return run_checked(words)

@@ -1,0 +1,132 @@
+"""The words of ./fx: what each does, what it takes, and within which bounds. `./fx help`, what ./fx says of wrong words, the
+completions and the man page are made from this table (tools/pages writes the files)."""
+from typing import NamedTuple
+
+
+class Number(NamedTuple):
+    """A number in the words: its name, and its bounds, both of which it may be."""
+
+    name: str
+    low: int
+    high: int
+    what: str
+
+
+class Word(NamedTuple):
+    """A word of ./fx. `reads` is the text that it takes from standard input, `threaded` says that `--workers N` may stand behind
+    the numbers, `folder` that a folder may; `own` marks the words that ./fx itself has, and the program has not."""
+
+    word: str
+    summary: str
+    more: str
+    reads: str = ""
+    numbers: tuple[Number, ...] = ()
+    threaded: bool = False
+    folder: bool = False
+    own: bool = False
+
+
+WORKERS = Number("N", 1, 64, "workers, that is threads with some of the banks each")
+DEFAULT_WORKERS = 4
+
+LOAD_NUMBERS = (
+    Number("SEED", 0, 2**64 - 1, "the number that all is made from"),
+    Number("BANKS", 2, 64, "how many banks"),
+    Number("PAIRS", 1, 32, "how many pairs"),
+    Number("COMMANDS", 1, 20000, "how many commands"),
+)
+
+WORDS = (
+    Word(
+        "serial",
+        "runs a session in the order of its lines",
+        "Use it where the file's order is the order in which the commands came in. The same session always gives the same output.",
+        reads="SESSION",
+    ),
+    Word(
+        "run",
+        "runs a session on threads, as banks that send side by side",
+        "Each bank's commands stay in their order; which bank comes first is up to the threads, so two runs may print two outputs, and each is right.",
+        reads="SESSION",
+        threaded=True,
+    ),
+    Word(
+        "check",
+        "tells whether a text is a right output: YES, or NO and the offset where it is not",
+        "It looks at the output alone. Whether it is one of a certain session, tools/covers SESSION OUTPUT tells.",
+        reads="OUTPUT",
+    ),
+    Word(
+        "load",
+        "makes a session from a number, runs it both ways, checks it and sums it up",
+        "It reads nothing. The same numbers always give the same three lines.",
+        numbers=LOAD_NUMBERS,
+        threaded=True,
+    ),
+    Word(
+        "build",
+        "proves and builds the program once, in about half an hour",
+        "From then on ./fx starts the proved program at once.",
+        own=True,
+    ),
+    Word(
+        "package",
+        "makes a Debian package of the proved program and its pages, in the folder out or DIR",
+        "It wants dpkg-deb. It makes none where the program is not built, or a source is newer than the program.",
+        folder=True,
+        own=True,
+    ),
+    Word("help", "prints this page", "So do --help and -h.", own=True),
+)
+
+BOUNDS = (
+    ("banks", "2 to 64"),
+    ("pairs", "1 to 32"),
+    ("a text line", "at most 256 bytes, without its end"),
+    ("a session", "at most 2^26 bytes (64 MiB)"),
+    ("an output that is checked", "below 2^28 bytes (256 MiB)"),
+    ("workers", f"{WORKERS.low} to {WORKERS.high}, and {DEFAULT_WORKERS} where none are told"),
+    ("commands of load", "1 to 20,000"),
+)
+
+# The exit statuses of the program, and those that ./fx has besides.
+STATUSES = {
+    0: "all went well; check says YES",
+    1: "the words are wrong",
+    2: "the session's header has a fault, whose line and reason are told",
+    3: "the session's text ended before an END line",
+    4: "a read failed",
+    5: "a write to standard output failed",
+    6: "out of memory",
+    7: "the input is too long",
+    8: "check says NO",
+}
+REFUSED, NO_PACKAGE, GAVE_UP, STOPPED = 70, 73, 75, 130
+OWN_STATUSES = {
+    REFUSED: "the toolchain refused the sources, or there is no toolchain",
+    NO_PACKAGE: "no package was made",
+    GAVE_UP: "a run of the sources was given up; nothing was written",
+    STOPPED: "it was stopped by Ctrl-C",
+}
+
+EXAMPLES = (
+    ("./fx serial < examples/morning.fx > morning.out", "a morning, in the order of its lines"),
+    ("./fx check < morning.out", "YES: it is a right output"),
+    ("./fx run --workers 8 < examples/morning.fx | ./fx check", "the same morning on eight threads, and checked"),
+    ("./fx load 7 8 4 5000", "5,000 commands of 8 banks in 4 pairs, made from the number 7"),
+    ("tools/explain day.fx", "which lines of a session the program will refuse, and why"),
+)
+
+# What a run costs where the program is not built.
+MOST_BYTES, MOST_MINUTES, START_SECONDS = 1 << 20, 10, 25
+UNPROVED = (
+    "no proved program of these sources is built (./fx build makes it, in about half an hour), so the toolchain runs the sources now, and checks "
+    f"them as they run. That proves nothing, takes about {START_SECONDS} seconds to start, and gives up at 1 MiB of output or after {MOST_MINUTES} minutes"
+)
+
+
+def synopsis(word: Word, name: str = "./fx") -> str:
+    """How a word is written, with what it reads."""
+    parts = [name, word.word, *(number.name for number in word.numbers)]
+    parts += [f"[--workers {WORKERS.name}]"] * word.threaded + ["[DIR]"] * word.folder
+    return " ".join(parts + [f"< {word.reads}"] * bool(word.reads))
