@@ -1,1 +1,1 @@
-"""The trials of tools/explain, tools/covers, tools/export and tools/compare, which tools/tools_test runs."""
+"""The trials of tools/explain, tools/covers, tools/export, tools/compare and tools/fix, which tools/tools_test runs."""

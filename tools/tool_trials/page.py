@@ -11,7 +11,7 @@ class Page(Trial):
         """A block of the page that begins with `$ tools/..` has the command's whole output behind it."""
         page = read(f"{HERE}/docs/TOOLS.md").decode()
         examples = re.findall(r"^```\n\$ tools/(\S+) (.*?)\n(.*?)^```$", page, re.M | re.S)
-        self.assertGreaterEqual({name for name, _, _ in examples}, {"explain", "covers", "compare"})
+        self.assertGreaterEqual({name for name, _, _ in examples}, {"explain", "covers", "compare", "fix"})
         before = os.getcwd()
         os.chdir(HERE)
         self.addCleanup(os.chdir, before)
@@ -22,7 +22,7 @@ class Page(Trial):
     def test_statuses(self) -> None:
         """Each exit status that a tool's page of help tells stands in the page's table."""
         page = read(f"{HERE}/docs/TOOLS.md").decode()
-        for name in ("explain", "covers", "export", "compare"):
+        for name in ("explain", "covers", "export", "compare", "fix"):
             told = re.findall(r"^ +(\d+)  ?\S", ran(name, "--help")[1].partition("Exit statuses:\n")[2], re.M)
             row = re.search(rf"^\| `tools/{name}` \|(.*)$", page, re.M)
             self.assertTrue(told and row, name)
