@@ -14,30 +14,21 @@ from matplotlib.patches import PathPatch
 from matplotlib.path import Path
 from matplotlib.ticker import FuncFormatter, MaxNLocator
 
+from .credit_path import FOLLOWED
+from .scale import LEVELS, OWN, percent
+
 matplotlib.rcParams["svg.fonttype"] = "none"
 matplotlib.rcParams["svg.hashsalt"] = "day"
 matplotlib.rcParams["path.simplify"] = False
 
-# The part of a lesser limit that is used, by steps: nothing, up to a quarter, a half, three quarters, nine tenths, below all, all.
-STEPS = (0.0, 0.25, 0.5, 0.75, 0.9)
-NO_CREDIT, OWN, LEVELS = 7, 8, 9
 NAMES = ["ink", "muted", "grid", "surface", "buy", "sell", "none", "bar"]
 COLOURS = {name: f"#01010{at}" for at, name in enumerate(NAMES)}
 COLOURS |= {f"h{level}": f"#02020{level}" for level in range(LEVELS)}
 COLOURS |= {f"t{level}": f"#03030{level}" for level in range(LEVELS)}
+COLOURS |= {f"l{line}": f"#04040{line}" for line in range(FOLLOWED)}
 POINTS_PER_INCH = 72
-# A chart over the page's whole width.
-WIDE = 860
-
-
-def level(use):
-    """The step of the scale that the credit between two banks stands at."""
-    share = use.share
-    if share is None:
-        return NO_CREDIT
-    if use.left == 0:
-        return 6
-    return next((at for at, top in enumerate(STEPS) if share <= top), 5)
+# A chart over the page's whole width, and one over the width of a narrow screen.
+WIDE, NARROW = 860, 264
 
 
 class Chart:
@@ -134,11 +125,12 @@ def heat(day):
     places = [[] for _ in range(LEVELS)]
     places[OWN] = [(at, at, at + 1, at + 1) for at in range(count)]
     for use in day.uses:
+        level = day.scale.level(use)
         for row, column in ((use.first, use.second), (use.second, use.first)):
-            places[level(use)].append((column, row, column + 1, row + 1))
+            places[level].append((column, row, column + 1, row + 1))
             if cell >= 28:
                 told, size = (percent(use), 11 if cell > 40 else 9) if use.share is not None else ("no credit" if cell > 60 else "none", 9)
-                axes.text(column + 0.5, row + 0.5, told, ha="center", va="center", fontsize=size, color=COLOURS[f"t{level(use)}"])
+                axes.text(column + 0.5, row + 0.5, told, ha="center", va="center", fontsize=size, color=COLOURS[f"t{level}"])
     for at, boxed in enumerate(places):
         put(axes, boxes(boxed), f"h{at}", "surface", 1.0 if cell > 20 else 0.5)
     size = 10 if cell > 16 else 7.5
@@ -149,15 +141,6 @@ def heat(day):
         axes.text(at + 0.5, -space, name, rotation=90 if count > 12 else 0, ha="center", va="bottom", fontsize=size, color=COLOURS["ink"])
         axes.text(-space, at + 0.5, name, ha="right", va="center", fontsize=size, color=COLOURS["ink"])
     return chart.svg("Heat map: how much of the lesser limit each two banks have used"), (left, top, cell)
-
-
-def percent(use):
-    """The part of the lesser limit that is used, in whole percent, which say 0 and 100 only where nothing is used or left."""
-    if use.share is None:
-        return "\u2013"
-    if use.used and use.left and not 0.5 <= 100 * use.share < 99.5:
-        return "<1%" if use.share < 0.5 else ">99%"
-    return f"{100 * use.share:.0f}%"
 
 
 def net(day, currency):
@@ -214,36 +197,68 @@ def volume(day):
         axes.set_yticks(range(count), [pair.name for pair in day.pairs] if left < 100 else [])
         axes.set_xticks([])
         axes.tick_params(axis="y", length=0)
-        axes.set_title(title, loc="left", fontsize=10, fontweight="bold", color=COLOURS["ink"])
+        axes.set_title(title, loc="left", y=1, fontsize=10, fontweight="bold", color=COLOURS["ink"])
     return chart.svg("Bars: lots by pair, and the credit units that they used")
 
 
-FILLS_LEFT, FILLS_RIGHT = 72, WIDE - 22
+# Where the part of a chart over the history begins and ends, by the chart's width.
+SPANS = {WIDE: (72, WIDE - 22), NARROW: (48, NARROW - 6)}
 
 
-def fills(day, at):
+def over_history(day, name, width):
+    """A chart of two parts over the history, one above the other, of so many points in width."""
+    chart, (left, right) = Chart(name, width, 350), SPANS[width]
+    above = chart.axes(left, 18, right, 200, spines=("left",))
+    below = chart.axes(left, 226, right, 318, spines=("left",), sharex=above)
+    above.set_xlim(0.5, max(2, day.entries) + 0.5)
+    above.tick_params(labelbottom=False, bottom=False)
+    below.xaxis.set_major_locator(MaxNLocator(10 if width == WIDE else 3, integer=True))
+    below.xaxis.set_major_formatter(FuncFormatter(lambda place, _: f"{place:,.0f}" if width == WIDE else short(place)))
+    below.set_xlabel(f"command of the history, of {day.entries:,}", fontsize=9, color=COLOURS["muted"])
+    return chart, above, below
+
+
+def titled(axes, title):
+    # With its place told, the library doesn't measure all ticks to find one, which takes a third of the drawing.
+    axes.set_title(title, loc="left", y=1, fontsize=9, pad=4, color=COLOURS["muted"])
+    axes.grid(color=COLOURS["grid"], linewidth=0.7)
+    axes.set_axisbelow(True)
+
+
+def fills(day, at, width=WIDE):
     """A pair's fills over the history: prices above, lots below, those that a taker bought up and those it sold down."""
     pair, sums = day.pairs[at], day.fills[at]
-    chart = Chart(f"fills-{at}", WIDE, 350)
-    prices = chart.axes(FILLS_LEFT, 18, FILLS_RIGHT, 200, spines=("left",))
-    lots = chart.axes(FILLS_LEFT, 226, FILLS_RIGHT, 318, spines=("left",), sharex=prices)
-    prices.set_xlim(0.5, max(2, day.entries) + 0.5)
+    chart, prices, lots = over_history(day, f"fills-{at}-{width}", width)
     (draw_each if sums.count <= sums.kept else draw_bins)(prices, lots, sums, day.entries)
     prices.set_ylim(*prices_range(sums))
     prices.yaxis.set_major_locator(MaxNLocator(6, integer=True))
     prices.yaxis.set_major_formatter(FuncFormatter(lambda ticks, _: price(pair, round(ticks))))
-    prices.tick_params(labelbottom=False, bottom=False)
     lots.axhline(0, color=COLOURS["muted"], linewidth=0.8)
     lots.yaxis.set_major_locator(MaxNLocator(4, integer=True))
     lots.yaxis.set_major_formatter(FuncFormatter(lambda amount, _: short(abs(amount))))
-    lots.xaxis.set_major_locator(MaxNLocator(10, integer=True))
-    lots.xaxis.set_major_formatter(FuncFormatter(lambda place, _: f"{place:,.0f}"))
-    lots.set_xlabel(f"command of the history, of {day.entries:,}", fontsize=9, color=COLOURS["muted"])
-    for axes, title in ((prices, "Price"), (lots, "Lots")):
-        axes.set_title(title, loc="left", fontsize=9, pad=4, color=COLOURS["muted"])
-        axes.grid(color=COLOURS["grid"], linewidth=0.7)
-        axes.set_axisbelow(True)
+    titled(prices, "Price")
+    titled(lots, "Lots")
     return chart.svg(f"Fills of {pair.name} over the history, by price and lots")
+
+
+def credit(day, followed, width=WIDE):
+    """The credit used over the history: which part of the lesser limit the followed lines have used above, what all lines have used below."""
+    chart, shares, total = over_history(day, f"credit-{width}", width)
+    ends = [0.5] + [(part + 1) * day.entries / day.parts + 0.5 for part in range(day.parts)]
+    for colour, (first, second) in enumerate(followed):
+        used, limits = day.credit.line(first, second, day.opening)
+        path = [0] + [100 * amount / limit if limit else 0 for amount, limit in zip(used, limits)]
+        shares.step(ends, path, where="pre", color=COLOURS[f"l{colour}"], linewidth=2.6 - 0.35 * colour)
+    shares.set_ylim(-3, 104)
+    shares.yaxis.set_major_locator(MaxNLocator(5, integer=True))
+    shares.yaxis.set_major_formatter(FuncFormatter(lambda share, _: f"{share:.0f}%"))
+    whole = [0] + day.credit.used_in_all()
+    put(total, boxes([(left, 0, right, amount) for left, right, amount in zip(ends, ends[1:], whole[1:]) if amount]), "bar")
+    total.set_ylim(0, 1.08 * (max(whole) or 1))
+    amounts_on(total.yaxis, 4)
+    titled(shares, "Used part of the lesser limit")
+    titled(total, "Credit units used, all lines")
+    return chart.svg("Credit used over the history: the lines nearest to the limit, and all lines together")
 
 
 def prices_range(sums):

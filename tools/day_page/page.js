@@ -2,6 +2,7 @@
 const day = JSON.parse(document.getElementById("data").textContent);
 const at = id => document.getElementById(id);
 const grouped = text => (/^-?\d+$/.test(text) ? String(text).replace(/^-/, "\u2212").replace(/\B(?=(\d{3})+(?!\d))/g, ",") : String(text));
+const share = use => (use.share === "\u2013" ? -1 : parseFloat(use.share.replace(/[<>]/, "")));
 const few = (count, one, many) => `${grouped(count)} ${String(count) === "1" ? one : many || one + "s"}`;
 const price = (pair, ticks) => {
   if (!pair.decimals) return String(ticks);
@@ -38,7 +39,16 @@ function rows(table, heads, cells) {
       if (span) made.colSpan = span;
     });
   }
+  named(table);
   sortable(table);
+}
+
+// On a narrow screen a row stands as a block, in which each cell has its heading above it.
+function named(table) {
+  const names = [...table.querySelectorAll("thead th")].map(head => head.textContent);
+  for (const row of table.tBodies[0].rows) {
+    for (const cell of row.cells) if (cell.cellIndex && cell.colSpan === 1) cell.dataset.head = names[cell.cellIndex];
+  }
 }
 
 // Tables are sorted by a button in each heading.
@@ -80,6 +90,28 @@ function creditText(a, b) {
   const part = use.share === "\u2013" ? "no credit between the two" : `used ${grouped(use.used)}, which is ${use.share} of the lesser; left ${grouped(use.left)}`;
   return `${day.banks[a]} and ${day.banks[b]}: ${limitText(a, b, use.limit)}; ${limitText(b, a, use.other)}; ${part}.`;
 }
+// The row of one bank in the heat map, as names and shares, the fullest first; for screens on which the map's names are too small.
+function showRow() {
+  const bank = Number(at("choose-row").value), row = at("row");
+  row.replaceChildren();
+  const others = day.banks.map((_, other) => other).filter(other => other !== bank);
+  others.sort((a, b) => share(uses.get(`${bank},${b}`)) - share(uses.get(`${bank},${a}`)) || a - b);
+  for (const other of others) {
+    const use = uses.get(`${bank},${other}`), told = use.share === "\u2013" ? "no credit" : use.share;
+    const made = put(row, "button", `${day.banks[other]} ${told}`, `shade h${use.level}`);
+    made.type = "button";
+    made.title = creditText(bank, other);
+    made.addEventListener("click", () => openDesk(bank, other));
+  }
+}
+// Opens the notices of one bank that are of fills with another.
+function openDesk(bank, other) {
+  choose({ desk: day.banks[bank] });
+  at("filter-with").value = day.banks[other];
+  notices();
+  remember();
+  at("desk").scrollIntoView();
+}
 function heatMap() {
   const stage = at("heat"), cursor = at("heat-cursor"), told = at("heat-told"), svg = stage.querySelector("svg");
   const { left, top, cell } = Object.fromEntries(["left", "top", "cell"].map(key => [key, Number(stage.dataset[key])]));
@@ -92,14 +124,7 @@ function heatMap() {
     told.textContent = creditText(row, column);
     if (tip) tipAt(tip, creditText(row, column).replaceAll(/[:;] /g, "\n"));
   }
-  function openDesk() {
-    if (row === column) return;
-    choose({ desk: day.banks[row] });
-    at("filter-with").value = day.banks[column];
-    notices();
-    remember();
-    at("desk").scrollIntoView();
-  }
+  const open = () => row !== column && openDesk(row, column);
   function cellAt(event) {
     const box = svg.getBoundingClientRect(), by = scale();
     const x = Math.floor(((event.clientX - box.left) / by - left) / cell), y = Math.floor(((event.clientY - box.top) / by - top) / cell);
@@ -109,10 +134,10 @@ function heatMap() {
   }
   stage.addEventListener("pointermove", event => (cellAt(event) ? show(event) : hideTip()));
   stage.addEventListener("pointerleave", hideTip);
-  stage.addEventListener("click", event => cellAt(event) && openDesk());
+  stage.addEventListener("click", event => cellAt(event) && open());
   stage.addEventListener("keydown", event => {
     const step = { ArrowLeft: [0, -1], ArrowRight: [0, 1], ArrowUp: [-1, 0], ArrowDown: [1, 0] }[event.key];
-    if (event.key === "Enter") openDesk();
+    if (event.key === "Enter") open();
     if (!step) return;
     event.preventDefault();
     row = Math.min(day.banks.length - 1, Math.max(0, row + step[0]));
@@ -183,18 +208,22 @@ function fillTable(pair, binned) {
 }
 function fillChart() {
   const stage = at("fills"), cursor = at("fills-cursor"), told = at("fills-told");
-  const { left, right, width, most } = day.axis;
-  const box = () => [...document.querySelectorAll(".fill-chart")].find(chart => !chart.hidden).querySelector("svg").getBoundingClientRect();
+  // The chart that is seen, the wide or the narrow one: its box on the screen, and where the history begins and ends in it.
+  function seen() {
+    const chart = [...document.querySelectorAll(".fill-chart")].find(one => one.offsetParent);
+    const { left, right, width } = day.axis[chart.classList.contains("narrow") ? "narrow" : "wide"], box = chart.querySelector("svg").getBoundingClientRect();
+    return { box, by: box.width / width, left, span: (right - left) / day.axis.most };
+  }
   function show(event) {
-    const by = box().width / width;
-    cursor.style.left = `${(left + ((spots[spot][0] - 0.5) / most) * (right - left)) * by}px`;
+    const { by, left, span } = seen();
+    cursor.style.left = `${(left + (spots[spot][0] - 0.5) * span) * by}px`;
     cursor.hidden = false;
     told.textContent = spots[spot][1].replaceAll("\n", " ");
     if (event) tipAt(event, spots[spot][1]);
   }
   stage.addEventListener("pointermove", event => {
     if (!spots.length) return;
-    const frame = box(), place = (((event.clientX - frame.left) / (frame.width / width) - left) / (right - left)) * most + 0.5;
+    const { box, by, left, span } = seen(), place = ((event.clientX - box.left) / by - left) / span + 0.5;
     spot = spots.reduce((best, one, index) => (Math.abs(one[0] - place) < Math.abs(spots[best][0] - place) ? index : best), 0);
     show(event);
   });
@@ -248,7 +277,6 @@ function ladder(parent, bank, bids, asks) {
 }
 
 // One bank's desk.
-const faults = ["", "no such word", "another number of fields", "no such pair", "no price of the pair", "price out of range", "lots out of range", "no other bank", "limit out of range", "no order number", "no such life", "long line"];
 const replies = {
   ORDERED: ([filled, rests]) => `${few(filled, "lot")} filled, ${grouped(rests)} rest`,
   KILLED: () => "killed: it could not be filled whole",
@@ -260,7 +288,7 @@ const replies = {
   LIMIT: ([limit]) => `limit set to ${grouped(limit)}`,
   SHOWN: ([limit, used, line]) => `own limit ${grouped(limit)}, used ${grouped(used)}, left ${grouped(line)}`,
   BOOK: words => bookText(words),
-  BAD: ([fault]) => `not read: ${faults[fault] || "fault " + fault}`,
+  BAD: ([fault]) => `not read: ${day.faults[fault] || "fault " + fault}`,
 };
 function bookText(words) {
   const middle = words.indexOf("ASKS"), side = part => levels(part.join(" ")).map(([at, lots]) => `${grouped(lots)} at ${at}`).join(", ") || "nothing";
@@ -307,9 +335,6 @@ function owed(found) {
     return [day.banks[other], [lists[0].join("; "), "list"], [lists[1].join("; "), "list owes"]];
   });
   rows(at("desk-gets"), ["With", "Gets", "Owes"], cells);
-}
-function share(use) {
-  return use.share === "\u2013" ? -1 : parseFloat(use.share.replace(/[<>]/, ""));
 }
 function notices() {
   const kind = at("filter-kind").value, pair = at("filter-pair").value, other = at("filter-with").value, text = at("filter-text").value.trim().toUpperCase();
@@ -381,7 +406,14 @@ function start() {
     remember();
   });
   for (const id of ["use-bank", "use-share"]) at(id).addEventListener("input", filterUses);
-  for (const table of document.querySelectorAll("table.sorts")) sortable(table);
+  for (const table of document.querySelectorAll("table.sorts")) {
+    named(table);
+    sortable(table);
+  }
+  day.banks.forEach((bank, place) => (put(at("choose-row"), "option", bank).value = place));
+  at("choose-row").value = day.nearest[0];
+  at("choose-row").addEventListener("change", showRow);
+  showRow();
   heatMap();
   fillChart();
   filterUses();

@@ -8,6 +8,10 @@ from reading.output import ENDINGS
 
 from . import charts
 from .checking import RIGHT, UNCHECKED, WRONG
+from .credit_path import FOLLOWED
+from .refused import refused_section, words_of_faults
+from .scale import is_full, is_nearly_full, percent
+from .tables import few, grouped, safe, table
 
 HERE = os.path.dirname(os.path.realpath(__file__))
 # How many lines the list of those nearest to the limit has, and up to how many currencies all charts of nets stand side by side.
@@ -17,18 +21,6 @@ USE_HEADS = ("Bank", "Other", "#Bank's limit", "#Other's limit", "#Used", "#Left
 CHIPS = {RIGHT: "\u2713 checked: a right output", WRONG: "\u2717 NOT A RIGHT OUTPUT", UNCHECKED: "? NOT CHECKED"}
 MARKS = {RIGHT: "Checked: a right output", WRONG: "NOT A RIGHT OUTPUT", UNCHECKED: "NOT CHECKED"}
 MARK_COLOURS = {RIGHT: "#12663a", WRONG: "#a3120a", UNCHECKED: "#7a4a00"}
-
-
-def safe(text):
-    return html.escape(str(text))
-
-
-def grouped(number):
-    return f"{number:,}".replace("-", "\u2212")
-
-
-def few(count, one):
-    return f"{grouped(count)} {one}{'' if count == 1 else 's'}"
 
 
 def average(pair, turnover, lots):
@@ -41,25 +33,9 @@ def decimal(number, places):
     return f"{digits[:-places]}.{digits[-places:]}" if places else digits
 
 
-def table(name, caption, heads, rows, classes="sorts"):
-    """A table's markup. A heading that begins with # is one of numbers; a cell is a text, or a text with its classes."""
-    numbers = [head.startswith("#") for head in heads]
-    tops = "".join(f'<th scope="col"{" class=n" if number else ""}>{safe(head.lstrip("#"))}</th>' for head, number in zip(heads, numbers))
-    body = []
-    for row in rows:
-        cells = []
-        for place, cell in enumerate(row):
-            text, extra = cell if isinstance(cell, tuple) else (cell, "")
-            kinds = " ".join(filter(None, ("n" if numbers[place] else "", extra)))
-            mark = f' class="{kinds}"' if kinds else ""
-            cells.append(f'<th scope="row"{mark}>{safe(text)}</th>' if place == 0 else f"<td{mark}>{safe(text)}</td>")
-        body.append(f"<tr>{''.join(cells)}</tr>")
-    return f'<table id="{name}" class="{classes}"><caption>{safe(caption)}</caption><thead><tr>{tops}</tr></thead><tbody>\n' + "\n".join(body) + "\n</tbody></table>"
-
-
-def shade(use):
+def shade(day, use):
     """The part of the lesser limit that is used, in the colour that it has in the heat map."""
-    return charts.percent(use), f"shade h{charts.level(use)}"
+    return percent(use), f"shade h{day.scale.level(use)}"
 
 
 def nearness(use):
@@ -68,7 +44,7 @@ def nearness(use):
 
 
 def use_row(day, use):
-    return (day.banks[use.first], day.banks[use.second], *map(grouped, (*use.limits, use.used, use.left)), shade(use))
+    return (day.banks[use.first], day.banks[use.second], *map(grouped, (*use.limits, use.used, use.left)), shade(day, use))
 
 
 def nearest_line(day):
@@ -94,10 +70,9 @@ def exposure_table(day):
         own = [use for use in day.uses if bank in (use.first, use.second)]
         top = max(own, key=nearness)
         other = day.banks[top.first + top.second - bank]
-        full = sum(charts.level(use) == 6 for use in own)
-        near = sum(charts.level(use) == 5 for use in own)
+        full, near = sum(map(is_full, own)), sum(map(is_nearly_full, own))
         without = sum(use.share is None for use in own)
-        nearest = (f"{other} {charts.percent(top)}", f"shade h{charts.level(top)}") if top.used else ("none", "none")
+        nearest = (f"{other} {percent(top)}", f"shade h{day.scale.level(top)}") if top.used else ("none", "none")
         rows.append((name, grouped(sum(use.used for use in own)), grouped(sum(use.left for use in own)), str(full), str(near), str(without), nearest))
     heads = ("Bank", "#Used", "#Left", "#Used up", "#Over 90%", "#No credit", "Nearest")
     return table("exposure", "Credit units over all of a bank's lines; how many of them are used up, over 90% used, or without credit.", heads, rows, "sorts pin")
@@ -120,19 +95,53 @@ def volumes_table(day):
 
 def legend(day):
     """What the heat map's colours say, with how many lines have each."""
-    names = ["nothing used", "to 25%", "to 50%", "to 75%", "to 90%", "over 90%", "used up", "no credit"]
-    counts = [0] * len(names)
-    for use in day.uses:
-        counts[charts.level(use)] += 1
-    items = "".join(f'<li><span class="swatch" style="background: var(--h{at})"></span>{name}: {count}</li>' for at, (name, count) in enumerate(zip(names, counts)))
-    return f'Used part of the lesser limit, with the number of lines: <ul class="legend">{items}</ul>'
+    levels = [day.scale.level(use) for use in day.uses]
+    items = "".join(f'<li><span class="swatch" style="background: var(--h{at})"></span>{name}: {grouped(levels.count(at))}</li>' for at, name in day.scale.names())
+    return f'Used part of the lesser limit, with the number of lines. The steps follow this day\'s shares. <ul class="legend">{items}</ul>'
+
+
+def followed(day):
+    """The lines that the chart of the credit used follows: those nearest to the limit at the end, the nearest first."""
+    chosen = sorted((use for use in day.uses if use.used), key=nearness, reverse=True)[:FOLLOWED]
+    return [(use.first, use.second) for use in chosen]
+
+
+def credit_legend(day, lines):
+    items = "".join(
+        f'<li><span class="swatch" style="background: var(--l{at})"></span>{day.banks[first]} and {day.banks[second]}</li>' for at, (first, second) in enumerate(lines)
+    )
+    cut = "" if day.parts == day.entries else f" The history is cut into {grouped(day.parts)} equal parts, and what stands is as of the end of each."
+    return f'Above, the lines nearest to the limit at the end: <ul class="legend">{items}</ul>A share falls only where a limit is raised.{cut}'
+
+
+def credit_table(day, lines):
+    """The same as rows: each part of the history in which the credit of the chart changed."""
+    paths = [day.credit.line(first, second, day.opening) for first, second in lines]
+    rows, before = [], None
+    for part, whole in enumerate(day.credit.used_in_all()):
+        told = [f"{grouped(used[part])} of {grouped(limits[part])}" for used, limits in paths]
+        if [whole, *told] != before:
+            rows.append((grouped(-(-(part + 1) * day.entries // day.parts)), grouped(whole), *told))
+        before = [whole, *told]
+    heads = ("#Up to command", "#Used in all", *(f"#{day.banks[first]} and {day.banks[second]}" for first, second in lines))
+    return table("credit-table", "What was used in all, and what each line of the chart had used of the lesser limit, in credit units.", heads, rows)
+
+
+def credit_part(day, tell):
+    """The chart of the credit used over the history, and its table; nothing where no fill has used any."""
+    lines = followed(day)
+    if not lines:
+        return "<p>No fill has used any line.</p>"
+    tell("the credit used")
+    drawn = f'<div class="wide">{charts.credit(day, lines)}</div><div class="narrow">{charts.credit(day, lines, charts.NARROW)}</div>'
+    shown = f'<details><summary>The credit used, as a table</summary><div class="scroll tall">{credit_table(day, lines)}</div></details>'
+    return f'<figure>{drawn}<figcaption>{credit_legend(day, lines)}</figcaption></figure>{shown}'
 
 
 def figures(day):
     """The day in a few numbers."""
     fills, lots = sum(volume[0] for volume in day.volumes), sum(volume[1] for volume in day.volumes)
-    full = sum(charts.level(use) == 6 for use in day.uses)
-    near = sum(charts.level(use) == 5 for use in day.uses)
+    full, near = sum(map(is_full, day.uses)), sum(map(is_nearly_full, day.uses))
     told = [
         ("Banks", grouped(len(day.banks)), ""),
         ("Pairs", grouped(len(day.pairs)), ""),
@@ -248,18 +257,19 @@ def bins_data(day, at):
 
 def data(day):
     """What the page's choices are made from. Amounts are texts, since they can be beyond what a browser counts exactly."""
-    most = max(2, day.entries)
+    spans = {kind: {"left": charts.SPANS[width][0], "right": charts.SPANS[width][1], "width": width} for kind, width in (("wide", charts.WIDE), ("narrow", charts.NARROW))}
     told = {
         "banks": day.banks,
         "currencies": day.currencies,
         "kept": day.kept,
-        "cuts": day.fills[0].bins,
+        "cuts": day.parts,
+        "faults": words_of_faults(),
         "cards": CARDS,
         "common": max(day.currencies, key=lambda code: sum(code in (pair.base, pair.quote) for pair in day.pairs)),
         "busiest": max(zip(day.pairs, day.fills), key=lambda one: one[1].count)[0].name,
-        "axis": {"left": charts.FILLS_LEFT, "right": charts.FILLS_RIGHT, "width": charts.WIDE, "most": most},
+        "axis": {**spans, "most": max(2, day.entries)},
         "opening": {f"{of},{on}": str(limit) for (of, on), limit in day.opening.items()},
-        "uses": [[use.first, use.second, *(str(amount) for amount in (*use.limits, use.used, use.left)), charts.percent(use), charts.level(use)] for use in day.uses],
+        "uses": [[use.first, use.second, *(str(amount) for amount in (*use.limits, use.used, use.left)), percent(use), day.scale.level(use)] for use in day.uses],
         "nearest": nearest_line(day),
         "books": [f"{' '.join(bids)}|{' '.join(asks)}" for bids, asks in day.books],
         "pairs": [pair_data(day, at) for at in range(len(day.pairs))],
@@ -274,16 +284,49 @@ def net_charts(day, tell):
         tell(f"nets of {code}")
         column = day.nets[at :: len(day.currencies)]
         owed = grouped(sum(amount for amount in column if amount > 0))
-        cards.append(f'<figure class="card net-card" data-currency="{code}"><h4>{code} <small>{owed} to be paid</small></h4>{charts.net(day, code)}</figure>')
+        cards.append(f'<figure class="card net-card" data-currency="{code}"><h4>{code} <small>{owed} to be paid</small></h4><div class="wide">{charts.net(day, code)}</div>{net_bars(day, column)}</figure>')
     return "\n".join(cards)
+
+
+def net_bars(day, column):
+    """A currency's nets as bars that lie one below the other, for a narrow screen: the greatest payer first."""
+    reach = max(map(abs, column)) or 1
+    rows = [(name, [(grouped(amount), amount, reach)]) for amount, name in sorted(zip(column, day.banks))]
+    return bars(rows, "nets")
+
+
+def volume_bars(day):
+    """Lots and credit by pair, as bars for a narrow screen."""
+    lots = [volume[1] for volume in day.volumes]
+    credit = [pair.weight * amount for pair, amount in zip(day.pairs, lots)]
+    rows = [(pair.name, [(f"{few(one, 'lot')}", one, max(lots) or 1), (f"{few(other, 'credit unit')}", other, max(credit) or 1)]) for pair, one, other in zip(day.pairs, lots, credit)]
+    return bars(rows, "volumes")
+
+
+def bars(rows, kind):
+    """A list of bars: of each row a name and, one below the other, texts with their amounts and the amount that fills the width. Amounts below
+    zero go to the left of the middle, where the kind is of nets."""
+    items = []
+    for name, told in rows:
+        parts = "".join(f'<span class="{bar_class(kind, place, amount)}" style="--part: {100 * abs(amount) / reach:.4g}%">{text}</span>' for place, (text, amount, reach) in enumerate(told))
+        items.append(f"<li><b>{name}</b><span>{parts}</span></li>")
+    return f'<ul class="narrow bars {kind}">{"".join(items)}</ul>'
+
+
+def bar_class(kind, place, amount):
+    if kind == "nets":
+        return "pays" if amount < 0 else "gets"
+    return ("lots", "credit")[place]
 
 
 def fill_charts(day, tell):
     made = []
     for at, pair in enumerate(day.pairs):
         tell(f"fills of {pair.name}")
-        chart = charts.fills(day, at) if day.fills[at].count else ""
-        made.append(f'<div class="fill-chart" data-pair="{pair.name}" hidden>{chart}</div>')
+        drawn = day.fills[at].count
+        for kind, width in (("wide", charts.WIDE), ("narrow", charts.NARROW)):
+            chart = charts.fills(day, at, width) if drawn else ""
+            made.append(f'<div class="fill-chart {kind}" data-pair="{pair.name}" hidden>{chart}</div>')
     return "\n".join(made)
 
 
@@ -310,8 +353,8 @@ def made_text(day, source, verdict):
 </ul>"""
 
 
-def page(day, source, verdict, tell=lambda part: None):
-    """The page's text."""
+def page(day, source, verdict, session=None, tell=lambda part: None):
+    """The page's text; `session` has the session's own words of the bad commands, where it was given."""
     parts = {}
     for name in ("page.html", "page.css", "page.js"):
         with open(f"{HERE}/{name}", encoding="utf-8") as file:
@@ -327,9 +370,9 @@ def page(day, source, verdict, tell=lambda part: None):
         "verdict_class": verdict.kind + (" many" if many else ""), "verdict_role": "status" if verdict.kind == RIGHT else "alert",
         "chip": CHIPS[verdict.kind], "verdict": verdict_text(verdict), "differences": differences(day), "figures": figures(day),
         "heat": heat, "heat_left": str(left), "heat_top": str(top), "heat_cell": str(cell), "legend": legend(day),
-        "nearest": nearest_table(day), "exposure": exposure_table(day), "uses": uses_table(day), "use_count": few(len(day.uses), "line"),
+        "nearest": nearest_table(day), "exposure": exposure_table(day), "uses": uses_table(day), "credit": credit_part(day, tell), "use_count": few(len(day.uses), "line"),
         "nets": nets_table(day), "nets_controls": chosen, "nets_open": "" if many else " open", "net_charts": net_charts(day, tell),
-        "volume": charts.volume(day), "volumes": volumes_table(day), "fill_charts": fill_charts(day, tell),
+        "volume": charts.volume(day), "volume_bars": volume_bars(day), "volumes": volumes_table(day), "refused": refused_section(day, session), "fill_charts": fill_charts(day, tell),
         "made": made_text(day, source, verdict), "data": data(day),
     }
     return re.sub(r"\{\{(\w+)\}\}", lambda found: put[found[1]], parts["page.html"])

@@ -6,10 +6,15 @@ import heapq
 from array import array
 from collections import deque
 from dataclasses import dataclass, field
+from functools import cached_property
+from typing import NamedTuple
 
 from reading.output import (
     COMMANDS, KINDS, Fill, Lines, Matching, read_books, read_count, read_desk, read_end, read_entries, read_header, read_nets, read_notices, read_uses, read_volumes,
 )
+
+from .credit_path import CreditPath
+from .scale import Scale
 
 MOST_BINS = 240
 
@@ -81,14 +86,25 @@ class Use:
         return min(1.0, self.used / lesser) if lesser else (1.0 if self.used else None)
 
 
+class Bad(NamedTuple):
+    """A text line that could not be read: its place in the history, its bank, its number among the bank's commands, and its fault."""
+
+    entry: int
+    bank: int
+    command: int
+    fault: int
+
+
 class Day:
-    """A day as it is summed up. `kept` is how many of a desk's notices, of a bank's commands and of a pair's fills are held at most."""
+    """A day as it is summed up. `kept` is how many of a desk's notices, of a bank's commands, of a pair's fills and of the bad commands
+    are held at most."""
 
     def __init__(self, kept, header):
         self.kept, self.header = kept, header
         self.banks, self.pairs, self.currencies = header.banks, header.pairs, header.currencies
         self.opening, self.entries, self.kinds = header.opening, 0, dict.fromkeys(KINDS, 0)
-        self.places, self.sent = [], []
+        self.places, self.sent, self.bad, self.bad_notices = [], [], [], {}
+        self.credit = None
         self.desks, self.fills, self.books = [], [], []
         self.volumes, self.uses, self.nets = [], [], []
         self.strays, self.ending, self.differences, self.lines = 0, "", [], 0
@@ -96,20 +112,39 @@ class Day:
     def differs(self, what):
         self.differences.append(what)
 
+    def part(self, entry):
+        """The part of the history in which an entry lies, counted from 0."""
+        return entry * self.parts // self.entries
+
+    @property
+    def parts(self):
+        """Into how many equal parts the history is cut."""
+        return max(1, min(MOST_BINS, self.entries))
+
+    @cached_property
+    def scale(self):
+        """The steps of how full the day's lines are, once the report was read."""
+        return Scale(self.uses)
+
 
 def sum_journal(lines, day):
     """Counts the commands, and notes for each bank the entries of the history that are its."""
     day.entries = read_count(lines)
     day.places = [array("I") for _ in day.banks]
     day.sent = [deque(maxlen=day.kept) for _ in day.banks]
+    day.credit = CreditPath(day.parts, len(day.banks))
     counts = dict.fromkeys(COMMANDS, 0)
     for place, entry in enumerate(read_entries(lines, day.header, day.entries)):
         counts[entry.word] += 1
         day.places[entry.bank].append(place)
         day.sent[entry.bank].append(entry.line)
+        if entry.word == b"LINE" and entry.parts[1] in day.header.bank_at:
+            day.credit.ask(entry.bank, len(day.places[entry.bank]), day.header.bank_at[entry.parts[1]])
+        elif entry.word == b"BAD" and len(day.bad) < day.kept:
+            day.bad.append(Bad(place, entry.bank, len(day.places[entry.bank]), int(entry.parts[1])))
     day.kinds = {word.decode(): count for word, count in counts.items()}
-    bins = max(1, min(MOST_BINS, day.entries))
-    day.fills = [PairFills(bins, day.kept) for _ in day.pairs]
+    day.fills = [PairFills(day.parts, day.kept) for _ in day.pairs]
+    day.bad_notices = {(bad.bank, bad.command): 0 for bad in day.bad}
 
 
 def sum_desks(lines, day):
@@ -124,11 +159,21 @@ def sum_desks(lines, day):
                 take_fill(lines, day, desk, bank, notice)
                 place_fill(day, bank, notice, matching.told(bank, notice))
             else:
-                desk.commands += 1
-                desk.kinds[notice.kind] = desk.kinds.get(notice.kind, 0) + 1
+                take_reply(day, desk, bank, notice)
             desk.notices.append(notice.line)
         for other, there, here in matching.close_desk(bank):
             day.differs(f"{day.banks[other]} and {name} were told of {there} and {here} fills with each other")
+
+
+def take_reply(day, desk, bank, reply):
+    """Counts a reply, and notes what a limit was set to and which notice tells of a bad command."""
+    if reply.kind == "LIMIT":
+        part = day.part(day.places[bank][reply.command - 1])
+        day.credit.limit_told(bank, desk.kinds.get("LIMIT", 0), reply.command, part, reply.numbers[0])
+    elif (bank, reply.command) in day.bad_notices:
+        day.bad_notices[bank, reply.command] = reply.notice
+    desk.commands += 1
+    desk.kinds[reply.kind] = desk.kinds.get(reply.kind, 0) + 1
 
 
 def take_fill(lines, day, desk, bank, fill):
@@ -153,7 +198,9 @@ def place_fill(day, bank, fill, place):
     sums = day.fills[fill.pair]
     buyer, seller = (bank, fill.other) if fill.buys else (fill.other, bank)
     taker_buys = fill.buys != place.first_takes
-    sums.add(place.entry * sums.bins // day.entries, (place.entry, place.turn, fill.ticks, fill.lots, buyer, seller, taker_buys))
+    part = day.part(place.entry)
+    day.credit.fill(bank, fill.other, part, fill.lots * day.pairs[fill.pair].weight)
+    sums.add(part, (place.entry, place.turn, fill.ticks, fill.lots, buyer, seller, taker_buys))
 
 
 def sum_books(lines, day):

@@ -7,6 +7,7 @@ from collections.abc import Callable, Iterator
 from typing import BinaryIO
 
 from .output import PIECE, BadLine
+from .session import is_session
 
 UNREADABLE = 2
 
@@ -34,7 +35,7 @@ class Text:
     """A text that is read once, with its SHA-256; `-` is standard input."""
 
     def __init__(self, path: str):
-        self.path, self.size, self.digest = path, 0, hashlib.sha256()
+        self.path, self.size, self.digest, self.start = path, 0, hashlib.sha256(), b""
         self.name = printable("standard input" if path == "-" else path)
         try:
             self.file: BinaryIO = sys.stdin.buffer if path == "-" else open(path, "rb")
@@ -48,6 +49,7 @@ class Text:
             raise self.unreadable(fault) from fault
         self.digest.update(piece)
         self.size += len(piece)
+        self.start = self.start or piece[:PIECE]
         return piece
 
     def pieces(self) -> Iterator[bytes]:
@@ -64,7 +66,7 @@ class Text:
         return Failed(f"{self.name} can't be read: {fault.strerror}")
 
     def no_output(self, bad: BadLine) -> Failed:
-        return Failed(f"{self.name} is no output: {bad}")
+        return Failed(f"{self.name} is {'a session and ' if is_session(self.start) else ''}no output: {bad}")
 
 
 def printable(text: str | bytes) -> str:

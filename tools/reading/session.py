@@ -286,3 +286,9 @@ def read_session(file) -> Session:
     """The session text of a file; no more bytes of it are read than the program takes, and one."""
     text = file.read(MOST_BYTES)
     return Session(text, bool(file.read(1)))
+
+
+def is_session(start: bytes) -> bool:
+    """Whether a text that begins so is a session, and not an output, whose journal would stand behind START."""
+    fields = [found for found in map(FIELD.findall, start.split(b"\n")) if found and not found[0].startswith(b"#")]
+    return fields[:1] == [[b"FXBOOK", b"1"]] and [b"START"] in fields[:-1] and all(line[0] != b"JOURNAL" for line in fields)

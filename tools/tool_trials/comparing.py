@@ -36,6 +36,12 @@ class Compare(Trial):
             self.assertEqual((status, err.count("\n")), (2, 1), words)
         self.assertEqual(ran("compare", "--help")[0], 0)
 
+    def test_a_session_is_told_as_one(self) -> None:
+        for name, words in (("compare", (MORNING[1], MORNING[0])), ("covers", (MORNING[0], MORNING[0])), ("export", (MORNING[0], "--csv", f"{self.folder}/made")), ("explain", (MORNING[0], MORNING[0]))):
+            self.assertIn(f"{MORNING[0]} is a session and no output: line ", ran(name, *words)[2], name)
+        cut = read(MORNING[1]).partition(b"JOURNAL")[0]
+        self.assertNotIn("session", ran("compare", MORNING[1], "-", text=cut)[2])
+
     @needs_program
     def test_two_orders_of_one_session(self) -> None:
         """The same commands in another order of the banks."""

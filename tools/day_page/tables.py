@@ -1,0 +1,30 @@
+"""Pieces of the page's markup that several of its parts are made of."""
+import html
+
+
+def safe(text):
+    return html.escape(str(text))
+
+
+def grouped(number):
+    return f"{number:,}".replace("-", "\u2212")
+
+
+def few(count, one):
+    return f"{grouped(count)} {one}{'' if count == 1 else 's'}"
+
+
+def table(name, caption, heads, rows, classes="sorts"):
+    """A table's markup. A heading that begins with # is one of numbers; a cell is a text, or a text with its classes."""
+    numbers = [head.startswith("#") for head in heads]
+    tops = "".join(f'<th scope="col"{" class=n" if number else ""}>{safe(head.lstrip("#"))}</th>' for head, number in zip(heads, numbers))
+    body = []
+    for row in rows:
+        cells = []
+        for place, cell in enumerate(row):
+            text, extra = cell if isinstance(cell, tuple) else (cell, "")
+            kinds = " ".join(filter(None, ("n" if numbers[place] else "", extra)))
+            mark = f' class="{kinds}"' if kinds else ""
+            cells.append(f'<th scope="row"{mark}>{safe(text)}</th>' if place == 0 else f"<td{mark}>{safe(text)}</td>")
+        body.append(f"<tr>{''.join(cells)}</tr>")
+    return f'<table id="{name}" class="{classes}"><caption>{safe(caption)}</caption><thead><tr>{tops}</tr></thead><tbody>\n' + "\n".join(body) + "\n</tbody></table>"
