@@ -92,15 +92,15 @@ class Lines:
     def bad(self, what: str) -> BadLine:
         return BadLine(self.number, what)
 
-    def next(self, wanted: str) -> bytes:
-        """The next line; `wanted` says what it should be."""
+    def next(self, *wanted: object) -> bytes:
+        """The next line; `wanted` says, in parts that are put together only where they are told, what it should be."""
         for line in self.source:
             self.number += 1
             if self.kept is not None:
                 self.kept.append(line)
             return line
         self.number += 1
-        raise self.bad(f"the text ends where {wanted} is wanted")
+        raise self.bad(f"the text ends where {''.join(map(str, wanted))} is wanted")
 
     def take(self, shape: re.Pattern[bytes], wanted: str) -> list[str]:
         """The parts of the next line, which has to have this form."""
@@ -180,13 +180,14 @@ def read_count(lines: Lines) -> int:
 def read_entries(lines: Lines, header: Header, count: int) -> Iterator[Entry]:
     """The commands of the history, in its order."""
     for place in range(1, count + 1):
-        line = lines.next(f"command {place} of {count}")
-        word = line.split(b" ", 2)[1:2]
-        shape = COMMANDS.get(word[0]) if word else None
+        line = lines.next("command ", place, " of ", count)
+        _, _, behind = line.partition(b" ")
+        word = behind.partition(b" ")[0]
+        shape = COMMANDS.get(word)
         found = shape and shape.fullmatch(line)
         if not found:
             raise lines.bad("not a command of a bank")
-        yield Entry(bank_of(lines, header, found[1]), word[0], line, found.groups())
+        yield Entry(bank_of(lines, header, found[1]), word, line, found.groups())
 
 
 # The desks
@@ -233,18 +234,19 @@ def read_notices(lines: Lines, header: Header, bank: int, count: int, sent: int)
     """The notices of a bank's desk, in order; the bank sent so many commands."""
     replied, name = 0, header.banks[bank]
     for number in range(1, count + 1):
-        line = lines.next(f"notice {number} of {count} of {name}")
-        found = FILL.fullmatch(line) or REPLY.fullmatch(line)
+        line = lines.next("notice ", number, " of ", count, " of ", name)
+        shape = FILL if b" FILL " in line else REPLY
+        found = shape.fullmatch(line)
         if not found or int(found[1]) != number:
             raise lines.bad(f"not notice {number} of {name}")
-        if found.re is FILL:
+        if shape is FILL:
             yield fill_told(lines, header, bank, replied, line, found)
             continue
         replied += 1
-        if int(found[2]) != replied or replied > sent:
-            raise lines.bad(f"not the reply to command {replied} of {name}")
         parts = found.groups()
-        numbers = tuple(int(part) for part in parts[3:9] if part is not None)
+        if int(parts[1]) != replied or replied > sent:
+            raise lines.bad(f"not the reply to command {replied} of {name}")
+        numbers = tuple([int(part) for part in parts[3:9] if part is not None])
         yield Reply(number, replied, parts[2].decode(), line, numbers, parts[9:] if parts[9] else ())
 
 
