@@ -72,7 +72,7 @@ def there_and_back(folder: str, header: bytes, messages: bytes) -> tuple[int, by
     for path, text in zip(paths, (header, messages)):
         with open(path, "wb") as file:
             file.write(text)
-    status, session, _ = ran("fix", "orders", *paths[:2], "--pipes", "--table", paths[2], "--answers", paths[3])
+    status, session, _ = ran("fix", "orders", *paths[:2], "--pipes", "--table", paths[2], "--answers", paths[3], "--program", PROGRAM)
     with open(paths[4], "wb") as file:
         file.write(program("serial", session.encode())[1])
     with open(paths[3], "rb") as file:

@@ -7,6 +7,7 @@ from reading.market import FAULT_LOTS, FAULTS, Header, Pair
 from reading.session import MOST_BYTES, command_fault
 
 from .message import Garbled, Message, built, cut, parse
+from .settling import Replace, replace_line
 from .table import Row
 
 NEW, CANCEL, REPLACE = "D", "F", "G"
@@ -48,7 +49,8 @@ class Refusal(Exception):
 
 @dataclass
 class Order:
-    """An order that became a line: its number in its bank's stream, its pair, side, price and life, and the lots that were last asked for."""
+    """An order that became a line: its number in its bank's stream, its pair, side, price and life, and the lots that were last asked for, with
+    those that were filled."""
 
     number: int
     pair: Pair
@@ -100,12 +102,15 @@ def check_form(message: Message) -> None:
 @dataclass
 class Desk:
     """Takes messages one by one. `senders` has the bank of each SenderCompID. `lines` gets the session's command lines, `answers` the
-    messages that refuse, `told` what can't be answered by a message, `rows` the side table."""
+    messages that refuse, `told` what can't be answered by a message, `rows` the side table. `replaces` gets the replaces whose orders may have been
+    filled before: their lines are yet to be settled. Where `unknown` says why what was filled can't be told, these are refused."""
 
     header: Header
     senders: dict[str, str]
     time: str
+    unknown: str = ""
     lines: list[str] = field(default_factory=list)
+    replaces: list[Replace] = field(default_factory=list)
     answers: list[bytes] = field(default_factory=list)
     told: list[str] = field(default_factory=list)
     rows: list[Row] = field(default_factory=list)
@@ -113,6 +118,7 @@ class Desk:
     used: set[tuple[str, str]] = field(default_factory=set)
     sent: Counter = field(default_factory=Counter)
     sequence: Counter = field(default_factory=Counter)
+    best: dict[tuple[str, str], dict[str, int]] = field(default_factory=dict)
     size: int = 0
 
     def take_text(self, text: bytes) -> None:
@@ -156,9 +162,12 @@ class Desk:
         self.lines.append(line)
         if row.kind == NEW:
             order.number = row.command
+            self.note_price(order, row.bank)
         if row.kind != CANCEL:
             self.orders[row.sender, row.identity] = order
-            order.lots = lots_of(message.get(38), order.pair)
+            order.lots = row.lots
+        if row.kind == REPLACE and self.may_be_filled(order, row.bank):
+            self.replaces.append(Replace(len(self.lines) - 1, row, order.pair.name))
         row.order = order.number
 
     def check_request(self, message: Message, row: Row) -> None:
@@ -184,6 +193,17 @@ class Desk:
     def refused(self, row: Row, order_reason: int, request_reason: int, words: str) -> Refusal:
         """The refusal of an order by an ExecutionReport, or of a cancel or replace by an OrderCancelReject."""
         return Refusal(REPORT, order_reason, words) if row.kind == NEW else Refusal(CANCEL_REJECT, request_reason, words)
+
+    def note_price(self, order: Order, bank: str) -> None:
+        """Keeps the price of each bank's orders that the most orders of the other side cross: its greatest buy, its lowest sell."""
+        ticks, prices = order.pair.ticks(order.price.encode()), self.best.setdefault((order.pair.name, order.side), {})
+        prices[bank] = (max if order.side == "BUY" else min)(ticks, prices.get(bank, ticks))
+
+    def may_be_filled(self, order: Order, bank: str) -> bool:
+        """Whether another bank sent an order up to now that crosses this one; where none did, nothing was filled of it."""
+        ticks, buys = order.pair.ticks(order.price.encode()), order.side == "BUY"
+        others = self.best.get((order.pair.name, "SELL" if buys else "BUY"), {})
+        return any(other != bank and (price <= ticks if buys else price >= ticks) for other, price in others.items())
 
     def check_line(self, line: str, row: Row) -> None:
         """Refuses a line that the program would not take."""
@@ -217,9 +237,9 @@ class Desk:
             raise self.refused(row, UNSUPPORTED, VENUE_RULE, f"Side (54) {message.get(54)} has no counterpart: only 1 (buy) and 2 (sell) have")
         if life is None:
             raise self.refused(row, UNSUPPORTED, VENUE_RULE, f"TimeInForce (59) {message.get(59)} has no counterpart: only 0 (day), 3 (IOC) and 4 (FOK) have")
-        price, lots = self.limit_price(message, row), self.whole_lots(message, row)
-        pair = self.pair(message)
-        return f"{row.bank} {side} {pair.name} {price} {lots} {life}", Order(0, pair, side, price, life, lots)
+        price, pair = self.limit_price(message, row), self.pair(message)
+        row.lots = self.whole_lots(message, row)
+        return f"{row.bank} {side} {pair.name} {price} {row.lots} {life}", Order(0, pair, side, price, life, row.lots)
 
     def known_order(self, message: Message, row: Row) -> Order:
         """The order that a cancel or replace is for, which has to have the same symbol and side."""
@@ -237,16 +257,21 @@ class Desk:
         return f"{row.bank} CANCEL {order.pair.name} {order.number}", order
 
     def replace_line(self, message: Message, row: Row) -> tuple[str, Order]:
-        """The line of an OrderCancelReplaceRequest, which lowers the quantity and changes nothing else, and its order."""
+        """The line of an OrderCancelReplaceRequest, which lowers the quantity and changes nothing else, and its order. The line takes the order as not
+        filled before."""
         order = self.known_order(message, row)
         if self.limit_price(message, row) != order.price:
             raise Refusal(CANCEL_REJECT, VENUE_RULE, f"a replace can't change the price, which is {order.price}: cancel the order and send a new one")
         if LIVES.get(message.get(59) or "0") != order.life:
             raise Refusal(CANCEL_REJECT, VENUE_RULE, f"a replace can't change the TimeInForce (59), which is {order.life}")
-        lots = self.whole_lots(message, row)
-        if lots >= order.lots:
+        row.lots = self.whole_lots(message, row)
+        if row.lots >= order.lots:
             raise Refusal(CANCEL_REJECT, VENUE_RULE, f"a replace can only lower the quantity, and {order.lots * order.pair.lot} was asked for before")
-        return f"{row.bank} REDUCE {order.pair.name} {order.number} {lots}", order
+        if not row.lots:
+            raise Refusal(CANCEL_REJECT, VENUE_RULE, "a replace can't lower the quantity to nothing: send an OrderCancelRequest")
+        if self.unknown and self.may_be_filled(order, row.bank):
+            raise Refusal(CANCEL_REJECT, OTHER, f"OrderQty (38) counts what was filled before, and that can't be told here: {self.unknown}")
+        return replace_line(row, order.pair.name, 0), order
 
     def refuse(self, message: Message, row: Row, refusal: Refusal) -> None:
         """Writes the message that refuses."""

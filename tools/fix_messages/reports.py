@@ -112,7 +112,7 @@ class Reports:
         if row.kind == NEW and reply.kind in ("ORDERED", "KILLED"):
             yield from self.ordered(row, reply)
         elif row.kind != NEW and reply.kind in ("CANCELLED", "REDUCED"):
-            yield self.changed(row, reply)
+            yield self.cancelled(row, reply) if row.kind == CANCEL else self.replaced(row, reply)
         elif row.kind != NEW and reply.kind == "NOTHING":
             over = row.order in self.states and self.states[row.order].status in (FILLED, CANCELLED)
             yield self.reject(row, TOO_LATE if over else UNKNOWN_ORDER, "no such order rests: it was filled or taken out before")
@@ -150,19 +150,32 @@ class Reports:
             if state.fills_before_drop <= 0:
                 yield self.dropped(state, fill.notice)
 
-    def changed(self, row: Row, reply: Reply) -> bytes:
-        """An order that was taken out or lowered by a request."""
+    def state_with(self, row: Row, left: int) -> State:
+        """The order that a cancel or replace is for, which has to have so many lots left at least."""
         state = self.states.get(row.order)
-        if state is None or reply.numbers[0] > state.left:
+        if state is None or left > state.left:
             raise self.other(f"{row.bank}'s order {row.order} has no such lots left")
-        named = [(11, row.identity), (41, state.identity)]
-        if reply.kind == "CANCELLED":
-            state.left, state.status = 0, CANCELLED
-            return self.report(state, CANCELLED, f"{row.bank}-{reply.notice}C", named)
-        state.left, state.identity = reply.numbers[0], row.identity
-        state.lots = state.filled + state.left
-        before = f"{state.filled * state.pair.lot} was filled before; the replace's quantity was taken as what is left"
-        return self.report(state, REPLACED, f"{row.bank}-{reply.notice}R", named + ([(58, before)] if state.filled else []))
+        return state
+
+    def cancelled(self, row: Row, reply: Reply) -> bytes:
+        """An order that was taken out."""
+        state = self.state_with(row, reply.numbers[0])
+        state.left, state.status = 0, CANCELLED
+        return self.report(state, CANCELLED, f"{row.bank}-{reply.notice}C", [(11, row.identity), (41, state.identity)])
+
+    def replaced(self, row: Row, reply: Reply) -> bytes:
+        """An order whose quantity was lowered, at most to what was filled; then nothing of it is left, and its line was a CANCEL. Where the session was run
+        in another order than the tool took it in, another quantity can come of it, which is told in words."""
+        state = self.state_with(row, reply.numbers[0])
+        named, lot = [(11, row.identity), (41, state.identity)], state.pair.lot
+        left = reply.numbers[0] if reply.kind == "REDUCED" else 0
+        state.left, state.lots, state.identity = left, state.filled + left, row.identity
+        other = state.lots != max(row.lots, state.filled)
+        gone = other and not left
+        state.status = CANCELLED if gone else FILLED if not left else PARTLY if state.filled else STANDS
+        words = f"asked for was {row.lots * lot} in all; the session was run in another order than the one for which this replace was made a line"
+        event, letter = (CANCELLED, "C") if gone else (REPLACED, "R")
+        return self.report(state, event, f"{row.bank}-{reply.notice}{letter}", named + ([(58, words)] if other else []))
 
     def not_reached(self, bank: str, sent: int) -> Iterator[bytes]:
         """Messages whose lines the session, cut off before, did not come to."""

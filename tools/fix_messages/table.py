@@ -14,7 +14,7 @@ UNWRITABLE = 5
 @dataclass
 class Row:
     """A message: its place in its text, its sender and target, the bank, its MsgType, ClOrdID and OrigClOrdID. `order` is the number of the
-    order that it is, or is for. `command` is its number in the bank's stream and `line` its text line, or `answer` is the MsgType of
+    order that it is, or is for; `lots` is its OrderQty, of an order or a replace. `command` is its number in the bank's stream and `line` its text line, or `answer` is the MsgType of
     the message that refused it."""
 
     message: int
@@ -25,6 +25,7 @@ class Row:
     identity: str = ""
     original: str = ""
     order: int = 0
+    lots: int = 0
     command: int = 0
     line: str = ""
     answer: str = ""

@@ -6,7 +6,7 @@ import sys
 from collections import defaultdict
 from fractions import Fraction
 
-from .common import HERE, MORNING, Trial, made, needs_program, program, ran, read
+from .common import HERE, MORNING, PROGRAM, Trial, made, needs_program, program, ran, read
 
 sys.path.insert(0, f"{HERE}/tools")
 
@@ -77,6 +77,7 @@ REFUSALS = [
     (request("G", t38=6000000), "9", 102, "2", "a replace can only lower the quantity, and 5000000 was asked for before"),
     (request("G", t38=5000000), "9", 102, "2", "a replace can only lower the quantity"),
     (request("G", t38=1500000), "9", 102, "99", "is no whole number of lots"),
+    (request("G", t38=0), "9", 102, "2", "a replace can't lower the quantity to nothing"),
     (request("G", t44="1.08410"), "9", 102, "2", "a replace can't change the price, which is 1.08420"),
     (request("G", t59=3), "9", 102, "2", "a replace can't change the TimeInForce"),
     (request("G", t40=1, t44=None), "9", 102, "2", "OrdType (40) 1 has no counterpart"),
@@ -203,7 +204,8 @@ class RoundTrips(Trial):
     def reports_of(self, day: Day, output_of=lambda session: program("serial", session)[1]) -> tuple[bytes, list[Message]]:
         """The output of a day, and its reports."""
         table = f"{self.folder}/table{random.random()}"
-        status, session, err = ran("fix", "orders", self.file("head", day.head + b"START\n"), self.file("day.fix", day.text()), "--table", table, "--time", TIME)
+        words = ("--table", table, "--time", TIME, "--program", PROGRAM)
+        status, session, err = ran("fix", "orders", self.file("head", day.head + b"START\n"), self.file("day.fix", day.text()), *words)
         self.assertEqual((status, err), (0, ""))
         output = output_of(session.encode())
         status, out, err = ran("fix", "reports", table, self.file("out", output), "--time", TIME)
@@ -211,12 +213,15 @@ class RoundTrips(Trial):
         return output, parsed(out.encode())
 
     def test_generated_days(self) -> None:
+        self.replaced: list[tuple[bool, bool]] = []
         for seed, kind in ((1, "mixed"), (2, "thick"), (3, "orders"), (4, "mixed")):
             day = Day(made(5, 3, 400, kind, seed), seed)
             output, reports = self.reports_of(day)
             self.check_answers(day, reports)
             self.check_orders(day, reports)
+            self.check_replaces(day, reports)
             self.check_fills(output, reports)
+        self.assertGreaterEqual(set(self.replaced), {(False, True), (True, True)})
 
     def check_answers(self, day: Day, reports: list[Message]) -> None:
         """Each message is answered by name, sequence numbers have no gap, and no ExecID stands twice."""
@@ -241,6 +246,15 @@ class RoundTrips(Trial):
             if lives[told[0].get(56), told[0].get(11)] in (3, 4):
                 self.assertIn(told[-1].get(39), ("2", "4"))
 
+    def check_replaces(self, day: Day, reports: list[Message]) -> None:
+        """A replace that comes through has the OrderQty that was asked for, or what was filled, where that is more."""
+        asked = {(bank, dict(fields)[11]): dict(fields)[38] for kind, bank, fields in day.messages if kind == "G"}
+        replaced = [each for each in reports if each.get(150) == "5"]
+        for each in replaced:
+            self.assertEqual(int(each.get(38)), max(asked[each.get(56), each.get(11)], int(each.get(14))))
+            self.assertIsNone(each.get(58))
+        self.replaced += [(each.get(14) != "0", each.get(151) != "0") for each in replaced]
+
     def check_order(self, told: list[Message]) -> None:
         filled, value = 0, Fraction(0)
         for each in told:
@@ -253,7 +267,7 @@ class RoundTrips(Trial):
             self.assertEqual(int(each.get(14)), filled)
             self.assertEqual(left, 0 if kind == "4" else quantity - filled)
             self.assertLessEqual(abs(Fraction(each.get(6)) * filled - value), Fraction(filled, 10**6))
-            wanted = {"0": "0", "4": "4", "5": "1" if filled else "0", "F": "1" if left else "2"}
+            wanted = {"0": "0", "4": "4", "5": "2" if not left else "1" if filled else "0", "F": "1" if left else "2"}
             self.assertEqual(status, wanted[kind])
 
     def check_fills(self, output: bytes, reports: list[Message]) -> None:
@@ -280,14 +294,53 @@ class RoundTrips(Trial):
         ):
             day.add(kind, bank, fields)
         _, reports = self.reports_of(day)
-        told = [(each.get(56), each.get(11), each.kind, each.get(150) or each.get(102), each.get(39), each.get(151), each.get(14)) for each in reports]
+        told = [(each.get(56), each.get(11), each.kind, each.get(150) or each.get(102), each.get(39), each.get(38), each.get(151), each.get(14)) for each in reports]
         self.assertEqual([each[1:] for each in told if each[0] == "ALFA"], [
-            ("f1", "8", "0", "0", "6000000", "0"), ("f1", "8", "4", "4", "0", "0"),
-            ("f2", "8", "0", "0", "1000000", "0"), ("f2", "8", "F", "2", "0", "1000000"),
-            ("i1", "8", "0", "0", "4000000", "0"), ("i1", "8", "F", "1", "2000000", "2000000"), ("i1", "8", "4", "4", "0", "2000000")])
+            ("f1", "8", "0", "0", "6000000", "6000000", "0"), ("f1", "8", "4", "4", "6000000", "0", "0"),
+            ("f2", "8", "0", "0", "1000000", "1000000", "0"), ("f2", "8", "F", "2", "1000000", "0", "1000000"),
+            ("i1", "8", "0", "0", "4000000", "4000000", "0"), ("i1", "8", "F", "1", "4000000", "3000000", "1000000"), ("i1", "8", "4", "4", "4000000", "0", "1000000")])
         self.assertEqual([each[1:] for each in told if each[0] == "BETA"], [
-            ("s1", "8", "0", "0", "5000000", "0"), ("s1", "8", "F", "1", "4000000", "1000000"), ("s2", "8", "5", "1", "2000000", "1000000"),
-            ("s2", "8", "F", "2", "0", "3000000"), ("s3", "9", "0", "2", None, None)])
+            ("s1", "8", "0", "0", "5000000", "5000000", "0"), ("s1", "8", "F", "1", "5000000", "4000000", "1000000"), ("s2", "8", "5", "1", "2000000", "1000000", "1000000"),
+            ("s2", "8", "F", "2", "2000000", "0", "2000000"), ("s3", "9", "0", "2", None, None, None)])
+
+    def filled_before_a_replace(self, quantity: int) -> Day:
+        """BETA sells 5 lots, ALFA takes 2 of them, and BETA replaces its order."""
+        day, sale = Day(HEAD, 0), changed(KNOWN, t54=2)
+        day.add("D", "BETA", changed(sale, t11="s1"))
+        day.add("D", "ALFA", changed(KNOWN, t11="b1", t38=2000000))
+        day.add("G", "BETA", changed(sale, t11="s2", t41="s1", t38=quantity))
+        return day
+
+    def test_a_replace_counts_what_was_filled(self) -> None:
+        """OrderQty is all of the order: what is left is it less what was filled, and nothing where it is no more."""
+        for quantity, told in ((4, ("5", "1", "4000000", "2000000")), (3, ("5", "1", "3000000", "1000000")), (2, ("5", "2", "2000000", "0")), (1, ("5", "2", "2000000", "0"))):
+            _, reports = self.reports_of(self.filled_before_a_replace(1000000 * quantity))
+            self.assertEqual([(each.get(150), each.get(39), each.get(38), each.get(151)) for each in reports if each.get(11) == "s2"], [told])
+
+    def test_what_was_filled_is_not_known(self) -> None:
+        """Without the program such a replace is refused in words, and what builds on it too; one of an order that none crossed is taken."""
+        day, sale = self.filled_before_a_replace(3000000), changed(KNOWN, t54=2)
+        day.add("F", "BETA", changed(sale, t11="s3", t41="s2", t40=None, t44=None))
+        day.add("D", "ALFA", changed(KNOWN, t11="b2", t44="1.08410"))
+        day.add("G", "ALFA", changed(KNOWN, t11="b3", t41="b2", t44="1.08410", t38=2000000))
+        status, session, err = ran("fix", "orders", self.file("head", HEAD), self.file("day.fix", day.text()), "--program", f"{self.folder}/none")
+        lines = session.partition("START\n")[2].splitlines()
+        self.assertEqual((status, lines[2:]), (1, ["ALFA BUY EUR/USD 1.08410 5 DAY", "ALFA REDUCE EUR/USD 2 2", "END"]))
+        self.assertIn("58=message 3: OrderQty (38) counts what was filled before, and that can't be told here: ", err)
+        self.assertIn("58=message 4: the OrigClOrdID (41) s2 is none of an order that was taken", err)
+
+    def test_another_order_of_the_banks(self) -> None:
+        """A session that is run in another order than its own leaves another quantity, and the report says so."""
+        for quantity, told in ((3, ("5", "0", "1000000", "1000000", "0")), (2, ("4", "4", "0", "0", "0"))):
+            def turned(session: bytes) -> bytes:
+                head, start, behind = session.partition(b"START\n")
+                lines = behind.splitlines(True)
+                return program("serial", head + start + b"".join([lines[0], lines[2], lines[1], lines[3]]))[1]
+
+            _, reports = self.reports_of(self.filled_before_a_replace(1000000 * quantity), turned)
+            found = next(each for each in reports if each.get(11) == "s2")
+            self.assertEqual((found.get(150), found.get(39), found.get(38), found.get(151), found.get(14)), told)
+            self.assertIn(f"asked for was {quantity}000000 in all; the session was run in another order", found.get(58))
 
     def test_a_session_that_was_cut_off(self) -> None:
         day = Day(made(3, 2, 60, "mixed", 5), 5)
@@ -299,7 +352,7 @@ class RoundTrips(Trial):
     def test_examples(self) -> None:
         """The side table and the output among the examples are those of the messages there."""
         table = f"{self.folder}/table"
-        status, session, _ = ran("fix", "orders", f"{HERE}/examples/first.fx", f"{HERE}/examples/orders.fix", "--pipes", "--table", table)
+        status, session, _ = ran("fix", "orders", f"{HERE}/examples/first.fx", f"{HERE}/examples/orders.fix", "--pipes", "--table", table, "--program", PROGRAM)
         self.assertEqual((status, read(table)), (1, read(f"{HERE}/examples/orders.csv")))
         self.assertEqual(program("serial", session.encode())[1], read(f"{HERE}/examples/orders.out"))
 
