@@ -90,7 +90,7 @@ def stage(here, program, digest, root):
     """Puts all files at their places below a root."""
     put(program, root, PROGRAM_PLACE, 0o755)
     write(root, f"{PAGES}/SHA256SUMS", f"{digest}  /{PROGRAM_PLACE}\n".encode())
-    for name in ("README.md", "CHANGELOG.md", "CONTRIBUTING.md"):
+    for name in ("README.md", "CHANGELOG.md", "CONTRIBUTING.md", "bench/RESULTS.md"):
         put(f"{here}/{name}", root, f"{PAGES}/{name}")
     for folder in ("docs", "examples"):
         for name in sorted(os.listdir(f"{here}/{folder}")):

@@ -30,7 +30,7 @@ WORKERS = Number("N", 1, 64, "workers, that is threads with some of the banks ea
 DEFAULT_WORKERS = 4
 
 LOAD_NUMBERS = (
-    Number("SEED", 0, 2**64 - 1, "the number that all is made from"),
+    Number("SEED", 0, 2**64 - 1, "the number that everything is made from"),
     Number("BANKS", 2, 64, "how many banks"),
     Number("PAIRS", 1, 32, "how many pairs"),
     Number("COMMANDS", 1, 20000, "how many commands"),
@@ -46,19 +46,19 @@ WORDS = (
     Word(
         "run",
         "runs a session on threads, as banks that send side by side",
-        "Each bank's commands stay in their order; which bank comes first is up to the threads, so two runs may print two outputs, and each is right.",
+        "Each bank's commands stay in their order; which bank comes first is up to the threads, so two runs may print different outputs, each of them right.",
         reads="SESSION",
         threaded=True,
     ),
     Word(
         "check",
-        "tells whether a text is a right output: YES, or NO and the offset where it is not",
-        "It looks at the output alone. Whether it is one of a certain session, tools/covers SESSION OUTPUT tells.",
+        "says whether a text is a right output: YES, or NO and the offset of the first wrong byte",
+        "It looks at the output alone; tools/covers SESSION OUTPUT says whether it belongs to a given session.",
         reads="OUTPUT",
     ),
     Word(
         "load",
-        "makes a session from a number, runs it both ways, checks it and sums it up",
+        "makes up a session from a number, runs it both ways, checks it and sums it up",
         "It reads nothing. The same numbers always give the same three lines.",
         numbers=LOAD_NUMBERS,
         threaded=True,
@@ -72,7 +72,7 @@ WORDS = (
     Word(
         "package",
         "makes a Debian package of the proved program and its pages, in the folder out or DIR",
-        "It wants dpkg-deb. It makes none where the program is not built, or a source is newer than the program.",
+        "It needs dpkg-deb. It makes none if the program is not built, or a source is newer than the program.",
         folder=True,
         own=True,
     ),
@@ -82,19 +82,19 @@ WORDS = (
 BOUNDS = (
     ("banks", "2 to 64"),
     ("pairs", "1 to 32"),
-    ("a text line", "at most 256 bytes, without its end"),
+    ("a text line", "at most 256 bytes, not counting its end"),
     ("a session", "at most 2^26 bytes (64 MiB)"),
     ("an output that is checked", "below 2^28 bytes (256 MiB)"),
-    ("workers", f"{WORKERS.low} to {WORKERS.high}, and {DEFAULT_WORKERS} where none are told"),
+    ("workers", f"{WORKERS.low} to {WORKERS.high}, and {DEFAULT_WORKERS} if none is given"),
     ("commands of load", "1 to 20,000"),
 )
 
 # The exit statuses of the program, and those that ./fx has besides.
 STATUSES = {
     0: "all went well; check says YES",
-    1: "the words are wrong",
-    2: "the session's header has a fault, whose line and reason are told",
-    3: "the session's text ended before an END line",
+    1: "the command line is wrong",
+    2: "the session's header has a fault; its line and reason are printed",
+    3: "the session ended before an END line",
     4: "a read failed",
     5: "a write to standard output failed",
     6: "out of memory",

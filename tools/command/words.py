@@ -21,7 +21,7 @@ def workers_fault(rest: list[str], threaded: bool) -> str:
     if not threaded or rest[0] != "--workers":
         return f"{rest[0]!r} is one word too many"
     if len(rest) == 1:
-        return f"--workers wants a number from {WORKERS.low} to {WORKERS.high} behind it"
+        return f"--workers needs a number from {WORKERS.low} to {WORKERS.high} after it"
     return number_fault(WORKERS, rest[1], "what stands behind --workers") or (f"{rest[2]!r} is one word too many" if len(rest) > 2 else "")
 
 

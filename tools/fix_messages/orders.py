@@ -218,7 +218,7 @@ class Desk:
         if message.get(40) != "2":
             raise self.refused(row, UNSUPPORTED, VENUE_RULE, f"OrdType (40) {message.get(40)} has no counterpart: only limit orders (2) have")
         if message.get(44) is None:
-            raise Refusal(BUSINESS_REJECT, CONDITIONALLY_MISSING, "a limit order wants a Price (44)")
+            raise Refusal(BUSINESS_REJECT, CONDITIONALLY_MISSING, "a limit order needs a Price (44)")
         try:
             return price_of(message.get(44), self.pair(message))
         except ValueError as fault:

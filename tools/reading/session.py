@@ -20,7 +20,7 @@ CODES = re.compile(rb"([A-Z]{3})/([A-Z]{3})")
 RESERVED = (b"HOST", b"END")
 
 # What a text line is taken for.
-HEADER, PASSED, COMMAND, BAD, STRAY, END, FAULT, BEHIND, DROPPED = "header", "passed over", "command", "bad", "stray", "END", "fault", "behind", "dropped"
+HEADER, PASSED, COMMAND, BAD, STRAY, END, FAULT, BEHIND, DROPPED = "header", "ignored", "command", "bad", "stray", "END", "fault", "behind", "dropped"
 
 # Why a text line is no line of a header, by the number that the program tells.
 REASONS = {
@@ -55,8 +55,7 @@ LIVES = (b"DAY", b"IOC", b"FOK")
 
 @dataclass(slots=True)
 class Said:
-    """A text line: its number from 1, its bytes without the line's end, its fields, and what it is taken for. `number` counts lines that
-    are passed over. `code` is the fault of a bad command, or the reason of a header's fault. `order` is a command's number in its bank's stream."""
+    """A text line: its number from 1, its bytes without the line's end, its fields, and what it is taken for. `number` counts lines that are ignored too. `code` is the fault of a bad command, or the reason of a header's fault. `order` is a command's number in its bank's stream."""
 
     number: int
     text: bytes

@@ -22,7 +22,8 @@ def repository() -> str:
     atexit.register(shutil.rmtree, folder, True)
     for name in ("docs", "examples", "share", "tools", "crates/fx_cli/src"):
         shutil.copytree(f"{HERE}/{name}", f"{folder}/{name}", ignore=shutil.ignore_patterns("out", "__pycache__"))
-    for name in ("fx", "crates.txt", "README.md", "CHANGELOG.md", "CONTRIBUTING.md"):
+    os.mkdir(f"{folder}/bench")
+    for name in ("fx", "crates.txt", "README.md", "CHANGELOG.md", "CONTRIBUTING.md", "bench/RESULTS.md"):
         shutil.copy2(f"{HERE}/{name}", f"{folder}/{name}")
     return folder
 

@@ -64,7 +64,7 @@ class Package(CopyTrial):
         self.assertEqual(gzip.decompress(read(f"{root}/usr/share/man/man1/fx_cli.1.gz")), read(f"{self.copy}/share/man/fx.1"))
         self.assertEqual(read(f"{root}/usr/share/bash-completion/completions/fx_cli"), read(f"{self.copy}/share/completions/fx.bash"))
         self.assertEqual(read(f"{root}/usr/share/vim/vimfiles/syntax/fxbook.vim"), read(f"{self.copy}/share/vim/syntax/fxbook.vim"))
-        for name in ("README.md", "CHANGELOG.md", *(f"{folder}/{name}" for folder in ("docs", "examples") for name in os.listdir(f"{self.copy}/{folder}"))):
+        for name in ("README.md", "CHANGELOG.md", "bench/RESULTS.md", *(f"{folder}/{name}" for folder in ("docs", "examples") for name in os.listdir(f"{self.copy}/{folder}"))):
             self.assertEqual(read(f"{root}/{DOCS}/{name}"), read(f"{self.copy}/{name}"), name)
         before = read(path)
         self.assertEqual(read(self.made()), before)

@@ -17,7 +17,7 @@ WRONG = {
     ("sreial",): "'sreial' is none of its words, which are serial, run",
     ("serial", "day.fx"): "comes from standard input, as in ./fx serial < FILE",
     ("check", "--all"): "'--all' is one word too many",
-    ("run", "--workers"): "--workers wants a number from 1 to 64 behind it",
+    ("run", "--workers"): "--workers needs a number from 1 to 64 after it",
     ("run", "--workers", "65"): "from 1 to 64, without sign and leading zero, and not '65'",
     ("run", "--workers", "08"): "and not '08'",
     ("run", "--workers", "8", "9"): "'9' is one word too many",

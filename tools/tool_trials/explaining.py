@@ -61,8 +61,8 @@ class Explain(Trial):
         status, out, err = ran("explain", "-", text=(HEAD + b"# so\n\nALFA SHOW BETA\nEND\n\n# behind\n").replace(b"\n", b"\r\n"))
         self.assertEqual((status, err), (0, ""))
         self.assertIn("lines end with CR LF: that is as good as LF", out)
-        self.assertIn("line 7: passed over, a comment", out)
-        self.assertEqual(ran("explain", "--brief", "-", text=HEAD + b"# so\nEND\n")[1], "8 text lines: 6 of the header, 1 passed over, 1 END\n")
+        self.assertIn("line 7: ignored, a comment", out)
+        self.assertEqual(ran("explain", "--brief", "-", text=HEAD + b"# so\nEND\n")[1], "8 text lines: 6 of the header, 1 ignored, 1 END\n")
 
     def test_text_without_end(self) -> None:
         for text, told in ((HEAD + b"ALFA SHOW BETA\nALFA SHO", "no line feed ends it"), (HEAD, "there is no END line"), (b"FXBOOK 1\n", "ends before START"), (b"", "before START")):

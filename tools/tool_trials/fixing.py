@@ -64,7 +64,7 @@ REFUSALS = [
     (fresh(t44="-1.0"), "8", 103, "99", "is below 0"),
     (fresh(t55="EUR/GBP"), "8", 103, "1", "EUR/GBP is no pair of the header"),
     (fresh(t11="k1"), "8", 103, "6", "the ClOrdID (11) k1 stood before"),
-    (fresh(t44=None), "j", 380, "5", "a limit order wants a Price (44)"),
+    (fresh(t44=None), "j", 380, "5", "a limit order needs a Price (44)"),
     (sent("AE", "ALFA", 2, []), "j", 380, "3", "only NewOrderSingle (D)"),
     (sent("D", "OMEGA", 2, KNOWN), "j", 380, "6", "OMEGA is no bank's"),
     (fresh(t38=None), "3", 373, "1", "OrderQty (38) is missing"),
