@@ -97,7 +97,7 @@ def legend(day):
     """What the heat map's colours say, with how many lines have each."""
     levels = [day.scale.level(use) for use in day.uses]
     items = "".join(f'<li><span class="swatch" style="background: var(--h{at})"></span>{name}: {grouped(levels.count(at))}</li>' for at, name in day.scale.names())
-    return f'Used part of the lesser limit, with the number of lines. The steps follow this day\'s shares. <ul class="legend">{items}</ul>'
+    return f'The part of the lesser limit that is used, with the number of lines. The steps follow the shares of this day. <ul class="legend">{items}</ul>'
 
 
 def followed(day):
@@ -161,14 +161,14 @@ def verdict_text(verdict):
     if verdict.kind == UNCHECKED:
         return (
             "<strong>NOT CHECKED.</strong> Nobody has asked <code>./fx check</code> whether this text is a right output: the page was made with <code>--unchecked</code>."
-            " Its figures may be wrong. Don't rely on them before the text has been checked."
+            " Its figures may be wrong. Don't rely on them until the text has been checked."
         )
     if verdict.kind == RIGHT:
-        return f"<strong>A right output.</strong> {who(verdict)} says <code>YES</code>: this text is the output of one legal history of the market."
+        return f"<strong>A right output.</strong> {who(verdict)} says <code>YES</code>: this text is the output of a legal history of the market."
     where = f", in text line {grouped(verdict.line)}: <code>{safe(verdict.text)}</code>" if verdict.line else ""
     return (
-        f"<strong>NOT A RIGHT OUTPUT. Don't rely on any figure.</strong> {who(verdict)} says <code>NO {verdict.offset}</code>: the text is the output of no legal history. It goes"
-        f" wrong at byte {grouped(verdict.offset)}, counted from 0{where}. The page shows what this wrong text says, to help find what happened to it."
+        f"<strong>NOT A RIGHT OUTPUT. Don't rely on any figure.</strong> {who(verdict)} says <code>NO {verdict.offset}</code>: the text is not the output of any legal history. It goes"
+        f" wrong at byte {grouped(verdict.offset)}, counted from 0{where}. The page shows what the wrong text says, to help find out what happened to it."
     )
 
 
@@ -177,7 +177,7 @@ def who(verdict):
     return (
         "The proved program, asked by <code>./fx check</code>,"
         if verdict.proved
-        else "<code>./fx check</code>, here the program's sources with run-time checks and not the proved program, which <code>./fx build</code> makes,"
+        else "<code>./fx check</code>, here the program's sources with run-time checks, and not the proved program that <code>./fx build</code> makes,"
     )
 
 
@@ -340,16 +340,16 @@ def made_text(day, source, verdict):
         if reduced or binned
         else "The page has every notice and every fill of the day."
     )
-    agree = "do not agree, as told above" if day.differences else "agree"
+    agree = "do not agree, as said above" if day.differences else "agree"
     return f"""<ul>
-<li><strong>Not proved.</strong> <code>tools/day</code> made this page from the text alone. What is proved is the program that made the text, and its check; neither proves the page.</li>
+<li><strong>Not proved.</strong> <code>tools/day</code> made this page. The program that makes such texts and checks them is proved; that doesn't make the page proved.</li>
 <li><strong>The text.</strong> <span id="source-name">{safe(source.name)}</span>, {grouped(source.size)} bytes in {grouped(day.lines)} text lines, SHA-256 <span class="hash" id="digest">{source.digest}</span>. These bytes were {'not checked' if verdict.kind == UNCHECKED else 'the ones that were checked'}.</li>
-<li><strong>Limits, use, lines, nets and volumes</strong> are those of the text's report, and the local books are its section of that name. The page adds up the fills of all desks too: the two {agree}.</li>
-<li><strong>What a bank gets from another or owes it</strong> is the sum over their fills on the bank's desk. There is no clearing house: nobody pays the nets of all banks but the banks one another.</li>
-<li><strong>A fill</strong> stands on two desks, and the page puts the two notices together. Its place in the history is the later of the two last commands that the desks had answered before it; its taker is the later of the two orders.</li>
+<li><strong>Limits, use, lines, nets and volumes</strong> are those of the text's report, and the local books are its section of that name. The page also adds up the fills of all desks: the sums and the report {agree}.</li>
+<li><strong>What a bank is to receive from another, or owes it,</strong> is the sum over their fills on the bank's desk. There is no clearing house: banks pay one another.</li>
+<li><strong>A fill</strong> is on two desks, and the page puts its two notices together. Its place in the history is the later of the last commands that the two desks had answered before it; its taker is the later of the two orders.</li>
 <li><strong>What is left out.</strong> {kept}</li>
 <li><strong>The ending</strong> {day.ending} says that {ENDINGS[day.ending]}.</li>
-<li><strong>Whom it is for.</strong> The page shows every bank's limits, book and desk, so it is the venue's. A bank may see none of the others'.</li>
+<li><strong>Whom it is for.</strong> The page shows the limits, books and desks of all banks, so it is for the venue alone. No bank may see another's.</li>
 </ul>"""
 
 

@@ -289,5 +289,6 @@ def read_session(file) -> Session:
 
 def is_session(start: bytes) -> bool:
     """Whether a text that begins so is a session, and not an output, whose journal would stand behind START."""
-    fields = [found for found in map(FIELD.findall, start.split(b"\n")) if found and not found[0].startswith(b"#")]
+    lines = (FIELD.findall(line.removesuffix(b"\r")) for line in start.split(b"\n"))
+    fields = [found for found in lines if found and not found[0].startswith(b"#")]
     return fields[:1] == [[b"FXBOOK", b"1"]] and [b"START"] in fields[:-1] and all(line[0] != b"JOURNAL" for line in fields)
