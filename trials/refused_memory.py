@@ -5,7 +5,10 @@ A shim of the C library's allocator, made by `cc` in a new folder and put before
 run with nothing. For N from 1 until a run makes fewer, the program has to end with the answer of an undisturbed run, or with
 status 6, `out of memory` on standard error (or a prefix of it) and a prefix of an output. Of `run` on threads the output may be
 that of any history: `check` has to say YES. Each row of the table is a session and a word: how many allocations, and how many
-of the refusals were told as want of memory. Without sessions it takes those of examples/.
+of the refusals were told as out of memory. Without sessions it takes those of examples/.
+
+The last row is the program of host_trials, which plays a day at both desks and makes a call again that is refused: opening, each kind
+of command, and the entries that a pass asks for. It writes the same whichever allocation is refused, or ends with status 6.
 """
 import argparse
 import os
@@ -77,13 +80,13 @@ class Trial:
             return done.returncode, done.stdout, done.stderr, int.from_bytes(file.read(), "little")
 
     def is_output(self, text):
-        if self.words[0] != "run":
+        if self.words[:1] != ["run"]:
             return text == self.plain[1]
         return subprocess.run([self.program, "check"], input=text, capture_output=True).stdout == b"YES\n"
 
     def is_prefix(self, text):
         # the order of the history is free on threads: the part that is the same in every order has to agree
-        if self.words[0] == "run":
+        if self.words[:1] == ["run"]:
             return text[:64] == self.plain[1][: len(text[:64])]
         return self.plain[1].startswith(text)
 
@@ -92,7 +95,7 @@ class Trial:
         if status == self.plain[0]:
             fault = None if self.is_output(out) and err == self.plain[2] else "another answer"
         elif status == 6:
-            fault = None if b"out of memory\n".startswith(err) and self.is_prefix(out) else "want of memory told wrongly"
+            fault = None if b"out of memory\n".startswith(err) and self.is_prefix(out) else "out of memory told wrongly"
         else:
             fault = f"status {status}"
         return fault, status == 6, made
@@ -109,9 +112,18 @@ class Trial:
                 wrong.append((refused, fault))
 
 
+def show(name, trial):
+    made, memory, wrong = trial.row()
+    print(f"{name:24} {' '.join(trial.words):16} {made:6} allocations, {memory:6} told as out of memory, {len(wrong)} wrong", flush=True)
+    for refused, fault in wrong[:5]:
+        print(f"    at {refused}: {fault}")
+    return len(wrong)
+
+
 def main():
     words = argparse.ArgumentParser(description=__doc__, formatter_class=argparse.RawDescriptionHelpFormatter)
     words.add_argument("--program", default=os.path.join(HERE, "..", "crates", "fx_cli", "out", "fx_cli"))
+    words.add_argument("--desks", default=os.path.join(HERE, "..", "crates", "host_trials", "out", "host_trials"))
     words.add_argument("sessions", nargs="*")
     told = words.parse_args()
     examples = os.path.join(HERE, "..", "examples")
@@ -128,11 +140,8 @@ def main():
             output = subprocess.run([told.program, "serial"], input=text, capture_output=True).stdout
             rows = [(["serial"], text), (["run", "--workers", "1"], text), (["run", "--workers", "2"], text), (["check"], output)]
             for command, given in rows:
-                made, memory, wrong = Trial(told.program, shim, folder, given, command).row()
-                bad += len(wrong)
-                print(f"{os.path.basename(path):24} {' '.join(command):16} {made:6} allocations, {memory:6} told as want of memory, {len(wrong)} wrong", flush=True)
-                for refused, fault in wrong[:5]:
-                    print(f"    at {refused}: {fault}")
+                bad += show(os.path.basename(path), Trial(told.program, shim, folder, given, command))
+        bad += show("both desks", Trial(told.desks, shim, folder, b"", []))
     sys.exit(bad > 0)
 
 

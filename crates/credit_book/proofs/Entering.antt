@@ -1,27 +1,28 @@
 -- An entry that goes behind the history: it is legal, the credit book stands for the state after it, and its keys sign it.
-use Rattle.std.proofs.Common.{ℕ, ◌≡◌, ◌+◌, ◌-◌, ◌<◌, ◌^◌, true, false, List, [], ◌∷◌, ◌++◌, length, get_or, refl, ap, sym, subst, ◌∙◌, arith}
+use Rattle.std.proofs.Common.{ℕ, ◌≡◌, ◌+◌, ◌<◌, ◌^◌, true, false, List, [], ◌∷◌, ◌++◌, length, get_or, refl, ap, sym, subst, ◌∙◌, arith}
 use mathlib.Core.List.{IsPrefix}
 use Rattle.fx_rules.specs.declared.command.Command.{Command}
 use Rattle.fx_rules.specs.declared.command.Command.TheVariants.{Order, Cancel, Reduce, Pull, Line, Show, Book, Bad}
 use Rattle.fx_rules.specs.declared.outcome.Outcome.{Outcome}
 use Rattle.fx_rules.specs.declared.outcome.Entry.{Entry}
-use Rattle.fx_rules.specs.Session.{Header, sender_count}
+use Rattle.fx_rules.specs.Session.{Header, sender_places}
 use Rattle.fx_rules.specs.State.{count_of}
-use Rattle.fx_rules.specs.Step.{IsCommand, IsOutcome}
+use Rattle.fx_rules.specs.Step.{IsCommand, AreValues, IsOutcome}
 use Rattle.fx_rules.specs.History.{IsLegal, state, own}
 use Rattle.fx_rules.specs.Keyed.{is_about, touches_key}
 use Rattle.fx_rules.proofs.Soundness.{legal-sound, legal-push, after_all-push}
 use Rattle.fx_rules.proofs.Counting.{counts-own}
 use Rattle.fx_rules.proofs.Continuing.{entry_same, legal-last}
 use Rattle.fx_rules.proofs.KeyedLemmas.{touches-sender, touches-other}
+use Rattle.fx_rules.proofs.Senders.{command-place, places-most}
 use Rattle.fx_rules.specs.State.{opening}
 use Rattle.fx_chronicle.specs.Touching.{touched, pends, without}
 use Rattle.fx_chronicle.specs.Faces.{Chronicle, Witness, witness}
 use Rattle.fx_chronicle.proofs.Pending.{pends-touched, signed_by_one}
 use Rattle.fx_desk.specs.Submitting.{next_own}
-use Rattle.pair_steps.specs.declared.sender.Sender.{Sender}
-use Rattle.pair_steps.specs.Sending.{IsNextIn}
-use Rattle.pair_steps.specs.Carries.{entry_of}
+use Rattle.fx_desk.proofs.Sending.{pass-command}
+use Rattle.fx_rules.specs.declared.sender.Sender.{Sender}
+use Rattle.fx_rules.specs.Sending.{IsNextIn, entry_of}
 use Rattle.credit_table.specs.Table.{Table, IsNextOf, FollowsOn, AnswersEach, is_of_no_pair}
 use Rattle.credit_book.specs.Recorded.{Recorded, IsCreditBook, key_count, committed, recorded, signed_by}
 use Rattle.credit_book.specs.Serving.{IsServed}
@@ -60,7 +61,7 @@ kept_on h book was table history entry same kept legal follows history_is =
 pub sender_pends : (h : Header) (was book new : Recorded) (entry : Entry) (key : ℕ) → book ≡ was → IsCreditBook h book → new ≡ recorded book entry → key ≡ entry.bank → IsLegal h (was.history.entries ++ entry ∷ []) → pends new.history.pending key ≡ true
 sender_pends h was book new entry key same kept new_is key_is legal =
     let last = legal-last h was.history.entries entry legal in
-    let below : entry.bank < key_count h = omega (arith, last.1.sender, last.0.session.banks_most) in
+    let below : entry.bank < key_count h = omega (arith, command-place h entry.bank entry.command last.0.session last.1.command, places-most h last.0.session) in
     ap (λ (b : Recorded). pends b.history.pending key) new_is
     ∙ ap (λ n. pends (touched touches_key entry n) key) kept.keys
     ∙ ap (pends (touched touches_key entry (key_count h))) key_is
@@ -86,13 +87,16 @@ signed_alone book new entry key new_is bank_is no_pair =
 
 -- ---- a command served
 
+-- the pass's bank may send it
+pub sends : (h : Header) (sender : Sender) (key : ℕ) (command : Command) → sender.bank ≡ key → sender.bank < sender_places h → AreValues h key command → IsCommand h sender.bank command
+sends h sender key command bank_is place values = pass-command h sender.bank command place (subst (λ b. AreValues h b command) (sym bank_is) values)
+
 -- the entry of a bank's next command with the market's outcome goes on the history
-pub goes_on : (h : Header) (entries : List Entry) (sender : Sender) (key : ℕ) (command : Command) (outcome copy : Outcome) → IsLegal h entries → IsNextIn (state h entries) sender → sender.bank ≡ key → sender.bank < sender_count h → sender.number < 2 ^ 32 → IsCommand h key command
+pub goes_on : (h : Header) (entries : List Entry) (sender : Sender) (key : ℕ) (command : Command) (outcome copy : Outcome) → IsLegal h entries → IsNextIn (state h entries) sender → sender.bank ≡ key → sender.bank < sender_places h → sender.number < 2 ^ 32 → AreValues h key command
     → IsOutcome h (state h entries) sender.bank command outcome → copy ≡ outcome → IsLegal h (entries ++ entry_of sender command copy ∷ [])
-goes_on h entries sender key command outcome copy legal next bank_is sends most may is copied =
+goes_on h entries sender key command outcome copy legal next bank_is place most values is copied =
     legal-push h entries (entry_of sender command copy) legal (record {
-      sender = sends;
-      command = subst (λ b. IsCommand h b command) (sym bank_is) may;
+      command = sends h sender key command bank_is place values;
       number = next.number;
       number_most = most;
       outcome = subst (IsOutcome h (state h entries) sender.bank command) (sym copied) is;
@@ -106,10 +110,10 @@ pub legal_after : (h : Header) (was now : Recorded) (entry : Entry) → now.hist
 legal_after h was now entry same legal = subst (λ (es : List Entry). IsLegal h (es ++ entry ∷ [])) (sym same) legal
 
 -- the table's answer to a command
-pub answered : (h : Header) (was book : Recorded) (sender : Sender) (key : ℕ) (command : Command) (outcome copy : Outcome) → book ≡ was → IsCreditBook h book → IsNextIn (state h was.history.entries) sender → sender.bank ≡ key → sender.bank < sender_count h → sender.number < 2 ^ 32 → IsCommand h key command
+pub answered : (h : Header) (was book : Recorded) (sender : Sender) (key : ℕ) (command : Command) (outcome copy : Outcome) → book ≡ was → IsCreditBook h book → IsNextIn (state h was.history.entries) sender → sender.bank ≡ key → sender.bank < sender_places h → sender.number < 2 ^ 32 → AreValues h key command
     → AnswersEach book.table sender.bank command outcome → copy ≡ outcome → IsLegal h (was.history.entries ++ entry_of sender command copy ∷ [])
-answered h was book sender key command outcome copy same kept next bank_is sends most may answers copied =
-    goes_on h was.history.entries sender key command outcome copy (subst (λ (b : Recorded). IsLegal h b.history.entries) same kept.legal) next bank_is sends most may
+answered h was book sender key command outcome copy same kept next bank_is place most values answers copied =
+    goes_on h was.history.entries sender key command outcome copy (subst (λ (b : Recorded). IsLegal h b.history.entries) same kept.legal) next bank_is place most values
     (subst (λ (b : Recorded). IsOutcome h (state h b.history.entries) sender.bank command outcome) same (answers h (state h book.history.entries) kept.stands)) copied
 
 -- `start` and `mid` are history and pass as the entry is made, `before` and `pass` as the call began

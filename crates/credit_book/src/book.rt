@@ -1,14 +1,14 @@
 ghost use Rattle.std.specs.Prelude.{◌≡◌, ◌<◌, ◌≤◌, ◌-◌, ◌+◌, ◌^◌, ◌++◌, [], ◌∷◌, true, length, IfOk, OnOk, OnErr};
 ghost use mathlib.Core.List.{IsPrefix};
 ghost use Rattle.fx_amounts.specs.Quantity.{IsWeight};
-ghost use Rattle.fx_rules.specs.Session.{pair_count, sender_count, weight_of};
+ghost use Rattle.fx_rules.specs.Session.{pair_count, sender_places, weight_of};
 ghost use Rattle.fx_rules.specs.State.{count_of};
 ghost use Rattle.fx_rules.specs.Keyed.{touches_key};
-ghost use Rattle.fx_rules.specs.Step.{IsCommand};
+ghost use Rattle.fx_rules.specs.Step.{AreValues};
 ghost use Rattle.fx_rules.specs.History.{IsLegal, own, state};
 ghost use Rattle.fx_chronicle.specs.Touching.{Untouched, but_last, pends};
 ghost use Rattle.fx_chronicle.specs.Faces.{witness};
-ghost use Rattle.pair_steps.specs.Sending.{IsNextIn};
+ghost use Rattle.fx_rules.specs.Sending.{IsNextIn};
 ghost use Rattle.credit_table.specs.Table.{is_of_no_pair, next_sender};
 ghost use Rattle.credit_book.specs.Recorded.{IsCreditBook, key_count, recorded, signed_by};
 ghost use Rattle.credit_book.specs.Serving.{IsServed};
@@ -18,8 +18,7 @@ use credit_table::CreditTable;
 use fx_amounts::{BankId, Memory, PairId};
 use fx_chronicle::{Front, Naming, Writer};
 use fx_desk::Pass;
-use fx_rules::{Command, Entry, Outcome, Session};
-use pair_steps::Sender;
+use fx_rules::{Command, Entry, Outcome, Sender, Session};
 use std::alloc::Global;
 use std::marker::Model;
 
@@ -99,7 +98,7 @@ impl<N: Naming> CreditBook<N> {
         requires few { length (own pass.old.key pass.old.met) < 2 ^ 32 - 1 }
         ensures value { result ≡ next_sender self.old.table pass.old.key }
         ensures next { IsNextIn (state N.session self.old.history.entries) result }
-        ensures sender { result.bank < sender_count N.session }
+        ensures sender { result.bank < sender_places N.session }
         ensures bank { result.bank ≡ pass.old.key }
         ensures number { result.number < 2 ^ 32 }
         ensures same { self.new ≡ self.old }
@@ -209,7 +208,7 @@ impl<N: Naming> CreditBook<N> {
     /// before anything changes; after `Memory` all is as it was.
     pub fn serve(&mut self, pass: &mut Pass<N>, command: &Command) -> Result<Outcome, Memory>
         requires signed { self.old.history.pending ≡ [] }
-        requires command { IsCommand N.session pass.old.key command.now }
+        requires values { AreValues N.session pass.old.key command.now }
         requires no_pair { is_of_no_pair command.now ≡ true }
         requires few { length (own pass.old.key pass.old.met) < 2 ^ 32 - 1 }
         ensures served { IfOk result (IsServed N.session self.old.history.entries pass.old command.now self.new.history.entries pass.new) }

@@ -41,12 +41,14 @@ reach_in-reach h S c i j pair stands p q differ = ap (λ l. l / weight_of h pair
 
 -- no line is exceeded in the state
 pub Within-of : (h : Header) (S : State) (c : Credit) → IsCredit c → StandsFor h S c → Within h S
-Within-of h S c valid stands i j p q differ =
-    let first : i < c.banks = omega (arith, stands.banks) in
-    let second : j < c.banks = omega (arith, stands.banks) in
-    let limit : limit_in c i j ≡ S.limits i j = stands.limits i j p q differ in
-    let both : used_in c i j ≡ used h S i j = stands.uses i j p q differ in
-    omega (arith, valid.within i j first second)
+Within-of h S c valid stands = record {
+  lines = λ i j p q differ.
+      let first : i < c.banks = omega (arith, stands.banks) in
+      let second : j < c.banks = omega (arith, stands.banks) in
+      let limit : limit_in c i j ≡ S.limits i j = stands.limits i j p q differ in
+      let both : used_in c i j ≡ used h S i j = stands.uses i j p q differ in
+      omega (arith, valid.within i j first second);
+}
 
 is_between_banks : (i j : ℕ) (f : Fill) → f.taker ≡ i → f.maker ≡ j → is_between i j f ≡ true
 is_between_banks i j f first second = grind (arith, nat_tests)

@@ -39,13 +39,5 @@ pub(crate) fn banks_at(banks: usize, at: usize) -> (BankId, BankId)
     ensures first { result.0 < banks }
     ensures second { result.1 < banks }
 {
-    (bank(at / banks), bank(at % banks))
-}
-
-/// The bank of this number.
-fn bank(number: usize) -> BankId
-    requires { number < 64 }
-    ensures { result ≡ number }
-{
-    BankId::new(number as u8).unwrap()
+    (BankId::at(at / banks), BankId::at(at % banks))
 }

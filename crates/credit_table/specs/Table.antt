@@ -12,8 +12,8 @@ use Rattle.fx_rules.specs.History.{IsStep, after_entry}
 use Rattle.fx_rules.specs.Sound.{IsSound}
 use Rattle.credit_lines.specs.Credit.{Credit}
 use Rattle.credit_lines.specs.Market as lines
-use Rattle.pair_steps.specs.declared.sender.Sender.{Sender}
-use Rattle.pair_steps.specs.Sending.{IsNextIn}
+use Rattle.fx_rules.specs.declared.sender.Sender.{Sender}
+use Rattle.fx_rules.specs.Sending.{IsNextIn}
 
 -- the session, the limits and uses between its banks, and how many commands each sender has sent
 pub record Table : Type 0 where

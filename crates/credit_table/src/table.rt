@@ -1,6 +1,6 @@
 ghost use Rattle.std.specs.Prelude.{◌≡◌, ◌<◌, ◌-◌, ◌+◌, ◌^◌, true, slice_index, slice_set, IfOk};
 ghost use Rattle.fx_amounts.specs.Quantity.{IsWeight};
-ghost use Rattle.fx_rules.specs.Session.{IsSession, bank_count, pair_count, sender_count, weight_of};
+ghost use Rattle.fx_rules.specs.Session.{IsSession, bank_count, pair_count, sender_places, weight_of};
 ghost use Rattle.fx_rules.specs.State.{opening};
 ghost use Rattle.fx_rules.specs.Step.{IsCommand};
 ghost use Rattle.credit_table.specs.Table.{Stands, IsNextInEach, IsNextOf, AnswersEach, FollowsOn, followed, is_of_no_pair, next_sender};
@@ -8,8 +8,7 @@ ghost use Rattle.credit_table.specs.Table.{Stands, IsNextInEach, IsNextOf, Answe
 use crate::sessions::copy_of;
 use credit_lines::CreditLines;
 use fx_amounts::{BankId, Memory, PairId};
-use fx_rules::{Command, Entry, Outcome, Session};
-use pair_steps::Sender;
+use fx_rules::{Command, Entry, Outcome, Sender, Session};
 use std::alloc::Global;
 use std::marker::Model;
 
@@ -89,7 +88,7 @@ impl CreditTable {
 
     /// A bank's next command: its number, and its place among all commands. The bank has sent fewer than 2^32 - 1.
     pub fn sender(&self, bank: BankId) -> Sender
-        requires sender { bank < sender_count self.now.session }
+        requires sender { bank < sender_places self.now.session }
         requires few { slice_index self.now.counts bank < 2 ^ 32 - 1 }
         ensures value { result ≡ next_sender self.now bank }
         ensures next { IsNextInEach self.now result }
@@ -105,7 +104,7 @@ impl CreditTable {
     /// The market's answer to a bank's command that is about no pair: a show command, or a line that could not be read. Nothing
     /// changes.
     pub fn answer(&self, bank: BankId, command: &Command) -> Outcome
-        requires sender { bank < sender_count self.now.session }
+        requires sender { bank < sender_places self.now.session }
         requires command { IsCommand self.now.session bank command.now }
         requires no_pair { is_of_no_pair command.now ≡ true }
         ensures answers { AnswersEach self.now bank command.now result }
@@ -136,7 +135,7 @@ impl CreditTable {
 
     /// Counts a command of a bank.
     fn count_command(&mut self, bank: BankId)
-        requires sender { bank < sender_count self.old.session }
+        requires sender { bank < sender_places self.old.session }
         requires few { slice_index self.old.counts bank < 2 ^ 32 - 1 }
         ensures value { self.new ≡ record self.old { counts = slice_set self.old.counts bank (slice_index self.old.counts bank + 1) } }
     {

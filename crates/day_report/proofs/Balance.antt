@@ -87,11 +87,11 @@ buyer-below h f trade = by_side-below f.taker_side f.taker f.maker (bank_count h
 pub seller-below : (h : Header) (f : Fill) → IsTrade h f → seller f < bank_count h
 seller-below h f trade = by_side-below f.taker_side f.maker f.taker (bank_count h) trade.maker trade.taker
 
-at_one : (a b : Bool) (n : ℕ) → b ≡ true → when (a && b) n ≡ when a n
+pub at_one : (a b : Bool) (n : ℕ) → b ≡ true → when (a && b) n ≡ when a n
 at_one true b n is = ap (λ t. when t n) is
 at_one false b n is = refl
 
-at_none : (a b : Bool) (n : ℕ) → b ≡ false → when (a && b) n ≡ 0
+pub at_none : (a b : Bool) (n : ℕ) → b ≡ false → when (a && b) n ≡ 0
 at_none true b n is = ap (λ t. when t n) is
 at_none false b n is = refl
 
@@ -99,7 +99,7 @@ equal : (got gave a b c d x y : ℕ) → got ≡ a + b → gave ≡ c + d → a 
 equal got gave a b c d x y p q r s t u = omega arith
 
 -- the shares of all banks in an amount are the amount where its currency is this
-shares : (n to amount : ℕ) (currency its : List ℕ) → to < n → total (λ bank. share bank currency to its amount) (below n) ≡ when (bytes_eq its currency) amount
+pub shares : (n to amount : ℕ) (currency its : List ℕ) → to < n → total (λ bank. share bank currency to its amount) (below n) ≡ when (bytes_eq its currency) amount
 shares n to amount currency its within =
     elim (cases_Bool (bytes_eq its currency)) [
       | inl is ↦
@@ -131,12 +131,12 @@ fills-balance h (f ∷ fills) currency trades =
     ∙ ap (λ n. total (λ bank. paid h bank currency f) (below (bank_count h)) + n) (fills-balance h fills currency trades.1)
 
 -- so it is over all fills, currency by currency
-banks-balance : (h : Header) (fills : List Fill) (currency : List ℕ) → Each (IsTrade h) fills → total (λ bank. total (received h bank currency) fills) (below (bank_count h)) ≡ total (λ bank. total (paid h bank currency) fills) (below (bank_count h))
+pub banks-balance : (h : Header) (fills : List Fill) (currency : List ℕ) → Each (IsTrade h) fills → total (λ bank. total (received h bank currency) fills) (below (bank_count h)) ≡ total (λ bank. total (paid h bank currency) fills) (below (bank_count h))
 banks-balance h fills currency trades =
     total_swap (λ bank. received h bank currency) (below (bank_count h)) fills ∙ fills-balance h fills currency trades
     ∙ sym (total_swap (λ bank. paid h bank currency) (below (bank_count h)) fills)
 
-when_total : (test : Bool) (f : ℕ → ℕ) (banks : List ℕ) → total (λ bank. when test (f bank)) banks ≡ when test (total f banks)
+pub when_total : (test : Bool) (f : ℕ → ℕ) (banks : List ℕ) → total (λ bank. when test (f bank)) banks ≡ when test (total f banks)
 when_total true f banks = refl
 when_total false f banks = total_zero banks
 

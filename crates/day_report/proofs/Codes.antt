@@ -151,7 +151,7 @@ pub firsts-apart : (xs : List (List ℕ)) → EachPair (λ a b. a ≢ b) (firsts
 firsts-apart [] = tt
 firsts-apart (x ∷ xs) = (not_kept x (firsts xs), EachPair-filter (λ a b. a ≢ b) (λ other. not (bytes_eq other x)) (firsts xs) (firsts-apart xs))
 
-each_at : (P : List ℕ → Type 0) (codes : List (List ℕ)) (i : ℕ) → Each P codes → i < length codes → P (code_at codes i)
+pub each_at : (P : List ℕ → Type 0) (codes : List (List ℕ)) (i : ℕ) → Each P codes → i < length codes → P (code_at codes i)
 each_at P [] i all within = absurd (omega arith)
 each_at P (c ∷ codes) zero all within = all.0
 each_at P (c ∷ codes) (suc i) all within = each_at P codes i all.1 (omega arith)

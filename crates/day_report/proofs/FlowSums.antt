@@ -76,7 +76,7 @@ table-added rows columns sums old new row column amount p q is added = record {
       ∙ ap (λ n. n + when (eqb row i && eqb column j) amount) (is.each i j within inside);
 }
 
-table-agrees : (rows columns : ℕ) (sums others : ℕ → ℕ → ℕ) (table : Table) → ((i j : ℕ) → i < rows → j < columns → sums i j ≡ others i j) → IsTable rows columns sums table → IsTable rows columns others table
+pub table-agrees : (rows columns : ℕ) (sums others : ℕ → ℕ → ℕ) (table : Table) → ((i j : ℕ) → i < rows → j < columns → sums i j ≡ others i j) → IsTable rows columns sums table → IsTable rows columns others table
 table-agrees rows columns sums others table agree is = record { shape = is.shape; each = λ i j p q. is.each i j p q ∙ agree i j p q }
 
 -- Where a fill goes: its two banks, and the columns of its pair.
@@ -95,7 +95,7 @@ goes h f held columns trade are is = record {
 }
 
 -- what goes to a bank and a column is the bank's share in the column's currency
-share-at : (h : Header) (code : List ℕ) (column to amount i j : ℕ) → StandsAt (currencies h) code column → j < length (currencies h) → when (eqb to i && eqb column j) amount ≡ when (eqb to i && bytes_eq code (code_at (currencies h) j)) amount
+pub share-at : (h : Header) (code : List ℕ) (column to amount i j : ℕ) → StandsAt (currencies h) code column → j < length (currencies h) → when (eqb to i && eqb column j) amount ≡ when (eqb to i && bytes_eq code (code_at (currencies h) j)) amount
 share-at h code column to amount i j stands within = ap (λ t. when (eqb to i && t) amount) (column-test (currencies h) code column j (firsts-apart _) stands within)
 
 three : (now before a b : ℕ) → now ≡ before + (a + b) → (before + a) + b ≡ now
@@ -136,7 +136,7 @@ below-added rows columns sums old new row column amount most i j p q r s is with
 
 -- The same as the code has it: banks, columns and amounts as they were read.
 
-added-as : (old new : Table) (row row' column amount amount' : ℕ) → row ≡ row' → amount ≡ amount' → Added old new row column amount → Added old new row' column amount'
+pub added-as : (old new : Table) (row row' column amount amount' : ℕ) → row ≡ row' → amount ≡ amount' → Added old new row column amount → Added old new row' column amount'
 added-as old new row row' column amount amount' p q added =
     subst (λ r. Added old new r column amount') p (subst (λ a. Added old new row column a) q added)
 

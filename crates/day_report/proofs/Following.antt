@@ -50,7 +50,7 @@ one-more before fills k f within is =
     append_assoc before (take k fills) (f ∷ [])
     ∙ ap (λ (fs : List Fill). before ++ fs) (ap (λ (g : Fill). take k fills ++ g ∷ []) is ∙ sym (take_more fills k f within))
 
-state-fills : (h : Header) (entries : List Entry) (e : Entry) → IsLegal h (entries ++ e ∷ []) → (state h (entries ++ e ∷ [])).fills ≡ (state h entries).fills ++ fills_of e.outcome
+pub state-fills : (h : Header) (entries : List Entry) (e : Entry) → IsLegal h (entries ++ e ∷ []) → (state h (entries ++ e ∷ [])).fills ≡ (state h entries).fills ++ fills_of e.outcome
 state-fills h entries e legal = ap (λ (T : State). T.fills) (after_all-push (opening h) entries e) ∙ step-fills h (state h entries) e (legal-last h entries e legal).1
 
 -- the fills of an entry that the sums can follow fit

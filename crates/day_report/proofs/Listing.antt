@@ -39,7 +39,7 @@ flat_map-more f n = ap (flat_map f) (below_more n) ∙ flat_map-append f (below 
 pub map-more : {X : Type 0} (f : ℕ → X) (n : ℕ) → map f (below (n + 1)) ≡ map f (below n) ++ f n ∷ []
 map-more f n = ap (map f) (below_more n) ∙ map_push f (below n) n
 
-get_or_below : {X : Type 0} (f : ℕ → X) (n k : ℕ) (d : X) → k < n → get_or (map f (below n)) k d ≡ f k
+pub get_or_below : {X : Type 0} (f : ℕ → X) (n k : ℕ) (d : X) → k < n → get_or (map f (below n)) k d ≡ f k
 get_or_below f zero k d within = absurd (omega arith)
 get_or_below f (suc n) k d within =
     let count : length (map f (below n)) ≡ n = length-map (below n) f ∙ length_below n in
@@ -58,11 +58,11 @@ listed f xs n count each =
     same_lists xs (map f (below n)) (count ∙ sym (length-map (below n) f ∙ length_below n))
     (λ k d within. let p : k < n = omega arith in each k d p ∙ sym (get_or_below f n k d p))
 
-each-below : (P : ℕ → Type 0) (n : ℕ) → ((k : ℕ) → k < n → P k) → Each P (below n)
+pub each-below : (P : ℕ → Type 0) (n : ℕ) → ((k : ℕ) → k < n → P k) → Each P (below n)
 each-below P zero all = tt
 each-below P (suc n) all = Each-append P (below n) (n ∷ []) (each-below P n (λ k within. all k (omega arith))) (all n (omega arith), tt)
 
-each-kept : (P : ℕ → Type 0) (test : ℕ → Bool) (xs : List ℕ) → Each P xs → Each (λ x. P x × (test x ≡ true)) (filter test xs)
+pub each-kept : (P : ℕ → Type 0) (test : ℕ → Bool) (xs : List ℕ) → Each P xs → Each (λ x. P x × (test x ≡ true)) (filter test xs)
 each-kept P test [] all = tt
 each-kept P test (x ∷ xs) all =
     elim (cases_Bool (test x)) [
@@ -70,11 +70,11 @@ each-kept P test (x ∷ xs) all =
       | inr is ↦ subst (Each (λ y. P y × (test y ≡ true))) (sym (filter_cons_false test x xs is)) (each-kept P test xs all.1)
     ]
 
-map-agree : {X : Type 0} (P : ℕ → Type 0) (f g : ℕ → X) (xs : List ℕ) → ((x : ℕ) → P x → f x ≡ g x) → Each P xs → map f xs ≡ map g xs
+pub map-agree : {X : Type 0} (P : ℕ → Type 0) (f g : ℕ → X) (xs : List ℕ) → ((x : ℕ) → P x → f x ≡ g x) → Each P xs → map f xs ≡ map g xs
 map-agree P f g [] agree all = refl
 map-agree P f g (x ∷ xs) agree all = ap (λ y. y ∷ map f xs) (agree x all.0) ∙ ap (λ ys. g x ∷ ys) (map-agree P f g xs agree all.1)
 
-flat_map-agree : {X : Type 0} (P : ℕ → Type 0) (f g : ℕ → List X) (xs : List ℕ) → ((x : ℕ) → P x → f x ≡ g x) → Each P xs → flat_map f xs ≡ flat_map g xs
+pub flat_map-agree : {X : Type 0} (P : ℕ → Type 0) (f g : ℕ → List X) (xs : List ℕ) → ((x : ℕ) → P x → f x ≡ g x) → Each P xs → flat_map f xs ≡ flat_map g xs
 flat_map-agree P f g [] agree all = refl
 flat_map-agree P f g (x ∷ xs) agree all = ap (λ ys. ys ++ flat_map f xs) (agree x all.0) ∙ ap (λ ys. g x ++ ys) (flat_map-agree P f g xs agree all.1)
 
@@ -86,7 +86,7 @@ volumes-listed h S volumes are = listed (volume_of h S) volumes (pair_count h) a
 -- Uses.
 
 -- behind a bank there is none of those up to it
-behind-none : (i n : ℕ) → n ≤ i + 1 → filter (nat_lt i) (below n) ≡ []
+pub behind-none : (i n : ℕ) → n ≤ i + 1 → filter (nat_lt i) (below n) ≡ []
 behind-none i zero within = refl
 behind-none i (suc n) within =
     filter-append (nat_lt i) (below n) (n ∷ [])
@@ -96,11 +96,14 @@ behind-none i (suc n) within =
 pub uses-none : (credit : Credit) (i : ℕ) → map (use_in credit i) (filter (nat_lt i) (below (i + 1))) ≡ []
 uses-none credit i = ap (map (use_in credit i)) (behind-none i (i + 1) (omega arith))
 
+pub behind-more : (i n : ℕ) → i < n → filter (nat_lt i) (below (n + 1)) ≡ filter (nat_lt i) (below n) ++ n ∷ []
+behind-more i n within =
+    ap (filter (nat_lt i)) (below_more n) ∙ filter-append (nat_lt i) (below n) (n ∷ [])
+    ∙ ap (λ ns. filter (nat_lt i) (below n) ++ ns) (filter_cons_true (nat_lt i) n [] (lt-ltb i n within))
+
 pub uses-more : (credit : Credit) (i n : ℕ) → i < n → map (use_in credit i) (filter (nat_lt i) (below (n + 1))) ≡ map (use_in credit i) (filter (nat_lt i) (below n)) ++ use_in credit i n ∷ []
 uses-more credit i n within =
-    ap (map (use_in credit i)) (ap (filter (nat_lt i)) (below_more n) ∙ filter-append (nat_lt i) (below n) (n ∷ [])
-    ∙ ap (λ ns. filter (nat_lt i) (below n) ++ ns) (filter_cons_true (nat_lt i) n [] (lt-ltb i n within)))
-    ∙ map_push (use_in credit i) (filter (nat_lt i) (below n)) n
+    ap (map (use_in credit i)) (behind-more i n within) ∙ map_push (use_in credit i) (filter (nat_lt i) (below n)) n
 
 pub use-made : (credit : Credit) (i j a b ab ba used eff : ℕ) → a ≡ i → b ≡ j → ab ≡ limit_in credit i j → ba ≡ limit_in credit j i → used ≡ used_in credit i j → eff ≡ line_in credit i j
     → (let value : Use = record { a = a; b = b; limit_ab = ab; limit_ba = ba; used = used; eff = eff } in value) ≡ use_in credit i j
@@ -142,7 +145,7 @@ net-stands h S flows bank column are p q =
     ∙ ap (λ got. Of (code_at (currencies h) column) got (sum_at flows.paid bank column)) (are.got.each bank column p q)
     ∙ ap (Of (code_at (currencies h) column) (got_by h S.fills bank column)) (are.gave.each bank column p q)
 
-by_columns : {X : Type 0} (f : List ℕ → X) (codes : List (List ℕ)) → map f codes ≡ map (λ column. f (code_at codes column)) (below (length codes))
+pub by_columns : {X : Type 0} (f : List ℕ → X) (codes : List (List ℕ)) → map f codes ≡ map (λ column. f (code_at codes column)) (below (length codes))
 by_columns f codes =
     listed (λ column. f (code_at codes column)) (map f codes) (length codes) (length-map codes f)
     (λ k d within. get_or-map f codes k [] d within)

@@ -28,26 +28,26 @@ lots-below-costs h fills session trades =
 part : Header → List Fill → ℕ → ℕ → ℕ
 part h fills i j = total (λ (f : Fill). when (eqb f.taker i && eqb f.maker j) (cost h f)) fills
 
--- a fill is in one part
-cells : (n c : ℕ) (f : Fill) → f.taker < n → f.maker < n → total (λ i. total (λ j. when (eqb f.taker i && eqb f.maker j) c) (below n)) (below n) ≡ c
-cells n c f taker maker =
-    let row : (i : ℕ) → total (λ j. when (eqb f.taker i && eqb f.maker j) c) (below n) ≡ when (eqb f.taker i) c = λ i.
-    elim (cases_Bool (eqb f.taker i)) [
+-- a number that two others name is in one cell
+pub cells : (n c a b : ℕ) → a < n → b < n → total (λ i. total (λ j. when (eqb a i && eqb b j) c) (below n)) (below n) ≡ c
+cells n c a b p q =
+    let row : (i : ℕ) → total (λ j. when (eqb a i && eqb b j) c) (below n) ≡ when (eqb a i) c = λ i.
+    elim (cases_Bool (eqb a i)) [
       | inl is ↦
-          total_agree (λ j. when (eqb f.taker i && eqb f.maker j) c) (λ j. when (eqb f.maker j) c) (below n) (λ j. ap (λ t. when (t && eqb f.maker j) c) is)
-          ∙ pick_below n f.maker c maker ∙ ap (λ t. when t c) (sym is)
+          total_agree (λ j. when (eqb a i && eqb b j) c) (λ j. when (eqb b j) c) (below n) (λ j. ap (λ t. when (t && eqb b j) c) is)
+          ∙ pick_below n b c q ∙ ap (λ t. when t c) (sym is)
       | inr other ↦
-          total_agree (λ j. when (eqb f.taker i && eqb f.maker j) c) (λ _. 0) (below n) (λ j. ap (λ t. when (t && eqb f.maker j) c) other)
+          total_agree (λ j. when (eqb a i && eqb b j) c) (λ _. 0) (below n) (λ j. ap (λ t. when (t && eqb b j) c) other)
           ∙ total_zero (below n) ∙ ap (λ t. when t c) (sym other)
     ] in
-    total_agree (λ i. total (λ j. when (eqb f.taker i && eqb f.maker j) c) (below n)) (λ i. when (eqb f.taker i) c) (below n) row
-    ∙ pick_below n f.taker c taker
+    total_agree (λ i. total (λ j. when (eqb a i && eqb b j) c) (below n)) (λ i. when (eqb a i) c) (below n) row
+    ∙ pick_below n a c p
 
 all_cells : (h : Header) (fills : List Fill) → Each (IsTrade h) fills → total (cost h) fills ≡ total (λ (f : Fill). total (λ i. total (λ j. when (eqb f.taker i && eqb f.maker j) (cost h f)) (below (bank_count h))) (below (bank_count h))) fills
 all_cells h [] trades = refl
 all_cells h (f ∷ fills) trades =
     let here : total (λ i. total (λ j. when (eqb f.taker i && eqb f.maker j) (cost h f)) (below (bank_count h))) (below (bank_count h)) ≡ cost h f
-    = cells (bank_count h) (cost h f) f trades.0.taker trades.0.maker in
+    = cells (bank_count h) (cost h f) f.taker f.maker trades.0.taker trades.0.maker in
     let rest : total (cost h) fills ≡ total (λ (g : Fill). total (λ i. total (λ j. when (eqb g.taker i && eqb g.maker j) (cost h g)) (below (bank_count h))) (below (bank_count h))) fills
     = all_cells h fills trades.1 in
     omega arith
@@ -109,7 +109,7 @@ part-most h S i j sound trades p q =
           let own : part h S.fills i i ≤ 0 = part-own h S.fills i trades in
           let here : part h S.fills i j ≤ 0 = subst (λ k. part h S.fills i k ≤ 0) same own in
           omega arith
-      | inr differ ↦ omega (arith, part-used h S.fills i j, sound.within i j p q differ, sound.limits i j p q differ)
+      | inr differ ↦ omega (arith, part-used h S.fills i j, sound.within.lines i j p q differ, sound.limits i j p q differ)
     ]
 
 rows_most : (n total : ℕ) → n ≤ 64 → total ≤ n * (n * 1000000000000000) → total ≤ 4096000000000000000

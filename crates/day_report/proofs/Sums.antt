@@ -63,7 +63,7 @@ total_filter {X = X} f test (x ∷ xs) =
     ]
 
 -- at no number below n but one
-none_below : (n v a : ℕ) → n ≤ v → total (λ k. when (eqb v k) a) (below n) ≡ 0
+pub none_below : (n v a : ℕ) → n ≤ v → total (λ k. when (eqb v k) a) (below n) ≡ 0
 none_below zero v a past = refl
 none_below (suc n) v a past =
     let here : when (eqb v n) a ≡ 0 = ap (λ t. when t a) (ne_eqb v n (λ same. omega arith)) in

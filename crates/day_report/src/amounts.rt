@@ -8,13 +8,15 @@ use fx_rules::{Fill, Session};
 
 /// What a fill moves, in units of its pair's currencies.
 #[derive(Clone, Copy, Debug)]
-pub(crate) struct Amounts {
+pub struct Amounts {
+    /// Units of the base currency, which go to the buyer: at most 10^9 a lot.
     pub base: u128,
+    /// Units of the quote currency, which go to the seller: at most 10^18 a lot.
     pub quote: u128,
 }
 
-/// What a fill moves: at most 10^9 units of base and 10^18 of quote a lot.
-pub(crate) fn amounts_of(session: &Session, fill: &Fill) -> Amounts
+/// What a fill of one of the session's pairs moves.
+pub fn amounts_of(session: &Session, fill: &Fill) -> Amounts
     requires { fill.now.pair < pair_count session.now }
     ensures base { result.base ≡ base_of session.now fill.now }
     ensures quote { result.quote ≡ quote_of session.now fill.now }
@@ -27,7 +29,7 @@ pub(crate) fn amounts_of(session: &Session, fill: &Fill) -> Amounts
 }
 
 /// The bank that buys by a fill.
-pub(crate) fn buyer(fill: &Fill) -> BankId
+pub fn buyer(fill: &Fill) -> BankId
     ensures value { result ≡ buyer fill.now }
 {
     match fill.taker_side {
@@ -36,8 +38,8 @@ pub(crate) fn buyer(fill: &Fill) -> BankId
     }
 }
 
-/// The bank that sells.
-pub(crate) fn seller(fill: &Fill) -> BankId
+/// The bank that sells by a fill.
+pub fn seller(fill: &Fill) -> BankId
     ensures value { result ≡ seller fill.now }
 {
     match fill.taker_side {

@@ -9,22 +9,25 @@ use std::alloc::Global;
 
 /// Where the currencies of a pair stand among those of all pairs.
 #[derive(Clone, Copy, Debug)]
-pub(crate) struct Columns {
+pub struct Columns {
+    /// The place of the base currency.
     pub base: usize,
+    /// The place of the quote currency.
     pub quote: usize,
 }
 
 /// The currencies of a session's pairs, each once, in the order in which the pairs first name them.
 #[derive(Debug, Drop)]
-pub(crate) struct Currencies {
+pub struct Currencies {
+    /// At most 64: a pair names two.
     pub codes: Vec<Code>,
     /// By pair.
     columns: Vec<Columns>,
 }
 
 impl Currencies {
-    /// The currencies of a session.
-    pub(crate) fn open(alloc: Global, session: &Session) -> Result<Currencies, Memory>
+    /// The currencies of a session. `Memory` when out of memory.
+    pub fn open(alloc: Global, session: &Session) -> Result<Currencies, Memory>
         ensures value { IfOk result (AreCurrencies session.now) }
     {
         let mut codes = Vec::new(alloc);
@@ -38,7 +41,7 @@ impl Currencies {
     }
 
     /// The columns of a pair's currencies.
-    pub(crate) fn of_pair(&self, pair: PairId) -> Columns
+    pub fn of_pair(&self, pair: PairId) -> Columns
         requires { pair < length self.now.columns.items }
         ensures value { (d : _) → result ≡ slice_index_or self.now.columns.items pair d }
     {

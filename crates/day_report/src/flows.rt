@@ -42,7 +42,7 @@ impl Flows {
     {
         let amounts = amounts_of(session, fill);
         let columns = self.currencies.of_pair(fill.pair);
-        let (buyer, seller) = (buyer(fill), seller(fill));
+        let (buyer, seller) = (buyer(fill).index(), seller(fill).index());
         self.received.add(buyer, columns.base, amounts.base);
         self.received.add(seller, columns.quote, amounts.quote);
         self.paid.add(buyer, columns.quote, amounts.quote);
@@ -69,8 +69,8 @@ impl Flows {
         ensures value { OnOk result (nets.new.items ≡ nets.old.items ++ nets_at self.now bank) }
     {
         for (column, code) in self.currencies.codes.iter().enumerate() {
-            let received = self.received.at(bank, column) as i128;
-            let paid = self.paid.at(bank, column) as i128;
+            let received = self.received.at(bank.index(), column) as i128;
+            let paid = self.paid.at(bank.index(), column) as i128;
             nets.push(Net {
                 bank,
                 currency: *code,

@@ -18,6 +18,9 @@ mod table;
 mod uses;
 mod volumes;
 
+pub use amounts::{Amounts, amounts_of, buyer, seller};
+pub use currencies::{Columns, Currencies};
 pub use day::{nets_balance, report};
 pub use day_sums::DaySums;
 pub use rows::{Net, NetList, Report, Use, UseList, Volume, VolumeList};
+pub use table::Table;

@@ -1,5 +1,5 @@
 -- A run that serves: with each history of it, it is a run that keeps its entries.
-use Rattle.std.proofs.Common.{ℕ, ◌≡◌, ◌+◌, ◌<◌, List, [], ◌∷◌, ◌++◌, Result, Ok, Err, OnOk, refl, ap, sym, subst, ◌∙◌, arith, length, get_or, map, take, length-append, append_assoc, append-nil}
+use Rattle.std.proofs.Common.{ℕ, ◌≡◌, ◌+◌, ◌<◌, List, [], ◌∷◌, ◌++◌, refl, ap, sym, subst, ◌∙◌, arith, length, get_or, map, take, length-append, append_assoc, append-nil}
 use Rattle.std.proofs.lemmas.List.{length-map, map-append, length-take, take_more}
 use Rattle.fx_rules.specs.declared.command.Sent.{Sent}
 use Rattle.fx_rules.specs.declared.outcome.Outcome.{Outcome}
@@ -11,10 +11,6 @@ use Rattle.fx_rules.specs.Sending.{sent_by}
 use Rattle.market_run.specs.Running.{HasRun, CanServe}
 use Rattle.market_run.proofs.Serving.{each-at, runs-on}
 use Rattle.day_run.specs.Serving.{Day, HasServed, MayServe, ServesOn}
-
-pub on_ok : {T E P Q : Type 0} (result : Result T E) → (P → Q) → OnOk result P → OnOk result Q
-on_ok (Ok value) leads known = leads known
-on_ok (Err e) leads known = tt
 
 module _ {M : Type 0} (stands : M → Header → State → Type 0) (h : Header) where
   pub can-serve : (run : Day M) (sent : List Sent) → (may : MayServe stands h run sent) → CanServe stands (record { market = run.market; entries = may.entries }) sent

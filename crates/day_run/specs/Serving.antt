@@ -1,5 +1,5 @@
 -- Commands that one market serves one after another, where what the output tells of the day is kept in place of the entries.
-use Rattle.std.specs.Prelude.{◌≡◌, ◌<◌, ◌+◌, ◌^◌, List, ◌++◌, length, map}
+use Rattle.std.specs.Prelude.{◌≡◌, ◌<◌, ◌+◌, ◌^◌, List, [], ◌∷◌, ◌++◌, length, map}
 use Rattle.fx_rules.specs.declared.command.Sent.{Sent}
 use Rattle.fx_rules.specs.declared.outcome.Entry.{Entry}
 use Rattle.fx_rules.specs.Lists.{Each}
@@ -28,6 +28,10 @@ module _ {M : Type 0} (stands : M → Header → State → Type 0) (h : Header) 
     pub has_served : HasServed entries run
     pub valid : Each (IsSentOf h) sent
     pub few : length entries + length sent < 2 ^ 32
+
+  -- each history that was served went on by this entry
+  abbrev pub GoesOnBy : Day M → Day M → Entry → Type 0
+  GoesOnBy was now entry = (entries : List Entry) → HasServed entries was → HasServed (entries ++ entry ∷ []) now
 
   -- a history that was served went on by entries of these commands, in order
   pub record WentOn (entries : List Entry) (now : Day M) (sent : List Sent) : Type 0 where

@@ -1,9 +1,10 @@
-ghost use Rattle.std.specs.Prelude.{◌∷◌, [], List, IfOk, OnOk};
+ghost use Rattle.std.specs.Prelude.{◌≡◌, ◌∷◌, [], List, IfOk, OnOk};
+ghost use Rattle.fx_rules.specs.Sending.{sent_by};
 ghost use Rattle.fx_rules.specs.State.{opening};
 ghost use Rattle.fx_rules.specs.declared.outcome.Entry.{Entry as HistoryEntry};
 ghost use Rattle.reply_lines.specs.Faults.{WroteOutput};
 ghost use Rattle.reply_lines.specs.Output.{IsDayText, IsOutput};
-ghost use Rattle.day_run.specs.Serving.{HasServed, MayServe, ServesOn};
+ghost use Rattle.day_run.specs.Serving.{HasServed, MayServe, GoesOnBy, ServesOn};
 
 use fx_amounts::Memory;
 use fx_edges::Sink;
@@ -40,11 +41,13 @@ impl<M: Market + Drop> DayRun<M> {
         Ok(DayRun { market, day })
     }
 
-    /// Serves a sender's next command: the history goes on, legally, by the entry that the market makes of it. After
-    /// `Memory` the run is good for nothing more.
-    pub fn serve(&mut self, session: &Session, sent: Sent) -> Result<(), Memory>
+    /// Serves a sender's next command, and gives back the entry that the market makes of it, by which the history goes on,
+    /// legally. After `Memory` the run is good for nothing more: the market may have gone on by an entry of which the day tells
+    /// a part or nothing, so that the two are of no history.
+    pub fn serve_entry(&mut self, session: &Session, sent: Sent) -> Result<Entry, Memory>
         requires may_serve { MayServe M.stands session.now self.old (sent ∷ []) }
-        ensures served { OnOk result (ServesOn M.stands session.now self.old self.new (sent ∷ [])) }
+        ensures sent { IfOk result (λ entry. sent_by entry ≡ sent) }
+        ensures served { IfOk result (GoesOnBy M.stands session.now self.old self.new) }
     {
         let number = self.market.count(sent.bank) + 1;
         let outcome = self.market.apply(sent.bank, &sent.command)?;
@@ -54,10 +57,22 @@ impl<M: Market + Drop> DayRun<M> {
             command: sent.command,
             outcome,
         };
-        self.day.add(session, &entry)
+        self.day.add(session, &entry)?;
+        Ok(entry)
     }
 
-    /// Serves commands one after another, each as `serve` does. After `Memory` the run is good for nothing more.
+    /// Serves a sender's next command, as `serve_entry` does, without its answer. After `Memory` the run is good for nothing
+    /// more, for the same reason.
+    pub fn serve(&mut self, session: &Session, sent: Sent) -> Result<(), Memory>
+        requires may_serve { MayServe M.stands session.now self.old (sent ∷ []) }
+        ensures served { OnOk result (ServesOn M.stands session.now self.old self.new (sent ∷ [])) }
+    {
+        self.serve_entry(session, sent)?;
+        Ok(())
+    }
+
+    /// Serves commands one after another, each as `serve` does. After `Memory` some of them are served, the first so many, and
+    /// the run is good for nothing more, as `serve` leaves it.
     pub fn serve_all(&mut self, session: &Session, sent: &[Sent]) -> Result<(), Memory>
         requires may_serve { MayServe M.stands session.now self.old sent.now }
         ensures served { OnOk result (ServesOn M.stands session.now self.old self.new sent.now) }

@@ -1,9 +1,8 @@
 -- A sweep goes through the orders against its taker alone.
-use Rattle.std.proofs.Common.{ℕ, ◌≡◌, ◌/◌, ◌*◌, ◌⊎◌, eqb, Bool, true, false, ◌&&◌, Result, Ok, Err, IfOk, List, [], ◌∷◌, map, slice_index, refl, ap, sym, subst, ◌∙◌, inl, inr, None, take}
+use Rattle.std.proofs.Common.{ℕ, ◌≡◌, ◌/◌, ◌*◌, ◌⊎◌, eqb, Bool, true, false, ◌&&◌, Result, Ok, Err, IfOk, List, [], ◌∷◌, map, slice_index, refl, ap, sym, subst, ◌∙◌, inl, inr, None}
 use Rattle.std.specs.Prelude.{Option, Some}
 use Rattle.std.specs.List.{filter}
 use Rattle.std.proofs.lemmas.Bool.{and_parts, and_from}
-use Rattle.fx_amounts.specs.declared.side.Side.{Side}
 use Rattle.fx_rules.specs.declared.orders.ActiveOrder.{ActiveOrder}
 use Rattle.fx_rules.specs.declared.orders.Fill.{Fill}
 use Rattle.fx_rules.specs.declared.orders.Level.{Level}
@@ -16,7 +15,7 @@ use Rattle.fx_rules.proofs.ListLemmas.{filter_filter, filter_agree_on}
 use Rattle.fx_rules.proofs.Opens.{is_open-says}
 use Rattle.flat_host.specs.Walks.{IsLevelled}
 use Rattle.flat_host.specs.inside.Walks.{against_in}
-use Rattle.flat_host.proofs.Searching.{chosen, chosen-both}
+use Rattle.flat_host.proofs.Searching.{chosen-both}
 
 -- a test that follows from another adds nothing to it
 implied : (a b : Bool) → (a ≡ true → b ≡ true) → (a && b) ≡ a

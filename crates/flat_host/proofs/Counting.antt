@@ -1,5 +1,5 @@
 -- Counts of commands, and their sum.
-use Rattle.std.proofs.Common.{ℕ, zero, suc, ◌≡◌, ◌+◌, ◌-◌, ◌*◌, ◌≤◌, ◌<◌, ◌^◌, List, [], ◌∷◌, arith, length, get_or}
+use Rattle.std.proofs.Common.{ℕ, zero, suc, ◌+◌, ◌-◌, ◌*◌, ◌≤◌, ◌<◌, ◌^◌, List, [], ◌∷◌, arith, length, get_or}
 use Rattle.std.proofs.Math.ListN.{set, length-set}
 use Rattle.fx_rules.specs.Lists.{Each, total}
 use Rattle.flat_host.specs.FlatState.{FlatState}
@@ -32,9 +32,3 @@ counted-state l bank is below = record {
 pub total-most : (xs : List ℕ) (most : ℕ) → ((k : ℕ) → get_or xs k 0 ≤ most) → total (λ n. n) xs ≤ length xs * most
 total-most [] most each' = omega arith
 total-most (x ∷ xs) most each' = omega (arith, each' 0, total-most xs most (λ k. each' (suc k)))
-
--- a sum with one number changed
-pub total-changed : (xs : List ℕ) (i n : ℕ) → i < length xs → total (λ m. m) (set xs i n) + get_or xs i 0 ≡ total (λ m. m) xs + n
-total-changed [] i n within = absurd (omega arith)
-total-changed (x ∷ xs) zero n within = omega arith
-total-changed (x ∷ xs) (suc i) n within = omega (arith, total-changed xs i n (omega arith))

@@ -9,6 +9,7 @@ use Rattle.fx_rules.specs.State.{State, opening}
 use Rattle.fx_rules.specs.History.{IsStep, Steps, IsLegal, after_entry, after_all, state}
 use Rattle.fx_rules.specs.Sound.{IsSound}
 use Rattle.fx_rules.specs.Market.{InSome, InEach, MaySend, MayAsk, HasSent, IsDepthOf, GoesOn, next_entry}
+use Rattle.fx_rules.proofs.Senders.{suits-sender}
 use Rattle.fx_rules.proofs.Soundness.{legal-sound, legal-push, after_all-push}
 use Rattle.fx_rules.proofs.Uncrossed.{legal-uncrossed}
 use Rattle.flat_host.proofs.Sendable.{sendable, sendable-of, pairs_of}
@@ -17,15 +18,14 @@ use Rattle.flat_host.specs.Steps.{IsCommandOf, StepsEach, KeepsLines, StaysUncro
 use Rattle.flat_host.specs.inside.Steps.{FollowsEach}
 
 -- What is a step of each sound state goes on each legal history.
-pub goes-on : (old new : FlatState) (bank : ℕ) (command : Command) (outcome : Outcome) → bank < old.banks → get_or old.counts bank 0 < 2 ^ 32 - 1 → IsCommandOf old bank command → StepsEach old new bank command outcome → GoesOn (stands old) (stands new) bank command outcome
-goes-on old new bank command outcome sender count command_in steps h H legal stood =
+pub goes-on : (old new : FlatState) (bank : ℕ) (command : Command) (outcome : Outcome) → get_or old.counts bank 0 < 2 ^ 32 - 1 → IsCommandOf old bank command → StepsEach old new bank command outcome → GoesOn (stands old) (stands new) bank command outcome
+goes-on old new bank command outcome count command_in steps h H legal stood =
     let S : State = state h H in
     let sound : IsSound h S = legal-sound h H legal in
     let e : Entry = next_entry S bank command outcome in
     let both = steps h S legal.session sound stood in
     let counted : get_or old.counts bank 0 ≡ get_or S.counts bank 0 = ap (λ (cs : List ℕ). get_or cs bank 0) stood.counts in
     let step : IsStep h S e = record {
-      sender = omega (arith, stood.banks, sender);
       command = sendable h S old bank command stood command_in;
       number = refl;
       number_most = omega (arith, count, counted);
@@ -73,7 +73,7 @@ due l e next =
     let step : IsStep h S e = last h H e next.2 in
     let same : get_or l.counts e.bank 0 ≡ get_or S.counts e.bank 0 = ap (λ (cs : List ℕ). get_or cs e.bank 0) stands.counts in
     record {
-      sender = omega (arith, stands.banks, step.sender);
+      sender = omega (arith, stands.banks, suits-sender h e.bank e.command step.command.sends);
       count = omega (arith, same, step.number, step.number_most);
       command = sendable-of h S l e.bank e.command stands step.command;
       number = omega (arith, same, step.number);
@@ -110,7 +110,7 @@ may-apply l bank command some =
     let stood : StandsFor h S l = some.3 in
     let may : MaySend bank command h S = some.4 in
     record {
-      sender = omega (arith, stood.banks, may.sender);
+      sender = omega (arith, stood.banks, suits-sender h bank command may.allowed.sends);
       count = omega (arith, ap (λ (cs : List ℕ). get_or cs bank 0) stood.counts, may.number);
       of = sendable-of h S l bank command stood may.allowed;
     }

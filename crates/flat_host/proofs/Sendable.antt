@@ -8,20 +8,30 @@ use Rattle.fx_rules.specs.declared.command.Life.{Life}
 use Rattle.fx_rules.specs.declared.session.PairRule.{PairRule}
 use Rattle.fx_rules.specs.Session.{Header, bank_count, pair_count}
 use Rattle.fx_rules.specs.State.{State}
-use Rattle.fx_rules.specs.Step.{IsCommand}
+use Rattle.fx_rules.specs.Step.{IsCommand, Suits, AreValues}
 use Rattle.flat_host.specs.FlatState.{FlatState, StandsFor}
 use Rattle.flat_host.specs.Steps.{IsCommandOf}
 
 -- what may be sent rests on the session's banks and pairs
+same-suits : (h g : Header) (bank : ℕ) (command : Command) → bank_count h ≡ bank_count g → Suits h bank command → Suits g bank command
+same-suits h g bank (Bad reason) banks is = omega (arith, banks, is)
+same-suits h g bank command banks is = omega (arith, banks, is)
+
+same-values : (h g : Header) (bank : ℕ) (command : Command) → bank_count h ≡ bank_count g → pair_count h ≡ pair_count g → AreValues h bank command → AreValues g bank command
+same-values h g bank (Order side pair price lots life) banks pairs is = (omega (arith, pairs, is.0), is.1, is.2)
+same-values h g bank (Cancel pair number) banks pairs is = (omega (arith, pairs, is.0), is.1)
+same-values h g bank (Reduce pair number lots) banks pairs is = (omega (arith, pairs, is.0), is.1, is.2)
+same-values h g bank (Pull pair) banks pairs is = omega (arith, pairs, is)
+same-values h g bank (Line other limit) banks pairs is = (omega (arith, banks, is.0), is.1, is.2)
+same-values h g bank (Show other) banks pairs is = (omega (arith, banks, is.0), is.1)
+same-values h g bank (Book pair) banks pairs is = omega (arith, pairs, is)
+same-values h g bank (Bad reason) banks pairs is = is
+
 same-session : (h g : Header) (bank : ℕ) (command : Command) → bank_count h ≡ bank_count g → pair_count h ≡ pair_count g → IsCommand h bank command → IsCommand g bank command
-same-session h g bank (Order side pair price lots life) banks pairs is = (omega (arith, pairs, is.0), is.1, is.2)
-same-session h g bank (Cancel pair number) banks pairs is = (omega (arith, pairs, is.0), is.1)
-same-session h g bank (Reduce pair number lots) banks pairs is = (omega (arith, pairs, is.0), is.1, is.2)
-same-session h g bank (Pull pair) banks pairs is = omega (arith, pairs, is)
-same-session h g bank (Line other limit) banks pairs is = (omega (arith, banks, is.0), is.1, is.2)
-same-session h g bank (Show other) banks pairs is = (omega (arith, banks, is.0), is.1)
-same-session h g bank (Book pair) banks pairs is = omega (arith, pairs, is)
-same-session h g bank (Bad reason) banks pairs is = is
+same-session h g bank command banks pairs is = record {
+  sends = same-suits h g bank command banks is.sends;
+  values = same-values h g bank command banks pairs is.values;
+}
 
 pub pairs_of : (h : Header) (l : FlatState) → l.weights ≡ map (λ rule. rule.weight) h.pairs → length l.weights ≡ pair_count h
 pairs_of h l weights = ap length weights ∙ length-map h.pairs (λ (rule : PairRule). rule.weight)
@@ -38,14 +48,14 @@ sendable-of h S l bank command stands is = record { session = h; banks = stands.
 pub order-pair : (l : FlatState) (bank : ℕ) (command : Command) (side : Side) (pair price lots : ℕ) (life : Life) → IsCommandOf l bank command → command ≡ Order side pair price lots life → pair < length l.weights
 order-pair l bank command side pair price lots life of is =
     let sent : IsCommand of.session bank (Order side pair price lots life) = subst (IsCommand of.session bank) is of.may_send in
-    omega (arith, pairs_of of.session l of.weights, sent.0)
+    omega (arith, pairs_of of.session l of.weights, sent.values.0)
 
 pub book-pair : (l : FlatState) (bank : ℕ) (command : Command) (pair : ℕ) → IsCommandOf l bank command → command ≡ Book pair → pair < length l.weights
 book-pair l bank command pair of is =
     let sent : IsCommand of.session bank (Book pair) = subst (IsCommand of.session bank) is of.may_send in
-    omega (arith, pairs_of of.session l of.weights, sent)
+    omega (arith, pairs_of of.session l of.weights, sent.values)
 
 pub line-other : (l : FlatState) (bank : ℕ) (command : Command) (other limit : ℕ) → IsCommandOf l bank command → command ≡ Line other limit → other < l.banks
 line-other l bank command other limit of is =
     let sent : IsCommand of.session bank (Line other limit) = subst (IsCommand of.session bank) is of.may_send in
-    omega (arith, of.banks, sent.0)
+    omega (arith, of.banks, sent.values.0)

@@ -131,7 +131,7 @@ order-answers l bank side pair price lots life command t outcome command_is take
     let asked : IsCommand h bank (Order side pair price lots life) = subst (IsCommand h bank) command_is (sendable h S l bank command stands valid) in
     subst (λ (c : Command). IsOutcome h S bank c outcome) (sym command_is)
     (ordered-market h S l (taker_of S bank side pair price lots) life outcome session sound stands
-    (bank_within h S l bank stands sender) asked.0
+    (bank_within h S l bank stands sender) asked.values.0
     (subst (λ (u : Taker). OrderedIn l u life outcome) (taker_is ∙ taker-same S l bank side pair price lots stands.counts) is))
 
 order-changed : (h : Header) (S : State) (old : FlatState) (bank : ℕ) (side : Side) (pair price lots : ℕ) (life : Life) (outcome : Outcome) → IsSession h → IsSound h S → StandsFor h S old → length old.uses ≡ 4096 → bank < bank_count h → pair < pair_count h → lots ≤ 10 ^ 6 → IsOrdered h S (taker_of S bank side pair price lots) life outcome → (rests_of outcome ≤ 10 ^ 6) × StandsFor h (changed S bank (Order side pair price lots life) outcome) (order_carried old (taker_of S bank side pair price lots) (rests_of outcome) (fills_of outcome))
@@ -149,7 +149,7 @@ order-changes old new bank side pair price lots life command t outcome full comm
     let asked : IsCommand h bank (Order side pair price lots life) = subst (IsCommand h bank) command_is (sendable h S old bank command stands valid) in
     let T : Taker = taker_of S bank side pair price lots in
     let done = order-changed h S old bank side pair price lots life outcome session sound stands full
-    (bank_within h S old bank stands sender) asked.0 asked.2.1
+    (bank_within h S old bank stands sender) asked.values.0 asked.values.2.1
     (subst (λ (c : Command). IsOutcome h S bank c outcome) command_is is) in
     subst (λ (c : Command). StandsFor h (changed S bank c outcome) new) (sym command_is)
     (subst (StandsFor h (changed S bank (Order side pair price lots life) outcome))
@@ -258,13 +258,13 @@ tables-limited h S weights limits uses bank other limit banks full bank_in other
 
 line-answered : (h : Header) (S : State) (l : FlatState) (bank other asked : ℕ) (outcome : Outcome) → IsSession h → IsSound h S → StandsFor h S l → length l.limits ≡ 4096 → length l.uses ≡ 4096 → bank < bank_count h → IsCommand h bank (Line other asked) → LineSetIn l bank other asked outcome → IsOutcome h S bank (Line other asked) outcome
 line-answered h S l bank other asked (LineSet limit fills) session sound stands limits_full uses_full bank_in valid is =
-    let limit_is : limit ≡ limit_set h S bank other asked = is.0 ∙ ap (max asked) (stands.uses bank other bank_in valid.0 (λ same. valid.1 (sym same))) in
+    let limit_is : limit ≡ limit_set h S bank other asked = is.0 ∙ ap (max asked) (stands.uses bank other bank_in valid.values.0 (λ same. valid.values.1 (sym same))) in
     let T : State = limited bank other limit S in
     let pairs : length l.weights ≡ pair_count h = ap length stands.weights ∙ length-map h.pairs (λ (rule : PairRule). rule.weight) in (
       limit_is,
       raised-market h (pair_count h) 0 l.orders T l.weights (limits_with l.limits bank other limit) l.uses fills session (omega arith)
-          (limited-sound h S bank other asked limit sound bank_in valid.0 valid.1 valid.2 limit_is) uses_full
-          (tables-limited h S l.weights l.limits l.uses bank other limit session.banks_most limits_full bank_in valid.0 (tables_of h S l stands))
+          (limited-sound h S bank other asked limit sound bank_in valid.values.0 valid.values.1 valid.values.2 limit_is) uses_full
+          (tables-limited h S l.weights l.limits l.uses bank other limit session.banks_most limits_full bank_in valid.values.0 (tables_of h S l stands))
           (λ pair _. ap (in_pair pair) (sym stands.orders))
           (subst (λ n. RaisedIn l.weights (limits_with l.limits bank other limit) l.orders n 0 l.uses fills) pairs is.1),
     )
@@ -281,13 +281,13 @@ line-changed h S old bank other asked (LineSet limit fills) session sound stands
     let T : State = limited bank other limit S in
     let U : State = filled_all T fills in
     let set_to : max asked (use_in old.uses bank other) ≡ limit =
-    ap (max asked) (stands.uses bank other bank_in valid.0 (λ same. valid.1 (sym same))) ∙ sym is.0 in
+    ap (max asked) (stands.uses bank other bank_in valid.values.0 (λ same. valid.values.1 (sym same))) ∙ sym is.0 in
     let limits : List ℕ = limits_with old.limits bank other limit in
     let same : limits_with old.limits bank other (max asked (use_in old.uses bank other)) ≡ limits = ap (limits_with old.limits bank other) set_to in
-    let sound' : IsSound h T = limited-sound h S bank other asked limit sound bank_in valid.0 valid.1 valid.2 is.0 in
+    let sound' : IsSound h T = limited-sound h S bank other asked limit sound bank_in valid.values.0 valid.values.1 valid.values.2 is.0 in
     let tables : TablesFor h U old.weights limits (uses_after old.weights limits old.uses fills) =
     tables-pairs h (pair_count h) 0 T old.weights limits old.uses fills session (omega arith) uses_full sound'
-    (tables-limited h S old.weights old.limits old.uses bank other limit session.banks_most limits_full bank_in valid.0 (tables_of h S old stands)) is.1 in
+    (tables-limited h S old.weights old.limits old.uses bank other limit session.banks_most limits_full bank_in valid.values.0 (tables_of h S old stands)) is.1 in
     let at_limit : StandsFor h U (record old { orders = both_lowered old.orders fills; limits = limits; uses = uses_after old.weights limits old.uses fills }) = record {
       banks = stands.banks;
       orders = ap (λ (os : List ActiveOrder). both_lowered os fills) stands.orders ∙ sym (orders-filled_all T fills);
@@ -317,11 +317,11 @@ show-answers l bank other command outcome command_is sender valid is h S session
     let bank_in : bank < bank_count h = bank_within h S l bank stands sender in
     let asked : IsCommand h bank (Show other) =
     subst (IsCommand h bank) command_is (sendable h S l bank command stands valid) in
-    let differ : bank ≢ other = λ same. asked.1 (sym same) in
+    let differ : bank ≢ other = λ same. asked.values.1 (sym same) in
     subst (λ (c : Command). IsOutcome h S bank c outcome) (sym command_is)
     (is ∙ shown_same (limit_in l.limits bank other) (use_in l.uses bank other) (line_in l.limits l.uses bank other) (S.limits bank other) (used h S bank other) (line h S bank other)
-    (stands.limits bank other bank_in asked.0 differ) (stands.uses bank other bank_in asked.0 differ)
-    (line-same h S l.weights l.limits l.uses bank other (tables_of h S l stands) bank_in asked.0 differ))
+    (stands.limits bank other bank_in asked.values.0 differ) (stands.uses bank other bank_in asked.values.0 differ)
+    (line-same h S l.weights l.limits l.uses bank other (tables_of h S l stands) bank_in asked.values.0 differ))
 
 pub shows : (l : FlatState) (bank pair : ℕ) (bids asks : List Level) → bank < l.banks → pair < length l.weights → ProbedIn l bank pair Sell bids → ProbedIn l bank pair Buy asks → ShowsEach l bank pair (Depth bids asks)
 shows l bank pair bids asks sender pair_in sells buys h S session sound stands =

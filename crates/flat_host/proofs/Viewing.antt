@@ -12,16 +12,16 @@ use Rattle.flat_host.specs.Steps.{IsCommandOf, AnswersEach, ShowsEach}
 use Rattle.flat_host.proofs.Sendable.{sendable, pairs_of}
 use Rattle.flat_host.specs.Views.{TellsByView, FillsByView, ShowsByView, ShowsTruly}
 
-pub tells-by_view : (l : FlatState) (bank : ℕ) (command : Command) (outcome : Outcome) → bank < l.banks → IsCommandOf l bank command → AnswersEach l bank command outcome → TellsByView l bank command outcome
-tells-by_view l bank command outcome sender valid answers h S T other session sound sound' stands alike is =
-    views-told h S T bank command outcome other session sound sound' (omega (arith, sender, stands.banks))
+pub tells-by_view : (l : FlatState) (bank : ℕ) (command : Command) (outcome : Outcome) → IsCommandOf l bank command → AnswersEach l bank command outcome → TellsByView l bank command outcome
+tells-by_view l bank command outcome valid answers h S T other session sound sound' stands alike is =
+    views-told h S T bank command outcome other session sound sound'
     (sendable h S l bank command stands valid) alike (answers h S session sound stands) is
 
-pub fills-by_view : (l : FlatState) (bank : ℕ) (command : Command) (outcome : Outcome) → bank < l.banks → IsCommandOf l bank command → AnswersEach l bank command outcome → FillsByView l bank command outcome
-fills-by_view l bank (Line other asked) (LineSet limit fills) sender valid answers = λ h S T others session sound sound' quiet quiet' stands alike is.
-    views-fill h S T bank other asked limit fills others session sound sound' quiet quiet' (omega (arith, sender, stands.banks))
+pub fills-by_view : (l : FlatState) (bank : ℕ) (command : Command) (outcome : Outcome) → IsCommandOf l bank command → AnswersEach l bank command outcome → FillsByView l bank command outcome
+fills-by_view l bank (Line other asked) (LineSet limit fills) valid answers = λ h S T others session sound sound' quiet quiet' stands alike is.
+    views-fill h S T bank other asked limit fills others session sound sound' quiet quiet'
     (sendable h S l bank (Line other asked) stands valid) alike (answers h S session sound stands) is
-fills-by_view l bank command outcome sender valid answers = tt
+fills-by_view l bank command outcome valid answers = tt
 
 pub shows-by_view : (l : FlatState) (bank pair : ℕ) (outcome : Outcome) → bank < l.banks → pair < length l.weights → ShowsEach l bank pair outcome → ShowsByView l bank pair outcome
 shows-by_view l bank pair (Depth bids asks) sender within shows = λ h S T others offers session sound sound' stands alike is.

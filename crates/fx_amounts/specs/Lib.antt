@@ -1,5 +1,7 @@
 pub mod Amount
 pub mod Numeral
+pub mod OutOfMemory
+pub mod Preference
 pub mod Price
 pub mod PriceText
 pub mod Quantity

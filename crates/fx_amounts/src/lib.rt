@@ -12,7 +12,7 @@ mod seat;
 mod side;
 
 pub use amount::{base_amount, quote_amount};
-pub use memory::Memory;
+pub use memory::{Memory, room_for};
 pub use numeral::{MOST_SHORT, short_numeral};
 pub use price::Price;
 pub use price_text::{PriceFault, price_from};

@@ -24,6 +24,9 @@ impl BankId {
     /// How many banks a session can have.
     pub const COUNT: usize = 64;
 
+    /// The places of an array that a bare number of a sender indexes: as many as there can be senders. The senders are the banks.
+    pub const SENDERS: usize = 64;
+
     /// The bank of this number; `None` where it is out of range.
     pub fn new(number: u8) -> Option<BankId>
         ensures valid { IsSome result ↔ IsBank number }
@@ -34,6 +37,14 @@ impl BankId {
         } else {
             None
         }
+    }
+
+    /// The bank at a place of a table of banks.
+    pub fn at(index: usize) -> BankId
+        requires within { IsBank index }
+        ensures value { result ≡ index }
+    {
+        BankId(index as u8)
     }
 
     /// The bank's place in a table of banks.
@@ -76,6 +87,14 @@ impl PairId {
         } else {
             None
         }
+    }
+
+    /// The pair at a place of a table of pairs.
+    pub fn at(index: usize) -> PairId
+        requires within { IsPair index }
+        ensures value { result ≡ index }
+    {
+        PairId(index as u8)
     }
 
     /// The pair's place in a table of pairs.

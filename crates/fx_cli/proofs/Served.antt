@@ -2,6 +2,7 @@
 use Rattle.std.proofs.Common.{◌≡◌, ℕ, suc, ◌+◌, ◌-◌, ◌^◌, ◌<◌, ◌≤◌, List, [], ◌∷◌, ◌++◌, length, map, Option, Some, None, Result, Ok, Err, refl, sym, ap, ◌∙◌, subst, arith, inl, inr, length-append}
 use Rattle.std.specs.Prelude.{IsErrAnd}
 use Rattle.std.proofs.lemmas.List.{length-map, map-append}
+use Rattle.fx_amounts.specs.OutOfMemory.{refused}
 use Rattle.fx_amounts.specs.declared.memory.Memory.{Memory as AmountsMemory}
 use Rattle.fx_rules.specs.declared.command.Sent.{Sent}
 use Rattle.fx_rules.specs.declared.outcome.Entry.{Entry}
@@ -69,14 +70,14 @@ read_status (Early early.ReadFault) is = refl
 read_status (Early early.TooMuch) is = cc
 
 module _ (IsTextOf : KindOfText) {S K : Type 0} (left : S → Option (List ℕ)) (failed : S → ℕ) (written : K → Option (List ℕ)) (faults : K → ℕ) where
-  -- want of memory before anything was written
-  pub ran-memory : (a b : S) (out out' : K) → TookPromptly left failed a b → out' ≡ out → Ran IsTextOf left failed written faults a b out out' Memory
+  -- out of memory before anything was written
+  pub ran-memory : (a b : S) (out out' : K) → TookPromptly left failed a b → out' ≡ out → Ran IsTextOf left failed written faults a b out out' (Memory refused)
   ran-memory a b out out' took unwritten = record {
     input = took.input;
     took = took.took;
     within = took.within;
     prompt = took.prompt;
-    read = Err stops.Memory;
+    read = Err (stops.Memory refused);
     came = tt;
     cause = λ is. absurd cc;
     followed = (refl, unwritten);
@@ -88,7 +89,7 @@ module _ (IsTextOf : KindOfText) {S K : Type 0} (left : S → Option (List ℕ))
   stop_fault (stops.Early early.Cut) is = absurd cc
   stop_fault (stops.Early early.ReadFault) is = refl
   stop_fault (stops.Early early.TooMuch) is = absurd cc
-  stop_fault stops.Memory is = absurd cc
+  stop_fault (stops.Memory memory) is = absurd cc
 
   pub ran-stopped : (a b : S) (out : K) (stop : Stop) (status : Status) → HasStopped left failed a b stop → status ≡ status_of stop → Ran IsTextOf left failed written faults a b out out status
   ran-stopped a b out stop status has is = record {
@@ -107,7 +108,7 @@ module _ (IsTextOf : KindOfText) {S K : Type 0} (left : S → Option (List ℕ))
       → WroteOutput written faults before now is_output result → RanText IsTextOf written faults before now end input known (written_status end result)
   written_so (Ok done) before now end input known is_output outputs wrote = inl (refl, (wrote.text, outputs wrote.text wrote.is_text, wrote.ok))
   written_so (Err outs.Write) before now end input known is_output outputs wrote = inr (inl (refl, (wrote.text, outputs wrote.text wrote.is_text, wrote.fault), wrote.cause refl))
-  written_so (Err outs.Memory) before now end input known is_output outputs wrote = inr (inr (refl, inr (wrote.text, outputs wrote.text wrote.is_text, wrote.fault)))
+  written_so (Err (outs.Memory memory)) before now end input known is_output outputs wrote = inr (inr (refl, inr (wrote.text, outputs wrote.text wrote.is_text, wrote.fault)))
 
 module _ (IsRight : Header → List Sent → List Entry → Type 0) {S K : Type 0} (left : S → Option (List ℕ)) (failed : S → ℕ) (written : K → Option (List ℕ)) (faults : K → ℕ) where
   -- the text was served to its end, and its output written
@@ -154,10 +155,10 @@ less_to_read (Some end) end' was now goes_on further within = absurd cc
 pub taken_within : {S : Type 0} {left : S → Option (List ℕ)} {faults : S → ℕ} {a b : S} {reading : Reading} {h : Header} {all : List Sent} → HasRead left faults a b reading h all → reading.intake.taken ≤ input_limit
 taken_within has = omega (arith, has.stands.taken, has.within)
 
--- where memory was wanting
-pub for_want : {T : Type 0} (result : Result T AmountsMemory) (why : AmountsMemory → Type 0) (P : Result T AmountsMemory → Type 0) → IsErrAnd result why → ((memory : AmountsMemory) → P (Err memory)) → P result
-for_want (Ok end) why P is then = absurd is
-for_want (Err memory) why P is then = then memory
+-- out of memory
+pub for_memory : {T : Type 0} (result : Result T AmountsMemory) (why : AmountsMemory → Type 0) (P : Result T AmountsMemory → Type 0) → IsErrAnd result why → ((memory : AmountsMemory) → P (Err memory)) → P result
+for_memory (Ok end) why P is then = absurd is
+for_memory (Err memory) why P is then = then memory
 
 -- an output by the names that its parts have
 wrote_of : {K T : Type 0} (written : K → Option (List ℕ)) (faults : K → ℕ) (out out' : K) (result : Result T OutFault) (session h : Header) (entries history : List Entry) (strays : ℕ) (ending named : Ending) → session ≡ h → entries ≡ history → ending ≡ named

@@ -3,6 +3,7 @@ use Rattle.std.proofs.Common.{◌≡◌, ℕ, ◌≤◌, ◌<◌, List, [], ◌�
 use Rattle.std.specs.Prelude.{IfSome}
 use Rattle.std.specs.Io.KnownBytes.{prepend_known}
 use Rattle.std.proofs.lemmas.List.{append_cancel_right, append-nil, length-append, take_all, take-append-le}
+use Rattle.fx_amounts.specs.OutOfMemory.{refused}
 use Rattle.fx_rules.specs.Lists.{Among}
 use Rattle.fx_edges.specs.Faults.{Rose}
 use Rattle.fx_edges.specs.Reading.{Took}
@@ -86,7 +87,7 @@ write_no_end : IsNoEnd WriteFault
 unfolding end_of
 write_no_end = refl
 
-memory_no_end : IsNoEnd Memory
+memory_no_end : IsNoEnd (Memory refused)
 unfolding end_of
 memory_no_end = refl
 
@@ -99,7 +100,7 @@ stop_of (HeadFault line reason) = Some (stops.Header line reason)
 stop_of Cut = Some (stops.Early early.Cut)
 stop_of ReadFault = Some (stops.Early early.ReadFault)
 stop_of TooMuch = Some (stops.Early early.TooMuch)
-stop_of Memory = Some stops.Memory
+stop_of (Memory memory) = Some (stops.Memory memory)
 stop_of _ = None
 
 stop_is : (stop : Stop) → stop_of (status_of stop) ≡ Some stop
@@ -108,7 +109,7 @@ stop_is (stops.Header line reason) = refl
 stop_is (stops.Early early.Cut) = refl
 stop_is (stops.Early early.ReadFault) = refl
 stop_is (stops.Early early.TooMuch) = refl
-stop_is stops.Memory = refl
+stop_is (stops.Memory memory) = refl
 
 abbrev IsNoStop : Status → Type 0
 IsNoStop status = stop_of status ≡ None
@@ -129,7 +130,7 @@ same_stop stop other same = some_stop stop other (sym (stop_is stop) ∙ ap stop
 
 -- the statuses that a session's run ends with
 abbrev Answers : Status → Type 0
-Answers status = IsHeader status ⊎ Among status (Done ∷ Cut ∷ ReadFault ∷ WriteFault ∷ Memory ∷ TooMuch ∷ [])
+Answers status = IsHeader status ⊎ Among status (Done ∷ Cut ∷ ReadFault ∷ WriteFault ∷ Memory refused ∷ TooMuch ∷ [])
 
 end_answers : (end : TextEnd) → Answers (status_at end)
 end_answers EndLine = inr (inl refl)
@@ -140,32 +141,32 @@ end_answers (Early early.TooMuch) = inr (inr (inr (inr (inr (inr (inl refl))))))
 stop_answers : (stop : Stop) → Answers (status_of stop)
 stop_answers (stops.Header line reason) = inl (line, reason, refl)
 stop_answers (stops.Early end) = end_answers (Early end)
-stop_answers stops.Memory = inr (inr (inr (inr (inr (inl refl)))))
+stop_answers (stops.Memory memory) = inr (inr (inr (inr (inr (inl refl)))))
 
-stop_told : (stop other : Stop) (result : Status) → (other ≡ stops.Memory → ⊥) → Among result (status_of stop ∷ Memory ∷ []) → result ≡ status_of other → stop ≡ other
+stop_told : (stop other : Stop) (result : Status) → (other ≡ stops.Memory refused → ⊥) → Among result (status_of stop ∷ Memory refused ∷ []) → result ≡ status_of other → stop ≡ other
 stop_told stop other result differ (inl one) is = same_stop stop other (sym one ∙ is)
-stop_told stop other result differ (inr (inl one)) is = absurd (differ (same_stop other stops.Memory (sym is ∙ one)))
+stop_told stop other result differ (inr (inl one)) is = absurd (differ (same_stop other (stops.Memory refused) (sym is ∙ one)))
 stop_told stop other result differ (inr (inr none)) is = absurd none
 
-no_stop : (stop : Stop) (result status : Status) → IsNoStop status → Among result (status_of stop ∷ Memory ∷ []) → result ≡ status → ⊥
+no_stop : (stop : Stop) (result status : Status) → IsNoStop status → Among result (status_of stop ∷ Memory refused ∷ []) → result ≡ status → ⊥
 unfolding stop_of
 no_stop stop result status other (inl one) is = let same : Some stop ≡ None = sym (stop_is stop) ∙ ap stop_of (sym one ∙ is) ∙ other in cc
-no_stop stop result status other (inr (inl one)) is = let same : Some stops.Memory ≡ None = ap stop_of (sym one ∙ is) ∙ other in cc
+no_stop stop result status other (inr (inl one)) is = let same : Some (stops.Memory refused) ≡ None = ap stop_of (sym one ∙ is) ∙ other in cc
 no_stop stop result status other (inr (inr none)) is = none
 
-among_stop : (result status other : Status) (earlier : List Status) → Among result (status ∷ Memory ∷ []) → Among status (other ∷ Memory ∷ earlier) → Among result (other ∷ Memory ∷ earlier)
-among_stop result status other earlier (inl same) there = subst (λ (s : Status). Among s (other ∷ Memory ∷ earlier)) (sym same) there
+among_stop : (result status other : Status) (earlier : List Status) → Among result (status ∷ Memory refused ∷ []) → Among status (other ∷ Memory refused ∷ earlier) → Among result (other ∷ Memory refused ∷ earlier)
+among_stop result status other earlier (inl same) there = subst (λ (s : Status). Among s (other ∷ Memory refused ∷ earlier)) (sym same) there
 among_stop result status other earlier (inr (inl same)) there = inr (inl same)
 among_stop result status other earlier (inr (inr none)) there = absurd none
 
 -- How an input ended, where the source has `rest` left
 
-header_stop : (input rest : List ℕ) (line : ℕ) (reason : HeadReason) (stop : Stop) → Stopped (Some rest) input stop → HasFault input line reason → Among (status_of stop) (HeadFault line reason ∷ Memory ∷ [])
+header_stop : (input rest : List ℕ) (line : ℕ) (reason : HeadReason) (stop : Stop) → Stopped (Some rest) input stop → HasFault input line reason → Among (status_of stop) (HeadFault line reason ∷ Memory refused ∷ [])
 header_stop input rest line reason (stops.Header other why) stopped fault = inl (faults_agree input line other reason why fault stopped)
 header_stop input rest line reason (stops.Early early.Cut) stopped fault = absurd (stopped.1.1 line reason fault)
 header_stop input rest line reason (stops.Early early.ReadFault) stopped fault = absurd (stopped.1.1 line reason fault)
 header_stop input rest line reason (stops.Early early.TooMuch) stopped fault = absurd (stopped.1.1 line reason fault)
-header_stop input rest line reason stops.Memory stopped fault = inr (inl refl)
+header_stop input rest line reason (stops.Memory memory) stopped fault = inr (inl refl)
 
 -- the status of an early end where another has its cause
 cut_early : (input rest : List ℕ) (end : EarlyEnd) → EndedEarly (Some rest) input end → EndedEarly (Some rest) input early.Cut → (end ≡ early.Cut) ⊎ (end ≡ early.ReadFault)
@@ -187,27 +188,27 @@ ended_much : (input rest : List ℕ) → IsEnded (Some rest) input → EndedEarl
 ended_much input rest (inl has) much = much.2 has
 ended_much input rest (inr ends) much = omega (arith, ends.0.short, much.0)
 
-cut_among : (end : EarlyEnd) → (end ≡ early.Cut) ⊎ (end ≡ early.ReadFault) → Among (status_at (Early end)) (Cut ∷ Memory ∷ ReadFault ∷ WriteFault ∷ [])
+cut_among : (end : EarlyEnd) → (end ≡ early.Cut) ⊎ (end ≡ early.ReadFault) → Among (status_at (Early end)) (Cut ∷ Memory refused ∷ ReadFault ∷ WriteFault ∷ [])
 cut_among end (inl cut) = inl (ap (λ (e : EarlyEnd). status_at (Early e)) cut)
 cut_among end (inr fault) = inr (inr (inl (ap (λ (e : EarlyEnd). status_at (Early e)) fault)))
 
-cut_text : (input rest : List ℕ) (end : TextEnd) → TextEnded (Some rest) input end → EndedEarly (Some rest) input early.Cut → Among (status_at end) (Cut ∷ Memory ∷ ReadFault ∷ WriteFault ∷ [])
+cut_text : (input rest : List ℕ) (end : TextEnd) → TextEnded (Some rest) input end → EndedEarly (Some rest) input early.Cut → Among (status_at end) (Cut ∷ Memory refused ∷ ReadFault ∷ WriteFault ∷ [])
 cut_text input rest EndLine ended cut = absurd (ended_cut input rest ended cut)
 cut_text input rest (Early end) ended cut = cut_among end (cut_early input rest end ended cut)
 
-much_text : (input rest : List ℕ) (end : TextEnd) → TextEnded (Some rest) input end → EndedEarly (Some rest) input early.TooMuch → Among (status_at end) (TooMuch ∷ Memory ∷ WriteFault ∷ [])
+much_text : (input rest : List ℕ) (end : TextEnd) → TextEnded (Some rest) input end → EndedEarly (Some rest) input early.TooMuch → Among (status_at end) (TooMuch ∷ Memory refused ∷ WriteFault ∷ [])
 much_text input rest EndLine ended much = absurd (ended_much input rest ended much)
 much_text input rest (Early end) ended much = inl (ap (λ (e : EarlyEnd). status_at (Early e)) (much_early input rest end ended much))
 
-cut_stop : (input rest : List ℕ) (stop : Stop) → Stopped (Some rest) input stop → EndedEarly (Some rest) input early.Cut → Among (status_of stop) (Cut ∷ Memory ∷ ReadFault ∷ WriteFault ∷ [])
+cut_stop : (input rest : List ℕ) (stop : Stop) → Stopped (Some rest) input stop → EndedEarly (Some rest) input early.Cut → Among (status_of stop) (Cut ∷ Memory refused ∷ ReadFault ∷ WriteFault ∷ [])
 cut_stop input rest (stops.Header other why) stopped cut = absurd (cut.1 other why stopped)
 cut_stop input rest (stops.Early end) stopped cut = cut_among end (cut_early input rest end stopped.1 cut)
-cut_stop input rest stops.Memory stopped cut = inr (inl refl)
+cut_stop input rest (stops.Memory memory) stopped cut = inr (inl refl)
 
-much_stop : (input rest : List ℕ) (stop : Stop) → Stopped (Some rest) input stop → EndedEarly (Some rest) input early.TooMuch → Among (status_of stop) (TooMuch ∷ Memory ∷ WriteFault ∷ [])
+much_stop : (input rest : List ℕ) (stop : Stop) → Stopped (Some rest) input stop → EndedEarly (Some rest) input early.TooMuch → Among (status_of stop) (TooMuch ∷ Memory refused ∷ WriteFault ∷ [])
 much_stop input rest (stops.Header other why) stopped much = absurd (much.1 other why stopped)
 much_stop input rest (stops.Early end) stopped much = inl (ap (λ (e : EarlyEnd). status_at (Early e)) (much_early input rest end stopped.1 much))
-much_stop input rest stops.Memory stopped much = inr (inl refl)
+much_stop input rest (stops.Memory memory) stopped much = inr (inl refl)
 
 -- Whole texts
 
@@ -239,17 +240,17 @@ served_early early.Cut input rest cut within is = absurd (served_cut input rest 
 served_early early.ReadFault input rest fault within is = refl
 served_early early.TooMuch input rest much within is = absurd (served_much input rest much within is.ended)
 
-served_stop : (stop : Stop) (input rest : List ℕ) → Stopped (Some rest) input stop → length input ≤ input_limit → IsSessionText (input ++ rest) → (status_of stop ≡ ReadFault → ⊥) → status_of stop ≡ Memory
+served_stop : (stop : Stop) (input rest : List ℕ) → Stopped (Some rest) input stop → length input ≤ input_limit → IsSessionText (input ++ rest) → (status_of stop ≡ ReadFault → ⊥) → status_of stop ≡ Memory refused
 served_stop (stops.Header line reason) input rest fault within is reads =
     absurd (HasSession-no_fault (input ++ rest) is.session line reason is.header (HasFault-more input rest line reason fault))
 served_stop (stops.Early end) input rest stopped within is reads = absurd (reads (ap (λ (e : EarlyEnd). status_at (Early e)) (served_early end input rest stopped.1 within is)))
-served_stop stops.Memory input rest stopped within is reads = refl
+served_stop (stops.Memory memory) input rest stopped within is reads = refl
 
 served_end : (end : TextEnd) (input rest : List ℕ) → TextEnded (Some rest) input end → length input ≤ input_limit → IsSessionText (input ++ rest) → (status_at end ≡ ReadFault → ⊥) → status_at end ≡ Done
 served_end EndLine input rest ended within is reads = refl
 served_end (Early end) input rest ended within is reads = absurd (reads (ap (λ (e : EarlyEnd). status_at (Early e)) (served_early end input rest ended within is)))
 
-memory_alone : (result : Status) (stop : Stop) → Among result (status_of stop ∷ Memory ∷ []) → status_of stop ≡ Memory → Among result (Done ∷ Memory ∷ [])
+memory_alone : (result : Status) (stop : Stop) → Among result (status_of stop ∷ Memory refused ∷ []) → status_of stop ≡ Memory refused → Among result (Done ∷ Memory refused ∷ [])
 memory_alone result stop (inl one) is = inr (inl (one ∙ is))
 memory_alone result stop (inr (inl one)) is = inr (inl one)
 memory_alone result stop (inr (inr none)) is = absurd none
@@ -264,40 +265,40 @@ module _ (IsTextOf : KindOfText) {K : Type 0} (written : K → Option (List ℕ)
   abbrev Text : TextEnd → List ℕ → Option (List ℕ) → Status → Type 0
   Text end input left status = RanText IsTextOf written faults out out' end input left status
 
-  -- what was done at the status that was told; want of memory may have taken a status' place
+  -- what was done at the status that was told; out of memory may have taken a status' place
   abbrev pub After : List ℕ → Option (List ℕ) → Result TextEnd Stop → Status → Type 0
   After input left (Ok end) status = RanText IsTextOf written faults out out' end input left status
-  After input left (Err stop) status = Among status (status_of stop ∷ Memory ∷ []) × (out' ≡ out)
+  After input left (Err stop) status = Among status (status_of stop ∷ Memory refused ∷ []) × (out' ≡ out)
 
   whole_part : (end : TextEnd) (input : List ℕ) (left : Option (List ℕ)) → Whole end input left → Part end input left
   whole_part end input left (text, is, all) = (text, is, AppendedPart-whole all)
 
-  text_memory : (end : TextEnd) (input : List ℕ) (left : Option (List ℕ)) (status : Status) → Text end input left status → Text end input left Memory
+  text_memory : (end : TextEnd) (input : List ℕ) (left : Option (List ℕ)) (status : Status) → Text end input left status → Text end input left (Memory refused)
   text_memory end input left status (inl (is, all)) = inr (inr (refl, inr (whole_part end input left all)))
   text_memory end input left status (inr (inl (is, part, rose))) = inr (inr (refl, inr part))
   text_memory end input left status (inr (inr (is, some))) = inr (inr (refl, some))
 
-  pub After-told : (input : List ℕ) (left : Option (List ℕ)) (read : Result TextEnd Stop) (status result : Status) → Followed IsTextOf written faults out out' input left read status → Among result (status ∷ Memory ∷ []) → After input left read result
+  pub After-told : (input : List ℕ) (left : Option (List ℕ)) (read : Result TextEnd Stop) (status result : Status) → Followed IsTextOf written faults out out' input left read status → Among result (status ∷ Memory refused ∷ []) → After input left read result
   After-told input left (Ok end) status result ran (inl same) = subst (λ (s : Status). Text end input left s) (sym same) ran
   After-told input left (Ok end) status result ran (inr (inl same)) = subst (λ (s : Status). Text end input left s) (sym same) (text_memory end input left status ran)
   After-told input left (Ok end) status result ran (inr (inr none)) = absurd none
-  After-told input left (Err stop) status result ran is = (subst (λ (s : Status). Among result (s ∷ Memory ∷ [])) ran.0 is, ran.1)
+  After-told input left (Err stop) status result ran is = (subst (λ (s : Status). Among result (s ∷ Memory refused ∷ [])) ran.0 is, ran.1)
 
   -- a status of an end of the text is that of its own end
   text_end : (end other : TextEnd) (input : List ℕ) (left : Option (List ℕ)) (result : Status) → Text end input left result → result ≡ status_at other → (end ≡ other) × Whole end input left
   text_end end other input left result (inl (is, all)) same = (same_end end other (sym is ∙ same), all)
   text_end end other input left result (inr (inl (is, part, rose))) same = absurd (no_end other WriteFault write_no_end (sym same ∙ is))
-  text_end end other input left result (inr (inr (is, some))) same = absurd (no_end other Memory memory_no_end (sym same ∙ is))
+  text_end end other input left result (inr (inr (is, some))) same = absurd (no_end other (Memory refused) memory_no_end (sym same ∙ is))
 
-  -- another is want of memory or a fault of writing
-  text_other : (end : TextEnd) (input : List ℕ) (left : Option (List ℕ)) (result status : Status) → IsNoEnd status → Text end input left result → result ≡ status → (status ≡ WriteFault) ⊎ (status ≡ Memory)
+  -- another is out of memory or a fault of writing
+  text_other : (end : TextEnd) (input : List ℕ) (left : Option (List ℕ)) (result status : Status) → IsNoEnd status → Text end input left result → result ≡ status → (status ≡ WriteFault) ⊎ (status ≡ Memory refused)
   text_other end input left result status none (inl (is, all)) same = absurd (no_end end status none (sym is ∙ same))
   text_other end input left result status none (inr (inl (is, part, rose))) same = inl (sym same ∙ is)
   text_other end input left result status none (inr (inr (is, more))) same = inr (sym same ∙ is)
 
-  text_among : (end : TextEnd) (input : List ℕ) (left : Option (List ℕ)) (result other : Status) (earlier : List Status) → Text end input left result → Among (status_at end) (other ∷ Memory ∷ earlier) → Among WriteFault (other ∷ Memory ∷ earlier) → Among result (other ∷ Memory ∷ earlier)
-  text_among end input left result other earlier (inl (is, all)) there faulted = subst (λ (s : Status). Among s (other ∷ Memory ∷ earlier)) (sym is) there
-  text_among end input left result other earlier (inr (inl (is, part, rose))) there faulted = subst (λ (s : Status). Among s (other ∷ Memory ∷ earlier)) (sym is) faulted
+  text_among : (end : TextEnd) (input : List ℕ) (left : Option (List ℕ)) (result other : Status) (earlier : List Status) → Text end input left result → Among (status_at end) (other ∷ Memory refused ∷ earlier) → Among WriteFault (other ∷ Memory refused ∷ earlier) → Among result (other ∷ Memory refused ∷ earlier)
+  text_among end input left result other earlier (inl (is, all)) there faulted = subst (λ (s : Status). Among s (other ∷ Memory refused ∷ earlier)) (sym is) there
+  text_among end input left result other earlier (inr (inl (is, part, rose))) there faulted = subst (λ (s : Status). Among s (other ∷ Memory refused ∷ earlier)) (sym is) faulted
   text_among end input left result other earlier (inr (inr (is, more))) there faulted = inr (inl is)
 
   pub header_exactly : (read : Result TextEnd Stop) (result : Status) (input rest : List ℕ) (line : ℕ) (reason : HeadReason) → After input (Some rest) read result → ReadCame (Some rest) input read → EndsExactly result (HeadFault line reason) [] (HasFault input line reason)
@@ -306,7 +307,7 @@ module _ (IsTextOf : KindOfText) {K : Type 0} (written : K → Option (List ℕ)
     always = λ fault. absurd (HasSession-no_fault input came.0.0 line reason came.0.1 fault);
   }
     where
-      header_never : (HeadFault line reason ≡ WriteFault) ⊎ (HeadFault line reason ≡ Memory) → ⊥
+      header_never : (HeadFault line reason ≡ WriteFault) ⊎ (HeadFault line reason ≡ Memory refused) → ⊥
       header_never (inl is) = cc
       header_never (inr is) = cc
   header_exactly (Err stop) result input rest line reason ran came = record {
@@ -357,7 +358,7 @@ module _ (IsTextOf : KindOfText) {K : Type 0} (written : K → Option (List ℕ)
   text_fault : (end : TextEnd) (input : List ℕ) (left : Option (List ℕ)) (result : Status) → Text end input left result → result ≡ WriteFault → Part end input left × Rose (faults out) (faults out')
   text_fault end input left result (inl (is, all)) same = absurd (no_end end WriteFault write_no_end (sym is ∙ same))
   text_fault end input left result (inr (inl (is, part, rose))) same = (part, rose)
-  text_fault end input left result (inr (inr (is, some))) same = absurd (let e : Memory ≡ WriteFault = sym is ∙ same in cc)
+  text_fault end input left result (inr (inr (is, some))) same = absurd (let e : Memory refused ≡ WriteFault = sym is ∙ same in cc)
 
   pub fault_rose : (input : List ℕ) (left : Option (List ℕ)) (read : Result TextEnd Stop) (result : Status) → After input left read result → result ≡ WriteFault → Rose (faults out) (faults out')
   fault_rose input left (Ok end) result ran is = (text_fault end input left result ran is).1
@@ -377,19 +378,19 @@ module _ (IsTextOf : KindOfText) {K : Type 0} (written : K → Option (List ℕ)
   some_part end input left (inl none) = inl (nothing_so none)
   some_part end input left (inr part) = inr (some_text end input left part)
 
-  text_part : (end : TextEnd) (input : List ℕ) (left : Option (List ℕ)) (result : Status) → Text end input left result → result ≡ Memory → GotNothing written faults out out' ⊎ GotPart IsTextOf written faults out out' input left
+  text_part : (end : TextEnd) (input : List ℕ) (left : Option (List ℕ)) (result : Status) → Text end input left result → result ≡ Memory refused → GotNothing written faults out out' ⊎ GotPart IsTextOf written faults out out' input left
   text_part end input left result (inl (is, all)) same = inr (some_text end input left (whole_part end input left all))
   text_part end input left result (inr (inl (is, part, rose))) same = inr (some_text end input left part)
   text_part end input left result (inr (inr (is, some))) same = some_part end input left some
 
-  pub memory_part : (read : Result TextEnd Stop) (result : Status) (input rest : List ℕ) → After input (Some rest) read result → result ≡ Memory → GotNothing written faults out out' ⊎ GotPart IsTextOf written faults out out' input (Some rest)
+  pub memory_part : (read : Result TextEnd Stop) (result : Status) (input rest : List ℕ) → After input (Some rest) read result → result ≡ Memory refused → GotNothing written faults out out' ⊎ GotPart IsTextOf written faults out out' input (Some rest)
   memory_part (Ok end) result input rest ran is = text_part end input (Some rest) result ran is
   memory_part (Err stop) result input rest ran is = inl (nothing_so ran.1)
 
   pub header_nothing : (input : List ℕ) (left : Option (List ℕ)) (read : Result TextEnd Stop) (result : Status) (line : ℕ) (reason : HeadReason) → After input left read result → result ≡ HeadFault line reason → GotNothing written faults out out'
   header_nothing input left (Ok end) result line reason ran is = absurd (header_never (text_other end input left result (HeadFault line reason) (header_no_end line reason) ran is))
     where
-      header_never : (HeadFault line reason ≡ WriteFault) ⊎ (HeadFault line reason ≡ Memory) → ⊥
+      header_never : (HeadFault line reason ≡ WriteFault) ⊎ (HeadFault line reason ≡ Memory refused) → ⊥
       header_never (inl is) = cc
       header_never (inr is) = cc
   header_nothing input left (Err stop) result line reason ran is = nothing_so ran.1
@@ -410,13 +411,13 @@ module _ (IsTextOf : KindOfText) {K : Type 0} (written : K → Option (List ℕ)
 
   -- Completeness
 
-  served_text : (end : TextEnd) (input : List ℕ) (left : Option (List ℕ)) (result : Status) → Text end input left result → status_at end ≡ Done → ¬ (Rose (faults out) (faults out')) → Among result (Done ∷ Memory ∷ [])
+  served_text : (end : TextEnd) (input : List ℕ) (left : Option (List ℕ)) (result : Status) → Text end input left result → status_at end ≡ Done → ¬ (Rose (faults out) (faults out')) → Among result (Done ∷ Memory refused ∷ [])
   served_text end input left result (inl (is, all)) done writes = inl (is ∙ done)
   served_text end input left result (inr (inl (is, part, rose))) done writes = absurd (writes rose)
   served_text end input left result (inr (inr (is, some))) done writes = inr (inl is)
 
   pub served : (read : Result TextEnd Stop) (result : Status) (input rest : List ℕ) → After input (Some rest) read result → ReadCame (Some rest) input read → length input ≤ input_limit → IsSessionText (input ++ rest)
-      → (status_read read ≡ ReadFault → ⊥) → ¬ (Rose (faults out) (faults out')) → Among result (Done ∷ Memory ∷ [])
+      → (status_read read ≡ ReadFault → ⊥) → ¬ (Rose (faults out) (faults out')) → Among result (Done ∷ Memory refused ∷ [])
   served (Ok end) result input rest ran came within is reads writes =
       served_text end input (Some rest) result ran (served_end end input rest came.1 within is reads) writes
   served (Err stop) result input rest ran came within is reads writes =
@@ -428,11 +429,11 @@ module _ (IsTextOf : KindOfText) {S K : Type 0} (left : S → Option (List ℕ))
   abbrev TheRun : Status → Type 0
   TheRun status = Ran IsTextOf left failed written faults source source' out out' status
 
-  after_told : (status result : Status) (ran : TheRun status) → Among result (status ∷ Memory ∷ []) → After IsTextOf written faults out out' ran.input (left source') ran.read result
+  after_told : (status result : Status) (ran : TheRun status) → Among result (status ∷ Memory refused ∷ []) → After IsTextOf written faults out out' ran.input (left source') ran.read result
   after_told status result ran tells = After-told IsTextOf written faults out out' ran.input (left source') ran.read status result ran.followed tells
 
   -- where the source tells its bytes
-  after_at : (status result : Status) (ran : TheRun status) (input rest : List ℕ) → Among result (status ∷ Memory ∷ []) → left source ≡ Some (input ++ rest) → left source' ≡ Some rest → After IsTextOf written faults out out' input (Some rest) ran.read result
+  after_at : (status result : Status) (ran : TheRun status) (input rest : List ℕ) → Among result (status ∷ Memory refused ∷ []) → left source ≡ Some (input ++ rest) → left source' ≡ Some rest → After IsTextOf written faults out out' input (Some rest) ran.read result
   after_at status result ran input rest tells had now =
       subst (λ (bytes : List ℕ). After IsTextOf written faults out out' bytes (Some rest) ran.read result) (Took-is left failed source source' ran.input input rest ran.took had now)
       (subst (λ (known : Option (List ℕ)). After IsTextOf written faults out out' ran.input known ran.read result) now (after_told status result ran tells))
@@ -442,15 +443,15 @@ module _ (IsTextOf : KindOfText) {S K : Type 0} (left : S → Option (List ℕ))
       subst (λ (bytes : List ℕ). ReadCame (Some rest) bytes ran.read) (Took-is left failed source source' ran.input input rest ran.took had now)
       (subst (λ (known : Option (List ℕ)). ReadCame known ran.input ran.read) now ran.came)
 
-  complete_ran : (status result : Status) (bytes : List ℕ) (ran : TheRun status) → Among result (status ∷ Memory ∷ []) → left source ≡ Some bytes → IsSessionText bytes → ¬ (Rose (failed source) (failed source')) → ¬ (Rose (faults out) (faults out')) → Among result (Done ∷ Memory ∷ [])
+  complete_ran : (status result : Status) (bytes : List ℕ) (ran : TheRun status) → Among result (status ∷ Memory refused ∷ []) → left source ≡ Some bytes → IsSessionText bytes → ¬ (Rose (failed source) (failed source')) → ¬ (Rose (faults out) (faults out')) → Among result (Done ∷ Memory refused ∷ [])
   complete_ran status result bytes ran tells had is reads writes =
       let split = told_bytes bytes ran.input (left source') (sym had ∙ ran.took.moved) in
       let had' : left source ≡ Some (ran.input ++ split.0) = had ∙ ap (λ (text : List ℕ). Some text) split.2 in
       served IsTextOf written faults out out' ran.read result ran.input split.0 (after_at status result ran ran.input split.0 tells had' split.1) (came_at status ran ran.input split.0 had' split.1) ran.within
       (subst (λ (text : List ℕ). IsSessionText text) split.2 is) (λ fault. reads (ran.cause fault)) writes
 
-  complete_known : (status result : Status) (known : Option (List ℕ)) (ran : TheRun status) → Among result (status ∷ Memory ∷ []) → left source ≡ known
-      → IfSome known (λ bytes. IsSessionText bytes → ¬ (Rose (failed source) (failed source')) → ¬ (Rose (faults out) (faults out')) → Among result (Done ∷ Memory ∷ []))
+  complete_known : (status result : Status) (known : Option (List ℕ)) (ran : TheRun status) → Among result (status ∷ Memory refused ∷ []) → left source ≡ known
+      → IfSome known (λ bytes. IsSessionText bytes → ¬ (Rose (failed source) (failed source')) → ¬ (Rose (faults out) (faults out')) → Among result (Done ∷ Memory refused ∷ []))
   complete_known status result None ran tells had = tt
   complete_known status result (Some bytes) ran tells had = complete_ran status result bytes ran tells had
 
@@ -458,7 +459,7 @@ module _ (IsTextOf : KindOfText) {S K : Type 0} (left : S → Option (List ℕ))
   before_fault input rest ended = (ended.1, ended.2)
 
   -- the run, and the status that was told of it
-  source_causes : (status result : Status) → TheRun status → Among result (status ∷ Memory ∷ []) → SourceCauses [] left failed source source' result
+  source_causes : (status result : Status) → TheRun status → Among result (status ∷ Memory refused ∷ []) → SourceCauses [] left failed source source' result
   source_causes status result ran tells = record {
     taken = record { bytes = ran.input; took = ran.took; within = ran.within };
     prompt = λ input rest had now. subst (λ (bytes : List ℕ). IsPrompt bytes) (Took-is left failed source source' ran.input input rest ran.took had now) ran.prompt;
@@ -470,7 +471,7 @@ module _ (IsTextOf : KindOfText) {S K : Type 0} (left : S → Option (List ℕ))
         before_fault input rest (early_told IsTextOf written faults out out' ran.read result input rest early.ReadFault (after_at status result ran input rest tells had now) (came_at status ran input rest had now) is).0;
   }
 
-  got_text : (status result : Status) → TheRun status → Among result (status ∷ Memory ∷ []) → GotText IsTextOf left written faults source source' out out' result
+  got_text : (status result : Status) → TheRun status → Among result (status ∷ Memory refused ∷ []) → GotText IsTextOf left written faults source source' out out' result
   got_text status result ran tells = record {
     done = λ is input rest had now. done_whole IsTextOf written faults out out' ran.read result input rest (after_at status result ran input rest tells had now) is;
     so_far = λ end is input rest had now. (early_told IsTextOf written faults out out' ran.read result input rest end (after_at status result ran input rest tells had now) (came_at status ran input rest had now) is).1;
@@ -480,7 +481,7 @@ module _ (IsTextOf : KindOfText) {S K : Type 0} (left : S → Option (List ℕ))
     nothing = λ line reason is. header_nothing IsTextOf written faults out out' ran.input (left source') ran.read result line reason (after_told status result ran tells) is;
   }
 
-  pub session_did : (status result : Status) → TheRun status → Among result (status ∷ Memory ∷ []) → DidSession IsTextOf left failed written faults source source' out out' result
+  pub session_did : (status result : Status) → TheRun status → Among result (status ∷ Memory refused ∷ []) → DidSession IsTextOf left failed written faults source source' out out' result
   session_did status result ran tells = record {
     causes = source_causes status result ran tells;
     got = got_text status result ran tells;
@@ -503,24 +504,24 @@ module _ (IsTextOf : KindOfText) {S K : Type 0} (left : S → Option (List ℕ))
       usage_never (inr (inr (inr (inr (inr (inr (inl is))))))) = cc
       usage_never (inr (inr (inr (inr (inr (inr (inr none))))))) = none
 
-  -- a run that did not begin, for want of memory
-  pub not_begun : source' ≡ source → out' ≡ out → TheRun Memory
+  -- a run that did not begin, out of memory
+  pub not_begun : source' ≡ source → out' ≡ out → TheRun (Memory refused)
   not_begun unread unwritten = record {
     input = [];
     took = subst (λ (s : S). Took left failed source s []) (sym unread) (Took-nil left failed source);
     within = omega arith;
     prompt = prompt_here [] GoesOn-nil;
-    read = Err stops.Memory;
+    read = Err (stops.Memory refused);
     came = tt;
     cause = λ is. absurd cc;
     followed = (refl, unwritten);
   }
 
 -- the refusal of words, told
-pub told_usage : (status result : Status) {other : Type 0} → Among result (status ∷ Memory ∷ []) → (status ≡ Usage → other) → (other → Among status (Usage ∷ Memory ∷ [])) → EndsExactly result Usage [] other
+pub told_usage : (status result : Status) {other : Type 0} → Among result (status ∷ Memory refused ∷ []) → (status ≡ Usage → other) → (other → Among status (Usage ∷ Memory refused ∷ [])) → EndsExactly result Usage [] other
 told_usage status result (inl same) only always = record {
   only = λ is. only (sym same ∙ is);
-  always = λ cause. subst (λ (s : Status). Among s (Usage ∷ Memory ∷ [])) (sym same) (always cause);
+  always = λ cause. subst (λ (s : Status). Among s (Usage ∷ Memory refused ∷ [])) (sym same) (always cause);
 }
-told_usage status result (inr (inl memory)) only always = record { only = λ is. let no : Usage ≡ Memory = sym is ∙ memory in absurd cc; always = λ cause. inr (inl memory) }
+told_usage status result (inr (inl memory)) only always = record { only = λ is. let no : Usage ≡ Memory refused = sym is ∙ memory in absurd cc; always = λ cause. inr (inl memory) }
 told_usage status result (inr (inr none)) only always = absurd none

@@ -28,14 +28,14 @@ verdict_text (No offset) = codes "NO " ++ numeral offset ++ 10 ∷ []
 abbrev pub halted : Halt → Status
 halted halts.ReadFault = ReadFault
 halted halts.TooMuch = TooMuch
-halted halts.Memory = Memory
+halted (halts.Memory memory) = Memory memory
 
 -- how the reading ended, by the bytes that it took and what the source has left then
 abbrev pub Halted : Option (List ℕ) → List ℕ → Result (Vec ℕ Global) Halt → Type 0
 Halted known bytes (Ok all) = (all.items ≡ bytes) × IsAtEnd known × (length bytes < output_limit)
 Halted known bytes (Err halts.ReadFault) = length bytes < output_limit
 Halted known bytes (Err halts.TooMuch) = length bytes ≡ output_limit
-Halted known bytes (Err halts.Memory) = Unit {0}
+Halted known bytes (Err (halts.Memory memory)) = Unit {0}
 
 -- the reading took some bytes, at most the limit, and ended so; a read fault is the source's
 pub record HasTaken {S : Type 0} (left : S → Option (List ℕ)) (faults : S → ℕ) (before now : S) (result : Result (Vec ℕ Global) Halt) : Type 0 where
@@ -61,7 +61,7 @@ ToldVerdict written faults before now bytes Done = IsSomeOutput bytes × WroteVe
 ToldVerdict written faults before now bytes Differs =
     ¬ (IsSomeOutput bytes) × ((offset : ℕ) × WroteVerdict written faults before now bytes (No offset))
 ToldVerdict written faults before now bytes WriteFault = WrotePartOf written faults before now bytes × Rose (faults before) (faults now)
-ToldVerdict written faults before now bytes Memory = (now ≡ before) ⊎ WrotePartOf written faults before now bytes
+ToldVerdict written faults before now bytes (Memory memory) = (now ≡ before) ⊎ WrotePartOf written faults before now bytes
 ToldVerdict written faults before now bytes _ = ⊥
 
 -- what came of the reading

@@ -1,5 +1,6 @@
 -- What the top call does with the word `check`.
 use Rattle.std.specs.Prelude.{ℕ, ◌≡◌, ◌<◌, ◌⊎◌, List, [], ◌∷◌, length, Option, IfSome}
+use Rattle.fx_amounts.specs.OutOfMemory.{refused}
 use Rattle.fx_edges.specs.Faults.{Rose}
 use Rattle.fx_rules.specs.Lists.{Among}
 use Rattle.journal_check.specs.Verdict.{IsSomeOutput}
@@ -29,9 +30,9 @@ pub record DidCheck {S K : Type 0} (left : S → Option (List ℕ)) (failed : S 
   -- standard output where the verdict was not written whole
   pub write_fault : status ≡ WriteFault → Rose (faults out) (faults out')
   pub part : status ≡ WriteFault → OfTaken left source source' (λ input _. WrotePartOf written faults out out' input)
-  pub memory : status ≡ Memory → OfTaken left source source' (λ input _. GotNothing written faults out out' ⊎ WrotePartOf written faults out out' input)
+  pub memory : status ≡ Memory refused → OfTaken left source source' (λ input _. GotNothing written faults out out' ⊎ WrotePartOf written faults out out' input)
   pub nothing : WritesNothing status → GotNothing written faults out out'
   -- no other status comes; and over ends without faults every source below the limit gets its verdict
-  pub answers : Among status (Done ∷ Differs ∷ ReadFault ∷ WriteFault ∷ TooMuch ∷ Memory ∷ [])
+  pub answers : Among status (Done ∷ Differs ∷ ReadFault ∷ WriteFault ∷ TooMuch ∷ Memory refused ∷ [])
   pub complete : IfSome (left source) (λ bytes. length bytes < output_limit
-      → ¬ (Rose (failed source) (failed source')) → ¬ (Rose (faults out) (faults out')) → Among status (Done ∷ Differs ∷ Memory ∷ []))
+      → ¬ (Rose (failed source) (failed source')) → ¬ (Rose (faults out) (faults out')) → Among status (Done ∷ Differs ∷ Memory refused ∷ []))

@@ -1,5 +1,6 @@
 -- What the top call does with the word `load`.
 use Rattle.std.specs.Prelude.{ℕ, ◌≡◌, ◌⊎◌, List, [], ◌∷◌, Option}
+use Rattle.fx_amounts.specs.OutOfMemory.{refused}
 use Rattle.fx_edges.specs.Faults.{Rose}
 use Rattle.fx_edges.specs.Writing.{Appended, AppendedPart}
 use Rattle.fx_rules.specs.Lists.{Among}
@@ -25,7 +26,7 @@ pub record DidLoad {S K : Type 0} (written : K → Option (List ℕ)) (faults : 
   pub done : status ≡ Done → GotSummary written faults out out' seed banks pairs commands
   pub write_fault : status ≡ WriteFault → Rose (faults out) (faults out')
   pub part : status ≡ WriteFault → GotSummaryPart written faults out out' seed banks pairs commands
-  pub memory : status ≡ Memory → GotNothing written faults out out' ⊎ GotSummaryPart written faults out out' seed banks pairs commands
+  pub memory : status ≡ Memory refused → GotNothing written faults out out' ⊎ GotSummaryPart written faults out out' seed banks pairs commands
   -- no other status comes, and over a sink without faults the summary is written
-  pub answers : Among status (Done ∷ WriteFault ∷ Memory ∷ [])
-  pub complete : ¬ (Rose (faults out) (faults out')) → Among status (Done ∷ Memory ∷ [])
+  pub answers : Among status (Done ∷ WriteFault ∷ Memory refused ∷ [])
+  pub complete : ¬ (Rose (faults out) (faults out')) → Among status (Done ∷ Memory refused ∷ [])

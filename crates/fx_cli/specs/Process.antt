@@ -3,6 +3,7 @@ use Rattle.std.specs.Prelude.{ℕ, ◌≡◌, ◌≢◌, ◌⊎◌, List, Option
 use Rattle.std.specs.declared.alloc.Global.{Global}
 use Rattle.std.specs.declared.io.ErrorKind.{ErrorKind}
 use Rattle.std.specs.declared.io.ErrorKind.TheVariants.{OutOfMemory}
+use Rattle.fx_amounts.specs.OutOfMemory.{refused}
 use Rattle.fx_cli.specs.Answered.{Answered}
 use Rattle.fx_cli.specs.Status.{code_of}
 use Rattle.fx_cli.specs.declared.status.Status.{Status}
@@ -14,16 +15,16 @@ pub record IsUntouched {S K E : Type 0} (source source' : S) (out out' : K) (err
   pub unwritten : out' ≡ out
   pub untold : err' ≡ err
 
--- the exit status is that of the answer to the words, or of want of memory for a list of them
+-- the exit status is that of the answer to the words, or of a refusal of memory for a list of them
 pub record EndsBy {S K E : Type 0} (left : S → Option (List ℕ)) (failed : S → ℕ) (written : K → Option (List ℕ)) (faults : K → ℕ) (told : E → Option (List ℕ)) (untold : E → ℕ)
     (words : List (String Global)) (source source' : S) (out out' : K) (err err' : E) (code : ℕ) : Type 0 where
   pub status : Status
   pub code_is : code ≡ code_of status
   pub answered : Answered left failed written faults told untold words source source' out out' err err' status
-      ⊎ ((status ≡ Memory) × IsUntouched source source' out out' err err')
+      ⊎ ((status ≡ Memory refused) × IsUntouched source source' out out' err err')
 
--- the arguments could not be read: for want of memory, and else for another reason
+-- the arguments could not be read: memory was refused, or there was another reason
 pub record EndsUnread {S K E : Type 0} (kind : ErrorKind) (source source' : S) (out out' : K) (err err' : E) (code : ℕ) : Type 0 where
-  pub memory : kind ≡ OutOfMemory → code ≡ code_of Memory
+  pub memory : kind ≡ OutOfMemory → code ≡ code_of (Memory refused)
   pub other : kind ≢ OutOfMemory → code ≡ code_of Usage
   pub untouched : IsUntouched source source' out out' err err'

@@ -1,5 +1,6 @@
 -- What a run does to its source and to standard output. In all of these `IsTextOf` tells what text is written of an input.
 use Rattle.std.specs.Prelude.{ℕ, ◌≡◌, ◌≤◌, List, length, Option, Result, Ok, Err, ◌⊎◌}
+use Rattle.fx_amounts.specs.OutOfMemory.{refused}
 use Rattle.fx_edges.specs.Faults.{Rose}
 use Rattle.fx_edges.specs.Reading.{Took}
 use Rattle.fx_edges.specs.Writing.{AppendedPart}
@@ -17,12 +18,12 @@ abbrev pub GotPartOf : (IsTextOf : KindOfText) {K : Type 0} (written : K → Opt
 GotPartOf IsTextOf written faults before now end input left = (text : List ℕ) × IsTextOf end input left text × AppendedPart written faults before now text
 
 -- What was done to standard output for an input that ended so, by the status: its text was written whole, or a prefix of it,
--- or, for want of memory, nothing.
+-- or, out of memory, nothing.
 abbrev pub RanText : (IsTextOf : KindOfText) {K : Type 0} (written : K → Option (List ℕ)) (faults : K → ℕ) (before now : K) → TextEnd → List ℕ → Option (List ℕ) → Status → Type 0
 RanText IsTextOf written faults before now end input left status =
     ((status ≡ status_at end) × GotWhole IsTextOf written faults before now end input left)
     ⊎ ((status ≡ WriteFault) × GotPartOf IsTextOf written faults before now end input left × Rose (faults before) (faults now))
-    ⊎ ((status ≡ Memory) × ((now ≡ before) ⊎ GotPartOf IsTextOf written faults before now end input left))
+    ⊎ ((status ≡ Memory refused) × ((now ≡ before) ⊎ GotPartOf IsTextOf written faults before now end input left))
 
 -- how the reading went: behind START the text ended so, or the reading stopped before
 abbrev pub ReadCame : Option (List ℕ) → List ℕ → Result TextEnd Stop → Type 0

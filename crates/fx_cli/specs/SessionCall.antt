@@ -2,6 +2,7 @@
 -- that; what standard output got; and the statuses that come. `IsTextOf` tells what text is written of an input: an output by
 -- `IsOutputOf`, whose history is the headline with `run`, and with `serial` the one in the order of the lines.
 use Rattle.std.specs.Prelude.{ℕ, ◌≡◌, ◌⊎◌, List, [], ◌∷◌, Option, Some, IfSome}
+use Rattle.fx_amounts.specs.OutOfMemory.{refused}
 use Rattle.fx_edges.specs.Faults.{Rose}
 use Rattle.fx_rules.specs.Lists.{Among}
 use Rattle.session_head.specs.declared.reason.HeadReason.{HeadReason}
@@ -35,7 +36,7 @@ pub record GotText (IsTextOf : KindOfText) {S K : Type 0} (left : S → Option (
   pub so_far : (end : EarlyEnd) → status ≡ status_at (Early end) → OfTaken left source source' (λ input rest. GotSoFar IsTextOf written faults out out' end input (Some rest))
   pub write_fault : status ≡ WriteFault → Rose (faults out) (faults out')
   pub part : status ≡ WriteFault → OfTaken left source source' (λ input rest. GotPart IsTextOf written faults out out' input (Some rest))
-  pub memory : status ≡ Memory → OfTaken left source source' (λ input rest. GotNothing written faults out out' ⊎ GotPart IsTextOf written faults out out' input (Some rest))
+  pub memory : status ≡ Memory refused → OfTaken left source source' (λ input rest. GotNothing written faults out out' ⊎ GotPart IsTextOf written faults out out' input (Some rest))
   pub nothing : (line : ℕ) (reason : HeadReason) → status ≡ Header line reason → GotNothing written faults out out'
 
 -- a fault of the header, in some line and for some reason
@@ -47,6 +48,6 @@ pub record DidSession (IsTextOf : KindOfText) {S K : Type 0} (left : S → Optio
   pub causes : SourceCauses [] left failed source source' status
   pub got : GotText IsTextOf left written faults source source' out out' status
   -- no other status comes; and the text of a session, over ends without faults, is served
-  pub answers : IsHeader status ⊎ Among status (Done ∷ Cut ∷ ReadFault ∷ WriteFault ∷ Memory ∷ TooMuch ∷ [])
+  pub answers : IsHeader status ⊎ Among status (Done ∷ Cut ∷ ReadFault ∷ WriteFault ∷ Memory refused ∷ TooMuch ∷ [])
   pub complete : IfSome (left source) (λ bytes. IsSessionText bytes
-      → ¬ (Rose (failed source) (failed source')) → ¬ (Rose (faults out) (faults out')) → Among status (Done ∷ Memory ∷ []))
+      → ¬ (Rose (failed source) (failed source')) → ¬ (Rose (faults out) (faults out')) → Among status (Done ∷ Memory refused ∷ []))

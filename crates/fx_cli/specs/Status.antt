@@ -31,7 +31,7 @@ ending_of (Early early.TooMuch) = endings.Much
 abbrev pub status_of : Stop → Status
 status_of (stops.Header line reason) = Header line reason
 status_of (stops.Early end) = status_at (Early end)
-status_of stops.Memory = Memory
+status_of (stops.Memory memory) = Memory memory
 
 abbrev pub code_of : Status → ℕ
 code_of Done = 0
@@ -40,7 +40,7 @@ code_of (Header line reason) = 2
 code_of Cut = 3
 code_of ReadFault = 4
 code_of WriteFault = 5
-code_of Memory = 6
+code_of (Memory memory) = 6
 code_of TooMuch = 7
 code_of Differs = 8
 
@@ -56,6 +56,6 @@ err_text (Header line reason) = fault_text line reason
 err_text Cut = codes "input ended before END\n"
 err_text ReadFault = codes "read failed\n"
 err_text WriteFault = codes "write failed\n"
-err_text Memory = codes "out of memory\n"
+err_text (Memory memory) = codes "out of memory\n"
 err_text TooMuch = codes "too much input\n"
 err_text Differs = codes "output differs\n"

@@ -1,7 +1,8 @@
 -- What the top call says of its status and of what the streams got.
 use Rattle.std.specs.Prelude.{◌≡◌, ◌<◌, ℕ, List, [], ◌∷◌, length, map, take, Option, Ok, ◌⊎◌}
+use Rattle.fx_amounts.specs.OutOfMemory.{refused}
 use Rattle.fx_edges.specs.Faults.{Rose}
-use Rattle.fx_edges.specs.Writing.{Appended, AppendedPart}
+use Rattle.fx_edges.specs.Writing.{Appended, AppendedPart, CutShort}
 use Rattle.fx_rules.specs.declared.outcome.Entry.{Entry}
 use Rattle.fx_rules.specs.declared.command.Sent.{Sent}
 use Rattle.fx_rules.specs.Lists.{Among}
@@ -20,10 +21,10 @@ use Rattle.fx_cli.specs.declared.status.Status.{Status}
 use Rattle.fx_cli.specs.declared.status.Status.TheVariants.{Done, Differs, WriteFault, Memory}
 
 -- The run ended with this status exactly where the cause stands, unless it ended with one of `earlier`, whose causes
--- come first, or for want of memory.
+-- come first, or out of memory.
 pub record EndsExactly (result status : Status) (earlier : List Status) (cause : Type 0) : Type 0 where
   pub only : result ≡ status → cause
-  pub always : cause → Among result (status ∷ Memory ∷ earlier)
+  pub always : cause → Among result (status ∷ Memory refused ∷ earlier)
 
 -- The headline. The input that was taken, where the source has `left` still, ended so: at status 0 it reached its END line.
 -- And a text is exactly the output of one history: one of the session of the input's own header and of its commands, those
@@ -67,7 +68,7 @@ abbrev pub WritesNothing : Status → Type 0
 WritesNothing Done = ⊥
 WritesNothing Differs = ⊥
 WritesNothing WriteFault = ⊥
-WritesNothing Memory = ⊥
+WritesNothing (Memory memory) = ⊥
 WritesNothing _ = Unit {0}
 
 -- The text of a session: it has a whole header, and an END line among the bytes that are taken at most; or fewer bytes than
@@ -77,9 +78,9 @@ pub record IsSessionText (bytes : List ℕ) : Type 0 where
   pub header : HasSession bytes session
   pub ended : HasEnd (take input_limit bytes) ⊎ ((length bytes < input_limit) × EndsWithEnd bytes)
 
--- Standard error got the text of the status, or where its count of faults rose a prefix of it. At want of memory it got
--- a prefix of the text of some status.
+-- Standard error got the text of the status, or where its count of faults rose a prefix of it. Out of memory, it got the text that
+-- says so, or the beginning of some status' text and not all of it: the one that was being written.
 abbrev pub ToldErr : {E : Type 0} (written : E → Option (List ℕ)) (faults : E → ℕ) (before now : E) → Status → Type 0
-ToldErr written faults before now Memory = (status : Status) × AppendedPart written faults before now (err_text status)
+ToldErr written faults before now (Memory memory) = Appended written faults before now (err_text (Memory memory)) ⊎ ((status : Status) × CutShort written faults before now (err_text status))
 ToldErr written faults before now status = AppendedPart written faults before now (err_text status)
     × (Appended written faults before now (err_text status) ⊎ Rose (faults before) (faults now))

@@ -1,14 +1,14 @@
 ghost use Rattle.std.specs.Prelude.{◌≡◌, IfOk};
 ghost use Rattle.fx_cli.specs.Check.{HasTaken, Checked, ToldVerdict, verdict_text};
 ghost use Rattle.fx_cli.specs.inside.Check.{status_for};
-ghost use Rattle.fx_cli.specs.declared.check.Halt.TheVariants.{Memory as WantOfMemory};
+ghost use Rattle.fx_cli.specs.declared.check.Halt.TheVariants.{Memory as OutOfMemory};
 
 use crate::status::Status;
 use fx_amounts::Memory;
 use fx_edges::{Sink, SinkFault, Source, write_all};
 use fx_text::push_number;
 use journal_check::{Verdict, check_output};
-use std::alloc::{AllocError, Global};
+use std::alloc::Global;
 
 /// The bytes of an output that can be checked are fewer than these.
 const OUTPUT_LIMIT: usize = 1 << 28;
@@ -24,14 +24,14 @@ pub enum Halt {
     /// 2^28 bytes were taken.
     TooMuch,
     /// A growth of memory was refused.
-    Memory,
+    Memory(Memory),
 }
 
-impl From<AllocError> for Halt {
-    ghost from_gives = { λ _ halt. halt ≡ WantOfMemory };
+impl From<Memory> for Halt {
+    ghost from_gives = { λ memory halt. halt ≡ OutOfMemory memory };
 
-    fn from(_: AllocError) -> Self {
-        Halt::Memory
+    fn from(memory: Memory) -> Self {
+        Halt::Memory(memory)
     }
 }
 
@@ -44,7 +44,7 @@ impl From<Halt> for Status {
         match halt {
             Halt::ReadFault => Status::ReadFault,
             Halt::TooMuch => Status::TooMuch,
-            Halt::Memory => Status::Memory,
+            Halt::Memory(memory) => Status::Memory(memory),
         }
     }
 }
@@ -63,16 +63,18 @@ pub fn check<S: Source, K: Sink>(alloc: Global, source: &mut S, out: &mut K) -> 
 fn check_bytes<K: Sink>(alloc: Global, bytes: &[u8], out: &mut K) -> Status
     ensures told { ToldVerdict K.written K.faults out.old out.new bytes.now result }
 {
-    let Ok(verdict) = check_output(alloc, bytes) else {
-        return Status::Memory;
+    let verdict = match check_output(alloc, bytes) {
+        Ok(verdict) => verdict,
+        Err(memory) => return Status::Memory(memory),
     };
-    let Ok(text) = verdict_line(alloc, verdict) else {
-        return Status::Memory;
+    let text = match verdict_line(alloc, verdict) {
+        Ok(text) => text,
+        Err(memory) => return Status::Memory(memory),
     };
     match write_all(out, &text) {
         Ok(()) => status_for(verdict),
         Err(SinkFault::Failed) => Status::WriteFault,
-        Err(SinkFault::Memory) => Status::Memory,
+        Err(SinkFault::Memory(memory)) => Status::Memory(memory),
     }
 }
 
@@ -120,7 +122,9 @@ fn read_all<S: Source>(alloc: Global, source: &mut S) -> Result<Vec<u8>, Halt>
         if count == 0 {
             return Ok(bytes);
         }
-        bytes.extend_from_slice(&piece[..count])?;
+        bytes
+            .extend_from_slice(&piece[..count])
+            .map_err(Memory::from)?;
     }
     Err(Halt::TooMuch)
 }

@@ -37,6 +37,6 @@ pub(crate) fn written_status(end: TextEnd, written: Result<(), OutFault>) -> Sta
     match written {
         Ok(()) => status_at(end),
         Err(OutFault::Write) => Status::WriteFault,
-        Err(OutFault::Memory) => Status::Memory,
+        Err(OutFault::Memory(memory)) => Status::Memory(memory),
     }
 }

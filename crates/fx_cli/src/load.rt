@@ -2,7 +2,6 @@ ghost use Rattle.std.specs.Prelude.{◌≤◌};
 ghost use Rattle.fx_cli.specs.Load.{Loaded, WroteText};
 
 use crate::status::Status;
-use fx_amounts::Memory;
 use fx_edges::{Sink, SinkFault, write_all};
 use fx_rules::Gate;
 use load_summary::load_summary;
@@ -30,7 +29,7 @@ pub fn load<R: AllocGlobal + Threads + Wait + Sync, K: Sink, G: Gate + Sync>(
 {
     match load_summary(rt, seed, banks, pairs, commands, workers, gate) {
         Ok(text) => write_summary(&text, out),
-        Err(Memory) => Status::Memory,
+        Err(memory) => Status::Memory(memory),
     }
 }
 
@@ -41,6 +40,6 @@ fn write_summary<K: Sink>(text: &[u8], out: &mut K) -> Status
     match write_all(out, text) {
         Ok(()) => Status::Done,
         Err(SinkFault::Failed) => Status::WriteFault,
-        Err(SinkFault::Memory) => Status::Memory,
+        Err(SinkFault::Memory(memory)) => Status::Memory(memory),
     }
 }

@@ -1,7 +1,9 @@
 ghost use Rattle.std.specs.Prelude.{◌≡◌, ◌≢◌, IfErr, IfOk, drop};
 ghost use Rattle.std.specs.IoError.{error_kind};
+ghost use Rattle.std.specs.declared.io.ErrorKind.TheVariants.{OutOfMemory};
 ghost use Rattle.std.specs.Process.{exit_status};
 ghost use Rattle.std.specs.Vec.Iter.{into_iter_items};
+ghost use Rattle.fx_amounts.specs.OutOfMemory.{refused};
 ghost use Rattle.fx_cli.specs.Process.{EndsBy, EndsUnread};
 
 use crate::status::Status;
@@ -11,7 +13,7 @@ use fx_edges::{Sink, Source};
 use fx_rules::OpenGate;
 use std::alloc::Global;
 use std::env::Args;
-use std::io::{self, ErrorKind};
+use std::io;
 use std::process::ExitCode;
 use std::sync::Wait;
 use std::thread::Threads;
@@ -34,7 +36,7 @@ pub fn serve<R: AllocGlobal + Threads + Wait + Sync, S: Source, K: Sink, E: Sink
     let status = match arguments {
         Ok(all) => match words_of(rt.alloc(), all) {
             Ok(words) => fx_main(rt, &words, source, out, err, &OpenGate),
-            Err(Memory) => Status::Memory,
+            Err(memory) => Status::Memory(memory),
         },
         Err(fault) => unread_status(&fault),
     };
@@ -55,11 +57,11 @@ fn words_of(alloc: Global, mut arguments: Args) -> Result<Vec<String>, Memory>
 
 /// The status at which the process ends where its arguments can't be read.
 fn unread_status(fault: &io::Error) -> Status
-    ensures memory { error_kind fault.now ≡ ErrorKind.OutOfMemory → result ≡ Status.Memory }
-    ensures other { error_kind fault.now ≢ ErrorKind.OutOfMemory → result ≡ Status.Usage }
+    ensures memory { error_kind fault.now ≡ OutOfMemory → result ≡ Status.Memory refused }
+    ensures other { error_kind fault.now ≢ OutOfMemory → result ≡ Status.Usage }
 {
-    match fault.kind() {
-        ErrorKind::OutOfMemory => Status::Memory,
-        _ => Status::Usage,
+    match Memory::told_by(fault.kind()) {
+        Some(memory) => Status::Memory(memory),
+        None => Status::Usage,
     }
 }

@@ -55,13 +55,14 @@ fn serve_text<R: AllocGlobal + Threads + Wait + Sync, S: Source, K: Sink, G: Gat
     requires begun { (before : S) × (h : SessionHeader) × HasRead S.left S.faults before source.old reading.old h (sent_at reading.old.intake.stage) }
     ensures ran { (before : S) (h : SessionHeader) → HasRead S.left S.faults before source.old reading.old h (sent_at reading.old.intake.stage) → Ran (IsOutputOf IsHeadline) S.left S.faults K.written K.faults before source.new out.old out.new result }
 {
-    let Ok(blank) = Blank::new(rt.alloc(), keys_of(&reading.script().session)) else {
-        return Status::Memory;
+    let blank = match Blank::new(rt.alloc(), keys_of(&reading.script().session)) {
+        Ok(blank) => blank,
+        Err(memory) => return Status::Memory(memory),
     };
-    let Ok((end, history, market)) = serve_at::<Brand, R, S, G>(
-        rt, blank, workers, reading, source, gate,
-    ) else {
-        return Status::Memory;
+    let served = serve_at::<Brand, R, S, G>(rt, blank, workers, reading, source, gate);
+    let (end, history, market) = match served {
+        Ok(served) => served,
+        Err(memory) => return Status::Memory(memory),
     };
     let script = reading.script();
     let written = write_output_from(

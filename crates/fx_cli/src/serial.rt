@@ -36,11 +36,13 @@ fn serve_text<S: Source, K: Sink>(
     requires begun { (before : S) × (h : SessionHeader) × HasRead S.left S.faults before source.old reading.old h (sent_at reading.old.intake.stage) }
     ensures ran { (before : S) (h : SessionHeader) → HasRead S.left S.faults before source.old reading.old h (sent_at reading.old.intake.stage) → Ran (IsOutputOf IsSerial) S.left S.faults K.written K.faults before source.new out.old out.new result }
 {
-    let Ok(mut run) = open_day(alloc, &reading.script().session) else {
-        return Status::Memory;
+    let mut run = match open_day(alloc, &reading.script().session) {
+        Ok(run) => run,
+        Err(memory) => return Status::Memory(memory),
     };
-    let Ok(end) = serve_rounds(reading, source, &mut run) else {
-        return Status::Memory;
+    let end = match serve_rounds(reading, source, &mut run) {
+        Ok(end) => end,
+        Err(memory) => return Status::Memory(memory),
     };
     let script = reading.script();
     let written = run.write(alloc, &script.session, script.strays, ending_of(end), out);

@@ -1,5 +1,5 @@
-ghost use Rattle.std.specs.Prelude.{◌≡◌, IfOk};
-ghost use Rattle.fx_edges.specs.Writing.{Wrote};
+ghost use Rattle.std.specs.Prelude.{◌≡◌, IfOk, OnErr};
+ghost use Rattle.fx_edges.specs.Writing.{CutShort, Wrote};
 ghost use Rattle.fx_cli.specs.Status.{code_of, err_text, fault_text, status_of};
 
 use crate::ending::status_at;
@@ -27,7 +27,7 @@ pub enum Status {
     /// Standard output failed; a prefix of the output was written.
     WriteFault,
     /// A growth of memory was refused.
-    Memory,
+    Memory(Memory),
     /// The input's end did not come within what is taken of it: for a session its END line, for an output the source's end.
     /// With a session whose START was read, the output of its whole lines so far was written.
     TooMuch,
@@ -47,16 +47,17 @@ impl Status {
             Status::Cut => 3,
             Status::ReadFault => 4,
             Status::WriteFault => 5,
-            Status::Memory => 6,
+            Status::Memory(_) => 6,
             Status::TooMuch => 7,
             Status::Differs => 8,
         }
     }
 
-    /// Writes the line that standard error gets; none where all went well. After a fault a prefix of it was written.
+    /// Writes the line that standard error gets; none where all went well. After a fault a prefix of it was written, and not all of it.
     #[tactic(auto, unfolding(crate::specs::Status::err_text))]
     pub fn write_line<E: Sink>(self, alloc: Global, err: &mut E) -> Result<(), SinkFault>
         ensures wrote { Wrote E.written E.faults err.old err.new (err_text self) result }
+        ensures cut { OnErr result (CutShort E.written E.faults err.old err.new (err_text self)) }
     {
         match self {
             Status::Done => write_all(err, b""),
@@ -68,7 +69,7 @@ impl Status {
             Status::Cut => write_all(err, b"input ended before END\n"),
             Status::ReadFault => write_all(err, b"read failed\n"),
             Status::WriteFault => write_all(err, b"write failed\n"),
-            Status::Memory => write_all(err, b"out of memory\n"),
+            Status::Memory(_) => write_all(err, b"out of memory\n"),
             Status::TooMuch => write_all(err, b"too much input\n"),
             Status::Differs => write_all(err, b"output differs\n"),
         }
@@ -82,7 +83,7 @@ impl From<Stop> for Status {
         match stop {
             Stop::Header { line, reason } => Status::Header { line, reason },
             Stop::Early(early) => status_at(TextEnd::Early(early)),
-            Stop::Memory => Status::Memory,
+            Stop::Memory(memory) => Status::Memory(memory),
         }
     }
 }
@@ -95,11 +96,10 @@ fn write_fault_line<E: Sink>(
     err: &mut E,
 ) -> Result<(), SinkFault>
     ensures wrote { Wrote E.written E.faults err.old err.new (fault_text line reason) result }
+    ensures cut { OnErr result (CutShort E.written E.faults err.old err.new (fault_text line reason)) }
 {
-    match fault_line(alloc, line, reason) {
-        Ok(text) => write_all(err, &text),
-        Err(Memory) => Err(SinkFault::Memory),
-    }
+    let text = fault_line(alloc, line, reason)?;
+    write_all(err, &text)
 }
 
 /// The line of a header's fault.

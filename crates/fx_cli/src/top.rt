@@ -1,4 +1,5 @@
 ghost use Rattle.std.specs.Prelude.{ℕ, ◌≡◌, [], ◌∷◌, Some, None};
+ghost use Rattle.fx_amounts.specs.OutOfMemory.{refused};
 ghost use Rattle.fx_rules.specs.Lists.{Among};
 ghost use Rattle.fx_cli.specs.Answered.{Answered, asked};
 ghost use Rattle.fx_cli.specs.Headline.{IsHeadline, IsSerial};
@@ -80,17 +81,17 @@ fn follow<R: AllocGlobal + Threads + Wait + Sync, S: Source, K: Sink, G: Gate + 
             },
         ) => load(rt, seed, banks, pairs, commands, workers, out, gate),
         Err(WordsFault::Usage) => Status::Usage,
-        Err(WordsFault::Memory) => Status::Memory,
+        Err(WordsFault::Memory(memory)) => Status::Memory(memory),
     }
 }
 
-/// Writes the status' line on standard error. Want of memory for it takes the status' place; a write that fails doesn't.
+/// Writes the status' line on standard error. Out of memory takes the status' place; a write that fails doesn't.
 fn tell<E: Sink>(alloc: Global, status: Status, err: &mut E) -> Status
-    ensures same { Among result (status ∷ Status.Memory ∷ []) }
+    ensures same { Among result (status ∷ Status.Memory refused ∷ []) }
     ensures err { ToldErr E.written E.faults err.old err.new result }
 {
     match status.write_line(alloc, err) {
-        Err(SinkFault::Memory) => Status::Memory,
+        Err(SinkFault::Memory(memory)) => Status::Memory(memory),
         _ => status,
     }
 }

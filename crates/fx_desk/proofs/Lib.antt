@@ -2,3 +2,4 @@ pub mod Orderly
 pub mod Submits
 pub mod Owning
 pub mod Streams
+pub mod Sending

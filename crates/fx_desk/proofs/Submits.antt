@@ -1,5 +1,5 @@
 -- What a submit owes, from the history that it made.
-use Rattle.std.proofs.Common.{ℕ, ◌≡◌, ◌+◌, List, [], ◌∷◌, ◌++◌, length, subst}
+use Rattle.std.proofs.Common.{ℕ, ◌≡◌, ◌+◌, List, [], ◌∷◌, ◌++◌, length, Result, Ok, Err, OnErr, ap, subst, ◌∙◌}
 use mathlib.Core.List.{IsPrefix}
 use Rattle.fx_rules.specs.declared.command.Command.{Command}
 use Rattle.fx_rules.specs.declared.command.Command.TheVariants.{Line, Book}
@@ -11,10 +11,10 @@ use Rattle.fx_rules.specs.History.{IsStep, IsLegal, state, own}
 use Rattle.fx_rules.proofs.Soundness.{legal-sound}
 use Rattle.fx_rules.proofs.Uncrossed.{legal-uncrossed}
 use Rattle.fx_rules.proofs.Continuing.{legal-last}
-use Rattle.fx_rules.proofs.ViewCommands.{views-told}
+use Rattle.fx_rules.proofs.ViewCommands.{views-told, books-alike}
 use Rattle.fx_rules.proofs.ViewRaise.{views-fill}
 use Rattle.fx_rules.proofs.Truth.{books-truthful}
-use Rattle.fx_desk.specs.Submitting.{next_own, IsToldByView, IsFilledByView, IsTruthfulBook, Submitted}
+use Rattle.fx_desk.specs.Submitting.{next_own, IsToldByView, IsShownByView, IsFilledByView, IsTruthfulBook, Submitted, Refused}
 use Rattle.fx_desk.proofs.Orderly.{legal-orderly}
 
 module _ (h : Header) (before : List Entry) (bank number : ℕ) where
@@ -27,18 +27,23 @@ module _ (h : Header) (before : List Entry) (bank number : ℕ) where
   told-by_view : (command : Command) (outcome : Outcome) → Steps_on command outcome → IsToldByView h before bank command outcome
   told-by_view command outcome on others other legal same is =
       views-told h (state h before) (state h others) bank command outcome other on.0.session
-      (legal-sound h before on.0) (legal-sound h others legal) on.1.sender on.1.command same on.1.outcome is
+      (legal-sound h before on.0) (legal-sound h others legal) on.1.command same on.1.outcome is
+
+  shown-by_view : IsLegal h before → IsShownByView h before bank
+  shown-by_view legal others pair bids asks bids' asks' other same bank_is pair_is one two =
+      books-alike h (state h before) (state h others) bank pair bids asks bids' asks' legal.session
+      (legal-sound h before legal) (legal-sound h others other) bank_is pair_is same one two
 
   filled-by_view : (command : Command) (outcome : Outcome) → Steps_on command outcome → IsFilledByView h before bank command outcome
   filled-by_view (Line other asked) (LineSet limit fills) on = λ others theirs legal same is.
       views-fill h (state h before) (state h others) bank other asked limit fills theirs on.0.session
       (legal-sound h before on.0) (legal-sound h others legal) (legal-uncrossed h before on.0) (legal-uncrossed h others legal)
-      on.1.sender on.1.command same on.1.outcome is
+      on.1.command same on.1.outcome is
   filled-by_view _ _ on = tt
 
   truthful-book : (command : Command) (outcome : Outcome) → Steps_on command outcome → IsTruthfulBook h before bank command outcome
   truthful-book (Book pair) (Depth bids asks) on =
-      books-truthful h (state h before) bank pair bids asks on.0.session (legal-sound h before on.0) on.1.sender on.1.command on.1.outcome
+      books-truthful h (state h before) bank pair bids asks on.0.session (legal-sound h before on.0) on.1.command.sends on.1.command.values on.1.outcome
   truthful-book _ _ on = tt
 
 pub submits : (h : Header) (bank : ℕ) (seen mine : List Entry) (command : Command) (seen' mine' : List Entry) (outcome : Outcome) (before : List Entry)
@@ -56,6 +61,23 @@ submits h bank seen mine command seen' mine' outcome before begins ends legal gr
       own_are_mine = owns;
       orderly = legal-orderly h seen' legal;
       told_by_view = told-by_view h before bank (length mine + 1) command outcome on;
+      shown_by_view = shown-by_view h before bank (length mine + 1) on.0;
       filled_by_view = filled-by_view h before bank (length mine + 1) command outcome on;
       truthful = truthful-book h before bank (length mine + 1) command outcome on;
     }
+
+-- where a pass stays, the history has nothing of the call
+pub refused : (h : Header) (bank : ℕ) (seen mine seen' mine' : List Entry) → seen' ≡ seen → mine' ≡ mine → Refused h bank seen mine seen' mine'
+refused h bank seen mine seen' mine' nothing_seen nothing_sent = record {
+  nothing_seen = nothing_seen;
+  nothing_sent = nothing_sent;
+  not_before_next = λ command seen'' mine'' outcome next.
+      next.own_are_mine ∙ next.mine_grew ∙ ap (λ (es : List Entry). es ++ next_own bank es command outcome ∷ []) nothing_sent;
+  not_at_close = λ history whole. whole.own_are_mine ∙ nothing_sent;
+}
+
+-- so of any desk whose pass stays where its answer is an error
+pub refuses : {P T E : Type 0} (h : Header) (bank : P → ℕ) (seen mine : P → List Entry) (pass pass' : P) (r : Result T E) → OnErr r (pass' ≡ pass)
+    → OnErr r (Refused h (bank pass) (seen pass) (mine pass) (seen pass') (mine pass'))
+refuses h bank seen mine pass pass' (Ok answer) stays = tt
+refuses h bank seen mine pass pass' (Err fault) stays = refused h (bank pass) (seen pass) (mine pass) (seen pass') (mine pass') (ap seen stays) (ap mine stays)

@@ -1,15 +1,17 @@
 -- What a command comes to that a bank submits at a desk.
-use Rattle.std.specs.Prelude.{ℕ, ◌≡◌, ◌+◌, List, [], ◌∷◌, ◌++◌, length, map}
+use Rattle.std.specs.Prelude.{ℕ, ◌≡◌, ◌+◌, ◌<◌, List, [], ◌∷◌, ◌++◌, length, map}
 use mathlib.Core.List.{IsPrefix}
 use Rattle.fx_amounts.specs.declared.side.Side.TheVariants.{Buy, Sell}
 use Rattle.fx_rules.specs.declared.command.Command.{Command}
 use Rattle.fx_rules.specs.declared.command.Command.TheVariants.{Line, Book}
 use Rattle.fx_rules.specs.declared.orders.Fill.{Fill}
+use Rattle.fx_rules.specs.declared.orders.Level.{Level}
 use Rattle.fx_rules.specs.declared.outcome.Outcome.{Outcome}
 use Rattle.fx_rules.specs.declared.outcome.Outcome.TheVariants.{LineSet, Depth}
 use Rattle.fx_rules.specs.declared.outcome.Entry.{Entry}
-use Rattle.fx_rules.specs.Session.{Header}
+use Rattle.fx_rules.specs.Session.{Header, bank_count, pair_count}
 use Rattle.fx_rules.specs.Raise.{limited}
+use Rattle.fx_rules.specs.Depth.{IsDepth}
 use Rattle.fx_rules.specs.Step.{IsOutcome}
 use Rattle.fx_rules.specs.History.{IsLegal, state, own}
 use Rattle.fx_rules.specs.View.{view, told, fill_seen}
@@ -36,6 +38,14 @@ IsFilledByView h before bank (Line other asked) (LineSet limit fills) =
     IsOutcome h (state h others) bank (Line other asked) (LineSet limit theirs) → map (fill_seen bank) fills ≡ map (fill_seen bank) theirs
 IsFilledByView _ _ _ _ _ = Unit {0}
 
+-- Wherever a legal history leaves a market that looks to the bank as it does after `before`, the bank's local book of each pair
+-- of the session is the same.
+abbrev pub IsShownByView : Header → List Entry → ℕ → Type 0
+IsShownByView h before bank =
+    (others : List Entry) (pair : ℕ) (bids asks bids' asks' : List Level) → IsLegal h others → view h (state h before) bank ≡ view h (state h others) bank →
+    bank < bank_count h → pair < pair_count h →
+    IsDepth h (state h before) bank pair bids asks → IsDepth h (state h others) bank pair bids' asks' → (bids ≡ bids') × (asks ≡ asks')
+
 -- both sides of a local book are truthful
 abbrev pub IsTruthfulBook : Header → List Entry → ℕ → Command → Outcome → Type 0
 IsTruthfulBook h before bank (Book pair) (Depth bids asks) =
@@ -55,8 +65,9 @@ pub record Submitted (h : Header) (bank : ℕ) (seen mine : List Entry) (command
   pub own_are_mine : own bank seen' ≡ mine'
   -- along it the lines hold and nothing rests crossed
   pub orderly : IsOrderly h seen'
-  -- what the bank is told rests on what it sees alone, and a local book keeps its word
+  -- what the bank is told and its local books rest on what it sees alone, and a local book keeps its word
   pub told_by_view : IsToldByView h before bank command outcome
+  pub shown_by_view : IsShownByView h before bank
   pub filled_by_view : IsFilledByView h before bank command outcome
   pub truthful : IsTruthfulBook h before bank command outcome
 
@@ -65,3 +76,16 @@ pub record Submitted (h : Header) (bank : ℕ) (seen mine : List Entry) (command
 pub record IsWholeOf (bank : ℕ) (seen mine history : List Entry) : Type 0 where
   pub begins : IsPrefix seen history
   pub own_are_mine : own bank history ≡ mine
+
+-- What a bank knows once its command is refused for want of memory, in the words of `Submitted`: the history has nothing of the
+-- call, however it goes on.
+pub record Refused (h : Header) (bank : ℕ) (seen mine seen' mine' : List Entry) : Type 0 where
+  -- what it has seen and what it submitted stays
+  pub nothing_seen : seen' ≡ seen
+  pub nothing_sent : mine' ≡ mine
+  -- A history that the bank's next command ends has of the bank what was submitted before the call, and then that command, under
+  -- the number that the refused one would have had.
+  pub not_before_next : (command : Command) (seen'' mine'' : List Entry) (outcome : Outcome) → Submitted h bank seen' mine' command seen'' mine'' outcome →
+      own bank seen'' ≡ mine ++ next_own bank mine command outcome ∷ []
+  -- and a history at its close has of it what was submitted before the call, and no more
+  pub not_at_close : (history : List Entry) → IsWholeOf bank seen' mine' history → own bank history ≡ mine

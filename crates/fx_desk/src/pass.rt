@@ -1,6 +1,6 @@
 ghost use Rattle.std.specs.Prelude.{◌≡◌, ◌<◌, [], true, length};
 ghost use mathlib.Core.List.{IsPrefix};
-ghost use Rattle.fx_rules.specs.Session.{IsSession, sender_count};
+ghost use Rattle.fx_rules.specs.Session.{IsSession, sender_places};
 ghost use Rattle.fx_rules.specs.History.{IsLegal, own};
 ghost use Rattle.fx_chronicle.specs.Touching.{pends, without, but_last};
 ghost use Rattle.fx_chronicle.specs.Faces.{witness, longer};
@@ -34,7 +34,7 @@ impl<N: Naming> Pass<N> {
     /// The pass of a sender of the session, over the front of its key, which has seen nothing yet.
     pub fn open(bank: BankId, front: Front<N, Entry>) -> Pass<N>
         requires session { IsSession N.session }
-        requires sender { bank < sender_count N.session }
+        requires sender { bank < sender_places N.session }
         requires front { front ≡ witness bank [] }
         ensures pass { result ≡ witness bank [] }
     {
@@ -44,7 +44,7 @@ impl<N: Naming> Pass<N> {
     /// Its bank.
     pub fn bank(&self) -> BankId
         ensures value { result ≡ self.now.key }
-        ensures sender { result < sender_count N.session }
+        ensures sender { result < sender_places N.session }
     {
         self.bank
     }

@@ -3,6 +3,7 @@ use Rattle.std.proofs.Common.{◌≡◌, ◌⊎◌, inl, inr, ℕ, ◌+◌, ◌�
 use Rattle.std.specs.Prelude.{MatchOption, max}
 use Rattle.std.proofs.lemmas.List.{take-append-le, ext_get_or}
 use Rattle.std.proofs.lemmas.Bool.{cases_lt}
+use Rattle.fx_amounts.specs.OutOfMemory.{refused}
 use Rattle.fx_edges.specs.Faults.{Rose}
 use Rattle.fx_disk.specs.declared.disk.DiskStop.{DiskStop}
 use Rattle.fx_disk.specs.declared.disk.DiskStop.TheVariants.{Failed, Memory}
@@ -156,7 +157,7 @@ module _ {D T : Type 0} (tape : D → Tape) (faults : D → ℕ) (before now : D
   }
 
   -- it added a call to the tape
-  pub Called-added : (call : Call) → Added (tape before) call (tape now) → faults before ≤ faults now → (IsErrOf result Failed → Rose (faults before) (faults now)) → ((IsErrOf result Failed → ⊥) → faults now ≡ faults before) → (IsErrOf result Memory → ⊥)
+  pub Called-added : (call : Call) → Added (tape before) call (tape now) → faults before ≤ faults now → (IsErrOf result Failed → Rose (faults before) (faults now)) → ((IsErrOf result Failed → ⊥) → faults now ≡ faults before) → (IsErrOf result (Memory refused) → ⊥)
       → Called (λ d. Some (state_now (tape d)).reads) (λ d image. MayLeaveIn (state_now (tape d)) image) (λ d. length (tape d).calls) (λ d t image. LeftSince (tape d) t image) faults before now result
   Called-added call added count cause steady no_memory = record {
     told = refl;

@@ -1,5 +1,6 @@
 -- What the calls of a disk do to its file, and what a crash may leave of it.
 use Rattle.std.specs.Prelude.{◌≡◌, ◌⊎◌, ℕ, ◌+◌, ◌≤◌, max, List, ◌++◌, length, take, drop, Option, Some, is_some, Result, IsErrOf}
+use Rattle.fx_amounts.specs.OutOfMemory.{refused}
 use Rattle.fx_edges.specs.Faults.{Rose}
 use Rattle.fx_disk.specs.declared.disk.DiskStop.{DiskStop}
 use Rattle.fx_disk.specs.declared.disk.DiskStop.TheVariants.{Failed, Memory}
@@ -44,9 +45,9 @@ pub record Called {D T : Type 0} (bytes : D → Option (List ℕ)) (may_leave : 
   pub count : faults before ≤ faults now
   pub cause : IsErrOf result Failed → Rose (faults before) (faults now)
   pub steady : (IsErrOf result Failed → ⊥) → faults now ≡ faults before
-  -- a call that wanted memory did nothing
-  pub same_bytes : IsErrOf result Memory → bytes now ≡ bytes before
-  pub same_images : IsErrOf result Memory → NoMore (may_leave before) (may_leave now) × NoMore (may_leave now) (may_leave before)
+  -- a call that was out of memory did nothing
+  pub same_bytes : IsErrOf result (Memory refused) → bytes now ≡ bytes before
+  pub same_images : IsErrOf result (Memory refused) → NoMore (may_leave before) (may_leave now) × NoMore (may_leave now) (may_leave before)
 
 -- At every moment since `start`, in a call of the disk or between two, each image that a crash may leave has P.
 pub record LeavesOnly {D : Type 0} (moment : D → ℕ) (left_since : D → ℕ → List ℕ → Type 0) (start now : D) (P : List ℕ → Type 0) : Type 0 where

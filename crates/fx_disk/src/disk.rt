@@ -1,13 +1,25 @@
 ghost use Rattle.std.specs.Prelude.{◌≡◌, ℕ, ◌+◌, ◌<◌, ◌≤◌, List, length, take, drop, Option, option_map, IfOk, OnOk, OnErr};
 ghost use Rattle.fx_disk.specs.Disk.{WhereTold, with_piece, TornBy, NoMore, Only, Called};
 
+use fx_amounts::Memory;
+
 /// Why a disk didn't do what it was asked.
 #[derive(Clone, Copy, Debug, PartialEq, Eq)]
 pub enum DiskStop {
     /// The disk failed, and its count of faults rose. What it holds now is only known by what a crash may leave.
     Failed,
-    /// The disk wanted memory. Its bytes, what a crash may leave and its count of faults are as they were.
-    Memory,
+    /// The disk was out of memory. Its bytes, what a crash may leave and its count of faults are as they were.
+    Memory(Memory),
+}
+
+impl From<Memory> for DiskStop {
+    ghost use Rattle.fx_disk.specs.declared.disk.DiskStop.TheVariants.{Memory as OutOfMemory};
+
+    ghost from_gives = { λ memory stop. stop ≡ OutOfMemory memory };
+
+    fn from(memory: Memory) -> Self {
+        DiskStop::Memory(memory)
+    }
 }
 
 /// A file on a disk that may fail, and that a crash may cut short.

@@ -1,4 +1,5 @@
 ghost use Rattle.std.specs.Prelude.{◌≡◌, ◌↔◌, ℕ, ◌+◌, ◌<◌, ◌≤◌, ◌++◌, [], List, length, take, drop, min, Option, option_map, Some, Ok, IfOk, OnOk, OnErr, IsErrOf, IsTrue, Contains};
+ghost use Rattle.fx_amounts.specs.OutOfMemory.{refused};
 ghost use Rattle.fx_edges.specs.Faults.{one_more};
 ghost use Rattle.fx_disk.specs.Disk.{with_piece, Torn, TornBy, NoMore, Only, WhereTold, Called};
 ghost use Rattle.fx_disk.specs.Model.{state_now, MayLeaveIn, LeftSince};
@@ -64,7 +65,7 @@ impl MemoryDisk {
     // One call more, which fails where it is told to.
     fn count(&mut self) -> Result<(), DiskStop>
         ensures fails { IsErrOf result DiskStop.Failed ↔ Contains self.old.fails (one_more self.old.made) }
-        ensures memory { IsErrOf result DiskStop.Memory → ⊥ }
+        ensures memory { IsErrOf result (DiskStop.Memory refused) → ⊥ }
         ensures done { OnOk result (self.new ≡ record self.old { made = one_more self.old.made }) }
         ensures failed { OnErr result (self.new ≡ record self.old {
           made = one_more self.old.made;
@@ -105,10 +106,8 @@ impl Disk for MemoryDisk {
         ensures called { CalledFailing self.old self.new result }
         ensures counted { CountedFailing self.old self.new result }
     {
-        match self.count() {
-            Ok(()) => Ok(self.tape.bytes().len() as u64),
-            Err(stop) => Err(stop),
-        }
+        self.count()?;
+        Ok(self.tape.bytes().len() as u64)
     }
 
     /// Fails exactly at the calls numbered in `fails`. The others give as many bytes as there are and `into`
@@ -122,13 +121,11 @@ impl Disk for MemoryDisk {
         ensures called { CalledFailing self.old self.new result }
         ensures counted { CountedFailing self.old self.new result }
     {
-        match self.count() {
-            Ok(()) => Ok(self.tape.read(at, into)),
-            Err(stop) => Err(stop),
-        }
+        self.count()?;
+        Ok(self.tape.read(at, into))
     }
 
-    /// Fails exactly at the calls numbered in `fails`, unless it wants memory. After `Ok` and after
+    /// Fails exactly at the calls numbered in `fails`, unless it is out of memory. After `Ok` and after
     /// `Failed` a crash may leave each image from before, with any bytes in the piece's range, and no other.
     fn write_at(&mut self, at: u64, piece: &[u8]) -> Result<(), DiskStop>
         requires { at ≤ length (reads_of self.old) }
@@ -136,29 +133,23 @@ impl Disk for MemoryDisk {
         ensures does { OnOk result (¬ Contains self.old.fails (one_more self.old.made)) }
         ensures bytes { OnOk result (reads_of self.new ≡ with_piece at piece.now (reads_of self.old)) }
         ensures failed { IsErrOf result DiskStop.Failed → reads_of self.new ≡ reads_of self.old }
-        ensures memory { IsErrOf result DiskStop.Memory → self.new.tape ≡ self.old.tape }
-        ensures torn { (old image : List ℕ) → (IsErrOf result DiskStop.Memory → ⊥) →
+        ensures memory { IsErrOf result (DiskStop.Memory refused) → self.new.tape ≡ self.old.tape }
+        ensures torn { (old image : List ℕ) → (IsErrOf result (DiskStop.Memory refused) → ⊥) →
             may_leave_of self.old old → Torn at (length piece.now) old image → may_leave_of self.new image }
         ensures images { TornBy at (length piece.now) (may_leave_of self.old) (may_leave_of self.new) }
         ensures called { CalledFailing self.old self.new result }
         ensures counted { CountedFailing self.old self.new result }
     {
         if self.begin() {
-            match self.tape.note_broken(at, piece.len() as u64) {
-                Ok(()) => {}
-                Err(_) => return Err(DiskStop::Memory),
-            }
+            self.tape.note_broken(at, piece.len() as u64)?;
             self.faults = self.faults.saturating_add(1);
             return Err(DiskStop::Failed);
         }
-        match self.tape.write(at, piece) {
-            Ok(()) => {}
-            Err(_) => return Err(DiskStop::Memory),
-        }
+        self.tape.write(at, piece)?;
         Ok(())
     }
 
-    /// Fails exactly at the calls numbered in `fails`, unless it wants memory. After `Ok` a crash leaves the
+    /// Fails exactly at the calls numbered in `fails`, unless it is out of memory. After `Ok` a crash leaves the
     /// bytes that a read gives, and no other image.
     fn sync(&mut self) -> Result<(), DiskStop>
         ensures fails { IsErrOf result DiskStop.Failed ↔ Contains self.old.fails (one_more self.old.made) }
@@ -166,18 +157,12 @@ impl Disk for MemoryDisk {
         ensures durable { OnOk result ((image : List ℕ) → may_leave_of self.new image ↔ (image ≡ reads_of self.old)) }
         ensures images { NoMore (may_leave_of self.old) (may_leave_of self.new) }
         ensures failed { IsErrOf result DiskStop.Failed → self.new.tape ≡ self.old.tape }
-        ensures memory { IsErrOf result DiskStop.Memory → self.new.tape ≡ self.old.tape }
+        ensures memory { IsErrOf result (DiskStop.Memory refused) → self.new.tape ≡ self.old.tape }
         ensures called { CalledFailing self.old self.new result }
         ensures counted { CountedFailing self.old self.new result }
     {
-        match self.count() {
-            Ok(()) => {}
-            Err(stop) => return Err(stop),
-        }
-        match self.tape.note_sync() {
-            Ok(()) => {}
-            Err(_) => return Err(DiskStop::Memory),
-        }
+        self.count()?;
+        self.tape.note_sync()?;
         Ok(())
     }
 }

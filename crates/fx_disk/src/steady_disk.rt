@@ -6,7 +6,7 @@ use crate::disk::{Disk, DiskStop};
 use crate::tape::CallTape;
 use std::marker::Model;
 
-/// A disk in memory that never fails, though it may want memory. Contracts see it as the bytes that it
+/// A disk in memory that never fails, though it may be out of memory. Contracts see it as the bytes that it
 /// was made of and the calls since.
 #[derive(Drop)]
 pub struct SteadyDisk {
@@ -66,18 +66,12 @@ impl Disk for SteadyDisk {
     }
 
     fn write_at(&mut self, at: u64, piece: &[u8]) -> Result<(), DiskStop> {
-        match self.tape.write(at, piece) {
-            Ok(()) => {}
-            Err(_) => return Err(DiskStop::Memory),
-        }
+        self.tape.write(at, piece)?;
         Ok(())
     }
 
     fn sync(&mut self) -> Result<(), DiskStop> {
-        match self.tape.note_sync() {
-            Ok(()) => {}
-            Err(_) => return Err(DiskStop::Memory),
-        }
+        self.tape.note_sync()?;
         Ok(())
     }
 }

@@ -4,7 +4,8 @@ ghost use Rattle.fx_disk.specs.Model.{state_now};
 ghost use Rattle.fx_disk.specs.inside.Model.{Added, AddedWrite};
 
 use crate::call::Call;
-use std::alloc::{AllocError, Global};
+use fx_amounts::Memory;
+use std::alloc::Global;
 use std::marker::Model;
 
 /// The bytes that a disk in memory was made of, those that it has now, and the calls between.
@@ -30,7 +31,7 @@ impl Model for CallTape {
 }
 
 // The file with this piece at this place.
-fn spliced(alloc: Global, file: &[u8], at: usize, piece: &[u8]) -> Result<Vec<u8>, AllocError>
+fn spliced(alloc: Global, file: &[u8], at: usize, piece: &[u8]) -> Result<Vec<u8>, Memory>
     requires { at ≤ length file.now }
     ensures { IfOk result (λ v. v.items ≡ with_piece at piece.now file.now) }
 {
@@ -80,7 +81,7 @@ impl CallTape {
     }
 
     /// Puts `piece` at the place `at`, which is at most the file's length. Without memory nothing changes.
-    pub fn write(&mut self, at: u64, piece: &[u8]) -> Result<(), AllocError>
+    pub fn write(&mut self, at: u64, piece: &[u8]) -> Result<(), Memory>
         requires { at ≤ length (state_now self.old).reads }
         ensures wrote { OnOk result (AddedWrite self.old at piece.now self.new) }
         ensures unchanged { OnErr result (self.new ≡ self.old) }
@@ -94,7 +95,7 @@ impl CallTape {
     }
 
     /// Notes a write that failed.
-    pub fn note_broken(&mut self, at: u64, count: u64) -> Result<(), AllocError>
+    pub fn note_broken(&mut self, at: u64, count: u64) -> Result<(), Memory>
         ensures noted { OnOk result (Added self.old (Call.Broke at count) self.new) }
         ensures unchanged { OnErr result (self.new ≡ self.old) }
     {
@@ -103,7 +104,7 @@ impl CallTape {
     }
 
     /// Notes a sync.
-    pub fn note_sync(&mut self) -> Result<(), AllocError>
+    pub fn note_sync(&mut self) -> Result<(), Memory>
         ensures noted { OnOk result (Added self.old Call.Synced self.new) }
         ensures unchanged { OnErr result (self.new ≡ self.old) }
     {

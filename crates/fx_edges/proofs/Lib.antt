@@ -1,3 +1,4 @@
 pub mod FaultCounts
 pub mod Reading
 pub mod Writing
+pub mod Gathering

@@ -6,9 +6,9 @@ use Rattle.std.proofs.lemmas.List.{take_more, flat_map_more}
 use Rattle.std.proofs.lemmas.Grind.{flat_map-append}
 use Rattle.std.specs.Io.KnownBytes.{append_known}
 use Rattle.fx_edges.specs.declared.sink.SinkFault.{SinkFault}
-use Rattle.fx_edges.specs.declared.sink.SinkFault.TheVariants.{Failed, Memory}
+use Rattle.fx_edges.specs.declared.sink.SinkFault.TheVariants.{Failed}
 use Rattle.fx_edges.specs.Faults.{Rose}
-use Rattle.fx_edges.specs.Writing.{IsPrefixOf, Appended, AppendedPart, Wrote}
+use Rattle.fx_edges.specs.Writing.{IsPrefixOf, Appended, AppendedPart, CutShort, Wrote}
 use Rattle.fx_edges.proofs.FaultCounts.{Rose-from_later}
 
 -- Prefixes
@@ -86,7 +86,7 @@ AppendedPart-longer wrote within = record { part = wrote.part; prefix = IsPrefix
 
 -- a text that was appended was written: what a function that ends with `Ok` says
 pub Wrote-from_Appended : {K T : Type 0} {written : K → Option (List ℕ)} {faults : K → ℕ} {a b : K} {text : List ℕ} (value : T) → Appended written faults a b text → Wrote written faults a b text (Ok value)
-Wrote-from_Appended value appended = record { ok = appended; fault = tt; cause = tt; memory = tt }
+Wrote-from_Appended value appended = record { ok = appended; fault = tt; cause = tt }
 
 -- a fault while the rest of a text was written: part of it stands, then came a call that met the fault at a piece of the rest
 pub Wrote-cut : {K T U : Type 0} {written : K → Option (List ℕ)} {faults : K → ℕ} {a b c : K} {part piece text : List ℕ} {e : SinkFault} → Appended written faults a b part → Wrote {T = T} written faults b c piece (Err e) → IsPrefixOf (part ++ piece) text → Wrote {T = U} written faults a c text (Err e)
@@ -94,7 +94,6 @@ Wrote-cut {faults = faults} {a = a} {b = b} {c = c} first second within = record
   ok = tt;
   fault = AppendedPart-cut first second.fault within;
   cause = λ failed. Rose-from_later (faults a) (faults b) (faults c) (omega (arith, first.count)) (second.cause failed);
-  memory = λ wanted. second.memory wanted ∙ first.count;
 }
 
 -- a call after a text, whatever it answers
@@ -108,11 +107,11 @@ Wrote-then result first second = Wrote-after result first.ok second
 
 -- a call that met a fault, as one that had more to write
 pub Wrote-of_longer : {K T U : Type 0} {written : K → Option (List ℕ)} {faults : K → ℕ} {a b : K} {piece text : List ℕ} {e : SinkFault} → Wrote {T = T} written faults a b piece (Err e) → IsPrefixOf piece text → Wrote {T = U} written faults a b text (Err e)
-Wrote-of_longer wrote within = record { ok = tt; fault = AppendedPart-longer wrote.fault within; cause = wrote.cause; memory = wrote.memory }
+Wrote-of_longer wrote within = record { ok = tt; fault = AppendedPart-longer wrote.fault within; cause = wrote.cause }
 
 -- a fault of one write, which took nothing, while the rest of a text was written
-pub Wrote-stopped : {K U : Type 0} {written : K → Option (List ℕ)} {faults : K → ℕ} {a b c : K} {part text : List ℕ} {e : SinkFault} → Appended written faults a b part → IsPrefixOf part text → written c ≡ written b → faults b ≤ faults c → (e ≡ Failed → Rose (faults b) (faults c)) → (e ≡ Memory → faults c ≡ faults b) → Wrote {T = U} written faults a c text (Err e)
-Wrote-stopped {written = written} {faults = faults} {a = a} {b = b} {c = c} {part = part} first within same count cause memory = record {
+pub Wrote-stopped : {K U : Type 0} {written : K → Option (List ℕ)} {faults : K → ℕ} {a b c : K} {part text : List ℕ} {e : SinkFault} → Appended written faults a b part → IsPrefixOf part text → written c ≡ written b → faults b ≤ faults c → (e ≡ Failed → Rose (faults b) (faults c)) → Wrote {T = U} written faults a c text (Err e)
+Wrote-stopped {written = written} {faults = faults} {a = a} {b = b} {c = c} {part = part} first within same count cause = record {
   ok = tt;
   fault = record {
     part = part;
@@ -121,5 +120,11 @@ Wrote-stopped {written = written} {faults = faults} {a = a} {b = b} {c = c} {par
     count = omega arith;
   };
   cause = λ failed. Rose-from_later (faults a) (faults b) (faults c) (omega (arith, first.count)) (cause failed);
-  memory = λ wanted. memory wanted ∙ first.count;
+}
+
+-- and it was not all of the text
+pub CutShort-stopped : {K : Type 0} {written : K → Option (List ℕ)} {faults : K → ℕ} {a b c : K} {part text : List ℕ} → Appended written faults a b part → IsPrefixOf part text → length part < length text → written c ≡ written b → faults b ≤ faults c → CutShort written faults a c text
+CutShort-stopped {part = part} first within short same count = record {
+  got = record { part = part; prefix = within; holds = same ∙ first.holds; count = omega (arith, first.count) };
+  short = short;
 }

@@ -1,8 +1,10 @@
 ghost use Rattle.std.specs.Prelude.{◌≡◌, ◌↔◌, ◌<◌, ◌≤◌, [], ◌++◌, length, take, min, Some, Contains, IfOk, IsErrOf};
+ghost use Rattle.fx_amounts.specs.OutOfMemory.{refused};
 ghost use Rattle.fx_edges.specs.Faults.{one_more};
 ghost use Rattle.fx_edges.specs.InMemory.{Tape};
 
 use crate::sink::{Sink, SinkFault};
+use fx_amounts::Memory;
 use std::marker::Model;
 
 /// A sink that keeps its bytes in memory, takes at most `most` bytes at each call, and fails at the
@@ -82,7 +84,7 @@ impl Sink for MemorySink {
           calls = one_more self.old.calls;
           faults = one_more self.old.faults;
         } }
-        ensures memory { IsErrOf result SinkFault.Memory → self.new ≡ self.old }
+        ensures memory { IsErrOf result (SinkFault.Memory refused) → self.new ≡ self.old }
 
         // What every sink says, and the clauses above don't: a call takes at least a byte where there
         // is one, and the count never falls.
@@ -96,12 +98,9 @@ impl Sink for MemorySink {
             return Err(SinkFault::Failed);
         }
         let count = self.most.min(piece.len());
-        match self.bytes.extend_from_slice(&piece[..count]) {
-            Ok(()) => {
-                self.calls = call;
-                Ok(count)
-            }
-            Err(_) => Err(SinkFault::Memory),
-        }
+        let taken = self.bytes.extend_from_slice(&piece[..count]);
+        taken.map_err(Memory::from)?;
+        self.calls = call;
+        Ok(count)
     }
 }

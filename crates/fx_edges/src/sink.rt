@@ -1,20 +1,32 @@
 ghost use Rattle.std.specs.Prelude.{◌≡◌, ℕ, ◌<◌, ◌≤◌, List, length, take, Option, IfOk, OnErr, IfErr};
 ghost use Rattle.fx_edges.specs.Faults.{Rose};
-ghost use Rattle.fx_edges.specs.Writing.{Appended, Wrote};
+ghost use Rattle.fx_edges.specs.Writing.{Appended, CutShort, Wrote};
+
+use fx_amounts::Memory;
 
 /// Why a sink didn't take a piece.
 #[derive(Clone, Copy, Debug, PartialEq, Eq)]
 pub enum SinkFault {
     /// The sink failed, and its count of faults rose.
     Failed,
-    /// The sink wanted memory. Its count of faults is as it was.
-    Memory,
+    /// The sink was out of memory.
+    Memory(Memory),
+}
+
+impl From<Memory> for SinkFault {
+    ghost use Rattle.fx_edges.specs.declared.sink.SinkFault.TheVariants.{Memory as OutOfMemory};
+
+    ghost from_gives = { λ memory fault. fault ≡ OutOfMemory memory };
+
+    fn from(memory: Memory) -> Self {
+        SinkFault::Memory(memory)
+    }
 }
 
 /// Where bytes go.
 ///
 /// Contracts see a sink by `written`, the bytes that it holds where it tells them, and by `faults`,
-/// a count that rises at `Failed` alone and stands still at `u64::MAX`.
+/// a count that rises at `Failed`, never falls and stands still at `u64::MAX`.
 pub trait Sink {
     ghost written: { Self → Option (List ℕ) };
 
@@ -31,17 +43,16 @@ pub trait Sink {
         ensures fault { OnErr result (written self.new ≡ written self.old) }
         ensures cause { IfErr result (λ fault.
             fault ≡ SinkFault.Failed → Rose (faults self.old) (faults self.new)) }
-        ensures memory { IfErr result (λ fault.
-            fault ≡ SinkFault.Memory → faults self.new ≡ faults self.old) }
         ensures count { faults self.old ≤ faults self.new };
 }
 
 /// Writes the whole `piece`, in as many writes as the sink asks for.
 ///
-/// After a fault a prefix of `piece` was appended. In this call the sink's count of faults rose where
-/// the fault is `Failed`, and stayed as it was at `Memory` and at `Ok`.
+/// After a fault a prefix of `piece` was appended, and not all of it. In this call the sink's count of faults rose where
+/// the fault is `Failed`.
 pub fn write_all<K: Sink>(sink: &mut K, piece: &[u8]) -> Result<(), SinkFault>
     ensures wrote { Wrote K.written K.faults sink.old sink.new piece.now result }
+    ensures cut { OnErr result (CutShort K.written K.faults sink.old sink.new piece.now) }
 {
     let mut at = 0;
     while at < piece.len() {

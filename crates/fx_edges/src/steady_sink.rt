@@ -1,10 +1,12 @@
 ghost use Rattle.std.specs.Prelude.{◌≡◌, ℕ, List, [], ◌++◌, length, Some, IfOk, IfErr, OnErr, OnOk};
+ghost use Rattle.fx_amounts.specs.OutOfMemory.{refused};
 
 use crate::sink::{Sink, SinkFault};
+use fx_amounts::Memory;
 use std::alloc::Global;
 use std::marker::Model;
 
-/// A sink that keeps its bytes in memory and never fails, though it may want memory. Contracts see
+/// A sink that keeps its bytes in memory and never fails, though it may be out of memory. Contracts see
 /// it as the bytes that it holds.
 #[derive(Drop)]
 pub struct SteadySink {
@@ -45,12 +47,10 @@ impl Sink for SteadySink {
     fn write(&mut self, piece: &[u8]) -> Result<usize, SinkFault>
         ensures takes { IfOk result (λ count. count ≡ length piece.now) }
         ensures after { OnOk result (self.new ≡ self.old ++ piece.now) }
-        ensures memory { IfErr result (λ fault. fault ≡ SinkFault.Memory) }
+        ensures memory { IfErr result (λ fault. fault ≡ SinkFault.Memory refused) }
         ensures unchanged { OnErr result (self.new ≡ self.old) }
     {
-        match self.bytes.extend_from_slice(piece) {
-            Ok(()) => Ok(piece.len()),
-            Err(_) => Err(SinkFault::Memory),
-        }
+        self.bytes.extend_from_slice(piece).map_err(Memory::from)?;
+        Ok(piece.len())
     }
 }

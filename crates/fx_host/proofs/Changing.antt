@@ -5,19 +5,19 @@ use Rattle.fx_rules.specs.declared.command.Command.{Command}
 use Rattle.fx_rules.specs.declared.command.Command.TheVariants.{Line}
 use Rattle.fx_rules.specs.declared.outcome.Outcome.{Outcome}
 use Rattle.fx_rules.specs.declared.outcome.Entry.{Entry}
-use Rattle.fx_rules.specs.Session.{Header, pair_count, sender_count}
+use Rattle.fx_rules.specs.Session.{Header, pair_count, sender_places}
 use Rattle.fx_rules.specs.State.{State, count_of}
-use Rattle.fx_rules.specs.Step.{IsCommand, IsOutcome}
+use Rattle.fx_rules.specs.Step.{AreValues, IsOutcome}
 use Rattle.fx_rules.specs.History.{IsLegal, state, own}
 use Rattle.fx_rules.specs.Keyed.{pair_key}
 use Rattle.fx_rules.proofs.Counting.{counts-own}
 use Rattle.fx_rules.proofs.Continuing.{entry_same, legal-last}
+use Rattle.fx_rules.proofs.Senders.{command-place, places-most}
 use Rattle.fx_chronicle.specs.Faces.{Witness, witness}
 use Rattle.fx_desk.specs.Submitting.{next_own}
 use Rattle.credit_raise.specs.UnderWay.{Makes, Raise, IsUnderWay, command_of, outcome_of, reached}
-use Rattle.pair_steps.specs.declared.sender.Sender.{Sender}
-use Rattle.pair_steps.specs.Sending.{IsNextIn}
-use Rattle.pair_steps.specs.Carries.{entry_of}
+use Rattle.fx_rules.specs.declared.sender.Sender.{Sender}
+use Rattle.fx_rules.specs.Sending.{IsNextIn, entry_of}
 use Rattle.credit_book.specs.Recorded.{Recorded, IsCreditBook, key_count, recorded, signed_by}
 use Rattle.credit_book.specs.Serving.{IsServed}
 use Rattle.credit_book.proofs.Entering.{goes_on}
@@ -35,16 +35,16 @@ answered h S bank command raise answer under_way all command_is bank_is answers 
     subst (λ b. IsOutcome h S b command answer) bank_is (subst (λ (c : Command). IsOutcome h S raise.bank c answer) command_is (answers h S under_way all))
 
 -- `first` is the credit book as the call began, `mid` as the pairs have their turns
-pub planned : (h : Header) (first mid : Recorded) (key other asked : ℕ) (sender : Sender) (raise : Raise) (answer copy : Outcome) → mid ≡ first → IsCreditBook h mid → IsNextIn (state h first.history.entries) sender → sender.bank ≡ key → sender.bank < sender_count h → sender.number < 2 ^ 32 → IsCommand h key (Line other asked)
+pub planned : (h : Header) (first mid : Recorded) (key other asked : ℕ) (sender : Sender) (raise : Raise) (answer copy : Outcome) → mid ≡ first → IsCreditBook h mid → IsNextIn (state h first.history.entries) sender → sender.bank ≡ key → sender.bank < sender_places h → sender.number < 2 ^ 32 → AreValues h key (Line other asked)
     → IsUnderWay h (state h mid.history.entries) raise → length raise.plans ≡ pair_count h → command_of raise ≡ Line other asked → raise.bank ≡ sender.bank → answer ≡ outcome_of raise
     → ((g : Header) (T : State) → IsUnderWay g T raise → length raise.plans ≡ pair_count g → IsOutcome g T raise.bank (command_of raise) answer) → copy ≡ answer
     → IsPlanned h first.history.entries key (Line other asked) raise (entry_of sender (Line other asked) copy) answer
-planned h first mid key other asked sender raise answer copy same kept next bank_is sends most may started all command_is raises value answers copied =
+planned h first mid key other asked sender raise answer copy same kept next bank_is place most values started all command_is raises value answers copied =
     let before : List Entry = first.history.entries in
     let under_way : IsUnderWay h (state h before) raise = subst (λ (b : Recorded). IsUnderWay h (state h b.history.entries) raise) same started in
     let legal : IsLegal h before = subst (λ (b : Recorded). IsLegal h b.history.entries) same kept.legal in
     record {
-      legal = goes_on h before sender key (Line other asked) answer copy legal next bank_is sends most may
+      legal = goes_on h before sender key (Line other asked) answer copy legal next bank_is place most values
           (answered h (state h before) sender.bank (Line other asked) raise answer under_way all command_is raises answers) copied;
       sender = bank_is;
       asks = refl;
@@ -83,7 +83,7 @@ pub all_pend : (h : Header) (first now entered : Recorded) (pass_key key other a
     → entered ≡ signed_by pass_key (recorded now entry) → PairsPend h 0 entered.history.pending
 all_pend h first now entered pass_key key other asked raise entry answer count key_is plan entered_is =
     let last = legal-last h first.history.entries entry plan.legal in
-    line_pends h now entered entry pass_key other asked count (plan.sender ∙ sym key_is) (omega (arith, last.1.sender, last.0.session.banks_most)) plan.asks entered_is
+    line_pends h now entered entry pass_key other asked count (plan.sender ∙ sym key_is) (omega (arith, command-place h entry.bank entry.command last.0.session last.1.command, places-most h last.0.session)) plan.asks entered_is
 
 pub serves : (h : Header) (first now entered last : Recorded) (pass mid pass' : Witness Entry) (command : Command) (raise : Raise) (entry : Entry) (answer : Outcome) → now.history.entries ≡ first.history.entries → mid ≡ pass → IsPlanned h first.history.entries pass.key command raise entry answer
     → entered ≡ signed_by mid.key (recorded now entry) → last.history.entries ≡ entered.history.entries → IsPrefix mid.seen now.history.entries → own mid.key now.history.entries ≡ own mid.key mid.met

@@ -1,3 +1,4 @@
 pub mod Fronts
 pub mod Changing
+pub mod Locking
 pub mod Serving

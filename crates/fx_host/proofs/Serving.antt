@@ -6,25 +6,25 @@ use Rattle.fx_rules.specs.declared.command.Command.TheVariants.{Order, Cancel, R
 use Rattle.fx_rules.specs.declared.outcome.Outcome.{Outcome}
 use Rattle.fx_rules.specs.declared.outcome.Entry.{Entry}
 use Rattle.fx_rules.specs.Session.{Header, pair_count}
-use Rattle.fx_rules.specs.Step.{IsCommand}
+use Rattle.fx_rules.specs.Step.{AreValues}
 use Rattle.fx_rules.specs.History.{own}
 use Rattle.fx_chronicle.specs.Faces.{Witness}
 use Rattle.fx_desk.specs.Submitting.{Submitted}
-use Rattle.pair_steps.specs.Sending.{pair_of}
+use Rattle.fx_rules.specs.Sending.{pair_of}
 use Rattle.pair_steps.proofs.Answered.{one_pair}
 use Rattle.credit_book.specs.Serving.{IsServed}
 use Rattle.credit_book.proofs.Submitting.{submitted}
 
 -- a command in one pair is in one of the session's
-pub pair_within : (h : Header) (bank : ℕ) (command : Command) (pair : ℕ) → IsCommand h bank command → pair_of command ≡ Some pair → pair < pair_count h
-pair_within h bank (Order side its price lots life) pair valid is = omega (arith, valid.0, one_pair its pair is)
-pair_within h bank (Cancel its number) pair valid is = omega (arith, valid.0, one_pair its pair is)
-pair_within h bank (Reduce its number lots) pair valid is = omega (arith, valid.0, one_pair its pair is)
-pair_within h bank (Pull its) pair valid is = omega (arith, valid, one_pair its pair is)
-pair_within h bank (Book its) pair valid is = omega (arith, valid, one_pair its pair is)
-pair_within h bank (Line other asked) pair valid is = cc
-pair_within h bank (Show other) pair valid is = cc
-pair_within h bank (Bad reason) pair valid is = cc
+pub pair_within : (h : Header) (bank : ℕ) (command : Command) (pair : ℕ) → AreValues h bank command → pair_of command ≡ Some pair → pair < pair_count h
+pair_within h bank (Order side its price lots life) pair values is = omega (arith, values.0, one_pair its pair is)
+pair_within h bank (Cancel its number) pair values is = omega (arith, values.0, one_pair its pair is)
+pair_within h bank (Reduce its number lots) pair values is = omega (arith, values.0, one_pair its pair is)
+pair_within h bank (Pull its) pair values is = omega (arith, values, one_pair its pair is)
+pair_within h bank (Book its) pair values is = omega (arith, values, one_pair its pair is)
+pair_within h bank (Line other asked) pair values is = cc
+pair_within h bank (Show other) pair values is = cc
+pair_within h bank (Bad reason) pair values is = cc
 
 -- what its bank then knows
 pub serves-submitted : (h : Header) (before : List Entry) (pass : Witness Entry) (command : Command) (after : List Entry) (pass' : Witness Entry) (r : Result Outcome Memory) → IfOk r (IsServed h before pass command after pass')

@@ -1,2 +1,4 @@
 pub mod Changing
+pub mod Locking
 pub mod Opening
+pub mod Reading

@@ -3,24 +3,26 @@ ghost use Rattle.std.specs.Prelude.{◌≡◌, ◌<◌, ◌-◌, ◌+◌, ◌^�
 ghost use Rattle.fx_rules.specs.declared.command.Command.TheVariants.{Line};
 ghost use Rattle.fx_rules.specs.Session.{IsSession, pair_count};
 ghost use Rattle.fx_rules.specs.Keyed.{pair_key};
-ghost use Rattle.fx_rules.specs.Step.{IsCommand};
+ghost use Rattle.fx_rules.specs.Step.{AreValues};
 ghost use Rattle.fx_rules.specs.History.{state, own};
 ghost use Rattle.fx_chronicle.specs.Touching.{pends};
 ghost use Rattle.credit_raise.specs.UnderWay.{IsUnderWay, command_of};
 ghost use Rattle.credit_book.specs.Recorded.{IsCreditBook, signed_by};
 ghost use Rattle.credit_book.specs.Serving.{IsServed};
+ghost use Rattle.fx_desk.specs.Submitting.{Submitted};
 ghost use Rattle.pair_shards.specs.inside.Shards.{PairsPend};
 ghost use Rattle.fx_host.specs.inside.Changing.{IsLast, IsPlanned};
 
-use crate::locks::{lock_pair, pair_at};
+use crate::credit_lock::CreditAlone;
+use crate::locks::pair_at;
+use crate::pair_locks::PairsAlone;
 use credit_book::{CreditBook, Pass};
 use credit_raise::Raising;
 use fx_amounts::{BankId, Memory, PairId, Units};
 use fx_chronicle::Naming;
 use fx_rules::{Command, Entry, Outcome};
-use pair_shards::Shard;
 use std::alloc::Global;
-use std::sync::{Mutex, RwLockWriteGuard, Wait};
+use std::sync::Wait;
 
 /// A credit change once every pair had its turn. Nothing is made of it yet.
 struct Planned {
@@ -32,23 +34,39 @@ struct Planned {
     answer: Outcome,
 }
 
-/// Serves a bank's credit change. All pairs are planned, and all memory is taken, before anything is made; then it is entered into
-/// the history, and each pair signs it and makes its part. It is handed the turn, which the caller so has alone: that says the type,
-/// since no clause can. After `Memory` the credit book and the pass are as they were, and so
+/// Serves a bank's credit change with all locks that it needs. After `Memory` the credit book and the pass are as they were, and so
 /// are the pairs' books.
 pub(crate) fn change_all<R: Wait, N: Naming>(
-    _alone: &RwLockWriteGuard<'_, ()>,
     rt: &R,
     alloc: Global,
-    shards: &[Mutex<Shard<N>>],
+    alone: CreditAlone<'_, N>,
+    pass: &mut Pass<N>,
+    other: BankId,
+    asked: Units,
+) -> Result<Outcome, Memory>
+    requires values { AreValues N.session pass.old.key (Line other asked) }
+    requires few { length (own pass.old.key pass.old.met) < 2 ^ 32 - 1 }
+    ensures bank { pass.new.key ≡ pass.old.key }
+    ensures submitted { IfOk result (Submitted N.session pass.old.key pass.old.seen (own pass.old.key pass.old.met) (Line other asked) pass.new.seen (own pass.new.key pass.new.met)) }
+    ensures memory { OnErr result (pass.new ≡ pass.old) }
+{
+    let (pairs, mut credit) = alone.into_parts();
+    change_credit(rt, alloc, &pairs, &mut credit.book, pass, other, asked)
+}
+
+/// Serves it over these pairs. All of them are planned, and all memory is taken, before anything is made; then it is entered into
+/// the history, and each pair signs it and makes its part.
+fn change_credit<R: Wait, N: Naming>(
+    rt: &R,
+    alloc: Global,
+    pairs: &PairsAlone<'_, N>,
     credit: &mut CreditBook<N>,
     pass: &mut Pass<N>,
     other: BankId,
     asked: Units,
 ) -> Result<Outcome, Memory>
-    requires pairs { length shards.now ≡ pair_count N.session }
     requires signed { credit.old.history.pending ≡ [] }
-    requires command { IsCommand N.session pass.old.key (Line other asked) }
+    requires values { AreValues N.session pass.old.key (Line other asked) }
     requires few { length (own pass.old.key pass.old.met) < 2 ^ 32 - 1 }
     ensures served { IfOk result (IsServed N.session credit.old.history.entries pass.old (Line other asked) credit.new.history.entries pass.new) }
     ensures signed { credit.new.history.pending ≡ [] }
@@ -59,10 +77,10 @@ pub(crate) fn change_all<R: Wait, N: Naming>(
         raising,
         entry,
         answer,
-    } = plan_change(rt, alloc, shards, credit, pass, other, asked)?;
+    } = plan_change(rt, alloc, pairs, credit, pass, other, asked)?;
     credit.reserve()?;
     credit.enter(pass, entry);
-    carry_all(rt, shards, credit, &raising);
+    carry_all(rt, pairs, credit, &raising);
     Ok(answer)
 }
 
@@ -71,15 +89,14 @@ pub(crate) fn change_all<R: Wait, N: Naming>(
 fn plan_change<R: Wait, N: Naming>(
     rt: &R,
     alloc: Global,
-    shards: &[Mutex<Shard<N>>],
+    pairs: &PairsAlone<'_, N>,
     credit: &mut CreditBook<N>,
     pass: &mut Pass<N>,
     other: BankId,
     asked: Units,
 ) -> Result<Planned, Memory>
-    requires pairs { length shards.now ≡ pair_count N.session }
     requires signed { credit.old.history.pending ≡ [] }
-    requires command { IsCommand N.session pass.old.key (Line other asked) }
+    requires values { AreValues N.session pass.old.key (Line other asked) }
     requires few { length (own pass.old.key pass.old.met) < 2 ^ 32 - 1 }
     ensures planned { IfOk result (λ planned. IsPlanned N.session credit.old.history.entries pass.old.key (Line other asked) planned.raising planned.entry planned.answer) }
     ensures same { credit.new ≡ credit.old }
@@ -88,7 +105,7 @@ fn plan_change<R: Wait, N: Naming>(
 {
     let sender = credit.sender(pass);
     let mut raising = Raising::open(alloc, credit.lines(), sender.bank, other, asked);
-    plan_all(rt, alloc, shards, credit, &mut raising)?;
+    plan_all(rt, alloc, pairs, credit, &mut raising)?;
     let answer = raising.outcome(alloc)?;
     let entry = Entry {
         bank: sender.bank,
@@ -110,12 +127,11 @@ fn plan_change<R: Wait, N: Naming>(
 fn plan_all<R: Wait, N: Naming>(
     rt: &R,
     alloc: Global,
-    shards: &[Mutex<Shard<N>>],
+    pairs: &PairsAlone<'_, N>,
     credit: &mut CreditBook<N>,
     raising: &mut Raising,
 ) -> Result<(), Memory>
     requires session { IsSession N.session }
-    requires pairs { length shards.now ≡ pair_count N.session }
     requires signed { credit.old.history.pending ≡ [] }
     requires under_way { IsUnderWay N.session (state N.session credit.old.history.entries) raising.old }
     requires begins { raising.old.plans ≡ [] }
@@ -125,8 +141,8 @@ fn plan_all<R: Wait, N: Naming>(
     ensures bank { raising.new.bank ≡ raising.old.bank }
     ensures same { credit.new ≡ credit.old }
 {
-    for place in 0..shards.len() {
-        plan_pair(rt, alloc, shards, credit, raising, pair_at(place))?;
+    for place in 0..pairs.count() {
+        plan_pair(rt, alloc, pairs, credit, raising, pair_at(place))?;
     }
     Ok(())
 }
@@ -135,12 +151,12 @@ fn plan_all<R: Wait, N: Naming>(
 fn plan_pair<R: Wait, N: Naming>(
     rt: &R,
     alloc: Global,
-    shards: &[Mutex<Shard<N>>],
+    pairs: &PairsAlone<'_, N>,
     credit: &mut CreditBook<N>,
     raising: &mut Raising,
     pair: PairId,
 ) -> Result<(), Memory>
-    requires within { pair < length shards.now }
+    requires within { pair < pair_count N.session }
     requires signed { credit.old.history.pending ≡ [] }
     requires under_way { IsUnderWay N.session (state N.session credit.old.history.entries) raising.old }
     requires next { pair ≡ length raising.old.plans }
@@ -150,43 +166,41 @@ fn plan_pair<R: Wait, N: Naming>(
     ensures bank { raising.new.bank ≡ raising.old.bank }
     ensures same { credit.new ≡ credit.old }
 {
-    let mut shard = lock_pair(rt, shards, pair);
+    let mut shard = pairs.lock(rt, pair);
     shard.turn(alloc, credit, raising)
 }
 
 /// Each pair signs the last entry, of a credit change for which each had its turn, and makes its part.
 fn carry_all<R: Wait, N: Naming>(
     rt: &R,
-    shards: &[Mutex<Shard<N>>],
+    pairs: &PairsAlone<'_, N>,
     credit: &mut CreditBook<N>,
     raising: &Raising,
 )
     requires session { IsSession N.session }
-    requires pairs { length shards.now ≡ pair_count N.session }
     requires last { IsLast N.session credit.old.history.entries raising.now }
     requires pend { PairsPend N.session 0 credit.old.history.pending }
     ensures entries { credit.new.history.entries ≡ credit.old.history.entries }
     ensures signed { credit.new.history.pending ≡ [] }
 {
-    for place in 0..shards.len() {
-        carry_pair(rt, shards, credit, raising, pair_at(place));
+    for place in 0..pairs.count() {
+        carry_pair(rt, pairs, credit, raising, pair_at(place));
     }
 }
 
 /// One pair signs, and makes its part. Its lock is given back.
 fn carry_pair<R: Wait, N: Naming>(
     rt: &R,
-    shards: &[Mutex<Shard<N>>],
+    pairs: &PairsAlone<'_, N>,
     credit: &mut CreditBook<N>,
     raising: &Raising,
     pair: PairId,
 )
-    requires pairs { length shards.now ≡ pair_count N.session }
     requires within { pair < pair_count N.session }
     requires last { IsLast N.session credit.old.history.entries raising.now }
     requires pends { pends credit.old.history.pending (pair_key pair) ≡ true }
     ensures value { credit.new ≡ signed_by (pair_key pair) credit.old }
 {
-    let mut shard = lock_pair(rt, shards, pair);
+    let mut shard = pairs.lock(rt, pair);
     shard.carry(credit, raising.plan(pair));
 }

@@ -8,12 +8,12 @@ ghost use Rattle.fx_desk.specs.Submitting.{IsWholeOf};
 ghost use Rattle.fx_host.specs.Closing.{AreShardsOf};
 
 use crate::host::Host;
+use crate::pair_locks::PairLock;
 use credit_book::CreditBook;
 use fx_chronicle::{Naming, close};
 use fx_desk::Pass;
 use fx_rules::Entry;
 use pair_shards::Shard;
-use std::sync::Mutex;
 
 /// Closes a host: the whole history, and the shards that served it. What each of these passes had seen is a beginning of the
 /// history, and of their banks it has just their commands; each shard has seen all of it. It takes no memory.
@@ -25,13 +25,14 @@ pub fn close_host<N: Naming>(host: Host<N>, passes: Vec<Pass<N>>) -> (Vec<Entry>
     let Host {
         alloc: _,
         turn: _,
-        shards,
+        pairs,
         credit,
         closed,
     } = host;
-    let mut credit = credit.into_inner().book;
+    let mut credit = credit.into_book();
     meet_passes(&mut credit, passes);
-    let shards = taken_out(&mut credit, shards, closed.into_inner().shards);
+    let room = closed.into_inner().shards;
+    let shards = taken_out(&mut credit, pairs.into_locks(), room);
     (close(credit.into_writer()), shards)
 }
 
@@ -49,18 +50,18 @@ fn meet_passes<N: Naming>(credit: &mut CreditBook<N>, passes: Vec<Pass<N>>)
 /// The shards out of their locks, each of which has then seen the whole history. They go into `closed`, which has room for all.
 fn taken_out<N: Naming>(
     credit: &mut CreditBook<N>,
-    shards: Vec<Mutex<Shard<N>>>,
+    locks: Vec<PairLock<N>>,
     mut closed: Vec<Shard<N>>,
 ) -> Vec<Shard<N>>
     requires signed { credit.old.history.pending ≡ [] }
-    requires pairs { vec_len shards ≡ pair_count N.session }
+    requires pairs { vec_len locks ≡ pair_count N.session }
     requires none { vec_len closed ≡ 0 }
-    requires room { vec_len shards ≤ vec_capacity closed }
+    requires room { vec_len locks ≤ vec_capacity closed }
     ensures shards { AreShardsOf N.session credit.old.history.entries result.items }
     ensures same { credit.new ≡ credit.old }
 {
-    for lock in shards {
-        let mut shard = lock.into_inner();
+    for lock in locks {
+        let mut shard = lock.into_shard();
         shard.catch_up(credit);
         closed.push_reserved(shard);
     }

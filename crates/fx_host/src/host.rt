@@ -2,40 +2,37 @@ ghost use Rattle.std.specs.Prelude.{◌≡◌, ◌≤◌, ◌<◌, ◌-◌, ◌^
 ghost use mathlib.Core.List.{IsPrefix};
 ghost use Rattle.fx_rules.specs.declared.command.Command.TheVariants.{Line};
 ghost use Rattle.fx_rules.specs.Session.{IsSession, pair_count};
-ghost use Rattle.fx_rules.specs.Step.{IsCommand};
+ghost use Rattle.fx_rules.specs.Step.{AreValues};
 ghost use Rattle.fx_rules.specs.History.{IsLegal, own};
 ghost use Rattle.fx_desk.specs.Submitting.{Submitted};
-ghost use Rattle.pair_steps.specs.Sending.{pair_of};
-ghost use Rattle.credit_table.specs.Table.{is_of_no_pair};
+ghost use Rattle.fx_rules.specs.Sending.{pair_of};
 
 use crate::change::change_all;
-use crate::locks::{lock_pair_in_turn, lock_soon, tell_all};
-use credit_book::SignedBook;
+use crate::credit_lock::CreditLock;
+use crate::locks::tell_all;
+use crate::pair_locks::PairLocks;
+use crate::turn::Turn;
 use fx_amounts::{BankId, Memory, PairId, Units};
 use fx_chronicle::Naming;
 use fx_desk::{Desk, Note, Pass};
-use fx_rules::{Command, Entry, EntryList, Gate, Outcome};
+use fx_rules::{Command, EntryList, Gate, Outcome};
 use pair_shards::Shard;
-use pair_steps::pair_of;
 use std::alloc::Global;
-use std::sync::{Mutex, RwLock, Wait};
+use std::sync::{Mutex, Wait};
 
 /// A desk over the pairs' books, each behind a lock of its own, and the credit book behind another. After a submit that was
-/// refused for want of memory a shard may have seen more of the history, with its book as before.
+/// refused because memory ran out, a shard may have seen more of the history, with its book as before.
 #[derive(Drop)]
 pub struct Host<N: Naming> {
     pub(crate) alloc: Global,
     /// A credit change has it alone, and all commands in pairs share it.
-    pub(crate) turn: RwLock<()>,
-    /// In the order of the header.
-    pub(crate) shards: Vec<Mutex<Shard<N>>>,
-    pub(crate) credit: Mutex<SignedBook<N>>,
+    pub(crate) turn: Turn,
+    pub(crate) pairs: PairLocks<N>,
+    pub(crate) credit: CreditLock<N>,
     /// For the shards at the close.
     pub(crate) closed: Mutex<ShardRoom<N>>,
 
     ghost session: { IsSession N.session },
-
-    ghost pairs: { vec_len shards ≡ pair_count N.session },
 }
 
 /// Room for the shards of all pairs, with none in it yet. It lies behind a lock only so that threads may share the host: a front is
@@ -59,18 +56,18 @@ impl<N: Naming> Host<N> {
         pass: &mut Pass<N>,
         command: &Command,
     ) -> Result<Outcome, Memory>
-        requires command { IsCommand N.session pass.old.key command.now }
+        requires values { AreValues N.session pass.old.key command.now }
         requires pair { pair_of command.now ≡ Some pair }
         requires few { length (own pass.old.key pass.old.met) < 2 ^ 32 - 1 }
         ensures bank { pass.new.key ≡ pass.old.key }
         ensures submitted { IfOk result (Submitted N.session pass.old.key pass.old.seen (own pass.old.key pass.old.met) command.now pass.new.seen (own pass.new.key pass.new.met)) }
         ensures memory { OnErr result (pass.new ≡ pass.old) }
     {
-        let turn = self.turn.read(rt);
-        let mut shard = lock_pair_in_turn(&turn, rt, &self.shards, pair);
+        let turn = self.turn.share(rt);
+        let mut shard = self.pairs.lock_in_turn(rt, &turn, pair);
         gate.inside(rt, pair);
         shard.make_room(pass.bank(), command)?;
-        let credit = lock_soon(rt, &self.credit);
+        let credit = self.credit.lock_beside(rt, &shard);
         shard.serve_under(self.alloc, credit, pass, command)
     }
 
@@ -84,43 +81,16 @@ impl<N: Naming> Host<N> {
         other: BankId,
         asked: Units,
     ) -> Result<Outcome, Memory>
-        requires command { IsCommand N.session pass.old.key (Line other asked) }
+        requires values { AreValues N.session pass.old.key (Line other asked) }
         requires few { length (own pass.old.key pass.old.met) < 2 ^ 32 - 1 }
         ensures bank { pass.new.key ≡ pass.old.key }
         ensures submitted { IfOk result (Submitted N.session pass.old.key pass.old.seen (own pass.old.key pass.old.met) (Line other asked) pass.new.seen (own pass.new.key pass.new.met)) }
         ensures memory { OnErr result (pass.new ≡ pass.old) }
     {
-        let alone = self.turn.write(rt);
-        tell_all(rt, gate, self.shards.len());
-        let mut credit = lock_soon(rt, &self.credit);
-        change_all(
-            &alone,
-            rt,
-            self.alloc,
-            &self.shards,
-            &mut credit.book,
-            pass,
-            other,
-            asked,
-        )
-    }
-
-    /// A command about no pair: it has the credit lock alone.
-    fn serve_alone<R: Wait>(
-        &self,
-        rt: &R,
-        pass: &mut Pass<N>,
-        command: &Command,
-    ) -> Result<Outcome, Memory>
-        requires command { IsCommand N.session pass.old.key command.now }
-        requires no_pair { is_of_no_pair command.now ≡ true }
-        requires few { length (own pass.old.key pass.old.met) < 2 ^ 32 - 1 }
-        ensures bank { pass.new.key ≡ pass.old.key }
-        ensures submitted { IfOk result (Submitted N.session pass.old.key pass.old.seen (own pass.old.key pass.old.met) command.now pass.new.seen (own pass.new.key pass.new.met)) }
-        ensures memory { OnErr result (pass.new ≡ pass.old) }
-    {
-        let mut credit = lock_soon(rt, &self.credit);
-        credit.book.serve(pass, command)
+        let turn = self.turn.take(rt);
+        tell_all(rt, gate, self.pairs.count());
+        let alone = self.credit.lock_alone(rt, self.pairs.alone(&turn));
+        change_all(rt, self.alloc, alone, pass, other, asked)
     }
 
     /// The entries from position `start` on of a legal history that begins with all that the pass had seen; none where `start`
@@ -139,35 +109,9 @@ impl<N: Naming> Host<N> {
         ensures bank { pass.new.key ≡ pass.old.key }
         ensures memory { OnErr result (pass.new ≡ pass.old) }
     {
-        let mut credit = lock_soon(rt, &self.credit);
-        let entries = copied_from(self.alloc, credit.book.entries(), start)?;
-        credit.book.catch_up_pass(pass);
+        let entries = self.credit.entries_from(rt, self.alloc, pass, start)?;
         Ok(EntryList::from_vec(entries))
     }
-}
-
-/// The entries from position `start` on, in memory of their own.
-fn copied_from(alloc: Global, entries: &[Entry], start: u64) -> Result<Vec<Entry>, Memory>
-    ensures entries { IfOk result (λ copied. copied.items ≡ drop start entries.now) }
-{
-    let first = start.min(entries.len() as u64) as usize;
-    copied(alloc, &entries[first..])
-}
-
-/// The same entries, in memory of their own.
-fn copied(alloc: Global, entries: &[Entry]) -> Result<Vec<Entry>, Memory>
-    ensures entries { IfOk result (λ copied. copied.items ≡ entries.now) }
-{
-    let mut copied = Vec::new(alloc);
-    for entry in entries {
-        copied.push(Entry {
-            bank: entry.bank,
-            number: entry.number,
-            command: entry.command,
-            outcome: entry.outcome.copy()?,
-        })?;
-    }
-    Ok(copied)
 }
 
 impl<N: Naming + Send> Desk for Host<N> {
@@ -192,11 +136,11 @@ impl<N: Naming + Send> Desk for Host<N> {
         pass: &mut Pass<N>,
         command: &Command,
     ) -> Result<Outcome, Memory> {
-        match pair_of(command) {
+        match command.pair() {
             Some(pair) => self.serve_in(rt, gate, pair, pass, command),
             None => match *command {
                 Command::Line { bank, limit } => self.change_credit(rt, gate, pass, bank, limit),
-                _ => self.serve_alone(rt, pass, command),
+                _ => self.credit.serve(rt, pass, command),
             },
         }
     }

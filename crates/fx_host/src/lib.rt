@@ -8,9 +8,13 @@
 
 mod change;
 mod closing;
+mod credit_lock;
 mod host;
 mod locks;
 mod opening;
+mod pair_locks;
+mod reading;
+mod turn;
 
 pub use closing::close_host;
 pub use fx_desk::Pass;

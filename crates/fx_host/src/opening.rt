@@ -1,19 +1,23 @@
-ghost use Rattle.std.specs.Prelude.{◌≡◌, ◌+◌, length, IfOk};
-ghost use Rattle.fx_rules.specs.Session.{IsSession, pair_count, sender_count};
+ghost use Rattle.std.specs.Prelude.{◌≡◌, ◌+◌, length, map, vec_len, IfOk};
+ghost use Rattle.fx_rules.specs.Session.{IsSession, pair_count, sender_places, senders};
 ghost use Rattle.fx_chronicle.specs.Faces.{AreNew};
 ghost use Rattle.credit_book.specs.Recorded.{key_count};
+ghost use Rattle.fx_host.specs.inside.Locking.{AreInOrder};
 ghost use Rattle.fx_host.specs.inside.Opening.{ArePairFronts};
 
+use crate::credit_lock::CreditLock;
 use crate::host::{Host, ShardRoom};
 use crate::locks::pair_at;
-use credit_book::{CreditBook, SignedBook};
+use crate::pair_locks::{PairLock, PairLocks};
+use crate::turn::Turn;
+use credit_book::CreditBook;
 use fx_amounts::{BankId, Memory};
 use fx_chronicle::{Blank, Front, Naming, open};
 use fx_desk::Pass;
 use fx_rules::{Entry, Session};
 use pair_shards::Shard;
 use std::alloc::Global;
-use std::sync::{Mutex, RwLock};
+use std::sync::Mutex;
 
 /// For how many keys the blank of a session's host is made.
 pub fn keys_of(session: &Session) -> u32
@@ -22,7 +26,7 @@ pub fn keys_of(session: &Session) -> u32
     65 + session.pairs().len() as u32
 }
 
-/// Opens a host for a day of the session, with one pass for each bank in the session's order. The blank is for 65 keys and one more
+/// Opens a host for a day of the session, with one new pass for each of its senders, in order. The blank is for 65 keys and one more
 /// for each pair. At `Memory` the blank is gone.
 pub fn open_host<N: Naming>(
     alloc: Global,
@@ -32,44 +36,46 @@ pub fn open_host<N: Naming>(
     requires table { blank.table ≡ N.table }
     requires keys { blank.keys ≡ key_count N.session }
     requires session { session.now ≡ N.session }
-    ensures passes { IfOk result (λ opened. AreNew (sender_count N.session) opened.1.items) }
+    ensures passes { IfOk result (λ opened. AreNew (sender_places N.session) opened.1.items) }
+    ensures senders { IfOk result (λ opened. map (λ pass. pass.key) opened.1.items ≡ senders N.session) }
 {
     let (writer, mut fronts) = open::<N, Entry>(alloc, blank)?;
     let pair_fronts = fronts.split_off(65)?;
     let passes = passes_of(alloc, session.banks().len(), fronts)?;
-    let shards = shards_of(alloc, session, pair_fronts)?;
+    let locks = locks_of(alloc, session, pair_fronts)?;
     let book = CreditBook::open(alloc, session, writer)?;
     let mut closed = Vec::new(alloc);
-    closed.reserve(shards.len())?;
+    closed.reserve(locks.len())?;
     let host = Host {
         alloc,
-        turn: RwLock::new(()),
-        shards,
-        credit: Mutex::new(SignedBook { book }),
+        turn: Turn::new(),
+        pairs: PairLocks::new(locks),
+        credit: CreditLock::new(book),
         closed: Mutex::new(ShardRoom { shards: closed }),
     };
     Ok((host, passes))
 }
 
-/// The shards of the pairs, over the fronts of their keys, each behind a lock of its own.
-fn shards_of<N: Naming>(
+/// The shards of the pairs, over the fronts of their keys, each behind a lock of its own, in the order of the header.
+fn locks_of<N: Naming>(
     alloc: Global,
     session: &Session,
     fronts: Vec<Front<N, Entry>>,
-) -> Result<Vec<Mutex<Shard<N>>>, Memory>
+) -> Result<Vec<PairLock<N>>, Memory>
     requires session { session.now ≡ N.session }
     requires valid { IsSession N.session }
     requires count { length fronts.items ≡ pair_count N.session }
     requires fronts { ArePairFronts 0 fronts.items }
-    ensures count { IfOk result (λ shards. length shards.items ≡ pair_count N.session) }
+    ensures all { IfOk result (λ locks. vec_len locks ≡ pair_count N.session) }
+    ensures in_order { IfOk result (λ locks. AreInOrder locks.items) }
 {
-    let mut shards = Vec::new(alloc);
+    let mut locks = Vec::new(alloc);
     for front in fronts {
-        let pair = pair_at(shards.len());
+        let pair = pair_at(locks.len());
         let shard = Shard::open(alloc, session, pair, front)?;
-        shards.push(Mutex::new(shard))?;
+        locks.push(PairLock::new(shard))?;
     }
-    Ok(shards)
+    Ok(locks)
 }
 
 /// The passes of the first so many banks, over the fronts of their keys.
@@ -80,7 +86,7 @@ fn passes_of<N: Naming>(
 ) -> Result<Vec<Pass<N>>, Memory>
     requires session { IsSession N.session }
     requires fronts { AreNew 65 fronts.items }
-    requires banks { banks ≡ sender_count N.session }
+    requires banks { banks ≡ sender_places N.session }
     ensures passes { IfOk result (λ passes. AreNew banks passes.items) }
 {
     fronts.truncate(banks);

@@ -41,7 +41,7 @@ step_same h S one other session sound a b bank command =
     subst (λ (k : ℕ). IsOutcome h S k one.command other.outcome) (sym bank)
     (subst (λ (k : Command). IsOutcome h S other.bank k other.outcome) (sym command) b.outcome) in
     let number : one.number ≡ other.number = a.number ∙ ap (λ (k : ℕ). count_of S k + 1) bank ∙ sym b.number in
-    entry_same one other bank number command (outcome-same h S one.bank one.command one.outcome other.outcome session sound a.sender a.command a.outcome moved)
+    entry_same one other bank number command (outcome-same h S one.bank one.command one.outcome other.outcome session sound a.command a.outcome moved)
 
 pub next-same : (h : Header) (entries : List Entry) (one other : Entry) → IsLegal h (entries ++ one ∷ []) → IsLegal h (entries ++ other ∷ []) → one.bank ≡ other.bank → one.command ≡ other.command → one ≡ other
 next-same h entries one other legal_one legal_other bank command =

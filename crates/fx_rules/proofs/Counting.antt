@@ -5,12 +5,13 @@ use Rattle.std.proofs.Math.ListN.{set}
 use Rattle.std.proofs.lemmas.Bool.{cases_eq, eq-eqb, ne_eqb}
 use Rattle.fx_rules.specs.declared.outcome.Entry.{Entry}
 use Rattle.fx_rules.specs.Lists.{Each, total}
-use Rattle.fx_rules.specs.Session.{Header, IsSession, sender_count}
+use Rattle.fx_rules.specs.Session.{Header, IsSession, sender_places}
 use Rattle.fx_rules.specs.State.{State, opening, arrivals, count_of}
 use Rattle.fx_rules.specs.Step.{changed}
 use Rattle.fx_rules.specs.History.{IsStep, Steps, IsLegal, after_entry, after_all, state, own}
 use Rattle.fx_rules.specs.Sound.{IsSound}
 use Rattle.fx_rules.proofs.ListLemmas.{filter_cons_true, filter_cons_false}
+use Rattle.fx_rules.proofs.Senders.{command-place, places-most}
 use Rattle.fx_rules.proofs.Soundness.{after-sound, opening-sound, legal-sound}
 use Rattle.fx_rules.proofs.Staying.{changed-counts, other_counts-stay}
 
@@ -43,7 +44,7 @@ few-steps h S (e ∷ es) steps few = few-steps h (after_entry S e) es steps.1 (f
 few-legal : (h : Header) (entries : List Entry) → IsLegal h entries → Few (state h entries).counts
 unfolding Few
 few-legal h entries legal =
-    few-steps h (opening h) entries legal.steps (Each-replicate (λ count. count < 2 ^ 32) (sender_count h) 0 (omega arith))
+    few-steps h (opening h) entries legal.steps (Each-replicate (λ count. count < 2 ^ 32) (sender_places h) 0 (omega arith))
 
 total-few : (counts : List ℕ) → Few counts → total (λ count. count) counts ≤ length counts * 2 ^ 32
 unfolding Few
@@ -52,8 +53,8 @@ total-few (c ∷ counts) few = omega (arith, few.0, total-few counts few.1)
 
 pub arrivals-few : (h : Header) (entries : List Entry) → IsLegal h entries → arrivals (state h entries) < 2 ^ 64
 arrivals-few h entries legal =
-    let senders : length (state h entries).counts ≡ sender_count h = (legal-sound h entries legal).counts in
-    omega (arith, total-few (state h entries).counts (few-legal h entries legal), senders, legal.session.banks_most)
+    let senders : length (state h entries).counts ≡ sender_places h = (legal-sound h entries legal).counts in
+    omega (arith, total-few (state h entries).counts (few-legal h entries legal), senders, places-most h legal.session)
 
 -- ---- a sender's count
 
@@ -68,12 +69,12 @@ counts-steps : (h : Header) (S : State) (entries : List Entry) (bank : ℕ) → 
 counts-steps h S [] bank session sound steps = omega arith
 counts-steps h S (e ∷ es) bank session sound steps =
     let step : IsStep h S e = steps.0 in
-    let next : IsSound h (after_entry S e) = after-sound h S e.bank e.command e.outcome session sound step.sender step.command step.outcome in
+    let next : IsSound h (after_entry S e) = after-sound h S e.bank e.command e.outcome session sound step.command step.outcome in
     let rest : count_of (after_all (after_entry S e) es) bank ≡ count_of (after_entry S e) bank + length (own bank es) =
     counts-steps h (after_entry S e) es bank session next steps.1 in
     elim (cases_eq e.bank bank) [
       | inl same ↦
-          let here : count_of (after_entry S e) e.bank ≡ count_of S e.bank + 1 = count-here S e (omega (arith, step.sender, sound.counts)) in
+          let here : count_of (after_entry S e) e.bank ≡ count_of S e.bank + 1 = count-here S e (omega (arith, command-place h e.bank e.command session step.command, sound.counts)) in
           let moved : count_of (after_entry S e) bank ≡ count_of S bank + 1 = subst (λ b. count_of (after_entry S e) b ≡ count_of S b + 1) same here in
           let more : own bank (e ∷ es) ≡ e ∷ own bank es = filter_cons_true (λ (x : Entry). eqb x.bank bank) e es (eq-eqb e.bank bank same) in
           omega (arith, rest, moved, ap length more)
@@ -92,4 +93,4 @@ pub counts-own : (h : Header) (entries : List Entry) (bank : ℕ) → IsLegal h 
 counts-own h entries bank legal =
     let walked : count_of (state h entries) bank ≡ count_of (opening h) bank + length (own bank entries) =
     counts-steps h (opening h) entries bank legal.session (opening-sound h legal.session) legal.steps in
-    omega (arith, walked, none-sent (sender_count h) bank)
+    omega (arith, walked, none-sent (sender_places h) bank)

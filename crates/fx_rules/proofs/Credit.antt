@@ -69,8 +69,8 @@ within_numbers u v a b c there back same credit = omega arith
 within_one : (h : Header) (S : State) (f : Fill) → Within h S → IsAllowed h S f → used h S f.taker f.maker + cost h f ≤ min (S.limits f.taker f.maker) (S.limits f.maker f.taker)
 within_one h S f within allowed =
     within_numbers (used h S f.taker f.maker) (used h S f.maker f.taker) (S.limits f.taker f.maker) (S.limits f.maker f.taker) (cost h f)
-    (within f.taker f.maker allowed.taker allowed.maker allowed.differ)
-    (within f.maker f.taker allowed.maker allowed.taker (λ e. allowed.differ (sym e)))
+    (within.lines f.taker f.maker allowed.taker allowed.maker allowed.differ)
+    (within.lines f.maker f.taker allowed.maker allowed.taker (λ e. allowed.differ (sym e)))
     (cost_between-swap h f.taker f.maker S.fills) (omega (arith, allowed.credit, line-within h S f.taker f.maker))
 
 within_filled_of : (h : Header) (S : State) (f : Fill) (i j : ℕ) → is_between i j f ≡ true → used h S i j + cost h f ≤ S.limits i j → used h (filled S f) i j ≤ S.limits i j
@@ -92,8 +92,8 @@ fits_there h S f i j t m all =
     let here : P f.maker f.taker = omega arith in
     subst (λ a. P a j) m (subst (P f.maker) t here)
 
-pub Within-filled : (h : Header) (S : State) (f : Fill) → Within h S → IsAllowed h S f → Within h (filled S f)
-Within-filled h S f within allowed i j i_in j_in differ =
+lines-filled : (h : Header) (S : State) (f : Fill) → Within h S → IsAllowed h S f → (i j : ℕ) → i < bank_count h → j < bank_count h → i ≢ j → used h (filled S f) i j ≤ S.limits i j
+lines-filled h S f within allowed i j i_in j_in differ =
     elim (cases_Bool (is_between i j f)) [
       | inl is ↦ within_filled_of h S f i j is
           (elim (between_cases i j f is) [
@@ -103,6 +103,9 @@ Within-filled h S f within allowed i j i_in j_in differ =
       | inr is ↦
           let sum : used h (filled S f) i j ≡ used h S i j + cost_between h i j (f ∷ []) = used-filled h S f i j in
           let none : cost_between h i j (f ∷ []) ≡ 0 = cost_between-other h i j f is in
-          let had : used h S i j ≤ S.limits i j = within i j i_in j_in differ in
+          let had : used h S i j ≤ S.limits i j = within.lines i j i_in j_in differ in
           omega arith
     ]
+
+pub Within-filled : (h : Header) (S : State) (f : Fill) → Within h S → IsAllowed h S f → Within h (filled S f)
+Within-filled h S f within allowed = record { lines = lines-filled h S f within allowed }

@@ -145,12 +145,12 @@ raised_same h S bank other limit limit' fs gs session sound same one two =
     let fills : fs ≡ gs = pairs_turned-same h (pair_count h) 0 (limited bank other limit S) fs gs session (omega arith) sound one
     (subst (λ l. Raised h (limited bank other l S) gs) (sym same) two) in cc
 
-line_same : (h : Header) (S : State) (bank other asked : ℕ) (one two : Outcome) → IsSession h → IsSound h S → bank < bank_count h → IsCommand h bank (Line other asked) → IsOutcome h S bank (Line other asked) one → IsOutcome h S bank (Line other asked) two → one ≡ two
-line_same h S bank other asked (LineSet limit fs) (LineSet limit' gs) session sound sender valid a b =
+line_same : (h : Header) (S : State) (bank other asked : ℕ) (one two : Outcome) → IsSession h → IsSound h S → IsCommand h bank (Line other asked) → IsOutcome h S bank (Line other asked) one → IsOutcome h S bank (Line other asked) two → one ≡ two
+line_same h S bank other asked (LineSet limit fs) (LineSet limit' gs) session sound valid a b =
     raised_same h S bank other limit limit' fs gs session
-    (limited-sound h S bank other asked limit sound sender valid.0 valid.1 valid.2 a.0) (a.0 ∙ sym b.0) a.1 b.1
-line_same h S bank other asked (LineSet limit fs) two session sound sender valid a b = absurd b
-line_same h S bank other asked one two session sound sender valid a b = absurd a
+    (limited-sound h S bank other asked limit sound valid.sends valid.values.0 valid.values.1 valid.values.2 a.0) (a.0 ∙ sym b.0) a.1 b.1
+line_same h S bank other asked (LineSet limit fs) two session sound valid a b = absurd b
+line_same h S bank other asked one two session sound valid a b = absurd a
 
 -- state, bank and pair determine a side of a local book
 pub shows-same : (h : Header) (S : State) (bank pair : ℕ) (side : Side) (levels levels' : List Level) → IsSound h S → bank < bank_count h → 0 < weight_of h pair → Shows h S bank pair side levels → Shows h S bank pair side levels' → levels ≡ levels'
@@ -170,9 +170,9 @@ book_same h S bank pair (Depth bids asks) two sound sender some a b = absurd b
 book_same h S bank pair one two sound sender some a b = absurd a
 
 -- state and command determine the outcome
-pub outcome-same : (h : Header) (S : State) (bank : ℕ) (command : Command) (one other : Outcome) → IsSession h → IsSound h S → bank < bank_count h → IsCommand h bank command → IsOutcome h S bank command one → IsOutcome h S bank command other → one ≡ other
-outcome-same h S bank (Order side pair price lots life) one other session sound sender valid a b =
-    ordered-same h S (taker_of S bank side pair price lots) life one other sound sender (weight_of-least h pair session valid.0) a b
-outcome-same h S bank (Line to asked) one other session sound sender valid a b = line_same h S bank to asked one other session sound sender valid a b
-outcome-same h S bank (Book pair) one other session sound sender valid a b = book_same h S bank pair one other sound sender (weight_of-least h pair session valid) a b
-outcome-same h S bank command one other session sound sender valid a b = a ∙ sym b
+pub outcome-same : (h : Header) (S : State) (bank : ℕ) (command : Command) (one other : Outcome) → IsSession h → IsSound h S → IsCommand h bank command → IsOutcome h S bank command one → IsOutcome h S bank command other → one ≡ other
+outcome-same h S bank (Order side pair price lots life) one other session sound valid a b =
+    ordered-same h S (taker_of S bank side pair price lots) life one other sound valid.sends (weight_of-least h pair session valid.values.0) a b
+outcome-same h S bank (Line to asked) one other session sound valid a b = line_same h S bank to asked one other session sound valid a b
+outcome-same h S bank (Book pair) one other session sound valid a b = book_same h S bank pair one other sound valid.sends (weight_of-least h pair session valid.values) a b
+outcome-same h S bank command one other session sound valid a b = a ∙ sym b

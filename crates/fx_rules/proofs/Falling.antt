@@ -1,5 +1,5 @@
--- Each line falls by the fills of an entry, and by nothing else.
-use Rattle.std.proofs.Common.{ℕ, ◌≡◌, ◌+◌, ◌-◌, ◌≤◌, min, List, [], ◌∷◌, ◌++◌, refl, ap, sym, ◌∙◌, arith, append_assoc, Option, Some, None}
+-- The fills and the limits after a command, and by how much an entry lets what limits leave fall.
+use Rattle.std.proofs.Common.{ℕ, ◌≡◌, ◌≢◌, ◌+◌, ◌-◌, ◌≤◌, ◌<◌, min, List, [], ◌∷◌, ◌++◌, refl, ap, sym, ◌∙◌, arith, append_assoc, Option, Some, None}
 use Rattle.std.proofs.lemmas.Bool.{cond_both}
 use Rattle.std.proofs.lemmas.List.{append-nil}
 use Rattle.std.specs.Prelude.{nat_lt}
@@ -13,15 +13,15 @@ use Rattle.fx_rules.specs.declared.command.Life.TheVariants.{Day, Ioc, Fok}
 use Rattle.fx_rules.specs.declared.outcome.Outcome.{Outcome}
 use Rattle.fx_rules.specs.declared.outcome.Outcome.TheVariants.{Ordered, Killed, Cancelled, Reduced, NotLess, Pulled, LineSet, Depth}
 use Rattle.fx_rules.specs.declared.outcome.Entry.{Entry}
-use Rattle.fx_rules.specs.Session.{Header, IsSession}
-use Rattle.fx_rules.specs.State.{State, used, cost_between}
+use Rattle.fx_rules.specs.Session.{Header, IsSession, bank_count}
+use Rattle.fx_rules.specs.State.{State, used, cost_between, left_of_limits}
 use Rattle.fx_rules.specs.Sweep.{Taker, filled, filled_all}
 use Rattle.fx_rules.specs.Raise.{limited, order_of}
-use Rattle.fx_rules.specs.Step.{IsOrdered, IsOutcome, taker_of, cancel_answer, reduce_answer, rested, changed, fills_of}
-use Rattle.fx_rules.specs.History.{IsStep, after_entry, Falls}
+use Rattle.fx_rules.specs.Step.{IsOrdered, IsOutcome, taker_of, cancel_answer, reduce_answer, rested, changed, with_limit_set, fills_of}
+use Rattle.fx_rules.specs.History.{IsStep, after_entry, before_fills, Falls}
 use Rattle.fx_rules.specs.Sound.{IsSound}
 use Rattle.fx_rules.proofs.Credit.{cost_between-append, cost_between-swap}
-use Rattle.fx_rules.proofs.Soundness.{after-sound, resting_of}
+use Rattle.fx_rules.proofs.Soundness.{after-sound, resting_of, limits-filled_all}
 
 pub fills-filled_all : (S : State) (fills : List Fill) → (filled_all S fills).fills ≡ S.fills ++ fills
 fills-filled_all S [] = sym (append-nil S.fills)
@@ -91,13 +91,65 @@ pub used-after : (h : Header) (S : State) (e : Entry) (i j : ℕ) → IsStep h S
 used-after h S e i j step =
     ap (cost_between h i j) (changed-fills h S e.bank e.command e.outcome step.outcome) ∙ cost_between-append h i j S.fills (fills_of e.outcome)
 
+-- The limits after a command are those in which its fills are made, and so are the fills before it.
+
+limits_rested : (t : Taker) (rests : ℕ) (S : State) → (rested t rests S).limits ≡ S.limits
+unfolding resting_of
+limits_rested t rests S = cond_both (nat_lt 0 rests) (record S { orders = S.orders ++ resting_of t rests ∷ [] }) S (λ (T : State). T.limits ≡ S.limits) (λ _. refl) (λ _. refl)
+
+order_limits : (S : State) (bank : ℕ) (side : Side) (pair price lots : ℕ) (life : Life) (outcome : Outcome) → (changed S bank (Order side pair price lots life) outcome).limits ≡ S.limits
+order_limits S bank side pair price lots life (Ordered done rests fills) = limits_rested (taker_of S bank side pair price lots) rests (filled_all S fills) ∙ limits-filled_all S fills
+order_limits S bank side pair price lots life outcome = refl
+
+cancel_limits : (S : State) (bank pair number : ℕ) (outcome : Outcome) → (changed S bank (Cancel pair number) outcome).limits ≡ S.limits
+cancel_limits S bank pair number (Cancelled left) = refl
+cancel_limits S bank pair number outcome = refl
+
+reduce_limits : (S : State) (bank pair number lots : ℕ) (outcome : Outcome) → (changed S bank (Reduce pair number lots) outcome).limits ≡ S.limits
+reduce_limits S bank pair number lots (Reduced left) = refl
+reduce_limits S bank pair number lots outcome = refl
+
+pull_limits : (S : State) (bank pair : ℕ) (outcome : Outcome) → (changed S bank (Pull pair) outcome).limits ≡ S.limits
+pull_limits S bank pair (Pulled count) = refl
+pull_limits S bank pair outcome = refl
+
+line_limits : (S : State) (bank other asked : ℕ) (outcome : Outcome) → (changed S bank (Line other asked) outcome).limits ≡ (with_limit_set S bank (Line other asked) outcome).limits
+line_limits S bank other asked (LineSet limit fills) = limits-filled_all (limited bank other limit S) fills
+line_limits S bank other asked outcome = refl
+
+pub changed-limits : (S : State) (bank : ℕ) (command : Command) (outcome : Outcome) → (changed S bank command outcome).limits ≡ (with_limit_set S bank command outcome).limits
+changed-limits S bank (Order side pair price lots life) outcome = order_limits S bank side pair price lots life outcome
+changed-limits S bank (Cancel pair number) outcome = cancel_limits S bank pair number outcome
+changed-limits S bank (Reduce pair number lots) outcome = reduce_limits S bank pair number lots outcome
+changed-limits S bank (Pull pair) outcome = pull_limits S bank pair outcome
+changed-limits S bank (Line other asked) outcome = line_limits S bank other asked outcome
+changed-limits S bank (Show other) outcome = refl
+changed-limits S bank (Book pair) outcome = refl
+changed-limits S bank (Bad reason) outcome = refl
+
+pub fills-with_limit_set : (S : State) (bank : ℕ) (command : Command) (outcome : Outcome) → (with_limit_set S bank command outcome).fills ≡ S.fills
+fills-with_limit_set S bank (Line other asked) (LineSet limit fills) = refl
+fills-with_limit_set S bank command outcome = refl
+
 falls_numbers : (before now costs one other : ℕ) → now ≡ before + costs → now ≤ one → now ≤ other → (min one other - now) + costs ≡ min one other - before
 falls_numbers before now costs one other more here there = omega arith
 
-pub lines-fall : (h : Header) (S : State) (e : Entry) → IsSession h → IsSound h S → IsStep h S e → Falls h S e
-lines-fall h S e session sound step i j i_in j_in differ =
-    let later : IsSound h (after_entry S e) = after-sound h S e.bank e.command e.outcome session sound step.sender step.command step.outcome in
+-- what two limits leave of a use
+left_by : (one other spent : ℕ) → ℕ
+left_by one other spent = min one other - spent
+
+lines-fall-at : (h : Header) (S : State) (e : Entry) → IsSession h → IsSound h S → IsStep h S e → (i j : ℕ) → i < bank_count h → j < bank_count h → i ≢ j → left_of_limits h (after_entry S e) i j + cost_between h i j (fills_of e.outcome) ≡ left_of_limits h (before_fills S e) i j
+unfolding left_by
+lines-fall-at h S e session sound step i j i_in j_in differ =
+    let later : IsSound h (after_entry S e) = after-sound h S e.bank e.command e.outcome session sound step.command step.outcome in
+    let limits : (after_entry S e).limits ≡ (before_fills S e).limits = changed-limits S e.bank e.command e.outcome in
     let back : used h (after_entry S e) i j ≤ (after_entry S e).limits j i =
-    omega (arith, later.within j i j_in i_in (λ same. differ (sym same)), cost_between-swap h i j (after_entry S e).fills) in
+    omega (arith, later.within.lines j i j_in i_in (λ same. differ (sym same)), cost_between-swap h i j (after_entry S e).fills) in
     falls_numbers (used h S i j) (used h (after_entry S e) i j) (cost_between h i j (fills_of e.outcome))
-    ((after_entry S e).limits i j) ((after_entry S e).limits j i) (used-after h S e i j step) (later.within i j i_in j_in differ) back
+    ((after_entry S e).limits i j) ((after_entry S e).limits j i) (used-after h S e i j step) (later.within.lines i j i_in j_in differ) back
+    ∙ ap (λ (set : ℕ → ℕ → ℕ). left_by (set i j) (set j i) (used h S i j)) limits
+    ∙ ap (λ (fills : List Fill). left_by ((before_fills S e).limits i j) ((before_fills S e).limits j i) (cost_between h i j fills))
+    (sym (fills-with_limit_set S e.bank e.command e.outcome))
+
+pub lines-fall : (h : Header) (S : State) (e : Entry) → IsSession h → IsSound h S → IsStep h S e → Falls h S e
+lines-fall h S e session sound step = record { lines = lines-fall-at h S e session sound step }

@@ -1,4 +1,5 @@
 pub mod ListLemmas
+pub mod Senders
 pub mod Lowering
 pub mod Credit
 pub mod Opens

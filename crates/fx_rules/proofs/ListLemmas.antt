@@ -57,11 +57,12 @@ Among-map f [] y there = absurd there
 Among-map f (x ∷ xs) y (inl is) = (x, inl refl, is)
 Among-map f (x ∷ xs) y (inr later) = let it = Among-map f xs y later in (it.0, inr it.1, it.2)
 
-pub total-set : (counts : List ℕ) (i : ℕ) → i < length counts → total (λ c. c) (set counts i (get_or counts i 0 + 1)) ≡ total (λ c. c) counts + 1
-total-set [] i within = absurd (omega arith)
-total-set (c ∷ counts) zero within = omega arith
-total-set (c ∷ counts) (suc i) within =
-    let rest : total (λ c. c) (set counts i (get_or counts i 0 + 1)) ≡ total (λ c. c) counts + 1 = total-set counts i (omega arith) in
+-- a sum once one item is another
+pub total-set : {X : Type 0} (f : X → ℕ) (xs : List X) (i : ℕ) (new fallback : X) → i < length xs → total f (set xs i new) + f (get_or xs i fallback) ≡ total f xs + f new
+total-set f [] i new fallback within = absurd (omega arith)
+total-set f (x ∷ xs) zero new fallback within = omega arith
+total-set f (x ∷ xs) (suc i) new fallback within =
+    let rest : total f (set xs i new) + f (get_or xs i fallback) ≡ total f xs + f new = total-set f xs i new fallback (omega arith) in
     omega arith
 
 -- tests that agree at each item keep the same items

@@ -1,30 +1,26 @@
 -- The fills of a step as they are made: each between two banks of the session, in one of its pairs, at a price in range, and
 -- within the line that the fills before it leave.
 use Rattle.std.proofs.Common.{ℕ, zero, suc, ◌<◌, ◌≤◌, ◌+◌, ◌-◌, ◌≡◌, List, [], ◌∷◌, ◌++◌, refl, ap, sym, subst, ◌∙◌, arith, length, get_or, map}
-use Rattle.std.proofs.lemmas.Bool.{cond_both}
 use Rattle.std.proofs.lemmas.List.{length-map}
-use Rattle.std.specs.Prelude.{nat_lt}
-use Rattle.fx_amounts.specs.declared.side.Side.{Side}
 use Rattle.fx_rules.specs.declared.session.PairRule.{PairRule}
 use Rattle.fx_rules.specs.declared.command.Command.{Command}
 use Rattle.fx_rules.specs.declared.command.Command.TheVariants.{Order, Cancel, Reduce, Pull, Line, Show, Book, Bad}
 use Rattle.fx_rules.specs.declared.command.Life.{Life}
 use Rattle.fx_rules.specs.declared.command.Life.TheVariants.{Day, Ioc, Fok}
 use Rattle.fx_rules.specs.declared.outcome.Outcome.{Outcome}
-use Rattle.fx_rules.specs.declared.outcome.Outcome.TheVariants.{Ordered, Killed, Cancelled, Reduced, Pulled, LineSet, Depth}
+use Rattle.fx_rules.specs.declared.outcome.Outcome.TheVariants.{Ordered, Killed, LineSet, Depth}
 use Rattle.fx_rules.specs.declared.orders.Fill.{Fill}
 use Rattle.fx_rules.specs.declared.orders.Resting.{Resting}
 use Rattle.fx_rules.specs.Session.{Header, IsSession, bank_count, pair_count, weight_of}
 use Rattle.fx_rules.specs.State.{State, reach}
 use Rattle.fx_rules.specs.Sweep.{Taker, Swept, filled, filled_all, less, fill_with, amount}
 use Rattle.fx_rules.specs.Raise.{order_of, limited, Turned, PairsTurned}
-use Rattle.fx_rules.specs.Step.{IsCommand, IsOrdered, IsOutcome, taker_of, fills_of, cancel_answer, reduce_answer, rested, changed}
+use Rattle.fx_rules.specs.Step.{IsCommand, IsOrdered, IsOutcome, taker_of, fills_of, cancel_answer, reduce_answer, with_limit_set}
 use Rattle.fx_rules.specs.Sound.{IsSound}
 use Rattle.fx_rules.proofs.Credit.{IsAllowed}
 use Rattle.fx_rules.proofs.Opens.{IsMaker, maker_of, allowed-open}
-use Rattle.fx_rules.proofs.SweepSound.{filled-sound, limits-filled_all, weight_of-least}
+use Rattle.fx_rules.proofs.SweepSound.{filled-sound, weight_of-least}
 use Rattle.fx_rules.proofs.RaiseSound.{turned-walk, pairs-walk, limited-sound}
-use Rattle.fx_rules.proofs.Soundness.{resting_of}
 use Rattle.fx_rules.proofs.Falling.{cancel_fills, reduce_fills}
 
 pub record IsMade (h : Header) (S : State) (f : Fill) : Type 0 where
@@ -81,11 +77,6 @@ turned-made h pair S orders fills sound some =
 pairs-made : (h : Header) (pairs pair : ℕ) (S : State) (fills : List Fill) → IsSession h → pair + pairs ≤ pair_count h → IsSound h S → PairsTurned h pairs pair S fills → AreMade h S fills
 pairs-made h = pairs-walk h (AreMade h) (λ _ _. tt) (made-append h) (swept-made h)
 
--- The state in which a command's fills are made: a credit change has set its limit.
-abbrev pub limit_made : State → ℕ → Command → Outcome → State
-limit_made S bank (Line other asked) (LineSet limit fills) = limited bank other limit S
-limit_made S _ _ _ = S
-
 -- an outcome without fills
 none_made : (h : Header) (S : State) (outcome told : Outcome) → outcome ≡ told → fills_of told ≡ [] → AreMade h S (fills_of outcome)
 none_made h S outcome told is none = subst (AreMade h S) (sym (ap fills_of is ∙ none)) tt
@@ -97,61 +88,25 @@ ordered-made h S t Fok (Ordered done rests fills) sound bank some is = swept-mad
 ordered-made h S t Fok Killed sound bank some is = tt
 ordered-made h S t life outcome sound bank some is = absurd is
 
-raised-made : (h : Header) (S : State) (bank other asked : ℕ) (outcome : Outcome) → IsSession h → IsSound h S → bank < bank_count h → IsCommand h bank (Line other asked) → IsOutcome h S bank (Line other asked) outcome → AreMade h (limit_made S bank (Line other asked) outcome) (fills_of outcome)
-raised-made h S bank other asked (LineSet limit fills) session sound sender valid is =
-    pairs-made h (pair_count h) 0 (limited bank other limit S) fills session (omega arith) (limited-sound h S bank other asked limit sound sender valid.0 valid.1 valid.2 is.0) is.1
-raised-made h S bank other asked outcome session sound sender valid is = absurd is
+raised-made : (h : Header) (S : State) (bank other asked : ℕ) (outcome : Outcome) → IsSession h → IsSound h S → IsCommand h bank (Line other asked) → IsOutcome h S bank (Line other asked) outcome → AreMade h (with_limit_set S bank (Line other asked) outcome) (fills_of outcome)
+raised-made h S bank other asked (LineSet limit fills) session sound valid is =
+    pairs-made h (pair_count h) 0 (limited bank other limit S) fills session (omega arith) (limited-sound h S bank other asked limit sound valid.sends valid.values.0 valid.values.1 valid.values.2 is.0) is.1
+raised-made h S bank other asked outcome session sound valid is = absurd is
 
 book_made : (h : Header) (S : State) (bank pair : ℕ) (outcome : Outcome) → IsOutcome h S bank (Book pair) outcome → AreMade h S (fills_of outcome)
 book_made h S bank pair (Depth bids asks) is = tt
 book_made h S bank pair outcome is = absurd is
 
 -- the fills of a command's outcome
-pub outcome-made : (h : Header) (S : State) (bank : ℕ) (command : Command) (outcome : Outcome) → IsSession h → IsSound h S → bank < bank_count h → IsCommand h bank command → IsOutcome h S bank command outcome → AreMade h (limit_made S bank command outcome) (fills_of outcome)
-outcome-made h S bank (Order side pair price lots life) outcome session sound sender valid is =
-    ordered-made h S (taker_of S bank side pair price lots) life outcome sound sender (weight_of-least h pair session valid.0) is
-outcome-made h S bank (Cancel pair number) outcome session sound sender valid is =
+pub outcome-made : (h : Header) (S : State) (bank : ℕ) (command : Command) (outcome : Outcome) → IsSession h → IsSound h S → IsCommand h bank command → IsOutcome h S bank command outcome → AreMade h (with_limit_set S bank command outcome) (fills_of outcome)
+outcome-made h S bank (Order side pair price lots life) outcome session sound valid is =
+    ordered-made h S (taker_of S bank side pair price lots) life outcome sound valid.sends (weight_of-least h pair session valid.values.0) is
+outcome-made h S bank (Cancel pair number) outcome session sound valid is =
     none_made h S outcome (cancel_answer (order_of S pair bank number)) is (cancel_fills (order_of S pair bank number))
-outcome-made h S bank (Reduce pair number lots) outcome session sound sender valid is =
+outcome-made h S bank (Reduce pair number lots) outcome session sound valid is =
     none_made h S outcome (reduce_answer lots (order_of S pair bank number)) is (reduce_fills lots (order_of S pair bank number))
-outcome-made h S bank (Pull pair) outcome session sound sender valid is = none_made h S outcome _ is refl
-outcome-made h S bank (Line other asked) outcome session sound sender valid is = raised-made h S bank other asked outcome session sound sender valid is
-outcome-made h S bank (Show other) outcome session sound sender valid is = none_made h S outcome _ is refl
-outcome-made h S bank (Book pair) outcome session sound sender valid is = book_made h S bank pair outcome is
-outcome-made h S bank (Bad reason) outcome session sound sender valid is = none_made h S outcome _ is refl
-
--- The limits after a command are those in which its fills are made.
-
-limits_rested : (t : Taker) (rests : ℕ) (S : State) → (rested t rests S).limits ≡ S.limits
-unfolding resting_of
-limits_rested t rests S = cond_both (nat_lt 0 rests) (record S { orders = S.orders ++ resting_of t rests ∷ [] }) S (λ (T : State). T.limits ≡ S.limits) (λ _. refl) (λ _. refl)
-
-order_limits : (S : State) (bank : ℕ) (side : Side) (pair price lots : ℕ) (life : Life) (outcome : Outcome) → (changed S bank (Order side pair price lots life) outcome).limits ≡ S.limits
-order_limits S bank side pair price lots life (Ordered done rests fills) = limits_rested (taker_of S bank side pair price lots) rests (filled_all S fills) ∙ limits-filled_all S fills
-order_limits S bank side pair price lots life outcome = refl
-
-cancel_limits : (S : State) (bank pair number : ℕ) (outcome : Outcome) → (changed S bank (Cancel pair number) outcome).limits ≡ S.limits
-cancel_limits S bank pair number (Cancelled left) = refl
-cancel_limits S bank pair number outcome = refl
-
-reduce_limits : (S : State) (bank pair number lots : ℕ) (outcome : Outcome) → (changed S bank (Reduce pair number lots) outcome).limits ≡ S.limits
-reduce_limits S bank pair number lots (Reduced left) = refl
-reduce_limits S bank pair number lots outcome = refl
-
-pull_limits : (S : State) (bank pair : ℕ) (outcome : Outcome) → (changed S bank (Pull pair) outcome).limits ≡ S.limits
-pull_limits S bank pair (Pulled count) = refl
-pull_limits S bank pair outcome = refl
-
-line_limits : (S : State) (bank other asked : ℕ) (outcome : Outcome) → (changed S bank (Line other asked) outcome).limits ≡ (limit_made S bank (Line other asked) outcome).limits
-line_limits S bank other asked (LineSet limit fills) = limits-filled_all (limited bank other limit S) fills
-line_limits S bank other asked outcome = refl
-
-pub changed-limits : (S : State) (bank : ℕ) (command : Command) (outcome : Outcome) → (changed S bank command outcome).limits ≡ (limit_made S bank command outcome).limits
-changed-limits S bank (Order side pair price lots life) outcome = order_limits S bank side pair price lots life outcome
-changed-limits S bank (Cancel pair number) outcome = cancel_limits S bank pair number outcome
-changed-limits S bank (Reduce pair number lots) outcome = reduce_limits S bank pair number lots outcome
-changed-limits S bank (Pull pair) outcome = pull_limits S bank pair outcome
-changed-limits S bank (Line other asked) outcome = line_limits S bank other asked outcome
-changed-limits S bank (Show other) outcome = refl
-changed-limits S bank (Book pair) outcome = refl
-changed-limits S bank (Bad reason) outcome = refl
+outcome-made h S bank (Pull pair) outcome session sound valid is = none_made h S outcome _ is refl
+outcome-made h S bank (Line other asked) outcome session sound valid is = raised-made h S bank other asked outcome session sound valid is
+outcome-made h S bank (Show other) outcome session sound valid is = none_made h S outcome _ is refl
+outcome-made h S bank (Book pair) outcome session sound valid is = book_made h S bank pair outcome is
+outcome-made h S bank (Bad reason) outcome session sound valid is = none_made h S outcome _ is refl

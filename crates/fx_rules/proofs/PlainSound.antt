@@ -22,7 +22,7 @@ fewer-sound h S stays sound = record {
   counts = sound.counts;
   kept = Each-filter (IsKept h S.counts) stays S.orders sound.kept;
   rising = EachPair-filter Rises stays S.orders sound.rising;
-  within = sound.within;
+  within = record { lines = sound.within.lines };
   limits = sound.limits;
 }
 
@@ -65,6 +65,6 @@ reduced-sound h S bank number left sound lots = record {
     arrival = kept.arrival;
   }) S.orders sound.kept;
   rising = rising-reduced bank number left S.orders sound.rising;
-  within = sound.within;
+  within = record { lines = sound.within.lines };
   limits = sound.limits;
 }

@@ -109,7 +109,7 @@ pairs_turned-sound h =
 
 -- what is used is in range
 used_most : (h : Header) (S : State) (i j : ℕ) → IsSound h S → i < bank_count h → j < bank_count h → i ≢ j → IsUnits (used h S i j)
-used_most h S i j sound i_in j_in differ = omega (arith, sound.within i j i_in j_in differ, sound.limits i j i_in j_in differ)
+used_most h S i j sound i_in j_in differ = omega (arith, sound.within.lines i j i_in j_in differ, sound.limits i j i_in j_in differ)
 
 -- the limits of a state in which a bank set one
 limit_cases : (h : Header) (S : State) (bank other limit i j : ℕ) (P : ℕ → ℕ → ℕ → Type 0) → P bank other limit → P i j (S.limits i j) → P i j ((limited bank other limit S).limits i j)
@@ -125,8 +125,10 @@ limited-sound h S bank other asked limit sound sender other_in differ most is_li
   counts = sound.counts;
   kept = sound.kept;
   rising = sound.rising;
-  within = λ i j i_in j_in apart. limit_cases h S bank other limit i j (λ a b l. used h S a b ≤ l)
-      (omega (arith, is_limit)) (sound.within i j i_in j_in apart);
+  within = record {
+    lines = λ i j i_in j_in apart. limit_cases h S bank other limit i j (λ a b l. used h S a b ≤ l)
+        (omega (arith, is_limit)) (sound.within.lines i j i_in j_in apart);
+  };
   limits = λ i j i_in j_in apart. limit_cases h S bank other limit i j (λ _ _ l. IsUnits l)
       (omega (arith, is_limit, most, used_most h S bank other sound sender other_in (λ same. differ (sym same)))) (sound.limits i j i_in j_in apart);
 }

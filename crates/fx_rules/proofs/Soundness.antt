@@ -17,7 +17,7 @@ use Rattle.fx_rules.specs.declared.outcome.Outcome.{Outcome}
 use Rattle.fx_rules.specs.declared.outcome.Outcome.TheVariants.{Ordered, Killed, Cancelled, Reduced, Pulled, LineSet}
 use Rattle.fx_rules.specs.declared.outcome.Entry.{Entry}
 use Rattle.fx_rules.specs.Lists.{total}
-use Rattle.fx_rules.specs.Session.{Header, IsSession, bank_count, pair_count, weight_of, opening_limit}
+use Rattle.fx_rules.specs.Session.{Header, IsSession, bank_count, pair_count, sender_places, weight_of, opening_limit}
 use Rattle.fx_rules.specs.State.{State, opening, arrivals, count_of}
 use Rattle.fx_rules.specs.Sweep.{Taker, Swept, filled_all, is_order}
 use Rattle.fx_rules.specs.Raise.{limited, order_of}
@@ -25,6 +25,7 @@ use Rattle.fx_rules.specs.Step.{IsCommand, IsOrdered, IsOutcome, taker_of, reste
 use Rattle.fx_rules.specs.History.{IsStep, Steps, IsLegal, after_entry, after_all, state}
 use Rattle.fx_rules.specs.Sound.{IsSound, IsKept, Rises}
 use Rattle.fx_rules.proofs.ListLemmas.{Each-append, Each-weaker, EachPair-push, total-set}
+use Rattle.fx_rules.proofs.Senders.{command-place}
 use Rattle.fx_rules.proofs.RaiseSound.{limited-sound, raised-sound}
 use Rattle.fx_rules.proofs.PlainSound.{fewer-sound, reduced-sound, reduced_to}
 pub use Rattle.fx_rules.proofs.SweepSound.{filled-sound, swept-sound, counts-filled_all, limits-filled_all, filled_all-append, weight_of-least}
@@ -45,16 +46,16 @@ kept_counted h counts bank within a kept = record {
   number_most = omega (arith, kept.number_most, set_more counts bank a.order.bank);
   price = kept.price;
   left = kept.left;
-  arrival = omega (arith, kept.arrival, total-set counts bank within);
+  arrival = omega (arith, kept.arrival, total-set (λ c. c) counts bank (get_or counts bank 0 + 1) 0 within);
 }
 
-pub counted-sound : (h : Header) (S : State) (bank : ℕ) → IsSound h S → bank < bank_count h → IsSound h (counted bank S)
-counted-sound h S bank sound within = record {
-  counts = length-set S.counts bank (count_of S bank + 1) ∙ sound.counts;
-  kept = Each-weaker (IsKept h S.counts) (IsKept h (set S.counts bank (count_of S bank + 1)))
-      (kept_counted h S.counts bank (omega (arith, sound.counts))) S.orders sound.kept;
+pub counted-sound : (h : Header) (S : State) (sender : ℕ) → IsSound h S → sender < sender_places h → IsSound h (counted sender S)
+counted-sound h S sender sound within = record {
+  counts = length-set S.counts sender (count_of S sender + 1) ∙ sound.counts;
+  kept = Each-weaker (IsKept h S.counts) (IsKept h (set S.counts sender (count_of S sender + 1)))
+      (kept_counted h S.counts sender (omega (arith, sound.counts))) S.orders sound.kept;
   rising = sound.rising;
-  within = sound.within;
+  within = record { lines = sound.within.lines };
   limits = sound.limits;
 }
 
@@ -68,6 +69,7 @@ resting_of t rests = record {
 -- a taker that is its bank's next command
 pub record IsNext (h : Header) (S : State) (t : Taker) : Type 0 where
   pub bank : t.bank < bank_count h
+  pub place : t.bank < sender_places h
   pub pair : t.pair < pair_count h
   pub number : t.number ≡ count_of S t.bank + 1
   pub arrival : t.arrival ≡ arrivals S
@@ -85,8 +87,8 @@ before_next h S t rests next a kept = record {
 pub pushed-sound : (h : Header) (S : State) (t : Taker) (rests : ℕ) → IsSound h S → IsNext h S t → 0 < rests → rests ≤ 1000000 → IsSound h (counted t.bank (record S { orders = S.orders ++ resting_of t rests ∷ [] }))
 unfolding resting_of
 pushed-sound h S t rests sound next some most =
-    let counted_sound : IsSound h (counted t.bank S) = counted-sound h S t.bank sound next.bank in
-    let within : t.bank < length S.counts = omega (arith, sound.counts, next.bank) in
+    let counted_sound : IsSound h (counted t.bank S) = counted-sound h S t.bank sound next.place in
+    let within : t.bank < length S.counts = omega (arith, sound.counts, next.place) in
     record {
       counts = counted_sound.counts;
       kept = Each-append (IsKept h (set S.counts t.bank (count_of S t.bank + 1))) S.orders (resting_of t rests ∷ []) counted_sound.kept (
@@ -97,19 +99,20 @@ pushed-sound h S t rests sound next some most =
           number_most = omega (arith, next.number, get_or_set_here S.counts t.bank (count_of S t.bank + 1) 0 within);
           price = next.price;
           left = (omega arith, most);
-          arrival = omega (arith, next.arrival, total-set S.counts t.bank within);
+          arrival = omega (arith, next.arrival, total-set (λ c. c) S.counts t.bank (count_of S t.bank + 1) 0 within);
         },
         tt,
       );
       rising = EachPair-push Rises S.orders (resting_of t rests) sound.rising
           (Each-weaker (IsKept h S.counts) (λ a. Rises a (resting_of t rests)) (before_next h S t rests next) S.orders sound.kept);
-      within = sound.within;
+      within = record { lines = sound.within.lines };
       limits = sound.limits;
     }
 
 pub next_same : (h : Header) (S S' : State) (t : Taker) → S'.counts ≡ S.counts → IsNext h S t → IsNext h S' t
 next_same h S S' t same next = record {
   bank = next.bank;
+  place = next.place;
   pair = next.pair;
   number = next.number ∙ ap (λ counts. get_or counts t.bank 0 + 1) (sym same);
   arrival = next.arrival ∙ ap (total (λ c. c)) (sym same);
@@ -122,7 +125,7 @@ unfolding resting_of
 rested-sound h S t rests sound next most =
     cond_both (ltb 0 rests) (record S { orders = S.orders ++ resting_of t rests ∷ [] }) S (λ T. IsSound h (counted t.bank T))
     (λ some. pushed-sound h S t rests sound next (ltb-true 0 rests some) most)
-    (λ _. counted-sound h S t.bank sound next.bank)
+    (λ _. counted-sound h S t.bank sound next.place)
 
 -- a swept order that rests leaves a sound state
 swept_rested : (h : Header) (S : State) (t : Taker) (fills : List Fill) (left rests : ℕ) → IsSound h S → IsNext h S t → 0 < weight_of h t.pair → t.left ≤ 1000000 → Swept h S t fills left → rests ≤ t.left → IsSound h (counted t.bank (rested t rests (filled_all S fills)))
@@ -131,34 +134,36 @@ swept_rested h S t fills left rests sound next some most swept within =
     (next_same h S (filled_all S fills) t (counts-filled_all S fills) next) (omega arith)
 
 -- the next order command of a bank
-pub taker_of-next : (h : Header) (S : State) (bank : ℕ) (side : Side) (pair price lots : ℕ) (life : Life) → bank < bank_count h → IsCommand h bank (Order side pair price lots life) → IsNext h S (taker_of S bank side pair price lots)
-taker_of-next h S bank side pair price lots life sender command = record {
-  bank = sender;
-  pair = command.0;
+pub taker_of-next : (h : Header) (S : State) (bank : ℕ) (side : Side) (pair price lots : ℕ) (life : Life) → IsSession h → IsCommand h bank (Order side pair price lots life) → IsNext h S (taker_of S bank side pair price lots)
+taker_of-next h S bank side pair price lots life session command = record {
+  bank = command.sends;
+  place = command-place h bank (Order side pair price lots life) session command;
+  pair = command.values.0;
   number = refl;
   arrival = refl;
-  price = command.1;
+  price = command.values.1;
 }
 
-pub ordered-sound : (h : Header) (S : State) (bank : ℕ) (side : Side) (pair price lots : ℕ) (life : Life) (outcome : Outcome) → IsSession h → IsSound h S → bank < bank_count h → IsCommand h bank (Order side pair price lots life) → IsOrdered h S (taker_of S bank side pair price lots) life outcome → IsSound h (after S bank (Order side pair price lots life) outcome)
-ordered-sound h S bank side pair price lots Day (Ordered done rests fills) session sound sender command ordered =
-    swept_rested h S (taker_of S bank side pair price lots) fills rests rests sound (taker_of-next h S bank side pair price lots Day sender command)
-    (weight_of-least h pair session command.0) command.2.1 ordered.0 ordered.2
-ordered-sound h S bank side pair price lots Ioc (Ordered done rests fills) session sound sender command ordered =
-    swept_rested h S (taker_of S bank side pair price lots) fills (lots - done) rests sound (taker_of-next h S bank side pair price lots Ioc sender command)
-    (weight_of-least h pair session command.0) command.2.1 ordered.0 (omega (arith, ordered.2))
-ordered-sound h S bank side pair price lots Fok (Ordered done rests fills) session sound sender command ordered =
-    swept_rested h S (taker_of S bank side pair price lots) fills 0 rests sound (taker_of-next h S bank side pair price lots Fok sender command)
-    (weight_of-least h pair session command.0) command.2.1 ordered.0 (omega (arith, ordered.2))
-ordered-sound h S bank side pair price lots Fok Killed session sound sender command ordered = counted-sound h S bank sound sender
-ordered-sound h S bank side pair price lots life outcome session sound sender command ordered = absurd ordered
+pub ordered-sound : (h : Header) (S : State) (bank : ℕ) (side : Side) (pair price lots : ℕ) (life : Life) (outcome : Outcome) → IsSession h → IsSound h S → IsCommand h bank (Order side pair price lots life) → IsOrdered h S (taker_of S bank side pair price lots) life outcome → IsSound h (after S bank (Order side pair price lots life) outcome)
+ordered-sound h S bank side pair price lots Day (Ordered done rests fills) session sound command ordered =
+    swept_rested h S (taker_of S bank side pair price lots) fills rests rests sound (taker_of-next h S bank side pair price lots Day session command)
+    (weight_of-least h pair session command.values.0) command.values.2.1 ordered.0 ordered.2
+ordered-sound h S bank side pair price lots Ioc (Ordered done rests fills) session sound command ordered =
+    swept_rested h S (taker_of S bank side pair price lots) fills (lots - done) rests sound (taker_of-next h S bank side pair price lots Ioc session command)
+    (weight_of-least h pair session command.values.0) command.values.2.1 ordered.0 (omega (arith, ordered.2))
+ordered-sound h S bank side pair price lots Fok (Ordered done rests fills) session sound command ordered =
+    swept_rested h S (taker_of S bank side pair price lots) fills 0 rests sound (taker_of-next h S bank side pair price lots Fok session command)
+    (weight_of-least h pair session command.values.0) command.values.2.1 ordered.0 (omega (arith, ordered.2))
+ordered-sound h S bank side pair price lots Fok Killed session sound command ordered =
+    counted-sound h S bank sound (command-place h bank (Order side pair price lots Fok) session command)
+ordered-sound h S bank side pair price lots life outcome session sound command ordered = absurd ordered
 
 -- a credit change leaves a sound state
-line-sound : (h : Header) (S : State) (bank other asked : ℕ) (outcome : Outcome) → IsSession h → IsSound h S → bank < bank_count h → IsCommand h bank (Line other asked) → IsOutcome h S bank (Line other asked) outcome → IsSound h (changed S bank (Line other asked) outcome)
-line-sound h S bank other asked (LineSet limit fills) session sound sender command is =
+line-sound : (h : Header) (S : State) (bank other asked : ℕ) (outcome : Outcome) → IsSession h → IsSound h S → IsCommand h bank (Line other asked) → IsOutcome h S bank (Line other asked) outcome → IsSound h (changed S bank (Line other asked) outcome)
+line-sound h S bank other asked (LineSet limit fills) session sound command is =
     raised-sound h (limited bank other limit S) fills session
-    (limited-sound h S bank other asked limit sound sender command.0 command.1 command.2 is.0) is.1
-line-sound h S bank other asked outcome session sound sender command is = absurd is
+    (limited-sound h S bank other asked limit sound command.sends command.values.0 command.values.1 command.values.2 is.0) is.1
+line-sound h S bank other asked outcome session sound command is = absurd is
 
 cancel-sound : (h : Header) (S : State) (bank pair number : ℕ) (outcome : Outcome) → IsSound h S → IsSound h (changed S bank (Cancel pair number) outcome)
 cancel-sound h S bank pair number (Cancelled left) sound = fewer-sound h S (λ active. not (is_order bank number active.order)) sound
@@ -174,20 +179,20 @@ pull-sound h S bank pair (Pulled count) sound = fewer-sound h S (λ active. not 
 pull-sound h S bank pair outcome sound = sound
 
 -- each command leaves a sound state
-pub after-sound : (h : Header) (S : State) (bank : ℕ) (command : Command) (outcome : Outcome) → IsSession h → IsSound h S → bank < bank_count h → IsCommand h bank command → IsOutcome h S bank command outcome → IsSound h (after S bank command outcome)
-after-sound h S bank (Order side pair price lots life) outcome session sound sender valid is =
-    ordered-sound h S bank side pair price lots life outcome session sound sender valid is
-after-sound h S bank (Cancel pair number) outcome session sound sender valid is =
-    counted-sound h (changed S bank (Cancel pair number) outcome) bank (cancel-sound h S bank pair number outcome sound) sender
-after-sound h S bank (Reduce pair number lots) outcome session sound sender valid is =
-    counted-sound h (changed S bank (Reduce pair number lots) outcome) bank (reduce-sound h S bank pair number lots outcome sound valid.2 is) sender
-after-sound h S bank (Pull pair) outcome session sound sender valid is =
-    counted-sound h (changed S bank (Pull pair) outcome) bank (pull-sound h S bank pair outcome sound) sender
-after-sound h S bank (Line other asked) outcome session sound sender valid is =
-    counted-sound h (changed S bank (Line other asked) outcome) bank (line-sound h S bank other asked outcome session sound sender valid is) sender
-after-sound h S bank (Show other) outcome session sound sender valid is = counted-sound h S bank sound sender
-after-sound h S bank (Book pair) outcome session sound sender valid is = counted-sound h S bank sound sender
-after-sound h S bank (Bad reason) outcome session sound sender valid is = counted-sound h S bank sound sender
+pub after-sound : (h : Header) (S : State) (bank : ℕ) (command : Command) (outcome : Outcome) → IsSession h → IsSound h S → IsCommand h bank command → IsOutcome h S bank command outcome → IsSound h (after S bank command outcome)
+after-sound h S bank (Order side pair price lots life) outcome session sound valid is =
+    ordered-sound h S bank side pair price lots life outcome session sound valid is
+after-sound h S bank (Cancel pair number) outcome session sound valid is =
+    counted-sound h (changed S bank (Cancel pair number) outcome) bank (cancel-sound h S bank pair number outcome sound) (command-place h bank (Cancel pair number) session valid)
+after-sound h S bank (Reduce pair number lots) outcome session sound valid is =
+    counted-sound h (changed S bank (Reduce pair number lots) outcome) bank (reduce-sound h S bank pair number lots outcome sound valid.values.2 is) (command-place h bank (Reduce pair number lots) session valid)
+after-sound h S bank (Pull pair) outcome session sound valid is =
+    counted-sound h (changed S bank (Pull pair) outcome) bank (pull-sound h S bank pair outcome sound) (command-place h bank (Pull pair) session valid)
+after-sound h S bank (Line other asked) outcome session sound valid is =
+    counted-sound h (changed S bank (Line other asked) outcome) bank (line-sound h S bank other asked outcome session sound valid is) (command-place h bank (Line other asked) session valid)
+after-sound h S bank (Show other) outcome session sound valid is = counted-sound h S bank sound (command-place h bank (Show other) session valid)
+after-sound h S bank (Book pair) outcome session sound valid is = counted-sound h S bank sound (command-place h bank (Book pair) session valid)
+after-sound h S bank (Bad reason) outcome session sound valid is = counted-sound h S bank sound (command-place h bank (Bad reason) session valid)
 
 limit_place : (n i j : ℕ) → i < n → j < n → i * n + j < n * n
 limit_place n i j i_in j_in = omega (arith, mul-le-mul_left n i_in)
@@ -198,10 +203,10 @@ limit_most h session i j i_in j_in =
 
 pub opening-sound : (h : Header) → IsSession h → IsSound h (opening h)
 opening-sound h session = record {
-  counts = length-replicate (bank_count h) 0;
+  counts = length-replicate (sender_places h) 0;
   kept = tt;
   rising = tt;
-  within = λ i j _ _ _. omega arith;
+  within = record { lines = λ i j _ _ _. omega arith };
   limits = λ i j i_in j_in _. limit_most h session i j i_in j_in;
 }
 
@@ -209,7 +214,7 @@ pub steps-sound : (h : Header) (S : State) (entries : List Entry) → IsSession 
 steps-sound h S [] session sound steps = sound
 steps-sound h S (e ∷ es) session sound steps =
     let step = steps.0 in
-    steps-sound h (after_entry S e) es session (after-sound h S e.bank e.command e.outcome session sound step.sender step.command step.outcome) steps.1
+    steps-sound h (after_entry S e) es session (after-sound h S e.bank e.command e.outcome session sound step.command step.outcome) steps.1
 
 pub legal-sound : (h : Header) (entries : List Entry) → IsLegal h entries → IsSound h (state h entries)
 legal-sound h entries legal = steps-sound h (opening h) entries legal.session (opening-sound h legal.session) legal.steps

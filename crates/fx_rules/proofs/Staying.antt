@@ -235,20 +235,20 @@ pull-stays S bank its_pair (Pulled count) pair differ =
 pull-stays S bank its_pair outcome pair differ = refl
 
 -- a step leaves the orders of each pair in which it may change nothing
-other_stays : (h : Header) (S : State) (bank : ℕ) (command : Command) (outcome : Outcome) (pair : ℕ) → IsSession h → IsSound h S → bank < bank_count h → IsCommand h bank command → IsOutcome h S bank command outcome → may_change pair command ≡ false → orders_in pair (changed S bank command outcome).orders ≡ orders_in pair S.orders
-other_stays h S bank (Order side its_pair price lots life) outcome pair session sound sender valid is other =
-    order-stays h S bank side its_pair price lots life outcome pair session sound sender valid.0 (eqb-false its_pair pair other) is
-other_stays h S bank (Cancel its_pair number) outcome pair session sound sender valid is other =
+other_stays : (h : Header) (S : State) (bank : ℕ) (command : Command) (outcome : Outcome) (pair : ℕ) → IsSession h → IsSound h S → IsCommand h bank command → IsOutcome h S bank command outcome → may_change pair command ≡ false → orders_in pair (changed S bank command outcome).orders ≡ orders_in pair S.orders
+other_stays h S bank (Order side its_pair price lots life) outcome pair session sound valid is other =
+    order-stays h S bank side its_pair price lots life outcome pair session sound valid.sends valid.values.0 (eqb-false its_pair pair other) is
+other_stays h S bank (Cancel its_pair number) outcome pair session sound valid is other =
     cancel-stays h S bank its_pair number outcome pair sound (eqb-false its_pair pair other) is
-other_stays h S bank (Reduce its_pair number lots) outcome pair session sound sender valid is other =
+other_stays h S bank (Reduce its_pair number lots) outcome pair session sound valid is other =
     reduce-stays h S bank its_pair number lots outcome pair sound (eqb-false its_pair pair other) is
-other_stays h S bank (Pull its_pair) outcome pair session sound sender valid is other =
+other_stays h S bank (Pull its_pair) outcome pair session sound valid is other =
     pull-stays S bank its_pair outcome pair (eqb-false its_pair pair other)
-other_stays h S bank (Line to asked) outcome pair session sound sender valid is other = cc
-other_stays h S bank (Show to) outcome pair session sound sender valid is other = refl
-other_stays h S bank (Book its_pair) outcome pair session sound sender valid is other = refl
-other_stays h S bank (Bad reason) outcome pair session sound sender valid is other = refl
+other_stays h S bank (Line to asked) outcome pair session sound valid is other = cc
+other_stays h S bank (Show to) outcome pair session sound valid is other = refl
+other_stays h S bank (Book its_pair) outcome pair session sound valid is other = refl
+other_stays h S bank (Bad reason) outcome pair session sound valid is other = refl
 
 pub other_pairs-stay : (h : Header) (S : State) (e : Entry) (pair : ℕ) → IsSession h → IsSound h S → IsStep h S e → may_change pair e.command ≡ false → orders_in pair (after_entry S e).orders ≡ orders_in pair S.orders
 other_pairs-stay h S e pair session sound step other =
-    other_stays h S e.bank e.command e.outcome pair session sound step.sender step.command step.outcome other
+    other_stays h S e.bank e.command e.outcome pair session sound step.command step.outcome other

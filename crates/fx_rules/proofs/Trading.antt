@@ -7,14 +7,14 @@ use Rattle.fx_rules.specs.Lists.{Each}
 use Rattle.fx_rules.specs.Session.{Header, IsSession}
 use Rattle.fx_rules.specs.State.{State, opening}
 use Rattle.fx_rules.specs.Sweep.{filled}
-use Rattle.fx_rules.specs.Step.{fills_of}
+use Rattle.fx_rules.specs.Step.{fills_of, with_limit_set}
 use Rattle.fx_rules.specs.History.{IsStep, Steps, IsLegal, after_entry, after_all, state}
 use Rattle.fx_rules.specs.Sound.{IsSound}
 use Rattle.fx_rules.specs.inside.Trade.{IsTrade}
 use Rattle.fx_rules.proofs.ListLemmas.{Each-append}
 use Rattle.fx_rules.proofs.Soundness.{after-sound, opening-sound}
 use Rattle.fx_rules.proofs.Falling.{changed-fills}
-use Rattle.fx_rules.proofs.Made.{IsMade, AreMade, limit_made, outcome-made}
+use Rattle.fx_rules.proofs.Made.{IsMade, AreMade, outcome-made}
 
 -- fills as they are made are trades
 trades-made : (h : Header) (S : State) (fills : List Fill) → AreMade h S fills → Each (IsTrade h) fills
@@ -38,7 +38,7 @@ Each-steps h P has S [] session sound steps = tt
 Each-steps h P has S (e ∷ es) session sound steps =
     let step : IsStep h S e = steps.0 in (
       has S e sound step,
-      Each-steps h P has (after_entry S e) es session (after-sound h S e.bank e.command e.outcome session sound step.sender step.command step.outcome) steps.1,
+      Each-steps h P has (after_entry S e) es session (after-sound h S e.bank e.command e.outcome session sound step.command step.outcome) steps.1,
     )
 
 pub Each-legal : (h : Header) (P : Entry → Type 0) → ((S : State) (e : Entry) → IsSound h S → IsStep h S e → P e) → (entries : List Entry) → IsLegal h entries → Each P entries
@@ -46,8 +46,8 @@ Each-legal h P has entries legal = Each-steps h P has (opening h) entries legal.
 
 pub step-trades : (h : Header) (S : State) (e : Entry) → IsSession h → IsSound h S → IsStep h S e → Each (IsTrade h) (fills_of e.outcome)
 step-trades h S e session sound step =
-    trades-made h (limit_made S e.bank e.command e.outcome) (fills_of e.outcome)
-    (outcome-made h S e.bank e.command e.outcome session sound step.sender step.command step.outcome)
+    trades-made h (with_limit_set S e.bank e.command e.outcome) (fills_of e.outcome)
+    (outcome-made h S e.bank e.command e.outcome session sound step.command step.outcome)
 
 -- the fills after a step are those before and the outcome's
 pub step-fills : (h : Header) (S : State) (e : Entry) → IsStep h S e → (after_entry S e).fills ≡ S.fills ++ fills_of e.outcome
@@ -57,7 +57,7 @@ steps-trades : (h : Header) (S : State) (entries : List Entry) → IsSession h �
 steps-trades h S [] session sound steps so_far = so_far
 steps-trades h S (e ∷ entries) session sound steps so_far =
     let step : IsStep h S e = steps.0 in
-    steps-trades h (after_entry S e) entries session (after-sound h S e.bank e.command e.outcome session sound step.sender step.command step.outcome) steps.1
+    steps-trades h (after_entry S e) entries session (after-sound h S e.bank e.command e.outcome session sound step.command step.outcome) steps.1
     (subst (Each (IsTrade h)) (sym (step-fills h S e step)) (Each-append (IsTrade h) S.fills (fills_of e.outcome) so_far (step-trades h S e session sound step)))
 
 -- each fill of a legal history's state is a trade

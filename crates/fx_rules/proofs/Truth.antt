@@ -228,15 +228,15 @@ nothing_left : (n : ℕ) → 0 ≡ n - n
 nothing_left n = omega arith
 
 -- an order for the levels of takable fills is filled whole
-truthful-of : (h : Header) (S : State) (bank pair : ℕ) (side : Side) (xs : List Fill) → pair < pair_count h → (levels_of xs ≢ [] → IsTakable h S bank pair side xs) → IsTruthful h S bank pair side (levels_of xs)
-truthful-of h S bank pair side xs pair_in takes some most =
+truthful-of : (h : Header) (S : State) (bank pair : ℕ) (side : Side) (xs : List Fill) → bank < bank_count h → pair < pair_count h → (levels_of xs ≢ [] → IsTakable h S bank pair side xs) → IsTruthful h S bank pair side (levels_of xs)
+truthful-of h S bank pair side xs sender pair_in takes some most =
     let takable_is = takes some in
     let lots : lots_of xs ≡ lots_shown (levels_of xs) = sym (shown-lots xs) in
     let shown : ℕ = lots_shown (levels_of xs) in
     let price : ℕ = last_price (levels_of xs) in
     let swept : Swept h S (taker_of S bank side pair price shown) xs 0 =
     subst (λ n. Swept h S (taker_of S bank side pair price n) xs 0) lots takable_is.swept in (
-      (pair_in, takable_is.price, (omega (arith, takable_is.lots, lots), most)),
+      record { sends = sender; values = (pair_in, takable_is.price, (omega (arith, takable_is.lots, lots), most)) },
       (
         xs,
         (subst (λ n. Swept h S (taker_of S bank side pair price shown) xs n) (nothing_left shown) swept, omega arith, refl),
@@ -250,7 +250,7 @@ shows-truthful h S bank pair side levels session sound sender pair_in shows =
     let prefix : IsPrefix fills (take 10 (levels_of fills)) = first_levels 10 fills in
     let is : levels_of prefix.first ≡ levels = prefix.made ∙ sym shows.3 in
     subst (IsTruthful h S bank pair side) is
-    (truthful-of h S bank pair side prefix.first pair_in (λ some.
+    (truthful-of h S bank pair side prefix.first sender pair_in (λ some.
     takable h S bank pair side prefix.first prefix.rest shows.1 sound sender (weight_of-least h pair session pair_in)
     (λ none. some (ap levels_of none))
     (subst (λ (fs : List Fill). Swept h S (unlimited S bank pair side) fs shows.1) prefix.parts shows.2)))

@@ -16,7 +16,7 @@ use Rattle.fx_rules.specs.declared.outcome.Outcome.{Outcome}
 use Rattle.fx_rules.specs.declared.outcome.Outcome.TheVariants.{Ordered, Killed, Cancelled, Reduced, Pulled, LineSet}
 use Rattle.fx_rules.specs.declared.outcome.Entry.{Entry}
 use Rattle.fx_rules.specs.Lists.{Among}
-use Rattle.fx_rules.specs.Session.{Header, IsSession, bank_count, weight_of}
+use Rattle.fx_rules.specs.Session.{Header, IsSession, weight_of}
 use Rattle.fx_rules.specs.State.{State, opening, reach, orders_in}
 use Rattle.fx_rules.specs.Sweep.{Taker, Swept, filled_all, is_order, is_opposite, open_orders, with_left}
 use Rattle.fx_rules.specs.Raise.{limited}
@@ -148,15 +148,15 @@ uncrossed-swept h S t fills left rests session sound next swept is_left uncrosse
     ])
     (uncrossed-follows h S later session sound (filled_all-follows h S fills) uncrossed)
 
-uncrossed-ordered : (h : Header) (S : State) (bank : ℕ) (side : Side) (pair price lots : ℕ) (life : Life) (outcome : Outcome) → IsSession h → IsSound h S → bank < bank_count h → IsCommand h bank (Order side pair price lots life) → IsOrdered h S (taker_of S bank side pair price lots) life outcome → NoCross h S → NoCross h (after S bank (Order side pair price lots life) outcome)
-uncrossed-ordered h S bank side pair price lots Day (Ordered done rests fills) session sound sender command ordered uncrossed =
-    uncrossed-swept h S (taker_of S bank side pair price lots) fills rests rests session sound (taker_of-next h S bank side pair price lots Day sender command) ordered.0 (λ _. refl) uncrossed
-uncrossed-ordered h S bank side pair price lots Ioc (Ordered done rests fills) session sound sender command ordered uncrossed =
-    uncrossed-swept h S (taker_of S bank side pair price lots) fills (lots - done) rests session sound (taker_of-next h S bank side pair price lots Ioc sender command) ordered.0 (λ some. absurd (omega (arith, some, ordered.2))) uncrossed
-uncrossed-ordered h S bank side pair price lots Fok (Ordered done rests fills) session sound sender command ordered uncrossed =
-    uncrossed-swept h S (taker_of S bank side pair price lots) fills 0 rests session sound (taker_of-next h S bank side pair price lots Fok sender command) ordered.0 (λ some. absurd (omega (arith, some, ordered.2))) uncrossed
-uncrossed-ordered h S bank side pair price lots Fok Killed session sound sender command ordered uncrossed = uncrossed
-uncrossed-ordered h S bank side pair price lots life outcome session sound sender command ordered uncrossed = absurd ordered
+uncrossed-ordered : (h : Header) (S : State) (bank : ℕ) (side : Side) (pair price lots : ℕ) (life : Life) (outcome : Outcome) → IsSession h → IsSound h S → IsCommand h bank (Order side pair price lots life) → IsOrdered h S (taker_of S bank side pair price lots) life outcome → NoCross h S → NoCross h (after S bank (Order side pair price lots life) outcome)
+uncrossed-ordered h S bank side pair price lots Day (Ordered done rests fills) session sound command ordered uncrossed =
+    uncrossed-swept h S (taker_of S bank side pair price lots) fills rests rests session sound (taker_of-next h S bank side pair price lots Day session command) ordered.0 (λ _. refl) uncrossed
+uncrossed-ordered h S bank side pair price lots Ioc (Ordered done rests fills) session sound command ordered uncrossed =
+    uncrossed-swept h S (taker_of S bank side pair price lots) fills (lots - done) rests session sound (taker_of-next h S bank side pair price lots Ioc session command) ordered.0 (λ some. absurd (omega (arith, some, ordered.2))) uncrossed
+uncrossed-ordered h S bank side pair price lots Fok (Ordered done rests fills) session sound command ordered uncrossed =
+    uncrossed-swept h S (taker_of S bank side pair price lots) fills 0 rests session sound (taker_of-next h S bank side pair price lots Fok session command) ordered.0 (λ some. absurd (omega (arith, some, ordered.2))) uncrossed
+uncrossed-ordered h S bank side pair price lots Fok Killed session sound command ordered uncrossed = uncrossed
+uncrossed-ordered h S bank side pair price lots life outcome session sound command ordered uncrossed = absurd ordered
 
 uncrossed-cancel : (h : Header) (S : State) (bank pair number : ℕ) (outcome : Outcome) → IsSession h → IsSound h S → NoCross h S → NoCross h (changed S bank (Cancel pair number) outcome)
 uncrossed-cancel h S bank pair number (Cancelled left) session sound uncrossed =
@@ -175,29 +175,29 @@ uncrossed-pull h S bank pair (Pulled count) session sound uncrossed =
     uncrossed-follows h S (record S { orders = filter stays S.orders }) session sound (fewer-follows h S stays) uncrossed
 uncrossed-pull h S bank pair outcome session sound uncrossed = uncrossed
 
-uncrossed-line : (h : Header) (S : State) (bank other asked : ℕ) (outcome : Outcome) → IsSession h → IsSound h S → bank < bank_count h → IsCommand h bank (Line other asked) → IsOutcome h S bank (Line other asked) outcome → NoCross h (changed S bank (Line other asked) outcome)
-uncrossed-line h S bank other asked (LineSet limit fills) session sound sender command is =
+uncrossed-line : (h : Header) (S : State) (bank other asked : ℕ) (outcome : Outcome) → IsSession h → IsSound h S → IsCommand h bank (Line other asked) → IsOutcome h S bank (Line other asked) outcome → NoCross h (changed S bank (Line other asked) outcome)
+uncrossed-line h S bank other asked (LineSet limit fills) session sound command is =
     let T : State = limited bank other limit S in
-    let set_sound : IsSound h T = limited-sound h S bank other asked limit sound sender command.0 command.1 command.2 is.0 in
+    let set_sound : IsSound h T = limited-sound h S bank other asked limit sound command.sends command.values.0 command.values.1 command.values.2 is.0 in
     raised-uncrossed h T fills session set_sound (raised-sound h T fills session set_sound is.1) is.1
-uncrossed-line h S bank other asked outcome session sound sender command is = absurd is
+uncrossed-line h S bank other asked outcome session sound command is = absurd is
 
-uncrossed-after : (h : Header) (S : State) (bank : ℕ) (command : Command) (outcome : Outcome) → IsSession h → IsSound h S → bank < bank_count h → IsCommand h bank command → IsOutcome h S bank command outcome → NoCross h S → NoCross h (after S bank command outcome)
-uncrossed-after h S bank (Order side pair price lots life) outcome session sound sender valid is uncrossed = uncrossed-ordered h S bank side pair price lots life outcome session sound sender valid is uncrossed
-uncrossed-after h S bank (Cancel pair number) outcome session sound sender valid is uncrossed = uncrossed-cancel h S bank pair number outcome session sound uncrossed
-uncrossed-after h S bank (Reduce pair number lots) outcome session sound sender valid is uncrossed = uncrossed-reduce h S bank pair number lots outcome session sound uncrossed
-uncrossed-after h S bank (Pull pair) outcome session sound sender valid is uncrossed = uncrossed-pull h S bank pair outcome session sound uncrossed
-uncrossed-after h S bank (Line other asked) outcome session sound sender valid is uncrossed = uncrossed-line h S bank other asked outcome session sound sender valid is
-uncrossed-after h S bank (Show other) outcome session sound sender valid is uncrossed = uncrossed
-uncrossed-after h S bank (Book pair) outcome session sound sender valid is uncrossed = uncrossed
-uncrossed-after h S bank (Bad reason) outcome session sound sender valid is uncrossed = uncrossed
+uncrossed-after : (h : Header) (S : State) (bank : ℕ) (command : Command) (outcome : Outcome) → IsSession h → IsSound h S → IsCommand h bank command → IsOutcome h S bank command outcome → NoCross h S → NoCross h (after S bank command outcome)
+uncrossed-after h S bank (Order side pair price lots life) outcome session sound valid is uncrossed = uncrossed-ordered h S bank side pair price lots life outcome session sound valid is uncrossed
+uncrossed-after h S bank (Cancel pair number) outcome session sound valid is uncrossed = uncrossed-cancel h S bank pair number outcome session sound uncrossed
+uncrossed-after h S bank (Reduce pair number lots) outcome session sound valid is uncrossed = uncrossed-reduce h S bank pair number lots outcome session sound uncrossed
+uncrossed-after h S bank (Pull pair) outcome session sound valid is uncrossed = uncrossed-pull h S bank pair outcome session sound uncrossed
+uncrossed-after h S bank (Line other asked) outcome session sound valid is uncrossed = uncrossed-line h S bank other asked outcome session sound valid is
+uncrossed-after h S bank (Show other) outcome session sound valid is uncrossed = uncrossed
+uncrossed-after h S bank (Book pair) outcome session sound valid is uncrossed = uncrossed
+uncrossed-after h S bank (Bad reason) outcome session sound valid is uncrossed = uncrossed
 
 uncrossed-steps : (h : Header) (S : State) (entries : List Entry) → IsSession h → IsSound h S → NoCross h S → Steps h S entries → NoCross h (after_all S entries)
 uncrossed-steps h S [] session sound uncrossed steps = uncrossed
 uncrossed-steps h S (e ∷ es) session sound uncrossed steps =
     let step = steps.0 in
-    uncrossed-steps h (after_entry S e) es session (after-sound h S e.bank e.command e.outcome session sound step.sender step.command step.outcome)
-    (uncrossed-after h S e.bank e.command e.outcome session sound step.sender step.command step.outcome uncrossed) steps.1
+    uncrossed-steps h (after_entry S e) es session (after-sound h S e.bank e.command e.outcome session sound step.command step.outcome)
+    (uncrossed-after h S e.bank e.command e.outcome session sound step.command step.outcome uncrossed) steps.1
 
 pub legal-uncrossed : (h : Header) (entries : List Entry) → IsLegal h entries → NoCross h (state h entries)
 legal-uncrossed h entries legal =

@@ -208,21 +208,21 @@ line-told h S T b k asked one other same within differ a c = absurd a
 
 -- ---- all commands
 
-pub views-told : (h : Header) (S T : State) (b : ℕ) (command : Command) (one other : Outcome) → IsSession h → IsSound h S → IsSound h T → b < bank_count h → IsCommand h b command → view h S b ≡ view h T b → IsOutcome h S b command one → IsOutcome h T b command other → told one ≡ told other
-views-told h S T b (Order side pair price lots life) one other session sound sound_other sender valid same a c =
-    order-told h S T b side pair price lots life one other session sound sound_other sender valid.0 same a c
-views-told h S T b (Cancel pair number) one other session sound sound_other sender valid same a c =
-    ap told a ∙ cancel_by_left (order_of S pair b number) ∙ ap cancel_left (own-left h S T b pair number sound sound_other valid.0 same)
+pub views-told : (h : Header) (S T : State) (b : ℕ) (command : Command) (one other : Outcome) → IsSession h → IsSound h S → IsSound h T → IsCommand h b command → view h S b ≡ view h T b → IsOutcome h S b command one → IsOutcome h T b command other → told one ≡ told other
+views-told h S T b (Order side pair price lots life) one other session sound sound_other valid same a c =
+    order-told h S T b side pair price lots life one other session sound sound_other valid.sends valid.values.0 same a c
+views-told h S T b (Cancel pair number) one other session sound sound_other valid same a c =
+    ap told a ∙ cancel_by_left (order_of S pair b number) ∙ ap cancel_left (own-left h S T b pair number sound sound_other valid.values.0 same)
     ∙ sym (cancel_by_left (order_of T pair b number)) ∙ sym (ap told c)
-views-told h S T b (Reduce pair number lots) one other session sound sound_other sender valid same a c =
-    ap told a ∙ reduce_by_left lots (order_of S pair b number) ∙ ap (reduce_left lots) (own-left h S T b pair number sound sound_other valid.0 same)
+views-told h S T b (Reduce pair number lots) one other session sound sound_other valid same a c =
+    ap told a ∙ reduce_by_left lots (order_of S pair b number) ∙ ap (reduce_left lots) (own-left h S T b pair number sound sound_other valid.values.0 same)
     ∙ sym (reduce_by_left lots (order_of T pair b number)) ∙ sym (ap told c)
-views-told h S T b (Pull pair) one other session sound sound_other sender valid same a c =
-    ap told a ∙ ap Pulled (pulled-same h S T b pair sound sound_other valid same) ∙ sym (ap told c)
-views-told h S T b (Line k asked) one other session sound sound_other sender valid same a c =
-    line-told h S T b k asked one other same valid.0 valid.1 a c
-views-told h S T b (Show k) one other session sound sound_other sender valid same a c =
-    ap told a ∙ ap (λ (s : CreditSeen). Shown s.limit s.used s.line) (credit_same h S T b k same valid.0 valid.1) ∙ sym (ap told c)
-views-told h S T b (Book pair) one other session sound sound_other sender valid same a c =
-    book-told h S T b pair one other session sound sound_other sender valid same a c
-views-told h S T b (Bad reason) one other session sound sound_other sender valid same a c = ap told (a ∙ sym c)
+views-told h S T b (Pull pair) one other session sound sound_other valid same a c =
+    ap told a ∙ ap Pulled (pulled-same h S T b pair sound sound_other valid.values same) ∙ sym (ap told c)
+views-told h S T b (Line k asked) one other session sound sound_other valid same a c =
+    line-told h S T b k asked one other same valid.values.0 valid.values.1 a c
+views-told h S T b (Show k) one other session sound sound_other valid same a c =
+    ap told a ∙ ap (λ (s : CreditSeen). Shown s.limit s.used s.line) (credit_same h S T b k same valid.values.0 valid.values.1) ∙ sym (ap told c)
+views-told h S T b (Book pair) one other session sound sound_other valid same a c =
+    book-told h S T b pair one other session sound sound_other valid.sends valid.values same a c
+views-told h S T b (Bad reason) one other session sound sound_other valid same a c = ap told (a ∙ sym c)

@@ -7,7 +7,7 @@ use Rattle.fx_rules.specs.declared.orders.Fill.{Fill}
 use Rattle.fx_rules.specs.declared.command.Command.TheVariants.{Line}
 use Rattle.fx_rules.specs.declared.outcome.Outcome.TheVariants.{LineSet}
 use Rattle.fx_rules.specs.Lists.{Among, Each}
-use Rattle.fx_rules.specs.Session.{Header, IsSession, bank_count, pair_count}
+use Rattle.fx_rules.specs.Session.{Header, IsSession, pair_count}
 use Rattle.fx_rules.specs.State.{State, orders_in, reach}
 use Rattle.fx_rules.specs.Sweep.{Taker, Swept, is_order, open_orders, filled_all}
 use Rattle.fx_rules.specs.Raise.{limited, order_of, taker_of_resting, Turned, PairsTurned, Raised}
@@ -227,9 +227,9 @@ raises-alike h S T b k limit fs gs session sound sound_other uncrossed uncrossed
     (pair_count h) 0 L M fs gs (omega arith) (views-alike h L M b sound sound_other same) one two in
     fills-seen b fs gs turns.fills
 
-pub views-fill : (h : Header) (S T : State) (b k asked limit : ℕ) (fs gs : List Fill) → IsSession h → IsSound h S → IsSound h T → NoCross h S → NoCross h T → b < bank_count h → IsCommand h b (Line k asked) → view h (limited b k limit S) b ≡ view h (limited b k limit T) b → IsOutcome h S b (Line k asked) (LineSet limit fs) → IsOutcome h T b (Line k asked) (LineSet limit gs) → map (fill_seen b) fs ≡ map (fill_seen b) gs
-views-fill h S T b k asked limit fs gs session sound sound_other uncrossed uncrossed_other sender valid same one two =
+pub views-fill : (h : Header) (S T : State) (b k asked limit : ℕ) (fs gs : List Fill) → IsSession h → IsSound h S → IsSound h T → NoCross h S → NoCross h T → IsCommand h b (Line k asked) → view h (limited b k limit S) b ≡ view h (limited b k limit T) b → IsOutcome h S b (Line k asked) (LineSet limit fs) → IsOutcome h T b (Line k asked) (LineSet limit gs) → map (fill_seen b) fs ≡ map (fill_seen b) gs
+views-fill h S T b k asked limit fs gs session sound sound_other uncrossed uncrossed_other valid same one two =
     raises-alike h S T b k limit fs gs session
-    (limited-sound h S b k asked limit sound sender valid.0 valid.1 valid.2 one.0)
-    (limited-sound h T b k asked limit sound_other sender valid.0 valid.1 valid.2 two.0)
+    (limited-sound h S b k asked limit sound valid.sends valid.values.0 valid.values.1 valid.values.2 one.0)
+    (limited-sound h T b k asked limit sound_other valid.sends valid.values.0 valid.values.1 valid.values.2 two.0)
     uncrossed uncrossed_other same one.1 two.1

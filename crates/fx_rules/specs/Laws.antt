@@ -27,11 +27,11 @@ SweepsAgree =
     IsSession h → IsSound h S → t.bank < bank_count h → t.pair < pair_count h →
     Swept h S t fills left → Swept h S t others rest → (fills ≡ others) × (left ≡ rest)
 
--- Two outcomes of one command of a bank in one state are the same.
+-- Two outcomes of one sender's command in one state are the same.
 abbrev pub OutcomesAgree : Type 0
 OutcomesAgree =
     (h : Header) (S : State) (bank : ℕ) (command : Command) (one other : Outcome) →
-    IsSession h → IsSound h S → bank < bank_count h → IsCommand h bank command →
+    IsSession h → IsSound h S → IsCommand h bank command →
     IsOutcome h S bank command one → IsOutcome h S bank command other → one ≡ other
 
 -- Two legal histories that went the same way so far and go on by the same command of the same bank go on by the same
@@ -56,7 +56,8 @@ LegalGoesOn =
 abbrev pub LegalIsUncrossed : Type 0
 LegalIsUncrossed = (h : Header) (entries : List Entry) → IsLegal h entries → NoCross h (state h entries)
 
--- A step of a sound state lets what the limits of two banks leave fall by their fills, from the limits behind it.
+-- A step of a sound state lets what the limits of two banks leave fall by the cost of its fills between them, and by nothing
+-- else, from the state in which the fills are made.
 abbrev pub LinesFall : Type 0
 LinesFall = (h : Header) (S : State) (e : Entry) → IsSession h → IsSound h S → IsStep h S e → Falls h S e
 
@@ -94,7 +95,7 @@ FullBooksStay =
 abbrev pub ViewsTellAll : Type 0
 ViewsTellAll =
     (h : Header) (S T : State) (bank : ℕ) (command : Command) (one other : Outcome) → IsSession h → IsSound h S → IsSound h T →
-    bank < bank_count h → IsCommand h bank command → view h S bank ≡ view h T bank →
+    IsCommand h bank command → view h S bank ≡ view h T bank →
     IsOutcome h S bank command one → IsOutcome h T bank command other → told one ≡ told other
 
 -- Two sound states that a bank sees alike have the same local books of it.
@@ -109,7 +110,7 @@ ViewsShowAll =
 abbrev pub ViewsFillAll : Type 0
 ViewsFillAll =
     (h : Header) (S T : State) (bank other asked limit : ℕ) (fills others : List Fill) → IsSession h → IsSound h S → IsSound h T →
-    NoCross h S → NoCross h T → bank < bank_count h → IsCommand h bank (Line other asked) →
+    NoCross h S → NoCross h T → IsCommand h bank (Line other asked) →
     view h (limited bank other limit S) bank ≡ view h (limited bank other limit T) bank →
     IsOutcome h S bank (Line other asked) (LineSet limit fills) → IsOutcome h T bank (Line other asked) (LineSet limit others) →
     map (fill_seen bank) fills ≡ map (fill_seen bank) others

@@ -5,7 +5,7 @@ use Rattle.fx_rules.specs.declared.command.Command.{Command}
 use Rattle.fx_rules.specs.declared.outcome.Outcome.{Outcome}
 use Rattle.fx_rules.specs.declared.outcome.Outcome.TheVariants.{Depth}
 use Rattle.fx_rules.specs.declared.outcome.Entry.{Entry}
-use Rattle.fx_rules.specs.Session.{Header, bank_count, pair_count, sender_count}
+use Rattle.fx_rules.specs.Session.{Header, bank_count, pair_count}
 use Rattle.fx_rules.specs.State.{State, count_of}
 use Rattle.fx_rules.specs.Depth.{IsDepth}
 use Rattle.fx_rules.specs.Step.{IsCommand}
@@ -21,7 +21,6 @@ InEach stands holds = (h : Header) (H : List Entry) → IsLegal h H → stands h
 
 -- a sender of the session may send the command as its next one, whose number fits
 pub record MaySend (bank : ℕ) (command : Command) (h : Header) (S : State) : Type 0 where
-  pub sender : bank < sender_count h
   pub allowed : IsCommand h bank command
   pub number : count_of S bank + 1 < 2 ^ 32
 

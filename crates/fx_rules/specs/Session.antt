@@ -2,6 +2,7 @@
 -- Banks and pairs are named by their places, from 0. A name or a code is its text, a list of bytes.
 use Rattle.std.specs.Prelude.{ℕ, ◌≡◌, ◌≢◌, ◌≤◌, ◌+◌, ◌*◌, ◌^◌, ◌%◌, ◌<◌, ◌++◌, ◌∷◌, Option, List, [], length, map, position, bytes_eq, IsTrue, All, AllPairs, slice_index, slice_index_or}
 use Rattle.std.specs.Str.{byte}
+use Rattle.fx_rules.specs.Lists.{below}
 use Rattle.fx_rules.specs.Names.{is_name, is_code}
 use Rattle.fx_rules.specs.declared.session.PairRule.{PairRule}
 
@@ -34,9 +35,17 @@ bank_count h = length h.banks
 abbrev pub pair_count : Header → ℕ
 pair_count h = length h.pairs
 
--- how many send commands, each with a stream and a count of its own: the banks, in header order
-abbrev pub sender_count : Header → ℕ
-sender_count h = bank_count h
+-- who sends commands, in the order of their desks: the banks, in header order
+abbrev pub senders : Header → List ℕ
+senders h = below (bank_count h)
+
+-- one of them; each has a number, a stream and a count of its own
+abbrev pub IsSender : Header → ℕ → Type 0
+IsSender h sender = sender < bank_count h
+
+-- how many places a list has that a sender's number indexes
+abbrev pub sender_places : Header → ℕ
+sender_places h = bank_count h
 
 -- the limit that bank i opens with on bank j
 abbrev pub opening_limit : Header → ℕ → ℕ → ℕ
@@ -58,8 +67,8 @@ abbrev pub bank_name : Header → ℕ → List ℕ
 bank_name h bank = slice_index_or h.banks bank []
 
 -- the bank of that name
-abbrev pub bank_of : Header → List ℕ → Option ℕ
-bank_of h text = position (λ name. bytes_eq name text) h.banks
+abbrev pub bank_named : Header → List ℕ → Option ℕ
+bank_named h text = position (λ name. bytes_eq name text) h.banks
 
 -- how a pair is written: BASE/QUOTE
 abbrev pub pair_text : PairRule → List ℕ
@@ -69,8 +78,8 @@ abbrev pub pair_name : Header → ℕ → List ℕ
 pair_name h pair = slice_index_or (map pair_text h.pairs) pair []
 
 -- the pair that is written so
-abbrev pub pair_of : Header → List ℕ → Option ℕ
-pair_of h text = position (λ rule. bytes_eq (pair_text rule) text) h.pairs
+abbrev pub pair_named : Header → List ℕ → Option ℕ
+pair_named h text = position (λ rule. bytes_eq (pair_text rule) text) h.pairs
 
 -- a valid session: 2 to 64 banks of different names, 1 to 32 pairs, no two the same, and a limit of 0 to 10^15 that
 -- each bank sets on each bank, 0 on itself

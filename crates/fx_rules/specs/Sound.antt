@@ -5,7 +5,7 @@ use Rattle.fx_amounts.specs.Quantity.{IsLots, IsUnits}
 use Rattle.fx_rules.specs.declared.orders.ActiveOrder.{ActiveOrder}
 use Rattle.fx_rules.specs.declared.orders.Resting.{Resting}
 use Rattle.fx_rules.specs.Lists.{Each, EachPair, total}
-use Rattle.fx_rules.specs.Session.{Header, bank_count, pair_count, sender_count}
+use Rattle.fx_rules.specs.Session.{Header, bank_count, pair_count, sender_places}
 use Rattle.fx_rules.specs.State.{State, Within}
 
 -- an order of the state's banks and pairs, of a command that was sent
@@ -28,7 +28,7 @@ abbrev pub Rises : ActiveOrder → ActiveOrder → Type 0
 Rises first second = ArrivesBefore first.order second.order
 
 pub record IsSound (h : Header) (S : State) : Type 0 where
-  pub counts : length S.counts ≡ sender_count h
+  pub counts : length S.counts ≡ sender_places h
   pub kept : Each (IsKept h S.counts) S.orders
   pub rising : EachPair Rises S.orders
   pub within : Within h S

@@ -4,10 +4,10 @@ use Rattle.fx_rules.specs.declared.orders.ActiveOrder.{ActiveOrder}
 use Rattle.fx_rules.specs.declared.orders.Resting.{Resting}
 use Rattle.fx_rules.specs.declared.orders.Fill.{Fill}
 use Rattle.fx_rules.specs.Lists.{total}
-use Rattle.fx_rules.specs.Session.{Header, bank_count, sender_count, opening_limit, weight_of}
+use Rattle.fx_rules.specs.Session.{Header, bank_count, sender_places, opening_limit, weight_of}
 
 -- the orders that rest, in arrival order; the limit that the first bank sets on the second; all fills so far, in order;
--- the number of commands that each sender has sent
+-- the number of commands that each sender has sent, at its number
 pub record State : Type 0 where
   pub orders : List ActiveOrder
   pub limits : ℕ → ℕ → ℕ
@@ -16,7 +16,7 @@ pub record State : Type 0 where
 
 -- the state in which the day opens
 abbrev pub opening : Header → State
-opening h = record { orders = []; limits = opening_limit h; fills = []; counts = replicate (sender_count h) 0 }
+opening h = record { orders = []; limits = opening_limit h; fills = []; counts = replicate (sender_places h) 0 }
 
 -- the orders that rest in a pair, in arrival order
 abbrev pub orders_in : ℕ → List ActiveOrder → List Resting
@@ -59,5 +59,5 @@ abbrev pub reach : Header → State → ℕ → ℕ → ℕ → ℕ
 reach h S i j pair = line h S i j / weight_of h pair
 
 -- no line is exceeded: what two banks have used is at most the limit that each sets on the other
-abbrev pub Within : Header → State → Type 0
-Within h S = (i j : ℕ) → i < bank_count h → j < bank_count h → i ≢ j → used h S i j ≤ S.limits i j
+pub record Within (h : Header) (S : State) : Type 0 where
+  pub lines : (i j : ℕ) → i < bank_count h → j < bank_count h → i ≢ j → used h S i j ≤ S.limits i j

@@ -10,7 +10,7 @@ use Rattle.fx_rules.specs.declared.command.Life.{Life}
 use Rattle.fx_rules.specs.declared.command.Life.TheVariants.{Day, Ioc, Fok}
 use Rattle.fx_rules.specs.declared.outcome.Outcome.{Outcome}
 use Rattle.fx_rules.specs.declared.outcome.Outcome.TheVariants.{Ordered, Killed, Cancelled, Reduced, NotLess, Nothing, Pulled, LineSet, Shown, Depth, Rejected}
-use Rattle.fx_rules.specs.Session.{Header, bank_count, pair_count}
+use Rattle.fx_rules.specs.Session.{Header, IsSender, bank_count, pair_count}
 use Rattle.fx_rules.specs.declared.orders.ActiveOrder.{ActiveOrder}
 use Rattle.fx_rules.specs.declared.orders.Resting.{Resting}
 use Rattle.fx_rules.specs.State.{State, orders_in, count_of, arrivals, used, line}
@@ -22,17 +22,27 @@ use Rattle.fx_rules.specs.Depth.{IsDepth}
 abbrev pub IsNumber : ℕ → Type 0
 IsNumber number = (1 ≤ number) × (number < 2 ^ 32)
 
--- a command that a bank of the session may send: its pair and its other bank are the session's, the other bank is not the
--- sender, and its values are in their ranges
-abbrev pub IsCommand : Header → ℕ → Command → Type 0
-IsCommand h bank (Order side pair price lots life) = (pair < pair_count h) × IsPrice price × IsLots lots
-IsCommand h bank (Cancel pair number) = (pair < pair_count h) × IsNumber number
-IsCommand h bank (Reduce pair number lots) = (pair < pair_count h) × IsNumber number × IsLots lots
-IsCommand h bank (Pull pair) = pair < pair_count h
-IsCommand h bank (Line other limit) = (other < bank_count h) × (other ≢ bank) × IsUnits limit
-IsCommand h bank (Show other) = (other < bank_count h) × (other ≢ bank)
-IsCommand h bank (Book pair) = pair < pair_count h
-IsCommand h bank (Bad reason) = Unit {0}
+-- who may send a command: a bank of the session; what could not be read may be any sender's
+abbrev pub Suits : Header → ℕ → Command → Type 0
+Suits h sender (Bad reason) = IsSender h sender
+Suits h sender _ = sender < bank_count h
+
+-- what a command names and tells: its pair and its other bank are the session's, the other bank is not its sender, and its
+-- values are in their ranges
+abbrev pub AreValues : Header → ℕ → Command → Type 0
+AreValues h sender (Order side pair price lots life) = (pair < pair_count h) × IsPrice price × IsLots lots
+AreValues h sender (Cancel pair number) = (pair < pair_count h) × IsNumber number
+AreValues h sender (Reduce pair number lots) = (pair < pair_count h) × IsNumber number × IsLots lots
+AreValues h sender (Pull pair) = pair < pair_count h
+AreValues h sender (Line other limit) = (other < bank_count h) × (other ≢ sender) × IsUnits limit
+AreValues h sender (Show other) = (other < bank_count h) × (other ≢ sender)
+AreValues h sender (Book pair) = pair < pair_count h
+AreValues h sender (Bad reason) = Unit {0}
+
+-- a command that a sender of the session may send
+pub record IsCommand (h : Header) (sender : ℕ) (command : Command) : Type 0 where
+  pub sends : Suits h sender command
+  pub values : AreValues h sender command
 
 -- an order command as it is swept: its number is the sender's next, and it arrives after all commands so far
 abbrev pub taker_of : State → ℕ → Side → ℕ → ℕ → ℕ → Taker
@@ -101,6 +111,11 @@ reduced bank number left orders = map (λ active. if is_order bank number active
 -- the orders without a bank's orders of a pair
 abbrev pub without_orders : ℕ → ℕ → List ActiveOrder → List ActiveOrder
 without_orders pair bank orders = filter (λ active. not (active.pair == pair && active.order.bank == bank)) orders
+
+-- the state with the limit that a credit change's outcome tells; by all else as it was
+abbrev pub with_limit_set : State → ℕ → Command → Outcome → State
+with_limit_set S bank (Line other asked) (LineSet limit fills) = limited bank other limit S
+with_limit_set S _ _ _ = S
 
 -- the state after a command's outcome, but for the sender's count
 abbrev pub changed : State → ℕ → Command → Outcome → State

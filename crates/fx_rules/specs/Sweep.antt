@@ -1,5 +1,7 @@
 -- The sweep of a taker: which resting orders it can trade with, which of them it takes, and for how much.
-use Rattle.std.specs.Prelude.{ℕ, ◌≡◌, ◌≤◌, ◌-◌, min, Bool, true, false, not, ◌&&◌, ◌||◌, ◌==◌, nat_le, nat_lt, if◌then◌else◌, List, [], ◌∷◌, ◌++◌, filter, ◌⊎◌}
+use Rattle.std.specs.Prelude.{ℕ, ◌≡◌, ◌≤◌, ◌-◌, min, Bool, true, false, not, ◌&&◌, ◌==◌, nat_le, nat_lt, if◌then◌else◌, List, [], ◌∷◌, ◌++◌, filter, ◌⊎◌}
+pub use Rattle.fx_amounts.specs.Preference.{is_better}
+use Rattle.fx_amounts.specs.Preference.{comes_first}
 use Rattle.fx_amounts.specs.Price.{crosses}
 use Rattle.fx_amounts.specs.declared.side.Side.{Side}
 use Rattle.fx_amounts.specs.declared.side.Side.TheVariants.{Buy, Sell}
@@ -35,15 +37,9 @@ open_in reaches t book = filter (λ order. is_open t (reaches order.bank) order)
 abbrev pub open_orders : Header → State → Taker → List Resting
 open_orders h S t = open_in (λ bank. reach h S t.bank bank t.pair) t (orders_in t.pair S.orders)
 
--- the first price is better than the second for a taker of this side
-abbrev pub is_better : Side → ℕ → ℕ → Bool
-is_better Buy price other = nat_lt price other
-is_better Sell price other = nat_lt other price
-
 -- a taker of this side prefers the first order: its price is better, or it is the same and the order arrived earlier
 abbrev pub is_preferred : Side → Resting → Resting → Bool
-is_preferred side order other =
-    is_better side order.price other.price || (order.price == other.price && nat_lt order.arrival other.arrival)
+is_preferred side order other = comes_first side order.price order.arrival other.price other.arrival
 
 -- the best of some orders: no other is preferred to it
 pub record IsBest (side : Side) (orders : List Resting) (best : Resting) : Type 0 where

@@ -1,6 +1,10 @@
-ghost use Rattle.std.specs.Prelude.{◌≡◌};
+ghost use Rattle.std.specs.Prelude.{◌≡◌, ◌↔◌, IsTrue};
 ghost use Rattle.fx_rules.specs.Reject.{code_of};
+ghost use Rattle.fx_rules.specs.Sending.{pair_of};
+ghost use Rattle.fx_rules.specs.Step.{IsCommand};
+ghost use Rattle.fx_rules.specs.inside.Command.{ValuesFit};
 
+use crate::session::Session;
 use fx_amounts::{BankId, Lots, PairId, Price, Side, Units};
 
 /// How long an order stands.
@@ -107,6 +111,63 @@ pub enum Command {
     Bad {
         reason: Reject,
     },
+}
+
+impl Command {
+    /// The pair that it is about, where it is about one alone: an order, a cancel, a reduction, a pull or a local book. `None` of a
+    /// credit change, which is about all pairs, of a show command and of a bad line.
+    pub fn pair(&self) -> Option<PairId>
+        ensures value { result ≡ pair_of self.now }
+    {
+        match *self {
+            Command::Order { pair, .. } => Some(pair),
+            Command::Cancel { pair, .. } => Some(pair),
+            Command::Reduce { pair, .. } => Some(pair),
+            Command::Pull { pair } => Some(pair),
+            Command::Book { pair } => Some(pair),
+            Command::Line { .. } | Command::Show { .. } | Command::Bad { .. } => None,
+        }
+    }
+}
+
+/// Whether a bank may send a command in a session: it is one of the session's banks, the command's pair and its other bank are
+/// the session's too, the other bank is not the sender, and the number that it names is at least 1. It takes no memory.
+pub fn is_command(session: &Session, sender: BankId, command: &Command) -> bool
+    ensures value { IsTrue result ↔ IsCommand session.now sender command.now }
+{
+    values_fit(command);
+    let banks = session.banks().len();
+    let pairs = session.pairs().len();
+    if sender.index() >= banks {
+        return false;
+    }
+    match *command {
+        Command::Order { pair, .. } | Command::Pull { pair } | Command::Book { pair } =>
+            pair.index() < pairs,
+        Command::Cancel { pair, number } => pair.index() < pairs && number >= 1,
+        Command::Reduce { pair, number, .. } => pair.index() < pairs && number >= 1,
+        Command::Line { bank, .. } | Command::Show { bank } => bank.index() < banks
+            && bank != sender,
+        Command::Bad { .. } => true,
+    }
+}
+
+/// A command's price, lots and limit are in their ranges, as their types keep them. It does nothing: it tells a proof.
+fn values_fit(command: &Command)
+    ensures fit { ValuesFit command.now }
+{
+    match *command {
+        Command::Order { price, lots, .. } => {
+            let _ = (price.ticks(), lots.count());
+        }
+        Command::Reduce { lots, .. } => {
+            let _ = lots.count();
+        }
+        Command::Line { limit, .. } => {
+            let _ = limit.get();
+        }
+        _ => {}
+    }
 }
 
 /// A command, and who sent it.

@@ -33,8 +33,9 @@ pub fn legal_goes_on()
     ensures legal { LegalGoesOn }
 {}
 
-/// Each step from a sound state lets what the limits of two banks leave fall by the cost of its fills between them, from
-/// what those limits, as they stand behind the step, leave of what they had used.
+/// Each step from a sound state lets what the limits of two banks leave fall by the cost of its fills between them, and by
+/// nothing else. It falls from what they leave where the fills begin: as before the step, but for a limit that a credit change
+/// has set first.
 pub fn lines_fall()
     ensures fall { LinesFall }
 {}

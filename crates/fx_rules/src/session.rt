@@ -1,6 +1,6 @@
 ghost use Rattle.std.specs.Prelude.{◌≡◌, ◌≢◌, ◌↔◌, ◌≤◌, ◌<◌, ◌+◌, ◌*◌, ◌&&◌, ℕ, IsTrue, SomeIff, All, AllPairs, length, position, slice_index, slice_get, bytes_eq, Contains, IfSome, IfNone, option_map};
 ghost use Rattle.fx_rules.specs.Names.{is_name};
-ghost use Rattle.fx_rules.specs.Session.{Header, IsSession, IsPairRule, AreSamePair, bank_count, pair_count, opening_limit, weight_of, decimals_of, lot_of, bank_name, bank_of, pair_of, pair_text, pair_name};
+ghost use Rattle.fx_rules.specs.Session.{Header, IsSession, IsPairRule, AreSamePair, bank_count, pair_count, opening_limit, weight_of, decimals_of, lot_of, bank_name, bank_named, pair_named, pair_text, pair_name};
 
 use crate::guesses::Guesses;
 use crate::names::{Code, Name, SoughtName};
@@ -144,7 +144,7 @@ impl Session {
 
     /// The bank of that name; `None` exactly where no bank has it. It takes no memory.
     pub fn bank_named(&self, text: &[u8]) -> Option<BankId>
-        ensures value { result ≡ bank_of self.now text.now }
+        ensures value { result ≡ bank_named self.now text.now }
         ensures within { IfSome result (λ bank. bank < bank_count self.now) }
         ensures named { IfSome result (λ bank. slice_get self.now.banks bank ≡ Some text.now) }
         ensures none { IfNone result (¬ (Contains self.now.banks text.now)) }
@@ -155,7 +155,7 @@ impl Session {
 
     /// The pair that is written so, as `BASE/QUOTE`; `None` exactly where no pair is. It takes no memory.
     pub fn pair_named(&self, text: &[u8]) -> Option<PairId>
-        ensures value { result ≡ pair_of self.now text.now }
+        ensures value { result ≡ pair_named self.now text.now }
         ensures within { IfSome result (λ pair. pair < pair_count self.now) }
         ensures named { IfSome result
             (λ pair. option_map pair_text (slice_get self.now.pairs pair) ≡ Some text.now) }

@@ -1,9 +1,11 @@
 -- A lane runs on by one command, and lanes that ran on are under way.
-use Rattle.std.proofs.Common.{ℕ, suc, ◌≡◌, ◌+◌, ◌<◌, ◌≤◌, ◌≢◌, true, List, [], ◌∷◌, ◌++◌, refl, ap, sym, subst, ◌∙◌, arith, length, get_or, set, map, take, inl, inr, append_assoc, append-nil, length-append, true≢false}
-use Rattle.std.specs.Prelude.{All, Any, is_ok, IfOk, Ok, Err, Result}
+use Rattle.std.proofs.Common.{ℕ, zero, suc, ◌≡◌, ◌+◌, ◌<◌, ◌≤◌, ◌≢◌, List, [], ◌∷◌, ◌++◌, refl, ap, sym, subst, ◌∙◌, arith, length, get_or, set, map, take, inl, inr, append_assoc, append-nil, length-append, true≢false}
+use Rattle.std.specs.Prelude.{All, Any, is_some, IsSome, Option, Some, None, ◌⊎◌}
+use Rattle.std.specs.Option.{option_or}
 use Rattle.std.specs.List.{AllZip}
 use Rattle.std.proofs.lemmas.Bool.{cases_lt}
 use Rattle.std.proofs.lemmas.List.{length-map, length-take, length-set, take_more, take_all, map-append, get_or_default, get_or-set_same, get_or-set_other}
+use Rattle.fx_amounts.specs.declared.memory.Memory.{Memory}
 use Rattle.fx_rules.specs.declared.command.Command.{Command}
 use Rattle.fx_rules.specs.declared.outcome.Outcome.{Outcome}
 use Rattle.fx_rules.specs.declared.outcome.Entry.{Entry}
@@ -12,17 +14,61 @@ use Rattle.fx_rules.specs.History.{own}
 use Rattle.fx_chronicle.proofs.Prefixes.{prefix_self, prefix_trans}
 use Rattle.fx_desk.specs.Submitting.{next_own, Submitted}
 use Rattle.gateway_workers.specs.declared.lane.Lane.{Lane}
-use Rattle.gateway_workers.specs.Lanes.{IsReadyLane, AreNumbered, LaneRan, IsDone, IsBehind}
-use Rattle.gateway_workers.specs.inside.Serving.{IsUnderWay, RunsOn, AllRunOn, AllLanesRan}
+use Rattle.gateway_workers.specs.Lanes.{IsReadyLane, AreNumbered, LaneRan, IsDone, IsBehind, StoppedWhereBehind, first_stop}
+use Rattle.gateway_workers.specs.inside.Serving.{IsUnderWay, HasTurned, RunsOn, AllRunOn, AllLanesRan}
 
 numbered-push : (bank before : ℕ) (entries : List Entry) (e : Entry) → AreNumbered bank before entries → e.bank ≡ bank → e.number ≡ before + length entries + 1 → AreNumbered bank before (entries ++ e ∷ [])
 numbered-push bank before [] e numbered its number = (its, omega (arith, number), tt)
 numbered-push bank before (x ∷ xs) e numbered its number = (numbered.0, numbered.1, numbered-push bank (before + 1) xs e numbered.2 its (omega (arith, number)))
 
--- what an answer that is Ok has told
-pub told_at_ok : {T E : Type 0} (r : Result T E) (Q : T → Type 0) → is_ok r ≡ true → IfOk r Q → (x : T) × Q x
-told_at_ok (Ok x) Q is q = (x, q)
-told_at_ok (Err e) Q is q = absurd (true≢false (sym is))
+-- ---- what stopped a lane
+
+some_or_none : {T : Type 0} (o : Option T) → IsSome o ⊎ (o ≡ None)
+some_or_none None = inr refl
+some_or_none (Some x) = inl refl
+
+not_some : {T : Type 0} (o : Option T) → o ≡ None → IsSome o → ⊥
+not_some o none some = true≢false (sym some ∙ ap is_some none)
+
+both_none : {T : Type 0} (o p : Option T) → option_or o p ≡ None → (o ≡ None) × (p ≡ None)
+both_none None p none = (refl, none)
+both_none (Some x) p none = absurd (cc none)
+
+either_some : {T : Type 0} (o p : Option T) (x : T) → option_or o p ≡ Some x → IsSome o ⊎ (p ≡ Some x)
+either_some None p x is = inr is
+either_some (Some y) p x is = inl refl
+
+module _ {P : Type 0} where
+  -- where one stopped for which commands are left, commands are left
+  pub first-behind : (lanes : List (Lane P)) (memory : Memory) → All StoppedWhereBehind lanes → first_stop lanes ≡ Some memory → Any IsBehind lanes
+  first-behind [] memory all is = absurd (cc is)
+  first-behind (lane ∷ lanes) memory all is =
+      elim (either_some lane.stopped (first_stop lanes) memory is) [
+        | inl some ↦ (0, lane, omega arith, refl, (all 0 lane (omega arith)).0 some)
+        | inr later ↦
+            let rest : Any IsBehind lanes = first-behind lanes memory (λ k d within. all (suc k) d (omega (arith, within))) later in
+            let within : rest.0 < length lanes = rest.2 in
+            (suc rest.0, rest.1, omega (arith, within), rest.3, rest.4)
+      ]
+
+  -- where none stopped, no commands are left
+  none-stopped : (lanes : List (Lane P)) (k : ℕ) (d : Lane P) → k < length lanes → first_stop lanes ≡ None → (get_or lanes k d).stopped ≡ None
+  none-stopped [] k d within none = absurd (omega (arith, within))
+  none-stopped (lane ∷ lanes) zero d within none = (both_none lane.stopped (first_stop lanes) none).0
+  none-stopped (lane ∷ lanes) (suc k) d within none = none-stopped lanes k d (omega (arith, within)) (both_none lane.stopped (first_stop lanes) none).1
+
+-- ---- turns
+
+-- once there were as many turns as it has commands, a lane has stopped exactly where some are left
+turned-out : {P : Type 0} (turn : ℕ) (lane : Lane P) → HasTurned turn lane → length lane.stream ≤ turn → StoppedWhereBehind lane
+turned-out turn lane turned all = (
+  turned.stops,
+  λ behind.
+      elim (some_or_none lane.stopped) [
+        | inl some ↦ some
+        | inr none ↦ absurd (omega (arith, turned.goes_on none, all, behind))
+      ],
+)
 
 module _ {P : Type 0} (h : Header) (bank : P → ℕ) (seen mine : P → List Entry) where
   pub ready-ran : (lane : Lane P) → IsReadyLane h bank mine lane → LaneRan h bank seen mine lane lane
@@ -38,6 +84,12 @@ module _ {P : Type 0} (h : Header) (bank : P → ℕ) (seen mine : P → List En
     idle = λ _. refl;
     legal = λ some. absurd (omega (arith, some, ready.none_done));
     own_are_mine = λ some. absurd (omega (arith, some, ready.none_done));
+  }
+
+  pub ready-turned : (lane : Lane P) → IsReadyLane h bank mine lane → HasTurned 0 lane
+  ready-turned lane ready = record {
+    goes_on = λ _. omega (arith, ready.none_done);
+    stops = λ some. absurd (not_some lane.stopped ready.not_stopped some);
   }
 
   -- the entries of the commands done are as many as these
@@ -72,41 +124,74 @@ module _ {P : Type 0} (h : Header) (bank : P → ℕ) (seen mine : P → List En
         own_are_mine = λ _. subst (λ b. own b (seen pass) ≡ mine pass) bank' submitted.own_are_mine;
       }
 
-  -- lanes of which the first so many have run on, and the others are as they were
-  pub record HaveTurned (was mid : List (Lane P)) (n : ℕ) : Type 0 where
+  -- a lane that stops has run as far as it did, since its pass stays
+  pub one-stopped : (begun was : Lane P) (pass : P) (memory : Memory) → pass ≡ was.pass → LaneRan h bank seen mine begun was → LaneRan h bank seen mine begun (record was { pass = pass; stopped = Some memory })
+  one-stopped begun was pass memory stays ran =
+      subst (λ (p : P). LaneRan h bank seen mine begun (record was { pass = p; stopped = Some memory })) (sym stays) (record {
+        same_lane = ap (λ (l : Lane P). record l { stopped = Some memory }) ran.same_lane;
+        same_bank = ran.same_bank;
+        within = ran.within;
+        entries = ran.entries;
+        mine_grew = ran.mine_grew;
+        in_order = ran.in_order;
+        numbered = ran.numbered;
+        begins = ran.begins;
+        idle = ran.idle;
+        legal = ran.legal;
+        own_are_mine = ran.own_are_mine;
+      })
+
+  -- lanes of which the first so many have run on, by a turn more, and the others are as they were
+  pub record HaveTurned (turn : ℕ) (was mid : List (Lane P)) (n : ℕ) : Type 0 where
     pub long : length mid ≡ length was
     pub so_far : (i : ℕ) (d : Lane P) → i < n → RunsOn h bank seen mine (get_or was i d) (get_or mid i d)
+    pub turned : (i : ℕ) (d : Lane P) → i < n → HasTurned (turn + 1) (get_or mid i d)
     pub to_come : (i : ℕ) (d : Lane P) → n ≤ i → get_or mid i d ≡ get_or was i d
 
-  pub next-under_way : (was mid : List (Lane P)) (n : ℕ) (d : Lane P) → HaveTurned was mid n → n < length was → All (IsUnderWay h bank seen mine) was → IsUnderWay h bank seen mine (get_or mid n d)
-  next-under_way was mid n d turned within way = subst (IsUnderWay h bank seen mine) (sym (turned.to_come n d (omega arith))) (way n d within)
+  -- so the next one is as it was
+  pub next-kept : (Q : Lane P → Type 0) (turn : ℕ) (was mid : List (Lane P)) (n : ℕ) (d : Lane P) → HaveTurned turn was mid n → n < length was → All Q was → Q (get_or mid n d)
+  next-kept Q turn was mid n d turned within all = subst Q (sym (turned.to_come n d (omega arith))) (all n d within)
 
   -- the lane at the place has run on too
-  turned-at : (was mid : List (Lane P)) (n : ℕ) (item lane : Lane P) → HaveTurned was mid n → n < length was → RunsOn h bank seen mine (get_or mid n item) lane
+  turned-at : (turn : ℕ) (was mid : List (Lane P)) (n : ℕ) (item lane : Lane P) → HaveTurned turn was mid n → n < length was → RunsOn h bank seen mine (get_or mid n item) lane
       → (d : Lane P) → RunsOn h bank seen mine (get_or was n d) (get_or (set mid n lane) n d)
-  turned-at was mid n item lane turned within on d =
+  turned-at turn was mid n item lane turned within on d =
       let within' : n < length mid = omega (arith, turned.long, within) in
       let old : get_or mid n item ≡ get_or was n d = get_or_default mid n item d within' ∙ turned.to_come n d (omega arith) in
       let new : lane ≡ get_or (set mid n lane) n d = sym (get_or-set_same mid n lane d within') in
       subst (λ (now : Lane P). RunsOn h bank seen mine (get_or was n d) now) new (subst (λ (before : Lane P). RunsOn h bank seen mine before lane) old on)
 
-  turned-so_far : (was mid : List (Lane P)) (n : ℕ) (item lane : Lane P) → HaveTurned was mid n → n < length was → RunsOn h bank seen mine (get_or mid n item) lane
+  turned-so_far : (turn : ℕ) (was mid : List (Lane P)) (n : ℕ) (item lane : Lane P) → HaveTurned turn was mid n → n < length was → RunsOn h bank seen mine (get_or mid n item) lane
       → (i : ℕ) (d : Lane P) → i < n + 1 → RunsOn h bank seen mine (get_or was i d) (get_or (set mid n lane) i d)
-  turned-so_far was mid n item lane turned within on i d low =
+  turned-so_far turn was mid n item lane turned within on i d low =
       elim (cases_lt i n) [
         | inl before ↦
             let other : i ≢ n = λ same. absurd (omega (arith, same, before)) in
             subst (λ (now : Lane P). RunsOn h bank seen mine (get_or was i d) now) (sym (get_or-set_other mid n i lane d other)) (turned.so_far i d before)
         | inr past ↦
             let same : n ≡ i = omega (arith, past, low) in
-            subst (λ (j : ℕ). RunsOn h bank seen mine (get_or was j d) (get_or (set mid n lane) j d)) same (turned-at was mid n item lane turned within on d)
+            subst (λ (j : ℕ). RunsOn h bank seen mine (get_or was j d) (get_or (set mid n lane) j d)) same (turned-at turn was mid n item lane turned within on d)
       ]
 
-  pub turned-next : (was mid : List (Lane P)) (n : ℕ) (item lane : Lane P) → HaveTurned was mid n → n < length was → RunsOn h bank seen mine (get_or mid n item) lane
-      → HaveTurned was (set mid n lane) (n + 1)
-  turned-next was mid n item lane turned within on = record {
+  turned-more : (turn : ℕ) (was mid : List (Lane P)) (n : ℕ) (lane : Lane P) → HaveTurned turn was mid n → n < length was → HasTurned (turn + 1) lane
+      → (i : ℕ) (d : Lane P) → i < n + 1 → HasTurned (turn + 1) (get_or (set mid n lane) i d)
+  turned-more turn was mid n lane turned within next i d low =
+      elim (cases_lt i n) [
+        | inl before ↦
+            let other : i ≢ n = λ same. absurd (omega (arith, same, before)) in
+            subst (HasTurned (turn + 1)) (sym (get_or-set_other mid n i lane d other)) (turned.turned i d before)
+        | inr past ↦
+            let same : n ≡ i = omega (arith, past, low) in
+            let within' : n < length mid = omega (arith, turned.long, within) in
+            subst (λ (j : ℕ). HasTurned (turn + 1) (get_or (set mid n lane) j d)) same (subst (HasTurned (turn + 1)) (sym (get_or-set_same mid n lane d within')) next)
+      ]
+
+  pub turned-next : (turn : ℕ) (was mid : List (Lane P)) (n : ℕ) (item lane : Lane P) → HaveTurned turn was mid n → n < length was → RunsOn h bank seen mine (get_or mid n item) lane → HasTurned (turn + 1) lane
+      → HaveTurned turn was (set mid n lane) (n + 1)
+  turned-next turn was mid n item lane turned within on next = record {
     long = length-set mid n lane ∙ turned.long;
-    so_far = turned-so_far was mid n item lane turned within on;
+    so_far = turned-so_far turn was mid n item lane turned within on;
+    turned = turned-more turn was mid n lane turned within next;
     to_come = λ i d past. get_or-set_other mid n i lane d (λ same. absurd (omega (arith, same, past))) ∙ turned.to_come i d (omega (arith, past));
   }
 
@@ -128,16 +213,24 @@ module _ {P : Type 0} (h : Header) (bank : P → ℕ) (seen mine : P → List En
   run-zip (x ∷ xs) [] long ran = absurd (omega (arith, long))
   run-zip (x ∷ xs) (y ∷ ys) long ran = (ran 0 x (omega arith), run-zip xs ys (omega (arith, long)) (λ i d within. ran (suc i) d (omega (arith, within))))
 
-  -- where none is behind, all are done
-  pub run-done : (was now : List (Lane P)) → length now ≡ length was → AllLanesRan h bank seen mine was now → (Any IsBehind now → ⊥) → All IsDone now
-  run-done was now long ran none k d within =
+  -- where none stopped, all are done
+  pub run-done : (was now : List (Lane P)) → length now ≡ length was → AllLanesRan h bank seen mine was now → All StoppedWhereBehind now → first_stop now ≡ None → All IsDone now
+  run-done was now long ran stopped none k d within =
       let its = ran k d (omega (arith, long, within)) in
       let lane = get_or now k d in
       let stream : length lane.stream ≡ length (get_or was k d).stream = ap (λ (l : Lane P). length l.stream) its.same_lane in
       elim (cases_lt lane.done (length lane.stream)) [
-        | inl behind ↦ absurd (none (k, lane, within, get_or_default now k lane d within, behind))
+        | inl behind ↦ absurd (not_some lane.stopped (none-stopped now k d within none) ((stopped k d within).1 behind))
         | inr past ↦ omega (arith, past, stream, its.within)
       ]
+
+  -- where each had as many turns as any of them has commands, each has stopped exactly where some are left
+  pub run-out : (was now : List (Lane P)) (turns most : ℕ) → length now ≡ length was → AllLanesRan h bank seen mine was now → All (HasTurned turns) now → All (λ (lane : Lane P). length lane.stream ≤ most) was → most ≤ turns → All StoppedWhereBehind now
+  run-out was now turns most long ran turned longest all k d within =
+      let within' : k < length was = omega (arith, long, within) in
+      let lane = get_or now k d in
+      let stream : length lane.stream ≡ length (get_or was k d).stream = ap (λ (l : Lane P). length l.stream) (ran k d within').same_lane in
+      turned-out turns lane (turned k d within) (omega (arith, stream, longest k d within', all))
 
   -- of a bank that had sent nothing a lane that is done has sent just its stream
   pub done-sent : (was now : Lane P) → LaneRan h bank seen mine was now → IsDone now → mine was.pass ≡ [] → map (λ (e : Entry). e.command) (mine now.pass) ≡ was.stream

@@ -1,6 +1,8 @@
 -- What a round makes of its lanes. `bank`, `seen` and `mine` are what the desk tells of a pass.
-use Rattle.std.specs.Prelude.{ℕ, ◌≡◌, ◌<◌, ◌≤◌, ◌+◌, ◌^◌, List, [], ◌∷◌, ◌++◌, length, map, take}
+use Rattle.std.specs.Prelude.{ℕ, ◌≡◌, ◌<◌, ◌≤◌, ◌+◌, ◌^◌, ◌↔◌, List, [], ◌∷◌, ◌++◌, length, map, take, Option, None, IsSome}
+use Rattle.std.specs.Option.{option_or}
 use mathlib.Core.List.{IsPrefix}
+use Rattle.fx_amounts.specs.declared.memory.Memory.{Memory}
 use Rattle.fx_rules.specs.declared.outcome.Entry.{Entry}
 use Rattle.fx_rules.specs.Lists.{Each}
 use Rattle.fx_rules.specs.Session.{Header}
@@ -13,8 +15,9 @@ pub record IsReadyLane {P : Type 0} (h : Header) (bank : P → ℕ) (mine : P �
   -- bank and count of commands are those of its pass
   pub bank_of_pass : lane.bank ≡ bank lane.pass
   pub sent_by_pass : lane.sent ≡ length (mine lane.pass)
-  -- nothing of its stream is done, and the bank may send each command of it, with numbers for all of them
+  -- nothing of its stream is done, nothing stopped it, and the bank may send each command of it, with numbers for all of them
   pub none_done : lane.done ≡ 0
+  pub not_stopped : lane.stopped ≡ None
   pub may_send : Each (IsCommand h lane.bank) lane.stream
   pub numbers : lane.sent + length lane.stream < 2 ^ 32
 
@@ -25,8 +28,8 @@ AreNumbered bank before (e ∷ es) = (e.bank ≡ bank) × (e.number ≡ before +
 
 -- What a lane has come to in a round, whatever the round answers: the first `done` commands of its stream were carried out.
 pub record LaneRan {P : Type 0} (h : Header) (bank : P → ℕ) (seen mine : P → List Entry) (was now : Lane P) : Type 0 where
-  -- it is the same lane, but for its pass and for how far it came
-  pub same_lane : now ≡ record was { pass = now.pass; done = now.done }
+  -- it is the same lane, but for its pass, for how far it came and for what stopped it
+  pub same_lane : now ≡ record was { pass = now.pass; done = now.done; stopped = now.stopped }
   pub same_bank : bank now.pass ≡ bank was.pass
   pub within : now.done ≤ length was.stream
   -- the bank's own entries have grown by those of the commands done, in the order of the stream
@@ -48,3 +51,12 @@ IsDone lane = lane.done ≡ length lane.stream
 -- some are not
 abbrev pub IsBehind : {P : Type 0} → Lane P → Type 0
 IsBehind lane = lane.done < length lane.stream
+
+-- one has stopped exactly where some are not
+abbrev pub StoppedWhereBehind : {P : Type 0} → Lane P → Type 0
+StoppedWhereBehind lane = IsSome lane.stopped ↔ IsBehind lane
+
+-- what stopped the first of these lanes that stopped
+abbrev pub first_stop : {P : Type 0} → List (Lane P) → Option Memory
+first_stop [] = None
+first_stop (lane ∷ lanes) = option_or lane.stopped (first_stop lanes)

@@ -1,10 +1,9 @@
-ghost use Rattle.std.specs.Prelude.{◌≡◌, ◌+◌, ◌<◌, ◌^◌, Decides};
-ghost use Rattle.gateway_workers.specs.Lanes.{IsBehind};
+ghost use Rattle.std.specs.Prelude.{◌≡◌, ◌+◌, ◌<◌, ◌^◌, None};
 
-use fx_amounts::BankId;
+use fx_amounts::{BankId, Memory};
 use fx_rules::CommandList;
 
-/// What one bank does in a round: its pass, the commands that it sends, and how many of them were carried out.
+/// What one bank does in a round: its pass, the commands that it sends, how many of them were carried out, and what stopped it.
 #[derive(Drop)]
 pub struct Lane<P> {
     /// What the bank holds at the desk.
@@ -17,24 +16,20 @@ pub struct Lane<P> {
     pub stream: CommandList,
     /// How many commands of the stream were carried out, from its first on.
     pub done: usize,
+    /// What the submit of the next command answered, where it was refused because memory ran out. The lane stopped there.
+    pub stopped: Option<Memory>,
 }
 
 impl<P> Lane<P> {
-    /// Whether commands of its stream are left.
-    pub fn is_behind(&self) -> bool
-        ensures value { Decides result (IsBehind self.now) }
-    {
-        self.done < self.stream.as_slice().len()
-    }
-
-    /// Makes it ready for the next round, in which its bank sends this: what was carried out is sent, and nothing of the new
-    /// stream is done. Bank and pass stay.
+    /// Makes it ready for the next round, in which its bank sends this: what was carried out is sent, nothing of the new stream is
+    /// done, and nothing has stopped it. Bank and pass stay.
     pub fn next_round(&mut self, stream: CommandList)
         requires numbers { self.old.sent + self.old.done < 2 ^ 32 }
-        ensures next { self.new ≡ record self.old { sent = self.old.sent + self.old.done; stream = stream; done = 0 } }
+        ensures next { self.new ≡ record self.old { sent = self.old.sent + self.old.done; stream = stream; done = 0; stopped = None } }
     {
         self.sent += self.done as u32;
         self.done = 0;
+        self.stopped = None;
         self.stream = stream;
     }
 }

@@ -1,7 +1,7 @@
-ghost use Rattle.std.specs.Prelude.{◌≡◌, ◌<◌, ◌≤◌, ◌*◌, ◌-◌, ◌↔◌, IsTrue, length, All, Any, OnOk, OnErr};
+ghost use Rattle.std.specs.Prelude.{◌≡◌, ◌<◌, ◌≤◌, ◌*◌, ◌-◌, ◌+◌, length, All, Any, Some, None, OnOk, OnErr, MatchResult};
 ghost use Rattle.std.specs.List.{AllZip};
-ghost use Rattle.gateway_workers.specs.Lanes.{IsReadyLane, LaneRan, IsDone, IsBehind};
-ghost use Rattle.gateway_workers.specs.inside.Serving.{IsUnderWay, RunsOn, AllRunOn, AllLanesRan};
+ghost use Rattle.gateway_workers.specs.Lanes.{IsReadyLane, LaneRan, IsDone, IsBehind, StoppedWhereBehind, first_stop};
+ghost use Rattle.gateway_workers.specs.inside.Serving.{IsUnderWay, HasTurned, RunsOn, AllRunOn, AllLanesRan};
 
 use crate::lane::Lane;
 use fx_amounts::Memory;
@@ -15,8 +15,8 @@ use std::thread::Threads;
 /// serves one command of each in turn until all are done. It calls the gate before and after each command. Where a thread
 /// cannot be started, the caller does its work.
 ///
-/// Ok: each stream is done. `Memory`: some lane's submit was refused for want of memory. That lane stopped there, and its
-/// `done` tells how far it came; the others went on.
+/// Ok: each stream is done. `Memory`: some lane's submit was refused because memory ran out. That lane stopped there, keeps what it was
+/// answered, and its `done` tells how far it came; the others went on. The round answers what the first of such lanes keeps.
 ///
 /// That the passes are the desk's is a matter of their type, and that no two lanes have one pass, of ownership.
 pub fn run_round<R: Threads + Wait + Sync, D: Desk + Sync, G: Gate + Sync>(
@@ -32,12 +32,13 @@ pub fn run_round<R: Threads + Wait + Sync, D: Desk + Sync, G: Gate + Sync>(
     ensures ran { AllZip (LaneRan D.session D.bank D.seen D.mine) lanes.old lanes.new }
     ensures done { OnOk result (All IsDone lanes.new) }
     ensures behind { OnErr result (Any IsBehind lanes.new) }
+    ensures stopped { All StoppedWhereBehind lanes.new }
+    ensures answer { MatchResult result (λ _. first_stop lanes.new ≡ None) (λ memory. first_stop lanes.new ≡ Some memory) }
 {
     serve_in_threads(rt, desk, gate, workers, lanes);
-    if any_behind(lanes) {
-        Err(Memory)
-    } else {
-        Ok(())
+    match first_stop(lanes) {
+        None => Ok(()),
+        Some(memory) => Err(memory),
     }
 }
 
@@ -52,7 +53,8 @@ fn serve_in_threads<R: Threads + Wait + Sync, D: Desk + Sync, G: Gate + Sync>(
     requires lanes { 0 < length lanes.old }
     requires workers { 1 ≤ workers }
     requires ready { All (IsReadyLane D.session D.bank D.mine) lanes.old }
-    ensures { AllLanesRan D.session D.bank D.seen D.mine lanes.old lanes.new }
+    ensures ran { AllLanesRan D.session D.bank D.seen D.mine lanes.old lanes.new }
+    ensures stopped { All StoppedWhereBehind lanes.new }
 {
     let size = lanes_of_each(lanes.len(), workers);
     thread::for_each_chunk_mut(
@@ -76,22 +78,23 @@ fn lanes_of_each(lanes: usize, workers: u32) -> usize
     lanes.div_ceil(workers as usize)
 }
 
-/// Whether commands of some lane are left.
-fn any_behind<P>(lanes: &[Lane<P>]) -> bool
-    ensures { IsTrue result ↔ Any IsBehind lanes.now }
+/// What stopped the first of these lanes that stopped.
+fn first_stop<P>(lanes: &[Lane<P>]) -> Option<Memory>
+    ensures value { result ≡ first_stop lanes.now }
 {
     for lane in lanes {
-        if lane.is_behind() {
-            return true;
+        if lane.stopped.is_some() {
+            return lane.stopped;
         }
     }
-    false
+    None
 }
 
-/// Serves one command of each lane in turn, until all are done.
+/// Serves one command of each lane in turn, until all are done or have stopped.
 fn serve_all<R: Wait, D: Desk, G: Gate>(rt: &R, desk: &D, gate: &G, lanes: &mut [Lane<D::Pass>])
     requires { All (IsReadyLane D.session D.bank D.mine) lanes.old }
-    ensures { AllLanesRan D.session D.bank D.seen D.mine lanes.old lanes.new }
+    ensures ran { AllLanesRan D.session D.bank D.seen D.mine lanes.old lanes.new }
+    ensures stopped { All StoppedWhereBehind lanes.new }
 {
     for turn in 0..longest(lanes) {
         serve_turn(rt, desk, gate, turn, lanes);
@@ -117,15 +120,17 @@ fn serve_turn<R: Wait, D: Desk, G: Gate>(
     turn: usize,
     lanes: &mut [Lane<D::Pass>],
 )
-    requires { All (IsUnderWay D.session D.bank D.seen D.mine) lanes.old }
-    ensures { AllRunOn D.session D.bank D.seen D.mine lanes.old lanes.new }
+    requires under_way { All (IsUnderWay D.session D.bank D.seen D.mine) lanes.old }
+    requires turned { All (HasTurned turn) lanes.old }
+    ensures run_on { AllRunOn D.session D.bank D.seen D.mine lanes.old lanes.new }
+    ensures turned { All (HasTurned (turn + 1)) lanes.new }
 {
     for lane in lanes.iter_mut() {
         serve_command(rt, desk, gate, turn, lane);
     }
 }
 
-/// Serves command `turn` of the lane, unless it has none or stopped before.
+/// Serves command `turn` of the lane, unless it has none or stopped before. It stops where its submit is refused.
 fn serve_command<R: Wait, D: Desk, G: Gate>(
     rt: &R,
     desk: &D,
@@ -133,10 +138,12 @@ fn serve_command<R: Wait, D: Desk, G: Gate>(
     turn: usize,
     lane: &mut Lane<D::Pass>,
 )
-    requires { IsUnderWay D.session D.bank D.seen D.mine lane.old }
-    ensures { RunsOn D.session D.bank D.seen D.mine lane.old lane.new }
+    requires under_way { IsUnderWay D.session D.bank D.seen D.mine lane.old }
+    requires turned { HasTurned turn lane.old }
+    ensures runs_on { RunsOn D.session D.bank D.seen D.mine lane.old lane.new }
+    ensures turned { HasTurned (turn + 1) lane.new }
 {
-    if lane.done != turn {
+    if lane.stopped.is_some() {
         return;
     }
     let Some(command) = lane.stream.as_slice().get(turn) else {
@@ -146,7 +153,8 @@ fn serve_command<R: Wait, D: Desk, G: Gate>(
     gate.before(rt, lane.bank, number);
     let answer = desk.submit(rt, gate, &mut lane.pass, command);
     gate.after(rt, lane.bank, number);
-    if answer.is_ok() {
-        lane.done += 1;
+    match answer {
+        Ok(_) => lane.done += 1,
+        Err(memory) => lane.stopped = Some(memory),
     }
 }

@@ -103,4 +103,4 @@ read-falls text at read is = omega (arith, is.next_is)
 
 pub header_stopped : (text : List ℕ) (at : ℕ) (head : Head) (stop : Stop) → ReadsLine text at (Err stop) → (there : Result Headed ℕ) → there ≡ header_in (length text) head (lines_from text at) → Answers (Err stop) there
 header_stopped text at head (Wrong offset) stops there is = is ∙ header_stops text at offset head stops
-header_stopped text at head Memory stops there is = absurd stops
+header_stopped text at head (Memory memory) stops there is = absurd stops

@@ -113,12 +113,12 @@ commands_more h text at before after count left read sent is then one after_is =
 
 pub count_stopped : (text : List ℕ) (at : ℕ) (stop : Stop) → ReadsLine text at (Err stop) → Answers (Err stop) (count_of (length text) (lines_from text at))
 count_stopped text at (Wrong offset) stops = count_stops text at offset stops
-count_stopped text at Memory stops = absurd stops
+count_stopped text at (Memory memory) stops = absurd stops
 
 pub commands_stopped : (h : Header) (text : List ℕ) (at : ℕ) (before : List Sent) (count : ℕ) (stop : Stop) (there : Result (List Sent) ℕ) → 0 < count → ReadsLine text at (Err stop)
     → there ≡ commands_in h (length text) before count (lines_from text at) → ReadsEntries h (Err stop) there
 commands_stopped h text at before count (Wrong offset) there some stops is = is ∙ commands_stop h text at offset before count some stops
-commands_stopped h text at before count Memory there some stops is = absurd stops
+commands_stopped h text at before count (Memory memory) there some stops is = absurd stops
 
 -- Entries that are served as they are read
 

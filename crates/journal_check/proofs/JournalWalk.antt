@@ -17,6 +17,7 @@ use Rattle.order_lines.proofs.WrittenCommands.{IsWritten-command}
 use Rattle.reply_lines.specs.Output as output
 use Rattle.reply_lines.specs.Output.{entry_line, journal_text}
 use Rattle.std.specs.List.{flat_map, join_with_byte, AllByRecursion}
+use Rattle.fx_rules.proofs.Senders.{suits-sender}
 use Rattle.journal_check.specs.Lines.{LineAt, lines_from}
 use Rattle.fx_rules.specs.declared.command.Command.{Command}
 use Rattle.fx_rules.specs.declared.command.Sent.{Sent}
@@ -101,7 +102,7 @@ entries_at h end text more [] at before session are there = commands_in-all h en
 entries_at h end text more (e ∷ es) at before session are there =
     let part : List ℕ = command_text_of h e.bank e.command in
     let rest : List ℕ = flat_map (entry_line h) es ++ more in
-    let written = IsWritten-command h e.bank e.command session are.0.sender are.0.command in
+    let written = IsWritten-command h e.bank e.command session (suits-sender h e.bank e.command are.0.command.sends) are.0.command in
     let here : drop at text ≡ part ++ 10 ∷ rest = there ∙ append_assoc (part ++ 10 ∷ []) (flat_map (entry_line h) es) more ∙ ended part rest in
     let on = IsAt-plain text at part rest here written.visible in
     let line : LineAt = record { at = at; part = part } in

@@ -43,16 +43,16 @@ judged text found verdict is holds = subst (λ (read : Result Listed ℕ). IsVer
 
 pub judged_header : (text : List ℕ) (stop : Stop) → Answers (Err stop) (header_in (length text) (Begun 0) (lines_from text 0)) → Judges text (Err stop)
 judged_header text (Wrong offset) is = unlisted text offset (listed_header text (Err offset) is)
-judged_header text Memory is = tt
+judged_header text (Memory memory) is = tt
 
 pub judged_count : (text : List ℕ) (header : Headed) (stop : Stop) → header_in (length text) (Begun 0) (lines_from text 0) ≡ Ok header → Answers (Err stop) (count_of (length text) (lines_from text header.next)) → Judges text (Err stop)
 judged_count text header (Wrong offset) read is = unlisted text offset (listed_journal text header (Err offset) read is)
-judged_count text header Memory read is = tt
+judged_count text header (Memory memory) read is = tt
 
 pub judged_commands : (text : List ℕ) (header : Headed) (count : Counted) (stop : Stop) → header_in (length text) (Begun 0) (lines_from text 0) ≡ Ok header → count_of (length text) (lines_from text header.next) ≡ Ok count
     → ReadsEntries header.session (Err stop) (commands_in header.session (length text) [] count.entries (lines_from text count.next)) → Judges text (Err stop)
 judged_commands text header count (Wrong offset) read counts is = unlisted text offset (listed_commands text header count (Err offset) read counts is)
-judged_commands text header count Memory read counts is = tt
+judged_commands text header count (Memory memory) read counts is = tt
 
 verdict_behind : (text day : List ℕ) (read : Result ℕ ℕ) → beginning 0 day text ≡ read → day_verdict text day ≡ last_behind text read
 unfolding day_verdict
@@ -81,7 +81,7 @@ judged_day text header count entries compared read verdict was is begins verdict
 
 pub judged_apart : (text : List ℕ) (header : Headed) (count : Counted) (entries : List Entry) (stop : Stop) → WasRead text header count entries → IsComparedWith header.session entries text (Err stop) → Judges text (Err stop)
 judged_apart text header count entries (Wrong offset) was is = judged_day text header count entries (Err (Wrong offset)) (Err offset) (No offset) was is is.compared refl
-judged_apart text header count entries Memory was is = tt
+judged_apart text header count entries (Memory memory) was is = tt
 
 pub judged_last : (text : List ℕ) (header : Headed) (count : Counted) (entries : List Entry) (end : ℕ) (verdict : Verdict) → WasRead text header count entries → IsComparedWith header.session entries text (Ok end)
     → verdict ≡ last_in (length text) (lines_from text end) → IsVerdict text verdict

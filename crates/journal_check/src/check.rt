@@ -34,7 +34,7 @@ pub fn check_output(alloc: Global, bytes: &[u8]) -> Result<Verdict, Memory>
     match judge(alloc, bytes) {
         Ok(verdict) => Ok(verdict),
         Err(Stop::Wrong { offset }) => Ok(Verdict::No { offset }),
-        Err(Stop::Memory) => Err(Memory),
+        Err(Stop::Memory(memory)) => Err(memory),
     }
 }
 

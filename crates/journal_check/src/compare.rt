@@ -130,6 +130,6 @@ pub(crate) fn compare_day(
         Ok(()) => comparison.end(),
         // The text differed, and nothing more was written.
         Err(OutFault::Write) => comparison.end(),
-        Err(OutFault::Memory) => Err(Stop::Memory),
+        Err(OutFault::Memory(memory)) => Err(Stop::Memory(memory)),
     }
 }

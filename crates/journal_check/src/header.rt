@@ -39,7 +39,7 @@ pub(crate) fn read_header(alloc: Global, text: &[u8]) -> Result<Headed, Stop>
                 });
             }
             Err(HeadStop::Fault { .. }) => return Err(Stop::Wrong { offset: at as u64 }),
-            Err(HeadStop::Memory) => return Err(Stop::Memory),
+            Err(HeadStop::Memory(memory)) => return Err(Stop::Memory(memory)),
         }
     }
 }

@@ -77,7 +77,7 @@ module _ {D K N : Type 0} (bytes : D → Option (List ℕ)) (may_leave : D → L
       same file told image may = ap whole_blocks (only file told image may) ∙ sym (append-nil (whole_blocks file))
 
   module _ (d0 d : D) (k0 k : K) (n0 n : N) (so_far : All d0 d k0 k n0 n) where
-    -- no round was given: want of memory
+    -- no round was given: out of memory
     pub kept_stopped : Part d0 d k0 k n0
     kept_stopped = record {
       rounds = so_far.rounds;

@@ -1,10 +1,17 @@
 -- A disk between two calls of a keeper.
 use Rattle.std.specs.Prelude.{◌≡◌, ℕ, ◌≤◌, List, Option, Result, IsErrOf}
 use Rattle.fx_edges.specs.Faults.{Rose}
+use Rattle.fx_disk.specs.declared.disk.DiskStop.{DiskStop}
+use Rattle.fx_disk.specs.declared.disk.DiskStop.TheVariants as stops
 use Rattle.fx_disk.specs.Disk.{WhereTold, Only}
 use Rattle.keep_disk.specs.declared.write.KeepFault.{KeepFault}
-use Rattle.keep_disk.specs.declared.write.KeepFault.TheVariants.{Disk}
+use Rattle.keep_disk.specs.declared.write.KeepFault.TheVariants.{Disk, Memory}
 use Rattle.keep_disk.specs.Blocks.{IsClosedAt}
+
+-- the fault that a disk's stop is to a keeper
+abbrev pub of_disk : DiskStop → KeepFault
+of_disk stops.Failed = Disk
+of_disk (stops.Memory memory) = Memory memory
 
 -- where the disk tells its bytes, they are the one image, and are closed at this place
 abbrev pub AtRest : {D : Type 0} → (D → Option (List ℕ)) → (D → List ℕ → Type 0) → D → ℕ → Type 0

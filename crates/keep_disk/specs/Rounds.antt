@@ -16,11 +16,11 @@ use Rattle.keep_disk.specs.Blocks.{whole_blocks}
 
 abbrev pub of_keeper : KeepFault → RunFault
 of_keeper keeps.Disk = Disk
-of_keeper keeps.Memory = Memory
+of_keeper (keeps.Memory memory) = Memory memory
 
 abbrev pub of_sink : SinkFault → RunFault
 of_sink sinks.Failed = Write
-of_sink sinks.Memory = Memory
+of_sink (sinks.Memory memory) = Memory memory
 
 -- the blocks of rounds, and all that is told of them
 abbrev pub bodies_of : List Round → List (List ℕ)
@@ -46,13 +46,13 @@ pub record HasFirst (start more : List (List ℕ)) (least : ℕ) (image : List �
   pub within : count ≤ length more
   pub blocks : whole_blocks image ≡ start ++ take count more
 
--- A fault of the disk or of the sink comes only where its own count rose, and each count rises at nothing else.
+-- A fault of the disk or of the sink comes only where its own count rose. Neither count falls, and the disk's rises at nothing else.
 pub record RunCauses {D K T : Type 0} (disk_faults : D → ℕ) (sink_faults : K → ℕ) (before now : D) (out_before out_now : K) (result : Result T RunFault) : Type 0 where
   pub disk_count : disk_faults before ≤ disk_faults now
   pub disk : IsErrOf result Disk → Rose (disk_faults before) (disk_faults now)
   pub disk_steady : (IsErrOf result Disk → ⊥) → disk_faults now ≡ disk_faults before
+  pub sink_count : sink_faults out_before ≤ sink_faults out_now
   pub sink : IsErrOf result Write → Rose (sink_faults out_before) (sink_faults out_now)
-  pub sink_count : (IsErrOf result Write → ⊥) → sink_faults out_now ≡ sink_faults out_before
 
 -- Rounds came one after the other, and led from `first` to `last`. Each of them is kept, and was told of after that.
 pub record KeptAll {D K N : Type 0} (bytes : D → Option (List ℕ)) (may_leave : D → List ℕ → Type 0) (moment : D → ℕ) (left_since : D → ℕ → List ℕ → Type 0)

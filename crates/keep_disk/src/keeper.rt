@@ -7,8 +7,9 @@ ghost use Rattle.keep_disk.specs.Keeping.{AtRest, HasCause};
 
 use crate::body::Body;
 use crate::write::{KeepFault, write_synced};
+use fx_amounts::{Memory, room_for};
 use fx_disk::Disk;
-use std::alloc::{AllocError, Global};
+use std::alloc::Global;
 
 /// A gate that opens the block behind it.
 pub(crate) const OPEN: u8 = 1;
@@ -17,7 +18,7 @@ pub(crate) const OPEN: u8 = 1;
 pub(crate) const CLOSED: u8 = 0;
 
 /// The bytes of a block beside its body: its length, and the gate behind it.
-const FRAME: u64 = 9;
+const FRAME: usize = 9;
 
 /// What opened a journal file: its whole blocks then, and the place of its last gate now.
 #[derive(Drop)]
@@ -26,16 +27,17 @@ pub struct Keeper {
     pub(crate) place: u64,
 }
 
-// The place of the gate behind a block of a body of this length, where it fits 64 bits.
-fn place_behind(place: u64, body: &[u8]) -> Option<u64>
-    ensures next { IfSome result (λ next. next ≡ place + 9 + length body.now) }
+// The place of the gate behind a block of a body of this length. `Memory` where it doesn't fit 64 bits: no file is so long.
+fn place_behind(place: u64, body: &[u8]) -> Result<u64, Memory>
+    ensures next { IfOk result (λ next. next ≡ place + 9 + length body.now) }
     ensures fits { length body.now < 2 ^ 64 }
 {
-    place.checked_add(FRAME)?.checked_add(body.len() as u64)
+    let framed = room_for(place as usize, FRAME)?;
+    Ok(room_for(framed, body.len())? as u64)
 }
 
 // The length, the body and a closed gate.
-fn block_of(alloc: Global, body: &[u8]) -> Result<Vec<u8>, AllocError>
+fn block_of(alloc: Global, body: &[u8]) -> Result<Vec<u8>, Memory>
     ensures { IfOk result (λ block. block.items ≡ to_be_bytes w64 (length body.now) ++ body.now ++ 0 ∷ []) }
 {
     let length = body.len() as u64;
@@ -71,21 +73,10 @@ impl Keeper {
         ensures memory { OnErr result (self.new ≡ self.old) }
         ensures cause { HasCause D.faults disk.old disk.new result }
     {
-        let Some(next) = place_behind(self.place, body) else {
-            return Err(KeepFault::Memory);
-        };
-        let block = match block_of(*self.bodies.allocator(), body) {
-            Ok(block) => block,
-            Err(_) => return Err(KeepFault::Memory),
-        };
-        match write_synced(disk, self.place + 1, &block) {
-            Ok(()) => {}
-            Err(fault) => return Err(fault),
-        }
-        match write_synced(disk, self.place, &[OPEN]) {
-            Ok(()) => {}
-            Err(fault) => return Err(fault),
-        }
+        let next = place_behind(self.place, body)?;
+        let block = block_of(*self.bodies.allocator(), body)?;
+        write_synced(disk, self.place + 1, &block)?;
+        write_synced(disk, self.place, &[OPEN])?;
         self.place = next;
         Ok(())
     }

@@ -46,22 +46,10 @@ pub fn open_keeper<D: Disk>(alloc: Global, disk: &mut D) -> Result<Keeper, KeepF
     ensures tells { OnOk result (is_some (D.bytes disk.new) ≡ is_some (D.bytes disk.old)) }
     ensures cause { HasCause D.faults disk.old disk.new result }
 {
-    match settle(disk) {
-        Ok(()) => {}
-        Err(fault) => return Err(fault),
-    }
-    let bytes = match read_file(alloc, disk) {
-        Ok(bytes) => bytes,
-        Err(fault) => return Err(fault),
-    };
-    let found = match read_blocks(alloc, &bytes) {
-        Ok(found) => found,
-        Err(_) => return Err(KeepFault::Memory),
-    };
-    match close(disk, &bytes, found.place) {
-        Ok(()) => {}
-        Err(fault) => return Err(fault),
-    }
+    settle(disk)?;
+    let bytes = read_file(alloc, disk)?;
+    let found = read_blocks(alloc, &bytes)?;
+    close(disk, &bytes, found.place)?;
     Ok(Keeper {
         bodies: found.bodies,
         place: found.place as u64,

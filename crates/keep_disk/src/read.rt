@@ -6,9 +6,10 @@ ghost use Rattle.keep_disk.specs.inside.Keeping.{Untouched};
 
 use crate::body::Body;
 use crate::keeper::OPEN;
-use crate::write::{KeepFault, fault_of};
+use crate::write::KeepFault;
+use fx_amounts::Memory;
 use fx_disk::Disk;
-use std::alloc::{AllocError, Global};
+use std::alloc::Global;
 
 /// What a file's bytes have: the bodies of its whole blocks, and the place behind them.
 #[derive(Drop)]
@@ -41,7 +42,7 @@ fn next_body(file: &[u8]) -> Option<&[u8]>
 }
 
 /// The whole blocks of a file of these bytes.
-pub(crate) fn read_blocks(alloc: Global, file: &[u8]) -> Result<Found, AllocError>
+pub(crate) fn read_blocks(alloc: Global, file: &[u8]) -> Result<Found, Memory>
     ensures bodies { IfOk result (λ found. found.bodies.items ≡ whole_blocks file.now) }
     ensures place { IfOk result (λ found. found.place ≡ space (whole_blocks file.now)) }
     ensures within { IfOk result (λ found. found.place ≤ length file.now) }
@@ -70,7 +71,7 @@ fn fill<D: Disk>(disk: &mut D, into: &mut [u8]) -> Result<usize, KeepFault>
         match disk.read_at(at as u64, &mut into[at..]) {
             Ok(0) => return Ok(at),
             Ok(count) => at += count,
-            Err(stop) => return Err(fault_of(stop)),
+            Err(stop) => return Err(KeepFault::from(stop)),
         }
     }
     Ok(at)
@@ -83,17 +84,9 @@ pub(crate) fn read_file<D: Disk>(alloc: Global, disk: &mut D) -> Result<Vec<u8>,
     ensures every_moment { LeavesOnly D.moment D.left_since disk.old disk.new (D.may_leave disk.old) }
     ensures cause { HasCause D.faults disk.old disk.new result }
 {
-    let size = match disk.size() {
-        Ok(size) => size,
-        Err(stop) => return Err(fault_of(stop)),
-    };
-    let mut bytes = match Vec::from_elem(alloc, 0, size as usize) {
-        Ok(bytes) => bytes,
-        Err(_) => return Err(KeepFault::Memory),
-    };
-    match fill(disk, &mut bytes) {
-        Ok(count) => bytes.truncate(count),
-        Err(fault) => return Err(fault),
-    }
+    let size = disk.size()?;
+    let mut bytes = Vec::from_elem(alloc, 0, size as usize).map_err(Memory::from)?;
+    let count = fill(disk, &mut bytes)?;
+    bytes.truncate(count);
     Ok(bytes)
 }

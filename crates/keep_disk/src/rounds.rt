@@ -23,9 +23,9 @@ pub enum RunFault {
     /// The sink failed, and its count of faults rose.
     #[error("a notice could not be written")]
     Write,
-    /// There wasn't enough memory, and neither count rose. The file is to be opened again.
+    /// There wasn't enough memory, and the disk's count did not rise. The file is to be opened again.
     #[error("out of memory")]
-    Memory,
+    Memory(Memory),
 }
 
 impl From<KeepFault> for RunFault {
@@ -36,7 +36,7 @@ impl From<KeepFault> for RunFault {
     fn from(fault: KeepFault) -> Self {
         match fault {
             KeepFault::Disk => RunFault::Disk,
-            KeepFault::Memory => RunFault::Memory,
+            KeepFault::Memory(memory) => RunFault::Memory(memory),
         }
     }
 }
@@ -49,18 +49,18 @@ impl From<SinkFault> for RunFault {
     fn from(fault: SinkFault) -> Self {
         match fault {
             SinkFault::Failed => RunFault::Write,
-            SinkFault::Memory => RunFault::Memory,
+            SinkFault::Memory(memory) => RunFault::Memory(memory),
         }
     }
 }
 
 impl From<Memory> for RunFault {
-    ghost use Rattle.keep_disk.specs.declared.rounds.RunFault.TheVariants.{Memory as WantOfMemory};
+    ghost use Rattle.keep_disk.specs.declared.rounds.RunFault.TheVariants.{Memory as OutOfMemory};
 
-    ghost from_gives = { λ _ fault. fault ≡ WantOfMemory };
+    ghost from_gives = { λ memory fault. fault ≡ OutOfMemory memory };
 
-    fn from(_: Memory) -> Self {
-        RunFault::Memory
+    fn from(memory: Memory) -> Self {
+        RunFault::Memory(memory)
     }
 }
 

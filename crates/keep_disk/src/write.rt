@@ -3,6 +3,7 @@ ghost use Rattle.fx_disk.specs.Disk.{WhereTold, with_piece, TornBy, Only, Leaves
 ghost use Rattle.keep_disk.specs.Keeping.{HasCause};
 ghost use Rattle.keep_disk.specs.inside.Keeping.{TornFrom, Untouched};
 
+use fx_amounts::Memory;
 use fx_disk::{Disk, DiskStop};
 use thiserror::Error;
 
@@ -14,16 +15,29 @@ pub enum KeepFault {
     Disk,
     /// There wasn't enough memory. The disk's count of faults is as it was.
     #[error("out of memory")]
-    Memory,
+    Memory(Memory),
 }
 
-/// The fault that a disk's stop is to a keeper.
-pub(crate) fn fault_of(stop: DiskStop) -> KeepFault
-    ensures { result ≡ KeepFault.Disk ↔ stop ≡ DiskStop.Failed }
-{
-    match stop {
-        DiskStop::Failed => KeepFault::Disk,
-        DiskStop::Memory => KeepFault::Memory,
+impl From<DiskStop> for KeepFault {
+    ghost use Rattle.keep_disk.specs.Keeping.{of_disk};
+
+    ghost from_gives = { λ stop fault. fault ≡ of_disk stop };
+
+    fn from(stop: DiskStop) -> Self {
+        match stop {
+            DiskStop::Failed => KeepFault::Disk,
+            DiskStop::Memory(memory) => KeepFault::Memory(memory),
+        }
+    }
+}
+
+impl From<Memory> for KeepFault {
+    ghost use Rattle.keep_disk.specs.declared.write.KeepFault.TheVariants.{Memory as OutOfMemory};
+
+    ghost from_gives = { λ memory fault. fault ≡ OutOfMemory memory };
+
+    fn from(memory: Memory) -> Self {
+        KeepFault::Memory(memory)
     }
 }
 
@@ -34,10 +48,8 @@ pub(crate) fn settle<D: Disk>(disk: &mut D) -> Result<(), KeepFault>
     ensures every_moment { LeavesOnly D.moment D.left_since disk.old disk.new (D.may_leave disk.old) }
     ensures cause { HasCause D.faults disk.old disk.new result }
 {
-    match disk.sync() {
-        Ok(()) => Ok(()),
-        Err(stop) => Err(fault_of(stop)),
-    }
+    disk.sync()?;
+    Ok(())
 }
 
 // Writes a piece. Until a sync a crash may leave any bytes in its range.
@@ -49,10 +61,8 @@ fn write<D: Disk>(disk: &mut D, at: u64, piece: &[u8]) -> Result<(), KeepFault>
         (TornFrom at (length piece.now) (D.may_leave disk.old)) }
     ensures cause { HasCause D.faults disk.old disk.new result }
 {
-    match disk.write_at(at, piece) {
-        Ok(()) => Ok(()),
-        Err(stop) => Err(fault_of(stop)),
-    }
+    disk.write_at(at, piece)?;
+    Ok(())
 }
 
 /// Writes a piece and syncs. At every moment of it a crash leaves an image from before, with any
@@ -65,8 +75,6 @@ pub(crate) fn write_synced<D: Disk>(disk: &mut D, at: u64, piece: &[u8]) -> Resu
         (TornFrom at (length piece.now) (D.may_leave disk.old)) }
     ensures cause { HasCause D.faults disk.old disk.new result }
 {
-    match write(disk, at, piece) {
-        Ok(()) => settle(disk),
-        Err(fault) => Err(fault),
-    }
+    write(disk, at, piece)?;
+    settle(disk)
 }

@@ -62,7 +62,7 @@ fn check_history(
     let mut output = SteadySink::new(alloc);
     match write_output_from(alloc, session, entries, market, 0, Ending::End, &mut output) {
         Ok(()) => check_output(alloc, output.written()),
-        Err(OutFault::Memory) => Err(Memory),
+        Err(OutFault::Memory(memory)) => Err(memory),
         // Such a sink never fails.
         Err(OutFault::Write) => unreachable!(),
     }

@@ -13,7 +13,8 @@ use Rattle.fx_rules.specs.declared.command.Sent.{Sent}
 use Rattle.fx_rules.specs.Lists.{Each}
 use Rattle.fx_rules.specs.Sending.{IsSentOf}
 use Rattle.fx_rules.specs.Session.{Header, bank_count, pair_count}
-use Rattle.fx_rules.specs.Step.{IsCommand}
+use Rattle.fx_rules.specs.Step.{AreValues}
+use Rattle.fx_rules.proofs.Senders.{bank-suits}
 use Rattle.made_session.proofs.Listed.{length-made}
 use Rattle.made_session.specs.Session.{made_bank, made_pair, made_header}
 use Rattle.made_session.specs.Draws.{after_draws, draw}
@@ -37,8 +38,8 @@ counts_of seed banks pairs h two one is = record {
 draw_below : (k n x : ℕ) → 1 ≤ n → draw k n x < n
 draw_below k n x some = mod-lt (after_draws k x) (omega arith)
 
-order_is_command : (h : Header) (banks pairs sender : ℕ) (side : Side) (life : Life) (x : ℕ) → Counts h banks pairs → IsCommand h sender (drawn_order pairs side life x)
-order_is_command h banks pairs sender side life x counts =
+order_values : (h : Header) (banks pairs sender : ℕ) (side : Side) (life : Life) (x : ℕ) → Counts h banks pairs → AreValues h sender (drawn_order pairs side life x)
+order_values h banks pairs sender side life x counts =
     let pair = draw_below 1 pairs x counts.one in
     let ticks = draw_below 2 101 x (omega arith) in
     let lots = draw_below 3 20 x (omega arith) in
@@ -60,8 +61,8 @@ other-than banks sender n of within = elim (cases_lt n sender) [
   | inr high ↦ record { within = omega (arith, other_high sender n high); another = λ same. omega (arith, other_high sender n high, same) }
 ]
 
-line_is_command : (h : Header) (banks pairs sender x : ℕ) → Counts h banks pairs → sender < banks → IsCommand h sender (drawn_line banks sender x)
-line_is_command h banks pairs sender x counts of =
+line_values : (h : Header) (banks pairs sender x : ℕ) → Counts h banks pairs → sender < banks → AreValues h sender (drawn_line banks sender x)
+line_values h banks pairs sender x counts of =
     let two = counts.two in
     let other = other-than banks sender (draw 1 (banks - 1) x) of (draw_below 1 (banks - 1) x (omega arith)) in
     let limit = draw_below 2 21 x (omega arith) in
@@ -74,15 +75,15 @@ picked P false false true d v w x y z pv pw px py pz = px
 picked P false false false true v w x y z pv pw px py pz = py
 picked P false false false false v w x y z pv pw px py pz = pz
 
-command_is_command : (h : Header) (banks pairs sender kind x : ℕ) → Counts h banks pairs → sender < banks → IsCommand h sender (drawn_command banks pairs sender kind x)
-command_is_command h banks pairs sender kind x counts of =
-    picked (IsCommand h sender) (nat_lt kind 12) (kind == 12) (kind == 13) (kind == 14)
+command_values : (h : Header) (banks pairs sender kind x : ℕ) → Counts h banks pairs → sender < banks → AreValues h sender (drawn_command banks pairs sender kind x)
+command_values h banks pairs sender kind x counts of =
+    picked (AreValues h sender) (nat_lt kind 12) (kind == 12) (kind == 13) (kind == 14)
     (drawn_order pairs (if kind % 2 == 0 then Buy else Sell) Day x) (drawn_order pairs Buy Ioc x) (drawn_order pairs Sell Fok x)
     (drawn_line banks sender x) (Book (draw 1 pairs x))
-    (order_is_command h banks pairs sender (if kind % 2 == 0 then Buy else Sell) Day x counts)
-    (order_is_command h banks pairs sender Buy Ioc x counts)
-    (order_is_command h banks pairs sender Sell Fok x counts)
-    (line_is_command h banks pairs sender x counts of)
+    (order_values h banks pairs sender (if kind % 2 == 0 then Buy else Sell) Day x counts)
+    (order_values h banks pairs sender Buy Ioc x counts)
+    (order_values h banks pairs sender Sell Fok x counts)
+    (line_values h banks pairs sender x counts of)
     (let pair = draw_below 1 pairs x counts.one in omega (arith, pair, counts.pairs_are))
 
 sent_is : (h : Header) (banks pairs x : ℕ) → Counts h banks pairs → IsSentOf h (drawn_sent banks pairs x)
@@ -90,8 +91,10 @@ sent_is h banks pairs x counts =
     let two = counts.two in
     let sender : draw 1 banks x < banks = draw_below 1 banks x (omega arith) in
     record {
-      sender = omega (arith, sender, counts.banks_are);
-      command = command_is_command h banks pairs (draw 1 banks x) (draw 2 16 x) (after_draws 2 x) counts sender;
+      command = record {
+        sends = bank-suits h (draw 1 banks x) (drawn_command banks pairs (draw 1 banks x) (draw 2 16 x) (after_draws 2 x)) (omega (arith, sender, counts.banks_are));
+        values = command_values h banks pairs (draw 1 banks x) (draw 2 16 x) (after_draws 2 x) counts sender;
+      };
     }
 
 pub all_sent : (h : Header) (banks pairs count x : ℕ) → Counts h banks pairs → Each (IsSentOf h) (drawn_all banks pairs count x)

@@ -30,7 +30,6 @@ may-send stands run s can = (
   can.has_run.legal,
   can.has_run.market,
   record {
-    sender = can.valid.0.sender;
     allowed = can.valid.0.command;
     number = omega (arith, can.few, counts-most can.session run.entries s.bank can.has_run.legal);
   },

@@ -5,8 +5,8 @@ use Rattle.fx_amounts.specs.declared.memory.Memory.{Memory}
 use Rattle.fx_rules.specs.declared.command.Command.{Command}
 use Rattle.fx_rules.specs.declared.outcome.Outcome.{Outcome}
 use Rattle.fx_rules.specs.declared.outcome.Entry.{Entry}
-use Rattle.fx_rules.specs.Session.{Header, sender_count}
-use Rattle.fx_rules.specs.Step.{IsCommand, IsOutcome}
+use Rattle.fx_rules.specs.Session.{Header, sender_places}
+use Rattle.fx_rules.specs.Step.{AreValues, IsOutcome}
 use Rattle.fx_rules.specs.History.{IsLegal, state, own}
 use Rattle.fx_rules.specs.Keyed.{touches_key}
 use Rattle.fx_rules.proofs.Soundness.{legal-sound, legal-push}
@@ -14,6 +14,7 @@ use Rattle.fx_rules.proofs.Counting.{counts-own}
 use Rattle.fx_rules.proofs.Continuing.{entry_same}
 use Rattle.fx_rules.proofs.ListLemmas.{filter_cons_true}
 use Rattle.fx_rules.proofs.KeyedLemmas.{touches-sender, touches-bank}
+use Rattle.fx_rules.proofs.Senders.{places-most}
 use Rattle.fx_chronicle.specs.Touching.{touched, pends, without}
 use Rattle.fx_chronicle.specs.Faces.{Chronicle, Witness, witness}
 use Rattle.fx_chronicle.proofs.Pending.{pends-touched, signed_by_one}
@@ -21,6 +22,7 @@ use Rattle.flat_host.specs.FlatState.{FlatState, StandsFor}
 use Rattle.flat_host.specs.Steps.{AnswersEach}
 use Rattle.fx_desk.specs.Submitting.{next_own, Submitted}
 use Rattle.fx_desk.proofs.Owning.{own-append}
+use Rattle.fx_desk.proofs.Sending.{pass-command}
 use Rattle.fx_desk.proofs.Submits.{submits}
 use Rattle.one_lock_host.specs.inside.Floor.{IsFloor}
 
@@ -35,11 +37,10 @@ abbrev pub made : ℕ → ℕ → Command → Outcome → Entry
 made bank number command outcome = record { bank = bank; number = number; command = command; outcome = outcome }
 
 -- it goes on the history
-pub goes_on : (h : Header) (host : FlatState) (writer : Chronicle Entry) (bank key count : ℕ) (command : Command) (outcome copy : Outcome) → IsFloor h host writer → bank ≡ key → bank < sender_count h → IsCommand h key command → count ≡ slice_index host.counts bank → count < 4294967296 → count ≢ 4294967295 → AnswersEach host bank command outcome → copy ≡ outcome → IsLegal h (writer.entries ++ record { bank = bank; number = count + 1; command = command; outcome = copy } ∷ [])
-goes_on h host writer bank key count command outcome copy floor bank_is sender may is most not_last answers copied =
+pub goes_on : (h : Header) (host : FlatState) (writer : Chronicle Entry) (bank key count : ℕ) (command : Command) (outcome copy : Outcome) → IsFloor h host writer → bank ≡ key → bank < sender_places h → AreValues h key command → count ≡ slice_index host.counts bank → count < 4294967296 → count ≢ 4294967295 → AnswersEach host bank command outcome → copy ≡ outcome → IsLegal h (writer.entries ++ record { bank = bank; number = count + 1; command = command; outcome = copy } ∷ [])
+goes_on h host writer bank key count command outcome copy floor bank_is sender values is most not_last answers copied =
     legal-push h writer.entries (record { bank = bank; number = count + 1; command = command; outcome = copy }) floor.legal record {
-      sender = sender;
-      command = subst (λ b. IsCommand h b command) (sym bank_is) may;
+      command = pass-command h bank command sender (subst (λ b. AreValues h b command) (sym bank_is) values);
       number = ap (λ n. n + 1) (is ∙ ap (λ (counts : List ℕ). slice_index counts bank) floor.stands.counts);
       number_most = below count most not_last;
       outcome = subst (IsOutcome h (state h writer.entries) bank command) (sym copied) (answers h (state h writer.entries) floor.legal.session (legal-sound h writer.entries floor.legal) floor.stands);
@@ -65,11 +66,11 @@ committed e first room met after places room_is met_is after_is =
     }
 
 -- its sender has to sign
-pub sender_pends : (h : Header) (host : FlatState) (before after : Chronicle Entry) (e : Entry) (key : ℕ) → IsFloor h host before → IsWith e before after → key ≡ e.bank → e.bank < sender_count h → pends after.pending key ≡ true
+pub sender_pends : (h : Header) (host : FlatState) (before after : Chronicle Entry) (e : Entry) (key : ℕ) → IsFloor h host before → IsWith e before after → key ≡ e.bank → e.bank < sender_places h → pends after.pending key ≡ true
 sender_pends h host before after e key floor grown key_is sender =
     ap (λ keys. pends keys key) (grown.pending ∙ ap (touched touches_key e) floor.keys)
     ∙ ap (pends (touched touches_key e 65)) key_is
-    ∙ pends-touched touches_key e 65 e.bank (omega (arith, sender, floor.legal.session.banks_most))
+    ∙ pends-touched touches_key e 65 e.bank (omega (arith, sender, places-most h floor.legal.session))
     ∙ touches-sender e
 
 -- and nobody else, so that what lies under the lock is as it should be once it did

@@ -1,6 +1,6 @@
-ghost use Rattle.std.specs.Prelude.{◌≡◌, List, IfOk};
+ghost use Rattle.std.specs.Prelude.{◌≡◌, List, map, IfOk};
 ghost use Rattle.fx_rules.specs.declared.outcome.Entry.{Entry};
-ghost use Rattle.fx_rules.specs.Session.{Header, IsSession, sender_count};
+ghost use Rattle.fx_rules.specs.Session.{Header, IsSession, sender_places, senders};
 ghost use Rattle.fx_rules.specs.Lists.{Among};
 ghost use Rattle.fx_rules.specs.History.{IsLegal, own};
 ghost use Rattle.fx_chronicle.specs.Faces.{AreNew, Witness};
@@ -24,7 +24,7 @@ pub struct OneLockHost<N: Naming> {
     floor: Mutex<Floor<N>>,
 }
 
-/// Opens a host for a day of the session, with one pass for each bank in the session's order. The blank is for 65 keys.
+/// Opens a host for a day of the session, with one new pass for each of its senders, in order. The blank is for 65 keys.
 /// At `Memory` the blank is gone.
 pub fn open_one<N: Naming>(
     alloc: Global,
@@ -34,7 +34,8 @@ pub fn open_one<N: Naming>(
     requires table { blank.table ≡ N.table }
     requires keys { blank.keys ≡ 65 }
     requires session { session.now ≡ N.session }
-    ensures passes { IfOk result (λ opened. AreNew (sender_count N.session) opened.1.items) }
+    ensures passes { IfOk result (λ opened. AreNew (sender_places N.session) opened.1.items) }
+    ensures senders { IfOk result (λ opened. map (λ pass. pass.key) opened.1.items ≡ senders N.session) }
 {
     let (writer, fronts) = open::<N, Entry>(alloc, blank)?;
     let passes = passes_of(alloc, session.banks().len(), fronts)?;
@@ -55,7 +56,7 @@ fn passes_of<N: Naming>(
 ) -> Result<Vec<OnePass<N>>, Memory>
     requires session { IsSession N.session }
     requires fronts { AreNew 65 fronts.items }
-    requires banks { banks ≡ sender_count N.session }
+    requires banks { banks ≡ sender_places N.session }
     ensures passes { IfOk result (λ passes. AreNew banks passes.items) }
 {
     fronts.truncate(banks);

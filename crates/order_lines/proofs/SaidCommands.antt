@@ -4,7 +4,7 @@ use Rattle.std.proofs.lemmas.Bool.{cases_Bool, cond-true, cond-false, eqb-true}
 use Rattle.fx_amounts.specs.declared.side.Side.{Side}
 use Rattle.fx_amounts.specs.declared.side.Side.TheVariants as side
 use Rattle.fx_rules.specs.Session.{Header, IsSession, pair_count, bank_name, pair_name}
-use Rattle.fx_rules.specs.Step.{IsCommand}
+use Rattle.fx_rules.specs.Step.{AreValues}
 use Rattle.fx_rules.specs.declared.command.Command.{Command}
 use Rattle.fx_rules.specs.declared.command.Command.TheVariants as command
 use Rattle.fx_rules.specs.declared.command.Life.{Life}
@@ -44,7 +44,7 @@ fields_6 (x ∷ fields) a b c d e f count is_a is_b is_c is_d is_e is_f = ap (λ
 
 -- the fields say a command: it is no bad one, its values are in their ranges, and the fields are its spelling
 pub record SaysCommand (h : Header) (bank : ℕ) (fields : List (List ℕ)) (command : Command) : Type 0 where
-  pub in_range : IsCommand h bank command
+  pub in_range : AreValues h bank command
   pub good : is_bad command ≡ false
   pub spelled : fields ≡ command_fields h bank command
 
@@ -170,13 +170,13 @@ command_said-ok h bank fields said name is =
     (cases_Bool (eqb (length fields) (field_count word)))
 
 -- what is spelled so is read
-order-spelled : (h : Header) (bank : ℕ) (side : Side) (pair price lots : ℕ) (life : Life) → IsSession h → IsCommand h bank (command.Order side pair price lots life)
+order-spelled : (h : Header) (bank : ℕ) (side : Side) (pair price lots : ℕ) (life : Life) → IsSession h → AreValues h bank (command.Order side pair price lots life)
     → order_said h side (command_fields h bank (command.Order side pair price lots life)) ≡ Ok (command.Order side pair price lots life)
 unfolding order_said
 order-spelled h bank side pair price lots life session is =
     rw (pair_said-name h pair session is.0, price_said-spelled h pair price is.1, lots_said-numeral lots is.2, life_said-text life) refl
 
-pub command_said-fields : (h : Header) (bank : ℕ) (said : Command) → IsSession h → IsCommand h bank said → is_bad said ≡ false → command_said h bank (command_fields h bank said) ≡ Ok said
+pub command_said-fields : (h : Header) (bank : ℕ) (said : Command) → IsSession h → AreValues h bank said → is_bad said ≡ false → command_said h bank (command_fields h bank said) ≡ Ok said
 unfolding command_said word_said cancel_said reduce_said pull_said line_said show_said book_said
 command_said-fields h bank (command.Order side.Buy pair price lots life) session is good = order-spelled h bank side.Buy pair price lots life session is
 command_said-fields h bank (command.Order side.Sell pair price lots life) session is good = order-spelled h bank side.Sell pair price lots life session is

@@ -16,7 +16,7 @@ use Rattle.fx_amounts.proofs.PriceTextLemmas.{Says, Says-price_of, price_of-pric
 use Rattle.fx_text.specs.Number.{number_of}
 use Rattle.fx_text.proofs.NumberLemmas.{Reads, Reads-number_of, number_of-numeral}
 use Rattle.fx_rules.specs.Reject.{code_of}
-use Rattle.fx_rules.specs.Session.{Header, IsSession, IsPairRule, AreSamePair, bank_count, pair_count, bank_of, pair_of, pair_text, bank_name, decimals_of, pair_name}
+use Rattle.fx_rules.specs.Session.{Header, IsSession, IsPairRule, AreSamePair, bank_count, pair_count, bank_named, pair_named, pair_text, bank_name, decimals_of, pair_name}
 use Rattle.fx_rules.specs.Step.{IsNumber}
 use Rattle.fx_rules.specs.declared.command.Life.{Life}
 use Rattle.fx_rules.specs.declared.command.Life.TheVariants.{Day, Ioc, Fok}
@@ -56,20 +56,20 @@ option_map-id None = refl
 option_map-id (Some x) = refl
 
 -- a bank's name
-pub bank_of-ok : (h : Header) (text : List ℕ) (bank : ℕ) → bank_of h text ≡ Some bank → (bank < bank_count h) × (text ≡ bank_name h bank)
-bank_of-ok h text bank found =
+pub bank_named-ok : (h : Header) (text : List ℕ) (bank : ℕ) → bank_named h text ≡ Some bank → (bank < bank_count h) × (text ≡ bank_name h bank)
+bank_named-ok h text bank found =
     let at : slice_get h.banks bank ≡ Some text = sym (option_map-id (slice_get h.banks bank)) ∙ found_from_place (λ name. name) text h.banks bank found in
     (slice_get_within h.banks bank text at, sym (get_or_from_slice_get h.banks bank text [] at))
 
-pub bank_of-name : (h : Header) (bank : ℕ) → IsSession h → bank < bank_count h → bank_of h (bank_name h bank) ≡ Some bank
-bank_of-name h bank session within =
+pub bank_named-name : (h : Header) (bank : ℕ) → IsSession h → bank < bank_count h → bank_named h (bank_name h bank) ≡ Some bank
+bank_named-name h bank session within =
     position-is (λ name. bytes_eq name (bank_name h bank)) h.banks bank [] within
     ((bytes_decides (bank_name h bank) (bank_name h bank)).1 refl)
     (λ k before. false_from_ne_true _ (λ same. session.names_differ k bank [] before within ((bytes_decides (get_or h.banks k []) (bank_name h bank)).0 same)))
 
 -- a pair
-pub pair_of-ok : (h : Header) (text : List ℕ) (pair : ℕ) → pair_of h text ≡ Some pair → (pair < pair_count h) × (text ≡ pair_name h pair)
-pair_of-ok h text pair found =
+pub pair_named-ok : (h : Header) (text : List ℕ) (pair : ℕ) → pair_named h text ≡ Some pair → (pair < pair_count h) × (text ≡ pair_name h pair)
+pair_named-ok h text pair found =
     let at : slice_get (map pair_text h.pairs) pair ≡ Some text = slice_get-map pair_text h.pairs pair ∙ found_from_place pair_text text h.pairs pair found in
     let within : pair < length (map pair_text h.pairs) = slice_get_within (map pair_text h.pairs) pair text at in
     (omega (arith, length-map h.pairs pair_text), sym (get_or_from_slice_get (map pair_text h.pairs) pair text [] at))
@@ -82,8 +82,8 @@ same_pair a b left right same =
       ap (drop 1) (sym (drop_at a.base (47 ∷ a.quote) 3 base) ∙ ap (drop 3) same ∙ drop_at b.base (47 ∷ b.quote) 3 base'),
     )
 
-pub pair_of-name : (h : Header) (pair : ℕ) → IsSession h → pair < pair_count h → pair_of h (pair_name h pair) ≡ Some pair
-pair_of-name h pair session within =
+pub pair_named-name : (h : Header) (pair : ℕ) → IsSession h → pair < pair_count h → pair_named h (pair_name h pair) ≡ Some pair
+pair_named-name h pair session within =
     let is : pair_name h pair ≡ pair_text (get_or h.pairs pair no_rule) = pair_name-is h pair within in
     position-is (λ rule. bytes_eq (pair_text rule) (pair_name h pair)) h.pairs pair no_rule within
     ((bytes_decides (pair_text (get_or h.pairs pair no_rule)) (pair_name h pair)).1 (sym is))
@@ -95,11 +95,11 @@ pair_of-name h pair session within =
 
 pub pair_said-ok : (h : Header) (text : List ℕ) (pair : ℕ) → pair_said h text ≡ Ok pair → (pair < pair_count h) × (text ≡ pair_name h pair)
 unfolding pair_said
-pair_said-ok h text pair said = pair_of-ok h text pair (ok_or-ok (pair_of h text) reject.Pair pair said)
+pair_said-ok h text pair said = pair_named-ok h text pair (ok_or-ok (pair_named h text) reject.Pair pair said)
 
 pub pair_said-name : (h : Header) (pair : ℕ) → IsSession h → pair < pair_count h → pair_said h (pair_name h pair) ≡ Ok pair
 unfolding pair_said
-pair_said-name h pair session within = ap (λ (option : Option ℕ). ok_or option reject.Pair) (pair_of-name h pair session within)
+pair_said-name h pair session within = ap (λ (option : Option ℕ). ok_or option reject.Pair) (pair_named-name h pair session within)
 
 -- a price
 price_or_fault-ok : (read : Result ℕ PriceFault) (price : ℕ) → price_or_fault read ≡ Ok price → read ≡ Ok price
@@ -201,14 +201,14 @@ other_than-ok sender (Some bank) other said = ⊎_elim
 pub other_said-ok : (h : Header) (sender : ℕ) (text : List ℕ) (other : ℕ) → other_said h sender text ≡ Ok other → (other < bank_count h) × (other ≢ sender) × (text ≡ bank_name h other)
 unfolding other_said
 other_said-ok h sender text other said =
-    let found = other_than-ok sender (bank_of h text) other said in
-    let named = bank_of-ok h text other found.0 in
+    let found = other_than-ok sender (bank_named h text) other said in
+    let named = bank_named-ok h text other found.0 in
     (named.0, found.1, named.1)
 
 pub other_said-name : (h : Header) (sender other : ℕ) → IsSession h → other < bank_count h → other ≢ sender → other_said h sender (bank_name h other) ≡ Ok other
 unfolding other_said
 other_said-name h sender other session within another =
-    ap (other_than sender) (bank_of-name h other session within) ∙ cond-false _ _ _ (ne_eqb other sender another)
+    ap (other_than sender) (bank_named-name h other session within) ∙ cond-false _ _ _ (ne_eqb other sender another)
 
 -- faults
 pub fault_of-code : (fault : Reject) → fault_of (code_of fault) ≡ Some fault

@@ -1,5 +1,5 @@
 -- A line says a command of a bank just where its fields are the spelling of it.
-use Rattle.std.proofs.Common.{◌≡◌, ℕ, ◌<◌, ◌≤◌, Bool, true, false, cond, ◌&&◌, List, ◌∷◌, length, get_or, refl, sym, ap, ◌∙◌, arith, eqb, subst, ⊎_elim, Option, Some, None, Result, Ok, Err, option_map, option_and_then, bytes_eq, IfSome}
+use Rattle.std.proofs.Common.{◌≡◌, ℕ, ◌<◌, ◌≤◌, Bool, true, false, cond, ◌&&◌, List, [], ◌∷◌, length, get_or, refl, sym, ap, ◌∙◌, arith, eqb, subst, ⊎_elim, Option, Some, None, Result, Ok, Err, option_map, option_and_then, bytes_eq, IfSome}
 use Rattle.std.proofs.lemmas.Bool.{cases_Bool, cond-true, cond-false, and_parts, eqb-true, ne_eqb, false≢true}
 use Rattle.std.proofs.lemmas.Option.{some_pair_parts}
 use Rattle.std.specs.Cmp.Lexicographic.{bytes_decides}
@@ -11,21 +11,24 @@ use Rattle.fx_text.specs.declared.line.Line.{Line}
 use Rattle.fx_text.specs.declared.line.Line.TheVariants.{Whole, Long}
 use Rattle.fx_text.proofs.NumberLemmas.{Reads, Reads-number_of, number_of-numeral}
 use Rattle.fx_rules.specs.Reject.{code_of}
-use Rattle.fx_rules.specs.Session.{Header, IsSession, bank_count, bank_of, bank_name}
+use Rattle.fx_rules.specs.Session.{Header, IsSession, bank_count, bank_named, bank_name}
 use Rattle.fx_rules.specs.Step.{IsCommand}
 use Rattle.fx_rules.specs.declared.command.Command.{Command}
 use Rattle.fx_rules.specs.declared.command.Command.TheVariants as command
 use Rattle.fx_rules.specs.declared.command.Reject.{Reject}
 use Rattle.fx_rules.specs.declared.command.Reject.TheVariants as reject
+use Rattle.fx_rules.proofs.Senders.{bank-suits}
 use Rattle.order_lines.specs.Grammar.{command_line, journal_line, sent_by, or_bad, recorded, is_bad, fault_in, bad_said, IfSent}
-use Rattle.order_lines.specs.Reading.{field, command_said, word_said}
+use Rattle.order_lines.specs.Reading.{◌>>=◌, field, command_said, said_by, word_said, order_said, cancel_said, reduce_said, pull_said, line_said, show_said, book_said}
 use Rattle.order_lines.specs.Spelling.{command_fields, IsSpelled}
-use Rattle.order_lines.specs.Words.{bad_word, fault_of}
+use Rattle.order_lines.specs.Words.{bad_word, fault_of, field_count}
+use Rattle.order_lines.specs.declared.word.Word.{Word}
+use Rattle.order_lines.specs.declared.word.Word.TheVariants as words
 use Rattle.order_lines.specs.declared.spoken.Spoken.{Spoken}
 use Rattle.order_lines.specs.declared.spoken.Spoken.TheVariants.{Of, Stray, End, Passed}
 use Rattle.order_lines.proofs.FieldTexts.{bank_name-letter}
 use Rattle.order_lines.proofs.SaidCommands.{SaysCommand, command_said-ok, command_said-fields, fields_3}
-use Rattle.order_lines.proofs.SaidFields.{bank_of-ok, bank_of-name, fault_of-code, fault_of-ok}
+use Rattle.order_lines.proofs.SaidFields.{bank_named-ok, bank_named-name, fault_of-code, fault_of-ok}
 
 abbrev first_of : Line → List ℕ
 first_of (Whole text) = first_field text
@@ -38,23 +41,61 @@ pub record IsSent (h : Header) (line : Line) (bank : ℕ) (said : Command) : Typ
   pub in_range : IsCommand h bank said
   pub spelled : is_bad said ≡ false → IsSpelled h line bank said
 
+bad_command : (h : Header) (bank : ℕ) (fault : Reject) → bank < bank_count h → IsCommand h bank (command.Bad fault)
+bad_command h bank fault within = record { sends = bank-suits h bank (command.Bad fault) within; values = tt }
+
 sent_by-ok : (found : Option ℕ) (commands : ℕ → Command) (bank : ℕ) (said : Command) → sent_by found commands ≡ Of bank said → (found ≡ Some bank) × (commands bank ≡ said)
 sent_by-ok None commands bank said is = absurd (cc)
 sent_by-ok (Some sender) commands bank said is = let same : sender ≡ bank = cc in (ap Some same, ap commands (sym same) ∙ cc)
 
-sent_whole : (h : Header) (text : List ℕ) (bank : ℕ) (said : Command) → bank_of h (first_field text) ≡ Some bank → (read : Result Command Reject) → command_said h bank (fields_of text) ≡ read → or_bad read ≡ said → IsSent h (Whole text) bank said
+sent_whole : (h : Header) (text : List ℕ) (bank : ℕ) (said : Command) → bank_named h (first_field text) ≡ Some bank → (read : Result Command Reject) → command_said h bank (fields_of text) ≡ read → or_bad read ≡ said → IsSent h (Whole text) bank said
 sent_whole h text bank said found (Ok command) read is =
-    let named = bank_of-ok h (first_field text) bank found in
+    let named = bank_named-ok h (first_field text) bank found in
     let says : SaysCommand h bank (fields_of text) said = command_said-ok h bank (fields_of text) said named.1 (read ∙ ap Ok is) in
-    record { within = named.0; name = named.1; in_range = says.in_range; spelled = λ _. says.spelled }
+    record { within = named.0; name = named.1; in_range = record { sends = bank-suits h bank said named.0; values = says.in_range }; spelled = λ _. says.spelled }
 sent_whole h text bank said found (Err fault) read is =
-    let named = bank_of-ok h (first_field text) bank found in
-    subst (IsSent h (Whole text) bank) is (record { within = named.0; name = named.1; in_range = tt; spelled = λ good. absurd (false≢true (sym good)) })
+    let named = bank_named-ok h (first_field text) bank found in
+    subst (IsSent h (Whole text) bank) is (record { within = named.0; name = named.1; in_range = bad_command h bank fault named.0; spelled = λ good. absurd (false≢true (sym good)) })
+
+-- the first field of a line is not read for its command
+by_word : (h : Header) (sender : ℕ) (word : Word) (first other : List ℕ) (rest : List (List ℕ)) → said_by h sender word (first ∷ rest) ≡ said_by h sender word (other ∷ rest)
+unfolding order_said cancel_said reduce_said pull_said line_said show_said book_said
+by_word h sender words.Buy first other rest = refl
+by_word h sender words.Sell first other rest = refl
+by_word h sender words.Cancel first other rest = refl
+by_word h sender words.Reduce first other rest = refl
+by_word h sender words.Pull first other rest = refl
+by_word h sender words.Line first other rest = refl
+by_word h sender words.Show first other rest = refl
+by_word h sender words.Book first other rest = refl
+
+abbrev by_count : Header → ℕ → List (List ℕ) → Word → Result Command Reject
+by_count h sender fields word = cond (eqb (length fields) (field_count word)) (said_by h sender word fields) (Err reject.Count)
+
+by_read : (h : Header) (sender : ℕ) (word : Result Word Reject) (first other : List ℕ) (rest : List (List ℕ)) → (word >>= by_count h sender (first ∷ rest)) ≡ (word >>= by_count h sender (other ∷ rest))
+by_read h sender (Ok word) first other rest = ap (λ (said : Result Command Reject). cond (eqb (length (first ∷ rest)) (field_count word)) said (Err reject.Count)) (by_word h sender word first other rest)
+by_read h sender (Err fault) first other rest = refl
+
+said_behind : (h : Header) (sender : ℕ) (first other : List ℕ) (rest : List (List ℕ)) → command_said h sender (first ∷ rest) ≡ command_said h sender (other ∷ rest)
+unfolding command_said word_said
+said_behind h sender first other rest = by_read h sender (word_said (first ∷ rest)) first other rest
+
+read-in_range : (h : Header) (sender : ℕ) (rest : List (List ℕ)) (read : Result Command Reject) → sender < bank_count h → command_said h sender (bank_name h sender ∷ rest) ≡ read → IsCommand h sender (or_bad read)
+read-in_range h sender rest (Ok said) within read =
+    record { sends = bank-suits h sender said within; values = (command_said-ok h sender (bank_name h sender ∷ rest) said refl read).in_range }
+read-in_range h sender rest (Err fault) within read = bad_command h sender fault within
+
+-- a sender's fields say what it may send
+pub said-in_range : (h : Header) (sender : ℕ) (fields : List (List ℕ)) → sender < bank_count h → IsCommand h sender (or_bad (command_said h sender fields))
+unfolding command_said word_said
+said-in_range h sender [] within = bad_command h sender reject.Word within
+said-in_range h sender (first ∷ rest) within =
+    read-in_range h sender rest (command_said h sender (first ∷ rest)) within (said_behind h sender (bank_name h sender) first rest)
 
 pub IsSent-command_line : (h : Header) (line : Line) (bank : ℕ) (said : Command) → command_line h line ≡ Of bank said → IsSent h line bank said
 unfolding command_line
 IsSent-command_line h (Whole text) bank said is =
-    let sent : Spoken = sent_by (bank_of h (first_field text)) (λ sender. or_bad (command_said h sender (fields_of text))) in
+    let sent : Spoken = sent_by (bank_named h (first_field text)) (λ sender. or_bad (command_said h sender (fields_of text))) in
     let rest : Spoken = cond (is_end (fields_of text)) End sent in
     ⊎_elim
     (λ (passed : is_passed_over (Whole text) ≡ true). absurd (let e : Passed ≡ Of bank said = sym (cond-true (is_passed_over (Whole text)) Passed rest passed) ∙ is in cc))
@@ -63,18 +104,18 @@ IsSent-command_line h (Whole text) bank said is =
     ⊎_elim
     (λ (ends : is_end (fields_of text) ≡ true). absurd (let e : End ≡ Of bank said = sym (cond-true (is_end (fields_of text)) End sent ends) ∙ is' in cc))
     (λ (goes : is_end (fields_of text) ≡ false).
-    let by = sent_by-ok (bank_of h (first_field text)) (λ sender. or_bad (command_said h sender (fields_of text))) bank said (sym (cond-false (is_end (fields_of text)) End sent goes) ∙ is') in
+    let by = sent_by-ok (bank_named h (first_field text)) (λ sender. or_bad (command_said h sender (fields_of text))) bank said (sym (cond-false (is_end (fields_of text)) End sent goes) ∙ is') in
     sent_whole h text bank said by.0 (command_said h bank (fields_of text)) refl by.1)
     (cases_Bool (is_end (fields_of text))))
     (cases_Bool (is_passed_over (Whole text)))
 IsSent-command_line h (Long first) bank said is =
-    let sent : Spoken = sent_by (bank_of h first) (λ sender. command.Bad reject.Long) in
+    let sent : Spoken = sent_by (bank_named h first) (λ sender. command.Bad reject.Long) in
     ⊎_elim
     (λ (passed : is_comment first ≡ true). absurd (let e : Passed ≡ Of bank said = sym (cond-true (is_comment first) Passed sent passed) ∙ is in cc))
     (λ (kept : is_comment first ≡ false).
-    let by = sent_by-ok (bank_of h first) (λ sender. command.Bad reject.Long) bank said (sym (cond-false (is_comment first) Passed sent kept) ∙ is) in
-    let named = bank_of-ok h first bank by.0 in
-    subst (IsSent h (Long first) bank) by.1 (record { within = named.0; name = named.1; in_range = tt; spelled = λ good. absurd (false≢true (sym good)) }))
+    let by = sent_by-ok (bank_named h first) (λ sender. command.Bad reject.Long) bank said (sym (cond-false (is_comment first) Passed sent kept) ∙ is) in
+    let named = bank_named-ok h first bank by.0 in
+    subst (IsSent h (Long first) bank) by.1 (record { within = named.0; name = named.1; in_range = bad_command h bank reject.Long named.0; spelled = λ good. absurd (false≢true (sym good)) }))
     (cases_Bool (is_comment first))
 
 -- a line whose fields begin with a bank's name and go on is that bank's
@@ -83,7 +124,7 @@ sent_line : (h : Header) (text : List ℕ) (bank : ℕ) (second : List ℕ) (mor
 unfolding command_line
 sent_line h text bank second more session within is =
     let letter : 64 < get_or (bank_name h bank) 0 0 = bank_name-letter h bank session within in
-    rw (is, ne_eqb (length (bank_name h bank ∷ second ∷ more)) 0 (λ e. omega arith), ne_eqb (get_or (bank_name h bank) 0 0) 35 (λ e. omega arith), bank_of-name h bank session within) refl
+    rw (is, ne_eqb (length (bank_name h bank ∷ second ∷ more)) 0 (λ e. omega arith), ne_eqb (get_or (bank_name h bank) 0 0) 35 (λ e. omega arith), bank_named-name h bank session within) refl
 
 -- the first two of a command's fields
 record Parts (h : Header) (bank : ℕ) (said : Command) : Type 0 where
@@ -110,7 +151,7 @@ command_line-fields h text bank said session within is =
 pub command_line-spelled : (h : Header) (line : Line) (bank : ℕ) (said : Command) → IsSession h → bank < bank_count h → IsCommand h bank said → is_bad said ≡ false → IsSpelled h line bank said
     → command_line h line ≡ Of bank said
 command_line-spelled h (Whole text) bank said session within in_range good is =
-    command_line-fields h text bank said session within is ∙ ap (λ (read : Result Command Reject). Of bank (or_bad read)) (command_said-fields h bank said session in_range good)
+    command_line-fields h text bank said session within is ∙ ap (λ (read : Result Command Reject). Of bank (or_bad read)) (command_said-fields h bank said session in_range.values good)
 command_line-spelled h (Long first) bank said session within in_range good is = absurd is
 
 -- a journal's line of a bad command
@@ -161,7 +202,7 @@ pub record IsRecorded (h : Header) (line : Line) (bank : ℕ) (said : Command) :
   pub spelled : IsSpelled h line bank said
 
 recorded_fault : (h : Header) (line : Line) (bank : ℕ) (said : Command) → IsSent h line bank said → (fault : Reject) → bad_said line ≡ Some fault → IsRecorded h line bank (command.Bad fault)
-recorded_fault h (Whole text) bank said sent fault is = record { within = sent.within; in_range = tt; spelled = fault_in-ok h bank (fields_of text) fault sent.name is }
+recorded_fault h (Whole text) bank said sent fault is = record { within = sent.within; in_range = bad_command h bank fault sent.within; spelled = fault_in-ok h bank (fields_of text) fault sent.name is }
 recorded_fault h (Long first) bank said sent fault is = absurd (cc)
 
 recorded_bad : (h : Header) (line : Line) (sender : ℕ) (given : Command) → IsSent h line sender given → (fault : Option Reject) → bad_said line ≡ fault → (bank : ℕ) (said : Command)

@@ -7,7 +7,7 @@ use Rattle.fx_text.specs.Lines.{line_of}
 use Rattle.fx_text.specs.declared.line.Line.TheVariants.{Whole}
 use Rattle.fx_rules.specs.Reject.{code_of}
 use Rattle.fx_rules.specs.Session.{Header, IsSession, bank_count, pair_count, decimals_of}
-use Rattle.fx_rules.specs.Step.{IsCommand}
+use Rattle.fx_rules.specs.Step.{IsCommand, AreValues}
 use Rattle.fx_rules.specs.declared.command.Command.{Command}
 use Rattle.fx_rules.specs.declared.command.Command.TheVariants as command
 use Rattle.order_lines.specs.Grammar.{journal_line}
@@ -25,7 +25,7 @@ IsField-price h pair price session within most =
     let few : decimals_of h pair ≤ 6 = omega (arith, (session.rules pair no_rule within).decimals) in
     IsField-price_text (decimals_of h pair) price few (omega arith)
 
-are_fields : (h : Header) (bank : ℕ) (said : Command) → IsSession h → bank < bank_count h → IsCommand h bank said → AllByRecursion IsField (command_fields h bank said)
+are_fields : (h : Header) (bank : ℕ) (said : Command) → IsSession h → bank < bank_count h → AreValues h bank said → AllByRecursion IsField (command_fields h bank said)
 are_fields h bank (command.Order side pair price lots life) session within is =
     (IsField-bank h bank session within, (IsField-word (side_word side), (IsField-pair h pair session is.0, (IsField-price h pair price session is.0 is.1.1, (IsField-numeral lots (omega (arith, is.2.1)), (IsField-life life, tt))))))
 are_fields h bank (command.Cancel pair number) session within is =
@@ -60,7 +60,7 @@ pub record IsWritten (h : Header) (bank : ℕ) (said : Command) : Type 0 where
 pub IsWritten-command : (h : Header) (bank : ℕ) (said : Command) → IsSession h → bank < bank_count h → IsCommand h bank said → IsWritten h bank said
 unfolding command_text_of
 IsWritten-command h bank said session within is =
-    let all : AllByRecursion IsField (command_fields h bank said) = are_fields h bank said session within is in
+    let all : AllByRecursion IsField (command_fields h bank said) = are_fields h bank said session within is.values in
     let few = few_fields h bank said in
     let fields : fields_of (command_text_of h bank said) ≡ command_fields h bank said = fields_of-join (command_fields h bank said) few.0 all in
     let whole : line_of (command_text_of h bank said) ≡ Whole (command_text_of h bank said) = line_of-join (command_fields h bank said) few.1 all in

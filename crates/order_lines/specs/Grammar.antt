@@ -5,7 +5,7 @@ use Rattle.fx_text.specs.Lines.{is_passed_over}
 use Rattle.fx_text.specs.Number.{number_of}
 use Rattle.fx_text.specs.declared.line.Line.{Line}
 use Rattle.fx_text.specs.declared.line.Line.TheVariants.{Whole, Long}
-use Rattle.fx_rules.specs.Session.{Header, bank_of}
+use Rattle.fx_rules.specs.Session.{Header, bank_named}
 use Rattle.fx_rules.specs.declared.command.Command.{Command}
 use Rattle.fx_rules.specs.declared.command.Command.TheVariants.{Bad}
 use Rattle.fx_rules.specs.declared.command.Reject.{Reject}
@@ -39,10 +39,10 @@ unfoldable pub command_line : Header → Line → Spoken
 command_line h (Whole text) =
     if is_passed_over (Whole text) then Passed
     else if is_end (fields_of text) then End
-    else sent_by (bank_of h (first_field text)) (λ bank. or_bad (command_said h bank (fields_of text)))
+    else sent_by (bank_named h (first_field text)) (λ bank. or_bad (command_said h bank (fields_of text)))
 command_line h (Long first) =
     if is_passed_over (Long first) then Passed
-    else sent_by (bank_of h first) (λ bank. Bad reject.Long)
+    else sent_by (bank_named h first) (λ bank. Bad reject.Long)
 
 -- the fault that a journal's line gives a bank: three fields, of which the second is `BAD` and the third its number
 abbrev pub fault_in : List (List ℕ) → Option Reject

@@ -6,7 +6,7 @@ use Rattle.fx_amounts.specs.declared.price_text.PriceFault.TheVariants.{Form, Ra
 use Rattle.fx_amounts.specs.declared.side.Side.{Side}
 use Rattle.fx_amounts.specs.declared.side.Side.TheVariants as side
 use Rattle.fx_text.specs.Number.{number_of}
-use Rattle.fx_rules.specs.Session.{Header, bank_of, pair_of, decimals_of}
+use Rattle.fx_rules.specs.Session.{Header, bank_named, pair_named, decimals_of}
 use Rattle.fx_rules.specs.declared.command.Command.{Command}
 use Rattle.fx_rules.specs.declared.command.Command.TheVariants as command
 use Rattle.fx_rules.specs.declared.command.Life.{Life}
@@ -28,7 +28,7 @@ field fields at = slice_index_or fields at []
 
 -- a field that names a pair
 unfoldable pub pair_said : Header → List ℕ → Result ℕ Reject
-pair_said h text = ok_or (pair_of h text) reject.Pair
+pair_said h text = ok_or (pair_named h text) reject.Pair
 
 -- a field that is the price of a pair
 abbrev pub price_fault : PriceFault → Reject
@@ -60,7 +60,7 @@ other_than sender None = Err reject.Bank
 other_than sender (Some other) = if other == sender then Err reject.Bank else Ok other
 
 unfoldable pub other_said : Header → ℕ → List ℕ → Result ℕ Reject
-other_said h sender text = other_than sender (bank_of h text)
+other_said h sender text = other_than sender (bank_named h text)
 
 -- a field that is a limit in credit units
 unfoldable pub limit_said : List ℕ → Result ℕ Reject

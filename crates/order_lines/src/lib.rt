@@ -7,5 +7,5 @@ mod spoken;
 mod word;
 mod writing;
 
-pub use spoken::{Spoken, command_from, command_in, journal_from, journal_in};
+pub use spoken::{Spoken, command_by, command_from, command_in, journal_from, journal_in};
 pub use writing::{command_text, make_command};

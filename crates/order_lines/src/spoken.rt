@@ -6,6 +6,7 @@ ghost use Rattle.fx_rules.specs.Session.{bank_count};
 ghost use Rattle.fx_rules.specs.Step.{IsCommand};
 ghost use Rattle.fx_rules.specs.declared.command.Command.{Command};
 ghost use Rattle.order_lines.specs.Grammar.{command_line, journal_line, bad_said, or_bad, is_bad, IfSent};
+ghost use Rattle.order_lines.specs.Reading.{command_said};
 ghost use Rattle.order_lines.specs.Spelling.{IsSpelled};
 
 use crate::reading::read_command;
@@ -100,9 +101,21 @@ fn spoken_in(session: &Session, fields: &Fields<'_>) -> Spoken
         return Spoken::End;
     }
     match session.bank_named(fields.first()) {
-        Some(bank) => Spoken::Of(bank, command_or_bad(read_command(session, bank, fields))),
+        Some(bank) => Spoken::Of(bank, command_by(session, bank, fields)),
         None => Spoken::Stray,
     }
+}
+
+/// What a sender asks for in the fields of a line that is not long. The first of them is not read: it is the sender's name, or
+/// what stands in place of it. A wrong line is bad, with its first fault: its word, then the number of its fields, then the
+/// fields from left to right. Takes no memory.
+pub fn command_by(session: &Session, sender: BankId, fields: &Fields<'_>) -> Command
+    ensures reads { result ≡ or_bad (command_said session.now sender fields.now) }
+
+    // What a bank of the session asks for is in range.
+    ensures range { sender < bank_count session.now → IsCommand session.now sender result }
+{
+    command_or_bad(read_command(session, sender, fields))
 }
 
 fn command_or_bad(read: Result<Command, Reject>) -> Command

@@ -1,5 +1,5 @@
 -- The rows of the banks after one was written, and the room that they leave.
-use Rattle.std.proofs.Common.{ℕ, ◌≡◌, ◌≢◌, ◌+◌, ◌-◌, ◌^◌, ◌≤◌, ◌<◌, cond, ltb, min, true, false, Result, Ok, Err, List, Option, Some, None, length, get_or, map, inl, inr, ap, sym, subst, ◌∙◌, arith}
+use Rattle.std.proofs.Common.{ℕ, ◌≡◌, ◌≢◌, ◌+◌, ◌-◌, ◌≤◌, ◌<◌, cond, min, Result, Ok, Err, List, Option, Some, None, length, get_or, map, inl, inr, ap, sym, subst, ◌∙◌, arith}
 use Rattle.std.proofs.Math.ListN.{set, length-set}
 use Rattle.std.proofs.lemmas.Bool.{cases_eq, cases_lt}
 use Rattle.std.proofs.lemmas.List.Sums.{sum_by-set}
@@ -133,16 +133,11 @@ count_changed slots key old new is =
 
 pub changed_room : (orders : Slab Resting) (rows : List Row) (key : ℕ) (old new : Resting) → get_or orders.slots key None ≡ Some old → map (room_in (with_value orders key new)) rows ≡ map (room_in orders) rows
 changed_room orders rows key old new is =
-    ap (λ n. map (λ (row : Row). min (cond (ltb orders.capacity (2 ^ 32)) (orders.capacity - n) 0) row.room) rows) (count_changed orders.slots key old new is)
-
-more_left : (capacity kept kept' : ℕ) → kept' ≤ kept → cond (ltb capacity (2 ^ 32)) (capacity - kept) 0 ≤ cond (ltb capacity (2 ^ 32)) (capacity - kept') 0
-more_left capacity kept kept' fewer = elim (ltb capacity (2 ^ 32)) as (λ b. cond b (capacity - kept) 0 ≤ cond b (capacity - kept') 0) [ true ↦ omega arith | false ↦ omega arith ]
+    ap (λ n. map (λ (row : Row). min (orders.capacity - n) row.room) rows) (count_changed orders.slots key old new is)
 
 -- fewer orders leave more places
 pub fewer_kept : (orders orders' : Slab Resting) → orders'.capacity ≡ orders.capacity → slab_len orders' ≤ slab_len orders → places_in orders ≤ places_in orders'
-fewer_kept orders orders' capacity fewer =
-    subst (λ n. cond (ltb orders.capacity (2 ^ 32)) (orders.capacity - slab_len orders) 0 ≤ cond (ltb n (2 ^ 32)) (n - slab_len orders') 0) (sym capacity)
-    (more_left orders.capacity (slab_len orders) (slab_len orders') fewer)
+fewer_kept orders orders' capacity fewer = omega (arith, capacity, fewer)
 
 pub on_ok_then : {T E : Type 0} (P Q : Type 0) (r : Result T E) → (P → Q) → OnOk r P → OnOk r Q
 on_ok_then P Q (Ok x) then' holds = then' holds

@@ -13,7 +13,7 @@ use std::marker::Model;
 #[derive(Clone, Copy, Debug, PartialEq, Eq)]
 pub(crate) struct Numbered {
     number: u32,
-    key: u32,
+    key: usize,
 }
 
 /// The keys of one bank's orders, by rising number. An entry may be stale: its order has gone. A removal leaves the row as it
@@ -50,7 +50,7 @@ impl NumberRow {
     {
         let entry = self.entries.get(self.place_of(number))?;
         if entry.number == number {
-            Some(entry.key as usize)
+            Some(entry.key)
         } else {
             None
         }
@@ -58,7 +58,7 @@ impl NumberRow {
 
     /// Puts a key with a number, in the place of the one that stands with it, if any. It takes one of the places that there is
     /// room for at most.
-    pub(crate) fn add(&mut self, number: u32, key: u32)
+    pub(crate) fn add(&mut self, number: u32, key: usize)
         requires room { 1 ≤ self.old.room }
         ensures entries { self.new.entries ≡ with_key number key self.old.entries }
         ensures room { self.old.room ≤ self.new.room + 1 }
@@ -94,7 +94,8 @@ impl NumberRow {
         ensures entries { self.new.entries ≡ filter (is_live orders.now.slots bank) self.old.entries }
         ensures size { size self.new ≡ size self.old }
     {
-        self.entries.retain(|entry| is_under(orders, entry.key as usize, bank, entry.number));
+        self.entries
+            .retain(|entry| is_under(orders, entry.key, bank, entry.number));
     }
 
     /// Whether all entries have lower numbers.

@@ -57,8 +57,7 @@ impl OrderStore {
         self.orders.len()
     }
 
-    /// Makes room for one order more of a bank. At `Memory` there may be none: for want of memory, or where the store would get
-    /// places for more than 2^32 - 1 orders, which are over 100 GB.
+    /// Makes room for one order more of a bank. At `Memory` there may be none.
     pub fn reserve(&mut self, bank: BankId) -> Result<(), Memory>
         requires bank { bank < length self.old.room }
         ensures has_room { OnOk result (1 ≤ room_for self.new bank) }
@@ -84,7 +83,7 @@ impl OrderStore {
         let key = take_place(&mut self.orders, order);
         let row = &mut self.rows[bank.index()];
         row.add(number, key);
-        OrderKey(key as usize)
+        OrderKey(key)
     }
 
     /// The order under a key.
@@ -170,25 +169,22 @@ fn bare_rows(alloc: Global, count: usize) -> Result<Vec<NumberRow>, Memory>
     Ok(rows)
 }
 
-/// Makes a place for one order more, and keys of 32 bits for all places. At `Memory` there may be none.
+/// Makes a place for one order more. At `Memory` there may be none.
 fn reserve_place(orders: &mut Slab<Resting>) -> Result<(), Memory>
     ensures place { OnOk result (1 ≤ places_in orders.new) }
     ensures kept_places { places_in orders.old ≤ places_in orders.new }
     ensures slots { orders.new.slots ≡ orders.old.slots }
 {
     orders.reserve(1)?;
-    if orders.capacity() > u32::MAX as usize {
-        return Err(Memory);
-    }
     Ok(())
 }
 
 /// Puts an order into one of the places, and answers its key.
-fn take_place(orders: &mut Slab<Resting>, order: Resting) -> u32
+fn take_place(orders: &mut Slab<Resting>, order: Resting) -> usize
     requires place { 1 ≤ places_in orders.old }
     ensures vacant { get orders.old result ≡ None }
     ensures updates { Updates orders.old orders.new result (Some order) }
     ensures places { places_in orders.old ≤ places_in orders.new + 1 }
 {
-    orders.insert_reserved(order) as u32
+    orders.insert_reserved(order)
 }

@@ -1,5 +1,8 @@
-//! Trials of what is printed and told of a history: its output, its report, and the check of an output.
+//! Trials of what is printed and told of a history: its output, its report, and the check of an output; and the writing of an
+//! output from a history alone, with which they begin.
 #![tactic(auto)]
+
+mod written;
 
 #[cfg(test)]
 mod checks;
@@ -11,3 +14,5 @@ mod outputs;
 mod reports;
 #[cfg(test)]
 mod told;
+
+pub use written::write_output;

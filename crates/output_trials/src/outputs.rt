@@ -1,20 +1,19 @@
-use crate::fixture::{QUIET, TRADES, TRADING, history, holds, session};
-use fx_edges::{MemorySink, SteadySink};
-use fx_pieces::Pieces;
-use reply_lines::{Ending, OutFault, write_output};
+use crate::fixture::{QUIET, TRADES, TRADING, holds, played};
+use crate::written::write_output;
+use fx_edges::{MemorySink, Pieces, SteadySink};
+use reply_lines::{Ending, OutFault};
 use std::alloc::Global;
 use std::test::Fail;
 
-/// The output of a journal's commands.
+/// The output of these commands.
 pub(crate) fn output(
     alloc: Global,
     header: &[u8],
-    journal: &[u8],
+    commands: &[u8],
     strays: u64,
     ending: Ending,
 ) -> Result<Vec<u8>, Fail> {
-    let session = session(alloc, header)?;
-    let entries = history(alloc, &session, journal)?;
+    let (session, entries) = played(alloc, header, commands)?;
     let mut sink = SteadySink::new(alloc);
     write_output(alloc, &session, &entries, strays, ending, &mut sink)?;
     Ok(Vec::from_slice(alloc, sink.written())?)
@@ -33,12 +32,8 @@ ALFA BUY EUR/USD 1.08400 5 DAY
 ALFA REDUCE EUR/USD 5 3
 ALFA CANCEL EUR/USD 1
 ALFA PULL EUR/USD
-GAMA BAD 10
+GAMA BUY EUR/USD 1.08420 1 GTC
 ";
-
-fn busy_day(alloc: Global) -> Result<Vec<u8>, Fail> {
-    output(alloc, TRADING, BUSY, 0, Ending::End)
-}
 
 #[test]
 fn a_fill_as_its_banks_see_it(rt: HostRuntime) -> Result<(), Fail> {
@@ -85,21 +80,15 @@ END
     Ok(())
 }
 
-#[test]
-fn replies_of_few_words(rt: HostRuntime) -> Result<(), Fail> {
-    let desk = b"DESK GAMA 3
+/// Desks and the report of the busy day.
+const BUSY_PARTS: [&[u8]; 4] = [
+    b"DESK GAMA 3
 1 REPLY 1 KILLED
 2 REPLY 2 NOTHING
 3 REPLY 3 BAD 10
 BOOKS
-";
-    assert!(rt; holds(&busy_day(rt.alloc())?, desk));
-    Ok(())
-}
-
-#[test]
-fn replies_with_amounts(rt: HostRuntime) -> Result<(), Fail> {
-    let desk = b"DESK ALFA 9
+",
+    b"DESK ALFA 9
 1 REPLY 1 ORDERED 2 1
 2 FILL 1 BUY EUR/USD 2 1.08420 BETA 2000000 2168400
 3 REPLY 2 NOTLESS 1
@@ -110,26 +99,14 @@ fn replies_with_amounts(rt: HostRuntime) -> Result<(), Fail> {
 8 REPLY 7 CANCELLED 1
 9 REPLY 8 PULLED 1
 DESK BETA 3
-";
-    assert!(rt; holds(&busy_day(rt.alloc())?, desk));
-    Ok(())
-}
-
-#[test]
-fn the_reply_of_a_local_book(rt: HostRuntime) -> Result<(), Fail> {
-    let desk = b"DESK BETA 3
+",
+    b"DESK BETA 3
 1 REPLY 1 ORDERED 0 2
 2 FILL 1 SELL EUR/USD 2 1.08420 ALFA 2000000 2168400
 3 REPLY 2 BOOK EUR/USD BIDS 1.08425 1 ASKS
 DESK GAMA 3
-";
-    assert!(rt; holds(&busy_day(rt.alloc())?, desk));
-    Ok(())
-}
-
-#[test]
-fn the_lines_of_a_report(rt: HostRuntime) -> Result<(), Fail> {
-    let report = b"REPORT
+",
+    b"REPORT
 VOLUME EUR/USD 1 2 2000000 2168400
 USE ALFA BETA 400 1000 200 200
 USE ALFA GAMA 0 0 0 0
@@ -142,8 +119,15 @@ NET GAMA EUR 0
 NET GAMA USD 0
 STRAYS 0
 END
-";
-    assert!(rt; holds(&busy_day(rt.alloc())?, report));
+",
+];
+
+#[test]
+fn each_reply_and_the_report_have_their_texts(rt: HostRuntime) -> Result<(), Fail> {
+    let text = output(rt.alloc(), TRADING, BUSY, 0, Ending::End)?;
+    for (at, part) in BUSY_PARTS.iter().enumerate() {
+        assert!(rt; holds(&text, part), "part {at}");
+    }
     Ok(())
 }
 
@@ -203,8 +187,7 @@ CUT
 
 #[test]
 fn a_day_without_commands(rt: HostRuntime) -> Result<(), Fail> {
-    let session = session(rt.alloc(), QUIET)?;
-    let entries = history(rt.alloc(), &session, b"")?;
+    let (session, entries) = played(rt.alloc(), QUIET, b"")?;
     let mut out = MemorySink::new(7, Vec::new(rt.alloc()));
     write_output(rt.alloc(), &session, &entries, 3, Ending::Cut, &mut out)?;
     assert!(rt; out.written() == QUIET_DAY);
@@ -213,8 +196,7 @@ fn a_day_without_commands(rt: HostRuntime) -> Result<(), Fail> {
 
 #[test]
 fn a_write_that_fails(rt: HostRuntime) -> Result<(), Fail> {
-    let session = session(rt.alloc(), QUIET)?;
-    let entries = history(rt.alloc(), &session, b"")?;
+    let (session, entries) = played(rt.alloc(), QUIET, b"")?;
     let mut fails = Vec::new(rt.alloc());
     fails.push(9)?;
     let mut out = MemorySink::new(7, fails);

@@ -1,115 +1,66 @@
-use crate::fixture::{QUIET, TRADING, history, session};
-use day_report::{Net, Report, Use, Volume, report};
-use fx_amounts::{BankId, PairId, Units};
-use fx_rules::Code;
+use crate::fixture::{QUIET, TRADING, played};
+use day_report::{Report, report};
+use fx_amounts::Memory;
 use std::alloc::Global;
-use std::process::Abort;
 use std::test::Fail;
 
-const ALFA: u8 = 0;
+/// Headers, the commands behind them, and the rows of the report of such a day: of each pair its fills, lots, base and quote; of each
+/// two banks their limits on each other, what they have used and what is left; of each bank and currency the net.
+const REPORTS: [(&[u8], &[u8], &str); 3] = [
+    (
+        QUIET,
+        b"GAMA SHOW ALFA\n",
+        "0 0 0 0|0 1 0 0 0 0|0 2 0 0 0 0|1 2 0 0 0 0|0 EUR 0|0 USD 0|1 EUR 0|1 USD 0|2 EUR 0|2 USD 0|",
+    ),
+    (
+        TRADING,
+        b"BETA SELL EUR/USD 1.08420 2 DAY\nALFA BUY EUR/USD 1.08425 3 DAY\n",
+        "1 2 2000000 2168400|0 1 1000 1000 200 800|0 2 0 0 0 0|1 2 0 0 0 0|0 EUR 2000000|0 USD -2168400|1 EUR -2000000|1 USD 2168400|2 EUR 0|2 USD 0|",
+    ),
+    (
+        TRADING,
+        b"ALFA BUY EUR/USD 1.08420 2 DAY\nBETA SELL EUR/USD 1.08415 3 DAY\n",
+        "1 2 2000000 2168400|0 1 1000 1000 200 800|0 2 0 0 0 0|1 2 0 0 0 0|0 EUR 2000000|0 USD -2168400|1 EUR -2000000|1 USD 2168400|2 EUR 0|2 USD 0|",
+    ),
+];
 
-const BETA: u8 = 1;
-
-const GAMA: u8 = 2;
-
-fn bank(number: u8) -> Result<BankId, Fail> {
-    Ok(BankId::new(number).ok_or("a bank was refused")?)
+/// The rows of a report, each with a bar behind it.
+fn rows(alloc: Global, report: &Report) -> Result<String, Memory> {
+    let mut text = String::new(alloc);
+    for row in report.volumes.as_slice() {
+        let (fills, lots, base, quote) = (row.fills, row.lots, row.base, row.quote);
+        text.push_str(&format!(in alloc; "{fills} {lots} {base} {quote}|")?)?;
+    }
+    for row in report.uses.as_slice() {
+        let (a, b) = (row.a.index(), row.b.index());
+        let (limit_ab, limit_ba) = (row.limit_ab.get(), row.limit_ba.get());
+        let (used, eff) = (row.used.get(), row.eff.get());
+        text.push_str(&format!(in alloc; "{a} {b} {limit_ab} {limit_ba} {used} {eff}|")?)?;
+    }
+    add_nets(alloc, report, &mut text)?;
+    Ok(text)
 }
 
-fn units(count: u64) -> Result<Units, Fail> {
-    Ok(Units::new(count).ok_or("units were refused")?)
-}
-
-/// The pair's volume.
-fn volume(fills: u64, lots: u64, base: u128, quote: u128) -> Result<Volume, Fail> {
-    let pair = PairId::new(0).ok_or("a pair was refused")?;
-    Ok(Volume {
-        pair,
-        fills,
-        lots,
-        base,
-        quote,
-    })
-}
-
-/// The credit between two banks that have set the same limit on each other.
-fn credit(a: u8, b: u8, limit: u64, used: u64, eff: u64) -> Result<Use, Fail> {
-    Ok(Use {
-        a: bank(a)?,
-        b: bank(b)?,
-        limit_ab: units(limit)?,
-        limit_ba: units(limit)?,
-        used: units(used)?,
-        eff: units(eff)?,
-    })
-}
-
-fn net(of: u8, currency: &[u8], amount: i128) -> Result<Net, Fail> {
-    Ok(Net {
-        bank: bank(of)?,
-        currency: Code::from_bytes(currency).ok_or("a code was refused")?,
-        amount,
-    })
-}
-
-/// The report of a journal's commands.
-fn report_of(alloc: Global, header: &[u8], journal: &[u8]) -> Result<Report, Fail> {
-    let session = session(alloc, header)?;
-    let entries = history(alloc, &session, journal)?;
-    Ok(report(alloc, &session, &entries)?)
-}
-
-#[test]
-fn a_day_without_fills(rt: HostRuntime) -> Result<(), Fail> {
-    let report = report_of(rt.alloc(), QUIET, b"GAMA SHOW ALFA\n")?;
-    assert!(rt; report.volumes.as_slice() == [volume(0, 0, 0, 0)?].as_slice());
-    let uses = [
-        credit(ALFA, BETA, 0, 0, 0)?,
-        credit(ALFA, GAMA, 0, 0, 0)?,
-        credit(BETA, GAMA, 0, 0, 0)?,
-    ];
-    assert!(rt; report.uses.as_slice() == uses.as_slice());
-    let nets = [
-        net(ALFA, b"EUR", 0)?,
-        net(ALFA, b"USD", 0)?,
-        net(BETA, b"EUR", 0)?,
-        net(BETA, b"USD", 0)?,
-        net(GAMA, b"EUR", 0)?,
-        net(GAMA, b"USD", 0)?,
-    ];
-    assert!(rt; report.nets.as_slice() == nets.as_slice());
+fn add_nets(alloc: Global, report: &Report, text: &mut String) -> Result<(), Memory> {
+    for row in report.nets.as_slice() {
+        let (bank, amount) = (row.bank.index(), row.amount);
+        let currency = str::from_utf8(row.currency.as_bytes()).unwrap_or_default();
+        text.push_str(&format!(in alloc; "{bank} {currency} {amount}|")?)?;
+    }
     Ok(())
 }
 
-/// Wants the report of a day on which ALFA bought 2 lots of BETA at 1.08420.
-fn expect_trade<R: Abort>(rt: &R, report: &Report) -> Result<(), Fail> {
-    assert!(rt; report.volumes.as_slice() == [volume(1, 2, 2_000_000, 2_168_400)?].as_slice());
-    let uses = [
-        credit(ALFA, BETA, 1000, 200, 800)?,
-        credit(ALFA, GAMA, 0, 0, 0)?,
-        credit(BETA, GAMA, 0, 0, 0)?,
-    ];
-    assert!(rt; report.uses.as_slice() == uses.as_slice());
-    let nets = [
-        net(ALFA, b"EUR", 2_000_000)?,
-        net(ALFA, b"USD", -2_168_400)?,
-        net(BETA, b"EUR", -2_000_000)?,
-        net(BETA, b"USD", 2_168_400)?,
-        net(GAMA, b"EUR", 0)?,
-        net(GAMA, b"USD", 0)?,
-    ];
-    assert!(rt; report.nets.as_slice() == nets.as_slice());
+/// The rows of the report of these commands.
+fn rows_of(alloc: Global, header: &[u8], commands: &[u8]) -> Result<String, Fail> {
+    let (session, entries) = played(alloc, header, commands)?;
+    Ok(rows(alloc, &report(alloc, &session, &entries)?)?)
+}
+
+#[test]
+fn a_report_has_volumes_credit_and_nets(rt: HostRuntime) -> Result<(), Fail> {
+    for (at, (header, commands, want)) in REPORTS.iter().enumerate() {
+        let told = rows_of(rt.alloc(), header, commands)?;
+        assert!(rt; told.as_str() == *want, "report {at}: {told}");
+    }
     Ok(())
-}
-
-#[test]
-fn a_buy_takes_a_sell(rt: HostRuntime) -> Result<(), Fail> {
-    let journal = b"BETA SELL EUR/USD 1.08420 2 DAY\nALFA BUY EUR/USD 1.08425 3 DAY\n";
-    expect_trade(&rt, &report_of(rt.alloc(), TRADING, journal)?)
-}
-
-#[test]
-fn a_sell_takes_a_buy(rt: HostRuntime) -> Result<(), Fail> {
-    let journal = b"ALFA BUY EUR/USD 1.08420 2 DAY\nBETA SELL EUR/USD 1.08415 3 DAY\n";
-    expect_trade(&rt, &report_of(rt.alloc(), TRADING, journal)?)
 }

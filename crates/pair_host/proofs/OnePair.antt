@@ -3,17 +3,18 @@ use Rattle.std.proofs.Common.{ℕ, ◌≡◌, ◌+◌, ◌<◌, ◌-◌, ◌^◌
 use Rattle.fx_rules.specs.declared.command.Command.{Command}
 use Rattle.fx_rules.specs.declared.outcome.Entry.{Entry}
 use Rattle.fx_rules.specs.declared.outcome.Outcome.{Outcome}
-use Rattle.fx_rules.specs.Session.{Header, pair_count, sender_count, weight_of}
+use Rattle.fx_rules.specs.Session.{Header, pair_count, sender_places, weight_of}
 use Rattle.fx_rules.specs.State.{State, orders_in, count_of}
 use Rattle.fx_rules.specs.History.{IsStep}
 use Rattle.fx_rules.specs.Market.{MaySend, next_entry}
+use Rattle.fx_rules.proofs.Senders.{command-place}
 use Rattle.global_book.specs.Book.{Book}
 use Rattle.credit_table.specs.Table.{Table, next_sender}
 use Rattle.match_sweep.specs.Sweeps.{Fits}
-use Rattle.pair_steps.specs.declared.sender.Sender.{Sender}
-use Rattle.pair_steps.specs.Sending.{IsNextIn, pair_of}
+use Rattle.fx_rules.specs.declared.sender.Sender.{Sender}
+use Rattle.fx_rules.specs.Sending.{IsNextIn, pair_of, entry_of}
 use Rattle.pair_steps.specs.Answers.{AnswersEach}
-use Rattle.pair_steps.specs.Carries.{IsStepOf, entry_of}
+use Rattle.pair_steps.specs.Carries.{IsStepOf}
 use Rattle.pair_host.specs.inside.OnePair.{AreOf, MayServe, IsFollowed}
 use Rattle.pair_host.proofs.Sending.{pair_in}
 
@@ -21,7 +22,7 @@ use Rattle.pair_host.proofs.Sending.{pair_in}
 
 -- what is known of a bank that may send a command
 pub record CanSend (book : Book) (table : Table) (bank : ℕ) : Type 0 where
-  pub sender : bank < sender_count table.session
+  pub sender : bank < sender_places table.session
   pub few : get_or table.counts bank 0 < 2 ^ 32 - 1
   pub pair : book.pair < pair_count table.session
 
@@ -30,7 +31,7 @@ can-send h S book table bank command of may about =
     let count : get_or table.counts bank 0 ≡ count_of S bank = ap (λ (cs : List ℕ). get_or cs bank 0) of.credit.counts in
     let back : h ≡ table.session = sym of.credit.session in
     record {
-      sender = subst (λ (g : Header). bank < sender_count g) back may.sender;
+      sender = subst (λ (g : Header). bank < sender_places g) back (command-place h bank command of.valid may.allowed);
       few = omega (arith, count, may.number);
       pair = subst (λ (g : Header). book.pair < pair_count g) back (pair_in h bank command book.pair may.allowed about);
     }
@@ -40,7 +41,7 @@ serves-sender book table bank command may about = can-send may.session may.befor
 
 -- an entry's bank may send its command
 step-sent : (h : Header) (S : State) (e : Entry) → IsStep h S e → MaySend e.bank e.command h S
-step-sent h S e step = record { sender = step.sender; allowed = step.command; number = omega (arith, step.number, step.number_most) }
+step-sent h S e step = record { allowed = step.command; number = omega (arith, step.number, step.number_most) }
 
 pub follows-sender : (book : Book) (table : Table) (e : Entry) → IsFollowed book table e → pair_of e.command ≡ Some book.pair → CanSend book table e.bank
 follows-sender book table e is about =
@@ -68,7 +69,6 @@ step-of h S book now table weight sender bank command outcome of may orders pair
       orders = now_orders;
       next = next;
       step = record {
-        sender = its.sender;
         command = its.allowed;
         number = count;
         number_most = omega (arith, count, its.number);

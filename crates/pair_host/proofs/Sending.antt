@@ -3,12 +3,12 @@ use Rattle.std.proofs.Common.{ℕ, ◌≡◌, ◌≢◌, ◌+◌, ◌<◌, ◌^�
 use Rattle.std.proofs.lemmas.Bool.{ne_eqb}
 use Rattle.fx_rules.specs.declared.command.Command.{Command}
 use Rattle.fx_rules.specs.declared.command.Command.TheVariants.{Order, Cancel, Reduce, Pull, Line, Show, Book, Bad}
-use Rattle.fx_rules.specs.Session.{Header, pair_count, sender_count}
+use Rattle.fx_rules.specs.Session.{Header, pair_count}
 use Rattle.fx_rules.specs.State.{State}
 use Rattle.fx_rules.specs.Step.{IsCommand, may_change}
 use Rattle.fx_rules.specs.History.{state}
 use Rattle.fx_rules.specs.Market.{InSome, MaySend}
-use Rattle.pair_steps.specs.Sending.{pair_of}
+use Rattle.fx_rules.specs.Sending.{pair_of}
 use Rattle.pair_steps.proofs.Answered.{one_pair}
 use Rattle.pair_host.specs.Standing.{HostState, StandsFor, stands}
 
@@ -17,13 +17,13 @@ none_some pair same = cc
 
 -- a command about one pair is about one of the session's
 pub pair_in : (h : Header) (bank : ℕ) (command : Command) (pair : ℕ) → IsCommand h bank command → pair_of command ≡ Some pair → pair < pair_count h
-pair_in h bank (Order side its price lots life) pair valid is = omega (arith, valid.0, one_pair its pair is)
-pair_in h bank (Cancel its number) pair valid is = omega (arith, valid.0, one_pair its pair is)
-pair_in h bank (Reduce its number lots) pair valid is = omega (arith, valid.0, one_pair its pair is)
-pair_in h bank (Pull its) pair valid is = omega (arith, valid, one_pair its pair is)
+pair_in h bank (Order side its price lots life) pair valid is = omega (arith, valid.values.0, one_pair its pair is)
+pair_in h bank (Cancel its number) pair valid is = omega (arith, valid.values.0, one_pair its pair is)
+pair_in h bank (Reduce its number lots) pair valid is = omega (arith, valid.values.0, one_pair its pair is)
+pair_in h bank (Pull its) pair valid is = omega (arith, valid.values, one_pair its pair is)
 pair_in h bank (Line other asked) pair valid is = absurd (none_some pair is)
 pair_in h bank (Show other) pair valid is = absurd (none_some pair is)
-pair_in h bank (Book its) pair valid is = omega (arith, valid, one_pair its pair is)
+pair_in h bank (Book its) pair valid is = omega (arith, valid.values, one_pair its pair is)
 pair_in h bank (Bad reason) pair valid is = absurd (none_some pair is)
 
 -- what may be sent in one state that a host stands for may be sent in each
@@ -35,7 +35,6 @@ may-send host bank command some h S stood =
     let same : some.0 ≡ h = sym its.credit.session ∙ stood.credit.session in
     let counts : T.counts ≡ S.counts = sym its.credit.counts ∙ stood.credit.counts in
     record {
-      sender = subst (λ (g : Header). bank < sender_count g) same may.sender;
       allowed = subst (λ (g : Header). IsCommand g bank command) same may.allowed;
       number = subst (λ (cs : List ℕ). get_or cs bank 0 + 1 < 2 ^ 32) counts may.number;
     }

@@ -7,7 +7,7 @@ use Rattle.fx_rules.specs.declared.orders.Fill.{Fill}
 use Rattle.fx_rules.specs.declared.outcome.Entry.{Entry}
 use Rattle.fx_rules.specs.declared.outcome.Outcome.{Outcome}
 use Rattle.fx_rules.specs.declared.outcome.Outcome.TheVariants.{LineSet}
-use Rattle.fx_rules.specs.Session.{Header, IsSession, bank_count, pair_count}
+use Rattle.fx_rules.specs.Session.{Header, IsSession, pair_count}
 use Rattle.fx_rules.specs.State.{State, opening, orders_in, count_of}
 use Rattle.fx_rules.specs.Sweep.{filled_all}
 use Rattle.fx_rules.specs.Raise.{limited}
@@ -26,7 +26,7 @@ use Rattle.match_sweep.specs.Carries.{carried}
 use Rattle.credit_table.specs.Table as table
 use Rattle.credit_table.specs.Table.{Table, Stands}
 use Rattle.pair_steps.specs.Turns.{fills_in}
-use Rattle.pair_steps.specs.Sending.{pair_of}
+use Rattle.fx_rules.specs.Sending.{pair_of}
 use Rattle.pair_host.specs.Standing.{HostState, StandsFor, IsNextOf, FollowsOn, stands}
 use Rattle.pair_host.specs.inside.Books.{AreBooks, HaveOrders, EachBook, IsCarried, IsRecorded, PlansEach, host_of}
 use Rattle.pair_host.specs.inside.OnePair.{AreOf, MayServe, ServesEach, FollowsEach}
@@ -192,7 +192,7 @@ raise-goes_on banks books books' table table' raise bank other asked outcome are
     let under : IsUnderWay h S raise = planned.under_way h H legal stood in
     let sent : MaySend bank (Line other asked) h S = may h S stood in
     let answer : IsOutcome h S bank (Line other asked) outcome = planned-answers books table raise bank other asked outcome planned h H legal stood in
-    let step : IsStep h S e = record { sender = sent.sender; command = sent.allowed; number = refl; number_most = sent.number; outcome = answer } in
+    let step : IsStep h S e = record { command = sent.allowed; number = refl; number_most = sent.number; outcome = answer } in
     record {
       step = step;
       stands_then = stands-by h (after_entry S e) books' table' (record {
@@ -209,13 +209,13 @@ raise-goes_on banks books books' table table' raise bank other asked outcome are
     })
 
 -- a recorded entry of a command about no pair, or about all
-line_recorded : (h : Header) (S : State) (bank other asked : ℕ) (outcome : Outcome) (old new : Book) → IsSession h → IsSound h S → bank < bank_count h → IsCommand h bank (Line other asked)
+line_recorded : (h : Header) (S : State) (bank other asked : ℕ) (outcome : Outcome) (old new : Book) → IsSession h → IsSound h S → IsCommand h bank (Line other asked)
     → IsOutcome h S bank (Line other asked) outcome → old.orders ≡ orders_in old.pair S.orders → IsRecorded (fills_of outcome) old new
     → new.orders ≡ orders_in new.pair (after S bank (Line other asked) outcome).orders
-line_recorded h S bank other asked (LineSet limit fills) old new session sound sender valid is orders recorded =
-    let limit_sound : IsSound h (limited bank other limit S) = limited-sound h S bank other asked limit sound sender valid.0 valid.1 valid.2 is.0 in
+line_recorded h S bank other asked (LineSet limit fills) old new session sound valid is orders recorded =
+    let limit_sound : IsSound h (limited bank other limit S) = limited-sound h S bank other asked limit sound valid.sends valid.values.0 valid.values.1 valid.values.2 is.0 in
     recorded.follows h (limited bank other limit S) session limit_sound is.1 orders
-line_recorded h S bank other asked outcome old new session sound sender valid is orders recorded = absurd is
+line_recorded h S bank other asked outcome old new session sound valid is orders recorded = absurd is
 
 -- where there are no fills, nothing is made
 none_recorded : (S : State) (old new : Book) (fills : List Fill) → fills ≡ [] → old.orders ≡ orders_in old.pair S.orders → IsRecorded fills old new → new.orders ≡ orders_in new.pair S.orders
@@ -225,19 +225,19 @@ none_recorded S old new fills none orders recorded =
 some_none : (pair : ℕ) → Some pair ≡ None → ⊥
 some_none pair same = cc
 
-recorded_orders : (h : Header) (S : State) (bank : ℕ) (command : Command) (outcome : Outcome) (old new : Book) → IsSession h → IsSound h S → bank < bank_count h → IsCommand h bank command
+recorded_orders : (h : Header) (S : State) (bank : ℕ) (command : Command) (outcome : Outcome) (old new : Book) → IsSession h → IsSound h S → IsCommand h bank command
     → IsOutcome h S bank command outcome → pair_of command ≡ None → old.orders ≡ orders_in old.pair S.orders → IsRecorded (fills_of outcome) old new
     → new.orders ≡ orders_in new.pair (after S bank command outcome).orders
-recorded_orders h S bank (Order side pair price lots life) outcome old new session sound sender valid is about orders recorded = absurd (some_none pair about)
-recorded_orders h S bank (Cancel pair number) outcome old new session sound sender valid is about orders recorded = absurd (some_none pair about)
-recorded_orders h S bank (Reduce pair number lots) outcome old new session sound sender valid is about orders recorded = absurd (some_none pair about)
-recorded_orders h S bank (Pull pair) outcome old new session sound sender valid is about orders recorded = absurd (some_none pair about)
-recorded_orders h S bank (BookOf pair) outcome old new session sound sender valid is about orders recorded = absurd (some_none pair about)
-recorded_orders h S bank (Line other asked) outcome old new session sound sender valid is about orders recorded =
-    line_recorded h S bank other asked outcome old new session sound sender valid is orders recorded
-recorded_orders h S bank (Show other) outcome old new session sound sender valid is about orders recorded =
+recorded_orders h S bank (Order side pair price lots life) outcome old new session sound valid is about orders recorded = absurd (some_none pair about)
+recorded_orders h S bank (Cancel pair number) outcome old new session sound valid is about orders recorded = absurd (some_none pair about)
+recorded_orders h S bank (Reduce pair number lots) outcome old new session sound valid is about orders recorded = absurd (some_none pair about)
+recorded_orders h S bank (Pull pair) outcome old new session sound valid is about orders recorded = absurd (some_none pair about)
+recorded_orders h S bank (BookOf pair) outcome old new session sound valid is about orders recorded = absurd (some_none pair about)
+recorded_orders h S bank (Line other asked) outcome old new session sound valid is about orders recorded =
+    line_recorded h S bank other asked outcome old new session sound valid is orders recorded
+recorded_orders h S bank (Show other) outcome old new session sound valid is about orders recorded =
     none_recorded S old new (fills_of outcome) (ap fills_of is) orders recorded
-recorded_orders h S bank (Bad reason) outcome old new session sound sender valid is about orders recorded =
+recorded_orders h S bank (Bad reason) outcome old new session sound valid is about orders recorded =
     none_recorded S old new (fills_of outcome) (ap fills_of is) orders recorded
 
 pub all-follow_on : (banks : ℕ) (books books' : List Book) (table table' : Table) (e : Entry) → AreBooks banks books → pair_of e.command ≡ None
@@ -252,7 +252,7 @@ all-follow_on banks books books' table table' e are about recorded credit h S se
           let within' : place < length books = omega (arith, recorded.count, within) in
           let its = recorded.each place none within' in
           let pair_is : (get_or books place none).pair ≡ place = (are place none within').pair in
-          recorded_orders h S e.bank e.command e.outcome (get_or books place none) (get_or books' place none) session sound step.sender step.command step.outcome about
+          recorded_orders h S e.bank e.command e.outcome (get_or books place none) (get_or books' place none) session sound step.command step.outcome about
           (of.orders place none within' ∙ ap (λ p. orders_in p S.orders) (sym pair_is)) its
           ∙ ap (λ p. orders_in p (after_entry S e).orders) (its.pair ∙ pair_is);
       credit = credit h S sound of.credit step;
@@ -272,7 +272,7 @@ told-goes_on books table table' bank command outcome none may answers credit =
     let e : Entry = next_entry S bank command outcome in
     let of : BooksOf h S books table = books-of h S books table stood in
     let sent : MaySend bank command h S = may h S stood in
-    let step : IsStep h S e = record { sender = sent.sender; command = sent.allowed; number = refl; number_most = sent.number; outcome = answers h H legal stood } in
+    let step : IsStep h S e = record { command = sent.allowed; number = refl; number_most = sent.number; outcome = answers h H legal stood } in
     record {
       step = step;
       stands_then = stands-by h (after_entry S e) books table' (record {
@@ -302,7 +302,6 @@ table-next books t bank number command outcome some is answers =
       sound = legal-sound some.0 some.1 some.2;
       stands = some.3.credit;
       step = record {
-        sender = may.sender;
         command = may.allowed;
         number = count;
         number_most = omega (arith, count, may.number);
@@ -318,4 +317,4 @@ table-follows books t t' bank number command outcome is follows h H legal stood 
     let S : State = state h H in
     let count : number ≡ count_of S bank + 1 = next_numbered h S books t bank number command outcome stood is in
     follows h S (legal-sound h H legal) stood.credit
-    (record { sender = step.sender; command = step.command; number = count; number_most = omega (arith, count, step.number_most); outcome = step.outcome })
+    (record { command = step.command; number = count; number_most = omega (arith, count, step.number_most); outcome = step.outcome })

@@ -21,17 +21,9 @@ pub(crate) fn empty_books(alloc: Global, session: &Session) -> Result<Vec<PairBo
     let banks = session.banks().len();
     let mut books = Vec::new(alloc);
     for place in 0..session.pairs().len() {
-        books.push(PairBook::new(alloc, pair_at(place), banks)?)?;
+        books.push(PairBook::new(alloc, PairId::at(place), banks)?)?;
     }
     Ok(books)
-}
-
-/// The pair at a place of the header.
-fn pair_at(place: usize) -> PairId
-    requires within { place < 32 }
-    ensures value { result ≡ place }
-{
-    PairId::new(place as u8).unwrap()
 }
 
 /// Each pair has its turn in a credit change that has just begun.

@@ -6,7 +6,7 @@ ghost use Rattle.fx_rules.specs.History.{IsLegal, state};
 ghost use Rattle.fx_rules.specs.Sound.{IsSound};
 ghost use Rattle.fx_rules.specs.Market.{GoesOn, HasSent, InEach, InSome, IsDepthOf, MayAsk, MaySend};
 ghost use Rattle.credit_table.specs.Table.{is_of_no_pair};
-ghost use Rattle.pair_steps.specs.Sending.{pair_of};
+ghost use Rattle.fx_rules.specs.Sending.{pair_of};
 ghost use Rattle.pair_host.specs.Standing.{AreBooksOf, FollowsOn, IsNextOf, StandsFor, stands};
 
 use crate::every_pair::{all_resting, carry_all_recorded, carry_turns, empty_books, plan_turns};
@@ -18,7 +18,6 @@ use fx_amounts::{BankId, Memory, PairId, Units};
 use fx_rules::{Command, Entry, Outcome, Session};
 use global_book::PairBook;
 use local_view::depth;
-use pair_steps::pair_of;
 use std::alloc::Global;
 use std::marker::Model;
 
@@ -83,7 +82,7 @@ impl PairHost {
         ensures goes_on { IfOk result (GoesOn (stands self.old) (stands self.new) bank command.now) }
         ensures memory { OnErr result (self.new ≡ self.old) }
     {
-        match pair_of(command) {
+        match command.pair() {
             Some(pair) => self.serve_in(pair, bank, command),
             None => match *command {
                 Command::Line { bank: other, limit } => self.raise(bank, other, limit),
@@ -173,7 +172,7 @@ impl PairHost {
         ensures follows { OnOk result (FollowsOn self.old self.new entry.now) }
         ensures memory { OnErr result (self.new ≡ self.old) }
     {
-        match pair_of(&entry.command) {
+        match entry.command.pair() {
             Some(pair) => self.follow_in(pair, entry),
             None => {
                 self.follow_all(entry);

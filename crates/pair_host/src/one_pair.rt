@@ -1,6 +1,6 @@
 ghost use Rattle.std.specs.Prelude.{◌≡◌, Some, IfOk, OnOk, OnErr};
 ghost use Rattle.fx_rules.specs.Session.{bank_count};
-ghost use Rattle.pair_steps.specs.Sending.{pair_of};
+ghost use Rattle.fx_rules.specs.Sending.{pair_of};
 ghost use Rattle.pair_host.specs.inside.OnePair.{FollowsEach, IsFollowed, MayServe, ServesEach};
 
 use credit_table::CreditTable;

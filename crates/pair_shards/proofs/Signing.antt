@@ -5,18 +5,18 @@ use Rattle.fx_rules.specs.declared.command.Command.{Command}
 use Rattle.fx_rules.specs.declared.command.Command.TheVariants.{Order, Cancel, Reduce, Pull, Line, Show, Book, Bad}
 use Rattle.fx_rules.specs.declared.outcome.Outcome.{Outcome}
 use Rattle.fx_rules.specs.declared.outcome.Entry.{Entry}
-use Rattle.fx_rules.specs.Session.{Header, pair_count, sender_count}
-use Rattle.fx_rules.specs.Step.{IsCommand, IsOutcome}
+use Rattle.fx_rules.specs.Session.{Header, pair_count, sender_places}
+use Rattle.fx_rules.specs.Step.{AreValues, IsOutcome}
 use Rattle.fx_rules.specs.History.{IsLegal, state, own}
 use Rattle.fx_rules.specs.Keyed.{pair_key, is_about, touches_key}
 use Rattle.fx_rules.proofs.Continuing.{legal-last}
 use Rattle.fx_rules.proofs.KeyedLemmas.{touches-pair, touches-other}
+use Rattle.fx_rules.proofs.Senders.{command-place, places-most}
 use Rattle.fx_chronicle.specs.Touching.{touched, pends, without}
 use Rattle.fx_chronicle.specs.Faces.{Witness, witness}
 use Rattle.fx_chronicle.proofs.Pending.{pends-touched, pends-without, signed_by_two}
-use Rattle.pair_steps.specs.declared.sender.Sender.{Sender}
-use Rattle.pair_steps.specs.Sending.{IsNextIn, pair_of}
-use Rattle.pair_steps.specs.Carries.{entry_of}
+use Rattle.fx_rules.specs.declared.sender.Sender.{Sender}
+use Rattle.fx_rules.specs.Sending.{IsNextIn, pair_of, entry_of}
 use Rattle.pair_steps.proofs.Answered.{one_pair}
 use Rattle.credit_book.specs.Recorded.{Recorded, IsCreditBook, key_count, recorded, signed_by}
 use Rattle.credit_book.specs.Serving.{IsServed}
@@ -55,13 +55,13 @@ about_other (Bad reason) pair key is apart = cc
 -- ---- the entry that is prepared
 
 -- `first` is the credit book as the call began, `mid` once the sender is known
-pub prepared : (h : Header) (first mid : Recorded) (sender : Sender) (key : ℕ) (command : Command) (outcome copy : Outcome) → mid ≡ first → IsCreditBook h mid → IsNextIn (state h first.history.entries) sender → sender.bank ≡ key → sender.bank < sender_count h → sender.number < 2 ^ 32 → IsCommand h key command
+pub prepared : (h : Header) (first mid : Recorded) (sender : Sender) (key : ℕ) (command : Command) (outcome copy : Outcome) → mid ≡ first → IsCreditBook h mid → IsNextIn (state h first.history.entries) sender → sender.bank ≡ key → sender.bank < sender_places h → sender.number < 2 ^ 32 → AreValues h key command
     → IsOutcome h (state h mid.history.entries) sender.bank command outcome → copy ≡ outcome → IsPrepared h first.history.entries key command sender (entry_of sender command copy) outcome
-prepared h first mid sender key command outcome copy same kept next bank_is sends most may is copied = record {
+prepared h first mid sender key command outcome copy same kept next bank_is place most values is copied = record {
   next = next;
   bank_is = bank_is;
   made_of = ap (entry_of sender command) copied;
-  legal = goes_on h first.history.entries sender key command outcome copy (subst (λ (b : Recorded). IsLegal h b.history.entries) same kept.legal) next bank_is sends most may
+  legal = goes_on h first.history.entries sender key command outcome copy (subst (λ (b : Recorded). IsLegal h b.history.entries) same kept.legal) next bank_is place most values
       (subst (λ (b : Recorded). IsOutcome h (state h b.history.entries) sender.bank command outcome) same is) copied;
 }
 
@@ -90,7 +90,7 @@ are_keys h shard before bank pass_key command sender entry outcome kept is about
     let last = legal-last h before entry is.legal in
     record {
       bank_is = ap (λ (e : Entry). e.bank) is.made_of ∙ is.bank_is ∙ sym pass_is;
-      bank = omega (arith, last.1.sender, last.0.session.banks_most);
+      bank = omega (arith, command-place h entry.bank entry.command last.0.session last.1.command, places-most h last.0.session);
       about = ap (λ (e : Entry). pair_of e.command) is.made_of ∙ about;
       front_is = kept.key;
       within = kept.pair;

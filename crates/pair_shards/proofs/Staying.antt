@@ -43,7 +43,7 @@ stays : (h : Header) (pair : ℕ) (S : State) (rest : List Entry) → IsSession 
 stays h pair S [] session sound steps free = refl
 stays h pair S (e ∷ es) session sound steps free =
     let step = steps.0 in
-    stays h pair (after_entry S e) es session (after-sound h S e.bank e.command e.outcome session sound step.sender step.command step.outcome) steps.1 free.1
+    stays h pair (after_entry S e) es session (after-sound h S e.bank e.command e.outcome session sound step.command step.outcome) steps.1 free.1
     ∙ other_pairs-stay h S e pair session sound step (not_changed e.command pair (later_false (pair_key pair == e.bank) (is_about e.command (pair_key pair)) free.0))
 
 Steps-behind : (h : Header) (S : State) (met rest : List Entry) → Steps h S (met ++ rest) → Steps h (after_all S met) rest

@@ -1,13 +1,13 @@
 ghost use Rattle.std.specs.Prelude.{◌≡◌, ◌<◌, ◌+◌, ◌-◌, ◌^◌, ◌++◌, [], ◌∷◌, true, Some, length, IfOk, OnOk, OnErr};
 ghost use Rattle.std.specs.Sync.Mutex.{mutex_guard_value};
-ghost use Rattle.fx_rules.specs.Session.{pair_count, sender_count};
+ghost use Rattle.fx_rules.specs.Session.{pair_count, sender_places};
 ghost use Rattle.fx_rules.specs.Keyed.{pair_key};
-ghost use Rattle.fx_rules.specs.Step.{IsCommand, IsOutcome};
+ghost use Rattle.fx_rules.specs.Step.{AreValues, IsOutcome};
 ghost use Rattle.fx_rules.specs.History.{own, state};
 ghost use Rattle.fx_chronicle.specs.Touching.{pends};
 ghost use Rattle.fx_chronicle.specs.Faces.{witness};
-ghost use Rattle.pair_steps.specs.Sending.{IsNextIn, pair_of};
-ghost use Rattle.pair_steps.specs.Carries.{HasRoomFor, entry_of};
+ghost use Rattle.fx_rules.specs.Sending.{IsNextIn, pair_of, entry_of};
+ghost use Rattle.pair_steps.specs.Carries.{HasRoomFor};
 ghost use Rattle.credit_raise.specs.UnderWay.{IsUnderWay, command_of};
 ghost use Rattle.credit_book.specs.Recorded.{IsCreditBook, signed_by};
 ghost use Rattle.credit_book.specs.Serving.{IsServed};
@@ -18,9 +18,8 @@ use credit_book::{CreditBook, Pass, SignedBook};
 use credit_raise::Raising;
 use fx_amounts::{BankId, Memory, PairId};
 use fx_chronicle::{Front, Naming};
-use fx_rules::{Command, Entry, Outcome, Plan, Session};
+use fx_rules::{Command, Entry, Outcome, Plan, Sender, Session};
 use global_book::PairBook;
-use pair_steps::Sender;
 use std::alloc::Global;
 use std::marker::Model;
 use std::sync::MutexGuard;
@@ -102,7 +101,7 @@ impl<N: Naming> Shard<N> {
     /// Makes room in the book for what may come to rest of a bank's command. The book's orders stay as they are. At `Memory` there
     /// may be none.
     pub fn make_room(&mut self, bank: BankId, command: &Command) -> Result<(), Memory>
-        requires bank { bank < sender_count N.session }
+        requires bank { bank < sender_places N.session }
         ensures has_room { OnOk result (HasRoomFor self.new.book bank command.now) }
         ensures orders { self.new.book.orders ≡ self.old.book.orders }
         ensures pair { self.new.book.pair ≡ self.old.book.pair }
@@ -113,42 +112,9 @@ impl<N: Naming> Shard<N> {
     }
 
     /// Serves a bank's command in its pair: an order, a cancel, a reduction, a pull or a local book. It catches up first; then all
-    /// memory is taken before anything changes, so that after `Memory` the book's orders, the credit book and the pass are as
-    /// they were.
-    pub fn serve(
-        &mut self,
-        alloc: Global,
-        credit: &mut CreditBook<N>,
-        pass: &mut Pass<N>,
-        command: &Command,
-    ) -> Result<Outcome, Memory>
-        requires signed { credit.old.history.pending ≡ [] }
-        requires command { IsCommand N.session pass.old.key command.now }
-        requires pair { pair_of command.now ≡ Some self.old.book.pair }
-        requires few { length (own pass.old.key pass.old.met) < 2 ^ 32 - 1 }
-        ensures served { IfOk result (IsServed N.session credit.old.history.entries pass.old command.now credit.new.history.entries pass.new) }
-        ensures signed { credit.new.history.pending ≡ [] }
-        ensures front { self.new.front ≡ witness self.old.front.key credit.new.history.entries }
-        ensures pair { self.new.book.pair ≡ self.old.book.pair }
-        ensures memory { OnErr result (credit.new ≡ credit.old) }
-        ensures pass_memory { OnErr result (pass.new ≡ pass.old) }
-        ensures book_memory { OnErr result (self.new.book.orders ≡ self.old.book.orders) }
-    {
-        self.catch_up(credit);
-        self.make_room(pass.bank(), command)?;
-        let Prepared {
-            sender,
-            entry,
-            outcome,
-        } = self.prepare(alloc, credit, pass, command)?;
-        credit.enter(pass, entry);
-        self.settle(credit, &sender, command, &outcome);
-        Ok(outcome)
-    }
-
-    /// Serves a bank's command in its pair, as `serve` does, with the credit book as it lies behind its lock. The lock is given back
-    /// once the command's entry is recorded and signed, and the book is changed without it. Room was made in the book
-    /// before. After `Memory` the book's orders, the credit book and the pass are as they were.
+    /// memory is taken before anything changes, so that after `Memory` the book's orders, the credit book and the pass are as they were.
+    /// Room was made in the book before. The credit lock is given back once the command's entry is recorded and signed, and the book is
+    /// changed without it.
     pub fn serve_under(
         &mut self,
         alloc: Global,
@@ -156,7 +122,7 @@ impl<N: Naming> Shard<N> {
         pass: &mut Pass<N>,
         command: &Command,
     ) -> Result<Outcome, Memory>
-        requires command { IsCommand N.session pass.old.key command.now }
+        requires values { AreValues N.session pass.old.key command.now }
         requires pair { pair_of command.now ≡ Some self.old.book.pair }
         requires few { length (own pass.old.key pass.old.met) < 2 ^ 32 - 1 }
         requires room { HasRoomFor self.old.book pass.old.key command.now }
@@ -191,7 +157,7 @@ impl<N: Naming> Shard<N> {
     ) -> Result<Prepared, Memory>
         requires signed { credit.old.history.pending ≡ [] }
         requires caught_up { self.now.front.seen ≡ credit.old.history.entries }
-        requires command { IsCommand N.session pass.old.key command.now }
+        requires values { AreValues N.session pass.old.key command.now }
         requires pair { pair_of command.now ≡ Some self.now.book.pair }
         requires few { length (own pass.old.key pass.old.met) < 2 ^ 32 - 1 }
         ensures prepared { IfOk result (λ prepared. IsPrepared N.session credit.old.history.entries pass.old.key command.now prepared.sender prepared.entry prepared.outcome) }
@@ -227,33 +193,12 @@ impl<N: Naming> Shard<N> {
     ) -> Result<Outcome, Memory>
         requires caught_up { self.now.front.seen ≡ credit.now.history.entries }
         requires pair { pair_of command.now ≡ Some self.now.book.pair }
-        requires sender { sender.now.bank < sender_count N.session }
+        requires sender { sender.now.bank < sender_places N.session }
         requires next { IsNextIn (state N.session credit.now.history.entries) sender.now }
         ensures answers { IfOk result (IsOutcome N.session (state N.session credit.now.history.entries) sender.now.bank command.now) }
     {
         let weight = credit.weight(self.book.pair());
         pair_steps::answer(alloc, &self.book, credit.lines(), weight, sender, command)
-    }
-
-    /// Signs the entry of a command in its pair, the last one, and makes what came of it in the book.
-    fn settle(
-        &mut self,
-        credit: &mut CreditBook<N>,
-        sender: &Sender,
-        command: &Command,
-        outcome: &Outcome,
-    )
-        requires pends { pends credit.old.history.pending self.old.front.key ≡ true }
-        requires last { credit.old.history.entries ≡ self.old.front.seen ++ entry_of sender.now command.now outcome.now ∷ [] }
-        requires next { IsNextIn (state N.session self.old.front.seen) sender.now }
-        requires pair { pair_of command.now ≡ Some self.old.book.pair }
-        requires room { HasRoomFor self.old.book sender.now.bank command.now }
-        ensures front { self.new.front ≡ witness self.old.front.key credit.old.history.entries }
-        ensures pair { self.new.book.pair ≡ self.old.book.pair }
-        ensures value { credit.new ≡ signed_by self.old.front.key credit.old }
-    {
-        credit.sign(&mut self.front);
-        pair_steps::carry_out(&mut self.book, sender, command, outcome);
     }
 
     /// Has its turn in a credit change under way, as the next pair: it catches up, and what the orders of the command's two banks make in

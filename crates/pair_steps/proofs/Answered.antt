@@ -15,8 +15,8 @@ use Rattle.global_book.specs.Book.{Book, first}
 use Rattle.credit_lines.specs.Credit.{Credit}
 use Rattle.match_sweep.specs.Sweeps.{Fits}
 use Rattle.local_view.specs.LocalBook.{IsLocalBook}
-use Rattle.pair_steps.specs.declared.sender.Sender.{Sender}
-use Rattle.pair_steps.specs.Sending.{pair_of}
+use Rattle.fx_rules.specs.declared.sender.Sender.{Sender}
+use Rattle.fx_rules.specs.Sending.{pair_of}
 use Rattle.pair_steps.specs.Answers.{AnswersEach}
 
 pub find-first : {X : Type 0} (test : X → Bool) (xs : List X) → first (filter test xs) ≡ find test xs

@@ -29,8 +29,8 @@ use Rattle.fx_rules.proofs.SweepSound.{swept-sound, counts-filled_all, weight_of
 use Rattle.global_book.specs.Book.{Book, HasRoom, Rests, RestsAbove, is_of, relotted}
 use Rattle.match_sweep.specs.Carries.{carried}
 use Rattle.match_sweep.proofs.Lowering.{carried-market, found-among}
-use Rattle.pair_steps.specs.declared.sender.Sender.{Sender}
-use Rattle.pair_steps.specs.Sending.{pair_of, IsNextIn}
+use Rattle.fx_rules.specs.declared.sender.Sender.{Sender}
+use Rattle.fx_rules.specs.Sending.{pair_of, IsNextIn}
 use Rattle.pair_steps.specs.Carries.{HasRoomFor, IsStepOf, IsStepOfSome, FollowsOn, order_at_rest, with_rest, orders_after}
 use Rattle.pair_steps.proofs.Answered.{find-first, one_pair}
 
@@ -218,9 +218,9 @@ can_carry book sender command outcome side pair price lots life done rests fills
     let orders_are : carried book.orders fills ≡ orders_in pair (filled_all S fills).orders =
     ap (λ (os : List Resting). carried os fills) (of.orders ∙ ap (λ p. orders_in p S.orders) (sym same)) ∙ carried-market pair S fills of.sound.rising in
     let came : (o : Resting) → Among o (carried book.orders fills) → CameBefore sender o =
-    λ o there. came_before h S sender t fills swept.left some.valid of.sound of.next of.step.sender asked.0 swept.swept o (subst (Among o) orders_are there) in
+    λ o there. came_before h S sender t fills swept.left some.valid of.sound of.next asked.sends asked.values.0 swept.swept o (subst (Among o) orders_are there) in
     record {
-      most = omega (arith, swept.most, asked.2.1);
+      most = omega (arith, swept.most, asked.values.2.1);
       room = λ more. subst (HasRoomFor book sender.bank) (ap (Order side pair price lots) (swept.day more)) (subst (HasRoomFor book sender.bank) command_is room);
       last = Each-of (λ (o : Resting). o.arrival < sender.arrival) (carried book.orders fills) (λ o there. (came o there).arrival);
       absent = Each-of (λ (o : Resting). is_order sender.bank sender.number o ≡ false) (carried book.orders fills) (λ o there. (came o there).number);

@@ -9,8 +9,8 @@ use Rattle.fx_rules.specs.Sound.{IsSound}
 use Rattle.global_book.specs.Book.{Book}
 use Rattle.credit_lines.specs.Credit.{Credit}
 use Rattle.match_sweep.specs.Sweeps.{Fits}
-use Rattle.pair_steps.specs.declared.sender.Sender.{Sender}
-use Rattle.pair_steps.specs.Sending.{IsNextIn}
+use Rattle.fx_rules.specs.declared.sender.Sender.{Sender}
+use Rattle.fx_rules.specs.Sending.{IsNextIn}
 
 -- The outcome is the market's in every sound state that the book and the credit are of and in which the command is the
 -- next.

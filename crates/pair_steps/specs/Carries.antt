@@ -5,7 +5,6 @@ use Rattle.fx_rules.specs.declared.command.Command.{Command}
 use Rattle.fx_rules.specs.declared.command.Command.TheVariants.{Order, Cancel, Reduce, Pull}
 use Rattle.fx_rules.specs.declared.command.Life.TheVariants.{Day}
 use Rattle.fx_rules.specs.declared.orders.Resting.{Resting}
-use Rattle.fx_rules.specs.declared.outcome.Entry.{Entry}
 use Rattle.fx_rules.specs.declared.outcome.Outcome.{Outcome}
 use Rattle.fx_rules.specs.declared.outcome.Outcome.TheVariants.{Ordered, Cancelled, Reduced, Pulled}
 use Rattle.fx_rules.specs.Session.{Header, IsSession}
@@ -15,17 +14,13 @@ use Rattle.fx_rules.specs.History.{IsStep, after_entry}
 use Rattle.fx_rules.specs.Sound.{IsSound}
 use Rattle.global_book.specs.Book.{Book, HasRoom, is_of, relotted}
 use Rattle.match_sweep.specs.Carries.{carried}
-use Rattle.pair_steps.specs.declared.sender.Sender.{Sender}
-use Rattle.pair_steps.specs.Sending.{IsNextIn}
+use Rattle.fx_rules.specs.declared.sender.Sender.{Sender}
+use Rattle.fx_rules.specs.Sending.{IsNextIn, entry_of}
 
 -- there is room for what may come to rest of a command: of a Day order, one order of its bank and side
 abbrev pub HasRoomFor : Book → ℕ → Command → Type 0
 HasRoomFor book bank (Order side pair price lots Day) = HasRoom book bank side
 HasRoomFor book bank _ = Unit {0}
-
--- the entry that a command and its outcome make
-abbrev pub entry_of : Sender → Command → Outcome → Entry
-entry_of sender command outcome = record { bank = sender.bank; number = sender.number; command = command; outcome = outcome }
 
 -- a sender's order as it comes to rest, with so many lots left
 abbrev pub order_at_rest : Sender → Side → ℕ → ℕ → Resting

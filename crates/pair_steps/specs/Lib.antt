@@ -1,4 +1,3 @@
-pub mod Sending
 pub mod Answers
 pub mod Carries
 pub mod Turns

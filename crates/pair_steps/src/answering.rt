@@ -2,15 +2,14 @@ ghost use Rattle.std.specs.Prelude.{◌≡◌, ◌≤◌, ◌<◌, ◌^◌, Some
 ghost use Rattle.fx_amounts.specs.Quantity.{IsWeight};
 ghost use Rattle.fx_rules.specs.Step as step;
 ghost use Rattle.match_sweep.specs.Takers.{swept_in};
-ghost use Rattle.pair_steps.specs.Sending.{pair_of};
+ghost use Rattle.fx_rules.specs.Sending.{pair_of};
 ghost use Rattle.pair_steps.specs.Answers.{AnswersEach};
 ghost use Rattle.pair_steps.specs.inside.Answers.{OrdersEach, IsOrderedBy};
 
 use crate::counting::count_of;
-use crate::sender::Sender;
 use credit_lines::CreditLines;
 use fx_amounts::{Lots, Memory};
-use fx_rules::{Command, Life, Outcome, Plan, Resting};
+use fx_rules::{Command, Life, Outcome, Plan, Resting, Sender};
 use global_book::PairBook;
 use local_view::depth;
 use match_sweep::{Taker, plan};

@@ -3,12 +3,11 @@ ghost use Rattle.fx_rules.specs.Lists.{Each};
 ghost use Rattle.fx_rules.specs.Sweep.{is_order};
 ghost use Rattle.global_book.specs.Book.{HasRoom, KeepsRoom, TakesRoom};
 ghost use Rattle.match_sweep.specs.Carries.{carried};
-ghost use Rattle.pair_steps.specs.Sending.{pair_of};
+ghost use Rattle.fx_rules.specs.Sending.{pair_of};
 ghost use Rattle.pair_steps.specs.Carries.{FollowsOn, HasRoomFor, IsStepOfSome, order_at_rest, orders_after, with_rest};
 
-use crate::sender::Sender;
 use fx_amounts::{BankId, Lots, Memory, Price, Side};
-use fx_rules::{Command, Fill, Life, Outcome, Resting};
+use fx_rules::{Command, Fill, Life, Outcome, Resting, Sender};
 use global_book::PairBook;
 use match_sweep::carry_fills;
 

@@ -10,12 +10,10 @@ mod answering;
 mod carrying;
 mod counting;
 mod preparing;
-mod sender;
 mod turning;
 
 pub use answering::answer;
 pub use carrying::{carry_out, reserve};
 pub use counting::resting;
 pub use preparing::prepare;
-pub use sender::{Sender, pair_of};
 pub use turning::{carry_recorded, carry_turn};

@@ -1,16 +1,15 @@
 ghost use Rattle.std.specs.Prelude.{◌≡◌, ◌<◌, Some, IfOk, OnOk};
 ghost use Rattle.fx_amounts.specs.Quantity.{IsWeight};
 ghost use Rattle.global_book.specs.Book.{KeepsRoom};
-ghost use Rattle.pair_steps.specs.Sending.{pair_of};
+ghost use Rattle.fx_rules.specs.Sending.{pair_of};
 ghost use Rattle.pair_steps.specs.Answers.{AnswersEach};
 ghost use Rattle.pair_steps.specs.Carries.{HasRoomFor};
 
 use crate::answering::answer;
 use crate::carrying::reserve;
-use crate::sender::Sender;
 use credit_lines::CreditLines;
 use fx_amounts::Memory;
-use fx_rules::{Command, Outcome};
+use fx_rules::{Command, Outcome, Sender};
 use global_book::PairBook;
 use std::alloc::Global;
 

@@ -1,100 +1,42 @@
 -- The order of places, and what a binary search over sorted places finds.
-use Rattle.std.proofs.Common.{ℕ, zero, suc, ◌≡◌, ◌≢◌, ◌≤◌, ◌<◌, Bool, true, false, ◌&&◌, not, eqb, ltb, List, [], ◌∷◌, length, get_or, take, drop, ◌⊎◌, inl, inr, refl, ap, sym, subst, ◌∙◌, arith}
-use Rattle.std.proofs.lemmas.Bool.{cases_Bool, cases_lt, and_parts, and_from, or_parts, or_cases, or_left, or_right, eqb-true, ltb-true, ltb-false, lt-ltb, le-ltb, eq-eqb, both_ways}
+use Rattle.std.proofs.Common.{ℕ, zero, suc, ◌≡◌, ◌≢◌, ◌≤◌, ◌<◌, Bool, true, false, not, List, [], ◌∷◌, length, get_or, take, drop, ◌⊎◌, inl, inr, refl, ap, sym, subst, ◌∙◌, arith}
+use Rattle.std.proofs.lemmas.Bool.{cases_Bool, cases_lt, both_ways}
 use Rattle.std.specs.List.{AllByRecursion as Each, Contains, filter, insert, remove, slice_get}
 use Rattle.std.specs.List.Sorted.{IsPartitionedBy, IsPartitionPoint}
 use Rattle.std.proofs.lemmas.List.Sorted.{IsPermutation-insert, IsPermutation-remove, IsPermutation-sym, Contains-permutation}
 use Rattle.fx_amounts.specs.declared.side.Side.{Side}
-use Rattle.fx_amounts.specs.declared.side.Side.TheVariants.{Buy, Sell}
+use Rattle.fx_amounts.specs.Preference.{comes_first}
+use Rattle.fx_amounts.specs.Side.{opposite}
+use Rattle.fx_amounts.proofs.Preference.{first_cases, first_self, first_trans, first_either}
 use Rattle.price_levels.specs.declared.place.Place.{Place}
 use Rattle.price_levels.specs.Ladder.{is_better, sorts_before, Sorts, InOrder, IsSorted, IsNewArrival, Gains, Loses, first_where}
 
-better_trans : (side : Side) (a b c : ℕ) → is_better side a b ≡ true → is_better side b c ≡ true → is_better side a c ≡ true
-better_trans Buy a b c f g = lt-ltb c a (omega (arith, ltb-true b a f, ltb-true c b g))
-better_trans Sell a b c f g = lt-ltb a c (omega (arith, ltb-true a b f, ltb-true b c g))
-
-better_self : (side : Side) (a : ℕ) → is_better side a a ≡ false
-better_self Buy a = le-ltb a a (omega arith)
-better_self Sell a = le-ltb a a (omega arith)
-
--- prices of which neither is better are equal
-better_neither : (side : Side) (a b : ℕ) → is_better side a b ≡ false → is_better side b a ≡ false → a ≡ b
-better_neither Buy a b f g = omega (arith, ltb-false b a f, ltb-false a b g)
-better_neither Sell a b f g = omega (arith, ltb-false a b f, ltb-false b a g)
-
 -- what it says that a place stands before another
 pub before_cases : (side : Side) (p q : Place) → sorts_before side p q ≡ true → (is_better side p.price q.price ≡ true) ⊎ ((p.price ≡ q.price) × (p.arrival < q.arrival))
-before_cases side p q h =
-    elim (or_cases (is_better side p.price q.price) (eqb p.price q.price && ltb p.arrival q.arrival) h) [
-      | inl better ↦ inl better
-      | inr both ↦ let parts = and_parts (eqb p.price q.price) (ltb p.arrival q.arrival) both in
-          inr (eqb-true p.price q.price parts.0, ltb-true p.arrival q.arrival parts.1)
-    ]
-
-before_better : (side : Side) (p q : Place) → is_better side p.price q.price ≡ true → sorts_before side p q ≡ true
-before_better side p q h = or_left (is_better side p.price q.price) (eqb p.price q.price && ltb p.arrival q.arrival) h
-
-before_earlier : (side : Side) (p q : Place) → p.price ≡ q.price → p.arrival < q.arrival → sorts_before side p q ≡ true
-before_earlier side p q same earlier =
-    or_right (is_better side p.price q.price) (eqb p.price q.price && ltb p.arrival q.arrival)
-    (and_from (eqb p.price q.price) (ltb p.arrival q.arrival) (eq-eqb p.price q.price same) (lt-ltb p.arrival q.arrival earlier))
+before_cases side p q = first_cases (opposite side) p.price p.arrival q.price q.arrival
 
 pub before_self : (side : Side) (p : Place) → sorts_before side p p ≡ true → ⊥
-before_self side p h =
-    elim (before_cases side p p h) [
-      | inl better ↦ both_ways (is_better side p.price p.price) (better_self side p.price) better
-      | inr same ↦ omega (arith, same.1)
-    ]
+before_self side p = first_self (opposite side) p.price p.arrival
 
 pub before_trans : (side : Side) (p q r : Place) → sorts_before side p q ≡ true → sorts_before side q r ≡ true → sorts_before side p r ≡ true
-before_trans side p q r f g =
-    elim (before_cases side p q f) [
-      | inl pq ↦ before_better side p r
-          (elim (before_cases side q r g) [
-            | inl qr ↦ better_trans side p.price q.price r.price pq qr
-            | inr qr ↦ subst (λ x. is_better side p.price x ≡ true) qr.0 pq
-          ])
-      | inr pq ↦
-          elim (before_cases side q r g) [
-            | inl qr ↦ before_better side p r (subst (λ x. is_better side x r.price ≡ true) (sym pq.0) qr)
-            | inr qr ↦ before_earlier side p r (pq.0 ∙ qr.0) (omega (arith, pq.1, qr.1))
-          ]
-    ]
+before_trans side p q r = first_trans (opposite side) p.price p.arrival q.price q.arrival r.price r.arrival
 
 -- of two places with different arrivals one stands before the other
 pub before_either : (side : Side) (p q : Place) → p.arrival ≢ q.arrival → sorts_before side p q ≡ false → sorts_before side q p ≡ true
-before_either side p q differ h =
-    let parts = or_parts (is_better side p.price q.price) (eqb p.price q.price && ltb p.arrival q.arrival) h in
-    elim (cases_Bool (is_better side q.price p.price)) [
-      | inl better ↦ before_better side q p better
-      | inr no' ↦
-          let same : p.price ≡ q.price = better_neither side p.price q.price parts.0 no' in
-          before_earlier side q p (sym same)
-          (elim (cases_lt p.arrival q.arrival) [
-            | inl earlier ↦ absurd (both_ways (eqb p.price q.price && ltb p.arrival q.arrival) parts.1
-                (and_from (eqb p.price q.price) (ltb p.arrival q.arrival) (eq-eqb p.price q.price same) (lt-ltb p.arrival q.arrival earlier)))
-            | inr later ↦ omega arith
-          ])
-    ]
+before_either side p q = first_either (opposite side) p.price p.arrival q.price q.arrival
+
+-- what a place stands before, it stands before where another has that price and arrival
+pub before_same : (side : Side) (p q r : Place) → q.price ≡ r.price → q.arrival ≡ r.arrival → sorts_before side p q ≡ true → sorts_before side p r ≡ true
+before_same side p q r price arrival before =
+    subst (λ n. comes_first (opposite side) p.price p.arrival r.price n ≡ true) arrival
+    (subst (λ n. comes_first (opposite side) p.price p.arrival n q.arrival ≡ true) price before)
 
 -- a place of one price and arrival with another does not stand before it
 pub before_alike : (side : Side) (p q : Place) → p.price ≡ q.price → p.arrival ≡ q.arrival → sorts_before side p q ≡ false
 before_alike side p q price arrival =
     elim (cases_Bool (sorts_before side p q)) [
       | inr no' ↦ no'
-      | inl before ↦
-          absurd (elim (before_cases side p q before) [
-            | inl better ↦ both_ways (is_better side q.price q.price) (better_self side q.price) (subst (λ n. is_better side n q.price ≡ true) price better)
-            | inr earlier ↦ omega (arith, earlier.1)
-          ])
-    ]
-
--- what a place stands before, it stands before where another has that price and arrival
-pub before_same : (side : Side) (p q r : Place) → q.price ≡ r.price → q.arrival ≡ r.arrival → sorts_before side p q ≡ true → sorts_before side p r ≡ true
-before_same side p q r price arrival before =
-    elim (before_cases side p q before) [
-      | inl better ↦ before_better side p r (subst (λ n. is_better side p.price n ≡ true) price better)
-      | inr earlier ↦ before_earlier side p r (earlier.0 ∙ price) (omega (arith, earlier.1))
+      | inl before ↦ absurd (before_self side p (before_same side p q p (sym price) (sym arrival) before))
     ]
 
 pub Each-contains : (P : Place → Type 0) (xs : List Place) (q : Place) → Each P xs → Contains xs q → P q

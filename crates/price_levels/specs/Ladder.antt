@@ -1,9 +1,11 @@
 -- The places of the resting orders of one side, as contracts see them.
-use Rattle.std.specs.Prelude.{ℕ, ◌≡◌, ◌≢◌, Bool, true, false, ◌&&◌, ◌||◌, ◌==◌, nat_lt, List, [], ◌∷◌, ◌⊎◌, Option, Some, None, slice_get}
+use Rattle.std.specs.Prelude.{ℕ, ◌≡◌, ◌≢◌, Bool, true, false, List, [], ◌∷◌, ◌⊎◌, Option, Some, None, slice_get}
 use Rattle.std.specs.List.{AllByRecursion, Contains, filter}
+use Rattle.fx_amounts.specs.Preference as preference
+use Rattle.fx_amounts.specs.Preference.{comes_first}
 use Rattle.fx_amounts.specs.Price.{crosses}
+use Rattle.fx_amounts.specs.Side.{opposite}
 use Rattle.fx_amounts.specs.declared.side.Side.{Side}
-use Rattle.fx_amounts.specs.declared.side.Side.TheVariants.{Buy, Sell}
 use Rattle.price_levels.specs.declared.place.Place.{Place}
 
 -- `room` is how many places more can be inserted
@@ -12,15 +14,13 @@ pub record Ladder : Type 0 where
   pub places : List Place
   pub room : ℕ
 
--- the first price is the better one of two orders of this side: the higher bid, the lower offer
+-- the first price is the better one of two orders of this side, for a taker of the other: the higher bid, the lower offer
 abbrev pub is_better : Side → ℕ → ℕ → Bool
-is_better Buy price other = nat_lt other price
-is_better Sell price other = nat_lt price other
+is_better side price other = preference.is_better (opposite side) price other
 
 -- the first place stands before the other: its price is better, or it is the same and its order arrived earlier
 abbrev pub sorts_before : Side → Place → Place → Bool
-sorts_before side place other =
-    is_better side place.price other.price || (place.price == other.price && nat_lt place.arrival other.arrival)
+sorts_before side place other = comes_first (opposite side) place.price place.arrival other.price other.arrival
 
 -- two places in order, of two orders
 pub record Sorts (side : Side) (place other : Place) : Type 0 where

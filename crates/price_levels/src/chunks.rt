@@ -9,7 +9,7 @@ use crate::chunk::Chunk;
 use crate::cut::Cut;
 use crate::place::Place;
 use crate::spot::Spot;
-use fx_amounts::{Memory, Price, Side};
+use fx_amounts::{Memory, Price, Side, room_for};
 use std::alloc::Global;
 
 /// How many places a chunk has at most.
@@ -61,7 +61,7 @@ impl Chunks {
         ensures count { self.new.count ≡ self.old.count }
         ensures places { places_of self.new.chunks.items ≡ places_of self.old.chunks.items }
     {
-        let needed = self.count.checked_add(places).ok_or(Memory)?;
+        let needed = room_for(self.count, places)?;
         if needed <= self.most {
             return Ok(());
         }

@@ -6,6 +6,7 @@ use Rattle.std.proofs.lemmas.Bool.{cases_Bool}
 use Rattle.std.proofs.lemmas.Option.{none-some}
 use Rattle.std.proofs.lemmas.Slice.Eq.{bytes_eq-Decides}
 use Rattle.std.proofs.lemmas.Bool.Decides.{nat_tests}
+use Rattle.fx_amounts.specs.OutOfMemory.{refused}
 use Rattle.fx_text.specs.Number.{number_of}
 use Rattle.fx_text.proofs.NumberLemmas.{number_of-no_byte, number_of-other_byte}
 use Rattle.clap.specs.Words.{Row, Text, takes, subcommand_of}
@@ -119,11 +120,11 @@ none_unless words never = go (task_of words) refl
     go None e = e
     go (Some task) e = absurd (never task e)
 
--- the command line refused them, and not for want of memory
-pub refused : (words : List Text) (fault : WordsFault) → (takes tool words ≡ true → fault ≡ Memory) → fault ≡ Usage → task_of words ≡ None
-refused words fault else_memory usage = none_unless words (λ task e. memory_or_usage (sym (else_memory (all_taken words task e).taken) ∙ usage))
+-- the command line did not take them, though memory was not refused
+pub not_taken : (words : List Text) (fault : WordsFault) → (takes tool words ≡ true → fault ≡ Memory refused) → fault ≡ Usage → task_of words ≡ None
+not_taken words fault else_memory usage = none_unless words (λ task e. memory_or_usage (sym (else_memory (all_taken words task e).taken) ∙ usage))
   where
-    memory_or_usage : Memory ≡ Usage → ⊥
+    memory_or_usage : Memory refused ≡ Usage → ⊥
     memory_or_usage e = cc
 
 -- no command was matched

@@ -1,5 +1,6 @@
-ghost use Rattle.std.specs.Prelude.{◌≡◌, IfOk, IfErr, None, Some, map, string_bytes, IsTrue, ◌↔◌, true};
+ghost use Rattle.std.specs.Prelude.{◌≡◌, IsSome, IfOk, IfErr, None, Some, map, string_bytes, IsTrue, ◌↔◌, true};
 ghost use Rattle.clap.specs.Words.{subcommand_of, subcommand_rows_of, takes};
+ghost use Rattle.fx_amounts.specs.OutOfMemory.{refused};
 ghost use Rattle.program_words.specs.Forms.{task_of, IsTask};
 ghost use Rattle.program_words.specs.inside.Tool.{tool};
 
@@ -10,39 +11,50 @@ use clap::error::ErrorKind;
 use clap::{ArgMatches, Error};
 use fx_amounts::Memory;
 use std::alloc::Global;
+use std::io;
 
 /// Why words were not read.
 #[derive(Clone, Copy, Debug, PartialEq, Eq)]
 pub enum WordsFault {
     /// They are in none of the forms.
     Usage,
-    /// A growth of memory was refused.
-    Memory,
+    /// A growth of memory was refused, by this program's own call or inside `clap`.
+    Memory(Memory),
 }
 
 impl From<Memory> for WordsFault {
-    ghost use Rattle.program_words.specs.declared.reading.WordsFault.TheVariants.{Memory as WantOfMemory};
+    ghost use Rattle.program_words.specs.declared.reading.WordsFault.TheVariants.{Memory as OutOfMemory};
 
-    ghost from_gives = { λ _ fault. fault ≡ WantOfMemory };
+    ghost from_gives = { λ memory fault. fault ≡ OutOfMemory memory };
 
-    fn from(_: Memory) -> Self {
-        WordsFault::Memory
+    fn from(memory: Memory) -> Self {
+        WordsFault::Memory(memory)
     }
 }
 
+/// What an error of `clap` says of words.
 impl From<Error> for WordsFault {
-    ghost use Rattle.std.specs.Prelude.{◌≡◌};
     ghost use Rattle.clap.specs.Words.{kind_of};
-    ghost use Rattle.clap.specs.declared.error.kind.ErrorKind.TheVariants.{OutOfMemory};
-    ghost use Rattle.program_words.specs.declared.reading.WordsFault.TheVariants.{Memory as WantOfMemory};
+    ghost use Rattle.program_words.specs.Refused.{fault_at};
 
-    ghost from_gives = { λ error fault. kind_of error ≡ OutOfMemory → fault ≡ WantOfMemory };
+    ghost from_gives = { λ error fault. fault ≡ fault_at (kind_of error) };
 
     fn from(error: Error) -> Self {
-        match error.kind() {
-            ErrorKind::OutOfMemory => WordsFault::Memory,
-            _ => WordsFault::Usage,
+        match memory_told_by(error.kind()) {
+            Some(memory) => WordsFault::Memory(memory),
+            None => WordsFault::Usage,
         }
+    }
+}
+
+/// What the kind of `clap`'s error says of memory: `Some` exactly at its own `OutOfMemory`. An error of `clap` tells its kind
+/// alone, and that this kind comes only where memory was refused is trusted.
+fn memory_told_by(kind: ErrorKind) -> Option<Memory>
+    ensures told { IsSome result ↔ kind ≡ ErrorKind.OutOfMemory }
+{
+    match kind {
+        ErrorKind::OutOfMemory => Memory::told_by(io::ErrorKind::OutOfMemory),
+        _ => None,
     }
 }
 
@@ -75,7 +87,7 @@ pub fn read_words(alloc: Global, words: &[String]) -> Result<Task, WordsFault>
 /// What `clap` matches of the words.
 fn match_words<'a>(alloc: Global, words: &'a [String]) -> Result<ArgMatches<'a>, WordsFault>
     ensures matches { IfOk result (λ matches. subcommand_rows_of matches ≡ subcommand_of tool (map string_bytes words.now)) }
-    ensures usage { IfErr result (λ fault. takes tool (map string_bytes words.now) ≡ true → fault ≡ WordsFault.Memory) }
+    ensures usage { IfErr result (λ fault. takes tool (map string_bytes words.now) ≡ true → fault ≡ WordsFault.Memory refused) }
 {
     let matches = command_line(alloc)?.try_get_matches_from(words)?;
     Ok(matches)

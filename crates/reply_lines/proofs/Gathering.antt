@@ -1,14 +1,14 @@
 -- Notices added one after another to the desks of their banks.
 use Rattle.std.proofs.Common.{ℕ, zero, suc, ◌≡◌, ◌+◌, ◌<◌, eqb, cond, List, [], ◌∷◌, ◌++◌, inl, inr, length, take, refl, ap, ap₂, sym, subst, ◌∙◌, arith, append_assoc, append-nil, add-zero, length-append, get_or, set, replicate}
 use Rattle.std.proofs.lemmas.Bool.{cases_eq, cond-true, cond-false, eq-eqb, ne_eqb}
-use Rattle.std.proofs.lemmas.List.{get_or-set_same, get_or-set_other, length-set}
+use Rattle.std.proofs.lemmas.List.{get_or-set_same, get_or-set_other, get_or_read, length-set}
 use Rattle.std.specs.List.{flat_map}
 use Rattle.fx_rules.specs.declared.outcome.Entry.{Entry}
 use Rattle.fx_rules.specs.Session.{Header, bank_count}
 use Rattle.fx_text.specs.Fields.{fields_text}
 use Rattle.reply_lines.specs.Rows.{row}
-use Rattle.reply_lines.specs.Desks.{DeskSoFar, desk_with, nothing_yet, AreDesksOf}
-use Rattle.reply_lines.specs.inside.Desks.{with_notice, with_notices, HaveGot}
+use Rattle.reply_lines.specs.Desks.{DeskSoFar, desk_with, nothing_yet, with_notice, AreDesksOf}
+use Rattle.reply_lines.specs.inside.Desks.{with_notices, HaveGot}
 use Rattle.reply_lines.specs.Notices.{Notice, notice_line, notice_lines, notices_in, notices}
 use Rattle.reply_lines.proofs.Items.{flat_more, flat_last}
 
@@ -51,7 +51,7 @@ got-then h first second before between after one other = record {
 }
 
 -- one desk got one notice
-pub got-one : (h : Header) (owner : ℕ) (notice : Notice) (before after : List DeskSoFar) → owner < length before → after ≡ set before owner (with_notice h (get_or before owner nothing_yet) notice) → HaveGot h (λ bank. cond (eqb owner bank) (notice ∷ []) []) before after
+got-one : (h : Header) (owner : ℕ) (notice : Notice) (before after : List DeskSoFar) → owner < length before → after ≡ set before owner (with_notice h (get_or before owner nothing_yet) notice) → HaveGot h (λ bank. cond (eqb owner bank) (notice ∷ []) []) before after
 got-one h owner notice before after inside is =
     let more = with_notice h (get_or before owner nothing_yet) notice in
     record {
@@ -64,6 +64,12 @@ got-one h owner notice before after inside is =
             ∙ ap (with_notices h (get_or before bank nothing_yet)) (sym (cond-false (eqb owner bank) (notice ∷ []) [] (ne_eqb owner bank (λ same. differ (sym same)))))
       ];
     }
+
+-- the desk that stood at its owner's place was put back with one notice more
+pub got-at : (h : Header) (owner place : ℕ) (notice : Notice) (before : List DeskSoFar) {was now : DeskSoFar} → place ≡ owner → owner < length before → was ≡ get_or before place was → now ≡ with_notice h was notice → HaveGot h (λ bank. cond (eqb owner bank) (notice ∷ []) []) before (set before place now)
+got-at h owner place notice before {was = was} {now = now} at' inside stood got =
+    let read : was ≡ get_or before owner nothing_yet = get_or_read before owner was inside (subst (λ p. was ≡ get_or before p was) at' stood) nothing_yet in
+    got-one h owner notice before (set before place now) inside (ap₂ (λ p desk. set before p desk) at' (got ∙ ap (λ desk. with_notice h desk notice) read))
 
 -- the notices of one item more
 pub got-more : {X : Type 0} (h : Header) (f : ℕ → X → List Notice) (xs : List X) (i : ℕ) (x : X) (before between after : List DeskSoFar) → i < length xs → x ≡ get_or xs i x → HaveGot h (λ bank. flat_map (f bank) (take i xs)) before between → HaveGot h (λ bank. f bank x) between after → HaveGot h (λ bank. flat_map (f bank) (take (i + 1) xs)) before after

@@ -5,7 +5,7 @@ pub mod Existing
 pub mod Singly
 mod Reporting
 mod Shown
-mod Outputs
+pub mod Outputs
 mod Gathering
 mod Telling
 mod Journals

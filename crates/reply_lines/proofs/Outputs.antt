@@ -1,10 +1,11 @@
 -- A legal history has an output; what was written of a text tells how the writing of the output ended.
 use Rattle.std.proofs.Common.{ℕ, ◌≡◌, List, [], ◌++◌, Option, Result, Ok, Err, OnOk, IsErrAnd, refl, ap, sym, subst, ◌∙◌, arith}
 use Rattle.std.specs.List.{flat_map}
+use Rattle.fx_amounts.specs.declared.memory.Memory.{Memory as OutOfMemory}
 use Rattle.fx_edges.specs.Writing.{Wrote}
-use Rattle.fx_pieces.specs.Gathered.{Gathered}
+use Rattle.fx_edges.specs.Gathered.{Gathered}
 use Rattle.fx_edges.proofs.Writing.{IsPrefixOf-append, IsPrefixOf-nil, append_known-nil}
-use Rattle.fx_pieces.proofs.Gathering.{Gathered-of_longer}
+use Rattle.fx_edges.proofs.Gathering.{Gathered-of_longer, Gathered-wanting}
 use Rattle.fx_edges.specs.declared.sink.SinkFault.{SinkFault}
 use Rattle.fx_edges.specs.declared.sink.SinkFault.TheVariants as sinks
 use Rattle.fx_rules.specs.declared.outcome.Entry.{Entry}
@@ -30,6 +31,12 @@ cut_short (Ok value) more same wrote = absurd same
 cut_short {U = U} {written = written} {faults = faults} {held = held} {a = a} {rest = rest} {b = b} {text = text} (Err fault) more same wrote =
     subst (λ (e : SinkFault). Gathered {T = U} written faults held a rest b (text ++ more) (Err e)) (sym same) (Gathered-of_longer wrote (IsPrefixOf-append text more))
 
+-- out of memory, before the sink got anything of a text
+pub not_begun : {K U : Type 0} (written : K → Option (List ℕ)) (faults : K → ℕ) (held : List ℕ) (before : K) (rest text : List ℕ) {memory : OutOfMemory} (result : Result U SinkFault) → IsErrAnd result (λ fault. fault ≡ sinks.Memory memory) → Gathered {T = U} written faults held before rest before text result
+not_begun written faults held before rest text (Ok value) same = absurd same
+not_begun {U = U} written faults held before rest text {memory} (Err fault) same =
+    subst (λ (e : SinkFault). Gathered {T = U} written faults held before rest before text (Err e)) (sym same) (Gathered-wanting written faults held before rest text memory)
+
 -- a text that is this one
 pub of_text : {K T : Type 0} {written : K → Option (List ℕ)} {faults : K → ℕ} {held : List ℕ} {a : K} {rest : List ℕ} {b : K} {text same : List ℕ} {result : Result T SinkFault} → text ≡ same → Gathered {T = T} written faults held a rest b text result → Gathered {T = T} written faults held a rest b same result
 of_text {T = T} {written = written} {faults = faults} {held = held} {a = a} {rest = rest} {b = b} {result = result} is wrote =
@@ -50,15 +57,11 @@ is_output h entries strays ending books are = record { day = day_text h entries 
 
 failed_from : (fault : SinkFault) → fault_of fault ≡ Write → fault ≡ sinks.Failed
 failed_from sinks.Failed is = refl
-failed_from sinks.Memory is = absurd cc
-
-wanted_from : (fault : SinkFault) → fault_of fault ≡ Memory → fault ≡ sinks.Memory
-wanted_from sinks.Failed is = absurd cc
-wanted_from sinks.Memory is = refl
+failed_from (sinks.Memory memory) is = absurd cc
 
 module _ {K : Type 0} {written : K → Option (List ℕ)} {faults : K → ℕ} {before now : K} (is_output : List ℕ → Type 0) (text : List ℕ) where
   pub wrote_whole : is_output text → Wrote {T = Unit {0}} written faults before now text (Ok tt) → WroteOutput {T = Unit {0}} written faults before now is_output (Ok tt)
-  wrote_whole is wrote = record { text = text; is_text = is; ok = wrote.ok; fault = tt; cause = tt; memory = tt }
+  wrote_whole is wrote = record { text = text; is_text = is; ok = wrote.ok; fault = tt; cause = tt }
 
   pub wrote_part : (fault : SinkFault) (told : OutFault) → told ≡ fault_of fault → is_output text → Wrote {T = Unit {0}} written faults before now text (Err fault) → WroteOutput {T = Unit {0}} written faults before now is_output (Err told)
   wrote_part fault told tells is wrote = record {
@@ -67,16 +70,14 @@ module _ {K : Type 0} {written : K → Option (List ℕ)} {faults : K → ℕ} {
     ok = tt;
     fault = wrote.fault;
     cause = λ failed. wrote.cause (failed_from fault (sym tells ∙ failed));
-    memory = λ wanted. wrote.memory (wanted_from fault (sym tells ∙ wanted));
   }
 
--- want of memory, before anything was written
-pub wanting : {K : Type 0} {written : K → Option (List ℕ)} {faults : K → ℕ} (before : K) (is_output : List ℕ → Type 0) (text : List ℕ) → is_output text → WroteOutput {T = Unit {0}} written faults before before is_output (Err Memory)
-wanting {written = written} before is_output text is = record {
+-- out of memory, before anything was written
+pub wanting : {K : Type 0} {written : K → Option (List ℕ)} {faults : K → ℕ} (before : K) (is_output : List ℕ → Type 0) (text : List ℕ) (memory : OutOfMemory) → is_output text → WroteOutput {T = Unit {0}} written faults before before is_output (Err (Memory memory))
+wanting {written = written} before is_output text memory is = record {
   text = text;
   is_text = is;
   ok = tt;
   fault = record { part = []; prefix = IsPrefixOf-nil text; holds = sym (append_known-nil (written before)); count = omega arith };
   cause = λ failed. absurd cc;
-  memory = λ wanted. refl;
 }

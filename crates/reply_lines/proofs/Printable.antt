@@ -14,14 +14,16 @@ use Rattle.fx_rules.specs.Session.{Header, pair_count}
 use Rattle.fx_rules.specs.State.{State}
 use Rattle.fx_rules.specs.Sweep.{Taker}
 use Rattle.fx_rules.specs.Raise.{order_of}
-use Rattle.fx_rules.specs.Step.{IsCommand, IsOrdered, IsOutcome, taker_of, fills_of, cancel_answer, reduce_answer}
+use Rattle.fx_rules.specs.Step.{AreValues, IsOrdered, IsOutcome, taker_of, fills_of, cancel_answer, reduce_answer}
 use Rattle.fx_rules.specs.History.{IsLegal, state}
 use Rattle.fx_rules.specs.inside.Trade.{IsTrade}
 use Rattle.fx_rules.proofs.ListLemmas.{Each-weaker}
 use Rattle.fx_rules.proofs.Continuing.{legal-last}
+use Rattle.fx_rules.proofs.Senders.{suits-sender}
 use Rattle.fx_rules.proofs.Soundness.{legal-sound}
 use Rattle.fx_rules.proofs.Trading.{step-trades}
-use Rattle.reply_lines.specs.inside.Prints.{IsAnswerOf, IsFillOf, IsEntryOf}
+use Rattle.reply_lines.specs.Prints.{IsAnswerOf, IsFillOf}
+use Rattle.reply_lines.specs.inside.Prints.{IsEntryOf}
 
 -- an outcome that is no local book
 answer_plain : (h : Header) (command : Command) (outcome told : Outcome) → outcome ≡ told → IsAnswerOf h command told → IsAnswerOf h command outcome
@@ -50,7 +52,7 @@ book-answer : (h : Header) (S : State) (bank pair : ℕ) (outcome : Outcome) →
 book-answer h S bank pair (Depth bids asks) within is = within
 book-answer h S bank pair outcome within is = absurd is
 
-outcome-answer : (h : Header) (S : State) (bank : ℕ) (command : Command) (outcome : Outcome) → IsCommand h bank command → IsOutcome h S bank command outcome → IsAnswerOf h command outcome
+outcome-answer : (h : Header) (S : State) (bank : ℕ) (command : Command) (outcome : Outcome) → AreValues h bank command → IsOutcome h S bank command outcome → IsAnswerOf h command outcome
 outcome-answer h S bank (Order side pair price lots life) outcome valid is = ordered-answer h S (taker_of S bank side pair price lots) life (Order side pair price lots life) outcome is
 outcome-answer h S bank (Cancel pair number) outcome valid is =
     answer_plain h (Cancel pair number) outcome (cancel_answer (order_of S pair bank number)) is (cancel-answer h (Cancel pair number) (order_of S pair bank number))
@@ -71,8 +73,8 @@ last-prints h entries e legal =
     let last = legal-last h entries e legal in
     let S : State = state h entries in
     record {
-      sender = last.1.sender;
+      sender = suits-sender h e.bank e.command last.1.command.sends;
       command = last.1.command;
-      answer = outcome-answer h S e.bank e.command e.outcome last.1.command last.1.outcome;
+      answer = outcome-answer h S e.bank e.command e.outcome last.1.command.values last.1.outcome;
       fills = Each-weaker (IsTrade h) (IsFillOf h) (fill-of h) (fills_of e.outcome) (step-trades h S e legal.session (legal-sound h entries last.0) last.1);
     }

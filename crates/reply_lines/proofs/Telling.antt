@@ -1,17 +1,26 @@
 -- The line of a fill is put together from its texts.
 use Rattle.std.proofs.Common.{ℕ, ◌≡◌, ◌≤◌, List, [], ◌∷◌, ◌++◌, length, take, ap, ◌∙◌, arith, append_assoc, length-append, rules}
 use Rattle.fx_amounts.specs.Numeral.{numeral}
-use Rattle.fx_amounts.specs.declared.side.Side.{Side}
 use Rattle.fx_rules.specs.declared.orders.Fill.{Fill}
 use Rattle.fx_rules.specs.Session.{Header}
 use Rattle.fx_text.proofs.LineTexts.{pushed_two, fits_room}
 use Rattle.reply_lines.specs.Rows.{row}
-use Rattle.reply_lines.specs.Notices.{fill_fields}
-use Rattle.reply_lines.specs.inside.Fills.{AreTextsOf, fill_line}
+use Rattle.reply_lines.specs.Notices.{fill_fields, notice_line}
+use Rattle.reply_lines.specs.Notices.Notice.{Took, Gave}
+use Rattle.reply_lines.specs.Fills.{AreTextsOf}
+use Rattle.reply_lines.specs.inside.Fills.{taker_of, maker_of, fill_line}
 use Rattle.reply_lines.specs.declared.notices.FillTexts.{FillTexts}
+use Rattle.reply_lines.specs.declared.notices.Party.{Party}
 
-pub fill-told : (h : Header) (own_number : ℕ) (side : Side) (other : ℕ) (fill : Fill) {texts : FillTexts} → AreTextsOf h fill texts → (number : ℕ) → row (numeral number) (fill_fields h own_number side other fill) ≡ fill_line h number own_number side other texts
-fill-told h own_number side other fill are number = rw are.trade (rw are.amounts (search (rules, append_assoc)))
+fill-told : (h : Header) (party : Party) (fill : Fill) {texts : FillTexts} → AreTextsOf h fill texts → (number : ℕ) → fill_line h number party texts ≡ row (numeral number) (fill_fields h party.number party.side party.other fill)
+fill-told h party fill are number = rw are.trade (rw are.amounts (search (rules, append_assoc)))
+
+-- as its taker's bank gets it, and as its maker's does
+pub taken-told : (h : Header) (fill : Fill) {texts : FillTexts} → AreTextsOf h fill texts → (number : ℕ) → fill_line h number (taker_of fill) texts ≡ notice_line h number (Took fill)
+taken-told h fill are number = fill-told h (taker_of fill) fill are number
+
+pub given-told : (h : Header) (fill : Fill) {texts : FillTexts} → AreTextsOf h fill texts → (number : ℕ) → fill_line h number (maker_of fill) texts ≡ notice_line h number (Gave fill)
+given-told h fill are number = fill-told h (maker_of fill) fill are number
 
 -- a line of a fill, which is made of five pieces and a line feed
 pub pushed_fill : (first head third name fifth : List ℕ) (start one two three four five after : List ℕ) → start ≡ [] → one ≡ take 256 (start ++ first) → two ≡ take 256 (one ++ head)

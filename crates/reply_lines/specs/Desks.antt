@@ -1,8 +1,8 @@
 -- Each bank's desk, as it is gathered in one walk over a history.
-use Rattle.std.specs.Prelude.{ℕ, ◌≡◌, ◌<◌, List, [], length, slice_index_or}
+use Rattle.std.specs.Prelude.{ℕ, ◌≡◌, ◌<◌, ◌+◌, List, [], ◌++◌, length, slice_index_or}
 use Rattle.fx_rules.specs.declared.outcome.Entry.{Entry}
 use Rattle.fx_rules.specs.Session.{Header, bank_count}
-use Rattle.reply_lines.specs.Notices.{notice_lines, notices}
+use Rattle.reply_lines.specs.Notices.{Notice, notice_line, notice_lines, notices}
 
 -- how many notices a desk has so far, and their lines
 pub record DeskSoFar : Type 0 where
@@ -15,6 +15,14 @@ desk_with count lines = record { count = count; lines = lines }
 -- a desk without a notice
 abbrev pub nothing_yet : DeskSoFar
 nothing_yet = desk_with 0 []
+
+-- a desk with one line more
+abbrev pub with_line : DeskSoFar → List ℕ → DeskSoFar
+with_line desk line = desk_with (desk.count + 1) (desk.lines ++ line)
+
+-- a desk with one notice more, numbered behind those before it
+abbrev pub with_notice : Header → DeskSoFar → Notice → DeskSoFar
+with_notice h desk notice = with_line desk (notice_line h (desk.count + 1) notice)
 
 -- each bank's desk has its notices of a history
 pub record AreDesksOf (h : Header) (entries : List Entry) (desks : List DeskSoFar) : Type 0 where

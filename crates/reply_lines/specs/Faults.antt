@@ -10,10 +10,10 @@ use Rattle.reply_lines.specs.declared.output.OutFault.TheVariants.{Write, Memory
 -- the fault of an output whose sink had this one
 abbrev pub fault_of : SinkFault → OutFault
 fault_of sinks.Failed = Write
-fault_of sinks.Memory = Memory
+fault_of (sinks.Memory memory) = Memory memory
 
 -- The sink got a text of this kind whole at `Ok`, and a prefix of it at a fault. The fault was `Write` only where the sink's
--- count rose, and `Memory` only where it stayed.
+-- count rose.
 pub record WroteOutput {K T : Type 0} (written : K → Option (List ℕ)) (faults : K → ℕ)
     (before now : K) (is_output : List ℕ → Type 0) (result : Result T OutFault) : Type 0 where
   pub text : List ℕ
@@ -21,4 +21,3 @@ pub record WroteOutput {K T : Type 0} (written : K → Option (List ℕ)) (fault
   pub ok : OnOk result (Appended written faults before now text)
   pub fault : OnErr result (AppendedPart written faults before now text)
   pub cause : IfErr result (λ fault. fault ≡ Write → Rose (faults before) (faults now))
-  pub memory : IfErr result (λ fault. fault ≡ Memory → faults now ≡ faults before)

@@ -2,6 +2,8 @@ pub mod Rows
 pub mod Notices
 pub mod Books
 pub mod Desks
+pub mod Prints
+pub mod Fills
 pub mod Report
 pub mod Output
 pub mod Day

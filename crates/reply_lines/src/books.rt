@@ -1,5 +1,5 @@
 ghost use Rattle.std.specs.Prelude.{◌≡◌, ◌<◌, ℕ, [], OnOk, OnErr};
-ghost use Rattle.fx_pieces.specs.Gathered.{Gathered};
+ghost use Rattle.fx_edges.specs.Gathered.{Gathered};
 ghost use Rattle.fx_rules.specs.Session.{bank_count, pair_count};
 ghost use Rattle.reply_lines.specs.Books.{LocalBook, book_line, book_lines_below, books_below, books_text};
 ghost use Rattle.reply_lines.specs.inside.Books.{IsMarketOf, AreBooksOf};
@@ -8,8 +8,7 @@ use crate::lines::write_made;
 use crate::notices::push_book;
 use crate::row::{begin_word_row, end_row};
 use fx_amounts::{BankId, Memory, PairId};
-use fx_edges::{Sink, SinkFault};
-use fx_pieces::Pieces;
+use fx_edges::{Pieces, Sink, SinkFault};
 use fx_rules::{Market, Outcome, Session};
 
 /// Writes the local books of each bank in each pair, as they stand in the market.

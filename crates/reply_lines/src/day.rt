@@ -1,6 +1,6 @@
 ghost use Rattle.std.specs.Prelude.{◌≡◌, ℕ, List, [], ◌∷◌, ◌++◌, IfOk, OnOk};
 ghost use Rattle.fx_edges.specs.Writing.{Wrote};
-ghost use Rattle.fx_pieces.specs.Gathered.{Gathered};
+ghost use Rattle.fx_edges.specs.Gathered.{Gathered};
 ghost use Rattle.fx_rules.specs.declared.outcome.Entry.{Entry};
 ghost use Rattle.fx_rules.specs.History.{IsLegal, state};
 ghost use Rattle.reply_lines.specs.Books.{LocalBook, AreBooks};
@@ -13,8 +13,7 @@ use crate::day_notices::DayNotices;
 use crate::journal::{push_entry_line, write_journal_line};
 use crate::output::{Ending, OutFault, write_closing, write_end, write_head};
 use fx_amounts::Memory;
-use fx_edges::{Sink, SinkFault};
-use fx_pieces::Pieces;
+use fx_edges::{Pieces, Sink, SinkFault};
 use fx_rules::{Entry, Market, Session};
 use fx_text::LineText;
 use std::alloc::Global;
@@ -26,13 +25,13 @@ pub struct DayText {
     count: usize,
     /// Their lines.
     journal: Vec<u8>,
-    /// The line that is made: an entry's in the journal, and then those of its notices.
+    /// The last of them.
     line: LineText,
     notices: DayNotices,
 }
 
 impl DayText {
-    /// The day of a session before its first command. `Memory` for want of memory.
+    /// The day of a session before its first command. `Memory` when out of memory.
     pub fn open(alloc: Global, session: &Session) -> Result<DayText, Memory>
         ensures opens { IfOk result (IsTextOf session.now []) }
     {
@@ -44,7 +43,24 @@ impl DayText {
         })
     }
 
-    /// Adds the next entry of a legal history. After `Memory` the day is good for nothing more.
+    /// The day of a legal history.
+    pub fn of_history(
+        alloc: Global,
+        session: &Session,
+        entries: &[Entry],
+    ) -> Result<DayText, Memory>
+        requires legal { IsLegal session.now entries.now }
+        ensures told { IfOk result (IsTextOf session.now entries.now) }
+    {
+        let mut day = DayText::open(alloc, session)?;
+        for entry in entries {
+            day.add(session, entry)?;
+        }
+        Ok(day)
+    }
+
+    /// Adds the next entry of a legal history. After `Memory` the day is good for nothing more: a part of the entry's lines may
+    /// stand in it, and the rest not, so that it tells of no history.
     pub fn add(&mut self, session: &Session, entry: &Entry) -> Result<(), Memory>
         requires next { (entries : List Entry) × IsLegal session.now (entries ++ entry.now ∷ []) × IsTextOf session.now entries self.old }
         ensures added { OnOk result ((entries : List Entry) →
@@ -52,16 +68,15 @@ impl DayText {
             IsTextOf session.now (entries ++ entry.now ∷ []) self.new) }
     {
         push_entry_line(session, entry, &mut self.line, &mut self.journal)?;
-        self.notices.add(session, entry, &mut self.line)?;
+        self.notices.add(session, entry)?;
         self.count += 1;
         Ok(())
     }
 
     /// Writes the output of the history that the day tells of: header, journal, desks, local books, report and the last lines,
     /// which tell of the strays and of how the reading ended. The market stands for the state after the history. After a fault
-    /// a prefix of it was appended; the fault is `Write` only where the sink's count of faults rose, and `Memory` only where it
-    /// stayed. The sink gets it in pieces of 64 KiB at least, and the last one. The report is found before the first byte is
-    /// written.
+    /// a prefix of it was appended; the fault is `Write` only where the sink's count of faults rose. The sink gets it in pieces
+    /// of 64 KiB at least, and the last one. The report is found before the first byte is written.
     pub fn write<M: Market, K: Sink>(
         self,
         alloc: Global,
@@ -166,9 +181,7 @@ impl DayText {
             notices,
             ..
         } = self;
-        let Ok(found) = notices.into_findings(alloc, session) else {
-            return Err(SinkFault::Memory);
-        };
+        let found = notices.into_findings(alloc, session)?;
         write_head(session, line, pieces, out)?;
         write_journal_text(count, &journal, line, pieces, out)?;
         write_closing(session, market, &found, line, pieces, out)
@@ -188,5 +201,26 @@ fn write_journal_text<K: Sink>(
     match write_journal_line(count, line, pieces, out) {
         Ok(()) => pieces.put(lines, out),
         Err(fault) => Err(fault),
+    }
+}
+
+/// Writes the output of a legal history from a market in the state after it. It tells the history to a `DayText`, which holds the
+/// text, and has that write it; faults are as those of `DayText::write`.
+pub fn write_output_from<M: Market, K: Sink>(
+    alloc: Global,
+    session: &Session,
+    entries: &[Entry],
+    market: &M,
+    strays: u64,
+    ending: Ending,
+    out: &mut K,
+) -> Result<(), OutFault>
+    requires legal { IsLegal session.now entries.now }
+    requires market { M.stands market.now session.now (state session.now entries.now) }
+    ensures wrote { WroteOutput K.written K.faults out.old out.new (IsOutput session.now entries.now strays ending) result }
+{
+    match DayText::of_history(alloc, session, entries) {
+        Ok(day) => day.write(alloc, session, market, strays, ending, out),
+        Err(memory) => Err(OutFault::Memory(memory)),
     }
 }

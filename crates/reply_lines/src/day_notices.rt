@@ -4,23 +4,19 @@ ghost use Rattle.fx_rules.specs.History.{IsLegal};
 ghost use Rattle.reply_lines.specs.Day.{AreNoticesOf};
 ghost use Rattle.reply_lines.specs.inside.Day.{AreFindingsOf};
 
-use crate::desk::{Desk, add_entry, no_desks};
-use crate::notices::FillTexts;
+use crate::desk::{NoticeDesk, add_entry, no_desks};
+use crate::notice_writer::NoticeWriter;
 use day_report::{DaySums, Report};
 use fx_amounts::Memory;
 use fx_rules::{Entry, Session};
-use fx_text::LineText;
 use std::alloc::Global;
 
 /// What the entries of a day so far give notice of: to each bank on its desk, and by the sums to all.
 #[derive(Drop)]
 pub(crate) struct DayNotices {
-    desks: Vec<Desk>,
+    desks: Vec<NoticeDesk>,
     sums: DaySums,
-    /// The last notice that shows a local book; its memory is used again.
-    line: Vec<u8>,
-    /// What the notices of the last fill have in common.
-    texts: FillTexts,
+    writer: NoticeWriter,
 }
 
 /// What is found of a history once it has ended.
@@ -29,7 +25,7 @@ pub(crate) struct Findings {
     /// The sums of its fills.
     pub report: Report,
     /// The desks of the banks.
-    pub desks: Vec<Desk>,
+    pub desks: Vec<NoticeDesk>,
 }
 
 impl DayNotices {
@@ -40,33 +36,20 @@ impl DayNotices {
         Ok(DayNotices {
             desks: no_desks(alloc, session.banks().len())?,
             sums: DaySums::open(alloc, session)?,
-            line: Vec::new(alloc),
-            texts: FillTexts::new(),
+            writer: NoticeWriter::new(alloc),
         })
     }
 
-    /// Adds those of the next entry; one that shows no local book is made in the text. After `Memory` they are good for
-    /// nothing more.
-    pub(crate) fn add(
-        &mut self,
-        session: &Session,
-        entry: &Entry,
-        text: &mut LineText,
-    ) -> Result<(), Memory>
+    /// Adds those of the next entry. After `Memory` they are good for nothing more: some of the entry's notices may stand at
+    /// their desks, and others not.
+    pub(crate) fn add(&mut self, session: &Session, entry: &Entry) -> Result<(), Memory>
         requires next { (entries : List Entry) × IsLegal session.now (entries ++ entry.now ∷ []) × AreNoticesOf session.now entries self.old }
         ensures added { OnOk result ((entries : List Entry) →
             IsLegal session.now (entries ++ entry.now ∷ []) → AreNoticesOf session.now entries self.old →
             AreNoticesOf session.now (entries ++ entry.now ∷ []) self.new) }
     {
         self.sums.follow(session, entry);
-        add_entry(
-            session,
-            entry,
-            &mut self.desks,
-            &mut self.line,
-            text,
-            &mut self.texts,
-        )
+        add_entry(session, entry, &mut self.desks, &mut self.writer)
     }
 
     /// What is found of the history once it has ended.

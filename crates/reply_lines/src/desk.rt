@@ -1,34 +1,35 @@
-ghost use Rattle.std.specs.Prelude.{◌≡◌, ◌==◌, if◌then◌else◌, List, [], ◌∷◌, ◌<◌, ◌+◌, ◌++◌, length, replicate, IfOk, OnOk, OnErr};
-ghost use Rattle.fx_rules.specs.declared.outcome.Entry.{Entry};
+ghost use Rattle.std.specs.Prelude.{◌≡◌, List, [], ◌<◌, ◌+◌, ◌++◌, length, replicate, IfOk, OnOk, OnErr};
 ghost use Rattle.std.specs.List.{flat_map};
-ghost use Rattle.fx_pieces.specs.Gathered.{Gathered};
+ghost use Rattle.fx_edges.specs.Gathered.{Gathered};
+ghost use Rattle.fx_rules.specs.declared.outcome.Entry.{Entry};
 ghost use Rattle.fx_rules.specs.Lists.{Each};
 ghost use Rattle.fx_rules.specs.Session.{bank_count};
-ghost use Rattle.reply_lines.specs.Desks.{nothing_yet, AreDesksOf};
-ghost use Rattle.reply_lines.specs.inside.Desks.{with_line, HaveGot, IsNoticeTo};
-ghost use Rattle.reply_lines.specs.inside.Fills.{AreShort};
-ghost use Rattle.reply_lines.specs.Notices.{Notice, reply_line, reply_notices, fill_notices, notices_in, desk_line, desk_text};
+ghost use Rattle.reply_lines.specs.Desks.{nothing_yet, with_line, with_notice, AreDesksOf};
+ghost use Rattle.reply_lines.specs.Fills.{AreTextsOf};
+ghost use Rattle.reply_lines.specs.inside.Desks.{HaveGot};
+ghost use Rattle.reply_lines.specs.Notices.{reply_notices, fill_notices, notices_in, desk_line, desk_text};
+ghost use Rattle.reply_lines.specs.Notices.Notice.{Replied, Took, Gave};
 ghost use Rattle.reply_lines.specs.Output.{desks_text};
-ghost use Rattle.reply_lines.specs.inside.Prints.{IsAnswerOf, IsFillOf, IsEntryOf};
+ghost use Rattle.reply_lines.specs.Prints.{IsAnswerOf, IsFillOf};
+ghost use Rattle.reply_lines.specs.inside.Prints.{IsEntryOf};
 
 use crate::lines::write_made;
-use crate::notices::{FillTexts, booked_pair, make_book_reply, make_desk, make_fill, make_reply};
-use fx_amounts::{BankId, Memory, Side};
-use fx_edges::{Sink, SinkFault};
-use fx_pieces::Pieces;
-use fx_rules::{Entry, Fill, Outcome, Session};
-use fx_text::LineText;
+use crate::notice_writer::NoticeWriter;
+use crate::notices::make_desk;
+use fx_amounts::{BankId, Memory};
+use fx_edges::{Pieces, Sink, SinkFault};
+use fx_rules::{Entry, Fill, Session};
 use std::alloc::Global;
 use std::marker::Model;
 
-/// A bank's desk so far: how many notices the bank has got, and their lines, in which they are numbered from 1.
+/// A desk so far: how many notices it has, and their lines, in which they are numbered from 1.
 #[derive(Debug, Drop)]
-pub(crate) struct Desk {
+pub struct NoticeDesk {
     count: usize,
     lines: Vec<u8>,
 }
 
-impl Model for Desk {
+impl Model for NoticeDesk {
     ghost use Rattle.std.specs.Prelude.{◌≤◌, vec_len};
     ghost use Rattle.reply_lines.specs.Desks.{DeskSoFar, desk_with};
 
@@ -40,39 +41,40 @@ impl Model for Desk {
     ghost invariant = { λ d. d.count ≤ vec_len d.lines };
 }
 
-impl Desk {
-    fn new(alloc: Global) -> Desk
+impl NoticeDesk {
+    /// A desk without a notice. It takes no memory.
+    pub fn new(alloc: Global) -> NoticeDesk
         ensures { result ≡ nothing_yet }
     {
-        Desk {
+        NoticeDesk {
             count: 0,
             lines: Vec::new(alloc),
         }
     }
 
     /// How many notices it has.
-    fn count(&self) -> usize
+    pub fn count(&self) -> usize
         ensures { result ≡ self.now.count }
     {
         self.count
     }
 
     /// The lines of its notices.
-    fn lines(&self) -> &[u8]
+    pub fn lines(&self) -> &[u8]
         ensures { result.now ≡ self.now.lines }
     {
         &self.lines
     }
 
     /// The number of the notice that is added next.
-    fn next_number(&self) -> u128
+    pub fn next_number(&self) -> u128
         ensures { result ≡ self.now.count + 1 }
     {
         self.count as u128 + 1
     }
 
-    /// Adds the line of the next notice. Without memory for it the desk stays.
-    fn add(&mut self, line: &[u8]) -> Result<(), Memory>
+    /// Adds the line of the next notice, made with its number. Without memory for it the desk stays.
+    pub fn add(&mut self, line: &[u8]) -> Result<(), Memory>
         requires line { 0 < length line.now }
         ensures ok { OnOk result (self.new ≡ with_line self.old line.now) }
         ensures memory { OnErr result (self.new ≡ self.old) }
@@ -82,168 +84,140 @@ impl Desk {
         Ok(())
     }
 
-    /// Adds the reply to an entry, which is made in the text, or in the line where it shows a local book. Without memory for it
-    /// the desk stays.
-    fn reply(
+    /// Adds the reply to an entry. Without memory for it the desk stays.
+    pub fn reply(
         &mut self,
         session: &Session,
         entry: &Entry,
-        line: &mut Vec<u8>,
-        text: &mut LineText,
+        writer: &mut NoticeWriter,
     ) -> Result<(), Memory>
         requires answer { IsAnswerOf session.now entry.now.command entry.now.outcome }
-        ensures ok { OnOk result (self.new ≡ with_line self.old (reply_line session.now (self.old.count + 1) entry.now)) }
+        ensures ok { OnOk result (self.new ≡ with_notice session.now self.old (Replied entry.now)) }
+        ensures memory { OnErr result (self.new ≡ self.old) }
     {
-        let notice = self.next_number();
-        match &entry.outcome {
-            Outcome::Depth { bids, asks } => {
-                let pair = booked_pair(&entry.command);
-                let (bids, asks) = (bids.as_slice(), asks.as_slice());
-                make_book_reply(session, notice, entry.number, pair, bids, asks, line)?;
-                self.add(line)
-            }
-            outcome => {
-                make_reply(notice, entry.number, outcome, text);
-                self.add(text.as_slice())
-            }
-        }
+        let number = self.next_number();
+        writer.reply(session, number, entry, &mut self.lines)?;
+        self.count += 1;
+        Ok(())
+    }
+
+    /// Adds the notice of the fill that the writer has begun, as its taker's bank gets it. Without memory for it the desk stays.
+    pub fn taken(
+        &mut self,
+        session: &Session,
+        fill: &Fill,
+        writer: &mut NoticeWriter,
+    ) -> Result<(), Memory>
+        requires fill { IsFillOf session.now fill.now }
+        requires begun { AreTextsOf session.now fill.now writer.old }
+        ensures ok { OnOk result (self.new ≡ with_notice session.now self.old (Took fill.now)) }
+        ensures memory { OnErr result (self.new ≡ self.old) }
+        ensures begun { writer.new ≡ writer.old }
+    {
+        let number = self.next_number();
+        writer.taken(session, number, fill, &mut self.lines)?;
+        self.count += 1;
+        Ok(())
+    }
+
+    /// Adds the notice of the fill that the writer has begun, as its maker's bank gets it. Without memory for it the desk stays.
+    pub fn given(
+        &mut self,
+        session: &Session,
+        fill: &Fill,
+        writer: &mut NoticeWriter,
+    ) -> Result<(), Memory>
+        requires fill { IsFillOf session.now fill.now }
+        requires begun { AreTextsOf session.now fill.now writer.old }
+        ensures ok { OnOk result (self.new ≡ with_notice session.now self.old (Gave fill.now)) }
+        ensures memory { OnErr result (self.new ≡ self.old) }
+        ensures begun { writer.new ≡ writer.old }
+    {
+        let number = self.next_number();
+        writer.given(session, number, fill, &mut self.lines)?;
+        self.count += 1;
+        Ok(())
     }
 }
 
 /// So many banks' desks, without a notice yet.
-pub(crate) fn no_desks(alloc: Global, banks: usize) -> Result<Vec<Desk>, Memory>
+pub(crate) fn no_desks(alloc: Global, banks: usize) -> Result<Vec<NoticeDesk>, Memory>
     ensures none { IfOk result (λ desks. desks.items ≡ replicate banks nothing_yet) }
 {
     let mut desks = Vec::new(alloc);
     for _bank in 0..banks {
-        desks.push(Desk::new(alloc))?;
+        desks.push(NoticeDesk::new(alloc))?;
     }
     Ok(desks)
 }
 
-/// Adds the notices of an entry: the reply to its sender, and then those of its fills. Each is made in the line, those of a fill
-/// from its texts.
+/// Adds the notices of an entry: the reply to its sender, and then those of its fills.
 pub(crate) fn add_entry(
     session: &Session,
     entry: &Entry,
-    desks: &mut Vec<Desk>,
-    line: &mut Vec<u8>,
-    text: &mut LineText,
-    texts: &mut FillTexts,
+    desks: &mut Vec<NoticeDesk>,
+    writer: &mut NoticeWriter,
 ) -> Result<(), Memory>
     requires entry { IsEntryOf session.now entry.now }
     requires desks { length desks.old.items ≡ bank_count session.now }
     ensures ok { OnOk result (HaveGot session.now (λ bank. notices_in bank entry.now) desks.old.items desks.new.items) }
 {
-    add_reply(session, entry, desks, line, text)?;
-    add_fills(session, entry.outcome.fills(), desks, text, texts)
+    add_reply(session, entry, desks, writer)?;
+    add_fills(session, entry.outcome.fills(), desks, writer)
 }
 
 /// Adds the reply to an entry to its sender's desk.
 fn add_reply(
     session: &Session,
     entry: &Entry,
-    desks: &mut Vec<Desk>,
-    line: &mut Vec<u8>,
-    text: &mut LineText,
+    desks: &mut Vec<NoticeDesk>,
+    writer: &mut NoticeWriter,
 ) -> Result<(), Memory>
     requires answer { IsAnswerOf session.now entry.now.command entry.now.outcome }
     requires sender { entry.now.bank < length desks.old.items }
     ensures ok { OnOk result (HaveGot session.now (λ bank. reply_notices bank entry.now) desks.old.items desks.new.items) }
 {
-    desks[entry.bank.index()].reply(session, entry, line, text)
+    desks[entry.bank.index()].reply(session, entry, writer)
 }
 
 /// Adds the notices of fills, in order.
 fn add_fills(
     session: &Session,
     fills: &[Fill],
-    desks: &mut Vec<Desk>,
-    line: &mut LineText,
-    texts: &mut FillTexts,
+    desks: &mut Vec<NoticeDesk>,
+    writer: &mut NoticeWriter,
 ) -> Result<(), Memory>
     requires fills { Each (IsFillOf session.now) fills.now }
     requires desks { length desks.old.items ≡ bank_count session.now }
     ensures ok { OnOk result (HaveGot session.now (λ bank. flat_map (fill_notices bank) fills.now) desks.old.items desks.new.items) }
 {
     for fill in fills {
-        add_fill(session, fill, desks, line, texts)?;
+        add_fill(session, fill, desks, writer)?;
     }
     Ok(())
-}
-
-/// One of the two banks of a fill, with the number and side of its own order.
-#[derive(Clone, Copy)]
-struct Party {
-    bank: BankId,
-    number: u32,
-    side: Side,
-    other: BankId,
 }
 
 /// Adds a fill to its taker's desk and to its maker's.
 fn add_fill(
     session: &Session,
     fill: &Fill,
-    desks: &mut Vec<Desk>,
-    line: &mut LineText,
-    texts: &mut FillTexts,
+    desks: &mut Vec<NoticeDesk>,
+    writer: &mut NoticeWriter,
 ) -> Result<(), Memory>
     requires fill { IsFillOf session.now fill.now }
     requires desks { length desks.old.items ≡ bank_count session.now }
     ensures ok { OnOk result (HaveGot session.now (λ bank. fill_notices bank fill.now) desks.old.items desks.new.items) }
 {
-    texts.make(session, fill);
-    let taker = Party {
-        bank: fill.taker,
-        number: fill.taker_number,
-        side: fill.taker_side,
-        other: fill.maker,
-    };
-    let maker = Party {
-        bank: fill.maker,
-        number: fill.maker_number,
-        side: fill.taker_side.opposite(),
-        other: fill.taker,
-    };
-    add_notice(session, &taker, texts, desks, line)?;
-    add_notice(session, &maker, texts, desks, line)
-}
-
-/// Adds a fill to the desk of one of its banks.
-fn add_notice(
-    session: &Session,
-    party: &Party,
-    texts: &FillTexts,
-    desks: &mut Vec<Desk>,
-    line: &mut LineText,
-) -> Result<(), Memory>
-    requires bank { party.now.bank < length desks.old.items }
-    requires other { party.now.other < bank_count session.now }
-    requires short { AreShort texts.now }
-    ensures ok { OnOk result ((notice : Notice) →
-        IsNoticeTo session.now texts.now party.now notice →
-        HaveGot session.now (λ bank. if party.now.bank == bank then notice ∷ [] else []) desks.old.items desks.new.items) }
-{
-    let desk = &mut desks[party.bank.index()];
-    let notice = desk.next_number();
-    make_fill(
-        session,
-        notice,
-        party.number,
-        party.side,
-        party.other,
-        texts,
-        line,
-    );
-    desk.add(line.as_slice())
+    writer.begin_fill(session, fill);
+    desks[fill.taker.index()].taken(session, fill, writer)?;
+    desks[fill.maker.index()].given(session, fill, writer)
 }
 
 /// Writes the desks of all banks.
 #[tactic(auto, unfolding(crate::specs::Output::desks_text))]
 pub(crate) fn write_desks<K: Sink>(
     session: &Session,
-    desks: &[Desk],
+    desks: &[NoticeDesk],
     line: &mut Vec<u8>,
     pieces: &mut Pieces,
     out: &mut K,
@@ -266,7 +240,7 @@ pub(crate) fn write_desks<K: Sink>(
 fn write_bank<K: Sink>(
     session: &Session,
     bank: BankId,
-    desks: &[Desk],
+    desks: &[NoticeDesk],
     line: &mut Vec<u8>,
     pieces: &mut Pieces,
     out: &mut K,

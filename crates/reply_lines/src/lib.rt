@@ -8,11 +8,14 @@ mod desk;
 mod journal;
 mod laws;
 mod lines;
+mod notice_writer;
 mod notices;
 mod output;
 mod report;
 mod row;
 
-pub use day::DayText;
+pub use day::{DayText, write_output_from};
+pub use desk::NoticeDesk;
 pub use laws::one_output;
-pub use output::{Ending, OutFault, write_output, write_output_from};
+pub use notice_writer::NoticeWriter;
+pub use output::{Ending, OutFault};

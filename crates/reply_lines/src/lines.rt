@@ -1,12 +1,11 @@
 ghost use Rattle.std.specs.Prelude.{◌≡◌, ℕ, List, [], OnOk, OnErr};
 ghost use Rattle.std.specs.List.{flat_map};
-ghost use Rattle.fx_pieces.specs.Gathered.{Gathered};
+ghost use Rattle.fx_edges.specs.Gathered.{Gathered};
 ghost use Rattle.fx_rules.specs.Lists.{Each};
 ghost use Rattle.fx_rules.specs.Session.{Header};
 
 use fx_amounts::Memory;
-use fx_edges::{Sink, SinkFault};
-use fx_pieces::Pieces;
+use fx_edges::{Pieces, Sink, SinkFault};
 use fx_rules::Session;
 
 /// What an output has a line of: an entry of the journal, a row of the report.
@@ -56,6 +55,6 @@ pub(crate) fn write_made<K: Sink>(
 {
     match made {
         Ok(()) => pieces.put(line, out),
-        Err(Memory) => Err(SinkFault::Memory),
+        Err(memory) => Err(SinkFault::Memory(memory)),
     }
 }

@@ -5,7 +5,8 @@ ghost use Rattle.fx_text.specs.Fields.{fields_text};
 ghost use Rattle.reply_lines.specs.Rows.{row, side_text};
 ghost use Rattle.fx_rules.specs.Session.{bank_count, pair_count, bank_name};
 ghost use Rattle.reply_lines.specs.Notices.{booked_pair, level_fields, book_fields, trade_fields, amount_fields};
-ghost use Rattle.reply_lines.specs.inside.Fills.{AreTextsOf, AreShort, fill_line};
+ghost use Rattle.reply_lines.specs.Fills.{AreTextsOf, AreShort};
+ghost use Rattle.reply_lines.specs.inside.Fills.{taker_of, maker_of, fill_line};
 ghost use Rattle.reply_lines.specs.inside.Replies.{plain_fields};
 
 use crate::row::{
@@ -158,6 +159,38 @@ fn push_levels(decimals: u8, levels: &[Level], line: &mut Vec<u8>) -> Result<(),
     Ok(())
 }
 
+/// A fill as one of its two banks sees it: its own order's number and side, and the other bank.
+#[derive(Clone, Copy)]
+pub(crate) struct Party {
+    number: u32,
+    side: Side,
+    other: BankId,
+}
+
+impl Party {
+    /// The fill as its taker sees it.
+    pub(crate) fn taker(fill: &Fill) -> Party
+        ensures { result ≡ taker_of fill.now }
+    {
+        Party {
+            number: fill.taker_number,
+            side: fill.taker_side,
+            other: fill.maker,
+        }
+    }
+
+    /// The fill as its maker sees it.
+    pub(crate) fn maker(fill: &Fill) -> Party
+        ensures { result ≡ maker_of fill.now }
+    {
+        Party {
+            number: fill.maker_number,
+            side: fill.taker_side.opposite(),
+            other: fill.taker,
+        }
+    }
+}
+
 /// What the two notices of a fill have in common, so that it is made once for both.
 #[derive(Drop)]
 pub(crate) struct FillTexts {
@@ -186,26 +219,23 @@ impl FillTexts {
     }
 }
 
-/// Makes the line of a fill as one of its banks sees it, with its number on the desk: its own order's number and side,
-/// and the other bank.
+/// Makes the line of a fill as one of its banks sees it, with its number on the desk.
 pub(crate) fn make_fill(
     session: &Session,
     number: u128,
-    own_number: u32,
-    side: Side,
-    other: BankId,
+    party: &Party,
     texts: &FillTexts,
     line: &mut LineText,
 )
-    requires other { other < bank_count session.now }
+    requires other { party.now.other < bank_count session.now }
     requires short { AreShort texts.now }
-    ensures { line.new ≡ fill_line session.now number own_number side other texts.now }
+    ensures { line.new ≡ fill_line session.now number party.now texts.now }
 {
     line.clear();
     line.push_wide(number);
-    push_own_side(own_number, side, line);
+    push_own_side(party.number, party.side, line);
     line.push(texts.trade.as_slice());
-    line.push_field(session.name(other));
+    line.push_field(session.name(party.other));
     line.push(texts.amounts.as_slice());
     line.push_byte(b'\n');
 }

@@ -1,6 +1,6 @@
 ghost use Rattle.std.specs.Prelude.{◌≡◌, ℕ, List, ◌++◌};
 ghost use Rattle.fx_edges.specs.Writing.{Wrote};
-ghost use Rattle.fx_pieces.specs.Gathered.{Gathered};
+ghost use Rattle.fx_edges.specs.Gathered.{Gathered};
 ghost use Rattle.fx_rules.specs.declared.outcome.Entry.{Entry};
 ghost use Rattle.fx_rules.specs.History.{IsLegal, state};
 ghost use Rattle.session_head.specs.HeadText.{head_text_of};
@@ -13,17 +13,13 @@ ghost use Rattle.reply_lines.specs.Output.{day_text, strays_line, ending_line, l
 use crate::books::write_books;
 use crate::day_notices::Findings;
 use crate::desk::write_desks;
-use crate::journal::write_journal;
 use crate::lines::write_made;
 use crate::notices::make_count;
 use crate::report::write_report;
 use fx_amounts::Memory;
-use fx_edges::{Sink, SinkFault};
-use fx_pieces::Pieces;
-use fx_rules::{Entry, Market, Session};
-use pair_host::replay;
+use fx_edges::{Pieces, Sink, SinkFault};
+use fx_rules::{Market, Session};
 use session_head::head_text;
-use std::alloc::Global;
 use thiserror::Error;
 
 /// How the reading of a session ended.
@@ -61,7 +57,7 @@ pub enum OutFault {
     Write,
     /// A growth of memory was refused.
     #[error("out of memory")]
-    Memory,
+    Memory(Memory),
 }
 
 impl From<SinkFault> for OutFault {
@@ -72,97 +68,8 @@ impl From<SinkFault> for OutFault {
     fn from(fault: SinkFault) -> Self {
         match fault {
             SinkFault::Failed => OutFault::Write,
-            SinkFault::Memory => OutFault::Memory,
+            SinkFault::Memory(memory) => OutFault::Memory(memory),
         }
-    }
-}
-
-/// Writes the output of a legal history, as `write_output_from` does, from a market that it makes by replaying the history
-/// before the first byte is written. It keeps that market too.
-pub fn write_output<K: Sink>(
-    alloc: Global,
-    session: &Session,
-    entries: &[Entry],
-    strays: u64,
-    ending: Ending,
-    out: &mut K,
-) -> Result<(), OutFault>
-    requires legal { IsLegal session.now entries.now }
-    ensures wrote { WroteOutput K.written K.faults out.old out.new (IsOutput session.now entries.now strays ending) result }
-{
-    match replay(alloc, session, entries) {
-        Ok(host) => write_output_from(alloc, session, entries, &host, strays, ending, out),
-        Err(Memory) => Err(OutFault::Memory),
-    }
-}
-
-/// Writes the output of a legal history from a market in the state after it: header, journal, desks, local books, report and the
-/// last lines, which tell of the strays and of how the reading ended. After a fault a prefix of it was appended; the fault is
-/// `Write` only where the sink's count of faults rose, and `Memory` only where it stayed. The sink gets it in pieces of 64 KiB at
-/// least, and the last one. It passes the entries once: each is told to the desks and written to the journal. So it keeps the
-/// text of all desks and the sums of the report, but not the journal's text.
-pub fn write_output_from<M: Market, K: Sink>(
-    alloc: Global,
-    session: &Session,
-    entries: &[Entry],
-    market: &M,
-    strays: u64,
-    ending: Ending,
-    out: &mut K,
-) -> Result<(), OutFault>
-    requires legal { IsLegal session.now entries.now }
-    requires market { M.stands market.now session.now (state session.now entries.now) }
-    ensures wrote { WroteOutput K.written K.faults out.old out.new (IsOutput session.now entries.now strays ending) result }
-{
-    match write_whole(alloc, session, entries, market, strays, ending, out) {
-        Ok(()) => Ok(()),
-        Err(fault) => Err(OutFault::from(fault)),
-    }
-}
-
-/// Writes the output of a legal history.
-fn write_whole<M: Market, K: Sink>(
-    alloc: Global,
-    session: &Session,
-    entries: &[Entry],
-    market: &M,
-    strays: u64,
-    ending: Ending,
-    out: &mut K,
-) -> Result<(), SinkFault>
-    requires legal { IsLegal session.now entries.now }
-    requires market { M.stands market.now session.now (state session.now entries.now) }
-    ensures wrote { (books : ℕ → ℕ → LocalBook) → AreBooks session.now (state session.now entries.now) books →
-        Wrote K.written K.faults out.old out.new (day_text session.now entries.now books ++ last_text strays ending) result }
-{
-    let mut line = Vec::new(alloc);
-    let mut pieces = Pieces::new(alloc);
-    match write_text(alloc, session, entries, market, &mut line, &mut pieces, out) {
-        Ok(()) => write_end(strays, ending, &mut line, &mut pieces, out),
-        Err(fault) => Err(fault),
-    }
-}
-
-/// Writes all but the last lines, of which the last piece is not yet handed on.
-fn write_text<M: Market, K: Sink>(
-    alloc: Global,
-    session: &Session,
-    entries: &[Entry],
-    market: &M,
-    line: &mut Vec<u8>,
-    pieces: &mut Pieces,
-    out: &mut K,
-) -> Result<(), SinkFault>
-    requires legal { IsLegal session.now entries.now }
-    requires market { M.stands market.now session.now (state session.now entries.now) }
-    ensures wrote { (books : ℕ → ℕ → LocalBook) → AreBooks session.now (state session.now entries.now) books →
-        Gathered K.written K.faults pieces.old out.old pieces.new out.new (day_text session.now entries.now books) result }
-{
-    write_head(session, line, pieces, out)?;
-    let notices = write_journal(alloc, session, entries, line, pieces, out)?;
-    match notices.into_findings(alloc, session) {
-        Ok(found) => write_closing(session, market, &found, line, pieces, out),
-        Err(Memory) => Err(SinkFault::Memory),
     }
 }
 

@@ -1,5 +1,5 @@
 ghost use Rattle.std.specs.Prelude.{◌<◌};
-ghost use Rattle.fx_pieces.specs.Gathered.{Gathered};
+ghost use Rattle.fx_edges.specs.Gathered.{Gathered};
 ghost use Rattle.fx_rules.specs.Session.{bank_count, pair_count};
 ghost use Rattle.reply_lines.specs.Report.{volume_line, use_line, net_line, report_of};
 ghost use Rattle.reply_lines.specs.inside.Report.{IsReportOf};
@@ -8,8 +8,7 @@ use crate::lines::{Print, write_lines};
 use crate::row::{begin_word_row, end_row, push_field, push_number_field, push_signed_field};
 use day_report::{Net, Report, Use, Volume};
 use fx_amounts::Memory;
-use fx_edges::{Sink, SinkFault};
-use fx_pieces::Pieces;
+use fx_edges::{Pieces, Sink, SinkFault};
 use fx_rules::Session;
 
 /// Writes a report.

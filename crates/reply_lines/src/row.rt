@@ -37,7 +37,7 @@ pub(crate) fn push_field(text: &[u8], line: &mut Vec<u8>) -> Result<(), Memory>
     push_byte(b' ', line)?;
     match line.extend_from_slice(text) {
         Ok(()) => Ok(()),
-        Err(_) => give_up(line),
+        Err(refusal) => give_up(line, Memory::from(refusal)),
     }
 }
 
@@ -49,7 +49,7 @@ pub(crate) fn push_number_field(value: u128, line: &mut Vec<u8>) -> Result<(), M
     push_byte(b' ', line)?;
     match push_number(value, line) {
         Ok(()) => Ok(()),
-        Err(Memory) => give_up(line),
+        Err(memory) => give_up(line, memory),
     }
 }
 
@@ -61,7 +61,7 @@ pub(crate) fn push_signed_field(value: i128, line: &mut Vec<u8>) -> Result<(), M
     push_byte(b' ', line)?;
     match push_signed(value, line) {
         Ok(()) => Ok(()),
-        Err(Memory) => give_up(line),
+        Err(memory) => give_up(line, memory),
     }
 }
 
@@ -74,7 +74,7 @@ pub(crate) fn push_price_field(price: Price, decimals: u8, line: &mut Vec<u8>) -
     push_byte(b' ', line)?;
     match push_price(price, decimals, line) {
         Ok(()) => Ok(()),
-        Err(Memory) => give_up(line),
+        Err(memory) => give_up(line, memory),
     }
 }
 
@@ -92,15 +92,15 @@ fn push_byte(byte: u8, line: &mut Vec<u8>) -> Result<(), Memory>
 {
     match line.push(byte) {
         Ok(()) => Ok(()),
-        Err(_) => give_up(line),
+        Err(refusal) => give_up(line, Memory::from(refusal)),
     }
 }
 
 /// Empties a line that there was no memory for.
-fn give_up(line: &mut Vec<u8>) -> Result<(), Memory>
+fn give_up(line: &mut Vec<u8>, memory: Memory) -> Result<(), Memory>
     ensures refused { IsErr result }
     ensures memory { line.new.items ≡ [] }
 {
     line.clear();
-    Err(Memory)
+    Err(memory)
 }

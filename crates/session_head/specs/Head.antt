@@ -77,7 +77,7 @@ answer_to (Faulted number reason) = Err (Fault number reason)
 abbrev pub UnlessMemory : Result HeadStep HeadStop → Type 0 → Type 0
 UnlessMemory (Ok step) fact = fact
 UnlessMemory (Err (Fault number reason)) fact = fact
-UnlessMemory (Err Memory) fact = Unit {0}
+UnlessMemory (Err (Memory memory)) fact = Unit {0}
 
 -- START was read
 abbrev pub IsStarted : Head → Type 0

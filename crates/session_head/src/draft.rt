@@ -66,7 +66,7 @@ impl Draft {
         ensures within { IfSome result (λ bank. bank < length self.now.banks) }
     {
         let place = place_of_bank(&self.banks, text)?;
-        BankId::new(place as u8)
+        Some(BankId::at(place))
     }
 
     /// The text as a name that no declared bank has.

@@ -1,4 +1,5 @@
 ghost use Rattle.std.specs.Prelude.{◌≡◌, ◌≢◌, ℕ, ◌++◌, ◌∷◌, [], List, Ok, Err, OnErr, IsTrue};
+ghost use Rattle.fx_amounts.specs.OutOfMemory.{refused};
 ghost use Rattle.fx_text.specs.Lines.{line_seen};
 ghost use Rattle.fx_text.specs.declared.line.Line.{Line as TextLine};
 ghost use Rattle.session_head.specs.Head.{read_head, with_line, answer_to, UnlessMemory, IsStarted, session_of, next, Faulted};
@@ -62,7 +63,7 @@ impl HeadReader {
         requires open { ¬ (IsStarted self.old) }
         ensures read { UnlessMemory result (self.new ≡ with_line self.old line.now) }
         ensures answer { UnlessMemory result (result ≡ answer_to self.new) }
-        ensures memory { result ≡ Err HeadStop.Memory → self.new ≡ self.old }
+        ensures memory { result ≡ Err (HeadStop.Memory refused) → self.new ≡ self.old }
         ensures goes_on { result ≢ Ok HeadStep.Start → ¬ (IsStarted self.new) }
 
         // A fault stays: the reader keeps the one that it answers, and answers the one that it keeps.
@@ -80,7 +81,7 @@ impl HeadReader {
         requires open { ¬ (IsStarted self.old) }
         ensures read { UnlessMemory result (self.new ≡ with_line self.old (line_seen line.now)) }
         ensures answer { UnlessMemory result (result ≡ answer_to self.new) }
-        ensures memory { result ≡ Err HeadStop.Memory → self.new ≡ self.old }
+        ensures memory { result ≡ Err (HeadStop.Memory refused) → self.new ≡ self.old }
         ensures goes_on { result ≢ Ok HeadStep.Start → ¬ (IsStarted self.new) }
 
         // A fault stays: the reader keeps the one that it answers, and answers the one that it keeps.
@@ -120,7 +121,7 @@ impl Stage {
         requires { ¬ (IsStarted (head_of number self.old)) }
         ensures read { (lines : ℕ) → number ≡ next lines → UnlessMemory result (head_of number self.new ≡ with_line (head_of lines self.old) (line_seen line.now)) }
         ensures answer { UnlessMemory result (result ≡ answer_to (head_of number self.new)) }
-        ensures memory { result ≡ Err HeadStop.Memory → self.new ≡ self.old }
+        ensures memory { result ≡ Err (HeadStop.Memory refused) → self.new ≡ self.old }
         ensures again { (at : ℕ) (reason : HeadReason) → head_of number self.old ≡ Faulted at reason → result ≡ Err (HeadStop.Fault at reason) }
     {
         if let Stage::Faulted { line, reason } = *self {

@@ -1,6 +1,8 @@
 ghost use Rattle.std.specs.Prelude.{◌≡◌};
 ghost use Rattle.session_head.specs.Reason.{reason_code};
 
+use fx_amounts::Memory;
+
 /// Why a line is no line of a header.
 #[derive(Clone, Copy, Debug, PartialEq, Eq)]
 pub enum HeadReason {
@@ -74,17 +76,17 @@ pub enum HeadStop {
         /// Its first fault.
         reason: HeadReason,
     },
-    /// Want of memory.
-    Memory,
+    /// Out of memory.
+    Memory(Memory),
 }
 
-impl From<fx_amounts::Memory> for HeadStop {
+impl From<Memory> for HeadStop {
     ghost use Rattle.std.specs.Prelude.{◌≡◌};
-    ghost use Rattle.session_head.specs.declared.reason.HeadStop.TheVariants.{Memory as WantOfMemory};
+    ghost use Rattle.session_head.specs.declared.reason.HeadStop.TheVariants.{Memory as OutOfMemory};
 
-    ghost from_gives = { λ _ e. e ≡ WantOfMemory };
+    ghost from_gives = { λ memory stop. stop ≡ OutOfMemory memory };
 
-    fn from(_: fx_amounts::Memory) -> Self {
-        HeadStop::Memory
+    fn from(memory: Memory) -> Self {
+        HeadStop::Memory(memory)
     }
 }

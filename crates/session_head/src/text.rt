@@ -71,7 +71,7 @@ fn push_limits(session: &Session, out: &mut Vec<u8>) -> Result<(), Memory>
     ensures { OnOk result (out.new.items ≡ out.old.items ++ lines_text session.now.banks (each_below (λ from. limits_of session.now from (bank_count session.now)) (bank_count session.now))) }
 {
     for from in 0..session.banks().len() {
-        push_limits_of(session, BankId::new(from as u8).unwrap(), out)?;
+        push_limits_of(session, BankId::at(from), out)?;
     }
     Ok(())
 }
@@ -83,7 +83,7 @@ fn push_limits_of(session: &Session, from: BankId, out: &mut Vec<u8>) -> Result<
 {
     let banks = session.banks();
     for to in 0..banks.len() {
-        let to = BankId::new(to as u8).unwrap();
+        let to = BankId::at(to);
         let limit = session.limit(from, to);
         if limit.get() > 0 {
             push_statement(banks, &Statement::Line { from, to, limit }, out)?;

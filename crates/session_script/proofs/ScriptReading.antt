@@ -2,6 +2,7 @@
 use Rattle.std.proofs.Common.{◌≡◌, ℕ, ◌+◌, ◌<◌, ◌≤◌, true, List, [], ◌++◌, Option, Some, None, Result, Ok, Err, inl, inr, length, refl, sym, ap, ◌∙◌, subst, arith, append-nil, append_assoc, length-append}
 use Rattle.std.specs.Prelude.{IsSome, OnOk}
 use Rattle.std.specs.Io.KnownBytes.{IsAtEnd}
+use Rattle.fx_amounts.specs.OutOfMemory.{refused}
 use Rattle.fx_edges.specs.Faults.{Rose}
 use Rattle.fx_edges.specs.Reading.{Took}
 use Rattle.fx_edges.proofs.Reading.{Took-nil, Took-append, Took-failed, prepend_known-nil}
@@ -129,7 +130,7 @@ piece_stands intake fed former begun more piece feeds stands =
 
 -- no memory for it
 pub TookRound-memory : {S : Type 0} {left : S → Option (List ℕ)} {faults : S → ℕ} {a b c : S} {intake : Intake} {former : List Sent} {begun : List ℕ} (fed : Intake) {piece : List ℕ} → InRound left faults a b intake former begun
-    → Took left faults b c piece → length piece ≤ 4096 → intake.taken + length piece ≤ input_limit → TookRound left faults a c fed former begun (Err Memory)
+    → Took left faults b c piece → length piece ≤ 4096 → intake.taken + length piece ≤ input_limit → TookRound left faults a c fed former begun (Err (Memory refused))
 TookRound-memory {intake = intake} {begun = begun} fed {piece = piece} so_far took short fits = record {
   more = so_far.more ++ piece;
   took = piece_behind so_far took;
@@ -150,7 +151,7 @@ ended_at_end known input (Ok (Some (Early TooMuch))) never met = absurd never
 ended_at_end known input (Ok None) never met = absurd never
 ended_at_end known input (Err (Header line reason)) fault met = fault
 ended_at_end known input (Err (EarlyStop early)) never met = absurd never
-ended_at_end known input (Err Memory) never met = absurd never
+ended_at_end known input (Err (Memory memory)) never met = absurd never
 
 no_read_fault : (input : List ℕ) (result : Result (Option TextEnd) Stop) → Closed input result → result ≡ Ok (Some (Early ReadFault)) → ⊥
 no_read_fault input result closed is = subst (Closed input) is closed
@@ -195,7 +196,7 @@ ended_by_piece known input (Ok (Some (Early TooMuch))) never settled = absurd ne
 ended_by_piece known input (Ok None) never settled = absurd never
 ended_by_piece known input (Err (Header line reason)) fault settled = fault
 ended_by_piece known input (Err (EarlyStop early)) never settled = absurd never
-ended_by_piece known input (Err Memory) never settled = absurd never
+ended_by_piece known input (Err (Memory memory)) never settled = absurd never
 
 pub TookRound-settled : {S : Type 0} {left : S → Option (List ℕ)} {faults : S → ℕ} {a b c : S} {intake fed : Intake} {former : List Sent} {begun piece : List ℕ} {result : Result (Option TextEnd) Stop} → InRound left faults a b intake former begun
     → Took left faults b c piece → length piece ≤ 4096 → intake.taken + length piece ≤ input_limit → ((text : List ℕ) (sent : List Sent) → StandsFor intake text sent → StandsFor fed (text ++ piece) sent)
@@ -333,7 +334,7 @@ HasStopped-err {left = left} {b = b} {begun = begun} stop round = record {
     stopped_so : (known : Option (List ℕ)) (input : List ℕ) (stop : Stop) → RoundCame known input (Err stop) → Stopped known input stop
     stopped_so known input (Header line reason) fault = fault
     stopped_so known input (EarlyStop early) never = absurd never
-    stopped_so known input Memory came = came
+    stopped_so known input (Memory memory) came = came
 
 -- a round before START
 abbrev pub first_former : Intake → List Sent

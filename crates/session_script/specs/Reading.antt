@@ -74,4 +74,4 @@ Progressed known input (Some end) = TextEnded known input end
 abbrev pub Stopped : Option (List ℕ) → List ℕ → Stop → Type 0
 Stopped known input (Header line reason) = HasFault input line reason
 Stopped known input (EarlyStop early) = HasNotStarted input × EndedEarly known input early
-Stopped known input Memory = Unit {0}
+Stopped known input (Memory memory) = Unit {0}

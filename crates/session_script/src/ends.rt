@@ -1,5 +1,5 @@
 ghost use Rattle.std.specs.Prelude.{◌≡◌};
-ghost use Rattle.session_script.specs.declared.ends.Stop.TheVariants.{Memory as WantOfMemory};
+ghost use Rattle.session_script.specs.declared.ends.Stop.TheVariants.{Memory as OutOfMemory};
 
 use fx_amounts::Memory;
 use session_head::HeadReason;
@@ -32,13 +32,13 @@ pub enum Stop {
     /// The text ended before START.
     Early(EarlyEnd),
     /// A growth of memory was refused.
-    Memory,
+    Memory(Memory),
 }
 
 impl From<Memory> for Stop {
-    ghost from_gives = { λ _ stop. stop ≡ WantOfMemory };
+    ghost from_gives = { λ memory stop. stop ≡ OutOfMemory memory };
 
-    fn from(_: Memory) -> Self {
-        Stop::Memory
+    fn from(memory: Memory) -> Self {
+        Stop::Memory(memory)
     }
 }

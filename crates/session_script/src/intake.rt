@@ -1,7 +1,8 @@
 mod stage;
 
-ghost use Rattle.std.specs.Prelude.{ℕ, ◌≡◌, ◌≢◌, ◌<◌, ◌≤◌, ◌+◌, ◌^◌, ◌++◌, [], List, Ok, Some, None, IfOk, OnOk, IsTrue, length};
+ghost use Rattle.std.specs.Prelude.{ℕ, ◌≡◌, ◌≢◌, ◌<◌, ◌≤◌, ◌+◌, ◌^◌, ◌++◌, [], List, Ok, Some, None, IfOk, IfErr, IsOk, OnOk, IsTrue, length};
 ghost use Rattle.std.specs.Bool.{MatchBool};
+ghost use Rattle.fx_amounts.specs.OutOfMemory.{refused};
 ghost use Rattle.fx_rules.specs.declared.command.Sent.{Sent as SentCommand};
 ghost use Rattle.fx_rules.specs.Session.{Header as SessionHeader};
 ghost use Rattle.session_script.specs.inside.Stage.{is_open};
@@ -64,6 +65,9 @@ impl Intake {
         ensures session { (h : SessionHeader) → session_at self.old.stage ≡ Some h → session_at self.new.stage ≡ Some h }
         ensures further { result ≡ Ok None → self.old.taken < self.new.taken }
 
+        // Behind START no fault is a header's.
+        ensures started { (h : SessionHeader) → session_at self.old.stage ≡ Some h → IfErr result (λ stop. stop ≡ Stop.Memory refused) }
+
         // A round takes 65,536 bytes at most, and just as many where the text goes on.
         ensures few { IfOk result (λ _. self.new.taken ≤ self.old.taken + 65536) }
         ensures whole { result ≡ Ok None → self.new.taken ≡ self.old.taken + 65536 }
@@ -122,6 +126,7 @@ impl Intake {
     fn close(&self) -> Result<Option<TextEnd>, Stop>
         ensures closed { (text : List ℕ) (former : List SentCommand) → StandsFor self.now text former → Closed text result }
         ensures ended { result ≢ Ok None }
+        ensures started { (h : SessionHeader) → session_at self.now.stage ≡ Some h → IsOk result }
     {
         match &self.stage {
             Stage::Heading(_) => Ok(Some(TextEnd::Early(EarlyEnd::Cut))),

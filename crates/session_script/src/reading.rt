@@ -66,8 +66,9 @@ impl Reading {
                 self.end = end;
                 Ok(())
             }
-            // Behind START no fault is a header's, so memory was wanting.
-            Err(_) => Err(Memory),
+            Err(Stop::Memory(memory)) => Err(memory),
+            // Behind START no fault is a header's.
+            Err(_) => unreachable!(),
         }
     }
 

@@ -1,84 +1,149 @@
 use fx_amounts::{
-    BankId, Lots, Memory, PairId, Price, PriceFault, Side, Units, base_amount, price_from,
-    quote_amount,
+    BankId, Lots, PairId, Price, PriceFault, Side, Units, base_amount, price_from, quote_amount,
 };
+use fx_text::{number, push_number, push_price, push_signed};
 use std::alloc::Global;
-
-fn numbers(alloc: Global) -> Result<Vec<u32>, Memory> {
-    let mut numbers = Vec::with_capacity(alloc, 1)?;
-    numbers.push(1)?;
-    numbers.push(2)?;
-    Ok(numbers)
-}
+use std::test::Fail;
+use trial_days::{lots, price};
 
 #[test]
-fn growth_converts_its_faults(rt: HostRuntime) {
-    match numbers(rt.alloc()) {
-        Ok(numbers) => assert!(rt; numbers.len() == 2),
-        Err(Memory) => assert!(rt; false),
+fn amounts_know_their_ranges_and_what_they_come_to(rt: HostRuntime) {
+    let (two, most) = (lots(2), lots(1_000_000));
+    let (near, highest) = (price(108_420), price(1_000_000_000));
+    for (what, holds) in [
+        ("no price", Price::new(0) == None),
+        ("a price too high", Price::new(1_000_000_001) == None),
+        ("the highest price", highest.ticks() == 1_000_000_000),
+        ("no lots", Lots::new(0) == None),
+        ("too many lots", Lots::new(1_000_001) == None),
+        ("the most lots", most.count() == 1_000_000),
+        ("too many units", Units::new(1_000_000_000_000_001) == None),
+        ("no units", Units::new(0).map(Units::get) == Some(0)),
+        ("too many banks", BankId::new(64) == None),
+        (
+            "the last bank",
+            BankId::new(63).map(BankId::index) == Some(63),
+        ),
+        ("too many pairs", PairId::new(32) == None),
+        (
+            "the last pair",
+            PairId::new(31).map(PairId::index) == Some(31),
+        ),
+        ("the other side", Side::Buy.opposite() == Side::Sell),
+        ("a buy that crosses", highest.crosses(near, Side::Buy)),
+        ("a sell that does not", !highest.crosses(near, Side::Sell)),
+        ("a base amount", base_amount(two, 1_000_000) == 2_000_000),
+        (
+            "a quote amount",
+            quote_amount(two, 1_000_000, near, 5) == 2_168_400,
+        ),
+        ("credit units", two.cost(100).get() == 200),
+        (
+            "the largest base amount",
+            base_amount(most, 1_000_000_000) == 1_000_000_000_000_000,
+        ),
+        (
+            "the largest quote amount",
+            quote_amount(most, 1_000_000_000, highest, 0) == 1_000_000_000_000_000_000_000_000,
+        ),
+        (
+            "the most credit units",
+            most.cost(1_000_000).get() == 1_000_000_000_000,
+        ),
+        (
+            "the faults' numbers",
+            (PriceFault::Form.code(), PriceFault::Range.code()) == (1, 2),
+        ),
+    ] {
+        assert!(rt; holds, "{what}");
     }
 }
 
+/// Texts of prices with so many decimals.
+const PRICES: [(&[u8], u8, Result<u32, PriceFault>); 16] = [
+    (b"1.08420", 5, Ok(108_420)),
+    (b"0.00001", 5, Ok(1)),
+    (b"10000.00000", 5, Ok(1_000_000_000)),
+    (b"1.0842", 5, Err(PriceFault::Form)),
+    (b"01.08420", 5, Err(PriceFault::Form)),
+    (b".08420", 5, Err(PriceFault::Form)),
+    (b"1,08420", 5, Err(PriceFault::Form)),
+    (b"0.00000", 5, Err(PriceFault::Range)),
+    (b"10000.00001", 5, Err(PriceFault::Range)),
+    (b"7", 0, Ok(7)),
+    (b"7.", 0, Err(PriceFault::Form)),
+    (b"+7", 0, Err(PriceFault::Form)),
+    (b"", 0, Err(PriceFault::Form)),
+    (&[b'0'; 64], 0, Err(PriceFault::Form)),
+    (&[b'9'; 80], 0, Err(PriceFault::Range)),
+    (b"149.250", 3, Ok(149_250)),
+];
+
+/// Texts of numbers from a least to a most.
+const NUMBERS: [(&[u8], u64, u64, Option<u64>); 11] = [
+    (b"0", 0, 9, Some(0)),
+    (b"1000000", 1, 1_000_000, Some(1_000_000)),
+    (b"18446744073709551615", 0, u64::MAX, Some(u64::MAX)),
+    (b"18446744073709551616", 0, u64::MAX, None),
+    (b"", 0, 9, None),
+    (b"05", 0, 9, None),
+    (b"00", 0, 9, None),
+    (b"+5", 0, 9, None),
+    (b"5 ", 0, 9, None),
+    (b"10", 0, 9, None),
+    (b"4", 5, 9, None),
+];
+
 #[test]
-fn numbers_know_their_ranges(rt: HostRuntime) {
-    assert!(rt; Price::new(0) == None);
-    assert!(rt; Price::new(1_000_000_000).map(Price::ticks) == Some(1_000_000_000));
-    assert!(rt; Lots::new(1_000_001) == None);
-    assert!(rt; Lots::new(1).map(Lots::count) == Some(1));
-    assert!(rt; Units::new(1_000_000_000_000_001) == None);
-    assert!(rt; Units::new(0).map(Units::get) == Some(0));
-    assert!(rt; BankId::new(64) == None);
-    assert!(rt; BankId::new(63).map(BankId::index) == Some(63));
-    assert!(rt; PairId::new(32) == None);
-    assert!(rt; PairId::new(31).map(PairId::index) == Some(31));
-    assert!(rt; Side::Buy.opposite() == Side::Sell);
+fn prices_and_numbers_are_read(rt: HostRuntime) {
+    for (at, (text, decimals, want)) in PRICES.iter().enumerate() {
+        assert!(rt;
+            price_from(text, *decimals).map(Price::ticks) == *want,
+            "price {at}"
+        );
+    }
+    for (at, (text, least, most, want)) in NUMBERS.iter().enumerate() {
+        assert!(rt; number(text, *least, *most) == *want, "number {at}");
+    }
+}
+
+/// Ticks with so many decimals, and how they are spelled.
+const SPELLED: [(u32, u8, &[u8]); 9] = [
+    (108_420, 5, b"1.08420"),
+    (149_250, 3, b"149.250"),
+    (1, 5, b"0.00001"),
+    (1_000_000_000, 5, b"10000.00000"),
+    (1_000_000, 6, b"1.000000"),
+    (7, 0, b"7"),
+    (1_000_000_000, 9, b"1.000000000"),
+    (1_000_000_000, 10, b"0.1000000000"),
+    (108_420, 13, b"0.0000000108420"),
+];
+
+/// The one spelling of a price.
+fn spelled(alloc: Global, ticks: u32, decimals: u8) -> Result<Vec<u8>, Fail> {
+    let mut text = Vec::new(alloc);
+    push_price(Price::new(ticks).ok_or("ticks")?, decimals, &mut text)?;
+    Ok(text)
+}
+
+/// The one spelling of the largest numbers.
+fn largest(alloc: Global) -> Result<Vec<u8>, Fail> {
+    let mut text = Vec::new(alloc);
+    push_number(0, &mut text)?;
+    push_number(u128::MAX, &mut text)?;
+    push_signed(i128::MIN, &mut text)?;
+    push_signed(7, &mut text)?;
+    Ok(text)
 }
 
 #[test]
-fn a_fill_has_its_amounts(rt: HostRuntime) {
-    let (Some(two), Some(price)) = (Lots::new(2), Price::new(108_420)) else {
-        return assert!(rt; false);
-    };
-    assert!(rt; base_amount(two, 1_000_000) == 2_000_000);
-    assert!(rt; quote_amount(two, 1_000_000, price, 5) == 2_168_400);
-    assert!(rt; two.cost(100).get() == 200);
-
-    let (Some(most), Some(highest)) = (Lots::new(1_000_000), Price::new(1_000_000_000)) else {
-        return assert!(rt; false);
-    };
-    assert!(rt; base_amount(most, 1_000_000_000) == 1_000_000_000_000_000);
-    assert!(rt; quote_amount(most, 1_000_000_000, highest, 0) == 1_000_000_000_000_000_000_000_000);
-    assert!(rt; most.cost(1_000_000).get() == 1_000_000_000_000);
-    assert!(rt; highest.crosses(price, Side::Buy));
-    assert!(rt; !highest.crosses(price, Side::Sell));
-}
-
-#[test]
-fn prices_are_read(rt: HostRuntime) {
-    let five: [(&[u8], Result<u32, PriceFault>); 9] = [
-        (b"1.08420", Ok(108_420)),
-        (b"0.00001", Ok(1)),
-        (b"10000.00000", Ok(1_000_000_000)),
-        (b"1.0842", Err(PriceFault::Form)),
-        (b"01.08420", Err(PriceFault::Form)),
-        (b".08420", Err(PriceFault::Form)),
-        (b"1,08420", Err(PriceFault::Form)),
-        (b"0.00000", Err(PriceFault::Range)),
-        (b"10000.00001", Err(PriceFault::Range)),
-    ];
-    for (at, (text, want)) in five.iter().enumerate() {
-        assert!(rt; price_from(text, 5).map(Price::ticks) == *want, "at {at}");
+fn what_is_pushed_is_the_one_spelling(rt: HostRuntime) -> Result<(), Fail> {
+    for (at, (ticks, decimals, want)) in SPELLED.iter().enumerate() {
+        let text = spelled(rt.alloc(), *ticks, *decimals)?;
+        assert!(rt; text.as_slice() == *want, "price {at}");
     }
-    let whole: [(&[u8], Result<u32, PriceFault>); 6] = [
-        (b"7", Ok(7)),
-        (b"7.", Err(PriceFault::Form)),
-        (b"+7", Err(PriceFault::Form)),
-        (b"", Err(PriceFault::Form)),
-        (&[b'0'; 64], Err(PriceFault::Form)),
-        (&[b'9'; 80], Err(PriceFault::Range)),
-    ];
-    for (at, (text, want)) in whole.iter().enumerate() {
-        assert!(rt; price_from(text, 0).map(Price::ticks) == *want, "at {at}");
-    }
-    assert!(rt; (PriceFault::Form.code(), PriceFault::Range.code()) == (1, 2));
+    let want = b"0340282366920938463463374607431768211455-1701411834604692317316873037158841057287";
+    assert!(rt; largest(rt.alloc())?.as_slice() == want.as_slice());
+    Ok(())
 }

@@ -1,7 +1,8 @@
-ghost use Rattle.std.specs.Prelude.{◌≡◌, IfOk, IfErr};
+ghost use Rattle.std.specs.Prelude.{◌≡◌, ◌≤◌, IfOk};
 
+use fx_amounts::Memory;
 use fx_edges::{
-    MemorySink, MemorySource, ReadFailed, Sink, SinkFault, Source, StdSink, StdSource, SteadySink,
+    MemorySink, MemorySource, Sink, SinkFault, Source, StdSink, StdSource, SteadySink,
     SteadySource, write_all,
 };
 use std::alloc::Global;
@@ -10,6 +11,9 @@ use std::io::{Read, Write};
 use std::test::Fail;
 
 const TEXT: &[u8] = b"FXBOOK 1\nBANK ALFA\nBANK BETA\n";
+
+/// `TEXT` as eleven reads with room for eight bytes give it: a bar is behind each piece.
+const BY_EIGHTS: &[u8] = b"FXBOOK 1|\nBANK AL|FA\nBANK |BETA\n||||||||";
 
 // A reader and a writer that fail each time.
 #[derive(Drop)]
@@ -117,138 +121,123 @@ impl Write for Interrupted {
     }
 }
 
-// What one read with room for eight bytes gives.
-fn read_eight<S: Source>(rt: &impl AllocGlobal, source: &mut S) -> Result<Vec<u8>, Fail> {
-    let mut into = [b'.'; 8];
-    let count = source.read(&mut into)?;
-    Ok(into[..count].to_vec(rt.alloc())?)
-}
-
-// A sink whose count stands at 0 wants for memory alone, also through a call that is generic over sinks.
-fn write_steadily(sink: &mut SteadySink, piece: &[u8]) -> Result<(), SinkFault>
-    ensures { IfErr result (λ fault. fault ≡ SinkFault.Memory) }
-{
-    write_all(sink, piece)
-}
-
-#[test]
-fn a_memory_source_gives_the_least_of_three(rt: HostRuntime) -> Result<(), Fail> {
-    for (most, pieces) in [
-        (1, [b"F".as_slice(), b"X", b"B", b"O"]),
-        (5, [b"FXBOO", b"K 1\nB", b"ANK A", b"LFA\nB"]),
-        (100, [b"FXBOOK 1", b"\nBANK AL", b"FA\nBANK ", b"BETA\n"]),
-    ] {
-        let bytes = TEXT.to_vec(rt.alloc())?;
-        let mut source = MemorySource::new(bytes, most, Vec::new(rt.alloc()));
-        for piece in pieces {
-            assert!(rt;
-                read_eight(&rt, &mut source)?.as_slice() == piece,
-                "most {most}"
-            );
+/// What eleven reads with room for eight bytes give: each piece with a bar behind it, and a `!` for a read that failed.
+fn taken<S: Source>(alloc: Global, source: &mut S) -> Result<Vec<u8>, Memory> {
+    let mut all = Vec::new(alloc);
+    for _ in 0..11 {
+        let mut into = [b'.'; 8];
+        match source.read(&mut into) {
+            Ok(count) => {
+                all.extend_from_slice(&into[..count])?;
+                all.push(b'|')?;
+            }
+            Err(_) => all.push(b'!')?,
         }
     }
-    Ok(())
+    Ok(all)
 }
 
-#[test]
-fn a_memory_source_fails_at_its_calls_and_loses_nothing(rt: HostRuntime) -> Result<(), Fail> {
-    let fails = vec![in rt.alloc(); 1, 3, 4]?;
-    let mut source = MemorySource::new(b"0123456789abc".to_vec(rt.alloc())?, 8, fails);
-    let mut into = [0; 8];
-    for read in [
-        Err(ReadFailed),
-        Ok(8),
-        Err(ReadFailed),
-        Err(ReadFailed),
-        Ok(5),
-        Ok(0),
-    ] {
-        assert!(rt; source.read(&mut into) == read);
-    }
-    assert!(rt; into == *b"89abc567");
-    Ok(())
+/// Sources of `TEXT` in memory: how many bytes each gives at most at a call, the calls at which it fails, and what is taken of it.
+const SOURCES: [(usize, &[u64], &[u8]); 4] = [
+    (1, &[], b"F|X|B|O|O|K| |1|\n|B|A|"),
+    (5, &[], b"FXBOO|K 1\nB|ANK A|LFA\nB|ANK B|ETA\n||||||"),
+    (100, &[], BY_EIGHTS),
+    (
+        8,
+        &[1, 3, 4],
+        b"!FXBOOK 1|!!\nBANK AL|FA\nBANK |BETA\n|||||",
+    ),
+];
+
+/// What is taken of such a source.
+fn taken_from_memory(alloc: Global, most: usize, fails: &[u64]) -> Result<Vec<u8>, Memory>
+    requires { 1 ≤ most }
+{
+    let mut source = MemorySource::new(TEXT.to_vec(alloc)?, most, fails.to_vec(alloc)?);
+    taken(alloc, &mut source)
 }
 
-#[test]
-fn a_sink_that_fails_at_its_third_call_holds_a_prefix(rt: HostRuntime) -> Result<(), Fail> {
-    let mut sink = MemorySink::new(10, vec![in rt.alloc(); 3]?);
-    assert!(rt; write_all(&mut sink, TEXT) == Err(SinkFault::Failed));
-    assert!(rt; sink.written() == b"FXBOOK 1\nBANK ALFA\nB".as_slice());
-    assert!(rt; sink.write(b"ANK") == Ok(3));
-    assert!(rt; sink.written() == b"FXBOOK 1\nBANK ALFA\nBANK".as_slice());
-    Ok(())
-}
-
-#[test]
-fn write_all_writes_each_byte_once(rt: HostRuntime) -> Result<(), Fail> {
-    for most in [1, 3, 28, 29, 1000] {
-        let mut sink = MemorySink::new(most, Vec::new(rt.alloc()));
-        assert!(rt; write_all(&mut sink, b"") == Ok(()));
-        assert!(rt; write_all(&mut sink, TEXT) == Ok(()));
-        assert!(rt; sink.written() == TEXT, "most {most}");
-    }
-    Ok(())
-}
-
-#[test]
-fn the_steady_ends_give_and_take_all(rt: HostRuntime) -> Result<(), Fail> {
-    let mut source = SteadySource::new(TEXT.to_vec(rt.alloc())?);
-    let mut sink = SteadySink::new(rt.alloc());
-    for _ in 0..4 {
-        let piece = read_eight(&rt, &mut source)?;
-        assert!(rt; sink.write(&piece) == Ok(piece.len()));
-    }
-    assert!(rt; sink.written() == TEXT);
-    assert!(rt; write_steadily(&mut sink, b"END\n") == Ok(()));
-    assert!(rt; sink.written() == b"FXBOOK 1\nBANK ALFA\nBANK BETA\nEND\n".as_slice());
-    Ok(())
-}
-
-#[test]
-fn std_ends_pass_bytes_on_and_answer_faults(rt: HostRuntime) -> Result<(), Fail> {
-    let mut source = StdSource::new(TEXT);
-    let mut kept = Vec::new(rt.alloc());
-    let mut sink = StdSink::new(&mut kept);
-    for _ in 0..5 {
-        let piece = read_eight(&rt, &mut source)?;
-        assert!(rt; write_all(&mut sink, &piece) == Ok(()));
-    }
-    assert!(rt; kept.as_slice() == TEXT);
-
-    let mut into = [b'.'; 8];
-    assert!(rt; StdSource::new(Broken).read(&mut into) == Err(ReadFailed));
-    assert!(rt; StdSink::new(Broken).write(b"text") == Err(SinkFault::Failed));
-    assert!(rt; StdSink::new(Full).write(b"text") == Err(SinkFault::Failed));
-    assert!(rt; StdSink::new(Full).write(b"") == Ok(0));
-    Ok(())
-}
-
-#[test]
-fn std_ends_pass_each_byte_of_streams_that_go_by_threes(rt: HostRuntime) -> Result<(), Fail> {
+/// What is taken of a reader that gives three bytes at a time.
+fn taken_by_threes(alloc: Global) -> Result<Vec<u8>, Memory> {
     let mut reader = ByThrees {
         left: TEXT,
-        kept: Vec::new(rt.alloc()),
+        kept: Vec::new(alloc),
     };
-    let mut source = StdSource::new(&mut reader);
-    let mut all = Vec::new(rt.alloc());
-    for _ in 0..9 {
-        let piece = read_eight(&rt, &mut source)?;
-        assert!(rt; piece.len() == 3);
-        all.extend_from_slice(&piece)?;
-    }
-    all.extend_from_slice(&read_eight(&rt, &mut source)?)?;
-    assert!(rt; all.as_slice() == TEXT);
-    assert!(rt; read_eight(&rt, &mut source)?.len() == 0);
+    taken(alloc, &mut StdSource::new(&mut reader))
+}
 
+#[test]
+fn sources_give_each_byte_once(rt: HostRuntime) -> Result<(), Fail> {
+    let alloc = rt.alloc();
+    for (most, fails, want) in SOURCES {
+        let told = taken_from_memory(alloc, most.max(1), fails)?;
+        assert!(rt; told.as_slice() == want, "{most} bytes at a call");
+    }
+    let mut steady = SteadySource::new(TEXT.to_vec(alloc)?);
+    assert!(rt; taken(alloc, &mut steady)?.as_slice() == BY_EIGHTS);
+    assert!(rt; taken(alloc, &mut StdSource::new(TEXT))?.as_slice() == BY_EIGHTS);
+    let threes = b"FXB|OOK| 1\n|BAN|K A|LFA|\nBA|NK |BET|A\n||".as_slice();
+    assert!(rt; taken_by_threes(alloc)?.as_slice() == threes);
+    assert!(rt; taken(alloc, &mut StdSource::new(Broken))?.as_slice() == b"!!!!!!!!!!!".as_slice());
+    Ok(())
+}
+
+/// Writes nothing, and then `TEXT`.
+fn put<S: Sink>(sink: &mut S) -> Result<(), SinkFault> {
+    write_all(sink, b"")?;
+    write_all(sink, TEXT)
+}
+
+/// Sinks in memory: how many bytes each takes at most at a call, the calls at which it fails, and what is written of `TEXT` and END.
+const SINKS: [(usize, &[u64], &[u8]); 6] = [
+    (1, &[], b"FXBOOK 1\nBANK ALFA\nBANK BETA\nEND"),
+    (3, &[], b"FXBOOK 1\nBANK ALFA\nBANK BETA\nEND"),
+    (28, &[], b"FXBOOK 1\nBANK ALFA\nBANK BETA\nEND"),
+    (29, &[], b"FXBOOK 1\nBANK ALFA\nBANK BETA\nEND"),
+    (1000, &[], b"FXBOOK 1\nBANK ALFA\nBANK BETA\nEND"),
+    (10, &[3], b"FXBOOK 1\nBANK ALFA\nBEND"),
+];
+
+/// What is written to such a sink; `None` where the first text is told otherwise than the calls that failed ask for.
+fn put_in_memory(alloc: Global, most: usize, fails: &[u64]) -> Result<Option<Vec<u8>>, Memory>
+    requires { 1 ≤ most }
+{
+    let mut sink = MemorySink::new(most, fails.to_vec(alloc)?);
+    let want = if fails.is_empty() {
+        Ok(())
+    } else {
+        Err(SinkFault::Failed)
+    };
+    let is_told = put(&mut sink) == want && write_all(&mut sink, b"END") == Ok(());
+    let written = sink.written().to_vec(alloc)?;
+    Ok(is_told.then_some(written))
+}
+
+/// What is written to a writer that takes three bytes at a time.
+fn put_by_threes(alloc: Global) -> Result<Vec<u8>, SinkFault> {
     let mut writer = ByThrees {
         left: b"",
-        kept: Vec::new(rt.alloc()),
+        kept: Vec::new(alloc),
     };
-    let mut sink = StdSink::new(&mut writer);
-    assert!(rt; sink.write(b"FXBOOK 1\n") == Ok(3));
-    assert!(rt; write_all(&mut sink, b"OOK 1\n") == Ok(()));
-    assert!(rt; write_all(&mut sink, b"BANK ALFA\nBANK BETA\n") == Ok(()));
-    assert!(rt; writer.kept.as_slice() == TEXT);
+    put(&mut StdSink::new(&mut writer))?;
+    Ok(writer.kept)
+}
+
+#[test]
+fn sinks_take_each_byte_once(rt: HostRuntime) -> Result<(), Fail> {
+    let alloc = rt.alloc();
+    for (most, fails, want) in SINKS {
+        let written = put_in_memory(alloc, most.max(1), fails)?;
+        assert!(rt; written.as_deref() == Some(want), "{most} bytes at a call");
+    }
+    let mut steady = SteadySink::new(alloc);
+    assert!(rt; put(&mut steady) == Ok(()) && steady.written() == TEXT);
+    let mut kept = Vec::new(alloc);
+    assert!(rt; put(&mut StdSink::new(&mut kept)) == Ok(()));
+    assert!(rt; kept.as_slice() == TEXT);
+    assert!(rt; put_by_threes(alloc)?.as_slice() == TEXT);
+    assert!(rt; put(&mut StdSink::new(Broken)) == Err(SinkFault::Failed));
+    assert!(rt; put(&mut StdSink::new(Full)) == Err(SinkFault::Failed));
     Ok(())
 }
 

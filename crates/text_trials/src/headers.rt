@@ -1,169 +1,147 @@
-use crate::fixture::{filled, read, session};
-use fx_amounts::{BankId, Memory};
-use fx_text::push_number;
+use crate::filled::filled;
+use fx_amounts::Memory;
+use fx_text::{LineCutter, push_number};
 use session_head::{HeadReader, HeadStep, HeadStop, head_text};
 use std::alloc::Global;
-use std::process::Abort;
 use std::test::Fail;
+use trial_days::session_of;
 
-/// Asserts that a text has a fault, by its line and the number of its reason.
-fn assert_fault(
-    rt: &impl Abort,
-    alloc: Global,
-    text: &[u8],
-    line: u64,
-    code: u8,
-) -> Result<(), Memory> {
-    match read(alloc, text)?.answer {
-        Err(HeadStop::Fault { line: at, reason }) => {
-            assert!(rt; (at, reason.code()) == (line, code), "{text:?}");
-        }
-        _ => assert!(rt; false, "no fault in {text:?}"),
-    }
-    Ok(())
-}
+/// Headers with a fault: the line in which it is, counted with those that are passed over, and the number of its reason.
+const FAULTS: [(&[u8], u64, u8); 17] = [
+    (b"FXBOOK 9\n", 1, 1),
+    (b"BANC ALFA\n", 1, 1),
+    (b"# morning\n\n \t\nFXBOOK 2\n", 4, 1),
+    (b"FXBOOK 1\nBANC ALFA\n", 2, 2),
+    (b"FXBOOK 1\nBANK\n", 2, 3),
+    (b"FXBOOK 1\nBANK AB\n", 2, 4),
+    (b"FXBOOK 1\nPAIR EUR/EUR 5 1000000 100\n", 2, 5),
+    (b"FXBOOK 1\nPAIR EUR/USD 7 10000000 100\n", 2, 6),
+    (b"FXBOOK 1\nPAIR EUR/USD 5 1000 100\n", 2, 7),
+    (b"FXBOOK 1\nPAIR EUR/USD 5 1000000 0\n", 2, 8),
+    (b"FXBOOK 1\nLINE ALFA ALFA 5\n", 2, 9),
+    (b"FXBOOK 1\nSTART\n", 2, 11),
+    (b"FXBOOK 1\nFXBOOK 1\n", 2, 2),
+    (b"FXBOOK 1\nEND\n", 2, 2),
+    (
+        b"FXBOOK 1\nBANK ALFA\nPAIR EUR/USD 5 1000000 100\nSTART\n",
+        4,
+        11,
+    ),
+    (
+        b"FXBOOK 1\nPAIR EUR/USD 5 1000000 100\nPAIR EUR/USD 0 1 1\n",
+        3,
+        5,
+    ),
+    (
+        b"# morning\r\n\r\nFXBOOK 1\r\n\tBANK  ALFA \r\n # BANK BETA\nBANK ALFA\n",
+        6,
+        4,
+    ),
+];
 
-const TWO_BANKS: &[u8] = b"FXBOOK 1\nBANK ALFA\nBANK BETA\n";
+/// Faults of a line behind two banks, the fourth.
+const FOURTH: [(&[u8], u8); 23] = [
+    (b"LINE ALFA BETA 05\n", 10),
+    (b"BANK ALFA\n", 4),
+    (b"BANK HOST\n", 4),
+    (b"BANK END\n", 4),
+    (b"BANK 1BC\n", 4),
+    (b"PAIR EURUSD 5 1000000 100\n", 5),
+    (b"PAIR EUR-USD 5 1000000 100\n", 5),
+    (b"PAIR EUR/USD 05 1000000 100\n", 6),
+    (b"PAIR EUR/USD 0 1000000001 100\n", 7),
+    (b"PAIR EUR/USD 5 1000000 1000001\n", 8),
+    (b"LINE ALFA GAMA 5\n", 9),
+    (b"LINE ALFA BETA 1000000000000001\n", 10),
+    (b"START\n", 11),
+    // Each of these has more faults than one, and the first of the order is told.
+    (b"BANC ALFA 1 2\n", 2),
+    (b"BANK A B\n", 3),
+    (b"PAIR EUR/EUR 7 0\n", 3),
+    (b"PAIR EUR/EUR 7 0 0\n", 5),
+    (b"PAIR EUR/USD 7 0 0\n", 6),
+    (b"PAIR EUR/USD 5 0 0\n", 7),
+    (b"LINE GAMA ALFA x\n", 9),
+    (b"LINE ALFA DELT x\n", 9),
+    (b"LINE BETA BETA x\n", 9),
+    (b"START now\n", 3),
+];
 
-/// Asserts the fault of one line behind two banks.
-fn assert_fourth(rt: &impl Abort, alloc: Global, last: &[u8], code: u8) -> Result<(), Memory> {
-    let mut text = TWO_BANKS.to_vec(alloc)?;
-    text.extend_from_slice(last)?;
-    text.push(b'\n')?;
-    assert_fault(rt, alloc, &text, 4, code)
-}
+/// Faults of a line behind so many banks and pairs.
+const FULL: [(u8, u8, &[u8], u64, u8); 6] = [
+    (64, 0, b"BANK ALFA\n", 66, 12),
+    (64, 0, b"BANK x\n", 66, 12),
+    (64, 0, b"BANK x y\n", 66, 3),
+    (0, 32, b"PAIR EUR/USD 0 1 1\n", 34, 12),
+    (0, 32, b"PAIR x 7 0 0\n", 34, 12),
+    (0, 1, b"PAIR AAA/ZZA 0 1 1\n", 3, 5),
+];
 
-/// The lines of so many banks behind the first line.
-fn many_banks(alloc: Global, count: u8) -> Result<Vec<u8>, Memory> {
+/// The first line, and the lines of so many banks and pairs behind it.
+fn full(alloc: Global, banks: u8, pairs: u8) -> Result<Vec<u8>, Memory> {
     let mut text = b"FXBOOK 1\n".to_vec(alloc)?;
-    for at in 0..count {
+    for at in 0..banks {
         text.extend_from_slice(b"BANK B")?;
         push_number(100 + u128::from(at), &mut text)?;
         text.push(b'\n')?;
     }
-    Ok(text)
-}
-
-/// Appends the lines of so many pairs, up to 52.
-fn push_pairs(count: u8, text: &mut Vec<u8>) -> Result<(), Memory> {
-    for at in 0..count {
-        let base = if at < 26 {
-            b"PAIR AAA/ZZ"
+    for at in 0..pairs {
+        text.extend_from_slice(if at < 26 {
+            b"PAIR AAA/ZZ".as_slice()
         } else {
             b"PAIR BBB/ZZ"
-        };
-        text.extend_from_slice(base)?;
+        })?;
         text.push(b'A' + at % 26)?;
         text.extend_from_slice(b" 0 1 1\n")?;
     }
-    Ok(())
+    Ok(text)
 }
 
-#[test]
-fn each_reason(rt: HostRuntime) -> Result<(), Fail> {
-    let alloc = rt.alloc();
-    assert_fault(&rt, alloc, b"FXBOOK 9\n", 1, 1)?;
-    let second: [(&[u8], u8); 11] = [
-        (b"FXBOOK 1\nBANC ALFA\n", 2),
-        (b"FXBOOK 1\nBANK\n", 3),
-        (b"FXBOOK 1\nBANK AB\n", 4),
-        (b"FXBOOK 1\nPAIR EUR/EUR 5 1000000 100\n", 5),
-        (b"FXBOOK 1\nPAIR EUR/USD 7 10000000 100\n", 6),
-        (b"FXBOOK 1\nPAIR EUR/USD 5 1000 100\n", 7),
-        (b"FXBOOK 1\nPAIR EUR/USD 5 1000000 0\n", 8),
-        (b"FXBOOK 1\nLINE ALFA ALFA 5\n", 9),
-        (b"FXBOOK 1\nSTART\n", 11),
-        (b"FXBOOK 1\nFXBOOK 1\n", 2),
-        (b"FXBOOK 1\nEND\n", 2),
-    ];
-    for (text, code) in &second {
-        assert_fault(&rt, alloc, text, 2, *code)?;
+/// The line and the number of a header's fault; `None` where it has none.
+fn fault(alloc: Global, text: &[u8]) -> Result<Option<(u64, u8)>, Memory> {
+    let mut lines = Vec::new(alloc);
+    LineCutter::new().feed(text, &mut lines)?;
+    let mut reader = HeadReader::new(alloc);
+    for line in &lines {
+        match reader.line(line) {
+            Ok(HeadStep::More) => {}
+            Err(HeadStop::Fault { line, reason }) => return Ok(Some((line, reason.code()))),
+            _ => return Ok(None),
+        }
     }
-    assert_fourth(&rt, alloc, b"LINE ALFA BETA 05", 10)?;
-    let long = filled(alloc, b"FXBOOK 1\n", b'x', 257, b"\n")?;
-    assert_fault(&rt, alloc, &long, 2, 13)?;
-    assert_fault(&rt, alloc, &many_banks(alloc, 65)?, 66, 12)?;
-    let mut pairs = many_banks(alloc, 0)?;
-    push_pairs(33, &mut pairs)?;
-    assert_fault(&rt, alloc, &pairs, 34, 12)?;
-    Ok(())
+    Ok(None)
+}
+
+/// The same of these two parts of a header.
+fn fault_of(alloc: Global, front: &[u8], last: &[u8]) -> Result<Option<(u64, u8)>, Memory> {
+    let mut text = front.to_vec(alloc)?;
+    text.extend_from_slice(last)?;
+    fault(alloc, &text)
 }
 
 #[test]
-fn further_faults(rt: HostRuntime) -> Result<(), Fail> {
+fn each_fault_is_told_by_its_line(rt: HostRuntime) -> Result<(), Fail> {
     let alloc = rt.alloc();
-    let fourth: [(&[u8], u8); 12] = [
-        (b"BANK ALFA", 4),
-        (b"BANK HOST", 4),
-        (b"BANK END", 4),
-        (b"BANK 1BC", 4),
-        (b"PAIR EURUSD 5 1000000 100", 5),
-        (b"PAIR EUR-USD 5 1000000 100", 5),
-        (b"PAIR EUR/USD 05 1000000 100", 6),
-        (b"PAIR EUR/USD 0 1000000001 100", 7),
-        (b"PAIR EUR/USD 5 1000000 1000001", 8),
-        (b"LINE ALFA GAMA 5", 9),
-        (b"LINE ALFA BETA 1000000000000001", 10),
-        (b"START", 11),
-    ];
-    for (line, code) in &fourth {
-        assert_fourth(&rt, alloc, line, *code)?;
+    for (at, (text, line, code)) in FAULTS.iter().enumerate() {
+        assert!(rt; fault(alloc, text)? == Some((*line, *code)), "header {at}");
     }
-    let one_bank = b"FXBOOK 1\nBANK ALFA\nPAIR EUR/USD 5 1000000 100\nSTART\n";
-    assert_fault(&rt, alloc, one_bank, 4, 11)?;
-    let twice = b"FXBOOK 1\nPAIR EUR/USD 5 1000000 100\nPAIR EUR/USD 0 1 1\n";
-    assert_fault(&rt, alloc, twice, 3, 5)?;
-    Ok(())
-}
-
-#[test]
-fn first_of_two_faults(rt: HostRuntime) -> Result<(), Fail> {
-    let alloc = rt.alloc();
-    assert_fault(&rt, alloc, b"BANC ALFA\n", 1, 1)?;
-    let fourth: [(&[u8], u8); 10] = [
-        (b"BANC ALFA 1 2", 2),
-        (b"BANK A B", 3),
-        (b"PAIR EUR/EUR 7 0", 3),
-        (b"PAIR EUR/EUR 7 0 0", 5),
-        (b"PAIR EUR/USD 7 0 0", 6),
-        (b"PAIR EUR/USD 5 0 0", 7),
-        (b"LINE GAMA ALFA x", 9),
-        (b"LINE ALFA DELT x", 9),
-        (b"LINE BETA BETA x", 9),
-        (b"START now", 3),
-    ];
-    for (line, code) in &fourth {
-        assert_fourth(&rt, alloc, line, *code)?;
+    for (at, (last, code)) in FOURTH.iter().enumerate() {
+        let found = fault_of(alloc, b"FXBOOK 1\nBANK ALFA\nBANK BETA\n", last)?;
+        assert!(rt; found == Some((4, *code)), "fourth line {at}");
     }
-    let mut full = many_banks(alloc, 64)?;
-    full.extend_from_slice(b"BANK x\n")?;
-    assert_fault(&rt, alloc, &full, 66, 12)?;
-    let mut counted = many_banks(alloc, 64)?;
-    counted.extend_from_slice(b"BANK x y\n")?;
-    assert_fault(&rt, alloc, &counted, 66, 3)?;
-    let mut pairs = many_banks(alloc, 0)?;
-    push_pairs(32, &mut pairs)?;
-    pairs.extend_from_slice(b"PAIR x 7 0 0\n")?;
-    assert_fault(&rt, alloc, &pairs, 34, 12)?;
+    for (at, (banks, pairs, last, line, code)) in FULL.iter().enumerate() {
+        let found = fault_of(alloc, &full(alloc, *banks, *pairs)?, last)?;
+        assert!(rt; found == Some((*line, *code)), "full header {at}");
+    }
+    let long = filled(alloc, (b"FXBOOK 1\n", b'x', 257, b"\n"))?;
+    assert!(rt; fault(alloc, &long)? == Some((2, 13)));
     Ok(())
 }
 
-#[test]
-fn passed_over_lines_count(rt: HostRuntime) -> Result<(), Fail> {
-    let alloc = rt.alloc();
-    assert_fault(&rt, alloc, b"# morning\n\n \t\nFXBOOK 2\n", 4, 1)?;
-    let text = filled(
-        alloc,
-        b"# morning\r\n\r\nFXBOOK 1\r\n#",
-        b'x',
-        300,
-        b"\n\tBANK  ALFA \r\n # BANK BETA\nBANK ALFA\n",
-    )?;
-    assert_fault(&rt, alloc, &text, 7, 4)?;
-    Ok(())
-}
-
-const WHOLE: &[u8] = b"# a day
+/// Headers, and how each is spelled.
+const WHOLE: [(&[u8], &[u8]); 2] = [
+    (
+        b"# a day
 FXBOOK 1
 
 BANK ALFA
@@ -179,7 +157,11 @@ LINE ALFA GAMA 13
 LINE ALFA GAMA 0
 PAIR USD/JPY 3 1000000 92
 START
-";
+",
+        SPELLED,
+    ),
+    (SPELLED, SPELLED),
+];
 
 const SPELLED: &[u8] = b"FXBOOK 1
 BANK ALFA
@@ -194,63 +176,31 @@ LINE GAMA ALFA 1000000000000000
 START
 ";
 
-#[test]
-fn whole_header(rt: HostRuntime) -> Result<(), Fail> {
-    let alloc = rt.alloc();
-    assert!(rt; read(alloc, WHOLE)?.answer == Ok(HeadStep::Start));
-    let session = session(alloc, WHOLE)?;
-    assert!(rt; session.banks().len() == 3);
-    assert!(rt; session.pairs().len() == 3);
-    let alfa = session.bank_named(b"ALFA").ok_or("no ALFA")?;
-    let beta = session.bank_named(b"BETA").ok_or("no BETA")?;
-    let gama = session.bank_named(b"GAMA").ok_or("no GAMA")?;
-    assert!(rt; session.limit(alfa, beta).get() == 12);
-    assert!(rt; session.limit(beta, alfa).get() == 21);
-    assert!(rt; session.limit(alfa, gama).get() == 0);
-    assert!(rt; session.limit(gama, alfa).get() == 1_000_000_000_000_000);
-    assert!(rt; session.limit(beta, gama).get() == 0);
-    Ok(())
+/// The one spelling of a header.
+fn spelled(alloc: Global, header: &[u8]) -> Result<Vec<u8>, Fail> {
+    let session = session_of(alloc, header)?;
+    let mut text = Vec::new(alloc);
+    head_text(&session, &mut text)?;
+    Ok(text)
+}
+
+/// The most banks and pairs, with lines of the last two banks.
+fn the_most(alloc: Global) -> Result<Vec<u8>, Memory> {
+    let mut text = full(alloc, 64, 32)?;
+    text.extend_from_slice(b"LINE B162 B163 6\nLINE B163 B100 5\nSTART\n")?;
+    Ok(text)
 }
 
 #[test]
-fn one_spelling(rt: HostRuntime) -> Result<(), Fail> {
+fn a_header_has_one_spelling(rt: HostRuntime) -> Result<(), Fail> {
     let alloc = rt.alloc();
-    let mut text = b"before ".to_vec(alloc)?;
-    head_text(&session(alloc, WHOLE)?, &mut text)?;
-    let (front, head) = text.split_at(7);
-    assert!(rt; front == b"before ".as_slice());
-    assert!(rt; head == SPELLED);
-    let mut again = Vec::new(alloc);
-    head_text(&session(alloc, SPELLED)?, &mut again)?;
-    assert!(rt; again.as_slice() == SPELLED);
-    Ok(())
-}
-
-#[test]
-fn the_most(rt: HostRuntime) -> Result<(), Fail> {
-    let alloc = rt.alloc();
-    let mut text = many_banks(alloc, 64)?;
-    push_pairs(32, &mut text)?;
-    text.extend_from_slice(b"LINE B163 B100 5\nLINE B162 B163 6\nSTART\n")?;
-    let session = session(alloc, &text)?;
-    assert!(rt; session.banks().len() == BankId::COUNT);
-    assert!(rt; session.pairs().len() == 32);
-    let first = session.bank_named(b"B100").ok_or("no first bank")?;
-    let last = session.bank_named(b"B163").ok_or("no last bank")?;
-    let other = session
-        .bank_named(b"B162")
-        .ok_or("no bank before the last")?;
-    assert!(rt; session.limit(last, first).get() == 5);
-    assert!(rt; session.limit(other, last).get() == 6);
-    assert!(rt; session.limit(first, last).get() == 0);
-    Ok(())
-}
-
-#[test]
-fn no_session_before_start(rt: HostRuntime) -> Result<(), Fail> {
-    let alloc = rt.alloc();
-    assert!(rt; HeadReader::new(alloc).into_session().is_none());
-    assert!(rt; read(alloc, TWO_BANKS)?.reader.into_session().is_none());
-    assert!(rt; read(alloc, b"FXBOOK 9\n")?.reader.into_session().is_none());
+    for (at, (header, want)) in WHOLE.iter().enumerate() {
+        assert!(rt; spelled(alloc, header)?.as_slice() == *want, "header {at}");
+    }
+    let most = the_most(alloc)?;
+    assert!(rt; spelled(alloc, &most)? == most);
+    for header in [b"".as_slice(), b"FXBOOK 1\nBANK ALFA\n", b"FXBOOK 9\n"] {
+        assert!(rt; session_of(alloc, header).is_err(), "{header:?}");
+    }
     Ok(())
 }

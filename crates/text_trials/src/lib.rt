@@ -1,4 +1,4 @@
-//! Trials of what reads and writes text: amounts, the byte ends, lines and fields, headers, commands and whole sessions.
+//! Trials of what reads and writes text: amounts, the byte ends, lines and fields, names, headers, commands and whole sessions.
 #![tactic(auto)]
 
 #[cfg(test)]
@@ -8,10 +8,12 @@ mod commands;
 #[cfg(test)]
 mod ends;
 #[cfg(test)]
-mod fixture;
+mod filled;
 #[cfg(test)]
 mod headers;
 #[cfg(test)]
 mod lines;
 #[cfg(test)]
 mod scripts;
+#[cfg(test)]
+mod sessions;

@@ -1,7 +1,7 @@
 -- What a history at its close has of the banks whose lanes are done.
 use Rattle.std.proofs.Common.{ℕ, zero, suc, ◌≡◌, ◌+◌, ◌<◌, ◌≤◌, ◌^◌, eqb, Bool, List, [], ◌∷◌, ◌++◌, length, map, take, drop, append-nil, get_or, All, refl, ap, ap₂, sym, subst, ◌∙◌, arith, inl, inr}
 use Rattle.std.specs.List.{AllZip, slice_get, filter}
-use Rattle.std.specs.Prelude.{Some, Result, Ok, Err, OnOk, OnErr, IfOk}
+use Rattle.std.specs.Prelude.{Some, None, Result, Ok, Err, OnOk, OnErr, IfOk}
 use Rattle.std.proofs.Math.ListN.{drop_of_length-le}
 use Rattle.std.proofs.Math.Seq.{take-length}
 use Rattle.std.proofs.lemmas.List.{take_all, length-map, map-append, length-append, length-take-le}
@@ -12,12 +12,13 @@ use Rattle.fx_rules.specs.declared.command.Command.{Command}
 use Rattle.fx_rules.specs.declared.command.Sent.{Sent}
 use Rattle.fx_rules.specs.declared.outcome.Entry.{Entry}
 use Rattle.fx_rules.specs.Lists.{Among, Each}
-use Rattle.fx_rules.specs.Session.{Header, sender_count}
+use Rattle.fx_rules.specs.Session.{Header, IsSession, sender_places}
 use Rattle.fx_rules.specs.Sending.{IsSentOf}
 use Rattle.fx_rules.specs.State.{State, opening}
 use Rattle.fx_rules.specs.Step.{IsCommand}
 use Rattle.fx_rules.specs.History.{Steps, IsLegal, after_entry, own}
-use Rattle.fx_rules.proofs.ListLemmas.{Each-append, filter_cons_true, filter_cons_false}
+use Rattle.fx_rules.proofs.Senders.{command-place}
+use Rattle.fx_rules.proofs.ListLemmas.{Each-append, Each-weaker, filter_cons_true, filter_cons_false}
 use Rattle.fx_chronicle.specs.Faces.{Witness, witness}
 use Rattle.fx_desk.specs.Submitting.{IsWholeOf}
 use Rattle.fx_desk.specs.Streams.{stream_of, HasStreams}
@@ -39,23 +40,23 @@ among_mapped f (y ∷ xs) x (inr later) = inr (among_mapped f xs x later)
 
 -- nobody's lane
 no_lane : Lane (Witness Entry)
-no_lane = record { pass = witness 0 []; bank = 0; sent = 0; stream = []; done = 0 }
+no_lane = record { pass = witness 0 []; bank = 0; sent = 0; stream = []; done = 0; stopped = None }
 
 -- who is no sender of the session has no entry, and sends nothing
-own_none : (h : Header) (S : State) (bank : ℕ) (entries : List Entry) → sender_count h ≤ bank → Steps h S entries → own bank entries ≡ []
-own_none h S bank [] beyond steps = refl
-own_none h S bank (e ∷ es) beyond steps =
+own_none : (h : Header) (S : State) (bank : ℕ) (entries : List Entry) → IsSession h → sender_places h ≤ bank → Steps h S entries → own bank entries ≡ []
+own_none h S bank [] session beyond steps = refl
+own_none h S bank (e ∷ es) session beyond steps =
     elim (cases_Bool (eqb e.bank bank)) [
-      | inl is ↦ absurd (omega (arith, beyond, steps.0.sender, eqb-true e.bank bank is))
-      | inr other ↦ filter_cons_false (λ (d : Entry). eqb d.bank bank) e es other ∙ own_none h (after_entry S e) bank es beyond steps.1
+      | inl is ↦ absurd (omega (arith, beyond, command-place h e.bank e.command session steps.0.command, eqb-true e.bank bank is))
+      | inr other ↦ filter_cons_false (λ (d : Entry). eqb d.bank bank) e es other ∙ own_none h (after_entry S e) bank es session beyond steps.1
     ]
 
-stream_none : (h : Header) (bank : ℕ) (sent : List Sent) → sender_count h ≤ bank → Each (IsSentOf h) sent → stream_of bank sent ≡ []
-stream_none h bank [] beyond valid = refl
-stream_none h bank (s ∷ sent) beyond valid =
+stream_none : (h : Header) (bank : ℕ) (sent : List Sent) → IsSession h → sender_places h ≤ bank → Each (IsSentOf h) sent → stream_of bank sent ≡ []
+stream_none h bank [] session beyond valid = refl
+stream_none h bank (s ∷ sent) session beyond valid =
     elim (cases_Bool (eqb s.bank bank)) [
-      | inl is ↦ absurd (omega (arith, beyond, valid.0.sender, eqb-true s.bank bank is))
-      | inr other ↦ ap (map (λ (t : Sent). t.command)) (filter_cons_false (λ (t : Sent). eqb t.bank bank) s sent other) ∙ stream_none h bank sent beyond valid.1
+      | inl is ↦ absurd (omega (arith, beyond, command-place h s.bank s.command session valid.0.command, eqb-true s.bank bank is))
+      | inr other ↦ ap (map (λ (t : Sent). t.command)) (filter_cons_false (λ (t : Sent). eqb t.bank bank) s sent other) ∙ stream_none h bank sent session beyond valid.1
     ]
 
 abbrev pub key_of : Witness Entry → ℕ
@@ -80,7 +81,7 @@ pub has-streams : (h : Header) (sent : List Sent) (lanes : List (Lane (Witness E
     → IsLegal h history → HaveServed h sent lanes → passes ≡ map (λ (lane : Lane (Witness Entry)). lane.pass) lanes → ((pass : Witness Entry) → Among pass passes → IsWholeOf pass.key pass.seen (mine_of pass) history)
     → HasStreams sent history
 has-streams h sent lanes passes history legal served passes_are whole = λ bank.
-    elim (cases_lt bank (sender_count h)) [
+    elim (cases_lt bank (sender_places h)) [
       | inl below ↦
           let d : Lane (Witness Entry) = no_lane in
           let within : bank < length lanes = omega (arith, below, served.all) in
@@ -88,11 +89,16 @@ has-streams h sent lanes passes history legal served passes_are whole = λ bank.
           subst (Among (get_or lanes bank d).pass) (sym passes_are) (among_mapped (λ (lane : Lane (Witness Entry)). lane.pass) lanes (get_or lanes bank d) (among_at lanes bank d within)) in
           own_stream bank sent (get_or lanes bank d) history (served.each bank (get_or lanes bank d) (slice_get-get_or lanes bank d within)) (whole (get_or lanes bank d).pass here)
       | inr beyond ↦
-          ap (map (λ (e : Entry). e.command)) (own_none h (opening h) bank history beyond legal.steps)
-          ∙ sym (stream_none h bank sent beyond served.valid)
+          ap (map (λ (e : Entry). e.command)) (own_none h (opening h) bank history legal.session beyond legal.steps)
+          ∙ sym (stream_none h bank sent served.session beyond served.valid)
     ]
 
 -- ---- the lanes of a round as they begin
+
+-- each sender of what is to be served has a lane
+pub senders-below : (h : Header) (banks : ℕ) (lanes : List (Lane (Witness Entry))) (more : List Sent) → banks ≡ length lanes → CanServe h lanes more → Each (λ (s : Sent). s.bank < banks) more
+senders-below h banks lanes more banks_is can =
+    Each-weaker (IsSentOf h) (λ (s : Sent). s.bank < banks) (λ s is. omega (arith, banks_is, can.served.all, command-place h s.bank s.command can.served.session is.command)) more can.valid
 
 may_send : (h : Header) (bank : ℕ) (sent : List Sent) → Each (IsSentOf h) sent → Each (IsCommand h bank) (stream_of bank sent)
 may_send h bank [] valid = tt
@@ -122,6 +128,7 @@ ready_lane h bank sent more lane is valid few =
       bank_of_pass = is.bank_is ∙ sym is.key_is;
       sent_by_pass = is.counted;
       none_done = refl;
+      not_stopped = refl;
       may_send = subst (λ b. Each (IsCommand h b) (stream_of bank more)) (sym is.bank_is) (may_send h bank more valid);
       numbers = omega (arith, few, is.counted, as_many, stream_shorter bank sent, stream_shorter bank more);
     }

@@ -1,6 +1,6 @@
 -- The lanes as they are made.
 use Rattle.std.proofs.Common.{ℕ, zero, suc, ◌≡◌, ◌≢◌, ◌+◌, ◌<◌, ◌≤◌, eqb, Bool, List, [], ◌∷◌, ◌++◌, length, map, take, get_or, set, length-set, option_map, refl, ap, sym, subst, ◌∙◌, arith, inl, inr, append-nil, eq-eqb, ne_eqb}
-use Rattle.std.specs.Prelude.{Some}
+use Rattle.std.specs.Prelude.{Some, None}
 use Rattle.std.specs.List.{slice_get, filter}
 use Rattle.std.specs.declared.alloc.Global.{Global}
 use Rattle.std.specs.declared.vec.Vec.{Vec}
@@ -13,7 +13,7 @@ use Rattle.fx_rules.specs.declared.command.Command.{Command}
 use Rattle.fx_rules.specs.declared.command.Sent.{Sent}
 use Rattle.fx_rules.specs.declared.outcome.Entry.{Entry}
 use Rattle.fx_rules.specs.Lists.{Each}
-use Rattle.fx_rules.specs.Session.{Header, IsSession, sender_count}
+use Rattle.fx_rules.specs.Session.{Header, IsSession, sender_places}
 use Rattle.fx_rules.proofs.ListLemmas.{filter_cons_true, filter_cons_false}
 use Rattle.fx_chronicle.specs.Faces.{Witness, witness, AreNew}
 use Rattle.fx_desk.specs.Streams.{stream_of}
@@ -90,12 +90,12 @@ stream_pushed banks i place sent s streams stream new are within s_is place_is s
 -- a lane of a new pass has served nothing
 fresh_lane : (bank : ℕ) (lane : Lane (Witness Entry)) → IsFresh lane → lane.pass ≡ witness bank [] → IsLaneOf bank [] lane
 fresh_lane bank lane fresh pass_is =
-    let lane_is : lane ≡ record { pass = witness bank []; bank = bank; sent = 0; stream = lane.stream; done = 0 } =
-    fresh ∙ ap (λ (pass : Witness Entry). record { pass = pass; bank = pass.key; sent = 0; stream = lane.stream; done = 0 }) pass_is in
+    let lane_is : lane ≡ record { pass = witness bank []; bank = bank; sent = 0; stream = lane.stream; done = 0; stopped = None } =
+    fresh ∙ ap (λ (pass : Witness Entry). record { pass = pass; bank = pass.key; sent = 0; stream = lane.stream; done = 0; stopped = None }) pass_is in
     subst (IsLaneOf bank []) (sym lane_is) (record { bank_is = refl; key_is = refl; counted = refl; commands = refl })
 
 -- the lanes of new passes
-pub lanes_open : (h : Header) (passes : List (Witness Entry)) (lanes : List (Lane (Witness Entry))) → IsSession h → AreNew (sender_count h) passes → map (λ (lane : Lane (Witness Entry)). lane.pass) lanes ≡ passes → Each IsFresh lanes → HaveServed h [] lanes
+pub lanes_open : (h : Header) (passes : List (Witness Entry)) (lanes : List (Lane (Witness Entry))) → IsSession h → AreNew (sender_places h) passes → map (λ (lane : Lane (Witness Entry)). lane.pass) lanes ≡ passes → Each IsFresh lanes → HaveServed h [] lanes
 lanes_open h passes lanes valid new passes_are fresh = record {
   session = valid;
   valid = tt;
@@ -104,7 +104,7 @@ lanes_open h passes lanes valid new passes_are fresh = record {
       let pass_at : slice_get passes k ≡ Some lane.pass =
       subst (λ (ps : List (Witness Entry)). slice_get ps k ≡ Some lane.pass) passes_are
       (slice_get-map (λ (lane : Lane (Witness Entry)). lane.pass) lanes k ∙ ap (option_map (λ (lane : Lane (Witness Entry)). lane.pass)) is) in
-      let below : k < sender_count h = omega (arith, slice_get_within passes k lane.pass pass_at, new.0) in
+      let below : k < sender_places h = omega (arith, slice_get_within passes k lane.pass pass_at, new.0) in
       fresh_lane k lane (Each-at IsFresh lanes k lane fresh is) (some_is lane.pass (witness k []) (sym pass_at ∙ new.1 k below));
 }
 

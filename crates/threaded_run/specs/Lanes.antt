@@ -3,7 +3,7 @@ use Rattle.std.specs.Prelude.{ℕ, ◌≡◌, ◌+◌, ◌<◌, ◌^◌, List, �
 use Rattle.fx_rules.specs.declared.command.Sent.{Sent}
 use Rattle.fx_rules.specs.declared.outcome.Entry.{Entry}
 use Rattle.fx_rules.specs.Lists.{Each}
-use Rattle.fx_rules.specs.Session.{Header, IsSession, sender_count}
+use Rattle.fx_rules.specs.Session.{Header, IsSession, sender_places}
 use Rattle.fx_rules.specs.Sending.{IsSentOf}
 use Rattle.fx_rules.specs.History.{own}
 use Rattle.fx_chronicle.specs.Faces.{Witness}
@@ -21,7 +21,7 @@ pub record IsLaneOf (bank : ℕ) (sent : List Sent) (lane : Lane (Witness Entry)
 pub record HaveServed (h : Header) (sent : List Sent) (lanes : List (Lane (Witness Entry))) : Type 0 where
   pub session : IsSession h
   pub valid : Each (IsSentOf h) sent
-  pub all : length lanes ≡ sender_count h
+  pub all : length lanes ≡ sender_places h
   pub each : (place : ℕ) (lane : Lane (Witness Entry)) → slice_get lanes place ≡ Some lane → IsLaneOf place sent lane
 
 -- a bank's lane after a round that came to no end: its pass has submitted what the bank was to send before the round, and of
@@ -35,7 +35,7 @@ pub record IsPartOf (bank : ℕ) (sent more : List Sent) (lane : Lane (Witness E
 
 -- the lanes of a session's banks, in order, after such a round
 pub record HaveServedPart (h : Header) (sent more : List Sent) (lanes : List (Lane (Witness Entry))) : Type 0 where
-  pub all : length lanes ≡ sender_count h
+  pub all : length lanes ≡ sender_places h
   pub each : (place : ℕ) (lane : Lane (Witness Entry)) → slice_get lanes place ≡ Some lane → IsPartOf place sent more lane
 
 -- further commands can be served: their senders may send them, and there are numbers for them

@@ -1,6 +1,6 @@
 ghost use Rattle.std.specs.Prelude.{◌≡◌, ◌<◌, [], map, IfOk, OnOk, OnErr};
 ghost use Rattle.fx_rules.specs.Lists.{Each};
-ghost use Rattle.fx_rules.specs.Session.{IsSession, sender_count};
+ghost use Rattle.fx_rules.specs.Session.{IsSession, sender_places};
 ghost use Rattle.fx_chronicle.specs.Faces.{AreNew};
 ghost use Rattle.threaded_run.specs.Lanes.{CanServe, HaveServed};
 ghost use Rattle.threaded_run.specs.inside.Lanes.{AreFilled, AreStreams};
@@ -17,7 +17,7 @@ pub(crate) fn lanes_of<N: Naming>(
     alloc: Global,
     passes: Vec<Pass<N>>,
 ) -> Result<Vec<Lane<Pass<N>>>, Memory>
-    requires passes { AreNew (sender_count N.session) passes.items }
+    requires passes { AreNew (sender_places N.session) passes.items }
     requires session { IsSession N.session }
     ensures lanes { IfOk result (λ lanes. HaveServed N.session [] lanes.items) }
 {
@@ -29,6 +29,7 @@ pub(crate) fn lanes_of<N: Naming>(
             sent: 0,
             stream: CommandList::from_vec(Vec::new(alloc)),
             done: 0,
+            stopped: None,
         })?;
     }
     Ok(lanes)

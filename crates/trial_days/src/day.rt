@@ -1,68 +1,73 @@
-ghost use Rattle.std.specs.Prelude.{ℕ, ◌≡◌, ◌≢◌, ◌≤◌, ◌<◌, ◌+◌, ◌-◌, ◌*◌, ◌/◌, ◌^◌, IfOk, OnOk, length};
+ghost use Rattle.std.specs.Prelude.{ℕ, ◌≢◌, ◌≤◌, ◌<◌, IfOk, OnOk, length};
 ghost use Rattle.fx_amounts.specs.Quantity.{IsLots, IsUnits};
 ghost use Rattle.fx_rules.specs.Lists.{Each};
 ghost use Rattle.fx_rules.specs.Session.{Header, bank_count, pair_count};
 ghost use Rattle.fx_rules.specs.Step.{IsCommand};
 ghost use Rattle.fx_rules.specs.Sending.{IsSentOf};
-ghost use Rattle.made_session.specs.Session.{made_header};
 
 use crate::draws::Draws;
+use crate::fault::NoDay;
+use crate::said::MOST_COMMANDS;
 use fx_amounts::{BankId, Lots, Memory, PairId, Price, Side, Units};
 use fx_rules::{Command, Life, Reject, Sent, Session};
 use made_session::load_session;
 use std::alloc::Global;
 
-/// A session made from a number, and its day: commands of all kinds, with a local book of every bank in every pair after half of
-/// them and at the end. Their lines run out and grow again.
+/// A session made from a number, and its day: in each of so many parts as many commands of all kinds, and then every bank asks for
+/// its local book of every pair. At the end it asks, by a reduction to more lots than any order has, what each of its commands
+/// so far has resting in every pair. The banks' lines run out and grow again. A day has a hundred thousand commands at most.
 pub fn trial_day(
     alloc: Global,
     seed: u64,
     banks: u8,
     pairs: u8,
+    parts: u32,
     count: u32,
-) -> Result<(Session, Vec<Sent>), Memory>
-    requires banks { (2 ≤ banks) × (banks ≤ 64) }
-    requires pairs { (1 ≤ pairs) × (pairs ≤ 32) }
-    ensures session { IfOk result (λ day. day.0 ≡ made_header seed banks pairs) }
+) -> Result<(Session, Vec<Sent>), NoDay>
     ensures valid { IfOk result (λ day. Each (IsSentOf day.0) day.1.items) }
-    ensures count { IfOk result (λ day. length day.1.items ≡ 2 * (count / 2 + bank_count day.0 * pair_count day.0)) }
+    ensures few { IfOk result (λ day. length day.1.items ≤ 100000) }
 {
+    if !(2..=64).contains(&banks) || !(1..=32).contains(&pairs) {
+        return Err(NoDay::Session);
+    }
     let (session, _drawn) = load_session(alloc, seed, banks, pairs, 1)?;
-    let sent = halves(alloc, &session, seed, count / 2)?;
+    let sent = drawn(alloc, &session, seed, parts, count)?;
+    if sent.len() > MOST_COMMANDS {
+        return Err(NoDay::Long);
+    }
     Ok((session, sent))
 }
 
-/// Twice so many commands, and local books.
-fn halves(alloc: Global, session: &Session, seed: u64, count: u32) -> Result<Vec<Sent>, Memory>
+/// The commands of a day.
+fn drawn(
+    alloc: Global,
+    session: &Session,
+    seed: u64,
+    parts: u32,
+    count: u32,
+) -> Result<Vec<Sent>, Memory>
     ensures valid { IfOk result (λ sent. Each (IsSentOf session.now) sent.items) }
-    ensures count { IfOk result (λ sent. length sent.items ≡ 2 * (count + bank_count session.now * pair_count session.now)) }
 {
     let mut draws = Draws::new(seed);
     let mut sent = Vec::new(alloc);
-    for _half in 0..2u32 {
+    for _part in 0..parts {
         add_commands(session, count, &mut draws, &mut sent)?;
-        add_books(session, &mut sent)?;
+        add_from_all(session, None, &mut sent)?;
+    }
+    for before in 0..=sent_by_each(session, &sent) {
+        add_from_all(session, Some(before), &mut sent)?;
     }
     Ok(sent)
 }
 
-/// So many commands of all kinds from a number, each one that its sender may send. One in five is a credit change.
-pub fn commands(
-    alloc: Global,
-    session: &Session,
-    seed: u64,
-    count: u32,
-) -> Result<Vec<Sent>, Memory>
-    ensures count { IfOk result (λ sent. length sent.items ≡ count) }
-    ensures valid { IfOk result (λ sent. Each (IsSentOf session.now) sent.items) }
+/// How many commands each bank has sent, on the average.
+fn sent_by_each(session: &Session, sent: &[Sent]) -> u32
+    ensures few { result ≤ 100000 }
 {
-    let mut draws = Draws::new(seed);
-    let mut sent = Vec::new(alloc);
-    add_commands(session, count, &mut draws, &mut sent)?;
-    Ok(sent)
+    (sent.len() / session.banks().len()).min(MOST_COMMANDS) as u32
 }
 
-/// Adds so many commands of all kinds.
+/// Adds so many commands of all kinds, each one that its sender may send. One in five is a credit change.
 fn add_commands(
     session: &Session,
     count: u32,
@@ -71,35 +76,36 @@ fn add_commands(
 ) -> Result<(), Memory>
     requires valid { Each (IsSentOf session.now) sent.old.items }
     ensures valid { OnOk result (Each (IsSentOf session.now) sent.new.items) }
-    ensures count { OnOk result (length sent.new.items ≡ length sent.old.items + count) }
 {
-    for place in 0..count {
+    for _place in 0..count {
         let bank = draw_bank(session, draws);
-        let most = 1 + place / session.banks().len() as u32;
+        let most = 1 + sent_by_each(session, sent);
         let command = draw_command(session, bank, most, draws);
         sent.push(Sent { bank, command })?;
     }
     Ok(())
 }
 
-/// Adds that every bank asks for its local book of every pair.
-fn add_books(session: &Session, sent: &mut Vec<Sent>) -> Result<(), Memory>
+/// Adds that every bank asks of every pair for its local book, or what its command behind so many has resting there.
+fn add_from_all(session: &Session, before: Option<u32>, sent: &mut Vec<Sent>) -> Result<(), Memory>
     requires valid { Each (IsSentOf session.now) sent.old.items }
     ensures valid { OnOk result (Each (IsSentOf session.now) sent.new.items) }
-    ensures count { OnOk result (length sent.new.items ≡ length sent.old.items + bank_count session.now * pair_count session.now) }
 {
     for number in 0..session.banks().len() {
-        add_books_of(session, BankId::new(number as u8).unwrap(), sent)?;
+        let bank = BankId::new(number as u8).unwrap();
+        match before {
+            Some(before) => add_probes(session, bank, before, sent)?,
+            None => add_books(session, bank, sent)?,
+        }
     }
     Ok(())
 }
 
 /// Adds that a bank asks for its local book of every pair.
-fn add_books_of(session: &Session, bank: BankId, sent: &mut Vec<Sent>) -> Result<(), Memory>
+fn add_books(session: &Session, bank: BankId, sent: &mut Vec<Sent>) -> Result<(), Memory>
     requires bank { bank < bank_count session.now }
     requires valid { Each (IsSentOf session.now) sent.old.items }
     ensures valid { OnOk result (Each (IsSentOf session.now) sent.new.items) }
-    ensures count { OnOk result (length sent.new.items ≡ length sent.old.items + pair_count session.now) }
 {
     for number in 0..session.pairs().len() {
         let pair = PairId::new(number as u8).unwrap();
@@ -111,66 +117,24 @@ fn add_books_of(session: &Session, bank: BankId, sent: &mut Vec<Sent>) -> Result
     Ok(())
 }
 
-/// Adds that every bank asks what each of its first so many commands has resting in every pair, by a reduction to more lots than any
-/// order has.
-pub fn add_probes(session: &Session, orders: u32, sent: &mut Vec<Sent>) -> Result<(), Memory>
-    requires valid { Each (IsSentOf session.now) sent.old.items }
-    requires orders { orders < 2 ^ 32 - 1 }
-    ensures valid { OnOk result (Each (IsSentOf session.now) sent.new.items) }
-    ensures count { OnOk result (length sent.new.items ≡ length sent.old.items + bank_count session.now * (pair_count session.now * orders)) }
-{
-    for number in 0..session.banks().len() {
-        add_probes_of(session, BankId::new(number as u8).unwrap(), orders, sent)?;
-    }
-    Ok(())
-}
-
-/// The same of one bank.
-fn add_probes_of(
+/// Adds that a bank asks what its command behind so many has resting in every pair.
+fn add_probes(
     session: &Session,
     bank: BankId,
-    orders: u32,
+    before: u32,
     sent: &mut Vec<Sent>,
 ) -> Result<(), Memory>
     requires bank { bank < bank_count session.now }
-    requires orders { orders < 2 ^ 32 - 1 }
     requires valid { Each (IsSentOf session.now) sent.old.items }
     ensures valid { OnOk result (Each (IsSentOf session.now) sent.new.items) }
-    ensures count { OnOk result (length sent.new.items ≡ length sent.old.items + pair_count session.now * orders) }
 {
     for number in 0..session.pairs().len() {
-        add_probes_in(
-            session,
-            bank,
-            PairId::new(number as u8).unwrap(),
-            orders,
-            sent,
-        )?;
-    }
-    Ok(())
-}
-
-/// The same of one bank in one pair.
-fn add_probes_in(
-    session: &Session,
-    bank: BankId,
-    pair: PairId,
-    orders: u32,
-    sent: &mut Vec<Sent>,
-) -> Result<(), Memory>
-    requires bank { bank < bank_count session.now }
-    requires pair { pair < pair_count session.now }
-    requires orders { orders < 2 ^ 32 - 1 }
-    requires valid { Each (IsSentOf session.now) sent.old.items }
-    ensures valid { OnOk result (Each (IsSentOf session.now) sent.new.items) }
-    ensures count { OnOk result (length sent.new.items ≡ length sent.old.items + orders) }
-{
-    for place in 0..orders {
+        let pair = PairId::new(number as u8).unwrap();
         sent.push(Sent {
             bank,
             command: Command::Reduce {
                 pair,
-                number: place + 1,
+                number: before.saturating_add(1),
                 lots: Lots::new(Lots::MOST).unwrap(),
             },
         })?;
@@ -257,7 +221,7 @@ fn draw_lots(most: u32, draws: &mut Draws) -> Lots
 
 /// An order of either side and any life, at eight prices, for up to 100 lots. Half of them rest.
 fn draw_order(pair: PairId, draws: &mut Draws) -> Command
-    ensures { (h : Header) (sender : ℕ) → pair < pair_count h → IsCommand h sender result }
+    ensures { (h : Header) (sender : ℕ) → sender < bank_count h → pair < pair_count h → IsCommand h sender result }
 {
     let side = if draws.below(2) == 0 {
         Side::Buy

@@ -11,4 +11,4 @@ use Rattle.fx_cli.specs.Status.{status_at}
 abbrev pub written_status : {T : Type 0} → TextEnd → Result T OutFault → Status
 written_status end (Ok done) = status_at end
 written_status end (Err faults.Write) = WriteFault
-written_status end (Err faults.Memory) = Memory
+written_status end (Err (faults.Memory memory)) = Memory memory

@@ -18,7 +18,7 @@ use gateway_workers::{Lane, run_round};
 use market_run::Run;
 use one_lock_host::{OneLockHost, OnePass, close_one, open_one};
 use session_script::Reading;
-use std::alloc::{AllocGlobal, Global};
+use std::alloc::{AllocError, AllocGlobal, Global};
 use std::marker::Brand;
 use std::process::Abort;
 use std::sync::Wait;
@@ -60,7 +60,7 @@ impl<N: Naming + Send> Desk for RefusingDesk<N> {
         command: &Command,
     ) -> Result<Outcome, Memory> {
         if self.submits.fetch_add(1, SeqCst) == REFUSED - 1 {
-            return Err(Memory);
+            return Err(Memory::from(AllocError));
         }
         self.host.submit(rt, gate, pass, command)
     }
@@ -119,6 +119,7 @@ fn lane_of<N: Naming>(
         sent: 0,
         stream: CommandList::from_vec(stream),
         done: 0,
+        stopped: None,
     })
 }
 
@@ -163,7 +164,7 @@ fn refuse_and_go_on<N: Naming + Send + Sync, R: AllocGlobal + Threads + Wait + S
     requires ready { All (IsReadyLane N.session (λ p. p.key) (λ p. own p.key p.met)) lanes.old }
 {
     let first = run_round(rt, desk, &OpenGate, 1, lanes);
-    assert!(rt; first == Err(Memory));
+    assert!(rt; first == Err(Memory::from(AllocError)));
     assert!(rt; lanes[0].done == 3 && lanes[1].done == 1);
     go_on(rt.alloc(), lanes)?;
     let second = run_round(rt, desk, &OpenGate, 1, lanes);

@@ -1,9 +1,14 @@
 -- Lanes in the midst of a round.
-use Rattle.std.specs.Prelude.{ℕ, ◌<◌, List, length, slice_index_or}
+use Rattle.std.specs.Prelude.{ℕ, ◌≡◌, ◌<◌, List, length, slice_index_or, min, None, IsSome}
 use Rattle.fx_rules.specs.declared.outcome.Entry.{Entry}
 use Rattle.fx_rules.specs.Session.{Header}
 use Rattle.gateway_workers.specs.declared.lane.Lane.{Lane}
 use Rattle.gateway_workers.specs.Lanes.{IsReadyLane, LaneRan}
+
+-- A lane has had so many turns: so many commands of its stream are done, or all, unless it stopped; and where it stopped, some are not.
+pub record HasTurned {P : Type 0} (turns : ℕ) (lane : Lane P) : Type 0 where
+  pub goes_on : lane.stopped ≡ None → lane.done ≡ min turns (length lane.stream)
+  pub stops : IsSome lane.stopped → lane.done < length lane.stream
 
 module _ {P : Type 0} (h : Header) (bank : P → ℕ) (seen mine : P → List Entry) where
   -- a lane that was ready has come to this

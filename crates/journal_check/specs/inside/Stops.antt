@@ -21,7 +21,7 @@ use Rattle.journal_check.specs.declared.stop.Stop.TheVariants.{Wrong, Memory}
 abbrev pub Answers : {A : Type 0} → Result A Stop → Result A ℕ → Type 0
 Answers (Ok found) there = there ≡ Ok found
 Answers (Err (Wrong offset)) there = there ≡ Err offset
-Answers (Err Memory) there = Unit {0}
+Answers (Err (Memory memory)) there = Unit {0}
 
 -- the line of a text at an offset, and the lines behind it
 pub record IsLineAt (text : List ℕ) (at : ℕ) (line : List ℕ) : Type 0 where
@@ -45,7 +45,7 @@ pub data IsStopAt (text : List ℕ) (at offset : ℕ) : Type 0 where
 abbrev pub ReadsLine : List ℕ → ℕ → Result ReadLine Stop → Type 0
 ReadsLine text at (Ok read) = IsReadAt text at read
 ReadsLine text at (Err (Wrong offset)) = IsStopAt text at offset
-ReadsLine text at (Err Memory) = ⊥
+ReadsLine text at (Err (Memory memory)) = ⊥
 
 -- a run served a history of these commands
 pub record IsRunOf (h : Header) (there : Result (List Sent) ℕ) (run : Day HostState) : Type 0 where
@@ -57,7 +57,7 @@ pub record IsRunOf (h : Header) (there : Result (List Sent) ℕ) (run : Day Host
 abbrev pub ReadsEntries : Header → Result (Day HostState) Stop → Result (List Sent) ℕ → Type 0
 ReadsEntries h (Ok run) there = IsRunOf h there run
 ReadsEntries h (Err (Wrong offset)) there = there ≡ Err offset
-ReadsEntries h (Err Memory) there = Unit {0}
+ReadsEntries h (Err (Memory memory)) there = Unit {0}
 
 -- a text was compared with the output of a history, up to its last lines
 pub record IsComparedWith (h : Header) (entries : List Entry) (text : List ℕ) (result : Result ℕ Stop) : Type 0 where
@@ -74,4 +74,4 @@ end_of at (Some byte) = Err (Wrong at)
 abbrev pub Judges : List ℕ → Result Verdict Stop → Type 0
 Judges text (Ok verdict) = IsVerdict text verdict
 Judges text (Err (Wrong offset)) = IsVerdict text (No offset)
-Judges text (Err Memory) = Unit {0}
+Judges text (Err (Memory memory)) = Unit {0}

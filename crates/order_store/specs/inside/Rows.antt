@@ -1,5 +1,5 @@
 -- The keys of a bank's orders by number, as the bank's row has them.
-use Rattle.std.specs.Prelude.{ℕ, ◌+◌, ◌-◌, ◌<◌, ◌^◌, min, Bool, false, ◌==◌, nat_lt, if◌then◌else◌, List, [], ◌∷◌, length, Option, Some, None, slice_get, slice_index_or}
+use Rattle.std.specs.Prelude.{ℕ, ◌+◌, ◌-◌, ◌<◌, min, Bool, false, ◌==◌, nat_lt, if◌then◌else◌, List, [], ◌∷◌, length, Option, Some, None, slice_get, slice_index_or}
 use Rattle.std.specs.List.{AllPairs}
 use Rattle.fx_rules.specs.declared.orders.Resting.{Resting}
 use Rattle.fx_rules.specs.Sweep.{is_order}
@@ -62,9 +62,9 @@ is_under slots key bank number = has_order bank number (slice_index_or slots key
 abbrev pub is_live : List (Option Resting) → ℕ → Numbered → Bool
 is_live slots bank entry = is_under slots entry.key bank entry.number
 
--- how many orders more the slab can take: none where it has places for more than 2^32 - 1, as keys are to have 32 bits
+-- how many orders more the slab can take
 abbrev pub places_in : Slab Resting → ℕ
-places_in orders = if nat_lt orders.capacity (2 ^ 32) then orders.capacity - slab_len orders else 0
+places_in orders = orders.capacity - slab_len orders
 
 -- how many orders more can be added that this row is for
 abbrev pub room_in : Slab Resting → Row → ℕ

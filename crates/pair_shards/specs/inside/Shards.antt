@@ -7,9 +7,8 @@ use Rattle.fx_rules.specs.Session.{Header, pair_count}
 use Rattle.fx_rules.specs.Keyed.{pair_key}
 use Rattle.fx_rules.specs.History.{IsLegal, state}
 use Rattle.fx_chronicle.specs.Touching.{pends}
-use Rattle.pair_steps.specs.declared.sender.Sender.{Sender}
-use Rattle.pair_steps.specs.Sending.{IsNextIn}
-use Rattle.pair_steps.specs.Carries.{entry_of}
+use Rattle.fx_rules.specs.declared.sender.Sender.{Sender}
+use Rattle.fx_rules.specs.Sending.{IsNextIn, entry_of}
 
 -- Of all keys just those of the pairs from one on have still to sign: a command over all pairs was recorded, and the pairs before
 -- have signed.

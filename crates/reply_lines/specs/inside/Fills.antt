@@ -1,24 +1,21 @@
--- What the two notices of a fill have in common, made once for both.
-use Rattle.std.specs.Prelude.{ℕ, ◌≡◌, List, [], ◌∷◌, ◌++◌, codes, length, ◌≤◌}
+-- The line of a fill, put together from its texts and from what one of its banks sees.
+use Rattle.std.specs.Prelude.{ℕ, List, [], ◌∷◌, ◌++◌, codes}
 use Rattle.fx_amounts.specs.Numeral.{numeral}
-use Rattle.fx_amounts.specs.declared.side.Side.{Side}
+use Rattle.fx_amounts.specs.Side.{opposite}
 use Rattle.fx_rules.specs.declared.orders.Fill.{Fill}
 use Rattle.fx_rules.specs.Session.{Header, bank_name}
 use Rattle.fx_text.specs.Fields.{fields_text}
 use Rattle.reply_lines.specs.Rows.{side_text}
-use Rattle.reply_lines.specs.Notices.{trade_fields, amount_fields}
 use Rattle.reply_lines.specs.declared.notices.FillTexts.{FillTexts}
+use Rattle.reply_lines.specs.declared.notices.Party.{Party}
 
--- short enough for the line that they stand in
-abbrev pub AreShort : FillTexts → Type 0
-AreShort texts = (length texts.trade ≤ 70) × (length texts.amounts ≤ 61)
+-- a fill as its taker sees it, and as its maker does
+abbrev pub taker_of : Fill → Party
+taker_of fill = record { number = fill.taker_number; side = fill.taker_side; other = fill.maker }
 
-pub record AreTextsOf (h : Header) (fill : Fill) (texts : FillTexts) : Type 0 where
-  pub trade : texts.trade ≡ fields_text (trade_fields h fill)
-  pub amounts : texts.amounts ≡ fields_text (amount_fields h fill)
-  pub short : AreShort texts
+abbrev pub maker_of : Fill → Party
+maker_of fill = record { number = fill.maker_number; side = opposite fill.taker_side; other = fill.taker }
 
--- the line of a fill, put together from its texts and from what one of its banks sees
-abbrev pub fill_line : Header → ℕ → ℕ → Side → ℕ → FillTexts → List ℕ
-fill_line h number own_number side other texts =
-    numeral number ++ fields_text (codes "FILL" ∷ numeral own_number ∷ side_text side ∷ []) ++ texts.trade ++ 32 ∷ bank_name h other ++ texts.amounts ++ 10 ∷ []
+abbrev pub fill_line : Header → ℕ → Party → FillTexts → List ℕ
+fill_line h number party texts =
+    numeral number ++ fields_text (codes "FILL" ∷ numeral party.number ∷ side_text party.side ∷ []) ++ texts.trade ++ 32 ∷ bank_name h party.other ++ texts.amounts ++ 10 ∷ []

@@ -34,4 +34,4 @@ taken number (stages.Faulted fault reason) line = heads.Faulted fault reason
 abbrev pub IsTaken : ℕ → Result HeadStep HeadStop → Stage → Head → Type 0
 IsTaken number (Ok step) stage head = (head_of number stage ≡ head) × (answer_to head ≡ Ok step)
 IsTaken number (Err (Fault line reason)) stage head = (head ≡ heads.Faulted line reason) × (line ≡ number)
-IsTaken number (Err Memory) stage head = Unit {0}
+IsTaken number (Err (Memory memory)) stage head = Unit {0}

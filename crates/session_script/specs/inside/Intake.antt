@@ -22,4 +22,4 @@ Closed text (Ok (Some (Early TooMuch))) = ⊥
 Closed text (Ok None) = ⊥
 Closed text (Err (Header line reason)) = HasFault text line reason
 Closed text (Err (EarlyStop early)) = ⊥
-Closed text (Err Memory) = ⊥
+Closed text (Err (Memory memory)) = ⊥

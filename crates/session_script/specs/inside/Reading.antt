@@ -11,4 +11,4 @@ abbrev pub RoundCame : Option (List ℕ) → List ℕ → Result (Option TextEnd
 RoundCame known input (Ok progress) = Progressed known input progress
 RoundCame known input (Err (Header line reason)) = HasFault input line reason
 RoundCame known input (Err (EarlyStop early)) = ⊥
-RoundCame known input (Err Memory) = Unit {0}
+RoundCame known input (Err (Memory memory)) = Unit {0}

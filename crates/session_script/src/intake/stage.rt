@@ -74,7 +74,7 @@ impl Stage {
                     };
                 }
                 Err(HeadStop::Fault { line, reason }) => *self = Stage::Faulted { line, reason },
-                Err(HeadStop::Memory) => return Err(Memory),
+                Err(HeadStop::Memory(memory)) => return Err(memory),
             },
             Stage::Commanding { script, ended } => {
                 if !*ended {

@@ -1,5 +1,5 @@
 -- What private functions and proofs alone say of it, beside `specs/Lanes.antt`.
-use Rattle.std.specs.Prelude.{ℕ, ◌≡◌, ◌+◌, List, length, slice_get, Some}
+use Rattle.std.specs.Prelude.{ℕ, ◌≡◌, ◌+◌, List, length, slice_get, Some, None}
 use Rattle.std.specs.declared.alloc.Global.{Global}
 use Rattle.std.specs.declared.vec.Vec.{Vec}
 use Rattle.fx_rules.specs.declared.command.Command.{Command}
@@ -16,13 +16,13 @@ pub record AreStreams (banks : ℕ) (sent : List Sent) (streams : List (Vec Comm
 
 -- a lane in the next round, in which its bank sends this
 abbrev pub next_lane : Lane (Witness Entry) → List Command → Lane (Witness Entry)
-next_lane lane stream = record lane { sent = lane.sent + lane.done; stream = stream; done = 0 }
+next_lane lane stream = record lane { sent = lane.sent + lane.done; stream = stream; done = 0; stopped = None }
 
 -- each lane is in the next round, in which its bank sends what it does of these commands
 pub record AreFilled (more : List Sent) (was now : List (Lane (Witness Entry))) : Type 0 where
   pub long : length now ≡ length was
   pub each : (place : ℕ) (lane : Lane (Witness Entry)) → slice_get was place ≡ Some lane → slice_get now place ≡ Some (next_lane lane (stream_of place more))
 
--- nothing of a lane's stream is done, nothing was sent before it, and its bank is that of its pass
+-- nothing of a lane's stream is done, nothing stopped it, nothing was sent before it, and its bank is that of its pass
 abbrev pub IsFresh : Lane (Witness Entry) → Type 0
-IsFresh lane = lane ≡ record { pass = lane.pass; bank = lane.pass.key; sent = 0; stream = lane.stream; done = 0 }
+IsFresh lane = lane ≡ record { pass = lane.pass; bank = lane.pass.key; sent = 0; stream = lane.stream; done = 0; stopped = None }

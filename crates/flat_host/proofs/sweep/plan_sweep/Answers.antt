@@ -1,5 +1,5 @@
 -- The fills are those of the walk; at its end they are the whole sweep.
-use Rattle.std.proofs.Common.{ℕ, ◌≡◌, List, ◌++◌, ◌∷◌, [], None, slice_index, sym, ap, subst, ◌∙◌}
+use Rattle.std.proofs.Common.{ℕ, List, None, slice_index, sym, ap, subst}
 use Rattle.fx_rules.specs.declared.orders.Fill.{Fill}
 use Rattle.fx_rules.specs.State.{orders_in}
 use Rattle.fx_rules.specs.Plan.{Planned}

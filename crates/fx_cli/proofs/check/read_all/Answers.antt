@@ -3,6 +3,7 @@ use Rattle.std.proofs.Common.{rules, ℕ, ◌≡◌, ◌+◌, ◌-◌, ◌<◌, 
 use Rattle.std.specs.Prelude.{IsErrAnd}
 use Rattle.std.specs.declared.alloc.Global.{Global}
 use Rattle.std.specs.declared.vec.Vec.{Vec}
+use Rattle.fx_amounts.specs.OutOfMemory.{refused}
 use Rattle.fx_edges.proofs.Reading.{Took-append}
 use Rattle.fx_cli.specs.Check.{output_limit, HasTaken}
 use Rattle.fx_cli.specs.declared.check.Halt.{Halt}
@@ -14,12 +15,12 @@ fits : (into before : List ℕ) (count room taken : ℕ) → count ≡ length (t
     → taken + length (take count into) ≤ output_limit
 fits into before count room taken whole within same asked below = omega (arith, length-take room before)
 
-memory_halt : (result : Result (Vec ℕ Global) Halt) → IsErrAnd result (λ halt. halt ≡ Memory) → result ≡ Err Memory
+memory_halt : (result : Result (Vec ℕ Global) Halt) → IsErrAnd result (λ halt. halt ≡ Memory refused) → result ≡ Err (Memory refused)
 memory_halt (Ok bytes) is = absurd is
 memory_halt (Err halt) is = ap Err is
 
-pub returns-in_err-extend_from_slice : goal.returns-in_err-extend_from_slice
-returns-in_err-extend_from_slice g c =
+pub returns-in_err-map_err : goal.returns-in_err-map_err
+returns-in_err-map_err g c =
     let bytes = c.loop-piece.bytes.items in
     let piece = take c.in-Ok.count c.read.new.into in
     let within : length bytes + length piece ≤ output_limit =

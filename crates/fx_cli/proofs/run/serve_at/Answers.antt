@@ -7,13 +7,13 @@ use Rattle.fx_rules.specs.declared.outcome.Entry.{Entry}
 use Rattle.pair_host.specs.Standing.{HostState}
 use Rattle.session_script.specs.declared.ends.TextEnd.{TextEnd}
 use Rattle.fx_cli.specs.inside.Rounds.{ThreadsServedText}
-use Rattle.fx_cli.proofs.Served.{for_want, promptly, same_session}
+use Rattle.fx_cli.proofs.Served.{for_memory, promptly, same_session}
 use Rattle.fx_cli.proofs.run.serve_at.Goals as goal
 
 pub returns-in_err-end : goal.returns-in_err-end
 returns-in_err-end g c = record {
   served = λ before has.
-      for_want c.from_residual-in_err-end.result _ (λ (r : Result (TextEnd × Vec Entry Global × HostState) Memory). ThreadsServedText g.S.Source.left g.S.Source.faults before c.serve_rounds.new.source c.serve_rounds.new.reading g.N.Naming.session r) c.from_residual-in_err-end.ensures.1
+      for_memory c.from_residual-in_err-end.result _ (λ (r : Result (TextEnd × Vec Entry Global × HostState) Memory). ThreadsServedText g.S.Source.left g.S.Source.faults before c.serve_rounds.new.source c.serve_rounds.new.reading g.N.Naming.session r) c.from_residual-in_err-end.ensures.1
       (λ memory. c.in_err-end.ensures.served before [] has c.in_ok-run.ensures.opened);
 }
 
@@ -25,7 +25,7 @@ close-requires-clause-session g c lifetimes outlive =
 pub returns-in_err-history : goal.returns-in_err-history
 returns-in_err-history g c = record {
   served = λ before has.
-      for_want c.from_residual-in_err-history.result _ (λ (r : Result (TextEnd × Vec Entry Global × HostState) Memory). ThreadsServedText g.S.Source.left g.S.Source.faults before c.serve_rounds.new.source c.serve_rounds.new.reading g.N.Naming.session r) c.from_residual-in_err-history.ensures.1
+      for_memory c.from_residual-in_err-history.result _ (λ (r : Result (TextEnd × Vec Entry Global × HostState) Memory). ThreadsServedText g.S.Source.left g.S.Source.faults before c.serve_rounds.new.source c.serve_rounds.new.reading g.N.Naming.session r) c.from_residual-in_err-history.ensures.1
       (λ memory. promptly (c.in_ok-end.ensures.served before [] has c.in_ok-run.ensures.opened).has_read);
 }
 

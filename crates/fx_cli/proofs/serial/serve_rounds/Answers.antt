@@ -4,7 +4,7 @@ use Rattle.fx_amounts.specs.declared.memory.Memory.{Memory}
 use Rattle.fx_rules.specs.Sending.{sent_by}
 use Rattle.session_script.specs.declared.ends.TextEnd.{TextEnd}
 use Rattle.fx_cli.specs.inside.Rounds.{ServedText}
-use Rattle.fx_cli.proofs.Served.{may_serve, for_want, less_to_read, promptly, round_served, taken_within}
+use Rattle.fx_cli.proofs.Served.{may_serve, for_memory, less_to_read, promptly, round_served, taken_within}
 use Rattle.fx_cli.proofs.serial.serve_rounds.Goals as goal
 
 pub serve_all-requires : goal.serve_all-requires
@@ -16,7 +16,7 @@ serve_all-requires g c =
 pub returns-in_err-serve_all : goal.returns-in_err-serve_all
 returns-in_err-serve_all g c = record {
   served = λ before h serving.
-      for_want c.from_residual.result _ (λ (r : Result TextEnd Memory). ServedText g.S.Source.left g.S.Source.faults before c.loop-reading.source c.loop-reading.reading h c.serve_all.new.self r) c.from_residual.ensures.1
+      for_memory c.from_residual.result _ (λ (r : Result TextEnd Memory). ServedText g.S.Source.left g.S.Source.faults before c.loop-reading.source c.loop-reading.reading h c.serve_all.new.self r) c.from_residual.ensures.1
       (λ memory. promptly (c.loop-reading.invariant.serving before h serving).has_read);
 }
 
@@ -50,6 +50,6 @@ pub returns-in_err-read_round : goal.returns-in_err-read_round
 returns-in_err-read_round g c = record {
   served = λ before h serving.
       let round = round_served c.script-script.result.now.session c.loop-reading.run c.serve_all.new.self c.deref.result.now (c.loop-reading.invariant.serving before h serving) c.script-script.ensures.session (c.deref.ensures.value ∙ sym c.script-script.ensures.sent) c.in_ok-serve_all.ensures.served in
-      for_want c.from_residual-in_err-read_round.result _ (λ (r : Result TextEnd Memory). ServedText g.S.Source.left g.S.Source.faults before c.read_round.new.source c.read_round.new.self h c.serve_all.new.self r) c.from_residual-in_err-read_round.ensures.1
+      for_memory c.from_residual-in_err-read_round.result _ (λ (r : Result TextEnd Memory). ServedText g.S.Source.left g.S.Source.faults before c.read_round.new.source c.read_round.new.self h c.serve_all.new.self r) c.from_residual-in_err-read_round.ensures.1
       (λ memory. c.in_err-read_round.ensures.memory before h (map sent_by round.entries) round.has_read);
 }

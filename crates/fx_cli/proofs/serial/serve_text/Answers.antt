@@ -8,8 +8,8 @@ use Rattle.fx_cli.specs.TopCall.{IsOutputOf}
 use Rattle.fx_cli.proofs.Served.{promptly, ran-memory, same_session, serving_open, serial_ran}
 use Rattle.fx_cli.proofs.serial.serve_text.Goals as goal
 
-pub returns-in_default : goal.returns-in_default
-returns-in_default g c = record {
+pub returns-in-Err : goal.returns-in-Err
+returns-in-Err g c = record {
   ran = λ before h has. ran-memory (IsOutputOf IsSerial) g.S.Source.left g.S.Source.faults g.K.Sink.written g.K.Sink.faults before c.args.source.now c.args.out.now c.args.out.now (promptly has) refl;
 }
 
@@ -18,11 +18,11 @@ serve_rounds-requires g c =
     let begun = c.requires.begun in
     record { serving = (begun.0, begun.1, serving_open c.script.result.now.session c.in-Ok.run' begun.2 c.script.ensures.session c.in-Ok.ensures.opens) }
 
-pub returns-in_default-serve_rounds : goal.returns-in_default-serve_rounds
-returns-in_default-serve_rounds g c = record {
+pub returns-in-Err-serve_rounds : goal.returns-in-Err-serve_rounds
+returns-in-Err-serve_rounds g c = record {
   ran = λ before h has.
       ran-memory (IsOutputOf IsSerial) g.S.Source.left g.S.Source.faults g.K.Sink.written g.K.Sink.faults before c.serve_rounds.new.source c.args.out.now c.args.out.now
-      (c.in_default-serve_rounds.ensures.served before h (serving_open c.script.result.now.session c.in-Ok.run' has c.script.ensures.session c.in-Ok.ensures.opens)) refl;
+      (c.in-Err-serve_rounds.ensures.served before h (serving_open c.script.result.now.session c.in-Ok.run' has c.script.ensures.session c.in-Ok.ensures.opens)) refl;
 }
 
 pub write-written-requires : goal.write-written-requires

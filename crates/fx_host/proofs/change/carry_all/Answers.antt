@@ -15,5 +15,5 @@ loop-place-preserved g c = record {
 
 pub returns-clause-signed : goal.returns-clause-signed
 returns-clause-signed g c =
-    let end : c.loop-place.place ≡ pair_count g.N.Naming.session = omega (arith, c.loop-place-test.false, c.loop-place.auto.place-end, c.requires.pairs) in
+    let end : c.loop-place.place ≡ pair_count g.N.Naming.session = omega (arith, c.loop-place-test.false, c.loop-place.auto.place-end, c.count-place-end.ensures.count) in
     all_signed _ _ (subst (λ pair. PairsPend g.N.Naming.session pair c.loop-place.credit.history.pending) end c.loop-place.invariant.pend)

@@ -1,12 +1,19 @@
 -- The keys of a blank are those below the pairs', and the pairs'.
-use Rattle.std.proofs.Common.{sym, subst, arith}
+use Rattle.std.proofs.Common.{rules, sym, subst, arith}
+use Rattle.fx_rules.specs.Session.{sender_places}
 use Rattle.fx_chronicle.specs.Faces.{AreNew}
+use Rattle.fx_desk.proofs.Sending.{new-senders}
 use Rattle.fx_host.specs.inside.Opening.{ArePairFronts}
 use Rattle.fx_host.proofs.Fronts.{bank-fronts, pair-fronts}
 use Rattle.fx_host.proofs.opening.open_host.Goals as goal
 
-pub shards_of-requires-clause-fronts : goal.shards_of-requires-clause-fronts
-shards_of-requires-clause-fronts g c = subst (ArePairFronts 0) (sym c.in_ok-pair_fronts.ensures.tail) (pair-fronts _ _ c.in_ok-writer.ensures.fronts)
+pub locks_of-requires-clause-fronts : goal.locks_of-requires-clause-fronts
+locks_of-requires-clause-fronts g c = subst (ArePairFronts 0) (sym c.in_ok-pair_fronts.ensures.tail) (pair-fronts _ _ c.in_ok-writer.ensures.fronts)
 
 pub passes_of-requires-clause-fronts : goal.passes_of-requires-clause-fronts
 passes_of-requires-clause-fronts g c = subst (AreNew 65) (sym c.in_ok-pair_fronts.ensures.items) (bank-fronts _ _ c.in_ok-writer.ensures.fronts (omega (arith, c.requires.keys)))
+
+pub returns : goal.returns
+returns g c =
+    let new : AreNew (sender_places g.N.Naming.session) c.in_ok-passes.passes.items = subst (λ banks. AreNew banks c.in_ok-passes.passes.items) (search (rules, arith)) c.in_ok-passes.ensures.passes in
+    record { passes = new; senders = new-senders g.N.Naming.session _ new }

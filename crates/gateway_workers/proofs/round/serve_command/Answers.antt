@@ -1,15 +1,19 @@
-use Rattle.std.proofs.Common.{rules, sym, ◌∙◌}
-use Rattle.fx_desk.specs.Submitting.{Submitted}
-use Rattle.gateway_workers.proofs.Running.{told_at_ok, one-more}
+use Rattle.std.proofs.Common.{rules, sym, subst}
+use Rattle.gateway_workers.specs.Lanes.{LaneRan}
+use Rattle.gateway_workers.proofs.Running.{one-more, one-stopped}
 use Rattle.gateway_workers.proofs.round.serve_command.Goals as goal
+use Rattle.gateway_workers.proofs.round.serve_command.Goals.{in-Ok, in-Err}
 
--- a command more was carried out
-pub returns-then-is_ok : goal.returns-then-is_ok
-returns-then-is_ok g c =
+-- a command more was carried out, or the lane stopped
+pub returns-clause-runs_on : goal.returns-clause-runs_on
+returns-clause-runs_on g c =
     let desk = g.D.Desk in
     let lane = c.args.lane.now in
     let pass = c.submit-answer.new.pass in
-    let command = c.in-Some.command.now in
-    let told = told_at_ok c.submit-answer.result (λ outcome. Submitted desk.session (desk.bank lane.pass) (desk.seen lane.pass) (desk.mine lane.pass) command (desk.seen pass) (desk.mine pass) outcome)
-    (sym c.is_ok.ensures.value ∙ c.if-is_ok.true) c.submit-answer.ensures.submitted in
-    λ begun ready ran. one-more desk.session desk.bank desk.seen desk.mine begun lane pass command told.0 (search rules) (search rules) c.submit-answer.ensures.bank told.1 ready ran
+    λ begun ready ran.
+    elim c.match-answer.branch [
+      | in-Ok w ↦ subst (LaneRan desk.session desk.bank desk.seen desk.mine begun) (sym w.lane-is)
+          (one-more desk.session desk.bank desk.seen desk.mine begun lane pass c.in-Some.command.now w.in-Ok.field-0 (search rules) (search rules) c.submit-answer.ensures.bank w.in-Ok.ensures.submitted ready ran)
+      | in-Err w ↦ subst (LaneRan desk.session desk.bank desk.seen desk.mine begun) (sym w.lane-is)
+          (one-stopped desk.session desk.bank desk.seen desk.mine begun lane pass w.in-Err.memory w.in-Err.ensures.memory ran)
+    ]

@@ -24,7 +24,7 @@ serve-requires c =
       may_serve = record {
         entries = read.entries;
         has_served = read.has_served;
-        valid = (record { sender = c.in-Some.ensures.bank; command = c.in-Some.ensures.range }, tt);
+        valid = (record { command = c.in-Some.ensures.range }, tt);
         few = omega (arith, read.size, c.loop-entry-test.true, c.requires.few);
       };
     }

@@ -12,6 +12,6 @@ loop-place-preserved c =
     record {
       count = ap (λ (bs : List Book). length bs) more ∙ omega (arith, length-append books (book ∷ []), c.loop-place.invariant.count);
       books = subst (AreBooks _) (sym more)
-          (are-books-push _ books book c.loop-place.invariant.books (c.in_ok-new.ensures.pair ∙ c.pair_at.ensures.value ∙ sym c.loop-place.invariant.count) c.in_ok-new.ensures.banks);
+          (are-books-push _ books book c.loop-place.invariant.books (c.in_ok-new.ensures.pair ∙ c.at.ensures.value ∙ sym c.loop-place.invariant.count) c.in_ok-new.ensures.banks);
       empty = subst AreEmpty (sym more) (are-empty-push books book c.loop-place.invariant.empty c.in_ok-new.ensures.empty);
     }

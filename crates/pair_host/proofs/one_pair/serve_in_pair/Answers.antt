@@ -6,7 +6,7 @@ use Rattle.fx_rules.specs.Step.{changed}
 use Rattle.fx_rules.specs.History.{IsStep}
 use Rattle.global_book.specs.Book.{Book}
 use Rattle.credit_lines.specs.Credit.{Credit}
-use Rattle.pair_steps.specs.declared.sender.Sender.{Sender}
+use Rattle.fx_rules.specs.declared.sender.Sender.{Sender}
 use Rattle.pair_steps.specs.Answers.{AnswersEach}
 use Rattle.pair_steps.specs.Carries.{IsStepOf}
 use Rattle.pair_host.proofs.OnePair.{step-of, made-entry, next-made}

@@ -4,13 +4,13 @@ use Rattle.program_words.specs.Forms.{task_of}
 use Rattle.program_words.specs.declared.reading.WordsFault.{WordsFault}
 use Rattle.program_words.specs.declared.reading.WordsFault.TheVariants.{Usage}
 use Rattle.program_words.proofs.MatchedLemmas.{passed}
-use Rattle.program_words.proofs.Complete.{refused, unlike_said}
+use Rattle.program_words.proofs.Complete.{not_taken, unlike_said}
 use Rattle.program_words.proofs.reading.read_words.Goals as goal
 
 pub returns-in_err-matches-clause-usage : goal.returns-in_err-matches-clause-usage
 returns-in_err-matches-clause-usage c =
     passed c.from_residual.result _ (λ (fault : WordsFault). fault ≡ Usage → task_of (map string_bytes c.args.words.now) ≡ None) c.from_residual.ensures.1
-    (λ fault is usage. refused (map string_bytes c.args.words.now) c.in_err-matches.field-0.0 c.in_err-matches.ensures.usage (sym is ∙ usage))
+    (λ fault is usage. not_taken (map string_bytes c.args.words.now) c.in_err-matches.field-0.0 c.in_err-matches.ensures.usage (sym is ∙ usage))
 
 pub returns-then-not-are_same-clause-usage : goal.returns-then-not-are_same-clause-usage
 returns-then-not-are_same-clause-usage c usage =

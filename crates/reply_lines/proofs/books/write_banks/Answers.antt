@@ -1,7 +1,7 @@
 -- Each turn writes one bank's books behind those so far.
 use Rattle.std.proofs.Common.{◌≡◌, arith, ap, sym, subst, length, add-one, Err}
-use Rattle.fx_pieces.specs.Gathered.{Kept, Gathered}
-use Rattle.fx_pieces.proofs.Gathering.{Gathered-cut, Gathered-from_Kept, Kept-append}
+use Rattle.fx_edges.specs.Gathered.{Kept, Gathered}
+use Rattle.fx_edges.proofs.Gathering.{Gathered-cut, Gathered-from_Kept, Kept-append}
 use Rattle.fx_rules.specs.Session.{pair_count}
 use Rattle.reply_lines.specs.Books.{book_lines_below, books_below}
 use Rattle.reply_lines.proofs.Parts.{books-prefix, same_place}

@@ -1,7 +1,7 @@
 -- The books follow their heading.
 use Rattle.std.proofs.Common.{codes}
 use Rattle.fx_edges.proofs.Writing.{IsPrefixOf-append}
-use Rattle.fx_pieces.proofs.Gathering.{Gathered-then, Gathered-of_longer}
+use Rattle.fx_edges.proofs.Gathering.{Gathered-then, Gathered-of_longer}
 use Rattle.fx_rules.specs.Session.{bank_count}
 use Rattle.reply_lines.specs.Books.{books_below, books_text}
 use Rattle.reply_lines.proofs.books.write_books.Goals as goal

@@ -1,7 +1,7 @@
 -- Each turn writes one pair's book behind those so far.
 use Rattle.std.proofs.Common.{◌≡◌, arith, ap, sym, subst, length, add-one, Err}
-use Rattle.fx_pieces.specs.Gathered.{Kept, Gathered}
-use Rattle.fx_pieces.proofs.Gathering.{Gathered-cut, Gathered-from_Kept, Kept-append}
+use Rattle.fx_edges.specs.Gathered.{Kept, Gathered}
+use Rattle.fx_edges.proofs.Gathering.{Gathered-cut, Gathered-from_Kept, Kept-append}
 use Rattle.reply_lines.specs.Books.{book_line, book_lines_below}
 use Rattle.reply_lines.proofs.Parts.{book_lines-prefix, same_place}
 use Rattle.reply_lines.proofs.books.write_pairs.Goals as goal

@@ -1,5 +1,5 @@
 use Rattle.std.proofs.Common.{ℕ}
-use Rattle.fx_pieces.specs.Gathered.{Kept}
+use Rattle.fx_edges.specs.Gathered.{Kept}
 use Rattle.reply_lines.specs.Books.{LocalBook, book_lines_below}
 use Rattle.reply_lines.specs.inside.Books.{AreBooksOf}
 use Rattle.reply_lines.proofs.books.write_pairs.Given as goal

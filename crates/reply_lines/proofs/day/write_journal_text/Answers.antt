@@ -1,6 +1,6 @@
 -- The lines follow the journal's first line.
 use Rattle.fx_edges.proofs.Writing.{IsPrefixOf-append}
-use Rattle.fx_pieces.proofs.Gathering.{Gathered-then, Gathered-of_longer}
+use Rattle.fx_edges.proofs.Gathering.{Gathered-then, Gathered-of_longer}
 use Rattle.reply_lines.specs.Output.{journal_line}
 use Rattle.reply_lines.proofs.day.write_journal_text.Goals as goal
 

@@ -1,26 +1,25 @@
 -- The taker's bank gets its notice, and then the maker's.
-use Rattle.std.proofs.Common.{arith}
+use Rattle.std.proofs.Common.{◌<◌, List, arith, length, set}
+use Rattle.std.proofs.lemmas.List.{length-set}
+use Rattle.reply_lines.specs.Desks.{DeskSoFar}
 use Rattle.reply_lines.specs.Notices.{taken_notices, given_notices}
 use Rattle.reply_lines.specs.Notices.Notice.{Took, Gave}
-use Rattle.reply_lines.proofs.Gathering.{got-then}
+use Rattle.reply_lines.proofs.Gathering.{got-at, got-then}
 use Rattle.reply_lines.proofs.Outputs.{on_ok}
-use Rattle.reply_lines.proofs.Telling.{fill-told}
 use Rattle.reply_lines.proofs.desk.add_fill.Goals as goal
-
-pub add_notice-requires-2-clause-bank : goal.add_notice-requires-2-clause-bank
-add_notice-requires-2-clause-bank c =
-    let f = c.args.fill.now in
-    let taken = c.in_ok-add_notice.ensures.ok (Took f) (fill-told c.args.session.now f.taker_number f.taker_side f.maker f c.make.ensures.texts) in
-    omega (arith, taken.count, c.requires.desks, c.requires.fill.maker)
 
 pub returns : goal.returns
 returns c =
+    let h = c.args.session.now in
     let f = c.args.fill.now in
+    let desks : List DeskSoFar = c.args.desks.now.items in
+    let between : List DeskSoFar = set desks c.index.result c.taken.new.self in
+    let taker_in : f.taker < length desks = omega (arith, c.requires.fill.taker, c.requires.desks) in
+    let maker_in : f.maker < length between = omega (arith, c.requires.fill.maker, c.requires.desks, length-set desks c.index.result c.taken.new.self) in
     record {
-      ok = on_ok c.add_notice-2.result (λ told.
-          got-then c.args.session.now (λ bank. taken_notices bank f) (λ bank. given_notices bank f)
-          c.args.desks.now.items c.add_notice.new.desks.items c.add_notice-2.new.desks.items
-          (c.in_ok-add_notice.ensures.ok (Took f) (fill-told c.args.session.now f.taker_number f.taker_side f.maker f c.make.ensures.texts))
-          (told (Gave f) (rw c.opposite.ensures (fill-told c.args.session.now f.maker_number _ f.taker f c.make.ensures.texts))))
-          c.add_notice-2.ensures.ok;
+      ok = on_ok c.given.result (λ given.
+          got-then h (λ bank. taken_notices bank f) (λ bank. given_notices bank f) desks between (set between c.index-2.result c.given.new.self)
+          (got-at h f.taker c.index.result (Took f) desks c.index.ensures.value taker_in c.index_mut.ensures.value c.in_ok-taken.ensures.ok)
+          (got-at h f.maker c.index-2.result (Gave f) between c.index-2.ensures.value maker_in c.index_mut-2.ensures.value given))
+          c.given.ensures.ok;
     }

@@ -1,7 +1,7 @@
 -- Each turn adds one fill's notices.
 use Rattle.std.proofs.Common.{◌∙◌}
 use Rattle.reply_lines.specs.Notices.{fill_notices}
-use Rattle.reply_lines.specs.inside.Prints.{IsFillOf}
+use Rattle.reply_lines.specs.Prints.{IsFillOf}
 use Rattle.reply_lines.proofs.Gathering.{got-more}
 use Rattle.reply_lines.proofs.Items.{at-place}
 use Rattle.reply_lines.proofs.desk.add_fills.Goals as goal

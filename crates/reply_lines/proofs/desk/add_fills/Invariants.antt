@@ -4,7 +4,7 @@ use Rattle.fx_rules.specs.Lists.{Each}
 use Rattle.fx_rules.specs.Session.{bank_count}
 use Rattle.reply_lines.specs.inside.Desks.{HaveGot}
 use Rattle.reply_lines.specs.Notices.{fill_notices}
-use Rattle.reply_lines.specs.inside.Prints.{IsFillOf}
+use Rattle.reply_lines.specs.Prints.{IsFillOf}
 use Rattle.reply_lines.proofs.desk.add_fills.Given as goal
 
 -- the desks got the notices of the fills so far

@@ -1,6 +1,6 @@
 -- The notices follow the desk's line.
 use Rattle.fx_edges.proofs.Writing.{IsPrefixOf-append}
-use Rattle.fx_pieces.proofs.Gathering.{Gathered-then, Gathered-of_longer}
+use Rattle.fx_edges.proofs.Gathering.{Gathered-then, Gathered-of_longer}
 use Rattle.reply_lines.specs.Notices.{desk_line}
 use Rattle.reply_lines.proofs.desk.write_desk.Goals as goal
 

@@ -1,7 +1,7 @@
 -- Each turn writes one bank's desk behind those so far.
 use Rattle.std.proofs.Common.{◌≡◌, arith, ap, sym, subst, length, add-one, Err}
-use Rattle.fx_pieces.specs.Gathered.{Kept, Gathered}
-use Rattle.fx_pieces.proofs.Gathering.{Gathered-cut, Gathered-from_Kept, Kept-append}
+use Rattle.fx_edges.specs.Gathered.{Kept, Gathered}
+use Rattle.fx_edges.proofs.Gathering.{Gathered-cut, Gathered-from_Kept, Kept-append}
 use Rattle.reply_lines.specs.Notices.{desk_text}
 use Rattle.reply_lines.specs.Output.{desks_below, desks_text}
 use Rattle.reply_lines.proofs.Parts.{desks-prefix, same_place}

@@ -1,5 +1,5 @@
 use Rattle.std.proofs.Common.{List}
-use Rattle.fx_pieces.specs.Gathered.{Kept}
+use Rattle.fx_edges.specs.Gathered.{Kept}
 use Rattle.fx_rules.specs.declared.outcome.Entry.{Entry}
 use Rattle.reply_lines.specs.Desks.{AreDesksOf}
 use Rattle.reply_lines.specs.Output.{desks_below}

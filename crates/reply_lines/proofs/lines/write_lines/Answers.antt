@@ -1,7 +1,7 @@
 -- Each turn writes one line behind those so far.
 use Rattle.std.proofs.Common.{◌∙◌, sym, subst}
-use Rattle.fx_pieces.specs.Gathered.{Kept}
-use Rattle.fx_pieces.proofs.Gathering.{Gathered-cut, Kept-append}
+use Rattle.fx_edges.specs.Gathered.{Kept}
+use Rattle.fx_edges.proofs.Gathering.{Gathered-cut, Kept-append}
 use Rattle.reply_lines.proofs.Items.{flat_more, at-place}
 use Rattle.reply_lines.proofs.Outputs.{on_ok}
 use Rattle.reply_lines.proofs.Parts.{rows-prefix}

@@ -1,6 +1,6 @@
 use Rattle.std.proofs.Common.{take, drop}
 use Rattle.std.specs.List.{flat_map}
-use Rattle.fx_pieces.specs.Gathered.{Kept}
+use Rattle.fx_edges.specs.Gathered.{Kept}
 use Rattle.fx_rules.specs.Lists.{Each}
 use Rattle.reply_lines.proofs.lines.write_lines.Given as goal
 

@@ -1,7 +1,7 @@
 -- One part of the day follows the other; the report is that of the state at the end.
 use Rattle.std.proofs.Common.{List, ℕ, ◌++◌, subst, sym}
-use Rattle.fx_pieces.specs.Gathered.{Gathered}
-use Rattle.fx_pieces.proofs.Gathering.{Gathered-then}
+use Rattle.fx_edges.specs.Gathered.{Gathered}
+use Rattle.fx_edges.proofs.Gathering.{Gathered-then}
 use Rattle.fx_rules.specs.History.{state}
 use Rattle.reply_lines.specs.Books.{books_text}
 use Rattle.reply_lines.specs.Desks.{AreDesksOf}

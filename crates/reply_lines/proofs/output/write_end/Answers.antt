@@ -1,5 +1,5 @@
 -- The last piece is what is held when the last lines are written.
-use Rattle.fx_pieces.proofs.Gathering.{Wrote-rest, Wrote-from_Gathered}
+use Rattle.fx_edges.proofs.Gathering.{Wrote-rest, Wrote-from_Gathered}
 use Rattle.reply_lines.proofs.output.write_end.Goals as goal
 
 pub returns-in-Ok : goal.returns-in-Ok

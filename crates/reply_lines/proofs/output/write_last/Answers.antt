@@ -1,7 +1,7 @@
 -- The ending follows the strays.
 use Rattle.std.proofs.Common.{List, ℕ, subst}
-use Rattle.fx_pieces.specs.Gathered.{Gathered}
-use Rattle.fx_pieces.proofs.Gathering.{Gathered-then}
+use Rattle.fx_edges.specs.Gathered.{Gathered}
+use Rattle.fx_edges.proofs.Gathering.{Gathered-then}
 use Rattle.reply_lines.specs.Output.{last_text}
 use Rattle.reply_lines.proofs.output.write_last.Goals as goal
 

@@ -1,7 +1,7 @@
 -- One part of the report follows the other.
 use Rattle.std.proofs.Common.{◌++◌, Ok}
 use Rattle.std.specs.List.{flat_map}
-use Rattle.fx_pieces.proofs.Gathering.{Gathered-then}
+use Rattle.fx_edges.proofs.Gathering.{Gathered-then}
 use Rattle.reply_lines.specs.Report.{report_of, volume_line, use_line, net_line}
 use Rattle.reply_lines.proofs.Outputs.{cut_short, of_items}
 use Rattle.reply_lines.proofs.report.write_report.Goals as goal

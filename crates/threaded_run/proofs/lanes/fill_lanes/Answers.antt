@@ -1,8 +1,11 @@
 use Rattle.std.proofs.Common.{rules, ◌≡◌, ◌∷◌, ◌∙◌, ap, subst, arith, length, get_or}
 use Rattle.threaded_run.specs.inside.Lanes.{next_lane}
 use Rattle.threaded_run.proofs.Making.{AreLeft, one_filled, first_left, all_filled}
-use Rattle.threaded_run.proofs.Closing.{next-numbers}
+use Rattle.threaded_run.proofs.Closing.{next-numbers, senders-below}
 use Rattle.threaded_run.proofs.lanes.fill_lanes.Goals as goal
+
+pub streams_of-requires : goal.streams_of-requires
+streams_of-requires g c = record { senders = senders-below g.N.Naming.session _ c.args.lanes.now c.args.sent.now (search rules) c.requires.can_serve }
 
 pub next_round-requires : goal.next_round-requires
 next_round-requires g c = record {

@@ -3,7 +3,7 @@ use Rattle.std.proofs.Common.{ℕ, ◌≡◌, ◌+◌, ◌-◌, ◌*◌, ◌<◌
 use Rattle.std.proofs.Math.ListN.{set}
 use Rattle.std.proofs.lemmas.List.{get_or_default}
 use Rattle.fx_rules.specs.Lists.{total}
-use Rattle.fx_rules.specs.Session.{sender_count}
+use Rattle.fx_rules.specs.Session.{sender_places}
 use Rattle.fx_rules.proofs.ListLemmas.{total-set}
 use Rattle.credit_table.specs.Table.{Table}
 use Rattle.credit_table.specs.inside.Table.{IsTable}
@@ -26,11 +26,11 @@ pub invariant_of-self : goal.invariant_of-self
 invariant_of-self c =
     let counts : List ℕ = c.self.inside.counts.items in
     let sender : c.args.bank < length counts =
-    subst (λ n. c.args.bank < n) (sym c.self.invariant.table.senders) (subst (λ (t : Table). c.args.bank < sender_count t.session) (sym c.self.view_is) c.requires.sender) in
+    subst (λ n. c.args.bank < n) (sym c.self.invariant.table.senders) (subst (λ (t : Table). c.args.bank < sender_places t.session) (sym c.self.view_is) c.requires.sender) in
     let few : get_or counts c.args.bank 0 < 2 ^ 32 - 1 = subst (λ (t : Table). get_or t.counts c.args.bank 0 < 2 ^ 32 - 1) (sym c.self.view_is) c.requires.few in
     let same = same_set counts c.args.bank c.index.result c.index_mut.result.now c.index.ensures.value c.index_mut.ensures.value sender in
     let t : Table = record { session = c.self.inside.session; lines = c.self.inside.lines; counts = counts } in
     record {
       table = subst (λ (cs : List ℕ). IsTable (record t { counts = cs })) same (counted-table t c.args.bank c.self.invariant.table few);
-      arrivals = ap (λ n. n + 1) c.self.invariant.arrivals ∙ sym (total-set counts c.args.bank sender) ∙ ap (total (λ n. n)) same;
+      arrivals = omega (arith, c.self.invariant.arrivals, total-set (λ n. n) counts c.args.bank (get_or counts c.args.bank 0 + 1) 0 sender, ap (total (λ n. n)) same);
     }

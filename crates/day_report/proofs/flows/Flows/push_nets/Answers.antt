@@ -15,4 +15,9 @@ loop-column-preserved c =
     let gave : sum_at c.args.self.now.paid c.args.bank c.loop-column.column < 2 ^ 127 = c.requires.fit.gave.most c.args.bank c.loop-column.column c.requires.within within in
     map-step _ c.loop-column.column _ _ _ _ c.loop-column.invariant c.in_ok-push.ensures.items
     (net-made c.args.self.now c.args.bank c.loop-column.column _ _ _ refl (get_or_read codes c.loop-column.column c.code-item.result within read _)
-    (omega (arith, ints, c.at-received.ensures, c.at-paid.ensures)))
+    (omega (
+      arith,
+      ints,
+      c.at-received.ensures ∙ ap (λ b. sum_at c.args.self.now.received b c.loop-column.column) c.index.ensures.value,
+      c.at-paid.ensures ∙ ap (λ b. sum_at c.args.self.now.paid b c.loop-column.column) c.index-in-loop-column.ensures.value,
+    )))

@@ -10,7 +10,7 @@ returns c =
     let steps : StepsEach c.args.self.now c.carry_out.new.self c.args.bank c.args.command.now c.in_ok-outcome.outcome =
     steps-each c.args.self.now c.carry_out.new.self c.args.bank c.args.command.now c.in_ok-outcome.outcome c.in_ok-outcome.ensures.answers c.in_ok-carry_out.ensures.follows in
     let on : GoesOn (stands c.args.self.now) (stands c.carry_out.new.self) c.args.bank c.args.command.now c.in_ok-outcome.outcome =
-    goes-on c.args.self.now c.carry_out.new.self c.args.bank c.args.command.now c.in_ok-outcome.outcome c.requires.sender c.requires.count c.requires.command steps in
+    goes-on c.args.self.now c.carry_out.new.self c.args.bank c.args.command.now c.in_ok-outcome.outcome c.requires.count c.requires.command steps in
     record {
       steps = steps;
       goes_on = on;

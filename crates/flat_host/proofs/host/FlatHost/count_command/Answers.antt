@@ -33,5 +33,5 @@ invariant_of-self c =
     let l : FlatState = flat_state_of c.self.inside in
     record {
       state = subst (λ (cs : List ℕ). IsFlatState (record l { counts = cs })) same (counted-state l c.args.bank c.self.invariant.state below);
-      arrivals = ap (λ n. n + 1) c.self.invariant.arrivals ∙ sym (total-set counts c.args.bank sender) ∙ ap (total (λ n. n)) same;
+      arrivals = omega (arith, c.self.invariant.arrivals, total-set (λ n. n) counts c.args.bank (get_or counts c.args.bank 0 + 1) 0 sender, ap (total (λ n. n)) same);
     }

@@ -9,9 +9,9 @@ use Rattle.fx_rules.specs.Lists.{total}
 use Rattle.fx_rules.specs.State.{orders_in}
 use Rattle.fx_rules.specs.Sweep.{Taker, less}
 use Rattle.fx_rules.specs.Plan.{Planned}
+use Rattle.fx_rules.proofs.ListLemmas.{total-set}
 use Rattle.flat_host.specs.declared.sweep.Walk.{Walk}
 use Rattle.flat_host.specs.Walks.{FromHere, StepsOn}
-use Rattle.flat_host.proofs.Counting.{total-changed}
 use Rattle.flat_host.proofs.PlanSteps.{best_reach, plan-step, plan-end}
 use Rattle.flat_host.proofs.sweep.Walk.next_fill.Goals as goal
 
@@ -31,7 +31,7 @@ amount_fits a b line weight some = omega (arith, mul-le-mul_left weight (least_l
 paid_step : (lines lines' : List ℕ) (bank lots weight : ℕ) → lines' ≡ set lines bank (get_or lines bank 0 - lots * weight) → bank < length lines → lots * weight ≤ get_or lines bank 0 → 1 ≤ weight → lots + total (λ (n : ℕ). n) lines' ≤ total (λ (n : ℕ). n) lines
 paid_step lines lines' bank lots weight is within fits some =
     let fell : total (λ (n : ℕ). n) lines' ≡ total (λ (n : ℕ). n) (set lines bank (get_or lines bank 0 - lots * weight)) = ap (total (λ (n : ℕ). n)) is in
-    omega (arith, total-changed lines bank (get_or lines bank 0 - lots * weight) within, mul-le-mul_left lots some)
+    omega (arith, total-set (λ n. n) lines bank (get_or lines bank 0 - lots * weight) 0 within, mul-le-mul_left lots some)
 
 at_end : (weight : ℕ) (orders : List ActiveOrder) (walk : Walk) (step : Option Fill) → step ≡ None → FromHere weight orders walk [] walk.taker.left → StepsOn weight orders walk walk step
 at_end weight orders walk step is from = subst (StepsOn weight orders walk walk) (sym is) (refl, from)

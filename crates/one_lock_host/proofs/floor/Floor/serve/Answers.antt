@@ -19,7 +19,7 @@ follow-requires g c = record {
   next = (
     _,
     c.self.inside.writer.entries,
-    goes_on _ _ _ _ _ _ _ _ _ c.self.invariant c.bank-bank.ensures.value c.bank-bank.ensures.sender c.requires.command c.count-count.ensures.value c.count-count.type_inv c.if-count.false c.in_ok-outcome.ensures.answers c.in_ok-copy.ensures.equal,
+    goes_on _ _ _ _ _ _ _ _ _ c.self.invariant c.bank-bank.ensures.value c.bank-bank.ensures.sender c.requires.values c.count-count.ensures.value c.count-count.type_inv c.if-count.false c.in_ok-outcome.ensures.answers c.in_ok-copy.ensures.equal,
     c.self.invariant.stands,
   );
 }
@@ -33,11 +33,11 @@ pub sign-requires-clause-legal : goal.sign-requires-clause-legal
 sign-requires-clause-legal g c =
     let grown = committed _ c.self.inside.writer _ _ _ _ c.reserve.ensures.value c.catch_up-2.ensures.same c.commit.ensures.value in
     subst (IsLegal _) (sym grown.entries)
-    (goes_on _ _ _ _ _ _ _ _ _ c.self.invariant c.bank-bank.ensures.value c.bank-bank.ensures.sender c.requires.command c.count-count.ensures.value c.count-count.type_inv c.if-count.false c.in_ok-outcome.ensures.answers c.in_ok-copy.ensures.equal)
+    (goes_on _ _ _ _ _ _ _ _ _ c.self.invariant c.bank-bank.ensures.value c.bank-bank.ensures.sender c.requires.values c.count-count.ensures.value c.count-count.type_inv c.if-count.false c.in_ok-outcome.ensures.answers c.in_ok-copy.ensures.equal)
 
 pub invariant_of-self-2 : goal.invariant_of-self-2
 invariant_of-self-2 g c =
-    let legal = goes_on _ _ _ _ _ _ _ _ _ c.self.invariant c.bank-bank.ensures.value c.bank-bank.ensures.sender c.requires.command c.count-count.ensures.value c.count-count.type_inv c.if-count.false c.in_ok-outcome.ensures.answers c.in_ok-copy.ensures.equal in
+    let legal = goes_on _ _ _ _ _ _ _ _ _ c.self.invariant c.bank-bank.ensures.value c.bank-bank.ensures.sender c.requires.values c.count-count.ensures.value c.count-count.type_inv c.if-count.false c.in_ok-outcome.ensures.answers c.in_ok-copy.ensures.equal in
     floor_after _ _ _ _ _ _ _ _ c.self.invariant (committed _ c.self.inside.writer _ _ _ _ c.reserve.ensures.value c.catch_up-2.ensures.same c.commit.ensures.value)
     (ap (λ (w : Witness Entry). w.key) c.catch_up-2.ensures.pass ∙ sym c.bank-bank.ensures.value)
     c.sign.ensures.writer legal (c.in_ok-follow.ensures.follows _ _ legal c.self.invariant.stands)
@@ -54,4 +54,4 @@ pub returns-clause-legal : goal.returns-clause-legal
 returns-clause-legal g c =
     let grown = committed _ c.self.inside.writer _ _ _ _ c.reserve.ensures.value c.catch_up-2.ensures.same c.commit.ensures.value in
     subst (IsLegal _) (sym (ap (λ (w : Chronicle Entry). w.entries) c.sign.ensures.writer ∙ grown.entries))
-    (goes_on _ _ _ _ _ _ _ _ _ c.self.invariant c.bank-bank.ensures.value c.bank-bank.ensures.sender c.requires.command c.count-count.ensures.value c.count-count.type_inv c.if-count.false c.in_ok-outcome.ensures.answers c.in_ok-copy.ensures.equal)
+    (goes_on _ _ _ _ _ _ _ _ _ c.self.invariant c.bank-bank.ensures.value c.bank-bank.ensures.sender c.requires.values c.count-count.ensures.value c.count-count.type_inv c.if-count.false c.in_ok-outcome.ensures.answers c.in_ok-copy.ensures.equal)

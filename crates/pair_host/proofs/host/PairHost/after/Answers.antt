@@ -1,5 +1,5 @@
 use Rattle.fx_rules.specs.History.{state}
-use Rattle.pair_host.proofs.Holding.{hosted-of, stands-of}
+use Rattle.pair_host.proofs.Holding.{stands-of}
 use Rattle.pair_host.proofs.host.PairHost.after.Goals as goal
 
 pub returns : goal.returns

@@ -6,7 +6,7 @@ use Rattle.fx_rules.specs.Step.{may_change}
 use Rattle.fx_rules.specs.History.{state}
 use Rattle.fx_rules.specs.Market.{GoesOn, InSome, MaySend}
 use Rattle.credit_table.specs.Table.{is_of_no_pair}
-use Rattle.pair_steps.specs.declared.sender.Sender.{Sender}
+use Rattle.fx_rules.specs.declared.sender.Sender.{Sender}
 use Rattle.pair_host.specs.Standing.{HostState, stands}
 use Rattle.pair_host.specs.inside.Books.{host_of}
 use Rattle.pair_host.proofs.Sending.{may-send}

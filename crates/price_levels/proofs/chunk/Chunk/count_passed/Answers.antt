@@ -1,4 +1,4 @@
-use Rattle.std.proofs.Common.{List, Bool, false, ◌≡◌, ◌-◌, ◌≤◌, length, get_or, ap, sym, subst, ◌∙◌, arith}
+use Rattle.std.proofs.Common.{List, Bool, ◌≡◌, ◌-◌, ◌≤◌, length, get_or, ap, sym, subst, ◌∙◌, arith}
 use Rattle.std.proofs.lemmas.List.{get_or_read_under}
 use Rattle.price_levels.specs.declared.place.Place.{Place}
 use Rattle.price_levels.specs.inside.Held.{Held, in_front}

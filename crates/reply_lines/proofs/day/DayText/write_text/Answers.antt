@@ -1,10 +1,10 @@
 -- The journal is that of the history, and so is what is found of it.
 use Rattle.std.proofs.Common.{◌++◌, ◌∙◌}
-use Rattle.fx_pieces.proofs.Gathering.{Gathered-then, Gathered-wanting}
+use Rattle.fx_edges.proofs.Gathering.{Gathered-then}
 use Rattle.reply_lines.specs.Output.{day_text, journal_text}
 use Rattle.reply_lines.specs.inside.Day.{closing_text}
 use Rattle.reply_lines.proofs.Journals.{journal-told}
-use Rattle.reply_lines.proofs.Outputs.{cut_short, of_text}
+use Rattle.reply_lines.proofs.Outputs.{cut_short, not_begun, of_text}
 use Rattle.reply_lines.proofs.day.DayText.write_text.Goals as goal
 
 pub into_findings-requires : goal.into_findings-requires
@@ -17,12 +17,14 @@ write_closing-requires g c =
     let told = c.requires.told in
     record {
       market = record { entries = told.0; legal = told.1.legal; at_the_end = told.1.at_the_end };
-      found = (told.0, c.in-Ok.ensures.found told.0 told.1.text.notices);
+      found = (told.0, c.in_ok-found.ensures.found told.0 told.1.text.notices);
     }
 
-pub returns-in_default : goal.returns-in_default
-returns-in_default g c = record {
-  wrote = λ entries books is are. Gathered-wanting g.K.Sink.written g.K.Sink.faults c.args.pieces.now c.args.out.now c.args.pieces.now (day_text c.args.session.now entries books);
+pub returns-in_err-found : goal.returns-in_err-found
+returns-in_err-found g c = record {
+  wrote = λ entries books is are.
+      not_begun g.K.Sink.written g.K.Sink.faults c.args.pieces.now c.args.out.now c.args.pieces.now (day_text c.args.session.now entries books)
+      c.from_residual.result c.from_residual.ensures.1;
 }
 
 pub returns-in_err-write_head : goal.returns-in_err-write_head
@@ -30,7 +32,7 @@ unfolding day_text
 returns-in_err-write_head g c =
     let h = c.args.session.now in
     record {
-      wrote = λ entries books is are. cut_short c.from_residual.result (journal_text h entries ++ closing_text h entries books) c.from_residual.ensures.1 c.in_err-write_head.ensures.wrote;
+      wrote = λ entries books is are. cut_short c.from_residual-in_err-write_head.result (journal_text h entries ++ closing_text h entries books) c.from_residual-in_err-write_head.ensures.1 c.in_err-write_head.ensures.wrote;
     }
 
 pub returns-in_err-write_journal_text : goal.returns-in_err-write_journal_text
@@ -53,6 +55,6 @@ returns g c =
           Gathered-then c.write_closing.result c.in_ok-write_head.ensures.wrote
           (Gathered-then c.write_closing.result
           (of_text (journal-told h entries is.text.count (c.deref.ensures.value ∙ is.text.journal)) c.in_ok-write_journal_text.ensures.wrote)
-          (c.write_closing.ensures.wrote entries books (c.in-Ok.ensures.found entries is.text.notices)
+          (c.write_closing.ensures.wrote entries books (c.in_ok-found.ensures.found entries is.text.notices)
           (record { entries = entries; legal = is.legal; at_the_end = is.at_the_end; are_books = are })));
     }

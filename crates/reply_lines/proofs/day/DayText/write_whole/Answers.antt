@@ -1,6 +1,6 @@
 -- The last lines follow the day.
 use Rattle.fx_edges.proofs.Writing.{Wrote-of_longer, IsPrefixOf-append}
-use Rattle.fx_pieces.proofs.Gathering.{Wrote-then_rest, Wrote-from_none}
+use Rattle.fx_edges.proofs.Gathering.{Wrote-then_rest, Wrote-from_none}
 use Rattle.reply_lines.specs.Output.{day_text, last_text}
 use Rattle.reply_lines.proofs.day.DayText.write_whole.Goals as goal
 

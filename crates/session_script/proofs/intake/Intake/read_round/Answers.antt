@@ -2,6 +2,7 @@ use Rattle.std.proofs.Common.{rules, ◌≡◌, ◌+◌, ◌-◌, ◌<◌, ◌�
 use Rattle.std.proofs.lemmas.List.{take-append-le}
 use Rattle.std.specs.Prelude.{IsErrAnd}
 use Rattle.std.specs.Io.KnownBytes.{IsAtEnd}
+use Rattle.fx_amounts.specs.OutOfMemory.{refused}
 use Rattle.fx_edges.specs.Reading.{Took}
 use Rattle.fx_rules.specs.declared.command.Sent.{Sent}
 use Rattle.fx_text.specs.Lines.{lines_of}
@@ -30,7 +31,7 @@ IsPiece-read into before count room taken end whole within same asked below = re
 fed : (into behind : List ℕ) (count : ℕ) → count ≤ length into → take count (into ++ behind) ≡ take count into
 fed into behind count within = take-append-le count into behind within
 
-memory_result : (result : Result (Option TextEnd) Stop) → IsErrAnd result (λ stop. stop ≡ Memory) → result ≡ Err Memory
+memory_result : (result : Result (Option TextEnd) Stop) → IsErrAnd result (λ stop. stop ≡ Memory refused) → result ≡ Err (Memory refused)
 memory_result (Ok end) is = absurd is
 memory_result (Err stop) is = ap Err is
 

@@ -9,6 +9,6 @@ returns-in-Ok-clause-read g c = λ before h all has.
     HasRead-round c.read_round.new.self c.in-Ok.end _ h (all ++ sent_at c.read_round.new.self.stage) round (c.in-Ok.ensures.session h has.session) refl refl
     (ap (λ sent. sent ++ sent_at c.read_round.new.self.stage) has.all_is)
 
-pub returns-in-Err-clause-memory : goal.returns-in-Err-clause-memory
-returns-in-Err-clause-memory g c = λ before h all has.
+pub returns-in-Err-Memory-clause-memory : goal.returns-in-Err-Memory-clause-memory
+returns-in-Err-Memory-clause-memory g c = λ before h all has.
     TookPromptly-round (c.read_round.ensures.took before has.former has.input (ReadsOn-reading has c.requires.goes_on))

@@ -13,7 +13,7 @@ returns-in_ok-push-in-Of-clause-adds c = subst (λ said. Adds c.args.self.now (r
       sent = c.in_ok-push-in-Of.ensures.items;
       strays = refl;
       ended = refl;
-      valid = (record { sender = c.in-Of.ensures.bank; command = c.in-Of.ensures.range }, tt);
+      valid = (record { command = c.in-Of.ensures.range }, tt);
     })
 
 pub returns-in-Passed-clause-adds : goal.returns-in-Passed-clause-adds

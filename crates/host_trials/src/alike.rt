@@ -1,0 +1,62 @@
+//! A day at each host: the plain host, the host over the pair books, and both desks.
+ghost use Rattle.std.specs.Prelude.{◌≤◌, length};
+ghost use Rattle.fx_rules.specs.Lists.{Each};
+ghost use Rattle.fx_rules.specs.Sending.{IsSentOf};
+
+use crate::desks::{Day, Refused, at_one_lock, at_pair_locks};
+use crate::markets::{is_alike, play};
+use fx_rules::{Entry, Sent, Session};
+use std::alloc::{AllocGlobal, Global};
+use std::sync::Wait;
+use std::test::Fail;
+use trial_days::are_alike;
+
+/// The history of a day, and how many orders rest at its end. An error where a host tells of it or stands otherwise than another.
+pub(crate) fn told_by_all<R: AllocGlobal + Wait>(
+    rt: &R,
+    session: &Session,
+    sent: &[Sent],
+) -> Result<(Vec<Entry>, u64), Fail>
+    requires valid { Each (IsSentOf session.now) sent.now }
+    requires few { length sent.now ≤ 100000 }
+{
+    let (entries, resting) = told_by_markets(rt.alloc(), session, sent)?;
+    let one_lock = at_one_lock(rt, session, sent);
+    if !is_day_of(&one_lock, &entries, resting) {
+        return Err("the host behind one lock tells otherwise".into());
+    }
+    let pair_locks = at_pair_locks(rt, session, sent);
+    if !is_day_of(&pair_locks, &entries, resting) {
+        return Err("the host with a lock for each pair tells otherwise".into());
+    }
+    Ok((entries, resting))
+}
+
+/// The same of the two hosts on one thread.
+fn told_by_markets(
+    alloc: Global,
+    session: &Session,
+    sent: &[Sent],
+) -> Result<(Vec<Entry>, u64), Fail>
+    requires valid { Each (IsSentOf session.now) sent.now }
+    requires few { length sent.now ≤ 100000 }
+{
+    let day = play(alloc, session, sent)?;
+    if !is_alike(alloc, session, &day)? {
+        return Err("the host over the pair books tells otherwise".into());
+    }
+    let (plain, entries) = day.plain.into_parts();
+    Ok((entries, plain.resting()))
+}
+
+/// Whether a desk told these entries, in its history and command by command, and gave books in which so many orders rest.
+fn is_day_of(day: &Result<Day, Refused>, entries: &[Entry], resting: u64) -> bool {
+    match day {
+        Ok(day) => {
+            day.is_in_history()
+                && are_alike(&day.history, entries)
+                && day.resting.unwrap_or(resting) == resting
+        }
+        Err(_) => false,
+    }
+}

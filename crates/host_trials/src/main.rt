@@ -1,0 +1,131 @@
+//! Trials of the hosts: the plain host, the host over the pair books, and the desks.
+//!
+//! The program plays a day with every kind of command at both desks, and prints what the banks are told at each. A call of a desk
+//! that is refused for want of memory is made again, so that a run of which one allocation is refused prints the same. Status 2:
+//! standard output failed; 6: the program itself was out of memory.
+//!
+//! Its tests play worked sessions and generated days at each host, and run days on threads.
+#![tactic(auto)]
+
+ghost use Rattle.std.specs.Prelude.{◌≤◌, length};
+ghost use Rattle.fx_rules.specs.Lists.{Each};
+ghost use Rattle.fx_rules.specs.Sending.{IsSentOf};
+
+#[cfg(test)]
+mod alike;
+mod desks;
+#[cfg(test)]
+mod generated;
+#[cfg(test)]
+mod markets;
+#[cfg(test)]
+mod threads;
+#[cfg(test)]
+mod worked;
+
+use desks::{Day, Refused, at_one_lock, at_pair_locks};
+use fx_amounts::Memory;
+use fx_edges::{StdSink, write_all};
+use fx_rules::{Sent, Session};
+use std::alloc::AllocGlobal;
+use std::process::ExitCode;
+use std::sync::Wait;
+use trial_days::{day_of, tell};
+
+/// A day with each kind of command and each outcome.
+const DAY: &[u8] = b"FXBOOK 1
+BANK ALFA
+BANK BETA
+BANK GAMA
+PAIR EUR/USD 5 1000000 100
+PAIR GBP/USD 5 1000000 70
+LINE ALFA BETA 1000
+LINE BETA ALFA 1000
+START
+BETA SELL EUR/USD 1.08420 2 DAY
+ALFA BUY EUR/USD 1.08425 3 DAY
+BETA BOOK EUR/USD
+ALFA REDUCE EUR/USD 1 1
+GAMA BUY EUR/USD 1.08430 1 FOK
+GAMA CANCEL EUR/USD 7
+BETA SELL GBP/USD 1.27000 20 DAY
+ALFA BUY GBP/USD 1.27010 20 DAY
+ALFA LINE BETA 2000
+BETA LINE ALFA 3000
+ALFA SHOW BETA
+ALFA LINE BETA 400
+ALFA BUY EUR/USD 1.08400 5 DAY
+ALFA REDUCE EUR/USD 7 3
+ALFA CANCEL EUR/USD 1
+ALFA PULL EUR/USD
+GAMA BUY EUR/USD 1.08420 1 GTC
+GAMA BOOK GBP/USD
+END
+";
+
+/// What is printed of the day at both desks. A desk that was not opened is tried once more.
+fn written<R: AllocGlobal + Wait>(
+    rt: &R,
+    session: &Session,
+    sent: &[Sent],
+) -> Result<Vec<u8>, Memory>
+    requires valid { Each (IsSentOf session.now) sent.now }
+    requires few { length sent.now ≤ 100000 }
+{
+    let mut text = Vec::new(rt.alloc());
+    let mut day = at_one_lock(rt, session, sent);
+    if is_not_opened(&day) {
+        day = at_one_lock(rt, session, sent);
+    }
+    tell_day(session, b"ONE LOCK\n", &day, &mut text)?;
+    day = at_pair_locks(rt, session, sent);
+    if is_not_opened(&day) {
+        day = at_pair_locks(rt, session, sent);
+    }
+    tell_day(session, b"PAIR LOCKS\n", &day, &mut text)?;
+    Ok(text)
+}
+
+fn is_not_opened(day: &Result<Day, Refused>) -> bool {
+    match day {
+        Err(Refused::Opening) => true,
+        _ => false,
+    }
+}
+
+/// Adds a desk's name, what the banks were told there, and whether its history tells the same.
+fn tell_day(
+    session: &Session,
+    name: &[u8],
+    day: &Result<Day, Refused>,
+    text: &mut Vec<u8>,
+) -> Result<(), Memory> {
+    text.extend_from_slice(name)?;
+    let Ok(day) = day else {
+        text.extend_from_slice(b"NO DAY\n")?;
+        return Ok(());
+    };
+    for outcome in &day.told {
+        tell(session, outcome, text)?;
+        text.push(b'\n')?;
+    }
+    text.extend_from_slice(if day.is_in_history() {
+        b"ALIKE IN THE HISTORY\n".as_slice()
+    } else {
+        b"OTHERWISE IN THE HISTORY\n"
+    })?;
+    Ok(())
+}
+
+fn main(rt: HostRuntime) -> ExitCode {
+    let Ok((session, sent)) = day_of(rt.alloc(), DAY) else {
+        return ExitCode::from(6);
+    };
+    let Ok(text) = written(&rt, &session, &sent) else {
+        return ExitCode::from(6);
+    };
+    match write_all(&mut StdSink::new(rt.stdout()), &text) {
+        Ok(()) => ExitCode::SUCCESS,
+        Err(_) => ExitCode::from(2),
+    }
+}

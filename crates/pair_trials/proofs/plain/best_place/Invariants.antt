@@ -1,5 +1,0 @@
-use Rattle.std.proofs.Common.{◌<◌, length, IfSome}
-use Rattle.pair_trials.proofs.plain.best_place.Given as goal
-
-abbrev pub invariant-loop-at : goal.invariant-loop-at
-invariant-loop-at l = IfSome l.best (λ best. best.0 < length l.orders)
