@@ -2,8 +2,6 @@
 //! output from a history alone, with which they begin.
 #![tactic(auto)]
 
-mod written;
-
 #[cfg(test)]
 mod checks;
 #[cfg(test)]
@@ -11,8 +9,11 @@ mod fixture;
 #[cfg(test)]
 mod outputs;
 #[cfg(test)]
+mod payments;
+#[cfg(test)]
 mod reports;
 #[cfg(test)]
 mod told;
+mod written;
 
 pub use written::write_output;

@@ -1,0 +1,12 @@
+pub mod Amounts
+pub mod Walking
+pub mod Adding
+pub mod Reading
+pub mod Twos
+pub mod Flows
+pub mod InCurrency
+pub mod Least
+pub mod TwoByTwo
+pub mod Listing
+pub mod Netted
+pub mod Columns
