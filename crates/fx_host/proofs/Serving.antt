@@ -11,20 +11,9 @@ use Rattle.fx_rules.specs.History.{own}
 use Rattle.fx_chronicle.specs.Faces.{Witness}
 use Rattle.fx_desk.specs.Submitting.{Submitted}
 use Rattle.fx_rules.specs.Sending.{pair_of}
-use Rattle.pair_steps.proofs.Answered.{one_pair}
+use Rattle.fx_rules.proofs.Senders.{one_pair}
 use Rattle.credit_book.specs.Serving.{IsServed}
 use Rattle.credit_book.proofs.Submitting.{submitted}
-
--- a command in one pair is in one of the session's
-pub pair_within : (h : Header) (bank : ℕ) (command : Command) (pair : ℕ) → AreValues h bank command → pair_of command ≡ Some pair → pair < pair_count h
-pair_within h bank (Order side its price lots life) pair values is = omega (arith, values.0, one_pair its pair is)
-pair_within h bank (Cancel its number) pair values is = omega (arith, values.0, one_pair its pair is)
-pair_within h bank (Reduce its number lots) pair values is = omega (arith, values.0, one_pair its pair is)
-pair_within h bank (Pull its) pair values is = omega (arith, values, one_pair its pair is)
-pair_within h bank (Book its) pair values is = omega (arith, values, one_pair its pair is)
-pair_within h bank (Line other asked) pair values is = cc
-pair_within h bank (Show other) pair values is = cc
-pair_within h bank (Bad reason) pair values is = cc
 
 -- what its bank then knows
 pub serves-submitted : (h : Header) (before : List Entry) (pass : Witness Entry) (command : Command) (after : List Entry) (pass' : Witness Entry) (r : Result Outcome Memory) → IfOk r (IsServed h before pass command after pass')

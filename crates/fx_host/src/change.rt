@@ -14,7 +14,6 @@ ghost use Rattle.pair_shards.specs.inside.Shards.{PairsPend};
 ghost use Rattle.fx_host.specs.inside.Changing.{IsLast, IsPlanned};
 
 use crate::credit_lock::CreditAlone;
-use crate::locks::pair_at;
 use crate::pair_locks::PairsAlone;
 use credit_book::{CreditBook, Pass};
 use credit_raise::Raising;
@@ -142,7 +141,7 @@ fn plan_all<R: Wait, N: Naming>(
     ensures same { credit.new ≡ credit.old }
 {
     for place in 0..pairs.count() {
-        plan_pair(rt, alloc, pairs, credit, raising, pair_at(place))?;
+        plan_pair(rt, alloc, pairs, credit, raising, PairId::at(place))?;
     }
     Ok(())
 }
@@ -184,7 +183,7 @@ fn carry_all<R: Wait, N: Naming>(
     ensures signed { credit.new.history.pending ≡ [] }
 {
     for place in 0..pairs.count() {
-        carry_pair(rt, pairs, credit, raising, pair_at(place));
+        carry_pair(rt, pairs, credit, raising, PairId::at(place));
     }
 }
 

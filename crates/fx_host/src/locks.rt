@@ -1,5 +1,5 @@
 //! What all locks of a host have in common.
-ghost use Rattle.std.specs.Prelude.{◌≡◌, ◌<◌, ◌≤◌};
+ghost use Rattle.std.specs.Prelude.{◌≤◌};
 
 use fx_amounts::PairId;
 use fx_rules::Gate;
@@ -21,19 +21,11 @@ pub(crate) fn lock_soon<'a, T, R: Wait>(rt: &R, lock: &'a Mutex<T>) -> MutexGuar
     lock.lock(rt)
 }
 
-/// The pair at a place of the header.
-pub(crate) fn pair_at(place: usize) -> PairId
-    requires within { place < 32 }
-    ensures value { result ≡ place }
-{
-    PairId::new(place as u8).unwrap()
-}
-
 /// Calls the gate's `inside` once for each of so many pairs, in order.
 pub(crate) fn tell_all<R: Wait, G: Gate>(rt: &R, gate: &G, pairs: usize)
     requires pairs { pairs ≤ 32 }
 {
     for place in 0..pairs {
-        gate.inside(rt, pair_at(place));
+        gate.inside(rt, PairId::at(place));
     }
 }

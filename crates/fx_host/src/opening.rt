@@ -7,11 +7,10 @@ ghost use Rattle.fx_host.specs.inside.Opening.{ArePairFronts};
 
 use crate::credit_lock::CreditLock;
 use crate::host::{Host, ShardRoom};
-use crate::locks::pair_at;
 use crate::pair_locks::{PairLock, PairLocks};
 use crate::turn::Turn;
 use credit_book::CreditBook;
-use fx_amounts::{BankId, Memory};
+use fx_amounts::{BankId, Memory, PairId};
 use fx_chronicle::{Blank, Front, Naming, open};
 use fx_desk::Pass;
 use fx_rules::{Entry, Session};
@@ -71,7 +70,7 @@ fn locks_of<N: Naming>(
 {
     let mut locks = Vec::new(alloc);
     for front in fronts {
-        let pair = pair_at(locks.len());
+        let pair = PairId::at(locks.len());
         let shard = Shard::open(alloc, session, pair, front)?;
         locks.push(PairLock::new(shard))?;
     }
@@ -92,7 +91,7 @@ fn passes_of<N: Naming>(
     fronts.truncate(banks);
     let mut passes = Vec::new(alloc);
     for front in fronts {
-        let bank = BankId::new(front.key() as u8).unwrap();
+        let bank = BankId::at(front.key() as usize);
         passes.push(Pass::open(bank, front))?;
     }
     Ok(passes)

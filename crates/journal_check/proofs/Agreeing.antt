@@ -24,7 +24,8 @@ use Rattle.journal_check.specs.declared.header.Headed.{Headed}
 use Rattle.journal_check.proofs.LineLemmas.{parts_of-line}
 use Rattle.journal_check.proofs.HeadWalk.{header_in-head_text}
 use Rattle.journal_check.proofs.JournalWalk.{entries_at}
-use Rattle.journal_check.proofs.Histories.{steps_sent, histories_agree, day_begins}
+use Rattle.fx_rules.proofs.Continuing.{histories_agree}
+use Rattle.journal_check.proofs.Histories.{steps_sent, day_begins}
 use Rattle.reply_lines.proofs.Singly.{days_agree}
 use Rattle.journal_check.proofs.LastLines.{numeral_plain, same_number, last_agrees}
 use Rattle.journal_check.proofs.Walking.{IsPlain, unbroken, IsAt-plain, ended}

@@ -33,7 +33,8 @@ use Rattle.journal_check.proofs.JudgeLemmas.{listed_commands}
 use Rattle.journal_check.proofs.CompareLemmas.{beginning-shared, beginning-ends}
 use Rattle.journal_check.proofs.HeadWalk.{header_in-head_text}
 use Rattle.journal_check.proofs.JournalWalk.{counts_at, entries_at}
-use Rattle.journal_check.proofs.Histories.{steps_sent, histories_agree, day_begins}
+use Rattle.fx_rules.proofs.Continuing.{histories_agree}
+use Rattle.journal_check.proofs.Histories.{steps_sent, day_begins}
 use Rattle.reply_lines.proofs.Singly.{days_agree}
 use Rattle.journal_check.proofs.LastLines.{IsLast, last_taken, last_only}
 

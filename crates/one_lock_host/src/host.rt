@@ -62,7 +62,7 @@ fn passes_of<N: Naming>(
     fronts.truncate(banks);
     let mut passes = Vec::new(alloc);
     for front in fronts {
-        let bank = BankId::new(front.key() as u8).unwrap();
+        let bank = BankId::at(front.key() as usize);
         passes.push(Pass::open(bank, front))?;
     }
     Ok(passes)

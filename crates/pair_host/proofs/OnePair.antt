@@ -16,7 +16,7 @@ use Rattle.fx_rules.specs.Sending.{IsNextIn, pair_of, entry_of}
 use Rattle.pair_steps.specs.Answers.{AnswersEach}
 use Rattle.pair_steps.specs.Carries.{IsStepOf}
 use Rattle.pair_host.specs.inside.OnePair.{AreOf, MayServe, IsFollowed}
-use Rattle.pair_host.proofs.Sending.{pair_in}
+use Rattle.fx_rules.proofs.Senders.{pair-within}
 
 -- ---- who sends
 
@@ -33,7 +33,7 @@ can-send h S book table bank command of may about =
     record {
       sender = subst (λ (g : Header). bank < sender_places g) back (command-place h bank command of.valid may.allowed);
       few = omega (arith, count, may.number);
-      pair = subst (λ (g : Header). book.pair < pair_count g) back (pair_in h bank command book.pair may.allowed about);
+      pair = subst (λ (g : Header). book.pair < pair_count g) back (pair-within h bank command book.pair may.allowed.values about);
     }
 
 pub serves-sender : (book : Book) (table : Table) (bank : ℕ) (command : Command) → MayServe book table bank command → pair_of command ≡ Some book.pair → CanSend book table bank

@@ -9,22 +9,11 @@ use Rattle.fx_rules.specs.Step.{IsCommand, may_change}
 use Rattle.fx_rules.specs.History.{state}
 use Rattle.fx_rules.specs.Market.{InSome, MaySend}
 use Rattle.fx_rules.specs.Sending.{pair_of}
-use Rattle.pair_steps.proofs.Answered.{one_pair}
+use Rattle.fx_rules.proofs.Senders.{one_pair}
 use Rattle.pair_host.specs.Standing.{HostState, StandsFor, stands}
 
 none_some : (pair : ℕ) → None ≡ Some pair → ⊥
 none_some pair same = cc
-
--- a command about one pair is about one of the session's
-pub pair_in : (h : Header) (bank : ℕ) (command : Command) (pair : ℕ) → IsCommand h bank command → pair_of command ≡ Some pair → pair < pair_count h
-pair_in h bank (Order side its price lots life) pair valid is = omega (arith, valid.values.0, one_pair its pair is)
-pair_in h bank (Cancel its number) pair valid is = omega (arith, valid.values.0, one_pair its pair is)
-pair_in h bank (Reduce its number lots) pair valid is = omega (arith, valid.values.0, one_pair its pair is)
-pair_in h bank (Pull its) pair valid is = omega (arith, valid.values, one_pair its pair is)
-pair_in h bank (Line other asked) pair valid is = absurd (none_some pair is)
-pair_in h bank (Show other) pair valid is = absurd (none_some pair is)
-pair_in h bank (Book its) pair valid is = omega (arith, valid.values, one_pair its pair is)
-pair_in h bank (Bad reason) pair valid is = absurd (none_some pair is)
 
 -- what may be sent in one state that a host stands for may be sent in each
 pub may-send : (host : HostState) (bank : ℕ) (command : Command) → InSome (stands host) (MaySend bank command) → (h : Header) (S : State) → StandsFor h S host → MaySend bank command h S

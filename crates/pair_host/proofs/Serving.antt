@@ -31,7 +31,8 @@ use Rattle.pair_host.specs.Standing.{HostState, StandsFor, IsNextOf, FollowsOn, 
 use Rattle.pair_host.specs.inside.Books.{AreBooks, HaveOrders, EachBook, IsCarried, IsRecorded, PlansEach, host_of}
 use Rattle.pair_host.specs.inside.OnePair.{AreOf, MayServe, ServesEach, FollowsEach}
 use Rattle.pair_host.proofs.Holding.{BooksOf, books-of, stands-by, have-orders-set}
-use Rattle.pair_host.proofs.Sending.{changes_none, pair_in}
+use Rattle.fx_rules.proofs.Senders.{pair-within}
+use Rattle.pair_host.proofs.Sending.{changes_none}
 
 -- ---- from a step to the histories that it goes on
 
@@ -79,7 +80,7 @@ pub within-books : (books : List Book) (at : ℕ) (table : Table) (bank : ℕ) (
 within-books books at table bank command some about =
     let h : Header = some.0 in
     let of : BooksOf h (state h some.1) books table = books-of h (state h some.1) books table some.3 in
-    omega (arith, of.count, pair_in h bank command at some.4.allowed about)
+    omega (arith, of.count, pair-within h bank command at some.4.allowed.values about)
 
 pub may-serve : (banks : ℕ) (books : List Book) (at : ℕ) (book : Book) (table : Table) (bank : ℕ) (command : Command) → AreBooks banks books
     → InSome (stands (host_of books table)) (MaySend bank command) → pair_of command ≡ Some at → book ≡ get_or books at book → MayServe book table bank command
@@ -116,7 +117,7 @@ one-goes_on banks books at book new table table' bank command outcome are within
 pub next-within : (books : List Book) (at : ℕ) (table : Table) (e : Entry) → IsNextOf (host_of books table) e → pair_of e.command ≡ Some at → at < length books
 next-within books at table e next about =
     let of : BooksOf next.session next.before books table = books-of next.session next.before books table next.stood in
-    omega (arith, of.count, pair_in next.session e.bank e.command at next.step.command about)
+    omega (arith, of.count, pair-within next.session e.bank e.command at next.step.command.values about)
 
 pub one-follows_on : (banks : ℕ) (books : List Book) (at : ℕ) (book new : Book) (table table' : Table) (e : Entry) → AreBooks banks books
     → at < length books → book ≡ get_or books at book → pair_of e.command ≡ Some at → new.pair ≡ book.pair

@@ -17,7 +17,7 @@ use Rattle.fx_chronicle.specs.Faces.{Witness, witness}
 use Rattle.fx_chronicle.proofs.Pending.{pends-touched, pends-without, signed_by_two}
 use Rattle.fx_rules.specs.declared.sender.Sender.{Sender}
 use Rattle.fx_rules.specs.Sending.{IsNextIn, pair_of, entry_of}
-use Rattle.pair_steps.proofs.Answered.{one_pair}
+use Rattle.fx_rules.proofs.Senders.{one_pair}
 use Rattle.credit_book.specs.Recorded.{Recorded, IsCreditBook, key_count, recorded, signed_by}
 use Rattle.credit_book.specs.Serving.{IsServed}
 use Rattle.credit_book.proofs.Entering.{goes_on, served}

@@ -17,6 +17,7 @@ use Rattle.match_sweep.specs.Sweeps.{Fits}
 use Rattle.local_view.specs.LocalBook.{IsLocalBook}
 use Rattle.fx_rules.specs.declared.sender.Sender.{Sender}
 use Rattle.fx_rules.specs.Sending.{pair_of}
+use Rattle.fx_rules.proofs.Senders.{one_pair}
 use Rattle.pair_steps.specs.Answers.{AnswersEach}
 
 pub find-first : {X : Type 0} (test : X → Bool) (xs : List X) → first (filter test xs) ≡ find test xs
@@ -28,8 +29,6 @@ find-first test (x ∷ xs) =
     ]
 
 -- a command's pair is the book's
-pub one_pair : (pair its : ℕ) → Some pair ≡ Some its → pair ≡ its
-one_pair pair its same = cc
 
 -- the orders of a book that fits are those of the command's pair
 its_orders : (h : Header) (S : State) (book : Book) (credit : Credit) (weight pair : ℕ) → Fits h S book credit weight → pair ≡ book.pair → book.orders ≡ orders_in pair S.orders

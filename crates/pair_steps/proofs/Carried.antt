@@ -32,7 +32,8 @@ use Rattle.match_sweep.proofs.Lowering.{carried-market, found-among}
 use Rattle.fx_rules.specs.declared.sender.Sender.{Sender}
 use Rattle.fx_rules.specs.Sending.{pair_of, IsNextIn}
 use Rattle.pair_steps.specs.Carries.{HasRoomFor, IsStepOf, IsStepOfSome, FollowsOn, order_at_rest, with_rest, orders_after}
-use Rattle.pair_steps.proofs.Answered.{find-first, one_pair}
+use Rattle.fx_rules.proofs.Senders.{one_pair}
+use Rattle.pair_steps.proofs.Answered.{find-first}
 
 -- ---- the orders of one pair
 

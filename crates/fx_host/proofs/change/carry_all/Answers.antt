@@ -10,7 +10,7 @@ use Rattle.fx_host.proofs.change.carry_all.Goals as goal
 pub loop-place-preserved : goal.loop-place-preserved
 loop-place-preserved g c = record {
   entries = ap (λ (b : Recorded). b.history.entries) c.carry_pair.ensures.value ∙ c.loop-place.invariant.entries;
-  pend = signs-pair _ _ c.loop-place.credit _ c.loop-place.invariant.pend (c.carry_pair.ensures.value ∙ ap (λ pair. signed_by (pair_key pair) c.loop-place.credit) c.pair_at.ensures.value);
+  pend = signs-pair _ _ c.loop-place.credit _ c.loop-place.invariant.pend (c.carry_pair.ensures.value ∙ ap (λ pair. signed_by (pair_key pair) c.loop-place.credit) c.at.ensures.value);
 }
 
 pub returns-clause-signed : goal.returns-clause-signed

@@ -2,7 +2,7 @@ use Rattle.std.proofs.Common.{◌≡◌, List, length, ap, sym, ◌∙◌}
 use Rattle.fx_rules.specs.declared.outcome.Entry.{Entry}
 use Rattle.fx_rules.specs.Session.{Header}
 use Rattle.fx_rules.specs.History.{state}
-use Rattle.journal_check.proofs.Histories.{histories_agree}
+use Rattle.fx_rules.proofs.Continuing.{histories_agree}
 use Rattle.made_session.specs.Session.{made_header}
 use Rattle.made_session.specs.Totals.{fills_told, lots_told}
 use Rattle.load_summary.specs.Summary.{load_text}
