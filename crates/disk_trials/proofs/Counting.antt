@@ -1,7 +1,6 @@
 -- What is kept and printed of the rounds that numbers give.
 use Rattle.std.proofs.Common.{◌≡◌, ℕ, zero, suc, ◌+◌, ◌-◌, ◌^◌, ◌≤◌, ◌<◌, get_or, min, List, [], ◌∷◌, ◌++◌, length, take, Option, None, Some, Result, Ok, Err, OnOk, OnErr, refl, sym, ◌∙◌, ap, subst, arith, append-nil, take_all}
 use Rattle.std.specs.Prelude.{is_some}
-use Rattle.std.proofs.lemmas.List.{length-map}
 use Rattle.std.specs.Iterator.{Yields}
 use Rattle.fx_edges.specs.Writing.{Appended, AppendedPart}
 use Rattle.fx_edges.proofs.Writing.{Appended-nil, AppendedPart-whole}
@@ -10,7 +9,7 @@ use Rattle.keep_disk.specs.declared.rounds.Round.{Round}
 use Rattle.keep_disk.specs.Blocks.{whole_blocks}
 use Rattle.keep_disk.specs.Rounds.{bodies_of, text_of, HasFirst, KeptAll, KeptPart}
 use Rattle.fx_disk.proofs.Leaving.{leaves_weaker, leaves_then}
-use Rattle.keep_disk.proofs.Telling.{told_now, first_all, first_longer}
+use Rattle.keep_disk.proofs.Telling.{told_now, first_all, first_longer, kept_stopped}
 use Rattle.disk_trials.specs.declared.numbers.Numbers.{Numbers}
 use Rattle.disk_trials.specs.Numbered.{body, line, bodies, lines, GivesNumber, next_number, room, KeptNumbers, AllNumbers}
 
@@ -96,8 +95,8 @@ module _ {D K : Type 0} (bytes : D → Option (List ℕ)) (may_leave : D → Lis
         let front : take (length all.rounds) all.rounds ≡ all.rounds = take_all (length all.rounds) all.rounds (omega arith) in
         let printed = ap text_of (sym front) ∙ lines_came s all.rounds last (length all.rounds) all.came (omega arith) ∙ ap (λ (n : ℕ). lines n (length all.rounds)) next ∙ ap (λ (n : ℕ). lines (next_number file) n) many in
         record {
-          images = λ image may. all.kept read.0 read.1 image may ∙ ap (λ (bs : List (List ℕ)). bs ++ bodies_of all.rounds) read.2 ∙ ap (λ (bs : List (List ℕ)). whole_blocks file ++ bs) blocks;
-          told = subst (λ (l : List ℕ). Appended written faults out_before out_now l) printed all.told;
+          images = λ image may. all.so_far.kept read.0 read.1 image may ∙ ap (λ (bs : List (List ℕ)). bs ++ bodies_of all.rounds) read.2 ∙ ap (λ (bs : List (List ℕ)). whole_blocks file ++ bs) blocks;
+          told = subst (λ (l : List ℕ). Appended written faults out_before out_now l) printed all.so_far.told;
         }
 
     module _ (leaves : LeavesOnly moment left_since before opened (λ image. whole_blocks image ≡ whole_blocks file)) where
@@ -105,33 +104,28 @@ module _ {D K : Type 0} (bytes : D → Option (List ℕ)) (may_leave : D → Lis
       kept_numbers part = record {
         begun = length part.rounds;
         no_more = let came = numbers_came s part.rounds part.last part.came le in omega (arith, came.0, came.1, came.2, next, end);
-        printed = part.count;
+        printed = part.up_to.count;
         every_moment =
             leaves_then moment left_since before opened now (HasFirst (whole_blocks file) (bodies dots (next_number file) (length part.rounds)) 0)
             (leaves_weaker moment left_since before opened (λ (image : List ℕ). whole_blocks image ≡ whole_blocks file) (HasFirst (whole_blocks file) (bodies dots (next_number file) (length part.rounds)) 0) (first_none (length part.rounds)) leaves)
             (subst (λ (bs : List (List ℕ)). LeavesOnly moment left_since opened now (HasFirst bs (bodies dots (next_number file) (length part.rounds)) 0)) read.2
-            (subst (λ (bs : List (List ℕ)). LeavesOnly moment left_since opened now (HasFirst (whole_blocks read.0) bs 0)) (blocks_are part.rounds part.last part.came) (part.every_moment read.0 read.1)));
+            (subst (λ (bs : List (List ℕ)). LeavesOnly moment left_since opened now (HasFirst (whole_blocks read.0) bs 0)) (blocks_are part.rounds part.last part.came) (part.up_to.every_moment read.0 read.1)));
         images = λ image may.
-            subst (λ (bs : List (List ℕ)). HasFirst bs (bodies dots (next_number file) (length part.rounds)) part.count image) read.2
-            (subst (λ (bs : List (List ℕ)). HasFirst (whole_blocks read.0) bs part.count image) (blocks_are part.rounds part.last part.came) (part.kept read.0 read.1 image may));
+            subst (λ (bs : List (List ℕ)). HasFirst bs (bodies dots (next_number file) (length part.rounds)) part.up_to.count image) read.2
+            (subst (λ (bs : List (List ℕ)). HasFirst (whole_blocks read.0) bs part.up_to.count image) (blocks_are part.rounds part.last part.came) (part.up_to.kept read.0 read.1 image may));
         told =
-            let printed = lines_came s part.rounds part.last part.count part.came part.within ∙ ap (λ (n : ℕ). lines n part.count) next in
-            subst (λ (l : List ℕ). AppendedPart written faults out_before out_now l) printed part.told;
+            let printed = lines_came s part.rounds part.last part.up_to.count part.came part.up_to.within ∙ ap (λ (n : ℕ). lines n part.up_to.count) next in
+            subst (λ (l : List ℕ). AppendedPart written faults out_before out_now l) printed part.up_to.told;
       }
 
       -- some numbers were begun with, and all of them are kept
       pub kept_all : (last : Numbers) → KeptAll bytes may_leave moment left_since written faults GivesNumber opened now out_before out_now s last → KeptNumbers may_leave moment left_since written faults dots count file before now out_before out_now
       kept_all last all =
-          let front : take (length all.rounds) all.rounds ≡ all.rounds = take_all (length all.rounds) all.rounds (omega arith) in
           kept_numbers record {
             rounds = all.rounds;
             last = last;
             came = all.came;
-            every_moment = all.every_moment;
-            count = length all.rounds;
-            within = omega arith;
-            kept = λ f told image may. first_all (whole_blocks f) (bodies_of all.rounds) (length all.rounds) image (omega (arith, length-map all.rounds (λ (r : Round). r.body.items))) (all.kept f told image may);
-            told = AppendedPart-whole (subst (λ (rs : List Round). Appended written faults out_before out_now (text_of rs)) (sym front) all.told);
+            up_to = kept_stopped bytes may_leave moment left_since written faults opened now out_before out_now all.rounds all.so_far;
           }
 
       pub kept_either : {T E : Type 0} (result : Result T E) (ended : Numbers)

@@ -1,8 +1,6 @@
--- One round more of a run.
+-- The laws of a run that keeps rounds: its opening, one round more, and a fault at the end.
 use Rattle.std.proofs.Common.{◌≡◌, inl, inr, ℕ, ◌≤◌, List, [], ◌∷◌, ◌++◌, length, take, Option, None, Some, Result, Ok, Err, OnErr, refl, sym, ◌∙◌, ap, subst, arith, append_assoc, append-nil, length-append, take_all}
 use Rattle.std.specs.Prelude.{is_some}
-use Rattle.std.specs.Iterator.{Yields}
-use Rattle.std.proofs.iter.Next.{Yields-more}
 use Rattle.std.proofs.lemmas.List.{take-append-le, take_at, map-append, length-map}
 use Rattle.std.proofs.lemmas.Grind.{flat_map-append}
 use Rattle.fx_edges.specs.Writing.{Appended, AppendedPart}
@@ -11,7 +9,7 @@ use Rattle.fx_disk.specs.Disk.{WhereTold, Only, LeavesOnly}
 use Rattle.fx_disk.proofs.Leaving.{leaves_at_start, leaves_weaker, leaves_then}
 use Rattle.keep_disk.specs.declared.rounds.Round.{Round}
 use Rattle.keep_disk.specs.Blocks.{whole_blocks, HasOrLacks}
-use Rattle.keep_disk.specs.Rounds.{bodies_of, text_of, KeptBlocks, HasFirst, KeptBeforeTold, KeptAll, KeptPart}
+use Rattle.keep_disk.specs.Rounds.{bodies_of, text_of, KeptBlocks, HasFirst, KeptBeforeTold, KeptSoFar, KeptUpTo}
 
 -- a disk that told its bytes at the start tells them still
 pub told_now : (known now : Option (List ℕ)) (file : List ℕ) → is_some now ≡ is_some known → known ≡ Some file → (f : List ℕ) × (now ≡ Some f)
@@ -54,52 +52,68 @@ pub on_err_always : {T E P : Type 0} (r : Result T E) → P → OnErr r P
 on_err_always (Ok value) p = tt
 on_err_always (Err e) p = p
 
-module _ {D K N : Type 0} (bytes : D → Option (List ℕ)) (may_leave : D → List ℕ → Type 0) (moment : D → ℕ) (left_since : D → ℕ → List ℕ → Type 0)
-    (written : K → Option (List ℕ)) (faults : K → ℕ) (gives : N → Option Round → N → Type 0) where
-  abbrev All : D → D → K → K → N → N → Type 0
-  All d0 d k0 k n0 n = KeptAll bytes may_leave moment left_since written faults gives d0 d k0 k n0 n
+module _ {D K : Type 0} (bytes : D → Option (List ℕ)) (may_leave : D → List ℕ → Type 0) (moment : D → ℕ) (left_since : D → ℕ → List ℕ → Type 0)
+    (written : K → Option (List ℕ)) (faults : K → ℕ) where
+  abbrev SoFar : D → D → K → K → List Round → Type 0
+  SoFar d0 d k0 k rounds = KeptSoFar bytes may_leave moment left_since written faults d0 d k0 k rounds
 
-  abbrev Part : D → D → K → K → N → Type 0
-  Part d0 d k0 k n0 = KeptPart bytes may_leave moment left_since written faults gives d0 d k0 k n0
+  abbrev UpTo : D → D → K → K → List Round → Type 0
+  UpTo d0 d k0 k rounds = KeptUpTo bytes may_leave moment left_since written faults d0 d k0 k rounds
 
-  -- before the first round
-  pub kept_none : (d : D) (k : K) (n : N) → ((image : List ℕ) → left_since d (moment d) image → may_leave d image) → WhereTold (bytes d) (λ file. Only file (may_leave d)) → All d d k k n n
-  kept_none d k n only_now only = record {
-    rounds = [];
-    came = refl;
-    every_moment = λ file told. leaves_at_start moment left_since d (HasFirst (whole_blocks file) [] 0) (λ image left. first_all (whole_blocks file) [] 0 image (omega arith) (same file told image (only_now image left)));
-    tells = refl;
-    kept = same;
+  -- an image with the blocks from the start
+  first_none : (start : List (List ℕ)) (image : List ℕ) → whole_blocks image ≡ start → HasFirst start [] 0 image
+  first_none start image is = first_all start [] 0 image (omega arith) (is ∙ sym (append-nil start))
+
+  -- before the first round: the file is opened
+  pub kept_opened : (d0 d : D) (k : K) → WhereTold (bytes d0) (λ file. LeavesOnly moment left_since d0 d (λ image. whole_blocks image ≡ whole_blocks file))
+      → is_some (bytes d) ≡ is_some (bytes d0) → WhereTold (bytes d0) (λ file. (image : List ℕ) → may_leave d image → whole_blocks image ≡ whole_blocks file) → SoFar d0 d k k []
+  kept_opened d0 d k leaves tells same = record {
+    every_moment = λ file told.
+        leaves_weaker moment left_since d0 d (λ (image : List ℕ). whole_blocks image ≡ whole_blocks file) (HasFirst (whole_blocks file) [] 0) (first_none (whole_blocks file)) (leaves file told);
+    tells = tells;
+    kept = λ file told image may. same file told image may ∙ sym (append-nil (whole_blocks file));
     told = Appended-nil written faults k;
   }
-    where
-      same : (file : List ℕ) → bytes d ≡ Some file → (image : List ℕ) → may_leave d image → whole_blocks image ≡ whole_blocks file ++ []
-      same file told image may = ap whole_blocks (only file told image may) ∙ sym (append-nil (whole_blocks file))
 
-  module _ (d0 d : D) (k0 k : K) (n0 n : N) (so_far : All d0 d k0 k n0 n) where
-    -- no round was given: out of memory
-    pub kept_stopped : Part d0 d k0 k n0
+  -- it could not be opened
+  pub kept_unopened : (d0 d : D) (k : K) → ((disk : D) (t : ℕ) (image : List ℕ) → t ≤ moment disk → may_leave disk image → left_since disk t image)
+      → WhereTold (bytes d0) (λ file. LeavesOnly moment left_since d0 d (λ image. whole_blocks image ≡ whole_blocks file)) → UpTo d0 d k k []
+  kept_unopened d0 d k counts_now leaves = record {
+    every_moment = λ file told.
+        leaves_weaker moment left_since d0 d (λ (image : List ℕ). whole_blocks image ≡ whole_blocks file) (HasFirst (whole_blocks file) [] 0) (first_none (whole_blocks file)) (leaves file told);
+    count = 0;
+    within = omega arith;
+    kept = λ file told image may.
+        let moments = leaves file told in
+        first_none (whole_blocks file) image (moments.each image (counts_now d (moment d0) image moments.later may));
+    told = AppendedPart-whole (Appended-nil written faults k);
+  }
+
+  -- it is open and has one image
+  pub kept_none : (d : D) (k : K) → ((image : List ℕ) → left_since d (moment d) image → may_leave d image) → WhereTold (bytes d) (λ file. Only file (may_leave d)) → SoFar d d k k []
+  kept_none d k only_now only =
+      kept_opened d d k
+      (λ file told. leaves_at_start moment left_since d (λ (image : List ℕ). whole_blocks image ≡ whole_blocks file) (λ image left. ap whole_blocks (only file told image (only_now image left))))
+      refl (λ file told image may. ap whole_blocks (only file told image may))
+
+  module _ (d0 d : D) (k0 k : K) (rounds : List Round) (so_far : SoFar d0 d k0 k rounds) where
+    -- a fault in which the disk and the sink stay as they are
+    pub kept_stopped : UpTo d0 d k0 k rounds
     kept_stopped = record {
-      rounds = so_far.rounds;
-      last = n;
-      came = so_far.came;
       every_moment = so_far.every_moment;
-      count = length so_far.rounds;
+      count = length rounds;
       within = omega arith;
-      kept = λ file told image may. first_all (whole_blocks file) (bodies_of so_far.rounds) (length so_far.rounds) image (omega (arith, length-map so_far.rounds (λ (r : Round). r.body.items))) (so_far.kept file told image may);
-      told = let all : take (length so_far.rounds) so_far.rounds ≡ so_far.rounds = take_all _ _ (omega arith) in AppendedPart-whole (subst (λ (rs : List Round). Appended written faults k0 k (text_of rs)) (sym all) so_far.told);
+      kept = λ file told image may. first_all (whole_blocks file) (bodies_of rounds) (length rounds) image (omega (arith, length-map rounds (λ (r : Round). r.body.items))) (so_far.kept file told image may);
+      told = let all : take (length rounds) rounds ≡ rounds = take_all _ _ (omega arith) in AppendedPart-whole (subst (λ (rs : List Round). Appended written faults k0 k (text_of rs)) (sym all) so_far.told);
     }
 
-    module _ (d' : D) (k' : K) (n' : N) (round : Round) (gave : gives n (Some round) n') (reads : (disk : D) → WhereTold (bytes disk) (λ file. may_leave disk file))
+    module _ (d' : D) (k' : K) (round : Round) (reads : (disk : D) → WhereTold (bytes disk) (λ file. may_leave disk file))
         (step : WhereTold (bytes d) (λ file. LeavesOnly moment left_since d d' (HasOrLacks (whole_blocks file) round.body.items))) where
       abbrev more : List Round
-      more = so_far.rounds ++ round ∷ []
+      more = rounds ++ round ∷ []
 
       abbrev bodies : List (List ℕ)
-      bodies = bodies_of so_far.rounds
-
-      came_more : Yields gives n0 more n'
-      came_more = Yields-more gives n0 so_far.rounds n round n' so_far.came gave
+      bodies = bodies_of rounds
 
       -- what the disk read before the round
       read_before : (file : List ℕ) → bytes d0 ≡ Some file → (f : List ℕ) × (bytes d ≡ Some f) × (whole_blocks f ≡ whole_blocks file ++ bodies)
@@ -109,7 +123,7 @@ module _ {D K N : Type 0} (bytes : D → Option (List ℕ)) (may_leave : D → L
       moments_more = λ file told.
           let was = read_before file told in
           let start = whole_blocks file in
-          subst (λ (bs : List (List ℕ)). LeavesOnly moment left_since d0 d' (HasFirst (whole_blocks file) bs 0)) (sym (bodies_more so_far.rounds round))
+          subst (λ (bs : List (List ℕ)). LeavesOnly moment left_since d0 d' (HasFirst (whole_blocks file) bs 0)) (sym (bodies_more rounds round))
           (leaves_then moment left_since d0 d d' (HasFirst start (bodies ++ round.body.items ∷ []) 0)
           (leaves_weaker moment left_since d0 d (HasFirst start bodies 0) (HasFirst start (bodies ++ round.body.items ∷ []) 0) (first_longer start bodies (round.body.items ∷ []) 0) (so_far.every_moment file told))
           (leaves_weaker moment left_since d d' (HasOrLacks (whole_blocks was.0) round.body.items) (HasFirst start (bodies ++ round.body.items ∷ []) 0)
@@ -121,43 +135,37 @@ module _ {D K N : Type 0} (bytes : D → Option (List ℕ)) (may_leave : D → L
           kept was.0 was.1 image may
           ∙ ap (λ (bs : List (List ℕ)). bs ++ round.body.items ∷ []) was.2
           ∙ append_assoc (whole_blocks file) bodies (round.body.items ∷ [])
-          ∙ ap (λ (bs : List (List ℕ)). whole_blocks file ++ bs) (sym (bodies_more so_far.rounds round))
+          ∙ ap (λ (bs : List (List ℕ)). whole_blocks file ++ bs) (sym (bodies_more rounds round))
 
-      pub kept_more : is_some (bytes d') ≡ is_some (bytes d) → KeptBlocks bytes may_leave d d' (round.body.items ∷ []) → Appended written faults k k' round.text.items → All d0 d' k0 k' n0 n'
+      -- one round more is kept and told of
+      pub kept_more : is_some (bytes d') ≡ is_some (bytes d) → KeptBlocks bytes may_leave d d' (round.body.items ∷ []) → Appended written faults k k' round.text.items → SoFar d0 d' k0 k' more
       kept_more tells kept told = record {
-        rounds = more;
-        came = came_more;
         every_moment = moments_more;
         tells = tells ∙ so_far.tells;
         kept = kept_blocks kept;
-        told = subst (λ (t : List ℕ). Appended written faults k0 k' t) (sym (text_more so_far.rounds round)) (Appended-append so_far.told told);
+        told = subst (λ (t : List ℕ). Appended written faults k0 k' t) (sym (text_more rounds round)) (Appended-append so_far.told told);
       }
 
+      -- a fault in one round more
       pub kept_cut : ((disk : D) (t : ℕ) (image : List ℕ) → t ≤ moment disk → may_leave disk image → left_since disk t image)
-          → KeptBeforeTold bytes may_leave written faults d d' k k' round.body.items round.text.items → Part d0 d' k0 k' n0
+          → KeptBeforeTold bytes may_leave written faults d d' k k' round.body.items round.text.items → UpTo d0 d' k0 k' more
       kept_cut counts_now (inl untold) = record {
-        rounds = more;
-        last = n';
-        came = came_more;
         every_moment = moments_more;
-        count = length so_far.rounds;
-        within = omega (arith, length-append so_far.rounds (round ∷ []));
+        count = length rounds;
+        within = omega (arith, length-append rounds (round ∷ []));
         kept = λ file told image may.
             let was = read_before file told in
             let moments = step was.0 was.1 in
             let has = moments.each image (counts_now d' (moment d) image moments.later may) in
-            let long = length-map so_far.rounds (λ (r : Round). r.body.items) in
-            subst (λ (bs : List (List ℕ)). HasFirst (whole_blocks file) bs (length so_far.rounds) image) (sym (bodies_more so_far.rounds round))
-            (first_either (whole_blocks file) bodies (whole_blocks was.0) round.body.items (length so_far.rounds) image was.2 (omega (arith, long)) has);
+            let long = length-map rounds (λ (r : Round). r.body.items) in
+            subst (λ (bs : List (List ℕ)). HasFirst (whole_blocks file) bs (length rounds) image) (sym (bodies_more rounds round))
+            (first_either (whole_blocks file) bodies (whole_blocks was.0) round.body.items (length rounds) image was.2 (omega (arith, long)) has);
         told =
-            let front : take (length so_far.rounds) more ≡ so_far.rounds = take_at so_far.rounds (round ∷ []) (length so_far.rounds) refl in
+            let front : take (length rounds) more ≡ rounds = take_at rounds (round ∷ []) (length rounds) refl in
             subst (λ (rs : List Round). AppendedPart written faults k0 k' (text_of rs)) (sym front)
-            (subst (λ (x : K). AppendedPart written faults k0 x (text_of so_far.rounds)) (sym untold) (AppendedPart-whole so_far.told));
+            (subst (λ (x : K). AppendedPart written faults k0 x (text_of rounds)) (sym untold) (AppendedPart-whole so_far.told));
       }
       kept_cut counts_now (inr kept) = record {
-        rounds = more;
-        last = n';
-        came = came_more;
         every_moment = moments_more;
         count = length more;
         within = omega arith;
@@ -166,6 +174,6 @@ module _ {D K N : Type 0} (bytes : D → Option (List ℕ)) (may_leave : D → L
             first_all (whole_blocks file) (bodies_of more) (length more) image (omega (arith, long)) (kept_blocks kept.0 file told image may);
         told =
             let all : take (length more) more ≡ more = take_all (length more) more (omega arith) in
-            subst (λ (t : List ℕ). AppendedPart written faults k0 k' t) (sym (ap text_of all ∙ text_more so_far.rounds round))
-            (AppendedPart-cut so_far.told kept.1 (IsPrefixOf-refl (text_of so_far.rounds ++ round.text.items)));
+            subst (λ (t : List ℕ). AppendedPart written faults k0 k' t) (sym (ap text_of all ∙ text_more rounds round))
+            (AppendedPart-cut so_far.told kept.1 (IsPrefixOf-refl (text_of rounds ++ round.text.items)));
       }

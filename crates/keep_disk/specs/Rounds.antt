@@ -54,17 +54,31 @@ pub record RunCauses {D K T : Type 0} (disk_faults : D → ℕ) (sink_faults : K
   pub sink_count : sink_faults out_before ≤ sink_faults out_now
   pub sink : IsErrOf result Write → Rose (sink_faults out_before) (sink_faults out_now)
 
+-- Each of these rounds is kept, and was told of after that.
+pub record KeptSoFar {D K : Type 0} (bytes : D → Option (List ℕ)) (may_leave : D → List ℕ → Type 0) (moment : D → ℕ) (left_since : D → ℕ → List ℕ → Type 0)
+    (written : K → Option (List ℕ)) (faults : K → ℕ) (before now : D) (out_before out_now : K) (rounds : List Round) : Type 0 where
+  -- at every moment since the start a crash leaves the blocks from then, and the first so many of these
+  pub every_moment : WhereTold (bytes before) (λ file. LeavesOnly moment left_since before now (HasFirst (whole_blocks file) (bodies_of rounds) 0))
+  pub tells : is_some (bytes now) ≡ is_some (bytes before)
+  pub kept : KeptBlocks bytes may_leave before now (bodies_of rounds)
+  pub told : Appended written faults out_before out_now (text_of rounds)
+
+-- The first so many of these rounds are kept, and no byte was told of another.
+pub record KeptUpTo {D K : Type 0} (bytes : D → Option (List ℕ)) (may_leave : D → List ℕ → Type 0) (moment : D → ℕ) (left_since : D → ℕ → List ℕ → Type 0)
+    (written : K → Option (List ℕ)) (faults : K → ℕ) (before now : D) (out_before out_now : K) (rounds : List Round) : Type 0 where
+  pub every_moment : WhereTold (bytes before) (λ file. LeavesOnly moment left_since before now (HasFirst (whole_blocks file) (bodies_of rounds) 0))
+  pub count : ℕ
+  pub within : count ≤ length rounds
+  pub kept : WhereTold (bytes before) (λ file. (image : List ℕ) → may_leave now image → HasFirst (whole_blocks file) (bodies_of rounds) count image)
+  pub told : AppendedPart written faults out_before out_now (text_of (take count rounds))
+
 -- Rounds came one after the other, and led from `first` to `last`. Each of them is kept, and was told of after that.
 pub record KeptAll {D K N : Type 0} (bytes : D → Option (List ℕ)) (may_leave : D → List ℕ → Type 0) (moment : D → ℕ) (left_since : D → ℕ → List ℕ → Type 0)
     (written : K → Option (List ℕ)) (faults : K → ℕ) (gives : N → Option Round → N → Type 0)
     (before now : D) (out_before out_now : K) (first last : N) : Type 0 where
   pub rounds : List Round
   pub came : Yields gives first rounds last
-  -- at every moment since the start a crash leaves the blocks from then, and the first so many of these
-  pub every_moment : WhereTold (bytes before) (λ file. LeavesOnly moment left_since before now (HasFirst (whole_blocks file) (bodies_of rounds) 0))
-  pub tells : is_some (bytes now) ≡ is_some (bytes before)
-  pub kept : KeptBlocks bytes may_leave before now (bodies_of rounds)
-  pub told : Appended written faults out_before out_now (text_of rounds)
+  pub so_far : KeptSoFar bytes may_leave moment left_since written faults before now out_before out_now rounds
 
 -- Rounds came one after the other from `first` on, and then a fault. The first so many of them are kept, and no byte was told of another.
 pub record KeptPart {D K N : Type 0} (bytes : D → Option (List ℕ)) (may_leave : D → List ℕ → Type 0) (moment : D → ℕ) (left_since : D → ℕ → List ℕ → Type 0)
@@ -73,8 +87,4 @@ pub record KeptPart {D K N : Type 0} (bytes : D → Option (List ℕ)) (may_leav
   pub rounds : List Round
   pub last : N
   pub came : Yields gives first rounds last
-  pub every_moment : WhereTold (bytes before) (λ file. LeavesOnly moment left_since before now (HasFirst (whole_blocks file) (bodies_of rounds) 0))
-  pub count : ℕ
-  pub within : count ≤ length rounds
-  pub kept : WhereTold (bytes before) (λ file. (image : List ℕ) → may_leave now image → HasFirst (whole_blocks file) (bodies_of rounds) count image)
-  pub told : AppendedPart written faults out_before out_now (text_of (take count rounds))
+  pub up_to : KeptUpTo bytes may_leave moment left_since written faults before now out_before out_now rounds

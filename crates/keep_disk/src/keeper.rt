@@ -10,6 +10,7 @@ use crate::write::{KeepFault, write_synced};
 use fx_amounts::{Memory, room_for};
 use fx_disk::Disk;
 use std::alloc::Global;
+use std::mem;
 
 /// A gate that opens the block behind it.
 pub(crate) const OPEN: u8 = 1;
@@ -20,7 +21,7 @@ pub(crate) const CLOSED: u8 = 0;
 /// The bytes of a block beside its body: its length, and the gate behind it.
 const FRAME: usize = 9;
 
-/// What opened a journal file: its whole blocks then, and the place of its last gate now.
+/// What opened a journal file: its whole blocks then, until they are taken out, and the place of its last gate now.
 #[derive(Drop)]
 pub struct Keeper {
     pub(crate) bodies: Vec<Body>,
@@ -48,11 +49,21 @@ fn block_of(alloc: Global, body: &[u8]) -> Result<Vec<u8>, Memory>
 }
 
 impl Keeper {
-    /// The whole blocks that the file had when it was opened.
+    /// The whole blocks that the file had when it was opened, or none once they were taken out.
     pub fn bodies(&self) -> &[Body]
         ensures { result.now ≡ self.now.bodies.items }
     {
         self.bodies.as_slice()
+    }
+
+    /// The whole blocks that the file had when it was opened. The keeper has none of them any more. It takes no memory.
+    pub fn take_bodies(&mut self) -> Vec<Body>
+        ensures bodies { result.items ≡ self.old.bodies.items }
+        ensures none { self.new.bodies.items ≡ [] }
+        ensures place { self.new.place ≡ self.old.place }
+    {
+        let none = Vec::new(*self.bodies.allocator());
+        mem::replace(&mut self.bodies, none)
     }
 
     /// Appends a block of this body: its bytes and a closed gate behind the last gate, and then, once
