@@ -5,7 +5,7 @@ A shim of the C library's allocator, made by `cc` in a new folder and put before
 run with nothing. For N from 1 until a run makes fewer, the program has to end with the answer of an undisturbed run, or with
 status 6, `out of memory` on standard error (or a prefix of it) and a prefix of an output. Of `run` on threads the output may be
 that of any history: `check` has to say YES. Each row of the table is a session and a word: how many allocations, and how many
-of the refusals were told as out of memory. Without sessions it takes those of examples/.
+of the refusals were told as out of memory. Without sessions it takes two of examples/ and two of its own, and a load.
 
 The last row is the program of host_trials, which plays a day at both desks and makes a call again that is refused: opening, each kind
 of command, and the entries that a pass asks for. It writes the same whichever allocation is refused, or ends with status 6.
@@ -17,6 +17,22 @@ import sys
 import tempfile
 
 HERE = os.path.dirname(os.path.abspath(__file__))
+HEAD = b"FXBOOK 1\nBANK ALFA\nBANK BETA\nBANK GAMA\nPAIR EUR/USD 5 1000000 100\n"
+OWN = [
+    (
+        "a credit change",
+        HEAD
+        + b"START\nBETA SELL EUR/USD 1.08430 1 DAY\nALFA BUY EUR/USD 1.08450 2 DAY\nBETA SELL EUR/USD 1.08410 1 DAY\n"
+        + b"ALFA LINE BETA 1000\nBETA LINE ALFA 1000\nEND\n",
+    ),
+    (
+        "two pairs",
+        HEAD
+        + b"PAIR GBP/USD 5 1000000 70\nLINE ALFA BETA 170\nLINE BETA ALFA 170\nSTART\n"
+        + b"BETA SELL EUR/USD 1.08420 2 DAY\nBETA SELL GBP/USD 1.27000 2 DAY\nALFA BUY EUR/USD 1.08420 2 IOC\n"
+        + b"ALFA BUY EUR/USD 1.08420 1 IOC\nALFA BUY GBP/USD 1.27000 2 IOC\nALFA SHOW BETA\nEND\n",
+    ),
+]
 SHIM = r"""
 #define _GNU_SOURCE
 #include <errno.h>
@@ -114,10 +130,15 @@ class Trial:
 
 def show(name, trial):
     made, memory, wrong = trial.row()
-    print(f"{name:24} {' '.join(trial.words):16} {made:6} allocations, {memory:6} told as out of memory, {len(wrong)} wrong", flush=True)
+    print(f"{name:24} {' '.join(trial.words):24} {made:6} allocations, {memory:6} told as out of memory, {len(wrong)} wrong", flush=True)
     for refused, fault in wrong[:5]:
         print(f"    at {refused}: {fault}")
     return len(wrong)
+
+
+def read(path):
+    with open(path, "rb") as file:
+        return os.path.basename(path), file.read()
 
 
 def main():
@@ -126,21 +147,21 @@ def main():
     words.add_argument("--desks", default=os.path.join(HERE, "..", "crates", "host_trials", "out", "host_trials"))
     words.add_argument("sessions", nargs="*")
     told = words.parse_args()
-    examples = os.path.join(HERE, "..", "examples")
-    sessions = told.sessions or [os.path.join(examples, name) for name in ("first.fx", "morning.fx")]
+    examples = [os.path.join(HERE, "..", "examples", name) for name in ("first.fx", "morning.fx")]
+    sessions = [read(path) for path in told.sessions] or [read(path) for path in examples] + OWN
     bad = 0
     with tempfile.TemporaryDirectory() as folder:
         source, shim = os.path.join(folder, "shim.c"), os.path.join(folder, "shim.so")
         with open(source, "w") as file:
             file.write(SHIM)
         subprocess.run(["cc", "-O1", "-shared", "-fPIC", source, "-o", shim], check=True)
-        for path in sessions:
-            with open(path, "rb") as file:
-                text = file.read()
+        for name, text in sessions:
             output = subprocess.run([told.program, "serial"], input=text, capture_output=True).stdout
             rows = [(["serial"], text), (["run", "--workers", "1"], text), (["run", "--workers", "2"], text), (["check"], output)]
             for command, given in rows:
-                bad += show(os.path.basename(path), Trial(told.program, shim, folder, given, command))
+                bad += show(name, Trial(told.program, shim, folder, given, command))
+        if not told.sessions:
+            bad += show("a load", Trial(told.program, shim, folder, b"", ["load", "1", "2", "1", "2", "--workers", "1"]))
         bad += show("both desks", Trial(told.desks, shim, folder, b"", []))
     sys.exit(bad > 0)
 

@@ -1,4 +1,4 @@
-ghost use Rattle.std.specs.Prelude.{◌≡◌, ◌≢◌, ◌+◌, ◌≤◌, ◌<◌, ◌==◌, ◌++◌, ℕ, min, true, false, None, [], length, not, nat_lt, slice_get, vec_len, vec_capacity, OnOk, IfOk, IfSome};
+ghost use Rattle.std.specs.Prelude.{◌≡◌, ◌≢◌, ◌+◌, ◌≤◌, ◌<◌, ◌==◌, ◌++◌, ℕ, min, true, false, None, [], length, not, nat_lt, slice_get, vec_len, vec_capacity, OnErr, OnOk, IfOk, IfSome};
 ghost use Rattle.std.specs.List.{All, Contains, filter};
 ghost use Rattle.std.specs.List.Sorted.{IsPartitionedBy};
 ghost use Rattle.std.specs.Option.{option_copied, option_map};
@@ -149,7 +149,7 @@ impl Owners {
     }
 
     /// Puts the places of a bank and a side that cross `top`, a price of the other side, behind those that `into` has. It counts
-    /// no step.
+    /// no step. At `Memory` `into` has what it had.
     pub fn gather_crossing(
         &self,
         bank: BankId,
@@ -158,6 +158,7 @@ impl Owners {
         into: &mut Vec<Place>,
     ) -> Result<(), Memory>
         ensures places { OnOk result (into.new.items ≡ into.old.items ++ crossing side top (row_at self.now bank side).places) }
+        ensures memory { OnErr result (into.new.items ≡ into.old.items) }
         ensures valid { AreOwned self.now }
     {
         if bank.index() >= self.rows.len() {

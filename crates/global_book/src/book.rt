@@ -1,4 +1,4 @@
-ghost use Rattle.std.specs.Prelude.{◌≡◌, ◌+◌, ◌≤◌, ◌<◌, ◌^◌, ◌↔◌, List, [], ◌∷◌, ◌++◌, Some, None, not, map, filter, length, true, false, slice_get, vec_capacity, vec_len, All, IsPermutation, OnOk, IfOk, IfSome, IsSome};
+ghost use Rattle.std.specs.Prelude.{◌≡◌, ◌+◌, ◌≤◌, ◌<◌, ◌^◌, ◌↔◌, List, [], ◌∷◌, ◌++◌, Some, None, not, map, filter, length, true, false, slice_get, vec_capacity, vec_len, All, IsPermutation, OnErr, OnOk, IfOk, IfSome, IsSome};
 ghost use Rattle.std.specs.Option.{option_copied, option_map};
 ghost use Rattle.fx_amounts.specs.Price.{crosses};
 ghost use Rattle.fx_amounts.specs.Side.{opposite};
@@ -360,7 +360,7 @@ impl PairBook {
     }
 
     /// Puts a bank's orders of a side that cross `top`, a price of the other side, behind those that `orders` has. It reads none
-    /// that does not cross, and counts no step.
+    /// that does not cross, and counts no step. At `Memory` `orders` has what it had.
     pub fn gather_crossing(
         &self,
         bank: BankId,
@@ -369,6 +369,7 @@ impl PairBook {
         orders: &mut Vec<Resting>,
     ) -> Result<(), Memory>
         ensures gathered { OnOk result ((gathered : List Resting) × (orders.new.items ≡ orders.old.items ++ gathered) × IsPermutation (crossing bank side top self.now.orders) gathered) }
+        ensures memory { OnErr result (orders.new.items ≡ orders.old.items) }
         ensures valid { IsBook self.now }
     {
         let mut places = Vec::new(*orders.allocator());

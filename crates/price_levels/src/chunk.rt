@@ -1,4 +1,4 @@
-ghost use Rattle.std.specs.Prelude.{◌≡◌, ◌+◌, ◌-◌, ◌≤◌, ◌<◌, true, false, not, [], ◌++◌, length, take, drop, slice_get, ◌↔◌, IfOk, IsTrue, OnOk};
+ghost use Rattle.std.specs.Prelude.{◌≡◌, ◌+◌, ◌-◌, ◌≤◌, ◌<◌, true, false, not, [], ◌++◌, length, take, drop, slice_get, ◌↔◌, IfOk, IsTrue, OnErr, OnOk};
 ghost use Rattle.std.specs.List.{All, insert, remove};
 ghost use Rattle.std.specs.List.Sorted.{IsPartitionPoint};
 ghost use Rattle.fx_amounts.specs.Price.{crosses};
@@ -92,6 +92,7 @@ impl Chunk {
     }
 
     /// Puts its places that cross `top`, a price of the other side, behind those that `into` has, and answers whether all of them do.
+    /// At `Memory` it has put none.
     pub(crate) fn gather_crossing(
         &self,
         side: Side,
@@ -101,6 +102,7 @@ impl Chunk {
         requires sorted { IsSorted side self.now.places }
         ensures places { IfOk result (λ _. into.new.items ≡ into.old.items ++ crossing side top self.now.places) }
         ensures all { IfOk result (λ all. IsTrue all ↔ All (λ place. crosses side place.price top ≡ true) self.now.places) }
+        ensures memory { OnErr result (into.new.items ≡ into.old.items) }
     {
         let all = self.all_cross(side, top);
         let count = if all {

@@ -1,4 +1,4 @@
-ghost use Rattle.std.specs.Prelude.{ℕ, ◌≡◌, ◌+◌, ◌*◌, ◌≤◌, ◌<◌, ◌↔◌, max, min, true, false, None, [], ◌∷◌, ◌++◌, length, slice_get, OnOk, IfSome, IsTrue};
+ghost use Rattle.std.specs.Prelude.{ℕ, ◌≡◌, ◌+◌, ◌*◌, ◌≤◌, ◌<◌, ◌↔◌, max, min, true, false, None, [], ◌∷◌, ◌++◌, length, slice_get, OnErr, OnOk, IfSome, IsTrue};
 ghost use Rattle.std.specs.List.{All, insert, remove};
 ghost use Rattle.std.specs.List.Sorted.{IsPartitionPoint};
 ghost use Rattle.price_levels.specs.Ladder.{IsSorted, crossing};
@@ -360,7 +360,7 @@ pub(crate) fn nth(chunks: &[Chunk], at: usize) -> Option<Place>
 }
 
 /// Puts those of a row's places that cross `top`, a price of the other side, behind those that `into` has: they are the
-/// first ones.
+/// first ones. At `Memory` those that were put are cut off again.
 pub(crate) fn gather_crossing(
     chunks: &[Chunk],
     side: Side,
@@ -369,11 +369,17 @@ pub(crate) fn gather_crossing(
 ) -> Result<(), Memory>
     requires sorted { IsSorted side (places_of chunks.now) }
     ensures places { OnOk result (into.new.items ≡ into.old.items ++ crossing side top (places_of chunks.now)) }
+    ensures memory { OnErr result (into.new.items ≡ into.old.items) }
 {
+    let had = into.len();
     for chunk in chunks {
-        let is_whole = chunk.gather_crossing(side, top, into)?;
-        if !is_whole {
-            return Ok(());
+        match chunk.gather_crossing(side, top, into) {
+            Ok(true) => {}
+            Ok(false) => return Ok(()),
+            Err(memory) => {
+                into.truncate(had);
+                return Err(memory);
+            }
         }
     }
     Ok(())

@@ -1,4 +1,4 @@
-ghost use Rattle.std.specs.Prelude.{◌≡◌, ◌≢◌, ◌+◌, ◌≤◌, ◌<◌, ◌↔◌, ◌++◌, [], max, not, slice_get, Some, IfSome, IfNone, IsTrue, OnOk};
+ghost use Rattle.std.specs.Prelude.{◌≡◌, ◌≢◌, ◌+◌, ◌≤◌, ◌<◌, ◌↔◌, ◌++◌, [], max, not, slice_get, Some, IfSome, IfNone, IsTrue, OnErr, OnOk};
 ghost use Rattle.std.specs.List.{Contains};
 ghost use Rattle.std.specs.Option.{option_map};
 ghost use Rattle.price_levels.specs.declared.place.Place.{Place};
@@ -165,9 +165,10 @@ impl Levels {
     }
 
     /// Puts the places that cross `top`, a price of the other side, behind those that `into` has. It searches one chunk at most,
-    /// and counts no step.
+    /// and counts no step. At `Memory` `into` has what it had.
     pub fn gather_crossing(&self, top: Price, into: &mut Vec<Place>) -> Result<(), Memory>
         ensures places { OnOk result (into.new.items ≡ into.old.items ++ crossing self.now.side top self.now.places) }
+        ensures memory { OnErr result (into.new.items ≡ into.old.items) }
         ensures sorted { IsSorted self.now.side self.now.places }
     {
         gather_crossing(&self.chunks.chunks, self.side, top, into)

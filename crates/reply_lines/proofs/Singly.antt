@@ -14,8 +14,10 @@ use Rattle.reply_lines.specs.Rows.{row}
 use Rattle.reply_lines.specs.Notices.{book_fields}
 use Rattle.reply_lines.specs.Books.{LocalBook, AreBooks, book_line, book_lines_below, books_below, books_text}
 use Rattle.reply_lines.specs.Report.{report_text}
-use Rattle.reply_lines.specs.Output.{journal_text, desks_text, day_text, last_text, IsDayText}
+use Rattle.reply_lines.specs.Output.{journal_text, desks_text, day_text, last_text, IsDayText, IsOutput}
+use Rattle.reply_lines.specs.declared.output.Ending.{Ending}
 use Rattle.reply_lines.specs.Laws.{OneOutput}
+use Rattle.reply_lines.proofs.Outputs.{day-books, is_output}
 
 abbrev AreSame : LocalBook → LocalBook → Type 0
 AreSame one other = (one.bids ≡ other.bids) × (one.asks ≡ other.asks)
@@ -60,6 +62,14 @@ days_agree h entries day other legal is they =
     (books_text-same h (state h entries) is.books they.books legal.session (legal-sound h entries legal) is.at_the_end they.at_the_end)
     ∙ sym they.exactly
 
-pub one_output : OneOutput
-one_output h entries strays ending one other legal is they =
+-- two outputs of a legal history are one
+outputs_same : (h : Header) (entries : List Entry) (strays : ℕ) (ending : Ending) (one other : List ℕ) → IsLegal h entries → IsOutput h entries strays ending one → IsOutput h entries strays ending other → one ≡ other
+outputs_same h entries strays ending one other legal is they =
     is.whole ∙ ap (λ (day : List ℕ). day ++ last_text strays ending) (days_agree h entries is.day they.day legal is.is_day they.is_day) ∙ sym they.whole
+
+pub one_output : OneOutput
+one_output h entries strays ending legal =
+    let books = day-books h entries legal in
+    let one : List ℕ = day_text h entries books.0 ++ last_text strays ending in
+    let is : IsOutput h entries strays ending one = is_output h entries strays ending books.0 books.1 in
+    (one, is, λ other they. outputs_same h entries strays ending one other legal is they)

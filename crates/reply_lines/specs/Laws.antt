@@ -6,8 +6,8 @@ use Rattle.fx_rules.specs.declared.outcome.Entry.{Entry}
 use Rattle.reply_lines.specs.Output.{IsOutput}
 use Rattle.reply_lines.specs.declared.output.Ending.{Ending}
 
--- A legal history has one output with so many strays and an ending.
+-- A legal history has an output with so many strays and an ending, and no other one.
 abbrev pub OneOutput : Type 0
 OneOutput =
-    (h : Header) (entries : List Entry) (strays : ℕ) (ending : Ending) (one other : List ℕ) →
-    IsLegal h entries → IsOutput h entries strays ending one → IsOutput h entries strays ending other → one ≡ other
+    (h : Header) (entries : List Entry) (strays : ℕ) (ending : Ending) → IsLegal h entries →
+    (one : List ℕ) × IsOutput h entries strays ending one × ((other : List ℕ) → IsOutput h entries strays ending other → one ≡ other)

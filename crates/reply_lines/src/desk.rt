@@ -94,6 +94,7 @@ impl NoticeDesk {
         requires answer { IsAnswerOf session.now entry.now.command entry.now.outcome }
         ensures ok { OnOk result (self.new ≡ with_notice session.now self.old (Replied entry.now)) }
         ensures memory { OnErr result (self.new ≡ self.old) }
+        ensures begun { writer.new ≡ writer.old }
     {
         let number = self.next_number();
         writer.reply(session, number, entry, &mut self.lines)?;

@@ -1,6 +1,6 @@
 ghost use Rattle.reply_lines.specs.Laws.{OneOutput};
 
-/// An output is one: two texts that are outputs of one legal history with one number of strays and one ending are equal.
+/// A legal history has one output with a number of strays and an ending: there is one, and any other is equal to it.
 pub fn one_output()
     ensures agree { OneOutput }
 {}

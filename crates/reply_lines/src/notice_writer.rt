@@ -43,7 +43,7 @@ impl NoticeWriter {
         }
     }
 
-    /// Appends the line of the reply to an entry. Without memory for it the list stays.
+    /// Appends the line of the reply to an entry. Without memory for it the list stays. A fill that was begun stays so.
     pub fn reply(
         &mut self,
         session: &Session,
@@ -55,6 +55,7 @@ impl NoticeWriter {
         ensures ok { OnOk result (out.new.items ≡ out.old.items ++ notice_line session.now number (Replied entry.now)) }
         ensures longer { OnOk result (length out.old.items < length out.new.items) }
         ensures memory { OnErr result (out.new.items ≡ out.old.items) }
+        ensures begun { self.new ≡ self.old }
     {
         match &entry.outcome {
             Outcome::Depth { bids, asks } => {

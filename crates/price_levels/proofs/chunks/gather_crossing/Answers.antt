@@ -15,16 +15,13 @@ gather_crossing-requires c =
 pub loop-chunk-preserved : goal.loop-chunk-preserved
 loop-chunk-preserved c =
     gathered_more c.args.side c.args.top c.args.chunks.now c.loop-chunk.chunk-index c.chunk-item.result c.args.into.now.items c.loop-chunk.into.items c.gather_crossing.new.into.items
-    c.loop-chunk-test.true c.chunk-item.is c.loop-chunk.invariant c.in_ok-is_whole.ensures.places
+    c.loop-chunk-test.true c.chunk-item.is c.loop-chunk.invariant c.in-Ok-true.ensures.places
 
-pub returns-then-not-is_whole : goal.returns-then-not-is_whole
-returns-then-not-is_whole c = record {
-  places = gathered_up_to c.args.side c.args.top c.args.chunks.now c.loop-chunk.chunk-index c.chunk-item.result c.args.into.now.items c.loop-chunk.into.items c.gather_crossing.new.into.items
-      c.loop-chunk-test.true c.chunk-item.is c.requires.sorted c.loop-chunk.invariant c.in_ok-is_whole.ensures.places
-      (λ all. both_ways c.in_ok-is_whole.is_whole c.if-not-is_whole.true (c.in_ok-is_whole.ensures.all.1 all));
-}
+pub returns-in-Ok-false-clause-places : goal.returns-in-Ok-false-clause-places
+returns-in-Ok-false-clause-places c =
+    gathered_up_to c.args.side c.args.top c.args.chunks.now c.loop-chunk.chunk-index c.chunk-item.result c.args.into.now.items c.loop-chunk.into.items c.gather_crossing.new.into.items
+    c.loop-chunk-test.true c.chunk-item.is c.requires.sorted c.loop-chunk.invariant c.in-Ok-false.ensures.places
+    (λ all. both_ways c.in-Ok-false.field-0 c.in-Ok-false.field-0-test (c.in-Ok-false.ensures.all.1 all))
 
-pub returns : goal.returns
-returns c = record {
-  places = gathered_all c.args.side c.args.top c.args.chunks.now c.loop-chunk.chunk-index c.args.into.now.items c.loop-chunk.into.items c.loop-chunk-test.false c.loop-chunk.invariant;
-}
+pub returns-clause-places : goal.returns-clause-places
+returns-clause-places c = gathered_all c.args.side c.args.top c.args.chunks.now c.loop-chunk.chunk-index c.args.into.now.items c.loop-chunk.into.items c.loop-chunk-test.false c.loop-chunk.invariant
