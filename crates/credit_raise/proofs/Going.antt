@@ -15,7 +15,7 @@ use Rattle.fx_rules.specs.History.{IsLegal, state}
 use Rattle.fx_rules.specs.Sound.{IsSound}
 use Rattle.fx_rules.specs.NoCross.{NoCross}
 use Rattle.fx_rules.proofs.Following.{filled_all-follows}
-use Rattle.fx_rules.proofs.Staying.{Elsewhere, elsewhere_of, swept_elsewhere}
+use Rattle.fx_rules.proofs.Staying.{turned-stays}
 use Rattle.fx_rules.proofs.SweepSound.{swept-sound, filled_all-append}
 use Rattle.fx_rules.proofs.RaiseSound.{IsTurn, match_cases, turn_of, turn-sender, turned-sound, limited-sound}
 use Rattle.fx_rules.proofs.Soundness.{legal-sound}
@@ -60,32 +60,6 @@ line-fills h S pair weight i j (f ∷ fills) weight_is all =
     let rest : line h (filled_all (filled S f) fills) i j ≡ line h (filled S f) i j - lots_of fills * weight = line-fills h (filled S f) pair weight i j fills weight_is all.1 in
     omega (arith, first, rest, add-mul f.lots (lots_of fills) weight)
 
--- ---- the orders of other pairs
-
--- The turns of a pair leave the orders of every other.
-pub turned-elsewhere : (h : Header) (pair : ℕ) (S : State) (orders : List Resting) (fills : List Fill) (other : ℕ) → pair ≢ other → 0 < weight_of h pair → IsSound h S → Turned h pair S orders fills → orders_in other (filled_all S fills).orders ≡ orders_in other S.orders
-turned-elsewhere h pair S [] fills other differ some sound turned = ap (λ (fs : List Fill). orders_in other (filled_all S fs).orders) turned
-turned-elsewhere h pair S (order ∷ orders) fills other differ some sound turned =
-    elim (match_cases (order_of S pair order.bank order.number) (Turned h pair S orders fills)
-    (λ now. (own more : List Fill) × (left : ℕ) × Swept h S (taker_of_resting pair now) own left × (fills ≡ own ++ more) × Turned h pair (filled_all S own) orders more)
-    turned) [
-      | inl gone ↦ turned-elsewhere h pair S orders fills other differ some sound gone.1
-      | inr here ↦
-          let now : Resting = here.0 in
-          let own : List Fill = here.2.0 in
-          let more : List Fill = here.2.1 in
-          let turn : IsTurn h S pair order.bank order.number now = turn_of h S pair order.bank order.number now sound here.1 in
-          let sender = turn-sender h S pair order.bank order.number now turn in
-          let later : IsSound h (filled_all S own) = (swept-sound h S (taker_of_resting pair now) own here.2.2 sound sender some here.2.3).0 in
-          let away : Elsewhere S.orders now.bank now.number other =
-          subst (λ (o : Resting). Elsewhere S.orders o.bank o.number other) (sym turn.order)
-          (elsewhere_of S.orders turn.active other sound.rising turn.rests (λ is. differ (sym turn.of_pair ∙ is))) in
-          ap (λ (fs : List Fill). orders_in other (filled_all S fs).orders) here.2.4
-          ∙ ap (λ (T : State). orders_in other T.orders) (filled_all-append S own more)
-          ∙ turned-elsewhere h pair (filled_all S own) orders more other differ some later here.2.5
-          ∙ swept_elsewhere h S (taker_of_resting pair now) own here.2.2 other sound sender some differ away here.2.3
-    ]
-
 -- ---- the first pair
 
 -- The limit is set, in the state of a legal history.
@@ -114,7 +88,7 @@ raised-next h S book next weight next_weight i j eff fills differ some next_some
     let heavy : 0 < weight_of h book.pair = omega (arith, some, raised.weight_is) in
     record {
       sound = turned-sound h book.pair S book.orders fills heavy raised.sound turned;
-      orders = turned-elsewhere h book.pair S book.orders fills next.pair differ heavy raised.sound turned ∙ next_orders;
+      orders = turned-stays h book.pair S book.orders fills next.pair differ heavy raised.sound turned ∙ next_orders;
       weight_is = next_weight_is;
       line_is = line-fills h S book.pair weight i j fills raised.weight_is parties ∙ ap (λ n. n - lots_of fills * weight) raised.line_is;
       apart = apart-follows h S (filled_all S fills) next.pair i j (omega (arith, next_some, next_weight_is)) (filled_all-follows h S fills) apart;

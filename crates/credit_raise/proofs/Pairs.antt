@@ -20,7 +20,8 @@ use Rattle.credit_lines.specs.Market.{StandsFor}
 use Rattle.credit_raise.specs.Two.{IsRaised, IsFillOf, lots_of}
 use Rattle.credit_raise.specs.UnderWay.{Raise, fills_of_all, command_of, outcome_of, opened, begun, reached, IsPairOf, Makes, EachMakes, IsUnderWay}
 use Rattle.credit_raise.specs.inside.UnderWay.{with_plan}
-use Rattle.credit_raise.proofs.Going.{turned-elsewhere, raised-first, raised-next}
+use Rattle.fx_rules.proofs.Staying.{turned-stays}
+use Rattle.credit_raise.proofs.Going.{raised-first, raised-next}
 
 -- ---- one plan more
 
@@ -98,7 +99,7 @@ goes_on h S raise book weight plan some at plans parties under of =
     let last : Makes S U book.pair plan.fills = record { turn = T; rising = here.sound.rising; orders = here.orders ∙ of.orders; leaves = refl } in
     let place : book.pair ≡ 0 + length raise.plans = omega (arith, at) in
     let those : EachMakes S U 0 raise.plans = makes_later S T U 0 raise.plans
-    (λ p below. turned-elsewhere h book.pair T book.orders plan.fills p (before book.pair p (length raise.plans) at below) heavy here.sound turned) under.makes in
+    (λ p below. turned-stays h book.pair T book.orders plan.fills p (before book.pair p (length raise.plans) at below) heavy here.sound turned) under.makes in
     record {
       limit_is = under.limit_is;
       waits = λ other other_weight past other_some other_of.

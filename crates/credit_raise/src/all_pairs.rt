@@ -68,23 +68,6 @@ impl Raising {
         ensures value { result ≡ opened lines.now bank other asked }
         ensures begins { (h : Header) (entries : List Entry) → IsLegal h entries → StandsFor h (state h entries) lines.now → IsUnderWay h (state h entries) result }
     {
-        Raising::before_turns(alloc, lines, bank, other, asked)
-    }
-
-    /// The same, told by the lines alone.
-    fn before_turns(
-        alloc: Global,
-        lines: &CreditLines,
-        bank: BankId,
-        other: BankId,
-        asked: Units,
-    ) -> Raising
-        requires bank { bank < lines.now.banks }
-        requires other { other < lines.now.banks }
-        requires differ { bank ≢ other }
-        ensures value { result ≡ opened lines.now bank other asked }
-        ensures units { IsUnits asked }
-    {
         let used = lines.used(bank, other);
         let limit = greater(asked, used);
         let back = lines.limit(other, bank);
@@ -154,7 +137,7 @@ impl Raising {
     }
 
     /// What the command answers, once all pairs had their turns: the market's outcome, in every state of which it is under
-    /// way. `Memory` for want of memory for the list of all fills.
+    /// way. `Memory` where there is no memory for the list of all fills.
     pub fn outcome(&self, alloc: Global) -> Result<Outcome, Memory>
         ensures value { IfOk result (λ outcome. outcome ≡ outcome_of self.now) }
         ensures answers { IfOk result (λ outcome. (h : Header) (S : State) → IsUnderWay h S self.now → length self.now.plans ≡ pair_count h →
@@ -163,7 +146,7 @@ impl Raising {
         self.told(alloc)
     }
 
-    /// The same, told by the plans alone.
+    /// The limit as it is set and all fills so far.
     fn told(&self, alloc: Global) -> Result<Outcome, Memory>
         ensures value { IfOk result (λ outcome. outcome ≡ outcome_of self.now) }
     {
@@ -184,7 +167,7 @@ impl Raising {
         self.plan_at(pair)
     }
 
-    /// The same, told by the plans alone.
+    /// What a pair that had its turn is to make, as it stands in the list of plans.
     fn plan_at(&self, pair: PairId) -> &Plan
         requires turned { pair < length self.now.plans }
         ensures value { slice_get self.now.plans pair ≡ Some result.now }

@@ -27,7 +27,7 @@ use std::sync::ledger::Ledger;
 /// What they have left is kept in a book of its own: each order is put in there at most once, each turn looks into it once, and
 /// once more for each fill. So it takes memory for these orders and for the fills, and the time of a sort of these orders and of
 /// that many searches. Where the line does not pay for a lot, or the two banks' best prices do not cross, it answers at once.
-/// `Memory` for want of memory.
+/// `Memory` when out of memory.
 pub fn plan_raise<L: Ledger>(
     alloc: Global,
     book: &PairBook,

@@ -28,7 +28,7 @@ pub(crate) struct Replay {
 }
 
 impl Replay {
-    /// Before the first turn, for the first so many banks, with a line of so many credit units. `Memory` for want of memory.
+    /// Before the first turn, for the first so many banks, with a line of so many credit units. `Memory` when out of memory.
     pub(crate) fn new(
         alloc: Global,
         pair: PairId,

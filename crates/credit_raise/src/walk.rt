@@ -10,7 +10,7 @@ use global_book::PairBook;
 use std::alloc::Global;
 
 /// Of the orders of two banks those that cross the other bank's best price, in arrival order. It reads no other order, and
-/// counts no step. `Memory` for want of memory.
+/// counts no step. `Memory` when out of memory.
 pub(crate) fn live_turns(
     alloc: Global,
     book: &PairBook,

@@ -15,14 +15,16 @@ use Rattle.fx_rules.proofs.ListLemmas.{Each-among, filter_agree_on}
 use Rattle.fx_rules.proofs.Opens.{orders_in-among}
 use Rattle.fx_rules.proofs.SweepSound.{swept-sound, weight_of-least}
 use Rattle.fx_rules.proofs.RaiseSound.{match_cases, turn_of, turn-sender, turned-sound}
+use Rattle.fx_rules.proofs.Staying.{turned-elsewhere}
 use Rattle.fx_rules.proofs.Planning.{orders_in-rising, open_own}
 use Rattle.fx_rules.proofs.PlanSwept.{planned-swept}
 use Rattle.flat_host.specs.inside.FlatState.{TablesFor}
 use Rattle.flat_host.specs.Parts.{PlannedOver, both_lowered, uses_after}
-use Rattle.flat_host.specs.Turns.{in_pair, TurnedIn, RaisedIn}
+use Rattle.fx_rules.specs.inside.Orders.{in_pair}
+use Rattle.flat_host.specs.Turns.{TurnedIn, RaisedIn}
 use Rattle.flat_host.proofs.Carrying.{length-uses_after}
 use Rattle.flat_host.proofs.Tables.{line-same, tables-swept, tables-turned}
-use Rattle.flat_host.proofs.Pairs.{orders_in-in_pair, SweptPairs, swept-pairs, turn-only, turned-others}
+use Rattle.flat_host.proofs.Pairs.{orders_in-in_pair, swept-in_pair, turn-only}
 
 and_true_right : (a : Bool) → (a && true) ≡ a
 and_true_right true = refl
@@ -95,7 +97,7 @@ turned-market h pair S weights limits uses book (order ∷ turns) fills session 
           swept-planned h S weights limits uses (taker_of_resting pair now) own left session sound tables sender pair_in
           (subst (λ (os : List Resting). PlannedOver weights limits uses os (taker_of_resting pair now) own left) same found.2.3) in
           let next : IsSound h (filled_all S own) = (swept-sound h S (taker_of_resting pair now) own left sound sender some swept).0 in
-          let pairs : SweptPairs S pair own = swept-pairs h S (taker_of_resting pair now) own left sound sender some (turn-only h S pair order.bank order.number now sound turn) swept in
+          let pairs : in_pair pair (filled_all S own).orders ≡ both_lowered (in_pair pair S.orders) own = swept-in_pair h S (taker_of_resting pair now) own left sound sender some (turn-only h S pair order.bank order.number now sound turn) swept in
           match_some (order_of S pair order.bank order.number) now (Turned h pair S turns fills) Then here (
             own,
             more,
@@ -105,7 +107,7 @@ turned-market h pair S weights limits uses book (order ∷ turns) fills session 
             turned-market h pair (filled_all S own) weights limits (uses_after weights limits uses own) (both_lowered book own) turns more session pair_in next
                 (length-uses_after weights limits uses own ∙ full)
                 (tables-swept h S weights limits uses (taker_of_resting pair now) own left session.banks_most full sound sender some tables swept)
-                (ap (λ (os : List ActiveOrder). both_lowered os own) is ∙ sym pairs.own)
+                (ap (λ (os : List ActiveOrder). both_lowered os own) is ∙ sym pairs)
                 found.2.5,
           )
     ]
@@ -130,6 +132,6 @@ raised-market h (suc pairs) pair orders S weights limits uses fills session with
       raised-market h pairs (pair + 1) orders (filled_all S own) weights limits (uses_after weights limits uses own) more session (omega arith) next
           (length-uses_after weights limits uses own ∙ full)
           (tables-turned h pair S weights limits uses (orders_in pair S.orders) own session.banks_most full sound some tables turned)
-          (λ other from. turned-others h pair S (orders_in pair S.orders) own other (omega arith) some sound turned ∙ rest other (omega arith))
+          (λ other from. turned-elsewhere h pair S (orders_in pair S.orders) own other (omega arith) some sound turned ∙ rest other (omega arith))
           raised.4,
     )

@@ -8,27 +8,21 @@ use Rattle.fx_rules.specs.Lists.{Among, Each, EachPair}
 use Rattle.fx_rules.specs.Session.{Header, bank_count, weight_of}
 use Rattle.fx_rules.specs.State.{State, orders_in}
 use Rattle.fx_rules.specs.Sweep.{Taker, Swept, is_order, lowered, with_left, less, filled, filled_all}
-use Rattle.fx_rules.specs.Raise.{order_of, taker_of_resting, Turned}
 use Rattle.fx_rules.specs.Sound.{IsSound, Rises}
+use Rattle.fx_rules.specs.inside.Orders.{in_pair}
 use Rattle.fx_rules.proofs.Credit.{IsAllowed}
-use Rattle.fx_rules.proofs.ListLemmas.{Each-among, Each-weaker, filter_cons_true, filter_cons_false, filter_filter, filter_agree_on}
+use Rattle.fx_rules.proofs.ListLemmas.{Each-among, Each-weaker, filter_filter, filter_agree_on}
 use Rattle.fx_rules.proofs.Lowering.{Each-lowered}
 use Rattle.fx_rules.proofs.Opens.{open-among, allowed-open}
-use Rattle.fx_rules.proofs.SweepSound.{filled-sound, swept-sound, filled_all-append}
-use Rattle.fx_rules.proofs.RaiseSound.{match_cases, turn_of, turn-sender, IsTurn}
+use Rattle.fx_rules.proofs.SweepSound.{filled-sound}
+use Rattle.fx_rules.proofs.RaiseSound.{IsTurn}
+use Rattle.fx_rules.proofs.Staying.{in_pair-here, in_pair-there}
 use Rattle.flat_host.specs.Parts.{both_lowered}
-use Rattle.flat_host.specs.Turns.{in_pair}
 use Rattle.flat_host.proofs.Lowered.{lowered_here, lowered_later}
 
 -- an order, where it is this command's, rests in this pair
 abbrev pub OfPair : ℕ → ℕ → ℕ → ActiveOrder → Type 0
 OfPair pair bank number a = is_order bank number a.order ≡ true → a.pair ≡ pair
-
-here : (pair : ℕ) (a : ActiveOrder) (orders : List ActiveOrder) → eqb a.pair pair ≡ true → in_pair pair (a ∷ orders) ≡ a ∷ in_pair pair orders
-here pair a orders is = filter_cons_true (λ (b : ActiveOrder). eqb b.pair pair) a orders is
-
-there : (pair : ℕ) (a : ActiveOrder) (orders : List ActiveOrder) → eqb a.pair pair ≡ false → in_pair pair (a ∷ orders) ≡ in_pair pair orders
-there pair a orders is_not = filter_cons_false (λ (b : ActiveOrder). eqb b.pair pair) a orders is_not
 
 idempotent : (a : Bool) → (a && a) ≡ a
 idempotent true = refl
@@ -45,7 +39,7 @@ cut_here : (pair : ℕ) (a : ActiveOrder) (lots : ℕ) (rest : List ActiveOrder)
 cut_here pair a lots rest is =
     elim (cases_Bool (ltb lots a.order.left)) [
       | inl more ↦ ap (in_pair pair) (cond-true (ltb lots a.order.left) (with_left a (a.order.left - lots) ∷ rest) rest more)
-          ∙ here pair (with_left a (a.order.left - lots)) rest is
+          ∙ in_pair-here pair (with_left a (a.order.left - lots)) rest is
           ∙ sym (cond-true (ltb lots a.order.left) (with_left a (a.order.left - lots) ∷ in_pair pair rest) (in_pair pair rest) more)
       | inr gone ↦ ap (in_pair pair) (cond-false (ltb lots a.order.left) (with_left a (a.order.left - lots) ∷ rest) rest gone)
           ∙ sym (cond-false (ltb lots a.order.left) (with_left a (a.order.left - lots) ∷ in_pair pair rest) (in_pair pair rest) gone)
@@ -54,7 +48,7 @@ cut_here pair a lots rest is =
 cut_there : (pair : ℕ) (a : ActiveOrder) (lots : ℕ) (rest : List ActiveOrder) → eqb a.pair pair ≡ false → in_pair pair (cond (ltb lots a.order.left) (with_left a (a.order.left - lots) ∷ rest) rest) ≡ in_pair pair rest
 cut_there pair a lots rest is_not =
     cond_both (ltb lots a.order.left) (with_left a (a.order.left - lots) ∷ rest) rest (λ (os : List ActiveOrder). in_pair pair os ≡ in_pair pair rest)
-    (λ _. there pair (with_left a (a.order.left - lots)) rest is_not) (λ _. refl)
+    (λ _. in_pair-there pair (with_left a (a.order.left - lots)) rest is_not) (λ _. refl)
 
 -- an order of the pair is lowered among the orders of the pair
 pub in_pair-lowered : (pair bank number lots : ℕ) (orders : List ActiveOrder) → Each (OfPair pair bank number) orders → in_pair pair (lowered bank number lots orders) ≡ lowered bank number lots (in_pair pair orders)
@@ -65,34 +59,15 @@ in_pair-lowered pair bank number lots (a ∷ rest) all =
       | inl is ↦
           let of_pair : eqb a.pair pair ≡ true = eq-eqb a.pair pair (all.0 is) in
           ap (in_pair pair) (lowered_here bank number lots a rest is) ∙ cut_here pair a lots rest of_pair
-          ∙ sym (lowered_here bank number lots a (in_pair pair rest) is) ∙ ap (lowered bank number lots) (sym (here pair a rest of_pair))
+          ∙ sym (lowered_here bank number lots a (in_pair pair rest) is) ∙ ap (lowered bank number lots) (sym (in_pair-here pair a rest of_pair))
       | inr is_not ↦ elim (cases_Bool (eqb a.pair pair)) [
         | inl of_pair ↦
-            ap (in_pair pair) (lowered_later bank number lots a rest is_not) ∙ here pair a (lowered bank number lots rest) of_pair
+            ap (in_pair pair) (lowered_later bank number lots a rest is_not) ∙ in_pair-here pair a (lowered bank number lots rest) of_pair
             ∙ ap (λ (os : List ActiveOrder). a ∷ os) later
-            ∙ sym (lowered_later bank number lots a (in_pair pair rest) is_not) ∙ ap (lowered bank number lots) (sym (here pair a rest of_pair))
+            ∙ sym (lowered_later bank number lots a (in_pair pair rest) is_not) ∙ ap (lowered bank number lots) (sym (in_pair-here pair a rest of_pair))
         | inr other ↦
-            ap (in_pair pair) (lowered_later bank number lots a rest is_not) ∙ there pair a (lowered bank number lots rest) other
-            ∙ later ∙ ap (lowered bank number lots) (sym (there pair a rest other))
-      ]
-    ]
-
--- and leaves the orders of any other
-pub in_pair-lowered_other : (pair other bank number lots : ℕ) (orders : List ActiveOrder) → other ≢ pair → Each (OfPair pair bank number) orders → in_pair other (lowered bank number lots orders) ≡ in_pair other orders
-in_pair-lowered_other pair other bank number lots [] differ all = refl
-in_pair-lowered_other pair other bank number lots (a ∷ rest) differ all =
-    let later : in_pair other (lowered bank number lots rest) ≡ in_pair other rest = in_pair-lowered_other pair other bank number lots rest differ all.1 in
-    elim (cases_Bool (is_order bank number a.order)) [
-      | inl is ↦
-          let not_of : eqb a.pair other ≡ false = false_from_ne_true (eqb a.pair other) (λ same. differ (sym (eqb-true a.pair other same) ∙ all.0 is)) in
-          ap (in_pair other) (lowered_here bank number lots a rest is) ∙ cut_there other a lots rest not_of ∙ sym (there other a rest not_of)
-      | inr is_not ↦ elim (cases_Bool (eqb a.pair other)) [
-        | inl of_it ↦
-            ap (in_pair other) (lowered_later bank number lots a rest is_not) ∙ here other a (lowered bank number lots rest) of_it
-            ∙ ap (λ (os : List ActiveOrder). a ∷ os) later ∙ sym (here other a rest of_it)
-        | inr not_of ↦
-            ap (in_pair other) (lowered_later bank number lots a rest is_not) ∙ there other a (lowered bank number lots rest) not_of
-            ∙ later ∙ sym (there other a rest not_of)
+            ap (in_pair pair) (lowered_later bank number lots a rest is_not) ∙ in_pair-there pair a (lowered bank number lots rest) other
+            ∙ later ∙ ap (lowered bank number lots) (sym (in_pair-there pair a rest other))
       ]
     ]
 
@@ -119,18 +94,14 @@ one_command (x ∷ orders) a rising (inr later) = (
   one_command orders a rising.1 later,
 )
 
--- what a sweep does to the orders of its pair, and of every other
-pub record SweptPairs (S : State) (pair : ℕ) (fills : List Fill) : Type 0 where
-  pub own : in_pair pair (filled_all S fills).orders ≡ both_lowered (in_pair pair S.orders) fills
-  pub others : (other : ℕ) → other ≢ pair → in_pair other (filled_all S fills).orders ≡ in_pair other S.orders
-
 key_moved : (pair bank number bank' number' : ℕ) (orders : List ActiveOrder) → bank ≡ bank' → number ≡ number' → Each (OfPair pair bank number) orders → Each (OfPair pair bank' number') orders
 key_moved pair bank number bank' number' orders b n all =
     subst (λ k. Each (OfPair pair bank' k) orders) n (subst (λ k. Each (OfPair pair k number) orders) b all)
 
-pub swept-pairs : (h : Header) (S : State) (t : Taker) (fills : List Fill) (left : ℕ) → IsSound h S → t.bank < bank_count h → 0 < weight_of h t.pair → Each (OfPair t.pair t.bank t.number) S.orders → Swept h S t fills left → SweptPairs S t.pair fills
-swept-pairs h S t [] left sound bank some own swept = record { own = refl; others = λ _ _. refl }
-swept-pairs h S t (f ∷ fills) left sound bank some own swept =
+-- a sweep lowers orders among those of its pair
+pub swept-in_pair : (h : Header) (S : State) (t : Taker) (fills : List Fill) (left : ℕ) → IsSound h S → t.bank < bank_count h → 0 < weight_of h t.pair → Each (OfPair t.pair t.bank t.number) S.orders → Swept h S t fills left → in_pair t.pair (filled_all S fills).orders ≡ both_lowered (in_pair t.pair S.orders) fills
+swept-in_pair h S t [] left sound bank some own swept = refl
+swept-in_pair h S t (f ∷ fills) left sound bank some own swept =
     let best : Resting = swept.0 in
     let allowed : IsAllowed h S f = subst (IsAllowed h S) (sym swept.3) (allowed-open h S t best sound bank some swept.1 swept.2.there) in
     let maker = (open-among h S t best swept.2.there).1 in
@@ -148,18 +119,12 @@ swept-pairs h S t (f ∷ fills) left sound bank some own swept =
     let after : Each (OfPair t.pair t.bank t.number) (filled S f).orders =
     Each-lowered (OfPair t.pair t.bank t.number) (λ b n is _ _. is) f.taker f.taker_number f.lots once
     (Each-lowered (OfPair t.pair t.bank t.number) (λ b n is _ _. is) f.maker f.maker_number f.lots S.orders own) in
-    let rest : SweptPairs (filled S f) t.pair fills =
-    swept-pairs h (filled S f) (less t f.lots) fills left (filled-sound h S f sound allowed) bank some after swept.4 in
+    let rest : in_pair t.pair (filled_all (filled S f) fills).orders ≡ both_lowered (in_pair t.pair (filled S f).orders) fills =
+    swept-in_pair h (filled S f) (less t f.lots) fills left (filled-sound h S f sound allowed) bank some after swept.4 in
     let first : in_pair t.pair (filled S f).orders ≡ lowered f.taker f.taker_number f.lots (lowered f.maker f.maker_number f.lots (in_pair t.pair S.orders)) =
     in_pair-lowered t.pair f.taker f.taker_number f.lots once takers
     ∙ ap (lowered f.taker f.taker_number f.lots) (in_pair-lowered t.pair f.maker f.maker_number f.lots S.orders makers) in
-    record {
-      own = rest.own ∙ ap (λ (os : List ActiveOrder). both_lowered os fills) first;
-      others = λ other differ.
-          rest.others other differ
-          ∙ in_pair-lowered_other t.pair other f.taker f.taker_number f.lots once differ takers
-          ∙ in_pair-lowered_other t.pair other f.maker f.maker_number f.lots S.orders differ makers;
-    }
+    rest ∙ ap (λ (os : List ActiveOrder). both_lowered os fills) first
 
 -- the order whose turn comes is the only one of its command
 pub turn-only : (h : Header) (S : State) (pair bank number : ℕ) (now : Resting) → IsSound h S → IsTurn h S pair bank number now → Each (OfPair pair now.bank now.number) S.orders
@@ -168,25 +133,3 @@ turn-only h S pair bank number now sound turn =
     (ap (λ (o : Resting). o.bank) (sym turn.order)) (ap (λ (o : Resting). o.number) (sym turn.order))
     (subst (λ p. Each (OfPair p turn.active.order.bank turn.active.order.number) S.orders) turn.of_pair
     (one_command S.orders turn.active sound.rising turn.rests))
-
--- the turns of a pair leave the orders of every other
-pub turned-others : (h : Header) (pair : ℕ) (S : State) (orders : List Resting) (fills : List Fill) (other : ℕ) → other ≢ pair → 0 < weight_of h pair → IsSound h S → Turned h pair S orders fills → in_pair other (filled_all S fills).orders ≡ in_pair other S.orders
-turned-others h pair S [] fills other differ some sound turned = ap (λ (fs : List Fill). in_pair other (filled_all S fs).orders) turned
-turned-others h pair S (order ∷ orders) fills other differ some sound turned =
-    elim (match_cases (order_of S pair order.bank order.number) (Turned h pair S orders fills)
-    (λ now. (own more : List Fill) × (left : ℕ) × Swept h S (taker_of_resting pair now) own left × (fills ≡ own ++ more) × Turned h pair (filled_all S own) orders more)
-    turned) [
-      | inl gone ↦ turned-others h pair S orders fills other differ some sound gone.1
-      | inr found ↦
-          let now : Resting = found.0 in
-          let own : List Fill = found.2.0 in
-          let more : List Fill = found.2.1 in
-          let turn = turn_of h S pair order.bank order.number now sound found.1 in
-          let sender = turn-sender h S pair order.bank order.number now turn in
-          let next : IsSound h (filled_all S own) = (swept-sound h S (taker_of_resting pair now) own found.2.2 sound sender some found.2.3).0 in
-          let first = swept-pairs h S (taker_of_resting pair now) own found.2.2 sound sender some (turn-only h S pair order.bank order.number now sound turn) found.2.3 in
-          ap (λ (fs : List Fill). in_pair other (filled_all S fs).orders) found.2.4
-          ∙ ap (λ (T : State). in_pair other T.orders) (filled_all-append S own more)
-          ∙ turned-others h pair (filled_all S own) orders more other differ some next found.2.5
-          ∙ first.others other differ
-    ]

@@ -32,7 +32,8 @@ use Rattle.flat_host.specs.FlatState.{FlatState, IsWithin, StandsFor, limit_plac
 use Rattle.flat_host.specs.inside.FlatState.{IsFlatState, TablesFor}
 use Rattle.flat_host.specs.Parts.{PlannedOver, both_lowered, uses_after, rests_of, is_done}
 use Rattle.flat_host.specs.inside.Parts.{PlannedIn, OrderedIn, taker_from, with_rest, order_carried, limits_with, counted_in, cancelled_in, reduced_in, shown_in}
-use Rattle.flat_host.specs.Turns.{in_pair, RaisedIn}
+use Rattle.fx_rules.specs.inside.Orders.{in_pair}
+use Rattle.flat_host.specs.Turns.{RaisedIn}
 use Rattle.flat_host.specs.inside.Turns.{LineSetIn, raised_in}
 use Rattle.flat_host.specs.inside.Levels.{ProbedIn}
 use Rattle.flat_host.specs.Steps.{IsCommandOf, AnswersEach, StepsEach, ShowsEach}

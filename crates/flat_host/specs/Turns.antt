@@ -1,16 +1,13 @@
 -- The turns of a credit change over the host's orders and tables. Each pair is gone through in a book of its own.
-use Rattle.std.specs.Prelude.{ℕ, zero, suc, ◌≡◌, ◌+◌, ◌==◌, List, [], ◌∷◌, ◌++◌, filter, find, MatchOption}
+use Rattle.std.specs.Prelude.{ℕ, zero, suc, ◌≡◌, ◌+◌, List, [], ◌∷◌, ◌++◌, find, MatchOption}
 use Rattle.fx_rules.specs.declared.orders.ActiveOrder.{ActiveOrder}
 use Rattle.fx_rules.specs.declared.orders.Resting.{Resting}
 use Rattle.fx_rules.specs.declared.orders.Fill.{Fill}
 use Rattle.fx_rules.specs.State.{orders_in}
+use Rattle.fx_rules.specs.inside.Orders.{in_pair}
 use Rattle.fx_rules.specs.Sweep.{is_order}
 use Rattle.fx_rules.specs.Raise.{taker_of_resting}
 use Rattle.flat_host.specs.Parts.{PlannedOver, both_lowered, uses_after}
-
--- the orders of a pair
-abbrev pub in_pair : ℕ → List ActiveOrder → List ActiveOrder
-in_pair pair orders = filter (λ active. active.pair == pair) orders
 
 -- some orders of a pair have their turns, each that still rests in the pair's book when its turn comes
 abbrev pub TurnedIn : List ℕ → List ℕ → ℕ → List ActiveOrder → List ℕ → List Resting → List Fill → Type 0

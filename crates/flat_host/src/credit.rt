@@ -39,13 +39,13 @@ pub fn line(limits: &[Units], uses: &[Units], i: BankId, j: BankId) -> u64
 }
 
 /// The lines of a bank with each bank, in credit units.
-pub fn lines_of(limits: &[Units], uses: &[Units], bank: BankId) -> [u64; 64]
+pub fn lines_of(limits: &[Units], uses: &[Units], bank: BankId) -> [u64; BankId::SENDERS]
     requires limits { length limits.now ≡ 4096 }
     requires uses { length uses.now ≡ 4096 }
     ensures lines { (other : ℕ) → other < 64 → slice_index result other ≡ line_in limits.now uses.now bank other }
     ensures most { total (λ line. line) result ≤ 64 * 10 ^ 15 }
 {
-    let mut lines = [0; 64];
+    let mut lines = [0; BankId::SENDERS];
     for place in 0..64u8 {
         if let Some(other) = BankId::new(place) {
             lines[place as usize] = line(limits, uses, bank, other);

@@ -6,7 +6,7 @@ ghost use Rattle.flat_host.specs.Walks.{IsLevelled};
 ghost use Rattle.flat_host.specs.inside.Walks.{against_in};
 
 use crate::sweep::Walk;
-use fx_amounts::{Memory, PairId, Side};
+use fx_amounts::{BankId, Memory, PairId, Side};
 use fx_rules::{ActiveOrder, LevelList, SHOWN_LEVELS, SweptOrder, add_fill};
 use std::alloc::Global;
 
@@ -55,7 +55,7 @@ pub fn first_levels(
     alloc: Global,
     orders: &[ActiveOrder],
     taker: &SweptOrder,
-    lines: [u64; 64],
+    lines: [u64; BankId::SENDERS],
     weight: u32,
 ) -> Result<LevelList, Memory>
     requires weight { 1 ≤ weight }
@@ -73,7 +73,7 @@ fn levels_among(
     alloc: Global,
     orders: &[ActiveOrder],
     taker: &SweptOrder,
-    lines: [u64; 64],
+    lines: [u64; BankId::SENDERS],
     weight: u32,
 ) -> Result<LevelList, Memory>
     requires weight { 1 ≤ weight }

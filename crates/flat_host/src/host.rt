@@ -92,10 +92,12 @@ fn opening_limit_at(session: &Session, place: u32) -> Units
     ensures value { result ≡ limit_at session.now place }
 {
     let banks = session.banks().len();
-    let (i, j) = (place / 64, place % 64);
-    match (BankId::new(i as u8), BankId::new(j as u8)) {
-        (Some(i), Some(j)) if i.index() < banks && j.index() < banks => session.limit(i, j),
-        _ => Units::new(0).unwrap(),
+    let i = BankId::at((place / 64) as usize);
+    let j = BankId::at((place % 64) as usize);
+    if i.index() < banks && j.index() < banks {
+        session.limit(i, j)
+    } else {
+        Units::new(0).unwrap()
     }
 }
 

@@ -3,7 +3,8 @@ ghost use Rattle.fx_rules.specs.State.{orders_in};
 ghost use Rattle.fx_rules.specs.Sweep.{is_order};
 ghost use Rattle.flat_host.specs.FlatState.{AreWeights};
 ghost use Rattle.flat_host.specs.Parts.{both_lowered, uses_after};
-ghost use Rattle.flat_host.specs.Turns.{in_pair, TurnedIn, RaisedIn};
+ghost use Rattle.fx_rules.specs.inside.Orders.{in_pair};
+ghost use Rattle.flat_host.specs.Turns.{TurnedIn, RaisedIn};
 ghost use Rattle.flat_host.specs.inside.Turns.{TurnOf};
 
 use crate::changes::order_of;
@@ -40,10 +41,8 @@ pub fn raised_fills(
     let table = copied.as_mut_slice();
     let mut fills = Vec::new(alloc);
     for place in 0..terms.weights.len() {
-        if let Some(pair) = PairId::new(place as u8) {
-            let own = pair_turns(alloc, orders, terms, table, pair)?;
-            fills.extend_from_slice(&own)?;
-        }
+        let own = pair_turns(alloc, orders, terms, table, PairId::at(place))?;
+        fills.extend_from_slice(&own)?;
     }
     Ok(FillList::from_vec(fills))
 }

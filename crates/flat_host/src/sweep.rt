@@ -6,7 +6,7 @@ ghost use Rattle.fx_rules.specs.Plan.{Planned, is_behind};
 ghost use Rattle.flat_host.specs.inside.Search.{is_candidate, candidates, preferred_of, IsBestOf};
 ghost use Rattle.flat_host.specs.Walks.{StepsOn};
 
-use fx_amounts::{Memory, Side};
+use fx_amounts::{BankId, Memory, Side};
 use fx_rules::{ActiveOrder, Fill, FillList, Resting, SweptOrder};
 use std::alloc::Global;
 
@@ -55,7 +55,7 @@ fn is_behind(side: Side, last: &Option<Resting>, order: &Resting) -> bool
 /// comes behind the last one taken.
 fn is_candidate(
     taker: &SweptOrder,
-    lines: &[u64; 64],
+    lines: &[u64; BankId::SENDERS],
     weight: u32,
     last: &Option<Resting>,
     active: &ActiveOrder,
@@ -73,7 +73,7 @@ fn is_candidate(
 fn best_behind(
     orders: &[ActiveOrder],
     taker: &SweptOrder,
-    lines: &[u64; 64],
+    lines: &[u64; BankId::SENDERS],
     weight: u32,
     last: &Option<Resting>,
 ) -> Option<Resting>
@@ -105,14 +105,14 @@ pub struct Walk {
     /// The taker, with the lots that it still wants.
     pub taker: SweptOrder,
     /// What is left of its lines with each bank, in credit units.
-    pub lines: [u64; 64],
+    pub lines: [u64; BankId::SENDERS],
     /// The order that it took last, where there is one.
     pub last: Option<Resting>,
 }
 
 impl Walk {
     /// Before its first fill.
-    pub fn new(taker: &SweptOrder, lines: [u64; 64]) -> Walk
+    pub fn new(taker: &SweptOrder, lines: [u64; BankId::SENDERS]) -> Walk
         ensures taker { result.taker ≡ taker.now }
         ensures lines { result.lines ≡ lines }
         ensures last { result.last ≡ None }
@@ -150,7 +150,7 @@ pub fn plan_sweep(
     alloc: Global,
     orders: &[ActiveOrder],
     taker: &SweptOrder,
-    lines: [u64; 64],
+    lines: [u64; BankId::SENDERS],
     weight: u32,
 ) -> Result<Sweep, Memory>
     requires weight { 1 ≤ weight }

@@ -60,26 +60,35 @@ turn-sender h S pair bank number now turn =
     let owner : now.bank ≡ turn.active.order.bank = ap (λ (o : Resting). o.bank) turn.order in
     omega (arith, turn.kept.bank)
 
--- What holds of no fills and of the fills of each sweep, and of two lists of fills together where it holds of each, the second
+-- What holds of no fills and of the fills of each turn, and of two lists of fills together where it holds of each, the second
 -- in the state that the first leaves, holds of the fills of orders that are swept in turn.
-module _ (h : Header) (P : State → List Fill → Type 0) (none : (S : State) → IsSound h S → P S []) (join : (S : State) (own more : List Fill) → P S own → P (filled_all S own) more → P S (own ++ more)) (one : (S : State) (t : Taker) (fills : List Fill) (left : ℕ) → IsSound h S → t.bank < bank_count h → 0 < weight_of h t.pair → Swept h S t fills left → P S fills) where
-  pub turned-walk : (pair : ℕ) (S : State) (orders : List Resting) (fills : List Fill) → 0 < weight_of h pair → IsSound h S → Turned h pair S orders fills → P S fills
-  turned-walk pair S [] fills some sound turned = subst (P S) (sym turned) (none S sound)
-  turned-walk pair S (order ∷ orders) fills some sound turned =
+module _ (h : Header) (pair : ℕ) (P : State → List Fill → Type 0) (none : (S : State) → IsSound h S → P S []) (join : (S : State) (own more : List Fill) → P S own → P (filled_all S own) more → P S (own ++ more)) (one : (S : State) (bank number : ℕ) (now : Resting) (fills : List Fill) (left : ℕ) → IsSound h S → IsTurn h S pair bank number now → 0 < weight_of h pair → Swept h S (taker_of_resting pair now) fills left → P S fills) where
+  pub turns-walk : (S : State) (orders : List Resting) (fills : List Fill) → 0 < weight_of h pair → IsSound h S → Turned h pair S orders fills → P S fills
+  turns-walk S [] fills some sound turned = subst (P S) (sym turned) (none S sound)
+  turns-walk S (order ∷ orders) fills some sound turned =
       elim (match_cases (order_of S pair order.bank order.number) (Turned h pair S orders fills)
       (λ now. (own more : List Fill) × (left : ℕ) × Swept h S (taker_of_resting pair now) own left × (fills ≡ own ++ more) × Turned h pair (filled_all S own) orders more)
       turned) [
-        | inl gone ↦ turned-walk pair S orders fills some sound gone.1
+        | inl gone ↦ turns-walk S orders fills some sound gone.1
         | inr here ↦
             let now : Resting = here.0 in
             let own : List Fill = here.2.0 in
             let more : List Fill = here.2.1 in
-            let sender = turn-sender h S pair order.bank order.number now (turn_of h S pair order.bank order.number now sound here.1) in
+            let turn : IsTurn h S pair order.bank order.number now = turn_of h S pair order.bank order.number now sound here.1 in
+            let sender = turn-sender h S pair order.bank order.number now turn in
             let next : IsSound h (filled_all S own) = (swept-sound h S (taker_of_resting pair now) own here.2.2 sound sender some here.2.3).0 in
             subst (P S) (sym here.2.4)
-            (join S own more (one S (taker_of_resting pair now) own here.2.2 sound sender some here.2.3)
-            (turned-walk pair (filled_all S own) orders more some next here.2.5))
+            (join S own more (one S order.bank order.number now own here.2.2 sound turn some here.2.3)
+            (turns-walk (filled_all S own) orders more some next here.2.5))
       ]
+
+-- The like of what holds of the fills of each sweep.
+module _ (h : Header) (P : State → List Fill → Type 0) (none : (S : State) → IsSound h S → P S []) (join : (S : State) (own more : List Fill) → P S own → P (filled_all S own) more → P S (own ++ more)) (one : (S : State) (t : Taker) (fills : List Fill) (left : ℕ) → IsSound h S → t.bank < bank_count h → 0 < weight_of h t.pair → Swept h S t fills left → P S fills) where
+  pub turned-walk : (pair : ℕ) (S : State) (orders : List Resting) (fills : List Fill) → 0 < weight_of h pair → IsSound h S → Turned h pair S orders fills → P S fills
+  turned-walk pair =
+      turns-walk h pair P none join
+      (λ S bank number now fills left sound turn some swept.
+      one S (taker_of_resting pair now) fills left sound (turn-sender h S pair bank number now turn) some swept)
 
 sound_joined : (h : Header) (S : State) (own more : List Fill) → IsSound h (filled_all (filled_all S own) more) → IsSound h (filled_all S (own ++ more))
 sound_joined h S own more sound = subst (IsSound h) (sym (filled_all-append S own more)) sound

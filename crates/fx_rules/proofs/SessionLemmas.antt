@@ -1,5 +1,5 @@
 -- How the tests of a session's banks, pairs and limits tell whether it is valid.
-use Rattle.std.proofs.Common.{◌≡◌, All, option_map, slice_get, ◌&&◌, bytes_eq, ◌<◌, ◌+◌, ◌*◌, ◌/◌, ◌%◌, ℕ, Bool, true, false, cond, List, Some, None, length, take, get_or, is_some, nat_lt, position, slice_index, ◌≢◌, ◌++◌, ◌∷◌, [], Option, IsTrue, IfSome, refl, sym, ap, ap₂, ◌∙◌, subst, arith, inl, inr}
+use Rattle.std.proofs.Common.{◌≡◌, All, option_map, slice_get, ◌&&◌, bytes_eq, ◌<◌, ◌+◌, ◌*◌, ◌/◌, ◌%◌, ℕ, Bool, true, false, cond, List, Some, None, length, take, get_or, is_some, nat_lt, position, slice_index, ◌≢◌, ◌++◌, ◌∷◌, [], Option, IsTrue, refl, sym, ap, ap₂, ◌∙◌, subst, arith, inl, inr}
 use Rattle.std.specs.List.{position_or_len, AllPairs}
 use Rattle.fx_rules.specs.declared.session.PairRule.{PairRule}
 use Rattle.fx_rules.specs.Names.{is_code}
@@ -149,8 +149,3 @@ pair_text_by_letters base quote first second base_valid quote_valid is_base is_q
 pub option_map-same : {X : Type 0} (o : Option X) → o ≡ option_map (λ x. x) o
 option_map-same None = refl
 option_map-same (Some x) = refl
-
--- what holds of a place holds of the number that is made of it
-pub IfSome-number : (number : Option ℕ) (place : ℕ) (P : ℕ → Type 0) → IfSome number (λ n. n ≡ place) → P place → IfSome number P
-IfSome-number None place P is_place holds = tt
-IfSome-number (Some x) place P is_place holds = subst P (sym is_place) holds

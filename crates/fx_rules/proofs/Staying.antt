@@ -19,15 +19,16 @@ use Rattle.fx_rules.specs.Lists.{Among, EachPair}
 use Rattle.fx_rules.specs.Session.{Header, IsSession, bank_count, pair_count, weight_of}
 use Rattle.fx_rules.specs.State.{State, orders_in, count_of}
 use Rattle.fx_rules.specs.Sweep.{Taker, Swept, filled, filled_all, lowered, less, is_order, with_left}
-use Rattle.fx_rules.specs.Raise.{limited, order_of}
+use Rattle.fx_rules.specs.Raise.{limited, order_of, taker_of_resting, Turned}
 use Rattle.fx_rules.specs.Step.{IsCommand, IsOrdered, IsOutcome, taker_of, cancel_answer, reduce_answer, rested, reduced, changed, may_change}
 use Rattle.fx_rules.specs.History.{IsStep, after_entry}
 use Rattle.fx_rules.specs.Sound.{IsSound, IsKept, Rises}
-use Rattle.fx_rules.proofs.ListLemmas.{Each-among, filter_agree_on, filter_filter}
+use Rattle.fx_rules.specs.inside.Orders.{in_pair}
+use Rattle.fx_rules.proofs.ListLemmas.{Each-among, filter_agree_on, filter_filter, filter_cons_true, filter_cons_false}
 use Rattle.fx_rules.proofs.Credit.{IsAllowed}
 use Rattle.fx_rules.proofs.Opens.{IsMaker, maker_of, allowed-open}
-use Rattle.fx_rules.proofs.Planning.{orders_in-here, orders_in-there}
-use Rattle.fx_rules.proofs.RaiseSound.{IsTurn, turn_of}
+use Rattle.fx_rules.proofs.SweepSound.{filled_all-append}
+use Rattle.fx_rules.proofs.RaiseSound.{IsTurn, turn_of, turn-sender, turns-walk}
 use Rattle.fx_rules.proofs.Lowering.{is_order-says}
 use Rattle.fx_rules.proofs.Following.{lowered_from}
 use Rattle.fx_rules.proofs.Soundness.{filled-sound, resting_of, counts-filled_all, weight_of-least}
@@ -60,28 +61,34 @@ abbrev pub Elsewhere : List ActiveOrder → ℕ → ℕ → ℕ → Type 0
 Elsewhere orders bank number pair =
     (a : ActiveOrder) → Among a orders → a.order.bank ≡ bank → a.order.number ≡ number → a.pair ≢ pair
 
+pub in_pair-here : (pair : ℕ) (a : ActiveOrder) (orders : List ActiveOrder) → eqb a.pair pair ≡ true → in_pair pair (a ∷ orders) ≡ a ∷ in_pair pair orders
+in_pair-here pair a orders is = filter_cons_true (λ (b : ActiveOrder). eqb b.pair pair) a orders is
+
+pub in_pair-there : (pair : ℕ) (a : ActiveOrder) (orders : List ActiveOrder) → eqb a.pair pair ≡ false → in_pair pair (a ∷ orders) ≡ in_pair pair orders
+in_pair-there pair a orders is_not = filter_cons_false (λ (b : ActiveOrder). eqb b.pair pair) a orders is_not
+
 -- the head of a list is of this pair or not
-orders_in-head : (pair : ℕ) (a : ActiveOrder) (xs ys : List ActiveOrder) → orders_in pair xs ≡ orders_in pair ys → orders_in pair (a ∷ xs) ≡ orders_in pair (a ∷ ys)
-orders_in-head pair a xs ys same = elim (cases_Bool (eqb a.pair pair)) [
-  | inl here ↦ orders_in-here pair a xs here ∙ ap (λ os. a.order ∷ os) same ∙ sym (orders_in-here pair a ys here)
-  | inr there ↦ orders_in-there pair a xs there ∙ same ∙ sym (orders_in-there pair a ys there)
+in_pair-head : (pair : ℕ) (a : ActiveOrder) (xs ys : List ActiveOrder) → in_pair pair xs ≡ in_pair pair ys → in_pair pair (a ∷ xs) ≡ in_pair pair (a ∷ ys)
+in_pair-head pair a xs ys same = elim (cases_Bool (eqb a.pair pair)) [
+  | inl here ↦ in_pair-here pair a xs here ∙ ap (λ (os : List ActiveOrder). a ∷ os) same ∙ sym (in_pair-here pair a ys here)
+  | inr there ↦ in_pair-there pair a xs there ∙ same ∙ sym (in_pair-there pair a ys there)
 ]
 
-orders_in-skip : (pair : ℕ) (a : ActiveOrder) (orders : List ActiveOrder) → a.pair ≢ pair → orders_in pair (a ∷ orders) ≡ orders_in pair orders
-orders_in-skip pair a orders differ = orders_in-there pair a orders (ne_eqb a.pair pair differ)
+in_pair-skip : (pair : ℕ) (a : ActiveOrder) (orders : List ActiveOrder) → a.pair ≢ pair → in_pair pair (a ∷ orders) ≡ in_pair pair orders
+in_pair-skip pair a orders differ = in_pair-there pair a orders (ne_eqb a.pair pair differ)
 
-lowered_elsewhere : (pair bank number lots : ℕ) (orders : List ActiveOrder) → Elsewhere orders bank number pair → orders_in pair (lowered bank number lots orders) ≡ orders_in pair orders
+lowered_elsewhere : (pair bank number lots : ℕ) (orders : List ActiveOrder) → Elsewhere orders bank number pair → in_pair pair (lowered bank number lots orders) ≡ in_pair pair orders
 lowered_elsewhere pair bank number lots [] elsewhere = refl
 lowered_elsewhere pair bank number lots (a ∷ orders) elsewhere =
     cond_both (is_order bank number a.order) (cond (ltb lots a.order.left) (with_left a (a.order.left - lots) ∷ orders) orders)
-    (a ∷ lowered bank number lots orders) (λ os. orders_in pair os ≡ orders_in pair (a ∷ orders))
+    (a ∷ lowered bank number lots orders) (λ os. in_pair pair os ≡ in_pair pair (a ∷ orders))
     (λ is.
     let says = is_order-says bank number a.order is in
     let differ : a.pair ≢ pair = elsewhere a (inl refl) says.0 says.1 in
-    cond_both (ltb lots a.order.left) (with_left a (a.order.left - lots) ∷ orders) orders (λ os. orders_in pair os ≡ orders_in pair (a ∷ orders))
-    (λ _. orders_in-skip pair (with_left a (a.order.left - lots)) orders differ ∙ sym (orders_in-skip pair a orders differ))
-    (λ _. sym (orders_in-skip pair a orders differ)))
-    (λ _. orders_in-head pair a (lowered bank number lots orders) orders
+    cond_both (ltb lots a.order.left) (with_left a (a.order.left - lots) ∷ orders) orders (λ os. in_pair pair os ≡ in_pair pair (a ∷ orders))
+    (λ _. in_pair-skip pair (with_left a (a.order.left - lots)) orders differ ∙ sym (in_pair-skip pair a orders differ))
+    (λ _. sym (in_pair-skip pair a orders differ)))
+    (λ _. in_pair-head pair a (lowered bank number lots orders) orders
     (lowered_elsewhere pair bank number lots orders (λ b there. elsewhere b (inr there))))
 
 -- orders of one bank and number are one
@@ -108,7 +115,7 @@ elsewhere_lowered bank number lots orders b n pair elsewhere a there owner comma
     (sym (ap (λ (q : ActiveOrder). q.pair) was.2) ∙ is)
 
 -- a fill of orders of another pair leaves this one's
-pub filled_elsewhere : (S : State) (f : Fill) (pair : ℕ) → Elsewhere S.orders f.maker f.maker_number pair → Elsewhere S.orders f.taker f.taker_number pair → orders_in pair (filled S f).orders ≡ orders_in pair S.orders
+pub filled_elsewhere : (S : State) (f : Fill) (pair : ℕ) → Elsewhere S.orders f.maker f.maker_number pair → Elsewhere S.orders f.taker f.taker_number pair → in_pair pair (filled S f).orders ≡ in_pair pair S.orders
 filled_elsewhere S f pair maker taker =
     lowered_elsewhere pair f.taker f.taker_number f.lots (lowered f.maker f.maker_number f.lots S.orders)
     (elsewhere_lowered f.maker f.maker_number f.lots S.orders f.taker f.taker_number pair taker)
@@ -120,7 +127,7 @@ elsewhere_filled S f b n pair elsewhere =
     (elsewhere_lowered f.maker f.maker_number f.lots S.orders b n pair elsewhere)
 
 -- the sweep of an order of another pair leaves this one's orders
-pub swept_elsewhere : (h : Header) (S : State) (t : Taker) (fills : List Fill) (left pair : ℕ) → IsSound h S → t.bank < bank_count h → 0 < weight_of h t.pair → t.pair ≢ pair → Elsewhere S.orders t.bank t.number pair → Swept h S t fills left → orders_in pair (filled_all S fills).orders ≡ orders_in pair S.orders
+pub swept_elsewhere : (h : Header) (S : State) (t : Taker) (fills : List Fill) (left pair : ℕ) → IsSound h S → t.bank < bank_count h → 0 < weight_of h t.pair → t.pair ≢ pair → Elsewhere S.orders t.bank t.number pair → Swept h S t fills left → in_pair pair (filled_all S fills).orders ≡ in_pair pair S.orders
 swept_elsewhere h S t [] left pair sound sender some differ elsewhere swept = refl
 swept_elsewhere h S t (f ∷ fills) left pair sound sender some differ elsewhere swept =
     let best : Resting = swept.0 in
@@ -138,6 +145,26 @@ swept_elsewhere h S t (f ∷ fills) left pair sound sender some differ elsewhere
     (elsewhere_filled S f t.bank t.number pair elsewhere) swept.4
     ∙ filled_elsewhere S f pair maker taker
 
+-- the order whose turn comes in another pair is the bank's only one of its number
+turn_elsewhere : (h : Header) (S : State) (its_pair bank number : ℕ) (now : Resting) (pair : ℕ) → IsSound h S → its_pair ≢ pair → IsTurn h S its_pair bank number now → Elsewhere S.orders now.bank now.number pair
+turn_elsewhere h S its_pair bank number now pair sound differ turn =
+    subst (λ (o : Resting). Elsewhere S.orders o.bank o.number pair) (sym turn.order)
+    (elsewhere_of S.orders turn.active pair sound.rising turn.rests (λ is. differ (sym turn.of_pair ∙ is)))
+
+-- The turns of a pair leave the orders of every other.
+pub turned-elsewhere : (h : Header) (its_pair : ℕ) (S : State) (orders : List Resting) (fills : List Fill) (pair : ℕ) → its_pair ≢ pair → 0 < weight_of h its_pair → IsSound h S → Turned h its_pair S orders fills → in_pair pair (filled_all S fills).orders ≡ in_pair pair S.orders
+turned-elsewhere h its_pair S orders fills pair differ =
+    turns-walk h its_pair (λ T own. in_pair pair (filled_all T own).orders ≡ in_pair pair T.orders) (λ _ _. refl)
+    (λ T own more first next. ap (λ (U : State). in_pair pair U.orders) (filled_all-append T own more) ∙ next ∙ first)
+    (λ T bank number now own left sound turn some swept.
+    swept_elsewhere h T (taker_of_resting its_pair now) own left pair sound (turn-sender h T its_pair bank number now turn) some differ
+    (turn_elsewhere h T its_pair bank number now pair sound differ turn) swept)
+    S orders fills
+
+pub turned-stays : (h : Header) (its_pair : ℕ) (S : State) (orders : List Resting) (fills : List Fill) (pair : ℕ) → its_pair ≢ pair → 0 < weight_of h its_pair → IsSound h S → Turned h its_pair S orders fills → orders_in pair (filled_all S fills).orders ≡ orders_in pair S.orders
+turned-stays h its_pair S orders fills pair differ some sound turned =
+    ap (map (λ (a : ActiveOrder). a.order)) (turned-elsewhere h its_pair S orders fills pair differ some sound turned)
+
 -- the next order of a bank does not rest yet
 next_elsewhere : (h : Header) (S : State) (bank pair : ℕ) → IsSound h S → Elsewhere S.orders bank (count_of S bank + 1) pair
 next_elsewhere h S bank pair sound a there owner command _ =
@@ -145,25 +172,25 @@ next_elsewhere h S bank pair sound a there owner command _ =
     let most : a.order.number ≤ count_of S bank = subst (λ b. a.order.number ≤ count_of S b) owner kept.number_most in
     omega (arith, command)
 
-pushed_elsewhere : (orders : List ActiveOrder) (o : ActiveOrder) (pair : ℕ) → o.pair ≢ pair → orders_in pair (orders ++ o ∷ []) ≡ orders_in pair orders
-pushed_elsewhere [] o pair differ = orders_in-skip pair o [] differ
-pushed_elsewhere (a ∷ orders) o pair differ = orders_in-head pair a (orders ++ o ∷ []) orders (pushed_elsewhere orders o pair differ)
+pushed_elsewhere : (orders : List ActiveOrder) (o : ActiveOrder) (pair : ℕ) → o.pair ≢ pair → in_pair pair (orders ++ o ∷ []) ≡ in_pair pair orders
+pushed_elsewhere [] o pair differ = in_pair-skip pair o [] differ
+pushed_elsewhere (a ∷ orders) o pair differ = in_pair-head pair a (orders ++ o ∷ []) orders (pushed_elsewhere orders o pair differ)
 
-rested_elsewhere : (t : Taker) (rests : ℕ) (S : State) (pair : ℕ) → t.pair ≢ pair → orders_in pair (rested t rests S).orders ≡ orders_in pair S.orders
+rested_elsewhere : (t : Taker) (rests : ℕ) (S : State) (pair : ℕ) → t.pair ≢ pair → in_pair pair (rested t rests S).orders ≡ in_pair pair S.orders
 unfolding resting_of
 rested_elsewhere t rests S pair differ =
-    cond_both (nat_lt 0 rests) (record S { orders = S.orders ++ resting_of t rests ∷ [] }) S (λ (T : State). orders_in pair T.orders ≡ orders_in pair S.orders)
+    cond_both (nat_lt 0 rests) (record S { orders = S.orders ++ resting_of t rests ∷ [] }) S (λ (T : State). in_pair pair T.orders ≡ in_pair pair S.orders)
     (λ _. pushed_elsewhere S.orders (resting_of t rests) pair differ)
     (λ _. refl)
 
 -- an order is swept and rests in another pair
-ordered_elsewhere : (h : Header) (S : State) (bank : ℕ) (side : Side) (its_pair price lots left rests : ℕ) (fills : List Fill) (pair : ℕ) → IsSession h → IsSound h S → bank < bank_count h → its_pair < pair_count h → its_pair ≢ pair → Swept h S (taker_of S bank side its_pair price lots) fills left → orders_in pair (rested (taker_of S bank side its_pair price lots) rests (filled_all S fills)).orders ≡ orders_in pair S.orders
+ordered_elsewhere : (h : Header) (S : State) (bank : ℕ) (side : Side) (its_pair price lots left rests : ℕ) (fills : List Fill) (pair : ℕ) → IsSession h → IsSound h S → bank < bank_count h → its_pair < pair_count h → its_pair ≢ pair → Swept h S (taker_of S bank side its_pair price lots) fills left → in_pair pair (rested (taker_of S bank side its_pair price lots) rests (filled_all S fills)).orders ≡ in_pair pair S.orders
 ordered_elsewhere h S bank side its_pair price lots left rests fills pair session sound sender its_in differ swept =
     let t : Taker = taker_of S bank side its_pair price lots in
     rested_elsewhere t rests (filled_all S fills) pair differ
     ∙ swept_elsewhere h S t fills left pair sound sender (weight_of-least h its_pair session its_in) differ (next_elsewhere h S bank pair sound) swept
 
-order-stays : (h : Header) (S : State) (bank : ℕ) (side : Side) (its_pair price lots : ℕ) (life : Life) (outcome : Outcome) (pair : ℕ) → IsSession h → IsSound h S → bank < bank_count h → its_pair < pair_count h → its_pair ≢ pair → IsOrdered h S (taker_of S bank side its_pair price lots) life outcome → orders_in pair (changed S bank (Order side its_pair price lots life) outcome).orders ≡ orders_in pair S.orders
+order-stays : (h : Header) (S : State) (bank : ℕ) (side : Side) (its_pair price lots : ℕ) (life : Life) (outcome : Outcome) (pair : ℕ) → IsSession h → IsSound h S → bank < bank_count h → its_pair < pair_count h → its_pair ≢ pair → IsOrdered h S (taker_of S bank side its_pair price lots) life outcome → in_pair pair (changed S bank (Order side its_pair price lots life) outcome).orders ≡ in_pair pair S.orders
 order-stays h S bank side its_pair price lots Day (Ordered done rests fills) pair session sound sender its_in differ is =
     ordered_elsewhere h S bank side its_pair price lots rests rests fills pair session sound sender its_in differ is.0
 order-stays h S bank side its_pair price lots Ioc (Ordered done rests fills) pair session sound sender its_in differ is =
@@ -178,11 +205,11 @@ and_where true b follows = follows refl
 and_where false b follows = refl
 
 -- orders of other pairs are taken out
-fewer_elsewhere : (stays : ActiveOrder → Bool) (pair : ℕ) (orders : List ActiveOrder) → ((a : ActiveOrder) → Among a orders → a.pair ≡ pair → stays a ≡ true) → orders_in pair (filter stays orders) ≡ orders_in pair orders
+fewer_elsewhere : (stays : ActiveOrder → Bool) (pair : ℕ) (orders : List ActiveOrder) → ((a : ActiveOrder) → Among a orders → a.pair ≡ pair → stays a ≡ true) → in_pair pair (filter stays orders) ≡ in_pair pair orders
 fewer_elsewhere stays pair orders keeps =
-    ap (map (λ (a : ActiveOrder). a.order)) (filter_filter (λ (a : ActiveOrder). eqb a.pair pair) stays orders
+    filter_filter (λ (a : ActiveOrder). eqb a.pair pair) stays orders
     ∙ filter_agree_on (λ (a : ActiveOrder). eqb a.pair pair && stays a) (λ (a : ActiveOrder). eqb a.pair pair) orders
-    (λ a there. and_where (eqb a.pair pair) (stays a) (λ is. keeps a there (eqb-true a.pair pair is))))
+    (λ a there. and_where (eqb a.pair pair) (stays a) (λ is. keeps a there (eqb-true a.pair pair is)))
 
 cancel_found : (left : ℕ) (o : Option Resting) → Cancelled left ≡ cancel_answer o → (now : Resting) × (o ≡ Some now)
 cancel_found left None is = cc
@@ -196,12 +223,10 @@ reduce_found lots left (Some now) is = (now, refl)
 found_elsewhere : (h : Header) (S : State) (its_pair bank number : ℕ) (now : Resting) (pair : ℕ) → IsSound h S → its_pair ≢ pair → order_of S its_pair bank number ≡ Some now → Elsewhere S.orders bank number pair
 found_elsewhere h S its_pair bank number now pair sound differ found =
     let turn : IsTurn h S its_pair bank number now = turn_of h S its_pair bank number now sound found in
-    let owner : turn.active.order.bank ≡ bank = sym (ap (λ (o : Resting). o.bank) turn.order) ∙ turn.owner in
-    let command : turn.active.order.number ≡ number = sym (ap (λ (o : Resting). o.number) turn.order) ∙ turn.command in
-    subst (λ n. Elsewhere S.orders bank n pair) command (subst (λ b. Elsewhere S.orders b turn.active.order.number pair) owner
-    (elsewhere_of S.orders turn.active pair sound.rising turn.rests (λ is. differ (sym turn.of_pair ∙ is))))
+    subst (λ n. Elsewhere S.orders bank n pair) turn.command (subst (λ b. Elsewhere S.orders b now.number pair) turn.owner
+    (turn_elsewhere h S its_pair bank number now pair sound differ turn))
 
-cancel-stays : (h : Header) (S : State) (bank its_pair number : ℕ) (outcome : Outcome) (pair : ℕ) → IsSound h S → its_pair ≢ pair → IsOutcome h S bank (Cancel its_pair number) outcome → orders_in pair (changed S bank (Cancel its_pair number) outcome).orders ≡ orders_in pair S.orders
+cancel-stays : (h : Header) (S : State) (bank its_pair number : ℕ) (outcome : Outcome) (pair : ℕ) → IsSound h S → its_pair ≢ pair → IsOutcome h S bank (Cancel its_pair number) outcome → in_pair pair (changed S bank (Cancel its_pair number) outcome).orders ≡ in_pair pair S.orders
 cancel-stays h S bank its_pair number (Cancelled left) pair sound differ is =
     let found = cancel_found left (order_of S its_pair bank number) is in
     let elsewhere = found_elsewhere h S its_pair bank number found.0 pair sound differ found.1 in
@@ -210,24 +235,24 @@ cancel-stays h S bank its_pair number (Cancelled left) pair sound differ is =
     let says = is_order-says bank number a.order this in elsewhere a there says.0 says.1 here)))
 cancel-stays h S bank its_pair number outcome pair sound differ is = refl
 
-reduced_elsewhere : (pair bank number left : ℕ) (orders : List ActiveOrder) → Elsewhere orders bank number pair → orders_in pair (reduced bank number left orders) ≡ orders_in pair orders
+reduced_elsewhere : (pair bank number left : ℕ) (orders : List ActiveOrder) → Elsewhere orders bank number pair → in_pair pair (reduced bank number left orders) ≡ in_pair pair orders
 reduced_elsewhere pair bank number left [] elsewhere = refl
 reduced_elsewhere pair bank number left (a ∷ orders) elsewhere =
     let rest = reduced_elsewhere pair bank number left orders (λ b there. elsewhere b (inr there)) in
-    cond_both (is_order bank number a.order) (with_left a left) a (λ (b : ActiveOrder). orders_in pair (b ∷ reduced bank number left orders) ≡ orders_in pair (a ∷ orders))
+    cond_both (is_order bank number a.order) (with_left a left) a (λ (b : ActiveOrder). in_pair pair (b ∷ reduced bank number left orders) ≡ in_pair pair (a ∷ orders))
     (λ is.
     let says = is_order-says bank number a.order is in
     let differ : a.pair ≢ pair = elsewhere a (inl refl) says.0 says.1 in
-    orders_in-skip pair (with_left a left) (reduced bank number left orders) differ ∙ rest ∙ sym (orders_in-skip pair a orders differ))
-    (λ _. orders_in-head pair a (reduced bank number left orders) orders rest)
+    in_pair-skip pair (with_left a left) (reduced bank number left orders) differ ∙ rest ∙ sym (in_pair-skip pair a orders differ))
+    (λ _. in_pair-head pair a (reduced bank number left orders) orders rest)
 
-reduce-stays : (h : Header) (S : State) (bank its_pair number lots : ℕ) (outcome : Outcome) (pair : ℕ) → IsSound h S → its_pair ≢ pair → IsOutcome h S bank (Reduce its_pair number lots) outcome → orders_in pair (changed S bank (Reduce its_pair number lots) outcome).orders ≡ orders_in pair S.orders
+reduce-stays : (h : Header) (S : State) (bank its_pair number lots : ℕ) (outcome : Outcome) (pair : ℕ) → IsSound h S → its_pair ≢ pair → IsOutcome h S bank (Reduce its_pair number lots) outcome → in_pair pair (changed S bank (Reduce its_pair number lots) outcome).orders ≡ in_pair pair S.orders
 reduce-stays h S bank its_pair number lots (Reduced left) pair sound differ is =
     let found = reduce_found lots left (order_of S its_pair bank number) is in
     reduced_elsewhere pair bank number left S.orders (found_elsewhere h S its_pair bank number found.0 pair sound differ found.1)
 reduce-stays h S bank its_pair number lots outcome pair sound differ is = refl
 
-pull-stays : (S : State) (bank its_pair : ℕ) (outcome : Outcome) (pair : ℕ) → its_pair ≢ pair → orders_in pair (changed S bank (Pull its_pair) outcome).orders ≡ orders_in pair S.orders
+pull-stays : (S : State) (bank its_pair : ℕ) (outcome : Outcome) (pair : ℕ) → its_pair ≢ pair → in_pair pair (changed S bank (Pull its_pair) outcome).orders ≡ in_pair pair S.orders
 pull-stays S bank its_pair (Pulled count) pair differ =
     fewer_elsewhere (λ a. not (eqb a.pair its_pair && eqb a.order.bank bank)) pair S.orders
     (λ a there here. not_from_false (eqb a.pair its_pair && eqb a.order.bank bank)
@@ -235,7 +260,7 @@ pull-stays S bank its_pair (Pulled count) pair differ =
 pull-stays S bank its_pair outcome pair differ = refl
 
 -- a step leaves the orders of each pair in which it may change nothing
-other_stays : (h : Header) (S : State) (bank : ℕ) (command : Command) (outcome : Outcome) (pair : ℕ) → IsSession h → IsSound h S → IsCommand h bank command → IsOutcome h S bank command outcome → may_change pair command ≡ false → orders_in pair (changed S bank command outcome).orders ≡ orders_in pair S.orders
+other_stays : (h : Header) (S : State) (bank : ℕ) (command : Command) (outcome : Outcome) (pair : ℕ) → IsSession h → IsSound h S → IsCommand h bank command → IsOutcome h S bank command outcome → may_change pair command ≡ false → in_pair pair (changed S bank command outcome).orders ≡ in_pair pair S.orders
 other_stays h S bank (Order side its_pair price lots life) outcome pair session sound valid is other =
     order-stays h S bank side its_pair price lots life outcome pair session sound valid.sends valid.values.0 (eqb-false its_pair pair other) is
 other_stays h S bank (Cancel its_pair number) outcome pair session sound valid is other =
@@ -251,4 +276,4 @@ other_stays h S bank (Bad reason) outcome pair session sound valid is other = re
 
 pub other_pairs-stay : (h : Header) (S : State) (e : Entry) (pair : ℕ) → IsSession h → IsSound h S → IsStep h S e → may_change pair e.command ≡ false → orders_in pair (after_entry S e).orders ≡ orders_in pair S.orders
 other_pairs-stay h S e pair session sound step other =
-    other_stays h S e.bank e.command e.outcome pair session sound step.command step.outcome other
+    ap (map (λ (a : ActiveOrder). a.order)) (other_stays h S e.bank e.command e.outcome pair session sound step.command step.outcome other)

@@ -1,5 +1,5 @@
 -- Two fills that look the same to a bank lead from states that look alike to it to states that do.
-use Rattle.std.proofs.Common.{ℕ, ◌≡◌, ◌≢◌, ◌+◌, ◌-◌, ◌*◌, ◌<◌, min, Bool, true, ◌&&◌, ◌||◌, eqb, List, [], ◌∷◌, inl, inr, refl, ap, sym, subst, ◌∙◌, arith}
+use Rattle.std.proofs.Common.{ℕ, ◌≡◌, ◌≢◌, ◌+◌, ◌-◌, ◌*◌, ◌<◌, min, Bool, true, ◌&&◌, ◌||◌, eqb, List, [], ◌∷◌, map, inl, inr, refl, ap, sym, subst, ◌∙◌, arith}
 use Rattle.std.specs.List.{filter}
 use Rattle.std.proofs.lemmas.Bool.{cases_Bool, cond-true, cases_eq, eq-eqb}
 use Rattle.fx_rules.specs.declared.orders.ActiveOrder.{ActiveOrder}
@@ -70,7 +70,7 @@ visible_filled h b L X t a lots taken =
 
 visible_elsewhere : (h : Header) (b : ℕ) (L X : State) (t : Taker) (a : Resting) (lots q : ℕ) → IsTaken h b L X t a → q ≢ t.pair → visible h b L (filled X (fill_with t a lots)) q ≡ visible h b L X q
 visible_elsewhere h b L X t a lots q taken differ =
-    ap (filter (λ (o : Resting). shown h b L q o.bank))
+    ap (λ (orders : List ActiveOrder). filter (λ (o : Resting). shown h b L q o.bank) (map (λ (c : ActiveOrder). c.order) orders))
     (filled_elsewhere X (fill_with t a lots) q
     (elsewhere_from X.orders t.pair a.bank a.number q taken.maker_home differ)
     (elsewhere_from X.orders t.pair t.bank t.number q taken.home differ))

@@ -218,6 +218,32 @@ enough_for X pair side left a there opposite enough =
 open_rests : (h : Header) (X : State) (t : Taker) (o : Resting) → Among o (open_orders h X t) → Among o (orders_in t.pair X.orders)
 open_rests h X t o there = (Among-filter (λ (q : Resting). is_open t (reach h X t.bank q.bank t.pair) q) (orders_in t.pair X.orders) o there).0
 
+-- No sweep ends at a taker that has as many lots left as one that goes on, or enough for the whole other side, where an order
+-- is open to it.
+goes_on : (h : Header) (X : State) (t : Taker) (other : ℕ) (x : Resting) → IsMaker h X t x → Among x (open_orders h X t) → (t.left ≡ other) ⊎ (lots_against X t.pair t.side ≤ t.left) → (t.left ≡ 0) ⊎ (open_orders h X t ≡ []) → 1 ≤ other → ⊥
+goes_on h X t other x m x_open lefts ended some =
+    elim ended [
+      | inl none ↦ elim lefts [
+        | inl same ↦ omega (arith, none, same, some)
+        | inr enough ↦ omega (
+          arith,
+          m.kept.left.0,
+          ap (λ (o : Resting). o.left) m.order,
+          enough_for X t.pair t.side t.left x (open_rests h X t x x_open) m.is_open.opposite enough,
+        )
+      ]
+      | inr closed ↦ subst (Among x) closed x_open
+    ]
+
+-- where lots left are the same or enough for two, they are so for each
+enough_one : (m n t_left left : ℕ) → (t_left ≡ left) ⊎ ((m ≤ t_left) × (n ≤ left)) → (t_left ≡ left) ⊎ (m ≤ t_left)
+enough_one m n t_left left (inl same) = inl same
+enough_one m n t_left left (inr enough) = inr enough.0
+
+enough_other : (m n t_left left : ℕ) → (t_left ≡ left) ⊎ ((m ≤ t_left) × (n ≤ left)) → (left ≡ t_left) ⊎ (n ≤ left)
+enough_other m n t_left left (inl same) = inl (sym same)
+enough_other m n t_left left (inr enough) = inr enough.1
+
 module _ (h : Header) (b : ℕ) (L M : State) where
   -- no sweep goes on where the other ends
   ends_other : (X Y : State) (t : Taker) (number left arrival : ℕ) (c : Resting) → AreAlike h b L M X Y → TakersAlike h b L X Y t number left arrival → (t.left ≡ 0) ⊎ (open_orders h X t ≡ []) → 1 ≤ left → Among c (open_orders h Y (twin t number left arrival)) → ⊥
@@ -226,19 +252,8 @@ module _ (h : Header) (b : ℕ) (L M : State) where
       let of_c = partner_other b c (visible h b L X t.pair) (visible h b L Y t.pair) (alike.orders t.pair takers.pair) (open_shown h b L Y u c there (takers.makers_other c there)).0 in
       let x : Resting = of_c.0 in
       let x_open = open_back h b L M X Y t number left arrival x c alike takers of_c.1 there in
-      let m : IsMaker h X t x = maker_of h X t x alike.sound x_open in
-      elim ended [
-        | inl none ↦ elim takers.lefts [
-          | inl same ↦ omega arith
-          | inr enough ↦ omega (
-            arith,
-            m.kept.left.0,
-            ap (λ (o : Resting). o.left) m.order,
-            enough_for X t.pair t.side t.left x (open_rests h X t x x_open) m.is_open.opposite enough.0,
-          )
-        ]
-        | inr closed ↦ subst (Among x) closed x_open
-      ]
+      goes_on h X t left x (maker_of h X t x alike.sound x_open) x_open
+      (enough_one (lots_against X t.pair t.side) (lots_against Y t.pair t.side) t.left left takers.lefts) ended some
 
   ends_one : (X Y : State) (t : Taker) (number left arrival : ℕ) (a : Resting) → AreAlike h b L M X Y → TakersAlike h b L X Y t number left arrival → (left ≡ 0) ⊎ (open_orders h Y (twin t number left arrival) ≡ []) → 1 ≤ t.left → Among a (open_orders h X t) → ⊥
   ends_one X Y t number left arrival a alike takers ended some there =
@@ -246,19 +261,8 @@ module _ (h : Header) (b : ℕ) (L M : State) where
       let of_a = partner b a (visible h b L X t.pair) (visible h b L Y t.pair) (alike.orders t.pair takers.pair) (open_shown h b L X t a there (takers.makers a there)).0 in
       let y : Resting = of_a.0 in
       let y_open = open_across h b L M X Y t number left arrival a y alike takers of_a.1 there in
-      let m : IsMaker h Y u y = maker_of h Y u y alike.sound_other y_open in
-      elim ended [
-        | inl none ↦ elim takers.lefts [
-          | inl same ↦ omega arith
-          | inr enough ↦ omega (
-            arith,
-            m.kept.left.0,
-            ap (λ (o : Resting). o.left) m.order,
-            enough_for Y t.pair t.side left y (open_rests h Y u y y_open) m.is_open.opposite enough.1,
-          )
-        ]
-        | inr closed ↦ subst (Among y) closed y_open
-      ]
+      goes_on h Y u t.left y (maker_of h Y u y alike.sound_other y_open) y_open
+      (enough_other (lots_against X t.pair t.side) (lots_against Y t.pair t.side) t.left left takers.lefts) ended some
 
   -- the two first fills are of the same lots
   first_amounts : (X Y : State) (t : Taker) (number left arrival : ℕ) (a c : Resting) → AreAlike h b L M X Y → TakersAlike h b L X Y t number left arrival → Together a c (visible h b L X t.pair) (visible h b L Y t.pair) → Among a (open_orders h X t) → Among c (open_orders h Y (twin t number left arrival)) → amount t a (reach h X t.bank a.bank t.pair) ≡ amount (twin t number left arrival) c (reach h Y t.bank c.bank t.pair)

@@ -22,27 +22,27 @@ pub enum Life {
 #[derive(Clone, Copy, Debug, PartialEq, Eq)]
 pub enum Reject {
     /// The second field is missing or is no word of the command table.
-    Word,
+    Word = 1,
     /// The number of fields is not the table's.
-    Count,
+    Count = 2,
     /// No such pair in the header.
-    Pair,
+    Pair = 3,
     /// Not in the form of a price with the pair's decimals.
-    PriceForm,
+    PriceForm = 4,
     /// In that form, with 0 ticks or above 10^9 ticks.
-    PriceRange,
+    PriceRange = 5,
     /// Not a number from 1 to 10^6.
-    Lots,
+    Lots = 6,
     /// Not a bank's name, or the sender's own.
-    Bank,
+    Bank = 7,
     /// Not a number from 0 to 10^15.
-    Limit,
+    Limit = 8,
     /// Not a number from 1 to 4294967295.
-    Number,
+    Number = 9,
     /// Not `DAY`, `IOC` or `FOK`.
-    Life,
+    Life = 10,
     /// A line of more than 256 bytes.
-    Long,
+    Long = 11,
 }
 
 impl Reject {
@@ -50,19 +50,7 @@ impl Reject {
     pub fn code(self) -> u8
         ensures value { result ≡ code_of self }
     {
-        match self {
-            Reject::Word => 1,
-            Reject::Count => 2,
-            Reject::Pair => 3,
-            Reject::PriceForm => 4,
-            Reject::PriceRange => 5,
-            Reject::Lots => 6,
-            Reject::Bank => 7,
-            Reject::Limit => 8,
-            Reject::Number => 9,
-            Reject::Life => 10,
-            Reject::Long => 11,
-        }
+        self as u8
     }
 }
 

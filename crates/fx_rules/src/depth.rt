@@ -39,7 +39,7 @@ pub fn add_fill(levels: &mut Vec<Level>, fill: &Fill) -> Result<(), Memory>
     ensures levels { OnOk result (levels.new.items ≡ fill_added levels.old.items fill.now) }
     ensures memory { OnErr result (levels.new.items ≡ levels.old.items) }
 
-    // It wants memory only where the levels that are due have no room in the list.
+    // It is out of memory only where the levels that are due have no room in the list.
     ensures wanted { OnErr result (vec_capacity levels.old < length (fill_added levels.old.items fill.now)) }
 {
     let price = fill.price;

@@ -7,7 +7,7 @@ pub trait Gate {
     /// A worker calls it before it submits command `number` of `bank`.
     fn before<R: Wait>(&self, rt: &R, bank: BankId, number: u32);
 
-    /// A worker calls it after that submit, also where it was refused for want of memory.
+    /// A worker calls it after that submit, also where it was refused when out of memory.
     fn after<R: Wait>(&self, rt: &R, bank: BankId, number: u32);
 
     /// A host calls it once it has the lock of `pair` and before it asks for the credit book's lock; for a command

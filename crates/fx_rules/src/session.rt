@@ -150,7 +150,7 @@ impl Session {
         ensures none { IfNone result (¬ (Contains self.now.banks text.now)) }
     {
         let place = place_of_bank_by(&self.banks, &self.bank_guesses, text)?;
-        BankId::new(place as u8)
+        Some(BankId::at(place))
     }
 
     /// The pair that is written so, as `BASE/QUOTE`; `None` exactly where no pair is. It takes no memory.
@@ -162,7 +162,7 @@ impl Session {
         ensures none { IfNone result (All (λ rule. pair_text rule ≢ text.now) self.now.pairs) }
     {
         let place = place_of_pair_text(&self.pairs, &self.pair_guesses, text)?;
-        PairId::new(place as u8)
+        Some(PairId::at(place))
     }
 }
 

@@ -70,8 +70,9 @@ impl SweptOrder {
         Lots::new(lots as u32).unwrap()
     }
 
-    /// The same where a line of so many credit units pays for what can be reached, at `weight` credit units a lot, 1 to 10^6. It
-    /// wants a lot at least, and the line pays for one. Most lines pay for all that both want; then nothing is divided.
+    /// The lots that it takes of a resting order where a line of so many credit units pays for what can be reached, at `weight`
+    /// credit units a lot, 1 to 10^6. It wants a lot at least, and the line pays for one. Most lines pay for all that both want;
+    /// then nothing is divided.
     pub fn amount_by_line(&self, maker: &Resting, line: u64, weight: u32) -> Lots
         requires left { 1 ≤ self.now.left }
         requires weight { IsWeight weight }

@@ -38,22 +38,15 @@ pub(crate) fn pair_rules(alloc: Global, pairs: u8) -> Result<Vec<PairRule>, Memo
 {
     let mut rules = Vec::new(alloc);
     for pair in 0..pairs {
-        rules.push(pair_rule(pair))?;
+        rules.push(PairRule {
+            base: base_code(pair),
+            quote: Code::from_bytes(b"ZZZ").unwrap(),
+            decimals: 2,
+            lot: 1000,
+            weight: 10 + u32::from(pair),
+        })?;
     }
     Ok(rules)
-}
-
-fn pair_rule(pair: u8) -> PairRule
-    requires { pair < 32 }
-    ensures { result ≡ made_pair pair }
-{
-    PairRule {
-        base: base_code(pair),
-        quote: Code::from_bytes(b"ZZZ").unwrap(),
-        decimals: 2,
-        lot: 1000,
-        weight: 10 + u32::from(pair),
-    }
 }
 
 /// `AAA` to `AAZ`, and from there on `ABA` to `ABF`.

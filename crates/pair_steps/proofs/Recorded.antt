@@ -17,7 +17,7 @@ use Rattle.fx_rules.proofs.SweepSound.{filled_all-append, weight_of-least}
 use Rattle.global_book.specs.Book.{Book}
 use Rattle.match_sweep.specs.Carries.{filled_in, carried}
 use Rattle.match_sweep.proofs.Lowering.{carried-market}
-use Rattle.credit_raise.proofs.Going.{turned-elsewhere}
+use Rattle.fx_rules.proofs.Staying.{turned-stays}
 use Rattle.pair_steps.specs.Turns.{fills_in, FollowsRaise}
 
 abbrev IsOf : ℕ → Fill → Type 0
@@ -79,7 +79,7 @@ pairs-own h (suc pairs) pair other S fills session within sound turned =
           ap (carried (orders_in other S.orders)) (all_in other own (subst (λ p. Each (IsOf p) own) same its)) ∙ carried-market other S own sound.rising
       | inr differ ↦
           ap (carried (orders_in other S.orders)) (none_in pair other own differ its)
-          ∙ sym (turned-elsewhere h pair S (orders_in pair S.orders) own other differ some sound turned.2)
+          ∙ sym (turned-stays h pair S (orders_in pair S.orders) own other differ some sound turned.2)
     ] in
     ap (λ (fs : List Fill). carried (orders_in other S.orders) (fills_in other fs)) turned.3
     ∙ ap (carried (orders_in other S.orders)) (filter-append (λ (g : Fill). eqb g.pair other) own more)

@@ -1,5 +1,5 @@
 use Rattle.std.proofs.Common.{◌≡◌, take}
-use Rattle.flat_host.specs.Turns.{in_pair}
+use Rattle.fx_rules.specs.inside.Orders.{in_pair}
 use Rattle.flat_host.proofs.raise.book_of.Given as goal
 
 -- the pair's orders of those that were passed

@@ -10,7 +10,8 @@ use Rattle.fx_rules.specs.Raise.{taker_of_resting}
 use Rattle.fx_rules.proofs.ListLemmas.{filter_cons_true, filter_cons_false}
 use Rattle.fx_rules.proofs.RaiseSound.{match_cases}
 use Rattle.flat_host.specs.Parts.{PlannedOver, both_lowered, uses_after}
-use Rattle.flat_host.specs.Turns.{in_pair, TurnedIn}
+use Rattle.fx_rules.specs.inside.Orders.{in_pair}
+use Rattle.flat_host.specs.Turns.{TurnedIn}
 use Rattle.flat_host.specs.inside.Turns.{TurnOf}
 use Rattle.flat_host.proofs.Carrying.{uses_after-append, length-uses_after}
 use Rattle.flat_host.proofs.Market.{match_none, match_some}

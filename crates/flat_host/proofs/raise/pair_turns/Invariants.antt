@@ -2,7 +2,8 @@ use Rattle.std.proofs.Common.{◌≡◌, List, ◌++◌, drop, length}
 use Rattle.fx_rules.specs.declared.orders.Fill.{Fill}
 use Rattle.fx_rules.specs.State.{orders_in}
 use Rattle.flat_host.specs.Parts.{uses_after}
-use Rattle.flat_host.specs.Turns.{in_pair, TurnedIn}
+use Rattle.fx_rules.specs.inside.Orders.{in_pair}
+use Rattle.flat_host.specs.Turns.{TurnedIn}
 use Rattle.flat_host.proofs.raise.pair_turns.Given as goal
 
 -- whatever fills the turns from here make, make, behind those so far, the fills of all turns

@@ -1,6 +1,6 @@
-use Rattle.std.proofs.Common.{rules, ◌≡◌, ◌∙◌, Some, None, position, bytes_eq, slice_get, arith}
+use Rattle.std.proofs.Common.{◌≡◌, ◌∙◌, Some, None, position, bytes_eq, slice_get, arith, subst, sym}
 use Rattle.std.proofs.lemmas.Grind.{common_steps}
-use Rattle.fx_rules.proofs.SessionLemmas.{found_from_place, missing_from_place, IfSome-number, option_map-same}
+use Rattle.fx_rules.proofs.SessionLemmas.{found_from_place, missing_from_place, option_map-same}
 use Rattle.fx_rules.proofs.session.Session.bank_named.Goals as goal
 
 pub returns-in_err-place-clause-none : goal.returns-in_err-place-clause-none
@@ -12,4 +12,4 @@ pub returns-clause-named : goal.returns-clause-named
 returns-clause-named c =
     let place : position (λ name. bytes_eq name c.args.text.now) c.args.self.now.banks ≡ Some c.in_ok-place.place = grind (arith, common_steps) in
     let found = found_from_place (λ name. name) c.args.text.now c.args.self.now.banks c.in_ok-place.place place in
-    IfSome-number c.new.result c.in_ok-place.place (λ bank. slice_get c.args.self.now.banks bank ≡ Some c.args.text.now) (search rules) (option_map-same _ ∙ found)
+    subst (λ bank. slice_get c.args.self.now.banks bank ≡ Some c.args.text.now) (sym c.at.ensures.value) (option_map-same _ ∙ found)
