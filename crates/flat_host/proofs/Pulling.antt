@@ -8,7 +8,7 @@ use Rattle.fx_rules.specs.declared.orders.Resting.{Resting}
 use Rattle.fx_rules.specs.Lists.{Among, Each, EachPair}
 use Rattle.fx_rules.specs.Session.{Header}
 use Rattle.fx_rules.specs.State.{State, orders_in}
-use Rattle.fx_rules.specs.Step.{orders_by}
+use Rattle.fx_rules.specs.inside.Orders.{orders_by}
 use Rattle.fx_rules.specs.Sound.{IsSound, IsKept, ArrivesBefore}
 use Rattle.fx_rules.proofs.ListLemmas.{Each-among, Each-map, EachPair-filter, Among-filter}
 use Rattle.fx_rules.proofs.Opens.{orders_in-among}

@@ -22,9 +22,9 @@ use Rattle.fx_rules.specs.declared.session.PairRule.{PairRule}
 use Rattle.fx_rules.specs.Lists.{total}
 use Rattle.fx_rules.specs.Session.{Header, IsSession, bank_count, pair_count}
 use Rattle.fx_rules.specs.State.{State, orders_in, line, used, cost_between}
-use Rattle.fx_rules.specs.Sweep.{Taker, Swept, is_order, at_rest, filled, filled_all}
+use Rattle.fx_rules.specs.Sweep.{Taker, Swept, is_order, at_rest, filled, filled_all, taker_of}
 use Rattle.fx_rules.specs.Raise.{limit_set, limited, order_of}
-use Rattle.fx_rules.specs.Step.{IsCommand, IsOrdered, IsOutcome, cancel_answer, reduce_answer, orders_by, taker_of, rested, changed, after, fills_of, without_order, without_orders, reduced}
+use Rattle.fx_rules.specs.Step.{IsCommand, IsOrdered, IsOutcome, cancel_answer, reduce_answer, rested, changed, after, fills_of, without_order, without_orders, reduced}
 use Rattle.fx_rules.specs.Sound.{IsSound}
 use Rattle.fx_rules.proofs.SweepSound.{weight_of-least, counts-filled_all}
 use Rattle.fx_rules.proofs.RaiseSound.{limited-sound}
@@ -32,7 +32,7 @@ use Rattle.flat_host.specs.FlatState.{FlatState, IsWithin, StandsFor, limit_plac
 use Rattle.flat_host.specs.inside.FlatState.{IsFlatState, TablesFor}
 use Rattle.flat_host.specs.Parts.{PlannedOver, both_lowered, uses_after, rests_of, is_done}
 use Rattle.flat_host.specs.inside.Parts.{PlannedIn, OrderedIn, taker_from, with_rest, order_carried, limits_with, counted_in, cancelled_in, reduced_in, shown_in}
-use Rattle.fx_rules.specs.inside.Orders.{in_pair}
+use Rattle.fx_rules.specs.inside.Orders.{in_pair, orders_by}
 use Rattle.flat_host.specs.Turns.{RaisedIn}
 use Rattle.flat_host.specs.inside.Turns.{LineSetIn, raised_in}
 use Rattle.flat_host.specs.inside.Levels.{ProbedIn}

@@ -8,10 +8,6 @@ use Rattle.std.specs.Int.Digits.{digits_of}
 unfoldable pub numeral : ℕ → List ℕ
 numeral n = if n == 0 then 48 ∷ [] else map (λ digit. 48 + digit) (digits_of 10 n)
 
--- whether the text has digits alone, one at least
-abbrev pub is_digits : List ℕ → Bool
-is_digits text = nat_lt 0 (length text) && list_all is_ascii_digit text
-
--- whether the text is the numeral of a number: digits, of which the first is `0` in the text `0` alone
+-- whether the text is the numeral of a number: digits alone, one at least, of which the first is `0` in the text `0` alone
 unfoldable pub is_numeral : List ℕ → Bool
-is_numeral text = is_digits text && not (nat_lt 1 (length text) && (slice_index text 0 == 48))
+is_numeral text = (nat_lt 0 (length text) && list_all is_ascii_digit text) && not (nat_lt 1 (length text) && (slice_index text 0 == 48))

@@ -29,8 +29,7 @@ point_at decimals text = length text - suc decimals
 -- whether the text is in the form of a price with so many decimals
 abbrev pub is_price_text : ℕ → List ℕ → Bool
 is_price_text zero text = is_numeral text
-is_price_text (suc more) text = is_numeral (take (point_at (suc more) text) text)
-    && (slice_index text (point_at (suc more) text) == 46)
+is_price_text (suc more) text = is_numeral (take (point_at (suc more) text) text) && (slice_index text (point_at (suc more) text) == 46)
     && list_all is_ascii_digit (drop (suc (point_at (suc more) text)) text)
 
 -- the number that the digits of the text make

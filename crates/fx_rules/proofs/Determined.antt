@@ -14,10 +14,10 @@ use Rattle.fx_rules.specs.declared.outcome.Outcome.TheVariants.{Ordered, Killed,
 use Rattle.fx_rules.specs.Lists.{Among}
 use Rattle.fx_rules.specs.Session.{Header, IsSession, bank_count, pair_count, weight_of}
 use Rattle.fx_rules.specs.State.{State, orders_in, reach}
-use Rattle.fx_rules.specs.Sweep.{Taker, Swept, is_open, open_orders, IsBest, amount, fill_with, filled, filled_all, less}
+use Rattle.fx_rules.specs.Sweep.{Taker, Swept, is_open, open_orders, IsBest, amount, fill_with, filled, filled_all, less, taker_of}
 use Rattle.fx_rules.specs.Raise.{limited, order_of, taker_of_resting, Turned, PairsTurned, Raised}
 use Rattle.fx_rules.specs.Depth.{unlimited, levels_of, Shows}
-use Rattle.fx_rules.specs.Step.{IsCommand, IsOrdered, IsOutcome, taker_of}
+use Rattle.fx_rules.specs.Step.{IsCommand, IsOrdered, IsOutcome}
 use Rattle.fx_rules.specs.Sound.{IsSound}
 use Rattle.fx_rules.proofs.ListLemmas.{Among-filter}
 use Rattle.fx_rules.proofs.Opens.{allowed-open}

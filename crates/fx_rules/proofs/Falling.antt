@@ -15,9 +15,9 @@ use Rattle.fx_rules.specs.declared.outcome.Outcome.TheVariants.{Ordered, Killed,
 use Rattle.fx_rules.specs.declared.outcome.Entry.{Entry}
 use Rattle.fx_rules.specs.Session.{Header, IsSession, bank_count}
 use Rattle.fx_rules.specs.State.{State, used, cost_between, left_of_limits}
-use Rattle.fx_rules.specs.Sweep.{Taker, filled, filled_all}
+use Rattle.fx_rules.specs.Sweep.{Taker, filled, filled_all, taker_of}
 use Rattle.fx_rules.specs.Raise.{limited, order_of}
-use Rattle.fx_rules.specs.Step.{IsOrdered, IsOutcome, taker_of, cancel_answer, reduce_answer, rested, changed, with_limit_set, fills_of}
+use Rattle.fx_rules.specs.Step.{IsOrdered, IsOutcome, cancel_answer, reduce_answer, rested, changed, with_limit_set, fills_of}
 use Rattle.fx_rules.specs.History.{IsStep, after_entry, before_fills, Falls}
 use Rattle.fx_rules.specs.Sound.{IsSound}
 use Rattle.fx_rules.proofs.Credit.{cost_between-append, cost_between-swap}

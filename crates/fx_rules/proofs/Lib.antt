@@ -1,4 +1,5 @@
 pub mod ListLemmas
+pub mod Below
 pub mod Senders
 pub mod Lowering
 pub mod Credit

@@ -13,9 +13,9 @@ use Rattle.fx_rules.specs.declared.orders.Fill.{Fill}
 use Rattle.fx_rules.specs.declared.orders.Resting.{Resting}
 use Rattle.fx_rules.specs.Session.{Header, IsSession, bank_count, pair_count, weight_of}
 use Rattle.fx_rules.specs.State.{State, reach}
-use Rattle.fx_rules.specs.Sweep.{Taker, Swept, filled, filled_all, less, fill_with, amount}
+use Rattle.fx_rules.specs.Sweep.{Taker, Swept, filled, filled_all, less, fill_with, amount, taker_of}
 use Rattle.fx_rules.specs.Raise.{order_of, limited, Turned, PairsTurned}
-use Rattle.fx_rules.specs.Step.{IsCommand, IsOrdered, IsOutcome, taker_of, fills_of, cancel_answer, reduce_answer, with_limit_set}
+use Rattle.fx_rules.specs.Step.{IsCommand, IsOrdered, IsOutcome, fills_of, cancel_answer, reduce_answer, with_limit_set}
 use Rattle.fx_rules.specs.Sound.{IsSound}
 use Rattle.fx_rules.proofs.Credit.{IsAllowed}
 use Rattle.fx_rules.proofs.Opens.{IsMaker, maker_of, allowed-open}

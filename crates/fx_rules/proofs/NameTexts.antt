@@ -5,7 +5,8 @@ use Rattle.std.proofs.lemmas.Bool.Decides.{nat_tests}
 use Rattle.std.proofs.lemmas.List.Elements.{All-nil, All-cons, All-append}
 use Rattle.std.specs.Char.{is_ascii_uppercase}
 use Rattle.std.specs.List.{list_all}
-use Rattle.fx_rules.specs.Names.{is_name, is_code, is_name_byte, is_reserved}
+use Rattle.fx_rules.specs.inside.Names.{is_reserved}
+use Rattle.fx_rules.specs.Names.{is_name, is_code, is_name_byte}
 use Rattle.fx_rules.specs.Session.{IsPairRule, pair_text}
 use Rattle.fx_rules.specs.declared.session.PairRule.{PairRule}
 

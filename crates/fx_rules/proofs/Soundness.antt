@@ -19,9 +19,9 @@ use Rattle.fx_rules.specs.declared.outcome.Entry.{Entry}
 use Rattle.fx_rules.specs.Lists.{total}
 use Rattle.fx_rules.specs.Session.{Header, IsSession, bank_count, pair_count, sender_places, weight_of, opening_limit}
 use Rattle.fx_rules.specs.State.{State, opening, arrivals, count_of}
-use Rattle.fx_rules.specs.Sweep.{Taker, Swept, filled_all, is_order}
+use Rattle.fx_rules.specs.Sweep.{Taker, Swept, filled_all, is_order, taker_of}
 use Rattle.fx_rules.specs.Raise.{limited, order_of}
-use Rattle.fx_rules.specs.Step.{IsCommand, IsOrdered, IsOutcome, taker_of, rested, counted, changed, after}
+use Rattle.fx_rules.specs.Step.{IsCommand, IsOrdered, IsOutcome, rested, counted, changed, after}
 use Rattle.fx_rules.specs.History.{IsStep, Steps, IsLegal, after_entry, after_all, state}
 use Rattle.fx_rules.specs.Sound.{IsSound, IsKept, Rises}
 use Rattle.fx_rules.proofs.ListLemmas.{Each-append, Each-weaker, EachPair-push, total-set}

@@ -18,9 +18,9 @@ use Rattle.fx_rules.specs.declared.outcome.Entry.{Entry}
 use Rattle.fx_rules.specs.Lists.{Among, EachPair}
 use Rattle.fx_rules.specs.Session.{Header, IsSession, bank_count, pair_count, weight_of}
 use Rattle.fx_rules.specs.State.{State, orders_in, count_of}
-use Rattle.fx_rules.specs.Sweep.{Taker, Swept, filled, filled_all, lowered, less, is_order, with_left}
+use Rattle.fx_rules.specs.Sweep.{Taker, Swept, filled, filled_all, lowered, less, is_order, with_left, taker_of}
 use Rattle.fx_rules.specs.Raise.{limited, order_of, taker_of_resting, Turned}
-use Rattle.fx_rules.specs.Step.{IsCommand, IsOrdered, IsOutcome, taker_of, cancel_answer, reduce_answer, rested, reduced, changed, may_change}
+use Rattle.fx_rules.specs.Step.{IsCommand, IsOrdered, IsOutcome, cancel_answer, reduce_answer, rested, reduced, changed, may_change}
 use Rattle.fx_rules.specs.History.{IsStep, after_entry}
 use Rattle.fx_rules.specs.Sound.{IsSound, IsKept, Rises}
 use Rattle.fx_rules.specs.inside.Orders.{in_pair}

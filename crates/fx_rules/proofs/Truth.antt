@@ -12,10 +12,9 @@ use Rattle.fx_rules.specs.declared.orders.Level.{Level}
 use Rattle.fx_rules.specs.Lists.{Among, Each, EachPair}
 use Rattle.fx_rules.specs.Session.{Header, IsSession, bank_count, pair_count, weight_of}
 use Rattle.fx_rules.specs.State.{State, orders_in, reach}
-use Rattle.fx_rules.specs.Sweep.{Taker, Swept, is_open, open_orders, is_better, is_preferred, IsBest, fill_with, filled, less}
+use Rattle.fx_rules.specs.Sweep.{Taker, Swept, is_open, open_orders, is_better, is_preferred, IsBest, fill_with, filled, less, taker_of}
 use Rattle.fx_rules.specs.Depth.{any_price, unlimited, levels_of, Shows, IsDepth}
 use Rattle.fx_rules.specs.Truthful.{lots_shown, last_price, IsTruthful}
-use Rattle.fx_rules.specs.Step.{taker_of}
 use Rattle.fx_rules.specs.Sound.{IsSound}
 use Rattle.fx_rules.proofs.ListLemmas.{Each-of, Each-first, Each-both, EachPair-first, Each-among, Among-filter, among_filter}
 use Rattle.fx_rules.proofs.Credit.{IsAllowed}

@@ -18,9 +18,9 @@ use Rattle.fx_rules.specs.declared.outcome.Entry.{Entry}
 use Rattle.fx_rules.specs.Lists.{Among}
 use Rattle.fx_rules.specs.Session.{Header, IsSession, weight_of}
 use Rattle.fx_rules.specs.State.{State, opening, reach, orders_in}
-use Rattle.fx_rules.specs.Sweep.{Taker, Swept, filled_all, is_order, is_opposite, open_orders, with_left}
+use Rattle.fx_rules.specs.Sweep.{Taker, Swept, filled_all, is_order, is_opposite, open_orders, with_left, taker_of}
 use Rattle.fx_rules.specs.Raise.{limited}
-use Rattle.fx_rules.specs.Step.{IsCommand, IsOrdered, IsOutcome, taker_of, rested, reduced, counted, changed, after}
+use Rattle.fx_rules.specs.Step.{IsCommand, IsOrdered, IsOutcome, rested, reduced, counted, changed, after}
 use Rattle.fx_rules.specs.History.{Steps, IsLegal, after_entry, after_all, state}
 use Rattle.fx_rules.specs.Sound.{IsSound, IsKept}
 use Rattle.fx_rules.specs.NoCross.{NoCross}

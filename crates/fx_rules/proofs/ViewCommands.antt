@@ -16,10 +16,11 @@ use Rattle.fx_rules.specs.declared.outcome.Outcome.{Outcome}
 use Rattle.fx_rules.specs.declared.outcome.Outcome.TheVariants.{Ordered, Killed, Cancelled, Reduced, NotLess, Nothing, Pulled, LineSet, Shown, Depth}
 use Rattle.fx_rules.specs.Session.{Header, IsSession, bank_count, pair_count}
 use Rattle.fx_rules.specs.State.{State, orders_in, reach}
-use Rattle.fx_rules.specs.Sweep.{is_order}
+use Rattle.fx_rules.specs.Sweep.{is_order, taker_of}
 use Rattle.fx_rules.specs.Raise.{limit_set, order_of}
 use Rattle.fx_rules.specs.Depth.{any_price, lots_against, with_fill, levels_of, Shows, IsDepth}
-use Rattle.fx_rules.specs.Step.{IsCommand, IsOrdered, IsOutcome, taker_of, cancel_answer, reduce_answer, orders_by}
+use Rattle.fx_rules.specs.inside.Orders.{orders_by}
+use Rattle.fx_rules.specs.Step.{IsCommand, IsOrdered, IsOutcome, cancel_answer, reduce_answer}
 use Rattle.fx_rules.specs.Sound.{IsSound}
 use Rattle.fx_rules.specs.View.{seen_as, CreditSeen, view, told}
 use Rattle.fx_rules.proofs.ListLemmas.{filter_agree_on, filter_filter, filter_cons_true, filter_cons_false}

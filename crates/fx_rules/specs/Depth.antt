@@ -6,8 +6,8 @@ use Rattle.fx_rules.specs.declared.orders.Fill.{Fill}
 use Rattle.fx_rules.specs.declared.orders.Level.{Level}
 use Rattle.fx_rules.specs.Lists.{total}
 use Rattle.fx_rules.specs.Session.{Header}
-use Rattle.fx_rules.specs.State.{State, orders_in, count_of, arrivals}
-use Rattle.fx_rules.specs.Sweep.{Taker, Swept, is_opposite}
+use Rattle.fx_rules.specs.State.{State, orders_in}
+use Rattle.fx_rules.specs.Sweep.{Taker, Swept, taker_of, is_opposite}
 
 -- the price at which an order of a side takes any price
 abbrev pub any_price : Side → ℕ
@@ -20,15 +20,7 @@ lots_against S pair side = total (λ order. order.left) (filter (λ order. is_op
 
 -- an unlimited order of a bank, were it to come now: at any price, for all lots of the other side
 abbrev pub unlimited : State → ℕ → ℕ → Side → Taker
-unlimited S bank pair side = record {
-  bank = bank;
-  number = count_of S bank + 1;
-  pair = pair;
-  side = side;
-  price = any_price side;
-  left = lots_against S pair side;
-  arrival = arrivals S;
-}
+unlimited S bank pair side = taker_of S bank side pair (any_price side) (lots_against S pair side)
 
 -- a fill in front of levels: one more level, or more lots at the first one's price
 abbrev pub with_fill : Fill → List Level → List Level

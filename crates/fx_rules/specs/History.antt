@@ -47,6 +47,5 @@ before_fills S e = with_limit_set S e.bank e.command e.outcome
 -- By an entry what the limits of two banks leave falls by the cost of the entry's fills between them, and by nothing else. It
 -- falls from what they leave where the fills begin: as it was before the entry, but where a credit change has set a limit first.
 pub record Falls (h : Header) (S : State) (e : Entry) : Type 0 where
-  pub lines :
-      (i j : ℕ) → i < bank_count h → j < bank_count h → i ≢ j →
+  pub lines : (i j : ℕ) → i < bank_count h → j < bank_count h → i ≢ j →
       left_of_limits h (after_entry S e) i j + cost_between h i j (fills_of e.outcome) ≡ left_of_limits h (before_fills S e) i j

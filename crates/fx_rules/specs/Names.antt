@@ -7,16 +7,10 @@ use Rattle.std.specs.List.{list_all}
 abbrev pub is_name_byte : ℕ → Bool
 is_name_byte byte = is_ascii_uppercase byte || is_ascii_digit byte
 
--- the words that no bank may have as its name
-abbrev pub is_reserved : List ℕ → Bool
-is_reserved text = bytes_eq text (codes "HOST") || bytes_eq text (codes "END")
-
--- a bank's name: 3 to 8 letters and digits, a letter first, and not a reserved word
+-- a bank's name: 3 to 8 letters and digits, a letter first, and neither `HOST` nor `END`
 abbrev pub is_name : List ℕ → Bool
-is_name text =
-    nat_le 3 (length text) && nat_le (length text) 8
-    && is_ascii_uppercase (slice_index text 0) && list_all is_name_byte text
-    && not (is_reserved text)
+is_name text = nat_le 3 (length text) && nat_le (length text) 8 && is_ascii_uppercase (slice_index text 0)
+    && list_all is_name_byte text && not (bytes_eq text (codes "HOST") || bytes_eq text (codes "END"))
 
 -- a currency code: three letters
 abbrev pub is_code : List ℕ → Bool

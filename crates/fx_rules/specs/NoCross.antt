@@ -12,5 +12,4 @@ use Rattle.fx_rules.specs.State.{State, orders_in, reach}
 abbrev pub NoCross : Header → State → Type 0
 NoCross h S =
     (pair : ℕ) (buy sell : Resting) → Among buy (orders_in pair S.orders) → Among sell (orders_in pair S.orders) →
-    buy.side ≡ Buy → sell.side ≡ Sell → (buy.bank ≡ sell.bank → ⊥) → 1 ≤ reach h S buy.bank sell.bank pair →
-    buy.price < sell.price
+    buy.side ≡ Buy → sell.side ≡ Sell → (buy.bank ≡ sell.bank → ⊥) → 1 ≤ reach h S buy.bank sell.bank pair → buy.price < sell.price

@@ -21,15 +21,8 @@ order_of S pair bank number = find (λ order. is_order bank number order) (order
 
 -- a resting order as it is swept: as it stands, with its own arrival
 abbrev pub taker_of_resting : ℕ → Resting → Taker
-taker_of_resting pair order = record {
-  bank = order.bank;
-  number = order.number;
-  pair = pair;
-  side = order.side;
-  price = order.price;
-  left = order.left;
-  arrival = order.arrival;
-}
+taker_of_resting pair now =
+    record { bank = now.bank; number = now.number; pair = pair; side = now.side; price = now.price; left = now.left; arrival = now.arrival }
 
 -- some orders of a pair are swept in turn, each that still rests when its turn comes
 abbrev pub Turned : Header → ℕ → State → List Resting → List Fill → Type 0

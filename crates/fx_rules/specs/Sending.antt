@@ -18,6 +18,10 @@ pub record IsSentOf (h : Header) (sent : Sent) : Type 0 where
 abbrev pub sent_by : Entry → Sent
 sent_by entry = record { bank = entry.bank; command = entry.command }
 
+-- a bank and its command, as they are sent
+abbrev pub sent_of : ℕ × Command → Sent
+sent_of said = record { bank = said.0; command = said.1 }
+
 -- the pair that a command is about, where it is about one alone
 abbrev pub pair_of : Command → Option ℕ
 pair_of (Order side pair price lots life) = Some pair

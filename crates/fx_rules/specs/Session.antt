@@ -67,8 +67,8 @@ abbrev pub bank_name : Header → ℕ → List ℕ
 bank_name h bank = slice_index_or h.banks bank []
 
 -- the bank of that name
-abbrev pub bank_named : Header → List ℕ → Option ℕ
-bank_named h text = position (λ name. bytes_eq name text) h.banks
+abbrev pub bank_named : List (List ℕ) → List ℕ → Option ℕ
+bank_named banks text = position (λ name. bytes_eq name text) banks
 
 -- how a pair is written: BASE/QUOTE
 abbrev pub pair_text : PairRule → List ℕ

@@ -13,8 +13,8 @@ use Rattle.fx_rules.specs.declared.outcome.Outcome.TheVariants.{Ordered, Killed,
 use Rattle.fx_rules.specs.Session.{Header, IsSender, bank_count, pair_count}
 use Rattle.fx_rules.specs.declared.orders.ActiveOrder.{ActiveOrder}
 use Rattle.fx_rules.specs.declared.orders.Resting.{Resting}
-use Rattle.fx_rules.specs.State.{State, orders_in, count_of, arrivals, used, line}
-use Rattle.fx_rules.specs.Sweep.{Taker, Swept, filled_all, is_order, at_rest, with_left}
+use Rattle.fx_rules.specs.State.{State, orders_in, count_of, used, line}
+use Rattle.fx_rules.specs.Sweep.{Taker, Swept, taker_of, filled_all, is_order, at_rest, with_left}
 use Rattle.fx_rules.specs.Raise.{limit_set, limited, order_of, Raised}
 use Rattle.fx_rules.specs.Depth.{IsDepth}
 
@@ -44,18 +44,6 @@ pub record IsCommand (h : Header) (sender : ℕ) (command : Command) : Type 0 wh
   pub sends : Suits h sender command
   pub values : AreValues h sender command
 
--- an order command as it is swept: its number is the sender's next, and it arrives after all commands so far
-abbrev pub taker_of : State → ℕ → Side → ℕ → ℕ → ℕ → Taker
-taker_of S bank side pair price lots = record {
-  bank = bank;
-  number = count_of S bank + 1;
-  pair = pair;
-  side = side;
-  price = price;
-  left = lots;
-  arrival = arrivals S;
-}
-
 -- an order's outcome by its life. The rest of a Day order rests, that of an Ioc order is dropped. A Fok order whose sweep
 -- would leave a rest is killed.
 abbrev pub IsOrdered : Header → State → Taker → Life → Outcome → Type 0
@@ -75,17 +63,12 @@ abbrev pub reduce_answer : ℕ → Option Resting → Outcome
 reduce_answer lots None = Nothing
 reduce_answer lots (Some order) = if nat_lt lots order.left then Reduced lots else NotLess order.left
 
--- a bank's resting orders of a pair
-abbrev pub orders_by : State → ℕ → ℕ → List Resting
-orders_by S pair bank = filter (λ order. order.bank == bank) (orders_in pair S.orders)
-
 -- what a command may answer
 abbrev pub IsOutcome : Header → State → ℕ → Command → Outcome → Type 0
-IsOutcome h S bank (Order side pair price lots life) outcome =
-    IsOrdered h S (taker_of S bank side pair price lots) life outcome
+IsOutcome h S bank (Order side pair price lots life) outcome = IsOrdered h S (taker_of S bank side pair price lots) life outcome
 IsOutcome h S bank (Cancel pair number) outcome = outcome ≡ cancel_answer (order_of S pair bank number)
 IsOutcome h S bank (Reduce pair number lots) outcome = outcome ≡ reduce_answer lots (order_of S pair bank number)
-IsOutcome h S bank (Pull pair) outcome = outcome ≡ Pulled (length (orders_by S pair bank))
+IsOutcome h S bank (Pull pair) outcome = outcome ≡ Pulled (length (filter (λ order. order.bank == bank) (orders_in pair S.orders)))
 IsOutcome h S bank (Line other asked) (LineSet limit fills) =
     (limit ≡ limit_set h S bank other asked) × Raised h (limited bank other limit S) fills
 IsOutcome h S bank (Show other) outcome = outcome ≡ Shown (S.limits bank other) (used h S bank other) (line h S bank other)
@@ -95,10 +78,7 @@ IsOutcome _ _ _ _ _ = ⊥
 
 -- what is left of a taker rests at the end of the book, where anything is
 abbrev pub rested : Taker → ℕ → State → State
-rested t rests S =
-    if nat_lt 0 rests
-    then record S { orders = S.orders ++ at_rest t rests ∷ [] }
-    else S
+rested t rests S = if nat_lt 0 rests then record S { orders = S.orders ++ at_rest t rests ∷ [] } else S
 
 -- the orders without the one of this bank and number
 abbrev pub without_order : ℕ → ℕ → List ActiveOrder → List ActiveOrder

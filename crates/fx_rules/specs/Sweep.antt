@@ -1,5 +1,6 @@
 -- The sweep of a taker: which resting orders it can trade with, which of them it takes, and for how much.
-use Rattle.std.specs.Prelude.{ℕ, ◌≡◌, ◌≤◌, ◌-◌, min, Bool, true, false, not, ◌&&◌, ◌==◌, nat_le, nat_lt, if◌then◌else◌, List, [], ◌∷◌, ◌++◌, filter, ◌⊎◌}
+use Rattle.std.specs.Prelude.{ℕ, ◌≡◌, ◌≤◌, ◌+◌, ◌-◌, min, Bool, true, false, not, ◌&&◌, ◌==◌, nat_le, nat_lt, if◌then◌else◌, List, [], ◌∷◌, ◌++◌, filter, ◌⊎◌}
+use Rattle.std.specs.List.{AllByRecursion}
 pub use Rattle.fx_amounts.specs.Preference.{is_better}
 use Rattle.fx_amounts.specs.Preference.{comes_first}
 use Rattle.fx_amounts.specs.Price.{crosses}
@@ -9,13 +10,18 @@ use Rattle.fx_rules.specs.declared.orders.ActiveOrder.{ActiveOrder}
 use Rattle.fx_rules.specs.declared.orders.Resting.{Resting}
 use Rattle.fx_rules.specs.declared.orders.Fill.{Fill}
 use Rattle.fx_rules.specs.declared.taker.SweptOrder.{SweptOrder}
-use Rattle.fx_rules.specs.Lists.{Among, Each}
+use Rattle.fx_rules.specs.Lists.{Among}
 use Rattle.fx_rules.specs.Session.{Header}
-use Rattle.fx_rules.specs.State.{State, orders_in, reach}
+use Rattle.fx_rules.specs.State.{State, orders_in, count_of, arrivals, reach}
 
 -- an order as it is swept: `left` is what it still wants
 abbrev pub Taker : Type 0
 Taker = SweptOrder
+
+-- an order command as it is swept: its number is the sender's next, and it arrives after all commands so far
+abbrev pub taker_of : State → ℕ → Side → ℕ → ℕ → ℕ → Taker
+taker_of S bank side pair price lots =
+    record { bank = bank; number = count_of S bank + 1; pair = pair; side = side; price = price; left = lots; arrival = arrivals S }
 
 abbrev pub is_opposite : Side → Side → Bool
 is_opposite Buy Sell = true
@@ -25,8 +31,7 @@ is_opposite _ _ = false
 -- a resting order of the taker's pair is open to it: it is on the other side, another bank's, its owner can be reached
 -- for a lot at least, the prices cross, and it arrived before the taker
 abbrev pub is_open : Taker → ℕ → Resting → Bool
-is_open t owner_reach order =
-    is_opposite t.side order.side && not (order.bank == t.bank) && nat_le 1 owner_reach
+is_open t owner_reach order = is_opposite t.side order.side && not (order.bank == t.bank) && nat_le 1 owner_reach
     && crosses t.side t.price order.price && nat_lt order.arrival t.arrival
 
 -- the orders of one pair's book that are open to a taker, where `reaches` tells the lots that it can reach of each bank
@@ -44,7 +49,7 @@ is_preferred side order other = comes_first side order.price order.arrival other
 -- the best of some orders: no other is preferred to it
 pub record IsBest (side : Side) (orders : List Resting) (best : Resting) : Type 0 where
   pub there : Among best orders
-  pub first : Each (λ other. is_preferred side other best ≡ false) orders
+  pub first : AllByRecursion (λ other. is_preferred side other best ≡ false) orders
 
 -- what a taker takes of an order: the least of what both have left and the reach
 abbrev pub amount : Taker → Resting → ℕ → ℕ

@@ -1,5 +1,6 @@
 ghost use Rattle.std.specs.Prelude.{◌≡◌, IsTrue, SomeIff, bytes_eq};
-ghost use Rattle.fx_rules.specs.Names.{is_name, is_code, is_name_byte, is_reserved};
+ghost use Rattle.fx_rules.specs.Names.{is_name, is_code, is_name_byte};
+ghost use Rattle.fx_rules.specs.inside.Names.{is_reserved};
 ghost use Rattle.std.specs.Int.{w64, to_le_bytes};
 ghost use Rattle.std.specs.List.{list_all};
 

@@ -144,7 +144,7 @@ impl Session {
 
     /// The bank of that name; `None` exactly where no bank has it. It takes no memory.
     pub fn bank_named(&self, text: &[u8]) -> Option<BankId>
-        ensures value { result ≡ bank_named self.now text.now }
+        ensures value { result ≡ bank_named self.now.banks text.now }
         ensures within { IfSome result (λ bank. bank < bank_count self.now) }
         ensures named { IfSome result (λ bank. slice_get self.now.banks bank ≡ Some text.now) }
         ensures none { IfNone result (¬ (Contains self.now.banks text.now)) }

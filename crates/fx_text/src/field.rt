@@ -1,6 +1,6 @@
 ghost use Rattle.std.specs.Prelude.{◌≡◌, ◌==◌, ◌||◌, ◌<◌, ◌≤◌, ◌+◌, ◌^◌, ◌++◌, ◌∷◌, [], filter, length, nat_lt, if◌then◌else◌, slice_get, slice_index_or};
 ghost use Rattle.std.specs.Option.{option_copied};
-ghost use Rattle.fx_text.specs.Fields.{fields_of, has_bytes, is_blank, is_comment, is_end};
+ghost use Rattle.fx_text.specs.Fields.{fields_of, field_at, has_bytes, is_blank, is_comment, is_end};
 
 use std::marker::Model;
 
@@ -131,14 +131,14 @@ impl<'a> Fields<'a> {
     pub fn field(&self, at: usize) -> &'a [u8]
         requires kept { at < 8 }
         requires there { at < length self.now }
-        ensures { result.now ≡ slice_index_or self.now at [] }
+        ensures { result.now ≡ field_at self.now at }
     {
         self.kept.first[at]
     }
 
     /// Whether the line is passed over: it has no field, or its first field begins with `#`.
     pub fn is_passed_over(&self) -> bool
-        ensures { result ≡ (length self.now == 0) || is_comment (slice_index_or self.now 0 []) }
+        ensures { result ≡ (length self.now == 0) || is_comment (field_at self.now 0) }
     {
         self.kept.count == 0 || is_comment(self.field(0))
     }
@@ -152,7 +152,7 @@ impl<'a> Fields<'a> {
 
     /// The first field, or nothing where the line has none.
     pub fn first(&self) -> &'a [u8]
-        ensures { result.now ≡ slice_index_or self.now 0 [] }
+        ensures { result.now ≡ field_at self.now 0 }
     {
         if self.kept.count == 0 {
             &[]

@@ -7,24 +7,25 @@ use Rattle.std.proofs.lemmas.List.Elements.{All-head, All-tail, All-get_or}
 use Rattle.std.proofs.lemmas.List.Folds.{flat_map-map}
 use Rattle.std.proofs.lemmas.Nat.{mul-add-lt}
 use Rattle.fx_amounts.specs.Numeral.{numeral}
-use Rattle.fx_text.specs.Fields.{fields_of, is_comment}
+use Rattle.fx_text.specs.Fields.{fields_of, is_comment, field_at}
 use Rattle.fx_text.specs.Lines.{parts_of, all_but_last, lines_of, line_of}
 use Rattle.fx_text.specs.Number.{number_of}
 use Rattle.fx_text.specs.declared.line.Line.{Line}
 use Rattle.fx_text.specs.declared.line.Line.TheVariants.{Whole}
-use Rattle.fx_rules.specs.Session.{Header, IsSession, IsPairRule, bank_count, opening_limit, pair_text}
+use Rattle.fx_rules.specs.Session.{Header, IsSession, IsPairRule, bank_count, opening_limit, pair_text, bank_named}
 use Rattle.fx_rules.specs.declared.session.PairRule.{PairRule}
-use Rattle.fx_rules.specs.Lists.{Each}
+use Rattle.fx_rules.specs.Lists.{Each, below}
 use Rattle.fx_rules.proofs.ListLemmas.{Each-append}
+use Rattle.fx_rules.proofs.Below.{flat_map-suc}
 use Rattle.fx_text.proofs.FieldTexts.{IsField-tested, IsField-numeral}
 use Rattle.fx_text.proofs.JoinedFields.{IsField, fields_of-join, join-visible, length-join}
 use Rattle.order_lines.proofs.FieldTexts.{IsField-bank, IsField-pair_text}
 use Rattle.session_head.specs.Draft.{Draft, empty_draft}
-use Rattle.session_head.specs.Statement.{field_at, bank_in, new_name, new_pair, lot_of, bank_statement, pair_statement, line_statement, statement_of, spelling}
+use Rattle.session_head.specs.Statement.{new_name, new_pair, lot_said, bank_statement, pair_statement, line_statement, statement_of, spelling}
 use Rattle.session_head.specs.Head.{Head, Begun, Drafting, Started, Faulted, next, judged, with_line, with_lines, read_head, session_of}
-use Rattle.session_head.specs.HeadText.{each_below, limit_statement, limits_of, statements_of, line_text, lines_text, head_text_of}
+use Rattle.session_head.specs.HeadText.{limit_statement, statements_of, line_text, lines_text, head_text_of}
+use Rattle.session_head.specs.inside.HeadText.{limits_of}
 use Rattle.session_head.specs.declared.reason.HeadReason.{HeadReason}
-use Rattle.session_head.proofs.LineTexts.{line_text-joined}
 use Rattle.session_head.proofs.RoundLemmas.{head_text-read}
 use Rattle.journal_check.specs.Lines.{LineAt, behind, lines_from}
 use Rattle.journal_check.specs.Listed.{headed, header_in}
@@ -56,7 +57,7 @@ pub row-line : (row : List (List ℕ)) → IsRow row → line_of (row_text row) 
 row-line row is = line_of-plain (row_text row) (row-plain row is) (row-short row is)
 
 row_in_front : (row : List (List ℕ)) (rest : List ℕ) → line_text row ++ rest ≡ row_text row ++ 10 ∷ rest
-row_in_front row rest = ap (λ (t : List ℕ). t ++ rest) (line_text-joined row) ∙ ended (row_text row) rest
+row_in_front row rest = ended (row_text row) rest
 
 abbrev lines : List (List (List ℕ)) → List Line
 lines rows = map (λ row. Whole (row_text row)) rows
@@ -85,7 +86,7 @@ abbrev limit_rows : Header → ℕ → ℕ → List (List (List ℕ))
 limit_rows h from to = if nat_lt 0 (opening_limit h from to) then limit_row h from to ∷ [] else []
 
 abbrev all_limits : Header → List (List (List ℕ))
-all_limits h = each_below (λ from. each_below (limit_rows h from) (bank_count h)) (bank_count h)
+all_limits h = flat_map (λ from. flat_map (limit_rows h from) (below (bank_count h))) (below (bank_count h))
 
 abbrev start_row : List (List ℕ)
 start_row = codes "START" ∷ []
@@ -94,13 +95,13 @@ start_row = codes "START" ∷ []
 fronts : Header → List (List (List ℕ))
 fronts h = map bank_row h.banks ++ map pair_row h.pairs ++ all_limits h
 
-map_each : {X Y : Type 0} (g : X → Y) (f : ℕ → List X) (n : ℕ) → map g (each_below f n) ≡ each_below (λ k. map g (f k)) n
-map_each g f zero = refl
-map_each {X} {Y} g f (suc n) = map-append g (each_below f n) (f n) ∙ ap (λ (xs : List Y). xs ++ map g (f n)) (map_each g f n)
+map_each : {X Y Z : Type 0} (g : Y → Z) (f : X → List Y) (xs : List X) → map g (flat_map f xs) ≡ flat_map (λ x. map g (f x)) xs
+map_each g f [] = refl
+map_each {X} {Y} {Z} g f (x ∷ xs) = map-append g (f x) (flat_map f xs) ∙ ap (λ (zs : List Z). map g (f x) ++ zs) (map_each g f xs)
 
-each_same : {X : Type 0} (f g : ℕ → List X) (n : ℕ) → ((k : ℕ) → f k ≡ g k) → each_below f n ≡ each_below g n
-each_same f g zero same = refl
-each_same {X} f g (suc n) same = ap (λ (xs : List X). xs ++ f n) (each_same f g n same) ∙ ap (λ (xs : List X). each_below g n ++ xs) (same n)
+each_same : {X Y : Type 0} (f g : X → List Y) (xs : List X) → ((x : X) → f x ≡ g x) → flat_map f xs ≡ flat_map g xs
+each_same f g [] same = refl
+each_same {X} {Y} f g (x ∷ xs) same = ap (λ (ys : List Y). ys ++ flat_map f xs) (same x) ∙ ap (λ (ys : List Y). g x ++ ys) (each_same f g xs same)
 
 map_if : {X Y : Type 0} (g : X → Y) (b : Bool) (x : X) → map g (if b then x ∷ [] else []) ≡ (if b then g x ∷ [] else [])
 map_if g true x = refl
@@ -110,11 +111,11 @@ map_twice : {X Y Z : Type 0} (g : Y → Z) (f : X → Y) (xs : List X) → map g
 map_twice g f [] = refl
 map_twice {X} {Y} {Z} g f (x ∷ xs) = ap (λ (zs : List Z). g (f x) ∷ zs) (map_twice g f xs)
 
-limits_spelled : (h : Header) → each_below (λ from. map (spelling h.banks) (limits_of h from (bank_count h))) (bank_count h) ≡ all_limits h
+limits_spelled : (h : Header) → flat_map (λ from. map (spelling h.banks) (limits_of h from (bank_count h))) (below (bank_count h)) ≡ all_limits h
 limits_spelled h =
-    each_same (λ from. map (spelling h.banks) (limits_of h from (bank_count h))) (λ from. each_below (limit_rows h from) (bank_count h)) (bank_count h)
-    (λ from. map_each (spelling h.banks) (limit_statement h from) (bank_count h)
-    ∙ each_same (λ to. map (spelling h.banks) (limit_statement h from to)) (limit_rows h from) (bank_count h)
+    each_same (λ from. map (spelling h.banks) (limits_of h from (bank_count h))) (λ from. flat_map (limit_rows h from) (below (bank_count h))) (below (bank_count h))
+    (λ from. map_each (spelling h.banks) (limit_statement h from) (below (bank_count h))
+    ∙ each_same (λ to. map (spelling h.banks) (limit_statement h from to)) (limit_rows h from) (below (bank_count h))
     (λ to. map_if (spelling h.banks) (nat_lt 0 (opening_limit h from to)) _))
 
 spelled : (h : Header) → map (spelling h.banks) (statements_of h) ≡ fronts h ++ start_row ∷ []
@@ -159,7 +160,7 @@ pair_goes number d rule = elim (cases_Bool (leb 32 (length d.pairs))) [
     | inl none ↦ rw (room, none) tt
     | inr new ↦ elim (found (number_of 0 6 (numeral rule.decimals))) [
       | inl none ↦ rw (room, new.1, none) tt
-      | inr decimals ↦ elim (found (lot_of decimals.0 (numeral rule.lot))) [
+      | inr decimals ↦ elim (found (lot_said decimals.0 (numeral rule.lot))) [
         | inl none ↦ rw (room, new.1, decimals.1, none) tt
         | inr lot ↦ elim (found (number_of 1 1000000 (numeral rule.weight))) [
           | inl none ↦ rw (room, new.1, decimals.1, lot.1, none) tt
@@ -172,9 +173,9 @@ pair_goes number d rule = elim (cases_Bool (leb 32 (length d.pairs))) [
 
 line_goes : (number : ℕ) (d : Draft) (from to limit : List ℕ) → GoesOn (judged number d (statement_of d (codes "LINE" ∷ from ∷ to ∷ limit ∷ [])))
 unfolding statement_of line_statement
-line_goes number d from to limit = elim (found (bank_in d.banks from)) [
+line_goes number d from to limit = elim (found (bank_named d.banks from)) [
   | inl none ↦ rw none tt
-  | inr first ↦ elim (found (bank_in d.banks to)) [
+  | inr first ↦ elim (found (bank_named d.banks to)) [
     | inl none ↦ rw (first.1, none) tt
     | inr second ↦ elim (cases_Bool (eqb first.0 second.0)) [
       | inl same ↦ rw (first.1, second.1, same) tt
@@ -221,9 +222,10 @@ each_map : {X Y : Type 0} (P : Y → Type 0) (f : X → Y) (Q : X → Type 0) (x
 each_map P f Q [] holds all = tt
 each_map P f Q (x ∷ xs) holds all = (holds x (All-head Q x xs all), each_map P f Q xs holds (All-tail Q x xs all))
 
-each_of : {X : Type 0} (P : X → Type 0) (f : ℕ → List X) (n : ℕ) → ((k : ℕ) → k < n → Each P (f k)) → Each P (each_below f n)
+each_of : {X : Type 0} (P : X → Type 0) (f : ℕ → List X) (n : ℕ) → ((k : ℕ) → k < n → Each P (f k)) → Each P (flat_map f (below n))
 each_of P f zero all = tt
-each_of P f (suc n) all = Each-append P (each_below f n) (f n) (each_of P f n (λ k less. all k (omega arith))) (all n (omega arith))
+each_of P f (suc n) all =
+    subst (Each P) (sym (flat_map-suc f n)) (Each-append P (flat_map f (below n)) (f n) (each_of P f n (λ k less. all k (omega arith))) (all n (omega arith)))
 
 names : (h : Header) → IsSession h → All IsField h.banks
 names h session k d within = subst IsField (get_or_default h.banks k [] d within) (IsField-bank h k session within)
@@ -241,7 +243,7 @@ fronts-are h session =
     (Each-append IsFront (map bank_row h.banks) (map pair_row h.pairs)
     (each_map IsFront bank_row IsField h.banks bank_front (names h session))
     (each_map IsFront pair_row IsPairRule h.pairs pair_front session.rules))
-    (each_of IsFront (λ from. each_below (limit_rows h from) (bank_count h)) (bank_count h)
+    (each_of IsFront (λ from. flat_map (limit_rows h from) (below (bank_count h))) (bank_count h)
     (λ from first. each_of IsFront (limit_rows h from) (bank_count h) (λ to second. limit_fronts h from to session first second)))
 
 rows-are : (fronts : List (List (List ℕ))) → Each IsFront fronts → Each IsRow (fronts ++ start_row ∷ [])

@@ -11,7 +11,8 @@ use Rattle.session_head.specs.declared.reason.HeadReason.{HeadReason}
 use Rattle.session_head.specs.declared.reason.HeadStep.TheVariants.{More, Start}
 use Rattle.session_head.specs.declared.reason.HeadStop.TheVariants.{Fault}
 use Rattle.order_lines.specs.Grammar.{journal_line}
-use Rattle.kept_history.specs.Blocks.{lines_in, ended_by_start, said_by, behind, commands_of, commands_in}
+use Rattle.fx_rules.specs.Sending.{sent_of}
+use Rattle.kept_history.specs.Blocks.{lines_in, ended_by_start, behind, commands_of, commands_in}
 
 -- The first line
 
@@ -117,16 +118,16 @@ pushed_all h before one None = refl
 pushed_all h before one (Some lines) = pushed before one (commands_of h lines)
 
 commands_line : (h : Header) (text : List ℕ) (line : Line) (after : List ℕ) (said : Option (ℕ × Command)) → IsFirstLine text line after → said ≡ journal_line h line
-    → commands_in h text ≡ option_and_then (λ (more : List Line). option_and_then (λ (one : ℕ × Command). behind (said_by one ∷ []) (commands_of h more)) said) (lines_in after)
+    → commands_in h text ≡ option_and_then (λ (more : List Line). option_and_then (λ (one : ℕ × Command). behind (sent_of one ∷ []) (commands_of h more)) said) (lines_in after)
 commands_line h text line after said first is =
     lines-read (commands_of h) text line after first
-    ∙ ap (λ (o : Option (ℕ × Command)). option_and_then (λ (more : List Line). option_and_then (λ (one : ℕ × Command). behind (said_by one ∷ []) (commands_of h more)) o) (lines_in after)) (sym is)
+    ∙ ap (λ (o : Option (ℕ × Command)). option_and_then (λ (more : List Line). option_and_then (λ (one : ℕ × Command). behind (sent_of one ∷ []) (commands_of h more)) o) (lines_in after)) (sym is)
 
-pub commands_more : (h : Header) (before now : List Sent) (text : List ℕ) (line : Line) (after : List ℕ) (said : ℕ × Command) → IsFirstLine text line after → Some said ≡ journal_line h line → now ≡ before ++ said_by said ∷ []
+pub commands_more : (h : Header) (before now : List Sent) (text : List ℕ) (line : Line) (after : List ℕ) (said : ℕ × Command) → IsFirstLine text line after → Some said ≡ journal_line h line → now ≡ before ++ sent_of said ∷ []
     → behind before (commands_in h text) ≡ behind now (commands_in h after)
 commands_more h before now text line after said first is pushed_is =
     ap (behind before) (commands_line h text line after (Some said) first is)
-    ∙ pushed_all h before (said_by said) (lines_in after)
+    ∙ pushed_all h before (sent_of said) (lines_in after)
     ∙ ap (λ (b : List Sent). behind b (commands_in h after)) (sym pushed_is)
 
 pub commands_wrong : (h : Header) (before : List Sent) (text : List ℕ) (line : Line) (after : List ℕ) → IsFirstLine text line after → None ≡ journal_line h line → behind before (commands_in h text) ≡ None

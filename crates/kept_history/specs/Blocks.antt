@@ -2,8 +2,8 @@
 use Rattle.std.specs.Prelude.{ℕ, ◌+◌, ◌==◌, if◌then◌else◌, List, [], ◌∷◌, ◌++◌, length, Option, Some, None, is_some, option_map, option_and_then, Result, Ok, Err}
 use Rattle.fx_text.specs.Lines.{lines_of, rest_of}
 use Rattle.fx_text.specs.declared.line.Line.{Line}
+use Rattle.fx_rules.specs.Sending.{sent_of}
 use Rattle.fx_rules.specs.Session.{Header}
-use Rattle.fx_rules.specs.declared.command.Command.{Command}
 use Rattle.fx_rules.specs.declared.command.Sent.{Sent}
 use Rattle.session_head.specs.Head.{Head, Begun, with_line, session_of}
 use Rattle.order_lines.specs.Grammar.{journal_line}
@@ -25,10 +25,6 @@ header_in body = option_and_then (ended_by_start (Begun 0)) (lines_in body)
 
 -- The commands
 
--- what a line of a journal says: a bank, and its command
-abbrev pub said_by : ℕ × Command → Sent
-said_by said = record { bank = said.0; command = said.1 }
-
 -- commands behind those before them
 abbrev pub behind : List Sent → Option (List Sent) → Option (List Sent)
 behind before more = option_map (λ sent. before ++ sent) more
@@ -36,7 +32,7 @@ behind before more = option_map (λ sent. before ++ sent) more
 -- the commands of lines, each of which is a journal's
 abbrev pub commands_of : Header → List Line → Option (List Sent)
 commands_of h [] = Some []
-commands_of h (line ∷ more) = option_and_then (λ said. behind (said_by said ∷ []) (commands_of h more)) (journal_line h line)
+commands_of h (line ∷ more) = option_and_then (λ said. behind (sent_of said ∷ []) (commands_of h more)) (journal_line h line)
 
 -- the commands of a body that is lines of a journal
 abbrev pub commands_in : Header → List ℕ → Option (List Sent)

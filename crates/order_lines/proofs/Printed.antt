@@ -9,8 +9,8 @@ use Rattle.fx_rules.specs.declared.command.Command.TheVariants as command
 use Rattle.fx_rules.specs.declared.command.Life.{Life}
 use Rattle.fx_text.proofs.LineTexts.{pushed_two, no_field, last_field, one_field}
 use Rattle.fx_text.specs.Fields.{fields_text}
-use Rattle.order_lines.specs.inside.Printing.{word_field, subject_field, details}
-use Rattle.order_lines.specs.Spelling.{price_spelled, command_fields, command_text_of}
+use Rattle.order_lines.specs.inside.Printing.{word_field, subject_field, details, price_spelled}
+use Rattle.order_lines.specs.Spelling.{command_fields, command_text_of}
 use Rattle.order_lines.specs.Words.{life_text}
 
 -- fields with one space between each two are the first and, with a space before each, the others

@@ -1,5 +1,5 @@
 -- A field says just what it is the spelling of.
-use Rattle.std.proofs.Common.{◌≡◌, ◌≢◌, ℕ, ◌^◌, ◌<◌, ◌≤◌, Bool, true, false, List, [], ◌∷◌, length, map, get_or, take, drop, refl, sym, ap, ◌∙◌, arith, eqb, subst, ⊎_elim, Option, Some, None, Result, Ok, Err, ok_or, position, option_map, slice_get, bytes_eq, find}
+use Rattle.std.proofs.Common.{◌≡◌, ◌≢◌, ℕ, ◌^◌, ◌<◌, ◌≤◌, Bool, true, false, List, [], ◌∷◌, length, map, get_or, take, drop, refl, sym, ap, ◌∙◌, arith, cond, eqb, subst, ⊎_elim, Option, Some, None, Result, Ok, Err, ok_or, position, option_map, slice_get, bytes_eq, find}
 use Rattle.std.proofs.lemmas.Bool.{cases_Bool, cases_lt, cond-true, cond-false, lt-ltb, ne_eqb, eq-eqb, eqb-true, false≢true, false_from_ne_true}
 use Rattle.std.proofs.lemmas.List.{length-map, take_at, drop_at}
 use Rattle.std.proofs.lemmas.List.Sums.{position_or_len_is}
@@ -11,8 +11,9 @@ use Rattle.fx_amounts.specs.Price.{IsPrice}
 use Rattle.fx_amounts.specs.PriceText.{price_text, price_of, price_of_ticks}
 use Rattle.fx_amounts.specs.Quantity.{IsLots, IsUnits}
 use Rattle.fx_amounts.specs.declared.price_text.PriceFault.{PriceFault}
-use Rattle.fx_amounts.specs.declared.price_text.PriceFault.TheVariants.{Range}
+use Rattle.fx_amounts.specs.declared.price_text.PriceFault.TheVariants.{Form, Range}
 use Rattle.fx_amounts.proofs.PriceTextLemmas.{Says, Says-price_of, price_of-price_text, price_of_ticks-in, price_of_ticks-out}
+use Rattle.fx_text.specs.Faults.{◌>>=◌}
 use Rattle.fx_text.specs.Number.{number_of}
 use Rattle.fx_text.proofs.NumberLemmas.{Reads, Reads-number_of, number_of-numeral}
 use Rattle.fx_rules.specs.Reject.{code_of}
@@ -24,9 +25,9 @@ use Rattle.fx_rules.specs.declared.command.Reject.{Reject}
 use Rattle.fx_rules.specs.declared.command.Reject.TheVariants as reject
 use Rattle.fx_rules.specs.declared.session.PairRule.{PairRule}
 use Rattle.fx_rules.proofs.SessionLemmas.{found_from_place}
-use Rattle.order_lines.specs.Words.{word_text, word_of, words, life_text, life_of, lives, fault_of, faults}
-use Rattle.order_lines.specs.Reading.{pair_said, price_said, price_or_fault, lots_said, life_said, number_said, other_said, other_than, limit_said}
-use Rattle.order_lines.specs.Spelling.{price_spelled}
+use Rattle.order_lines.specs.Words.{word_text, word_of, life_text, life_of, fault_of, faults}
+use Rattle.order_lines.specs.Reading.{pair_said, price_said, price_or_fault, lots_said, life_said, number_said, other_said, limit_said}
+use Rattle.order_lines.specs.inside.Printing.{price_spelled}
 use Rattle.order_lines.specs.declared.word.Word.{Word}
 use Rattle.order_lines.specs.declared.word.Word.TheVariants.{Buy, Sell, Cancel, Reduce, Pull, Line, Show, Book}
 use Rattle.fx_rules.proofs.NameTexts.{HasCodeBytes-code}
@@ -56,12 +57,12 @@ option_map-id None = refl
 option_map-id (Some x) = refl
 
 -- a bank's name
-pub bank_named-ok : (h : Header) (text : List ℕ) (bank : ℕ) → bank_named h text ≡ Some bank → (bank < bank_count h) × (text ≡ bank_name h bank)
+pub bank_named-ok : (h : Header) (text : List ℕ) (bank : ℕ) → bank_named h.banks text ≡ Some bank → (bank < bank_count h) × (text ≡ bank_name h bank)
 bank_named-ok h text bank found =
     let at : slice_get h.banks bank ≡ Some text = sym (option_map-id (slice_get h.banks bank)) ∙ found_from_place (λ name. name) text h.banks bank found in
     (slice_get_within h.banks bank text at, sym (get_or_from_slice_get h.banks bank text [] at))
 
-pub bank_named-name : (h : Header) (bank : ℕ) → IsSession h → bank < bank_count h → bank_named h (bank_name h bank) ≡ Some bank
+pub bank_named-name : (h : Header) (bank : ℕ) → IsSession h → bank < bank_count h → bank_named h.banks (bank_name h bank) ≡ Some bank
 bank_named-name h bank session within =
     position-is (λ name. bytes_eq name (bank_name h bank)) h.banks bank [] within
     ((bytes_decides (bank_name h bank) (bank_name h bank)).1 refl)
@@ -104,7 +105,8 @@ pair_said-name h pair session within = ap (λ (option : Option ℕ). ok_or optio
 -- a price
 price_or_fault-ok : (read : Result ℕ PriceFault) (price : ℕ) → price_or_fault read ≡ Ok price → read ≡ Ok price
 price_or_fault-ok (Ok value) price e = cc
-price_or_fault-ok (Err fault) price e = absurd (cc)
+price_or_fault-ok (Err Form) price e = absurd (cc)
+price_or_fault-ok (Err Range) price e = absurd (cc)
 
 price_in_range : (ticks : ℕ) → price_of_ticks ticks ≡ Ok ticks → IsPrice ticks
 price_in_range ticks is = ⊎_elim
@@ -164,7 +166,7 @@ limit_said-numeral limit is = number-numeral 0 1000000000000000 reject.Limit lim
 
 -- words
 pub word_of-ok : (text : List ℕ) (word : Word) → word_of text ≡ Some word → text ≡ word_text word
-word_of-ok text word found = sym ((bytes_decides (word_text word) text).0 (find-passes (λ word. bytes_eq (word_text word) text) words word found))
+word_of-ok text word found = sym ((bytes_decides (word_text word) text).0 (find-passes (λ word. bytes_eq (word_text word) text) (Buy ∷ Sell ∷ Cancel ∷ Reduce ∷ Pull ∷ Line ∷ Show ∷ Book ∷ []) word found))
 
 pub word_of-text : (word : Word) → word_of (word_text word) ≡ Some word
 word_of-text Buy = refl
@@ -179,7 +181,7 @@ word_of-text Book = refl
 pub life_said-ok : (text : List ℕ) (life : Life) → life_said text ≡ Ok life → text ≡ life_text life
 unfolding life_said
 life_said-ok text life said =
-    sym ((bytes_decides (life_text life) text).0 (find-passes (λ life. bytes_eq (life_text life) text) lives life (ok_or-ok (life_of text) reject.Life life said)))
+    sym ((bytes_decides (life_text life) text).0 (find-passes (λ life. bytes_eq (life_text life) text) (Day ∷ Ioc ∷ Fok ∷ []) life (ok_or-ok (life_of text) reject.Life life said)))
 
 pub life_said-text : (life : Life) → life_said (life_text life) ≡ Ok life
 unfolding life_said
@@ -188,6 +190,9 @@ life_said-text Ioc = refl
 life_said-text Fok = refl
 
 -- another bank
+abbrev other_than : ℕ → Option ℕ → Result ℕ Reject
+other_than sender found = ok_or found reject.Bank >>= (λ other. cond (eqb other sender) (Err reject.Bank) (Ok other))
+
 other_than-ok : (sender : ℕ) (found : Option ℕ) (other : ℕ) → other_than sender found ≡ Ok other → (found ≡ Some other) × (other ≢ sender)
 other_than-ok sender None other said = absurd (cc)
 other_than-ok sender (Some bank) other said = ⊎_elim
@@ -201,7 +206,7 @@ other_than-ok sender (Some bank) other said = ⊎_elim
 pub other_said-ok : (h : Header) (sender : ℕ) (text : List ℕ) (other : ℕ) → other_said h sender text ≡ Ok other → (other < bank_count h) × (other ≢ sender) × (text ≡ bank_name h other)
 unfolding other_said
 other_said-ok h sender text other said =
-    let found = other_than-ok sender (bank_named h text) other said in
+    let found = other_than-ok sender (bank_named h.banks text) other said in
     let named = bank_named-ok h text other found.0 in
     (named.0, found.1, named.1)
 

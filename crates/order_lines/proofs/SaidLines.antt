@@ -1,10 +1,10 @@
 -- A line says a command of a bank just where its fields are the spelling of it.
-use Rattle.std.proofs.Common.{◌≡◌, ℕ, ◌<◌, ◌≤◌, Bool, true, false, cond, ◌&&◌, List, [], ◌∷◌, length, get_or, refl, sym, ap, ◌∙◌, arith, eqb, subst, ⊎_elim, Option, Some, None, Result, Ok, Err, option_map, option_and_then, bytes_eq, IfSome}
+use Rattle.std.proofs.Common.{◌≡◌, ℕ, ◌<◌, ◌≤◌, Bool, true, false, cond, ◌&&◌, List, [], ◌∷◌, length, get_or, refl, sym, ap, ◌∙◌, arith, eqb, subst, ⊎_elim, Option, Some, None, Result, Ok, Err, unwrap_or, option_map, option_and_then, bytes_eq, IfSome}
 use Rattle.std.proofs.lemmas.Bool.{cases_Bool, cond-true, cond-false, and_parts, eqb-true, ne_eqb, false≢true}
 use Rattle.std.proofs.lemmas.Option.{some_pair_parts}
 use Rattle.std.specs.Cmp.Lexicographic.{bytes_decides}
 use Rattle.fx_amounts.specs.Numeral.{numeral}
-use Rattle.fx_text.specs.Fields.{fields_of, first_field, is_comment, is_end}
+use Rattle.fx_text.specs.Fields.{fields_of, first_field, is_comment, is_end, field_at}
 use Rattle.fx_text.specs.Lines.{is_passed_over}
 use Rattle.fx_text.specs.Number.{number_of}
 use Rattle.fx_text.specs.declared.line.Line.{Line}
@@ -18,8 +18,9 @@ use Rattle.fx_rules.specs.declared.command.Command.TheVariants as command
 use Rattle.fx_rules.specs.declared.command.Reject.{Reject}
 use Rattle.fx_rules.specs.declared.command.Reject.TheVariants as reject
 use Rattle.fx_rules.proofs.Senders.{bank-suits}
-use Rattle.order_lines.specs.Grammar.{command_line, journal_line, sent_by, or_bad, recorded, is_bad, fault_in, bad_said, IfSent}
-use Rattle.order_lines.specs.Reading.{◌>>=◌, field, command_said, said_by, word_said, order_said, cancel_said, reduce_said, pull_said, line_said, show_said, book_said}
+use Rattle.order_lines.specs.Grammar.{command_line, journal_line, or_bad, recorded, is_bad, fault_in, bad_said, IfSent}
+use Rattle.fx_text.specs.Faults.{◌>>=◌}
+use Rattle.order_lines.specs.Reading.{command_said, said_after, word_said, order_said, cancel_said, reduce_said, line_said}
 use Rattle.order_lines.specs.Spelling.{command_fields, IsSpelled}
 use Rattle.order_lines.specs.Words.{bad_word, fault_of, field_count}
 use Rattle.order_lines.specs.declared.word.Word.{Word}
@@ -44,11 +45,15 @@ pub record IsSent (h : Header) (line : Line) (bank : ℕ) (said : Command) : Typ
 bad_command : (h : Header) (bank : ℕ) (fault : Reject) → bank < bank_count h → IsCommand h bank (command.Bad fault)
 bad_command h bank fault within = record { sends = bank-suits h bank (command.Bad fault) within; values = tt }
 
-sent_by-ok : (found : Option ℕ) (commands : ℕ → Command) (bank : ℕ) (said : Command) → sent_by found commands ≡ Of bank said → (found ≡ Some bank) × (commands bank ≡ said)
-sent_by-ok None commands bank said is = absurd (cc)
-sent_by-ok (Some sender) commands bank said is = let same : sender ≡ bank = cc in (ap Some same, ap commands (sym same) ∙ cc)
+-- what a line of a bank says, and one of none
+abbrev of_sender : Option ℕ → (ℕ → Command) → Spoken
+of_sender found commands = unwrap_or (option_map (λ bank. Of bank (commands bank)) found) Stray
 
-sent_whole : (h : Header) (text : List ℕ) (bank : ℕ) (said : Command) → bank_named h (first_field text) ≡ Some bank → (read : Result Command Reject) → command_said h bank (fields_of text) ≡ read → or_bad read ≡ said → IsSent h (Whole text) bank said
+of_sender-ok : (found : Option ℕ) (commands : ℕ → Command) (bank : ℕ) (said : Command) → of_sender found commands ≡ Of bank said → (found ≡ Some bank) × (commands bank ≡ said)
+of_sender-ok None commands bank said is = absurd (cc)
+of_sender-ok (Some sender) commands bank said is = let same : sender ≡ bank = cc in (ap Some same, ap commands (sym same) ∙ cc)
+
+sent_whole : (h : Header) (text : List ℕ) (bank : ℕ) (said : Command) → bank_named h.banks (first_field text) ≡ Some bank → (read : Result Command Reject) → command_said h bank (fields_of text) ≡ read → or_bad read ≡ said → IsSent h (Whole text) bank said
 sent_whole h text bank said found (Ok command) read is =
     let named = bank_named-ok h (first_field text) bank found in
     let says : SaysCommand h bank (fields_of text) said = command_said-ok h bank (fields_of text) said named.1 (read ∙ ap Ok is) in
@@ -58,8 +63,8 @@ sent_whole h text bank said found (Err fault) read is =
     subst (IsSent h (Whole text) bank) is (record { within = named.0; name = named.1; in_range = bad_command h bank fault named.0; spelled = λ good. absurd (false≢true (sym good)) })
 
 -- the first field of a line is not read for its command
-by_word : (h : Header) (sender : ℕ) (word : Word) (first other : List ℕ) (rest : List (List ℕ)) → said_by h sender word (first ∷ rest) ≡ said_by h sender word (other ∷ rest)
-unfolding order_said cancel_said reduce_said pull_said line_said show_said book_said
+by_word : (h : Header) (sender : ℕ) (word : Word) (first other : List ℕ) (rest : List (List ℕ)) → said_after h sender word (first ∷ rest) ≡ said_after h sender word (other ∷ rest)
+unfolding order_said cancel_said reduce_said line_said
 by_word h sender words.Buy first other rest = refl
 by_word h sender words.Sell first other rest = refl
 by_word h sender words.Cancel first other rest = refl
@@ -70,7 +75,7 @@ by_word h sender words.Show first other rest = refl
 by_word h sender words.Book first other rest = refl
 
 abbrev by_count : Header → ℕ → List (List ℕ) → Word → Result Command Reject
-by_count h sender fields word = cond (eqb (length fields) (field_count word)) (said_by h sender word fields) (Err reject.Count)
+by_count h sender fields word = cond (eqb (length fields) (field_count word)) (said_after h sender word fields) (Err reject.Count)
 
 by_read : (h : Header) (sender : ℕ) (word : Result Word Reject) (first other : List ℕ) (rest : List (List ℕ)) → (word >>= by_count h sender (first ∷ rest)) ≡ (word >>= by_count h sender (other ∷ rest))
 by_read h sender (Ok word) first other rest = ap (λ (said : Result Command Reject). cond (eqb (length (first ∷ rest)) (field_count word)) said (Err reject.Count)) (by_word h sender word first other rest)
@@ -95,7 +100,7 @@ said-in_range h sender (first ∷ rest) within =
 pub IsSent-command_line : (h : Header) (line : Line) (bank : ℕ) (said : Command) → command_line h line ≡ Of bank said → IsSent h line bank said
 unfolding command_line
 IsSent-command_line h (Whole text) bank said is =
-    let sent : Spoken = sent_by (bank_named h (first_field text)) (λ sender. or_bad (command_said h sender (fields_of text))) in
+    let sent : Spoken = of_sender (bank_named h.banks (first_field text)) (λ sender. or_bad (command_said h sender (fields_of text))) in
     let rest : Spoken = cond (is_end (fields_of text)) End sent in
     ⊎_elim
     (λ (passed : is_passed_over (Whole text) ≡ true). absurd (let e : Passed ≡ Of bank said = sym (cond-true (is_passed_over (Whole text)) Passed rest passed) ∙ is in cc))
@@ -104,16 +109,16 @@ IsSent-command_line h (Whole text) bank said is =
     ⊎_elim
     (λ (ends : is_end (fields_of text) ≡ true). absurd (let e : End ≡ Of bank said = sym (cond-true (is_end (fields_of text)) End sent ends) ∙ is' in cc))
     (λ (goes : is_end (fields_of text) ≡ false).
-    let by = sent_by-ok (bank_named h (first_field text)) (λ sender. or_bad (command_said h sender (fields_of text))) bank said (sym (cond-false (is_end (fields_of text)) End sent goes) ∙ is') in
+    let by = of_sender-ok (bank_named h.banks (first_field text)) (λ sender. or_bad (command_said h sender (fields_of text))) bank said (sym (cond-false (is_end (fields_of text)) End sent goes) ∙ is') in
     sent_whole h text bank said by.0 (command_said h bank (fields_of text)) refl by.1)
     (cases_Bool (is_end (fields_of text))))
     (cases_Bool (is_passed_over (Whole text)))
 IsSent-command_line h (Long first) bank said is =
-    let sent : Spoken = sent_by (bank_named h first) (λ sender. command.Bad reject.Long) in
+    let sent : Spoken = of_sender (bank_named h.banks first) (λ sender. command.Bad reject.Long) in
     ⊎_elim
     (λ (passed : is_comment first ≡ true). absurd (let e : Passed ≡ Of bank said = sym (cond-true (is_comment first) Passed sent passed) ∙ is in cc))
     (λ (kept : is_comment first ≡ false).
-    let by = sent_by-ok (bank_named h first) (λ sender. command.Bad reject.Long) bank said (sym (cond-false (is_comment first) Passed sent kept) ∙ is) in
+    let by = of_sender-ok (bank_named h.banks first) (λ sender. command.Bad reject.Long) bank said (sym (cond-false (is_comment first) Passed sent kept) ∙ is) in
     let named = bank_named-ok h first bank by.0 in
     subst (IsSent h (Long first) bank) by.1 (record { within = named.0; name = named.1; in_range = bad_command h bank reject.Long named.0; spelled = λ good. absurd (false≢true (sym good)) }))
     (cases_Bool (is_comment first))
@@ -124,7 +129,7 @@ sent_line : (h : Header) (text : List ℕ) (bank : ℕ) (second : List ℕ) (mor
 unfolding command_line
 sent_line h text bank second more session within is =
     let letter : 64 < get_or (bank_name h bank) 0 0 = bank_name-letter h bank session within in
-    rw (is, ne_eqb (length (bank_name h bank ∷ second ∷ more)) 0 (λ e. omega arith), ne_eqb (get_or (bank_name h bank) 0 0) 35 (λ e. omega arith), bank_named-name h bank session within) refl
+    rw (is, ne_eqb (length (bank_name h bank ∷ second ∷ more)) 0 (λ e. omega arith), ne_eqb (length (bank_name h bank ∷ second ∷ more)) 1 (λ e. omega arith), ne_eqb (get_or (bank_name h bank) 0 0) 35 (λ e. omega arith), bank_named-name h bank session within) refl
 
 -- the first two of a command's fields
 record Parts (h : Header) (bank : ℕ) (said : Command) : Type 0 where
@@ -181,17 +186,17 @@ fault_of-some : (number : Option ℕ) (fault : Reject) → option_and_then fault
 fault_of-some None fault is = absurd (cc)
 fault_of-some (Some n) fault is = ap Some (fault_of-ok n fault is)
 
-fault_in-ok : (h : Header) (bank : ℕ) (fields : List (List ℕ)) (fault : Reject) → field fields 0 ≡ bank_name h bank → fault_in fields ≡ Some fault → fields ≡ command_fields h bank (command.Bad fault)
+fault_in-ok : (h : Header) (bank : ℕ) (fields : List (List ℕ)) (fault : Reject) → field_at fields 0 ≡ bank_name h bank → fault_in fields ≡ Some fault → fields ≡ command_fields h bank (command.Bad fault)
 fault_in-ok h bank fields fault name is =
-    let test : Bool = eqb (length fields) 3 && bytes_eq (field fields 1) bad_word in
-    let read : Option Reject = option_and_then fault_of (number_of 1 11 (field fields 2)) in
+    let test : Bool = eqb (length fields) 3 && bytes_eq (field_at fields 1) bad_word in
+    let read : Option Reject = option_and_then fault_of (number_of 1 11 (field_at fields 2)) in
     ⊎_elim
     (λ (passes : test ≡ true).
-    let parts = and_parts (eqb (length fields) 3) (bytes_eq (field fields 1) bad_word) passes in
-    let number : number_of 1 11 (field fields 2) ≡ Some (code_of fault) = fault_of-some (number_of 1 11 (field fields 2)) fault (sym (cond-true test read None passes) ∙ is) in
-    let reads : Reads 1 11 (field fields 2) (number_of 1 11 (field fields 2)) = Reads-number_of 1 11 (field fields 2) in
-    let spelling : field fields 2 ≡ numeral (code_of fault) = rw number at reads.spelling in
-    fields_3 fields (bank_name h bank) bad_word (numeral (code_of fault)) (eqb-true (length fields) 3 parts.0) name ((bytes_decides (field fields 1) bad_word).0 parts.1) spelling)
+    let parts = and_parts (eqb (length fields) 3) (bytes_eq (field_at fields 1) bad_word) passes in
+    let number : number_of 1 11 (field_at fields 2) ≡ Some (code_of fault) = fault_of-some (number_of 1 11 (field_at fields 2)) fault (sym (cond-true test read None passes) ∙ is) in
+    let reads : Reads 1 11 (field_at fields 2) (number_of 1 11 (field_at fields 2)) = Reads-number_of 1 11 (field_at fields 2) in
+    let spelling : field_at fields 2 ≡ numeral (code_of fault) = rw number at reads.spelling in
+    fields_3 fields (bank_name h bank) bad_word (numeral (code_of fault)) (eqb-true (length fields) 3 parts.0) name ((bytes_decides (field_at fields 1) bad_word).0 parts.1) spelling)
     (λ (fails : test ≡ false). absurd (let e : None ≡ Some fault = sym (cond-false test read None fails) ∙ is in cc))
     (cases_Bool test)
 

@@ -11,7 +11,8 @@ use Rattle.fx_rules.specs.Step.{IsCommand, AreValues}
 use Rattle.fx_rules.specs.declared.command.Command.{Command}
 use Rattle.fx_rules.specs.declared.command.Command.TheVariants as command
 use Rattle.order_lines.specs.Grammar.{journal_line}
-use Rattle.order_lines.specs.Spelling.{price_spelled, command_fields, command_text_of}
+use Rattle.order_lines.specs.inside.Printing.{price_spelled}
+use Rattle.order_lines.specs.Spelling.{command_fields, command_text_of}
 use Rattle.order_lines.specs.Words.{side_word}
 use Rattle.order_lines.specs.declared.word.Word.TheVariants as word
 use Rattle.fx_text.proofs.FieldTexts.{IsField-numeral, IsField-price_text}

@@ -1,6 +1,6 @@
 -- What a line after the header's START says, and what a line of a journal says.
-use Rattle.std.specs.Prelude.{ℕ, ◌==◌, ◌&&◌, Bool, true, false, Option, Some, None, option_map, option_and_then, Result, Ok, Err, List, length, bytes_eq, if◌then◌else◌}
-use Rattle.fx_text.specs.Fields.{fields_of, first_field, is_end}
+use Rattle.std.specs.Prelude.{ℕ, ◌==◌, ◌&&◌, Bool, true, false, Option, Some, None, unwrap_or, option_map, option_and_then, Result, Ok, Err, List, length, bytes_eq, if◌then◌else◌}
+use Rattle.fx_text.specs.Fields.{fields_of, field_at, first_field, is_end}
 use Rattle.fx_text.specs.Lines.{is_passed_over}
 use Rattle.fx_text.specs.Number.{number_of}
 use Rattle.fx_text.specs.declared.line.Line.{Line}
@@ -11,14 +11,9 @@ use Rattle.fx_rules.specs.declared.command.Command.TheVariants.{Bad}
 use Rattle.fx_rules.specs.declared.command.Reject.{Reject}
 use Rattle.fx_rules.specs.declared.command.Reject.TheVariants as reject
 use Rattle.order_lines.specs.Words.{bad_word, fault_of}
-use Rattle.order_lines.specs.Reading.{field, command_said}
+use Rattle.order_lines.specs.Reading.{command_said}
 use Rattle.order_lines.specs.declared.spoken.Spoken.{Spoken}
 use Rattle.order_lines.specs.declared.spoken.Spoken.TheVariants.{Of, Stray, End, Passed}
-
--- a bank's line, where its first field names one
-abbrev pub sent_by : Option ℕ → (ℕ → Command) → Spoken
-sent_by (Some bank) command = Of bank (command bank)
-sent_by None command = Stray
 
 -- what holds of a line's bank and command, where it is a bank's
 abbrev pub IfSent : Spoken → (ℕ → Command → Type 0) → Type 0
@@ -36,17 +31,14 @@ or_bad (Err fault) = Bad fault
 -- bank's name is that bank's command, which is bad with its first fault; any other is a stray. A long line is bad with
 -- that fault first, and is never the end.
 unfoldable pub command_line : Header → Line → Spoken
-command_line h (Whole text) =
-    if is_passed_over (Whole text) then Passed
-    else if is_end (fields_of text) then End
-    else sent_by (bank_named h (first_field text)) (λ bank. or_bad (command_said h bank (fields_of text)))
-command_line h (Long first) =
-    if is_passed_over (Long first) then Passed
-    else sent_by (bank_named h first) (λ bank. Bad reject.Long)
+command_line h (Whole text) = if is_passed_over (Whole text) then Passed else if is_end (fields_of text) then End
+    else unwrap_or (option_map (λ bank. Of bank (or_bad (command_said h bank (fields_of text)))) (bank_named h.banks (first_field text))) Stray
+command_line h (Long first) = if is_passed_over (Long first) then Passed
+    else unwrap_or (option_map (λ bank. Of bank (Bad reject.Long)) (bank_named h.banks first)) Stray
 
 -- the fault that a journal's line gives a bank: three fields, of which the second is `BAD` and the third its number
 abbrev pub fault_in : List (List ℕ) → Option Reject
-fault_in fields = if length fields == 3 && bytes_eq (field fields 1) bad_word then option_and_then fault_of (number_of 1 11 (field fields 2)) else None
+fault_in fields = if length fields == 3 && bytes_eq (field_at fields 1) bad_word then option_and_then fault_of (number_of 1 11 (field_at fields 2)) else None
 
 abbrev pub bad_said : Line → Option Reject
 bad_said (Whole text) = fault_in (fields_of text)
@@ -59,9 +51,7 @@ is_bad _ = false
 -- a line of a journal: as a line after START, but that a bad command stands as `bank BAD number` alone
 abbrev pub recorded : Line → Spoken → Option (ℕ × Command)
 recorded line (Of bank command) = if is_bad command then option_map (λ fault. (bank, Bad fault)) (bad_said line) else Some (bank, command)
-recorded line Stray = None
-recorded line End = None
-recorded line Passed = None
+recorded _ _ = None
 
 unfoldable pub journal_line : Header → Line → Option (ℕ × Command)
 journal_line h line = recorded line (command_line h line)

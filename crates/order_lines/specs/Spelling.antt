@@ -13,13 +13,10 @@ use Rattle.fx_rules.specs.declared.command.Command.TheVariants.{Order, Cancel, R
 use Rattle.order_lines.specs.Words.{word_text, side_word, life_text, bad_word}
 use Rattle.order_lines.specs.declared.word.Word.TheVariants as word
 
-abbrev pub price_spelled : Header → ℕ → ℕ → List ℕ
-price_spelled h pair price = price_text (decimals_of h pair) price
-
 -- the fields of a command's line
 abbrev pub command_fields : Header → ℕ → Command → List (List ℕ)
 command_fields h bank (Order side pair price lots life) =
-    bank_name h bank ∷ word_text (side_word side) ∷ pair_name h pair ∷ price_spelled h pair price ∷ numeral lots ∷ life_text life ∷ []
+    bank_name h bank ∷ word_text (side_word side) ∷ pair_name h pair ∷ price_text (decimals_of h pair) price ∷ numeral lots ∷ life_text life ∷ []
 command_fields h bank (Cancel pair number) = bank_name h bank ∷ word_text word.Cancel ∷ pair_name h pair ∷ numeral number ∷ []
 command_fields h bank (Reduce pair number lots) = bank_name h bank ∷ word_text word.Reduce ∷ pair_name h pair ∷ numeral number ∷ numeral lots ∷ []
 command_fields h bank (Pull pair) = bank_name h bank ∷ word_text word.Pull ∷ pair_name h pair ∷ []

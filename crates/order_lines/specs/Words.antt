@@ -21,12 +21,9 @@ word_text Line = codes "LINE"
 word_text Show = codes "SHOW"
 word_text Book = codes "BOOK"
 
-abbrev pub words : List Word
-words = Buy ∷ Sell ∷ Cancel ∷ Reduce ∷ Pull ∷ Line ∷ Show ∷ Book ∷ []
-
 -- the word that is spelled so
 abbrev pub word_of : List ℕ → Option Word
-word_of text = find (λ word. bytes_eq (word_text word) text) words
+word_of text = find (λ word. bytes_eq (word_text word) text) (Buy ∷ Sell ∷ Cancel ∷ Reduce ∷ Pull ∷ Line ∷ Show ∷ Book ∷ [])
 
 -- how many fields a line with that word has, the sender's name and the word counted
 abbrev pub field_count : Word → ℕ
@@ -34,10 +31,8 @@ field_count Buy = 6
 field_count Sell = 6
 field_count Cancel = 4
 field_count Reduce = 5
-field_count Pull = 3
 field_count Line = 4
-field_count Show = 3
-field_count Book = 3
+field_count _ = 3
 
 -- the word of an order
 abbrev pub side_word : Side → Word
@@ -50,12 +45,9 @@ life_text Day = codes "DAY"
 life_text Ioc = codes "IOC"
 life_text Fok = codes "FOK"
 
-abbrev pub lives : List Life
-lives = Day ∷ Ioc ∷ Fok ∷ []
-
 -- the life that is spelled so
 abbrev pub life_of : List ℕ → Option Life
-life_of text = find (λ life. bytes_eq (life_text life) text) lives
+life_of text = find (λ life. bytes_eq (life_text life) text) (Day ∷ Ioc ∷ Fok ∷ [])
 
 -- the faults of command lines
 abbrev pub faults : List Reject

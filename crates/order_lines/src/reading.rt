@@ -2,7 +2,7 @@ ghost use Rattle.std.specs.Prelude.{◌≡◌, ◌<◌, length, IfOk};
 ghost use Rattle.fx_amounts.specs.Quantity.{IsDecimals};
 ghost use Rattle.fx_rules.specs.Session.{pair_count, decimals_of};
 ghost use Rattle.order_lines.specs.Words.{field_count};
-ghost use Rattle.order_lines.specs.Reading.{pair_said, price_said, lots_said, life_said, number_said, other_said, limit_said, order_said, cancel_said, reduce_said, pull_said, line_said, show_said, book_said, word_said, command_said, said_by};
+ghost use Rattle.order_lines.specs.Reading.{pair_said, price_said, lots_said, life_said, number_said, other_said, limit_said, order_said, cancel_said, reduce_said, line_said, word_said, command_said, said_after};
 
 use crate::word::{Word, life_from};
 use fx_amounts::{BankId, Lots, PairId, Price, PriceFault, Side, Units, price_from};
@@ -11,7 +11,7 @@ use fx_text::{Fields, number};
 
 /// The command of a line of a bank, or the first fault: the word, then the number of fields, then the fields from
 /// left to right.
-#[tactic(auto, unfolding(crate::specs::Reading::command_said, crate::specs::Reading::pull_said, crate::specs::Reading::book_said))]
+#[tactic(auto, unfolding(crate::specs::Reading::command_said))]
 pub(crate) fn read_command(
     session: &Session,
     sender: BankId,
@@ -32,7 +32,9 @@ pub(crate) fn read_command(
             pair: read_pair(session, fields.field(2))?,
         }),
         Word::Line => read_line(session, sender, fields),
-        Word::Show => read_show(session, sender, fields),
+        Word::Show => Ok(Command::Show {
+            bank: read_other(session, sender, fields.field(2))?,
+        }),
         Word::Book => Ok(Command::Book {
             pair: read_pair(session, fields.field(2))?,
         }),
@@ -96,15 +98,6 @@ fn read_line(session: &Session, sender: BankId, fields: &Fields<'_>) -> Result<C
     let bank = read_other(session, sender, fields.field(2))?;
     let limit = read_limit(fields.field(3))?;
     Ok(Command::Line { bank, limit })
-}
-
-#[tactic(auto, unfolding(crate::specs::Reading::show_said))]
-fn read_show(session: &Session, sender: BankId, fields: &Fields<'_>) -> Result<Command, Reject>
-    requires { length fields.now ≡ 3 }
-    ensures { result ≡ show_said session.now sender fields.now }
-{
-    let bank = read_other(session, sender, fields.field(2))?;
-    Ok(Command::Show { bank })
 }
 
 #[tactic(auto, unfolding(crate::specs::Reading::pair_said))]

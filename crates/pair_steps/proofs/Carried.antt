@@ -16,9 +16,9 @@ use Rattle.fx_rules.specs.declared.taker.SweptOrder.{SweptOrder}
 use Rattle.fx_rules.specs.Lists.{Among, Each, EachPair, total}
 use Rattle.fx_rules.specs.Session.{Header, IsSession, bank_count, pair_count}
 use Rattle.fx_rules.specs.State.{State, orders_in, count_of, arrivals}
-use Rattle.fx_rules.specs.Sweep.{Swept, is_order, at_rest, with_left, filled_all}
+use Rattle.fx_rules.specs.Sweep.{Swept, is_order, at_rest, with_left, filled_all, taker_of}
 use Rattle.fx_rules.specs.Raise.{order_of}
-use Rattle.fx_rules.specs.Step.{IsCommand, IsOrdered, IsOutcome, cancel_answer, reduce_answer, taker_of, rested, changed, reduced}
+use Rattle.fx_rules.specs.Step.{IsCommand, IsOrdered, IsOutcome, cancel_answer, reduce_answer, rested, changed, reduced}
 use Rattle.fx_rules.specs.Sound.{IsSound, IsKept, Rises}
 use Rattle.fx_rules.proofs.ListLemmas.{Each-of, Each-among, filter_cons_true, filter_cons_false}
 use Rattle.fx_rules.proofs.Lowering.{is_order-says}

@@ -12,9 +12,9 @@ use Rattle.fx_rules.specs.declared.orders.Fill.{Fill}
 use Rattle.fx_rules.specs.declared.orders.Resting.{Resting}
 use Rattle.fx_rules.specs.Session.{Header, pair_count}
 use Rattle.fx_rules.specs.State.{State}
-use Rattle.fx_rules.specs.Sweep.{Taker}
+use Rattle.fx_rules.specs.Sweep.{Taker, taker_of}
 use Rattle.fx_rules.specs.Raise.{order_of}
-use Rattle.fx_rules.specs.Step.{AreValues, IsOrdered, IsOutcome, taker_of, fills_of, cancel_answer, reduce_answer}
+use Rattle.fx_rules.specs.Step.{AreValues, IsOrdered, IsOutcome, fills_of, cancel_answer, reduce_answer}
 use Rattle.fx_rules.specs.History.{IsLegal, state}
 use Rattle.fx_rules.specs.inside.Trade.{IsTrade}
 use Rattle.fx_rules.proofs.ListLemmas.{Each-weaker}

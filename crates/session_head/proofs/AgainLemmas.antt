@@ -8,11 +8,12 @@ use Rattle.std.proofs.lemmas.List.Elements.{All-weaker}
 use Rattle.fx_amounts.specs.Numeral.{numeral}
 use Rattle.fx_text.proofs.NumberLemmas.{number_of-numeral}
 use Rattle.fx_rules.specs.Names.{is_name, is_code}
-use Rattle.fx_rules.specs.Session.{IsPairRule}
+use Rattle.fx_rules.specs.Session.{IsPairRule, bank_named}
 use Rattle.fx_rules.specs.declared.session.PairRule.{PairRule}
 use Rattle.session_head.specs.Draft.{Draft}
 use Rattle.session_head.specs.inside.Draft.{IsDraft}
-use Rattle.session_head.specs.Statement.{field_at, bank_in, new_name, pair_codes, is_new_pair, new_pair, lot_of, bank_statement, pair_statement, line_statement, start_statement, statement_of, spelling}
+use Rattle.fx_text.specs.Fields.{field_at}
+use Rattle.session_head.specs.Statement.{new_name, pair_codes, is_new_pair, new_pair, lot_said, bank_statement, pair_statement, line_statement, start_statement, statement_of, spelling}
 use Rattle.session_head.specs.inside.Statement.{CanState}
 use Rattle.session_head.specs.declared.statement.Statement.{Statement}
 use Rattle.session_head.specs.declared.statement.Statement.TheVariants as statements
@@ -33,8 +34,8 @@ different : (a b : List ℕ) → a ≢ b → bytes_eq a b ≡ false
 different a b apart = elim (cases_Bool (bytes_eq a b)) [ inl same ↦ absurd (apart ((bytes_decides a b).0 same)) | inr other ↦ other ]
 
 -- the place of a bank by its name
-bank_in-place : (banks : List (List ℕ)) (bank : ℕ) → AllPairs (λ a b. a ≢ b) banks → bank < length banks → bank_in banks (field_at banks bank) ≡ Some bank
-bank_in-place banks bank differ within =
+bank_named-place : (banks : List (List ℕ)) (bank : ℕ) → AllPairs (λ a b. a ≢ b) banks → bank < length banks → bank_named banks (field_at banks bank) ≡ Some bank
+bank_named-place banks bank differ within =
     position-first (λ (name : List ℕ). bytes_eq name (field_at banks bank)) banks bank [] within
     (λ k less. different (field_at banks k) (field_at banks bank) (differ k bank [] less within))
     ((bytes_decides (field_at banks bank) (field_at banks bank)).1 refl)
@@ -42,7 +43,7 @@ bank_in-place banks bank differ within =
 new_name-again : (banks : List (List ℕ)) (name : List ℕ) → IsTrue (is_name name) → All (λ standing. standing ≢ name) banks → new_name banks name ≡ Some name
 unfolding new_name
 new_name-again banks name valid apart =
-    let missing : bank_in banks name ≡ None = position-None (λ (standing : List ℕ). bytes_eq standing name) banks
+    let missing : bank_named banks name ≡ None = position-None (λ (standing : List ℕ). bytes_eq standing name) banks
     (All-weaker (λ standing. standing ≢ name) (λ standing. bytes_eq standing name ≡ false) (λ standing other. different standing name other) banks apart) in
     rw (valid, missing) refl
 
@@ -80,9 +81,9 @@ new_pair-again : (pairs : List PairRule) (base quote : List ℕ) → IsTrue (is_
 unfolding new_pair
 new_pair-again pairs base quote first second differ new = rw (pair_codes-again base quote first second, is_new_pair-again pairs base quote differ new) refl
 
-lot_of-again : (decimals lot : ℕ) → 1 ≤ lot → lot ≤ 1000000000 → lot % 10 ^ decimals ≡ 0 → lot_of decimals (numeral lot) ≡ Some lot
-unfolding lot_of
-lot_of-again decimals lot least most whole = rw (number_of-numeral 1 1000000000 lot least most, whole) refl
+lot_said-again : (decimals lot : ℕ) → 1 ≤ lot → lot ≤ 1000000000 → lot % 10 ^ decimals ≡ 0 → lot_said decimals (numeral lot) ≡ Some lot
+unfolding lot_said
+lot_said-again decimals lot least most whole = rw (number_of-numeral 1 1000000000 lot least most, whole) refl
 
 bank_again : (d : Draft) (name : List ℕ) → CanState d (statements.Bank name) → statement_of d (spelling d.banks (statements.Bank name)) ≡ Ok (statements.Bank name)
 unfolding statement_of bank_statement
@@ -96,7 +97,7 @@ pair_again d rule can =
       lt-leb 32 (length d.pairs) can.0,
       new_pair-again d.pairs rule.base rule.quote valid.base valid.quote valid.differ can.2,
       number_of-numeral 0 6 rule.decimals (omega arith) valid.decimals,
-      lot_of-again rule.decimals rule.lot valid.lot_least valid.lot_most valid.lot_whole,
+      lot_said-again rule.decimals rule.lot valid.lot_least valid.lot_most valid.lot_whole,
       number_of-numeral 1 1000000 rule.weight valid.weight_least valid.weight_most,
     ) refl
 
@@ -104,8 +105,8 @@ line_again : (d : Draft) (from to limit : ℕ) → IsDraft d → CanState d (sta
 unfolding statement_of line_statement
 line_again d from to limit valid can =
     rw (
-      bank_in-place d.banks from valid.names_differ can.0,
-      bank_in-place d.banks to valid.names_differ can.1,
+      bank_named-place d.banks from valid.names_differ can.0,
+      bank_named-place d.banks to valid.names_differ can.1,
       ne_eqb from to can.2,
       number_of-numeral 0 1000000000000000 limit (omega arith) can.3,
     ) refl

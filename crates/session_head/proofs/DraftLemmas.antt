@@ -1,5 +1,5 @@
 -- Each statement that can be made of a draft leaves a draft, and START makes a session of it.
-use Rattle.std.proofs.Common.{◌≡◌, ◌≢◌, ℕ, zero, suc, ◌+◌, ◌*◌, ◌/◌, ◌%◌, ◌<◌, ◌≤◌, List, [], ◌∷◌, ◌++◌, length, replicate, get_or, slice_index, slice_set, refl, sym, ap, ◌∙◌, subst, arith, IsTrue, inl, inr, Option, Some, None, SomeIff, IsSome}
+use Rattle.std.proofs.Common.{◌≡◌, ◌≢◌, ℕ, zero, suc, ◌+◌, ◌*◌, ◌/◌, ◌%◌, ◌<◌, ◌≤◌, List, [], ◌∷◌, ◌++◌, map, length, replicate, get_or, slice_index, slice_set, refl, sym, ap, ◌∙◌, subst, arith, IsTrue, inl, inr, Option, Some, None, SomeIff, IsSome}
 use Rattle.std.specs.List.{All, AllPairs}
 use Rattle.std.proofs.lemmas.Bool.{cases_lt}
 use Rattle.std.proofs.lemmas.List.{get_or-replicate, length-replicate, length-set, get_or-set_other, length_push, get_or_append_left, get_or_past}
@@ -7,10 +7,12 @@ use Rattle.std.proofs.Math.Seq.{get_or-append_seam}
 use Rattle.std.proofs.lemmas.List.Elements.{All-push, All-set, All-nil, All-replicate, All-get_or}
 use Rattle.std.proofs.lemmas.List.Quantifiers.{all_pairs_push}
 use Rattle.std.proofs.lemmas.Nat.{mul-add-lt, mod-mul-add, div-mul-add}
+use Rattle.fx_rules.specs.Lists.{below}
 use Rattle.fx_rules.specs.Names.{is_name}
 use Rattle.fx_rules.specs.Session.{Header, IsSession, IsPairRule, AreSamePair}
 use Rattle.fx_rules.specs.declared.session.PairRule.{PairRule}
-use Rattle.session_head.specs.Draft.{Draft, limit_place, no_limits, table, square, header_of}
+use Rattle.fx_rules.proofs.Below.{map-more, length-map_below, get_or_below, all-below}
+use Rattle.session_head.specs.Draft.{Draft, limit_place, no_limits, square, header_of}
 use Rattle.session_head.specs.inside.Draft.{IsDraft}
 use Rattle.session_head.specs.inside.Statement.{CanState}
 use Rattle.session_head.specs.declared.statement.Statement.{Statement}
@@ -108,30 +110,14 @@ IsDraft-limit d from to limit valid from_within to_within apart most = record {
       get_or-set_other d.limits (limit_place from to) (limit_place i i) limit 0 (λ same. apart (omega arith)) ∙ valid.own_limits i within;
 }
 
--- a table has the function's value at each number below its length
-pub length-table : (f : ℕ → ℕ) (n : ℕ) → length (table f n) ≡ n
-length-table f zero = refl
-length-table f (suc n) = omega (arith, length_push (table f n) (f n), length-table f n)
-
-pub get_or-table : (f : ℕ → ℕ) (n i : ℕ) → i < n → get_or (table f n) i 0 ≡ f i
-get_or-table f zero i within = absurd (omega arith)
-get_or-table f (suc n) i within =
-    let size : length (table f n) ≡ n = length-table f n in
-    elim (cases_lt i n) [
-      | inl earlier ↦ get_or_append_left (table f n) (f n ∷ []) 0 i (omega arith) ∙ get_or-table f n i earlier
-      | inr last ↦
-          let here : i ≡ n = omega arith in
-          ap (λ k. get_or (table f n ++ f n ∷ []) k 0) (here ∙ sym size) ∙ get_or-append_seam (table f n) (f n) [] 0 ∙ ap f (sym here)
-    ]
-
-All-table : (P : ℕ → Type 0) (f : ℕ → ℕ) → ((i : ℕ) → P (f i)) → (n : ℕ) → All P (table f n)
-All-table P f each zero = All-nil P
-All-table P f each (suc n) = All-push P (table f n) (f n) (All-table P f each n) (each n)
+-- one place more
+pub map_more : {X : Type 0} (f : ℕ → X) (n : ℕ) → map f (below (n + 1)) ≡ map f (below n) ++ f n ∷ []
+map_more f n = map-more f n
 
 -- the limit of two banks in the rows of a square
 pub square-at : (banks : ℕ) (limits : List ℕ) (i j : ℕ) → i < banks → j < banks → slice_index (square banks limits) (i * banks + j) ≡ slice_index limits (limit_place i j)
 square-at banks limits i j i_within j_within =
-    get_or-table (λ at. slice_index limits (limit_place (at / banks) (at % banks))) (banks * banks) (i * banks + j) (mul-add-lt i banks j banks i_within j_within)
+    get_or_below (λ at. slice_index limits (limit_place (at / banks) (at % banks))) (banks * banks) (i * banks + j) 0 (mul-add-lt i banks j banks i_within j_within)
     ∙ ap (λ row. slice_index limits (limit_place row ((i * banks + j) % banks))) (div-mul-add i banks j j_within)
     ∙ ap (λ column. slice_index limits (limit_place i column)) (mod-mul-add i banks j j_within)
 
@@ -152,8 +138,8 @@ IsSession-header_of d valid two one = record {
   pairs_most = valid.pairs_most;
   rules = valid.rules;
   pairs_differ = valid.pairs_differ;
-  limits_full = length-table (λ at. slice_index d.limits (limit_place (at / length d.banks) (at % length d.banks))) (length d.banks * length d.banks);
-  limits_most = All-table (λ limit. limit ≤ 1000000000000000) (λ at. slice_index d.limits (limit_place (at / length d.banks) (at % length d.banks))) (λ at. any_at_most d.limits valid.limits_most _) (length d.banks * length d.banks);
+  limits_full = length-map_below (λ at. slice_index d.limits (limit_place (at / length d.banks) (at % length d.banks))) (length d.banks * length d.banks);
+  limits_most = all-below (λ limit. limit ≤ 1000000000000000) (λ at. slice_index d.limits (limit_place (at / length d.banks) (at % length d.banks))) (length d.banks * length d.banks) (λ at within. any_at_most d.limits valid.limits_most _);
   own_limits = λ i within. square-at (length d.banks) d.limits i i within within ∙ valid.own_limits i (omega (arith, valid.banks_most));
 }
 

@@ -13,15 +13,8 @@ pub record IsLine (fields : List (List ℕ)) : Type 0 where
   pub few : length fields ≤ 6
   pub fields_are : AllByRecursion IsField fields
 
--- a line is its fields with one space between each two, and a line feed
-pub line_text-joined : (fields : List (List ℕ)) → line_text fields ≡ join_with_byte 32 fields ++ 10 ∷ []
-line_text-joined [] = refl
-line_text-joined (field ∷ []) = refl
-line_text-joined (field ∷ second ∷ more) =
-    ap (λ (rest : List ℕ). field ++ 32 ∷ rest) (line_text-joined (second ∷ more)) ∙ sym (append_assoc field (32 ∷ join_with_byte 32 (second ∷ more)) (10 ∷ []))
-
 in_front : (fields : List (List ℕ)) (more : List ℕ) → line_text fields ++ more ≡ join_with_byte 32 fields ++ 10 ∷ more
-in_front fields more = ap (λ (text : List ℕ). text ++ more) (line_text-joined fields) ∙ append_assoc (join_with_byte 32 fields) (10 ∷ []) more
+in_front fields more = append_assoc (join_with_byte 32 fields) (10 ∷ []) more
 
 pub lines_of-line_text : (fields : List (List ℕ)) (more : List ℕ) → IsLine fields → lines_of (line_text fields ++ more) ≡ Whole (join_with_byte 32 fields) ∷ lines_of more
 lines_of-line_text fields more is =

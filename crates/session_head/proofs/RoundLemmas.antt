@@ -1,5 +1,5 @@
 -- A session's header is read back from its lines.
-use Rattle.std.proofs.Common.{◌≡◌, ◌≢◌, ℕ, zero, suc, ◌+◌, ◌*◌, ◌/◌, ◌%◌, ◌<◌, ◌≤◌, List, [], ◌∷◌, ◌++◌, length, map, replicate, get_or, slice_index, slice_set, codes, Some, Ok, refl, sym, ap, ◌∙◌, subst, arith, IsTrue, inl, inr, nat_lt, append_assoc, append-nil, length-append}
+use Rattle.std.proofs.Common.{◌≡◌, ◌≢◌, ℕ, zero, suc, ◌+◌, ◌*◌, ◌/◌, ◌%◌, ◌<◌, ◌≤◌, List, [], ◌∷◌, ◌++◌, length, map, flat_map, replicate, get_or, slice_index, slice_set, codes, Some, Ok, refl, sym, ap, ◌∙◌, subst, arith, IsTrue, inl, inr, nat_lt, append_assoc, append-nil, length-append}
 use Rattle.std.specs.List.{All, AllPairs, join_with_byte}
 use Rattle.std.proofs.lemmas.Bool.{cases_eq, cases_Bool, cond-true, cond-false}
 use Rattle.std.proofs.lemmas.Bool.Decides.{nat_tests}
@@ -16,17 +16,19 @@ use Rattle.fx_text.proofs.JoinedFields.{fields_of-join}
 use Rattle.fx_rules.specs.Names.{is_name}
 use Rattle.fx_rules.specs.Session.{Header, IsSession, IsPairRule, AreSamePair, bank_count, opening_limit}
 use Rattle.fx_rules.specs.declared.session.PairRule.{PairRule}
-use Rattle.fx_rules.specs.Lists.{Each}
+use Rattle.fx_rules.specs.Lists.{Each, below}
 use Rattle.fx_rules.proofs.ListLemmas.{Each-append}
+use Rattle.fx_rules.proofs.Below.{length-map_below, get_or_below, flat_map-suc}
 use Rattle.session_head.specs.Draft.{Draft, empty_draft, no_limits, limit_place, square}
 use Rattle.session_head.specs.inside.Draft.{IsDraft}
 use Rattle.session_head.specs.Statement.{statement_of, spelling}
 use Rattle.session_head.specs.inside.Statement.{CanState}
-use Rattle.session_head.specs.Head.{Head, Begun, Drafting, Started, next, stated, with_line, with_lines, read_head, session_of}
-use Rattle.session_head.specs.HeadText.{each_below, limit_statement, limits_of, statements_of, lines_text, head_text_of}
+use Rattle.session_head.specs.Head.{Head, Begun, Drafting, Started, next, judged, with_line, with_lines, read_head, session_of}
+use Rattle.session_head.specs.HeadText.{limit_statement, statements_of, lines_text, head_text_of}
+use Rattle.session_head.specs.inside.HeadText.{limits_of}
 use Rattle.session_head.specs.declared.statement.Statement.{Statement}
 use Rattle.session_head.specs.declared.statement.Statement.TheVariants as statements
-use Rattle.session_head.proofs.DraftLemmas.{IsDraft-empty, IsDraft-bank, IsDraft-pair, IsDraft-limit, length-table, get_or-table}
+use Rattle.session_head.proofs.DraftLemmas.{IsDraft-empty, IsDraft-bank, IsDraft-pair, IsDraft-limit}
 use Rattle.session_head.proofs.AgainLemmas.{statement_again}
 use Rattle.session_head.proofs.LineTexts.{IsLine, lines_of-line_text, rest_of-line_text}
 use Rattle.session_head.proofs.SpellingLemmas.{spelling_line, spelling_taken}
@@ -40,7 +42,7 @@ abbrev pub lines_for : List (List ℕ) → List Statement → List Line
 lines_for banks made = map (line_for banks) made
 
 -- a statement that can be made is read from its line
-pub line_read : (n : ℕ) (d : Draft) (statement : Statement) → IsDraft d → CanState d statement → with_line (Drafting n d) (line_for d.banks statement) ≡ stated (next n) d statement
+pub line_read : (n : ℕ) (d : Draft) (statement : Statement) → IsDraft d → CanState d statement → with_line (Drafting n d) (line_for d.banks statement) ≡ judged (next n) d (Ok statement)
 line_read n d statement valid can =
     let is = spelling_line d statement valid can in
     let read : statement_of d (fields_of (join_with_byte 32 (spelling d.banks statement))) ≡ Ok statement =
@@ -66,7 +68,7 @@ pub record Leads (n : ℕ) (banks : List (List ℕ)) (from : Draft) (made : List
   pub valid : IsDraft to
   pub lines : Each (λ statement. IsLine (spelling banks statement)) made
 
-one_leads : (n : ℕ) (d : Draft) (statement : Statement) (to : Draft) → IsDraft d → CanState d statement → stated (next n) d statement ≡ Drafting (next n) to → IsDraft to
+one_leads : (n : ℕ) (d : Draft) (statement : Statement) (to : Draft) → IsDraft d → CanState d statement → judged (next n) d (Ok statement) ≡ Drafting (next n) to → IsDraft to
     → Leads n d.banks d (statement ∷ []) to
 one_leads n d statement to valid can made after = record {
   count = next n;
@@ -215,14 +217,15 @@ row_leads n h from (suc count) limits session valid first within zeros =
     let cell : (m : ℕ) → CellLeads m h from count before.after = λ m. cell_leads m h from count before.after session before.leads.valid first (omega arith) zero_here in
     let last = cell before.leads.count in
     let step = last.leads in
+    let joined : Leads n h.banks (with_limits h limits) (limits_of h from count ++ limit_statement h from count) (with_limits h last.after) = record {
+      count = step.count;
+      leads = lead_on n h.banks (with_limits h limits) (with_limits h before.after) (limits_of h from count) (limit_statement h from count) before.leads ∙ step.leads;
+      valid = step.valid;
+      lines = Each-append (λ statement. IsLine (spelling h.banks statement)) (limits_of h from count) (limit_statement h from count) before.leads.lines step.lines;
+    } in
     record {
       after = last.after;
-      leads = record {
-        count = step.count;
-        leads = lead_on n h.banks (with_limits h limits) (with_limits h before.after) (limits_of h from count) (limit_statement h from count) before.leads ∙ step.leads;
-        valid = step.valid;
-        lines = Each-append (λ statement. IsLine (spelling h.banks statement)) (limits_of h from count) (limit_statement h from count) before.leads.lines step.lines;
-      };
+      leads = subst (λ (stated : List Statement). Leads n h.banks (with_limits h limits) stated (with_limits h last.after)) (sym (flat_map-suc (limit_statement h from) count)) joined;
       row = λ to less. elim (cases_eq to count) [
         | inl same ↦ subst (λ k. slice_index last.after (limit_place from k) ≡ opening_limit h from k) (sym same) last.here
         | inr other ↦ last.others (limit_place from to) (λ same. other (omega arith)) ∙ before.row to (omega arith)
@@ -234,7 +237,7 @@ row_leads n h from (suc count) limits session valid first within zeros =
 -- the statements of the limits that the first so many banks set
 record RowsLead (n : ℕ) (h : Header) (count : ℕ) (limits : List ℕ) : Type 0 where
   after : List ℕ
-  leads : Leads n h.banks (with_limits h limits) (each_below (λ from. limits_of h from (bank_count h)) count) (with_limits h after)
+  leads : Leads n h.banks (with_limits h limits) (flat_map (λ from. limits_of h from (bank_count h)) (below count)) (with_limits h after)
   rows : (from to : ℕ) → from < count → to < bank_count h → slice_index after (limit_place from to) ≡ opening_limit h from to
   rest : (from to : ℕ) → count ≤ from → to < 64 → slice_index after (limit_place from to) ≡ slice_index limits (limit_place from to)
 
@@ -253,14 +256,16 @@ rows_lead n h (suc count) limits session valid within zeros =
     let last = row_leads before.leads.count h count (bank_count h) before.after session before.leads.valid (omega arith) (omega arith) zeros_here in
     let step = last.leads in
     let all : ℕ → List Statement = λ from. limits_of h from (bank_count h) in
+    let front : List Statement = flat_map all (below count) in
+    let joined : Leads n h.banks (with_limits h limits) (front ++ all count) (with_limits h last.after) = record {
+      count = step.count;
+      leads = lead_on n h.banks (with_limits h limits) (with_limits h before.after) front (all count) before.leads ∙ step.leads;
+      valid = step.valid;
+      lines = Each-append (λ statement. IsLine (spelling h.banks statement)) front (all count) before.leads.lines step.lines;
+    } in
     record {
       after = last.after;
-      leads = record {
-        count = step.count;
-        leads = lead_on n h.banks (with_limits h limits) (with_limits h before.after) (each_below all count) (all count) before.leads ∙ step.leads;
-        valid = step.valid;
-        lines = Each-append (λ statement. IsLine (spelling h.banks statement)) (each_below all count) (all count) before.leads.lines step.lines;
-      };
+      leads = subst (λ (stated : List Statement). Leads n h.banks (with_limits h limits) stated (with_limits h last.after)) (sym (flat_map-suc all count)) joined;
       rows = λ from to less below. elim (cases_eq from count) [
         | inl same ↦ subst (λ k. slice_index last.after (limit_place k to) ≡ opening_limit h k to) (sym same) (last.row to below)
         | inr other ↦ last.others from to other (omega (arith, session.banks_most)) ∙ before.rows from to (omega arith) below
@@ -273,12 +278,12 @@ square_is : (h : Header) (limits : List ℕ) → IsSession h → ((from to : ℕ
     → square (bank_count h) limits ≡ h.limits
 square_is h limits session same =
     let at_place : ℕ → ℕ = λ at. slice_index limits (limit_place (at / bank_count h) (at % bank_count h)) in
-    let size : length (square (bank_count h) limits) ≡ bank_count h * bank_count h = length-table at_place (bank_count h * bank_count h) in
+    let size : length (square (bank_count h) limits) ≡ bank_count h * bank_count h = length-map_below at_place (bank_count h * bank_count h) in
     ext_get_or 0 (square (bank_count h) limits) h.limits (size ∙ sym session.limits_full) (λ at within.
-    let below : at < bank_count h * bank_count h = omega arith in
+    let inside : at < bank_count h * bank_count h = omega arith in
     let some : 0 < bank_count h = omega (arith, session.banks_least) in
-    get_or-table at_place (bank_count h * bank_count h) at below
-    ∙ same (at / bank_count h) (at % bank_count h) (div_below at (bank_count h) (bank_count h) some below) (mod_below at (bank_count h) some)
+    get_or_below at_place (bank_count h * bank_count h) at 0 inside
+    ∙ same (at / bank_count h) (at % bank_count h) (div_below at (bank_count h) (bank_count h) some inside) (mod_below at (bank_count h) some)
     ∙ ap (λ k. get_or h.limits k 0) (div-add-mod' at (bank_count h)))
 
 zeros_at : (n : ℕ) → 4096 ≤ n → (from to : ℕ) → from < 64 → to < 64 → slice_index (replicate n 0) (limit_place from to) ≡ 0
@@ -298,7 +303,7 @@ starts : (n : ℕ) (h : Header) → IsSession h → Starts n h
 starts n h session =
     let named : List Statement = map statements.Bank h.banks in
     let paired : List Statement = map statements.Pair h.pairs in
-    let limited : List Statement = each_below (λ from. limits_of h from (bank_count h)) (bank_count h) in
+    let limited : List Statement = flat_map (λ from. limits_of h from (bank_count h)) (below (bank_count h)) in
     let last : List Statement = statements.Start ∷ [] in
     let is_line : Statement → Type 0 = λ statement. IsLine (spelling h.banks statement) in
     let with_banks : Draft = record empty_draft { banks = h.banks } in

@@ -2,7 +2,7 @@
 use Rattle.std.proofs.Common.{◌≡◌, ℕ, false, ◌||◌, List, [], length, slice_index_or, codes, refl, ap, ◌∙◌, arith, IsTrue, eqb}
 use Rattle.std.specs.List.{join_with_byte}
 use Rattle.std.proofs.lemmas.List.Elements.{All-get_or}
-use Rattle.fx_text.specs.Fields.{is_comment}
+use Rattle.fx_text.specs.Fields.{is_comment, field_at}
 use Rattle.fx_text.specs.Lines.{is_passed_over}
 use Rattle.fx_text.specs.declared.line.Line.TheVariants.{Whole}
 use Rattle.fx_text.proofs.FieldTexts.{IsField-tested, IsField-numeral}
@@ -13,7 +13,7 @@ use Rattle.fx_rules.specs.declared.session.PairRule.{PairRule}
 use Rattle.fx_rules.proofs.NameTexts.{HasNameBytes-name, HasPairBytes-pair_text}
 use Rattle.session_head.specs.Draft.{Draft}
 use Rattle.session_head.specs.inside.Draft.{IsDraft}
-use Rattle.session_head.specs.Statement.{field_at, spelling}
+use Rattle.session_head.specs.Statement.{spelling}
 use Rattle.session_head.specs.inside.Statement.{CanState}
 use Rattle.session_head.specs.declared.statement.Statement.{Statement}
 use Rattle.session_head.specs.declared.statement.Statement.TheVariants as statements

@@ -11,11 +11,13 @@ use Rattle.fx_amounts.specs.Numeral.{numeral}
 use Rattle.fx_text.specs.Number.{number_of}
 use Rattle.fx_text.proofs.NumberLemmas.{Reads-number_of}
 use Rattle.fx_rules.specs.Names.{is_name, is_code}
-use Rattle.fx_rules.specs.Session.{pair_text}
+use Rattle.fx_rules.specs.Session.{pair_text, bank_named}
 use Rattle.fx_rules.specs.declared.session.PairRule.{PairRule}
 use Rattle.fx_rules.proofs.SessionLemmas.{missing_from_place}
 use Rattle.session_head.specs.Draft.{Draft}
-use Rattle.session_head.specs.Statement.{◌>>=◌, field_at, bank_in, new_name, pair_codes, is_new_pair, new_pair, lot_of, bank_statement, pair_statement, line_statement, start_statement, statement_of, spelling}
+use Rattle.fx_text.specs.Fields.{field_at}
+use Rattle.fx_text.specs.Faults.{◌>>=◌}
+use Rattle.session_head.specs.Statement.{new_name, pair_codes, is_new_pair, new_pair, lot_said, bank_statement, pair_statement, line_statement, start_statement, statement_of, spelling}
 use Rattle.session_head.specs.inside.Statement.{CanState}
 use Rattle.session_head.specs.declared.reason.HeadReason.{HeadReason}
 use Rattle.session_head.specs.declared.reason.HeadReason.TheVariants as reasons
@@ -93,9 +95,9 @@ pub record IsFound (draft : Draft) (fields : List (List ℕ)) (statement : State
 new_name-Some : (banks : List (List ℕ)) (text name : List ℕ) → new_name banks text ≡ Some name → IsTrue (is_name name) × All (λ standing. standing ≢ name) banks × (text ≡ name)
 unfolding new_name
 new_name-Some banks text name some =
-    let chosen = chosen_some (is_name text && is_none (bank_in banks text)) text name some in
-    let parts = both_parts (is_name text) (is_none (bank_in banks text)) chosen.0 in
-    let apart : All (λ standing. standing ≢ text) banks = missing_from_place (λ standing. standing) text banks (none_is (bank_in banks text) parts.1) in
+    let chosen = chosen_some (is_name text && is_none (bank_named banks text)) text name some in
+    let parts = both_parts (is_name text) (is_none (bank_named banks text)) chosen.0 in
+    let apart : All (λ standing. standing ≢ text) banks = missing_from_place (λ standing. standing) text banks (none_is (bank_named banks text) parts.1) in
     (subst (λ (t : List ℕ). IsTrue (is_name t)) chosen.1 parts.0, subst (λ (t : List ℕ). All (λ standing. standing ≢ t) banks) chosen.1 apart, chosen.1)
 
 bank_found : (draft : Draft) (fields : List (List ℕ)) (statement : Statement) → field_at fields 0 ≡ codes "BANK" → bank_statement draft fields ≡ Ok statement → IsFound draft fields statement
@@ -144,8 +146,8 @@ start_found draft fields statement word read =
     })
 
 -- the bank that is found has that name
-bank_in-Some : (banks : List (List ℕ)) (text : List ℕ) (bank : ℕ) → bank_in banks text ≡ Some bank → (bank < length banks) × (text ≡ field_at banks bank)
-bank_in-Some banks text bank found =
+bank_named-Some : (banks : List (List ℕ)) (text : List ℕ) (bank : ℕ) → bank_named banks text ≡ Some bank → (bank < length banks) × (text ≡ field_at banks bank)
+bank_named-Some banks text bank found =
     let at = position-Some (λ (name : List ℕ). bytes_eq name text) banks bank [] found in
     (at.0, sym ((bytes_decides (field_at banks bank) text).0 at.1))
 
@@ -159,13 +161,13 @@ line_found : (draft : Draft) (fields : List (List ℕ)) (statement : Statement) 
 unfolding line_statement
 line_found draft fields statement word read =
     let counted = guard_ok (not (eqb (length fields) 4)) reasons.Count _ statement read in
-    let from = bind_ok (bank_in draft.banks (field_at fields 1)) reasons.Banks _ statement counted.1 in
-    let to = bind_ok (bank_in draft.banks (field_at fields 2)) reasons.Banks _ statement from.2 in
+    let from = bind_ok (bank_named draft.banks (field_at fields 1)) reasons.Banks _ statement counted.1 in
+    let to = bind_ok (bank_named draft.banks (field_at fields 2)) reasons.Banks _ statement from.2 in
     let limit = bind_result (cond (eqb from.0 to.0) (Err reasons.Banks) (ok_or (number_of 0 1000000000000000 (field_at fields 3)) reasons.Limit)) _ statement to.2 in
     let apart = guard_ok (eqb from.0 to.0) reasons.Banks _ limit.0 limit.1 in
     let number = number_of-Some 0 1000000000000000 (field_at fields 3) limit.0 (ok_or-Ok _ reasons.Limit limit.0 apart.1) in
-    let first = bank_in-Some draft.banks (field_at fields 1) from.0 from.1 in
-    let second = bank_in-Some draft.banks (field_at fields 2) to.0 to.1 in
+    let first = bank_named-Some draft.banks (field_at fields 1) from.0 from.1 in
+    let second = bank_named-Some draft.banks (field_at fields 2) to.0 to.1 in
     let differ : from.0 ≢ to.0 = λ same. let test = apart.0 in grind (arith, nat_tests) in
     let is : statements.Line from.0 to.0 limit.0 ≡ statement = let last = limit.2 in cc in
     let size : length fields ≡ 4 = number_is (length fields) 4 (not_false _ counted.0) in
@@ -222,9 +224,9 @@ new_pair-Some pairs text both some =
     let new = is_new_pair-true pairs given.0.0 given.0.1 fresh.0 in
     subst (λ (b : List ℕ × List ℕ). IsTrue (is_code b.0) × IsTrue (is_code b.1) × IsNewPair pairs b.0 b.1 × (text ≡ b.0 ++ 47 ∷ b.1)) fresh.1 (texts.0, texts.1, new, texts.2)
 
-lot_of-Some : (decimals : ℕ) (text : List ℕ) (lot : ℕ) → lot_of decimals text ≡ Some lot → (1 ≤ lot) × (lot ≤ 1000000000) × (lot % 10 ^ decimals ≡ 0) × (text ≡ numeral lot)
-unfolding lot_of
-lot_of-Some decimals text lot some =
+lot_said-Some : (decimals : ℕ) (text : List ℕ) (lot : ℕ) → lot_said decimals text ≡ Some lot → (1 ≤ lot) × (lot ≤ 1000000000) × (lot % 10 ^ decimals ≡ 0) × (text ≡ numeral lot)
+unfolding lot_said
+lot_said-Some decimals text lot some =
     let read = then_some _ (number_of 1 1000000000 text) lot some in
     let whole = chosen_some (eqb (read.0 % 10 ^ decimals) 0) read.0 lot read.2 in
     let number = number_of-Some 1 1000000000 text read.0 read.1 in
@@ -266,7 +268,7 @@ pair_found draft fields statement word read =
     let roomy = guard_ok (leb 32 (length draft.pairs)) reasons.Many _ statement counted.1 in
     let both = bind_ok (new_pair draft.pairs (field_at fields 1)) reasons.Pair _ statement roomy.1 in
     let decimals = bind_ok (number_of 0 6 (field_at fields 2)) reasons.Decimals _ statement both.2 in
-    let lot = bind_ok (lot_of decimals.0 (field_at fields 3)) reasons.Lot _ statement decimals.2 in
+    let lot = bind_ok (lot_said decimals.0 (field_at fields 3)) reasons.Lot _ statement decimals.2 in
     let weight = bind_ok (number_of 1 1000000 (field_at fields 4)) reasons.Weight _ statement lot.2 in
     let few : length draft.pairs < 32 = let test = roomy.0 in grind (arith, nat_tests) in
     let size : length fields ≡ 5 = number_is (length fields) 5 (not_false _ counted.0) in
@@ -275,7 +277,7 @@ pair_found draft fields statement word read =
     (pair_of_fields draft fields (record { base = both.0.0; quote = both.0.1; decimals = decimals.0; lot = lot.0; weight = weight.0 }) size few word
     (new_pair-Some draft.pairs (field_at fields 1) both.0 both.1)
     (number_of-Some 0 6 (field_at fields 2) decimals.0 decimals.1)
-    (lot_of-Some decimals.0 (field_at fields 3) lot.0 lot.1)
+    (lot_said-Some decimals.0 (field_at fields 3) lot.0 lot.1)
     (number_of-Some 1 1000000 (field_at fields 4) weight.0 weight.1))
 
 chosen : {A : Type 0} (test : Bool) (first second made : A) → cond test first second ≡ made → ((test ≡ true) × (first ≡ made)) ⊎ ((test ≡ false) × (second ≡ made))

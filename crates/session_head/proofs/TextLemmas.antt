@@ -1,16 +1,15 @@
 -- The text of a header, line by line.
-use Rattle.std.proofs.Common.{◌≡◌, ℕ, ◌+◌, ◌<◌, ◌≤◌, true, false, List, [], ◌∷◌, ◌++◌, sym, ap, ap₂, ◌∙◌, add-one, append_assoc, append-nil, arith, nat_lt}
+use Rattle.std.proofs.Common.{◌≡◌, ℕ, ◌+◌, ◌<◌, ◌≤◌, true, false, List, [], ◌∷◌, ◌++◌, sym, ap, ap₂, ◌∙◌, append_assoc, append-nil, arith, nat_lt}
 use Rattle.std.proofs.lemmas.Bool.{lt-ltb, cond-true, cond-false}
 use Rattle.std.proofs.lemmas.Bool.Decides.{nat_tests}
 use Rattle.std.proofs.lemmas.Grind.{flat_map-append}
 use Rattle.fx_rules.specs.Session.{Header, opening_limit}
-use Rattle.session_head.specs.HeadText.{each_below, limit_statement, limits_of, line_text, lines_text}
+use Rattle.fx_rules.proofs.Below.{flat_map-more}
+use Rattle.session_head.specs.HeadText.{limit_statement, line_text, lines_text}
+use Rattle.session_head.specs.inside.HeadText.{limits_of}
 use Rattle.session_head.specs.Statement.{spelling}
 use Rattle.session_head.specs.declared.statement.Statement.{Statement}
 use Rattle.session_head.specs.declared.statement.Statement.TheVariants as statements
-
-pub each_below-more : {X : Type 0} (f : ℕ → List X) (n : ℕ) → each_below f (n + 1) ≡ each_below f n ++ f n
-each_below-more f n = ap (each_below f) (add-one n)
 
 pub lines_text-append : (banks : List (List ℕ)) (stated more : List Statement) → lines_text banks (stated ++ more) ≡ lines_text banks stated ++ lines_text banks more
 lines_text-append banks stated more = flat_map-append (λ (s : Statement). line_text (spelling banks s)) stated more
@@ -22,7 +21,7 @@ limits_more h from to start text line so_far is =
     ap₂ (λ (a b : List ℕ). a ++ b) so_far is
     ∙ append_assoc start (lines_text h.banks (limits_of h from to)) (lines_text h.banks (limit_statement h from to))
     ∙ ap (λ (xs : List ℕ). start ++ xs) (sym (lines_text-append h.banks (limits_of h from to) (limit_statement h from to)))
-    ∙ ap (λ (xs : List Statement). start ++ lines_text h.banks xs) (sym (each_below-more (limit_statement h from) to))
+    ∙ ap (λ (xs : List Statement). start ++ lines_text h.banks xs) (sym (flat_map-more (limit_statement h from) to))
 
 pub limit_pushed : (h : Header) (from to at limit : ℕ) (start text new : List ℕ) → text ≡ start ++ lines_text h.banks (limits_of h from to) → at ≡ to → limit ≡ opening_limit h from to → 0 < limit
     → new ≡ text ++ line_text (spelling h.banks (statements.Line from at limit)) → new ≡ start ++ lines_text h.banks (limits_of h from (to + 1))

@@ -1,5 +1,6 @@
 -- What the lines of a header have declared before START.
-use Rattle.std.specs.Prelude.{ℕ, zero, suc, ◌+◌, ◌*◌, ◌/◌, ◌%◌, List, [], ◌∷◌, ◌++◌, length, replicate, slice_index}
+use Rattle.std.specs.Prelude.{ℕ, ◌+◌, ◌*◌, ◌/◌, ◌%◌, List, [], map, length, replicate, slice_index}
+use Rattle.fx_rules.specs.Lists.{below}
 use Rattle.fx_rules.specs.Session.{Header}
 use Rattle.fx_rules.specs.declared.session.PairRule.{PairRule}
 
@@ -20,14 +21,9 @@ no_limits = replicate 4096 0
 abbrev pub empty_draft : Draft
 empty_draft = record { banks = []; pairs = []; limits = no_limits }
 
--- what a function gives at each number below a count
-abbrev pub table : (ℕ → ℕ) → ℕ → List ℕ
-table f zero = []
-table f (suc count) = table f count ++ f count ∷ []
-
 -- the limits of so many banks row by row, without those of banks that are not declared
 abbrev pub square : ℕ → List ℕ → List ℕ
-square banks limits = table (λ at. slice_index limits (limit_place (at / banks) (at % banks))) (banks * banks)
+square banks limits = map (λ at. slice_index limits (limit_place (at / banks) (at % banks))) (below (banks * banks))
 
 -- the header that a draft declares
 abbrev pub header_of : Draft → Header

@@ -30,15 +30,10 @@ pub data Head : Type 0 where
 abbrev pub next : ℕ → ℕ
 next lines = min (lines + 1) (2 ^ 64 - 1)
 
--- a statement in the line of that number
-abbrev pub stated : ℕ → Draft → Statement → Head
-stated number draft (statements.Bank name) = Drafting number (with_statement draft (statements.Bank name))
-stated number draft (statements.Pair rule) = Drafting number (with_statement draft (statements.Pair rule))
-stated number draft (statements.Line from to limit) = Drafting number (with_statement draft (statements.Line from to limit))
-stated number draft statements.Start = Started number (header_of draft)
-
+-- a statement, or a fault, in the line of that number
 abbrev pub judged : ℕ → Draft → Result Statement HeadReason → Head
-judged number draft (Ok statement) = stated number draft statement
+judged number draft (Ok statements.Start) = Started number (header_of draft)
+judged number draft (Ok statement) = Drafting number (with_statement draft statement)
 judged number draft (Err reason) = Faulted number reason
 
 -- the first line that is not passed over

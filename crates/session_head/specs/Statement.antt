@@ -1,9 +1,11 @@
 -- What a line of a header says, by its fields and what was declared above it: a statement, or the line's first fault.
 use Rattle.std.specs.Prelude.{ℕ, ◌%◌, ◌^◌, Bool, not, ◌&&◌, ◌||◌, ◌==◌, nat_lt, nat_le, is_none, if◌then◌else◌, List, [], ◌∷◌, ◌++◌, length, take, drop, slice_index, slice_index_or, slice_set, position, codes, bytes_eq, Option, Some, None, ok_or, option_and_then, Result, Ok, Err}
 use Rattle.fx_amounts.specs.Numeral.{numeral}
+use Rattle.fx_text.specs.Faults.{◌>>=◌}
+use Rattle.fx_text.specs.Fields.{field_at}
 use Rattle.fx_text.specs.Number.{number_of}
 use Rattle.fx_rules.specs.Names.{is_name, is_code}
-use Rattle.fx_rules.specs.Session.{pair_text}
+use Rattle.fx_rules.specs.Session.{bank_named, pair_text}
 use Rattle.fx_rules.specs.declared.session.PairRule.{PairRule}
 use Rattle.session_head.specs.Draft.{Draft, limit_place}
 use Rattle.session_head.specs.declared.reason.HeadReason.{HeadReason}
@@ -11,27 +13,13 @@ use Rattle.session_head.specs.declared.reason.HeadReason.TheVariants as reasons
 use Rattle.session_head.specs.declared.statement.Statement.{Statement}
 use Rattle.session_head.specs.declared.statement.Statement.TheVariants as statements
 
--- the first of two readings, and then the second; the first fault ends both
-infixl 10 ◌>>=◌
-abbrev pub ◌>>=◌ : {A B : Type 0} → Result A HeadReason → (A → Result B HeadReason) → Result B HeadReason
-(Ok x) >>= f = f x
-(Err reason) >>= f = Err reason
-
--- the field at a place from 0
-abbrev pub field_at : List (List ℕ) → ℕ → List ℕ
-field_at fields at = slice_index_or fields at []
-
 -- whether the fields are those of the first line
 abbrev pub is_version : List (List ℕ) → Bool
 is_version fields = (length fields == 2) && bytes_eq (field_at fields 0) (codes "FXBOOK") && bytes_eq (field_at fields 1) (codes "1")
 
--- the declared bank of that name
-abbrev pub bank_in : List (List ℕ) → List ℕ → Option ℕ
-bank_in banks text = position (λ name. bytes_eq name text) banks
-
 -- the text as a name that no bank has
 unfoldable pub new_name : List (List ℕ) → List ℕ → Option (List ℕ)
-new_name banks text = if is_name text && is_none (bank_in banks text) then Some text else None
+new_name banks text = if is_name text && is_none (bank_named banks text) then Some text else None
 
 -- the two codes of a text `BASE/QUOTE`
 unfoldable pub pair_codes : List ℕ → Option (List ℕ × List ℕ)
@@ -48,37 +36,31 @@ unfoldable pub new_pair : List PairRule → List ℕ → Option (List ℕ × Lis
 new_pair pairs text = option_and_then (λ both. if is_new_pair pairs both.0 both.1 then Some both else None) (pair_codes text)
 
 -- the lot that a text writes: 1 to 10^9, and a multiple of 10^decimals
-unfoldable pub lot_of : ℕ → List ℕ → Option ℕ
-lot_of decimals text = option_and_then (λ lot. if lot % 10 ^ decimals == 0 then Some lot else None) (number_of 1 1000000000 text)
+unfoldable pub lot_said : ℕ → List ℕ → Option ℕ
+lot_said decimals text = option_and_then (λ lot. if lot % 10 ^ decimals == 0 then Some lot else None) (number_of 1 1000000000 text)
 
 -- a BANK line; after the number of fields and the room for a bank comes the name
 unfoldable pub bank_statement : Draft → List (List ℕ) → Result Statement HeadReason
 bank_statement draft fields =
-    if not (length fields == 2) then Err reasons.Count
-    else if nat_le 64 (length draft.banks) then Err reasons.Many
-    else do
-      name ← ok_or (new_name draft.banks (field_at fields 1)) reasons.Name
-      Ok (statements.Bank name)
+    if not (length fields == 2) then Err reasons.Count else if nat_le 64 (length draft.banks) then Err reasons.Many
+    else ok_or (new_name draft.banks (field_at fields 1)) reasons.Name >>= (λ name. Ok (statements.Bank name))
 
 -- a PAIR line
 unfoldable pub pair_statement : Draft → List (List ℕ) → Result Statement HeadReason
 pair_statement draft fields =
-    if not (length fields == 5) then Err reasons.Count
-    else if nat_le 32 (length draft.pairs) then Err reasons.Many
-    else do
+    if not (length fields == 5) then Err reasons.Count else if nat_le 32 (length draft.pairs) then Err reasons.Many else do
       both ← ok_or (new_pair draft.pairs (field_at fields 1)) reasons.Pair
       decimals ← ok_or (number_of 0 6 (field_at fields 2)) reasons.Decimals
-      lot ← ok_or (lot_of decimals (field_at fields 3)) reasons.Lot
+      lot ← ok_or (lot_said decimals (field_at fields 3)) reasons.Lot
       weight ← ok_or (number_of 1 1000000 (field_at fields 4)) reasons.Weight
       Ok (statements.Pair (record { base = both.0; quote = both.1; decimals = decimals; lot = lot; weight = weight }))
 
 -- a LINE line
 unfoldable pub line_statement : Draft → List (List ℕ) → Result Statement HeadReason
 line_statement draft fields =
-    if not (length fields == 4) then Err reasons.Count
-    else do
-      from ← ok_or (bank_in draft.banks (field_at fields 1)) reasons.Banks
-      to ← ok_or (bank_in draft.banks (field_at fields 2)) reasons.Banks
+    if not (length fields == 4) then Err reasons.Count else do
+      from ← ok_or (bank_named draft.banks (field_at fields 1)) reasons.Banks
+      to ← ok_or (bank_named draft.banks (field_at fields 2)) reasons.Banks
       limit ← (if from == to then Err reasons.Banks else ok_or (number_of 0 1000000000000000 (field_at fields 3)) reasons.Limit)
       Ok (statements.Line from to limit)
 
@@ -101,8 +83,7 @@ statement_of draft fields =
 -- the fields of a statement in their one spelling, where these banks are declared
 abbrev pub spelling : List (List ℕ) → Statement → List (List ℕ)
 spelling banks (statements.Bank name) = codes "BANK" ∷ name ∷ []
-spelling banks (statements.Pair rule) =
-    codes "PAIR" ∷ pair_text rule ∷ numeral rule.decimals ∷ numeral rule.lot ∷ numeral rule.weight ∷ []
+spelling banks (statements.Pair rule) = codes "PAIR" ∷ pair_text rule ∷ numeral rule.decimals ∷ numeral rule.lot ∷ numeral rule.weight ∷ []
 spelling banks (statements.Line from to limit) = codes "LINE" ∷ field_at banks from ∷ field_at banks to ∷ numeral limit ∷ []
 spelling banks statements.Start = codes "START" ∷ []
 

@@ -1,6 +1,7 @@
 ghost use Rattle.std.specs.Prelude.{◌≡◌, ◌≢◌, ◌<◌, ◌≤◌, ◌&&◌, length, bytes_eq, position, slice_set, IfOk, IfSome, OnOk, OnErr};
 ghost use Rattle.session_head.specs.Draft.{no_limits, empty_draft, header_of, square, limit_place};
-ghost use Rattle.session_head.specs.Statement.{bank_in, new_name, with_statement, is_new_pair};
+ghost use Rattle.fx_rules.specs.Session.{bank_named};
+ghost use Rattle.session_head.specs.Statement.{new_name, with_statement, is_new_pair};
 ghost use Rattle.session_head.specs.inside.Statement.{CanState};
 
 use crate::statement::Statement;
@@ -62,7 +63,7 @@ impl Draft {
 
     /// The declared bank of that name.
     pub(crate) fn bank_named(&self, text: &[u8]) -> Option<BankId>
-        ensures value { result ≡ bank_in self.now.banks text.now }
+        ensures value { result ≡ bank_named self.now.banks text.now }
         ensures within { IfSome result (λ bank. bank < length self.now.banks) }
     {
         let place = place_of_bank(&self.banks, text)?;
@@ -137,6 +138,7 @@ fn no_limits(alloc: Global) -> Result<Vec<Units>, Memory>
 }
 
 // The limits of so many banks row by row, without those of banks that are not declared.
+#[tactic(auto, using(crate::proofs::DraftLemmas::map_more))]
 fn square(alloc: Global, banks: usize, limits: &[Units]) -> Result<Vec<Units>, Memory>
     requires banks { banks ≤ 64 }
     requires full { length limits.now ≡ 4096 }

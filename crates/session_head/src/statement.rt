@@ -2,7 +2,7 @@ ghost use Rattle.std.specs.Prelude.{◌≡◌, ◌≤◌, Ok, IfOk, IfSome};
 ghost use Rattle.fx_text.specs.Number.{number_of};
 ghost use Rattle.session_head.specs.inside.Draft.{IsDraft};
 ghost use Rattle.session_head.specs.declared.statement.Statement.{Statement as Declared};
-ghost use Rattle.session_head.specs.Statement.{statement_of, bank_statement, pair_statement, line_statement, start_statement, is_version, pair_codes, new_pair, lot_of, spelling};
+ghost use Rattle.session_head.specs.Statement.{statement_of, bank_statement, pair_statement, line_statement, start_statement, is_version, pair_codes, new_pair, lot_said, spelling};
 ghost use Rattle.session_head.specs.inside.Statement.{CanState};
 
 use crate::draft::Draft;
@@ -131,10 +131,10 @@ fn codes_from(text: &[u8]) -> Option<(Code, Code)>
 }
 
 // The lot that a text writes: 1 to 10^9, and a multiple of 10^decimals.
-#[tactic(auto, unfolding(crate::specs::Statement::lot_of))]
+#[tactic(auto, unfolding(crate::specs::Statement::lot_said))]
 fn lot_from(decimals: u64, text: &[u8]) -> Option<u64>
     requires { decimals ≤ 6 }
-    ensures value { result ≡ lot_of decimals text.now }
+    ensures value { result ≡ lot_said decimals text.now }
     ensures most { IfSome result (λ lot. lot ≤ 1000000000) }
 {
     let lot = number(text, 1, 1_000_000_000)?;

@@ -1,7 +1,8 @@
-ghost use Rattle.std.specs.Prelude.{◌≡◌, ◌<◌, ◌++◌, ◌∷◌, [], OnOk, OnErr, Some, map, length};
+ghost use Rattle.std.specs.Prelude.{◌≡◌, ◌<◌, ◌++◌, ◌∷◌, [], OnOk, OnErr, Some, map, flat_map, length};
+ghost use Rattle.fx_rules.specs.Lists.{below};
 ghost use Rattle.fx_rules.specs.Session.{IsSession, bank_count};
-ghost use Rattle.session_head.specs.HeadText.{head_text_of, lines_text, line_text, limits_of, each_below};
-ghost use Rattle.session_head.specs.inside.HeadText.{AreNamed};
+ghost use Rattle.session_head.specs.HeadText.{head_text_of, lines_text, line_text};
+ghost use Rattle.session_head.specs.inside.HeadText.{AreNamed, limits_of};
 ghost use Rattle.fx_text.specs.Lines.{lines_of, rest_of};
 ghost use Rattle.session_head.specs.Head.{read_head, session_of};
 ghost use Rattle.session_head.specs.Statement.{spelling};
@@ -68,7 +69,7 @@ fn push_pairs(banks: &[Name], pairs: &[PairRule], out: &mut Vec<u8>) -> Result<(
 }
 
 fn push_limits(session: &Session, out: &mut Vec<u8>) -> Result<(), Memory>
-    ensures { OnOk result (out.new.items ≡ out.old.items ++ lines_text session.now.banks (each_below (λ from. limits_of session.now from (bank_count session.now)) (bank_count session.now))) }
+    ensures { OnOk result (out.new.items ≡ out.old.items ++ lines_text session.now.banks (flat_map (λ from. limits_of session.now from (bank_count session.now)) (below (bank_count session.now)))) }
 {
     for from in 0..session.banks().len() {
         push_limits_of(session, BankId::at(from), out)?;

@@ -13,7 +13,7 @@ use Rattle.session_script.specs.Stage.{Tells, most_strays}
 use Rattle.session_script.specs.inside.Stage.{goes_on}
 use Rattle.session_script.specs.inside.Intake.{IsSettled}
 use Rattle.fx_rules.specs.declared.command.Sent.{Sent}
-use Rattle.session_script.proofs.ScriptLaws.{HasSession-one, HasSession-no_fault, length-spoken_of, length-commands_in, strays_in-few}
+use Rattle.session_script.proofs.ScriptLaws.{HasSession-one, HasSession-no_fault, length-spoken_of, length-sent_among, strays_in-few}
 
 -- a header that goes on
 
@@ -87,7 +87,7 @@ told_says text h sent strays ended small tells =
       sent_is = tells.commands;
       strays_is = tells.count ∙ fewer (strays_in (up_to_end said)) (length text) (omega (arith, strays_in-few said)) small;
       valid = tells.valid;
-      few = omega (arith, ap (λ (all : List Sent). length all) tells.commands, length-commands_in said);
+      few = omega (arith, ap (λ (all : List Sent). length all) tells.commands, length-sent_among said);
     }
 
 pub told-ends : (text : List ℕ) (h : Header) (sent : List Sent) (strays : ℕ) (ended : Bool) → Tells (lines_of text) h sent strays ended → (ended ≡ true) ⊎ (is_end_rest (rest_of text) ≡ true) → HasEnd text ⊎ EndsWithEnd text

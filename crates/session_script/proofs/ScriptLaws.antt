@@ -12,7 +12,8 @@ use Rattle.session_head.specs.declared.reason.HeadReason.{HeadReason}
 use Rattle.order_lines.specs.Grammar.{command_line}
 use Rattle.order_lines.specs.declared.spoken.Spoken.{Spoken}
 use Rattle.order_lines.specs.declared.spoken.Spoken.TheVariants.{Of, Stray, End, Passed}
-use Rattle.session_script.specs.Script.{is_started, lines_behind, up_to_end, has_end, commands_in, strays_in, spoken_of, spoken_in, HasSession, HasFault, HasEnd, sent_in, strays_of}
+use Rattle.session_script.specs.inside.Script.{is_started}
+use Rattle.session_script.specs.Script.{lines_behind, up_to_end, has_end, sent_among, strays_in, spoken_of, spoken_in, HasSession, HasFault, HasEnd, sent_in, strays_of}
 use Rattle.fx_rules.specs.declared.command.Sent.{Sent}
 
 -- A header that has started or has a fault stays as it is.
@@ -118,12 +119,12 @@ up_to_end-append (Stray ∷ said) more is = ap (λ (rest : List Spoken). Stray �
 up_to_end-append (Passed ∷ said) more is = ap (λ (rest : List Spoken). Passed ∷ rest) (up_to_end-append said more is)
 up_to_end-append (End ∷ said) more is = absurd (cc)
 
-pub commands_in-append : (said more : List Spoken) → commands_in (said ++ more) ≡ commands_in said ++ commands_in more
-commands_in-append [] more = refl
-commands_in-append (Of bank command ∷ said) more = ap (λ (rest : List Sent). record { bank = bank; command = command } ∷ rest) (commands_in-append said more)
-commands_in-append (Stray ∷ said) more = commands_in-append said more
-commands_in-append (Passed ∷ said) more = commands_in-append said more
-commands_in-append (End ∷ said) more = commands_in-append said more
+pub sent_among-append : (said more : List Spoken) → sent_among (said ++ more) ≡ sent_among said ++ sent_among more
+sent_among-append [] more = refl
+sent_among-append (Of bank command ∷ said) more = ap (λ (rest : List Sent). record { bank = bank; command = command } ∷ rest) (sent_among-append said more)
+sent_among-append (Stray ∷ said) more = sent_among-append said more
+sent_among-append (Passed ∷ said) more = sent_among-append said more
+sent_among-append (End ∷ said) more = sent_among-append said more
 
 pub strays_in-append : (said more : List Spoken) → strays_in (said ++ more) ≡ strays_in said + strays_in more
 strays_in-append [] more = omega arith
@@ -132,11 +133,11 @@ strays_in-append (Stray ∷ said) more = omega (arith, strays_in-append said mor
 strays_in-append (Passed ∷ said) more = strays_in-append said more
 strays_in-append (End ∷ said) more = strays_in-append said more
 
-pub commands_in-one : (spoken : Spoken) → commands_in (up_to_end (spoken ∷ [])) ≡ commands_in (spoken ∷ [])
-commands_in-one (Of bank command) = refl
-commands_in-one Stray = refl
-commands_in-one Passed = refl
-commands_in-one End = refl
+pub sent_among-one : (spoken : Spoken) → sent_among (up_to_end (spoken ∷ [])) ≡ sent_among (spoken ∷ [])
+sent_among-one (Of bank command) = refl
+sent_among-one Stray = refl
+sent_among-one Passed = refl
+sent_among-one End = refl
 
 pub strays_in-one : (spoken : Spoken) → strays_in (up_to_end (spoken ∷ [])) ≡ strays_in (spoken ∷ [])
 strays_in-one (Of bank command) = refl
@@ -144,12 +145,12 @@ strays_in-one Stray = refl
 strays_in-one Passed = refl
 strays_in-one End = refl
 
-pub length-commands_in : (said : List Spoken) → length (commands_in (up_to_end said)) ≤ length said
-length-commands_in [] = omega arith
-length-commands_in (Of bank command ∷ said) = omega (arith, length-commands_in said)
-length-commands_in (Stray ∷ said) = omega (arith, length-commands_in said)
-length-commands_in (Passed ∷ said) = omega (arith, length-commands_in said)
-length-commands_in (End ∷ said) = omega arith
+pub length-sent_among : (said : List Spoken) → length (sent_among (up_to_end said)) ≤ length said
+length-sent_among [] = omega arith
+length-sent_among (Of bank command ∷ said) = omega (arith, length-sent_among said)
+length-sent_among (Stray ∷ said) = omega (arith, length-sent_among said)
+length-sent_among (Passed ∷ said) = omega (arith, length-sent_among said)
+length-sent_among (End ∷ said) = omega arith
 
 pub strays_in-few : (said : List Spoken) → strays_in (up_to_end said) ≤ length said
 strays_in-few [] = omega arith
@@ -219,7 +220,7 @@ up_to_end_in text more h session end =
 
 pub sent_in-more : (text more : List ℕ) (h : Header) → HasSession text h → HasEnd text → sent_in h (text ++ more) ≡ sent_in h text
 unfolding sent_in
-sent_in-more text more h session end = ap commands_in (up_to_end_in text more h session end)
+sent_in-more text more h session end = ap sent_among (up_to_end_in text more h session end)
 
 pub strays_of-more : (text more : List ℕ) (h : Header) → HasSession text h → HasEnd text → strays_of h (text ++ more) ≡ strays_of h text
 unfolding strays_of

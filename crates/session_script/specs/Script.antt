@@ -1,6 +1,6 @@
 -- What the bytes of a session's text say: its header's session, the commands behind START in the order of their lines, the
 -- strays, and whether the text is whole.
-use Rattle.std.specs.Prelude.{ℕ, ◌≡◌, ◌+◌, Bool, true, false, IsTrue, if◌then◌else◌, List, [], ◌∷◌, map, Some}
+use Rattle.std.specs.Prelude.{ℕ, ◌≡◌, ◌+◌, Bool, true, false, IsTrue, if◌then◌else◌, List, [], ◌∷◌, map, Some, is_some}
 use Rattle.fx_rules.specs.Session.{Header}
 use Rattle.fx_text.specs.declared.line.Line.{Line}
 use Rattle.fx_text.specs.Lines.{lines_of, rest_of, is_end_rest}
@@ -9,54 +9,39 @@ use Rattle.session_head.specs.Head.{Head, read_head, with_line, session_of}
 use Rattle.session_head.specs.declared.reason.HeadReason.{HeadReason}
 use Rattle.order_lines.specs.Grammar.{command_line}
 use Rattle.order_lines.specs.declared.spoken.Spoken.{Spoken}
-use Rattle.order_lines.specs.declared.spoken.Spoken.TheVariants.{Of, Stray, End, Passed}
+use Rattle.order_lines.specs.declared.spoken.Spoken.TheVariants.{Of, Stray, End}
 use Rattle.fx_rules.specs.declared.command.Sent.{Sent}
 
 -- Lines
 
--- START was read
-abbrev pub is_started : Head → Bool
-is_started (heads.Begun lines) = false
-is_started (heads.Drafting lines draft) = false
-is_started (heads.Started lines header) = true
-is_started (heads.Faulted line reason) = false
-
--- the lines behind START, where those before them are a header's so far
+-- the lines behind the one that starts the session, where those before them are a header's so far
 abbrev pub lines_behind : Head → List Line → List Line
 lines_behind head [] = []
-lines_behind head (line ∷ lines) = if is_started (with_line head line) then lines else lines_behind (with_line head line) lines
+lines_behind head (line ∷ lines) = if is_some (session_of (with_line head line)) then lines else lines_behind (with_line head line) lines
 
 -- what is said up to END, without it; nothing behind it is looked at
 abbrev pub up_to_end : List Spoken → List Spoken
 up_to_end [] = []
-up_to_end (Of bank command ∷ more) = Of bank command ∷ up_to_end more
-up_to_end (Stray ∷ more) = Stray ∷ up_to_end more
-up_to_end (Passed ∷ more) = Passed ∷ up_to_end more
 up_to_end (End ∷ more) = []
+up_to_end (said ∷ more) = said ∷ up_to_end more
 
 -- whether END is said
 abbrev pub has_end : List Spoken → Bool
 has_end [] = false
-has_end (Of bank command ∷ more) = has_end more
-has_end (Stray ∷ more) = has_end more
-has_end (Passed ∷ more) = has_end more
 has_end (End ∷ more) = true
+has_end (said ∷ more) = has_end more
 
 -- the commands with their senders, in order
-abbrev pub commands_in : List Spoken → List Sent
-commands_in [] = []
-commands_in (Of bank command ∷ more) = record { bank = bank; command = command } ∷ commands_in more
-commands_in (Stray ∷ more) = commands_in more
-commands_in (Passed ∷ more) = commands_in more
-commands_in (End ∷ more) = commands_in more
+abbrev pub sent_among : List Spoken → List Sent
+sent_among [] = []
+sent_among (Of bank command ∷ more) = record { bank = bank; command = command } ∷ sent_among more
+sent_among (said ∷ more) = sent_among more
 
 -- how many strays there are
 abbrev pub strays_in : List Spoken → ℕ
 strays_in [] = 0
-strays_in (Of bank command ∷ more) = strays_in more
 strays_in (Stray ∷ more) = strays_in more + 1
-strays_in (Passed ∷ more) = strays_in more
-strays_in (End ∷ more) = strays_in more
+strays_in (said ∷ more) = strays_in more
 
 -- what each of some lines says behind START, in the session of their header
 abbrev pub spoken_of : Header → List Line → List Spoken
@@ -78,7 +63,7 @@ HasFault text line reason = read_head (lines_of text) ≡ heads.Faulted line rea
 
 -- the commands of a text in the order of their lines, and its strays, up to the END line
 unfoldable pub sent_in : Header → List ℕ → List Sent
-sent_in h text = commands_in (up_to_end (spoken_in h text))
+sent_in h text = sent_among (up_to_end (spoken_in h text))
 
 unfoldable pub strays_of : Header → List ℕ → ℕ
 strays_of h text = strays_in (up_to_end (spoken_in h text))

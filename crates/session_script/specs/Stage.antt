@@ -5,7 +5,7 @@ use Rattle.fx_rules.specs.Session.{Header}
 use Rattle.fx_text.specs.declared.line.Line.{Line}
 use Rattle.session_head.specs.Head as heads
 use Rattle.session_head.specs.Head.{read_head, session_of}
-use Rattle.session_script.specs.Script.{spoken_of, up_to_end, has_end, commands_in, strays_in}
+use Rattle.session_script.specs.Script.{spoken_of, up_to_end, has_end, sent_among, strays_in}
 use Rattle.fx_rules.specs.Sending.{IsSentOf}
 use Rattle.fx_rules.specs.declared.command.Sent.{Sent}
 use Rattle.session_script.specs.declared.intake.stage.Stage.{Stage}
@@ -18,7 +18,7 @@ most_strays = 2 ^ 64 - 1
 -- the lines have a header with START, and behind it, up to END, these commands and so many strays
 pub record Tells (lines : List Line) (h : Header) (sent : List Sent) (strays : ℕ) (ended : Bool) : Type 0 where
   pub session : session_of (read_head lines) ≡ Some h
-  pub commands : sent ≡ commands_in (up_to_end (spoken_of h lines))
+  pub commands : sent ≡ sent_among (up_to_end (spoken_of h lines))
   pub count : strays ≡ min (strays_in (up_to_end (spoken_of h lines))) most_strays
   pub end : ended ≡ has_end (spoken_of h lines)
   pub valid : Each (IsSentOf h) sent

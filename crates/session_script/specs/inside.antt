@@ -1,4 +1,5 @@
 pub mod Intake
 pub mod Reading
 pub mod Rounds
+pub mod Script
 pub mod Stage

@@ -1,13 +1,17 @@
 -- The fields of a line that is to be written.
 use Rattle.std.specs.Prelude.{ℕ, ◌<◌, List, [], ◌∷◌}
 use Rattle.fx_amounts.specs.Numeral.{numeral}
+use Rattle.fx_amounts.specs.PriceText.{price_text}
 use Rattle.fx_rules.specs.Reject.{code_of}
-use Rattle.fx_rules.specs.Session.{Header, bank_count, pair_count, bank_name, pair_name}
+use Rattle.fx_rules.specs.Session.{Header, bank_count, pair_count, bank_name, decimals_of, pair_name}
 use Rattle.fx_rules.specs.declared.command.Command.{Command}
 use Rattle.fx_rules.specs.declared.command.Command.TheVariants.{Order, Cancel, Reduce, Pull, Line, Show, Book, Bad}
 use Rattle.order_lines.specs.Words.{word_text, side_word, life_text, bad_word}
 use Rattle.order_lines.specs.declared.word.Word.TheVariants as word
-use Rattle.order_lines.specs.Spelling.{price_spelled}
+
+-- a price of a pair, in its one spelling
+abbrev pub price_spelled : Header → ℕ → ℕ → List ℕ
+price_spelled h pair price = price_text (decimals_of h pair) price
 
 -- the field behind the sender's name: the command's word
 abbrev pub word_field : Command → List ℕ

@@ -5,7 +5,7 @@ use Rattle.session_head.specs.Head as heads
 use Rattle.session_head.specs.Head.{Head}
 use Rattle.order_lines.specs.declared.spoken.Spoken.{Spoken}
 use Rattle.order_lines.specs.declared.spoken.Spoken.TheVariants.{Of, Stray, End, Passed}
-use Rattle.session_script.specs.Script.{has_end, commands_in}
+use Rattle.session_script.specs.Script.{has_end, sent_among}
 use Rattle.fx_rules.specs.Sending.{IsSentOf}
 use Rattle.session_script.specs.declared.script.Script.{Script}
 use Rattle.session_script.specs.declared.intake.stage.Stage.{Stage}
@@ -22,10 +22,10 @@ counted strays Passed = strays
 -- what is said makes a script of another
 pub record Adds (old new : Script) (said : Spoken) (is_end : Bool) : Type 0 where
   pub session : new.session ≡ old.session
-  pub sent : new.sent.items ≡ old.sent.items ++ commands_in (said ∷ [])
+  pub sent : new.sent.items ≡ old.sent.items ++ sent_among (said ∷ [])
   pub strays : new.strays ≡ counted old.strays said
   pub ended : is_end ≡ has_end (said ∷ [])
-  pub valid : Each (IsSentOf old.session) (commands_in (said ∷ []))
+  pub valid : Each (IsSentOf old.session) (sent_among (said ∷ []))
 
 -- the header goes on: neither START nor a fault has come
 abbrev pub goes_on : Head → Bool

@@ -1,5 +1,6 @@
 use Rattle.std.proofs.Common.{◌≡◌, ◌++◌}
-use Rattle.session_head.specs.HeadText.{lines_text, limits_of}
+use Rattle.session_head.specs.HeadText.{lines_text}
+use Rattle.session_head.specs.inside.HeadText.{limits_of}
 use Rattle.session_head.proofs.text.push_limits_of.Given as goal
 
 -- the lines of the limits on the banks up to here

@@ -3,7 +3,7 @@ use Rattle.fx_rules.specs.declared.command.Sent.{Sent}
 use Rattle.fx_text.specs.Lines.{line_seen}
 use Rattle.order_lines.specs.Grammar.{command_line}
 use Rattle.session_head.specs.Head.{read_head}
-use Rattle.session_script.specs.Script.{commands_in}
+use Rattle.session_script.specs.Script.{sent_among}
 use Rattle.session_script.specs.Stage.{StandsAt, Tells}
 use Rattle.session_script.specs.inside.Stage.{goes_on, is_open}
 use Rattle.session_script.specs.declared.intake.stage.Stage.{Stage}
@@ -32,7 +32,7 @@ returns-in_ok-ended-in-Commanding-clause-taken c = λ lines former at.
     let new = c.add.new.self in
     let added = c.in_ok-ended-in-Commanding.ensures.adds in
     let before : Tells lines old.session (former ++ old.sent.items) old.strays c.in-Commanding.ended = subst (λ (stage : Stage). StandsAt stage lines former) c.in-Commanding.is at in
-    let more : former ++ new.sent.items ≡ (former ++ old.sent.items) ++ commands_in (command_line old.session (line_seen c.args.line.now) ∷ []) = grown former old.sent.items new.sent.items _ added.sent in
+    let more : former ++ new.sent.items ≡ (former ++ old.sent.items) ++ sent_among (command_line old.session (line_seen c.args.line.now) ∷ []) = grown former old.sent.items new.sent.items _ added.sent in
     Tells-line lines (line_seen c.args.line.now) old.session new.session (former ++ old.sent.items) (former ++ new.sent.items) old.strays new.strays c.in_ok-ended-in-Commanding.field-0
     (subst (λ (ended : Bool). Tells lines old.session (former ++ old.sent.items) old.strays ended) c.if-not-ended.true before)
     added.session more added.strays added.ended added.valid
