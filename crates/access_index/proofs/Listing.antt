@@ -255,28 +255,39 @@ listed_has owners bank there =
 
 -- The rows with their list.
 
+index_kept : (owners : List OwnRows) (banks banks' : List ℕ) (capacity capacity' at : ℕ) (rows : OwnRows) → IsIndex owners banks capacity → AreOwned (set owners at rows) → at < length owners
+    → has_places rows ≡ has_places (get_or owners at no_rows) → banks' ≡ banks → capacity ≤ capacity' → IsIndex (set owners at rows) banks' capacity'
+index_kept owners banks banks' capacity capacity' at rows is owned within same banks_are grows = record {
+  owned = owned;
+  banks_are = banks_are ∙ is.banks_are ∙ sym (listed_same 0 owners at rows within same);
+  room = omega (arith, is.room, length-set owners at rows, grows);
+}
+
 pub index_same : (owners : List OwnRows) (banks : List ℕ) (capacity at : ℕ) (rows : OwnRows) → IsIndex owners banks capacity → AreOwned (set owners at rows) → at < length owners
     → has_places rows ≡ has_places (get_or owners at no_rows) → IsIndex (set owners at rows) banks capacity
-index_same owners banks capacity at rows is owned within same = record {
-  owned = owned;
-  banks_are = is.banks_are ∙ sym (listed_same 0 owners at rows within same);
-  room = omega (arith, is.room, length-set owners at rows);
-}
+index_same owners banks capacity at rows is owned within same =
+    index_kept owners banks banks capacity capacity at rows is owned within same refl (omega arith)
 
-pub index_gained : (owners : List OwnRows) (banks banks' : List ℕ) (capacity capacity' at bank : ℕ) (rows : OwnRows) → IsIndex owners banks capacity → AreOwned (set owners at rows) → at ≡ bank → at < length owners
-    → has_places (get_or owners at no_rows) ≡ false → has_places rows ≡ true → banks' ≡ with_bank bank banks → capacity ≤ capacity' → IsIndex (set owners at rows) banks' capacity'
-index_gained owners banks banks' capacity capacity' at bank rows is owned at_is within had has banks_are grows = record {
+-- a place came in: its bank is listed then
+pub index_gained : (owners : List OwnRows) (banks banks' : List ℕ) (capacity capacity' at bank : ℕ) (rows : OwnRows) (was : Bool) → IsIndex owners banks capacity → AreOwned (set owners at rows) → at ≡ bank → at < length owners
+    → has_places (get_or owners at no_rows) ≡ was → has_places rows ≡ true → banks' ≡ (if was then banks else with_bank bank banks) → capacity ≤ capacity' → IsIndex (set owners at rows) banks' capacity'
+index_gained owners banks banks' capacity capacity' at bank rows true is owned at_is within had has banks_are grows =
+    index_kept owners banks banks' capacity capacity' at rows is owned within (has ∙ sym had) banks_are grows
+index_gained owners banks banks' capacity capacity' at bank rows false is owned at_is within had has banks_are grows = record {
   owned = owned;
   banks_are = banks_are ∙ ap (with_bank bank) is.banks_are ∙ sym (listed_gained 0 owners at bank rows (omega arith) within had has);
-  room = omega (arith, is.room, length-set owners at rows);
+  room = omega (arith, is.room, length-set owners at rows, grows);
 }
 
-pub index_lost : (owners : List OwnRows) (banks banks' : List ℕ) (capacity capacity' at bank : ℕ) (rows : OwnRows) → IsIndex owners banks capacity → AreOwned (set owners at rows) → at ≡ bank → at < length owners
-    → has_places rows ≡ false → banks' ≡ filter (is_other bank) banks → capacity' ≡ capacity → IsIndex (set owners at rows) banks' capacity'
-index_lost owners banks banks' capacity capacity' at bank rows is owned at_is within none banks_are stays = record {
+-- a place went: its bank is listed where it has another
+pub index_lost : (owners : List OwnRows) (banks banks' : List ℕ) (capacity capacity' at bank : ℕ) (rows : OwnRows) (still : Bool) → IsIndex owners banks capacity → AreOwned (set owners at rows) → at ≡ bank → at < length owners
+    → has_places (get_or owners at no_rows) ≡ true → still ≡ has_places rows → banks' ≡ (if still then banks else filter (is_other bank) banks) → capacity' ≡ capacity → IsIndex (set owners at rows) banks' capacity'
+index_lost owners banks banks' capacity capacity' at bank rows true is owned at_is within had has banks_are stays =
+    index_kept owners banks banks' capacity capacity' at rows is owned within (sym has ∙ sym had) banks_are (omega (arith, stays))
+index_lost owners banks banks' capacity capacity' at bank rows false is owned at_is within had has banks_are stays = record {
   owned = owned;
-  banks_are = banks_are ∙ ap (filter (is_other bank)) is.banks_are ∙ sym (listed_lost 0 owners at bank rows (omega arith) within none);
-  room = omega (arith, is.room, length-set owners at rows);
+  banks_are = banks_are ∙ ap (filter (is_other bank)) is.banks_are ∙ sym (listed_lost 0 owners at bank rows (omega arith) within (sym has));
+  room = omega (arith, is.room, length-set owners at rows, stays);
 }
 
 -- there is room for one bank more

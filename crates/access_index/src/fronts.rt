@@ -24,7 +24,7 @@ impl Model for Fronts {
 }
 
 impl Fronts {
-    /// Those of so many banks without places. `Memory` for want of memory.
+    /// Those of so many banks without places. `Memory` when out of memory.
     pub(crate) fn none(alloc: Global, banks: usize) -> Result<Fronts, Memory>
         ensures bids { IfOk result (λ fronts. fronts.bids ≡ replicate banks None) }
         ensures asks { IfOk result (λ fronts. fronts.asks ≡ replicate banks None) }

@@ -1,4 +1,4 @@
-ghost use Rattle.std.specs.Prelude.{◌≡◌, ◌≢◌, ◌+◌, ◌≤◌, ◌<◌, ◌==◌, ◌++◌, ℕ, min, true, false, None, [], length, not, nat_lt, slice_get, vec_len, vec_capacity, OnErr, OnOk, IfOk, IfSome};
+ghost use Rattle.std.specs.Prelude.{◌≡◌, ◌≢◌, ◌+◌, ◌≤◌, ◌<◌, ◌==◌, ◌++◌, ℕ, min, true, false, None, [], length, not, nat_lt, if◌then◌else◌, slice_get, vec_len, vec_capacity, OnErr, OnOk, IfOk, IfSome};
 ghost use Rattle.std.specs.List.{All, Contains, filter};
 ghost use Rattle.std.specs.List.Sorted.{IsPartitionedBy};
 ghost use Rattle.std.specs.Option.{option_copied, option_map};
@@ -42,7 +42,7 @@ impl Model for Owners {
 }
 
 impl Owners {
-    /// No places, for so many banks, 64 at most. `Memory` for want of memory.
+    /// No places, for so many banks, 64 at most. `Memory` when out of memory.
     pub fn new(alloc: Global, banks: usize) -> Result<Owners, Memory>
         ensures count { IfOk result (λ owners. length owners ≡ min banks 64) }
         ensures empty { IfOk result (λ owners. (bank : ℕ) (side : OneSide) → (row_at owners bank side).places ≡ []) }
@@ -84,9 +84,7 @@ impl Owners {
         rows.insert(side, place);
         let front = rows.front_price(side);
         self.fronts.set(bank, side, front);
-        if !is_listed {
-            list(&mut self.listed, bank);
-        }
+        list_new(&mut self.listed, bank, is_listed);
     }
 
     /// Takes a place of a bank and a side out, and leaves room for another.
@@ -99,9 +97,8 @@ impl Owners {
         rows.remove(side, place);
         let front = rows.front_price(side);
         self.fronts.set(bank, side, front);
-        if !rows.has_places() {
-            unlist(&mut self.listed, bank);
-        }
+        let has_places = rows.has_places();
+        unlist_gone(&mut self.listed, bank, has_places);
     }
 
     /// The banks that have a place, from the lowest number on.
@@ -219,6 +216,18 @@ fn empty_rows(alloc: Global, count: usize) -> Result<Vec<Sides>, Memory>
     Ok(rows)
 }
 
+/// Puts a bank among others, in the order of their numbers, unless it is among them. There is room for it.
+fn list_new(banks: &mut Vec<BankId>, bank: BankId, is_listed: bool)
+    requires room { is_listed ≡ false → vec_len banks.old < vec_capacity banks.old }
+    requires in_order { IsPartitionedBy (λ other. nat_lt other bank) banks.old.items }
+    ensures banks { banks.new.items ≡ (if is_listed then banks.old.items else with_bank bank banks.old.items) }
+    ensures room { vec_capacity banks.old ≤ vec_capacity banks.new }
+{
+    if !is_listed {
+        list(banks, bank);
+    }
+}
+
 /// Puts a bank among others, in the order of their numbers, where there is room.
 fn list(banks: &mut Vec<BankId>, bank: BankId)
     requires room { vec_len banks.old < vec_capacity banks.old }
@@ -228,6 +237,17 @@ fn list(banks: &mut Vec<BankId>, bank: BankId)
 {
     let at = banks.partition_point(|other| *other < bank);
     banks.insert(at, bank).unwrap();
+}
+
+/// Takes a bank out, and leaves its room, unless it still has a place.
+fn unlist_gone(banks: &mut Vec<BankId>, bank: BankId, has_places: bool)
+    ensures banks { banks.new.items
+        ≡ (if has_places then banks.old.items else filter (λ other. not (other == bank)) banks.old.items) }
+    ensures room { vec_capacity banks.new ≡ vec_capacity banks.old }
+{
+    if !has_places {
+        unlist(banks, bank);
+    }
 }
 
 /// Takes a bank out, and leaves its room.

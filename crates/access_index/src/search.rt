@@ -67,7 +67,7 @@ pub fn best_of<L: Ledger>(
     best_for(owners, &search, steps)
 }
 
-/// The same for a search.
+/// The best place that a search wants, with its bank; `None` where none is wanted.
 fn best_for<L: Ledger>(
     owners: &Owners,
     search: &Search<'_>,

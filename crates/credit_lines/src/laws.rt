@@ -5,13 +5,14 @@ pub fn sweeps_are_paid()
     ensures paid { SweepsArePaid }
 {}
 
-/// The same of the fills that a credit change makes in a pair.
+/// The lines pay for the fills that a credit change makes in a pair, in order. One take for each of them leaves the lines of
+/// the state that they lead to.
 pub fn turns_are_paid()
     ensures paid { TurnsArePaid }
 {}
 
-/// The same of the fills of each step of the market, once the limit is set that its command asks for: it leaves the lines
-/// of the state after the step.
+/// The lines pay for the fills of each step of the market, in order, once the limit is set that its command asks for. One take
+/// for each of them leaves the lines of the state after the step.
 pub fn steps_are_paid()
     ensures paid { StepsArePaid }
 {}

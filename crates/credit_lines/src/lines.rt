@@ -38,7 +38,7 @@ impl Model for CreditLines {
 }
 
 impl CreditLines {
-    /// The lines with which a session opens: its opening limits, and no use. `Memory` for want of memory; no other call
+    /// The lines with which a session opens: its opening limits, and no use. `Memory` when out of memory; no other call
     /// takes any.
     pub fn open(alloc: Global, session: &Session) -> Result<CreditLines, Memory>
         ensures value { IfOk result (λ lines. lines ≡ opened session.now) }

@@ -43,7 +43,7 @@ written inside seen at bank sides sides' view_is at_is within read =
     (subst (λ (b : ℕ). Written inside (set inside at sides') b sides sides') at_is (written-at inside at sides sides' within read))
 
 module _ (old new : List LevelSides) (bank : ℕ) (side : Side) (sides sides' : LevelSides) (written : Written old new bank sides sides') where
-  pub keeps_other : side_row sides' (opposite side) ≡ side_row sides (opposite side) → KeepsOtherLevels old new bank side
+  keeps_other : side_row sides' (opposite side) ≡ side_row sides (opposite side) → KeepsOtherLevels old new bank side
   keeps_other same = record { count = written.count; other_side = written.is (opposite side) ∙ same ∙ written.was (opposite side); others = written.others }
 
   pub added_at : (price lots : ℕ) → Adds (side_row sides side) (side_row sides' side) price lots → Adds (levels_at old bank side) (levels_at new bank side) price lots
@@ -65,7 +65,7 @@ module _ (old new : List LevelSides) (bank : ℕ) (side : Side) (sides sides' : 
     ];
   }
 
-  pub changed_sides : AreOfSides old → (side_row sides' side).side ≡ (side_row sides side).side → side_row sides' (opposite side) ≡ side_row sides (opposite side) → AreOfSides new
+  changed_sides : AreOfSides old → (side_row sides' side).side ≡ (side_row sides side).side → side_row sides' (opposite side) ≡ side_row sides (opposite side) → AreOfSides new
   changed_sides are stays same = of_sides are (both (λ one. (side_row sides' one).side ≡ (side_row sides one).side) side stays (ap (λ (r : Row). r.side) same))
 
   widens_side : Widens sides.bids sides'.bids → Widens sides.asks sides'.asks → (one : Side) → Widens (side_row sides one) (side_row sides' one)
@@ -85,6 +85,23 @@ module _ (old new : List LevelSides) (bank : ℕ) (side : Side) (sides sides' : 
       | inr differ ↦ subst (λ (r : Row). Widens (levels_at old other one) r) (sym (written.others other one differ)) (record { side = refl; levels = refl; room = omega arith })
     ];
   }
+
+-- the levels of one side of a bank changed, and no others
+pub record OneChanged (old new : List LevelSides) (bank : ℕ) (side : Side) (sides sides' : LevelSides) : Type 0 where
+  pub written : Written old new bank sides sides'
+  pub are : AreOfSides new
+  pub others : KeepsOtherLevels old new bank side
+
+pub one_changed : (inside seen : List LevelSides) (at bank : ℕ) (side : Side) (sides sides' : LevelSides) → inside ≡ seen → at ≡ bank → bank < length seen → sides ≡ get_or inside at sides → AreOfSides inside
+    → (side_row sides' side).side ≡ (side_row sides side).side → side_row sides' (opposite side) ≡ side_row sides (opposite side) → OneChanged seen (set inside at sides') bank side sides sides'
+one_changed inside seen at bank side sides sides' view_is at_is bank_in read are stays same =
+    let within : at < length inside = omega (arith, bank_in, at_is, ap length view_is) in
+    let here : Written seen (set inside at sides') bank sides sides' = written inside seen at bank sides sides' view_is at_is within read in
+    record {
+      written = here;
+      are = changed_sides seen (set inside at sides') bank side sides sides' here (subst AreOfSides view_is are) stays same;
+      others = keeps_other seen (set inside at sides') bank side sides sides' here same;
+    }
 
 -- a bank that there is none of has no levels
 none_side : (side : Side) → (side_row no_levels side).side ≡ side

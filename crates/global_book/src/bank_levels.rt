@@ -29,7 +29,7 @@ impl Model for BankLevels {
 }
 
 impl BankLevels {
-    /// No levels, for so many banks, 64 at most. `Memory` for want of memory.
+    /// No levels, for so many banks, 64 at most. `Memory` when out of memory.
     pub(crate) fn new(alloc: Global, banks: usize) -> Result<BankLevels, Memory>
         ensures count { IfOk result (λ levels. length levels ≡ min banks 64) }
         ensures empty { IfOk result (λ levels. (bank : ℕ) (side : OneSide) → (levels_at levels bank side).levels ≡ []) }

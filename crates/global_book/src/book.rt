@@ -4,6 +4,7 @@ ghost use Rattle.fx_amounts.specs.Price.{crosses};
 ghost use Rattle.fx_amounts.specs.Side.{opposite};
 ghost use Rattle.fx_rules.specs.Lists.{Among, Each};
 ghost use Rattle.fx_rules.specs.declared.orders.Resting.{Resting};
+ghost use Rattle.access_index.specs.Owned.{allows};
 ghost use Rattle.access_index.specs.Sides.{OwnRows};
 ghost use Rattle.order_store.specs.Orders.{order_at};
 ghost use Rattle.fx_rules.specs.Sweep.{IsBest, is_order};
@@ -52,7 +53,7 @@ impl Model for PairBook {
 }
 
 impl PairBook {
-    /// The book of a pair for so many banks, with no orders and no room for any. `Memory` for want of memory.
+    /// The book of a pair for so many banks, with no orders and no room for any. `Memory` when out of memory.
     pub fn new(alloc: Global, pair: PairId, banks: usize) -> Result<PairBook, Memory>
         ensures pair { IfOk result (λ book. book.pair ≡ pair) }
         ensures banks { IfOk result (λ book. book.banks ≡ banks) }
@@ -215,7 +216,7 @@ impl PairBook {
         self.pull_counted::<Brand>(bank, Blank::new(1))
     }
 
-    /// The same, with a ledger for the steps.
+    /// Takes all orders of a bank out, side by side, with a ledger for the steps of its searches.
     fn pull_counted<L: Ledger>(&mut self, bank: BankId, blank: Blank) -> u32
         requires name { blank.name ≡ L.name }
         requires parts { blank.parts ≡ L.parts }
@@ -310,12 +311,12 @@ impl PairBook {
         ensures steps { AreInTime side before self.now.orders → steps.new ≤ steps.old + 1 }
         ensures valid { IsBook self.now }
     {
-        let place = self.rows.first_of(bank, side, before, past, steps)?;
-        Some((self.orders.get(OrderKey(place.key)), place))
+        self.best_allowed(bank, side, None, before, past, steps)
     }
 
-    /// The same within a limit: `None` where the limit allows the price of none of these orders. It reads no order that the
-    /// limit does not allow.
+    /// The best order of a bank and a side within a limit, and its place, among those that arrived before `before` and stand
+    /// behind the place `past`; `None` where the limit allows the price of none of these. It reads no order that the limit does
+    /// not allow. One step, and one for each order that arrived too late.
     pub fn best_within<L: Ledger>(
         &self,
         bank: BankId,
@@ -332,8 +333,30 @@ impl PairBook {
         ensures steps { AreInTime side before self.now.orders → steps.new ≤ steps.old + 1 }
         ensures valid { IsBook self.now }
     {
+        self.best_allowed(bank, side, Some(limit), before, past, steps)
+    }
+
+    /// The best order of a bank and a side, and its place, among those that arrived before `before` and stand behind the place
+    /// `past`; `None` where there is none, or where the limit, if there is one, does not allow its price. It reads no order that
+    /// is not allowed.
+    fn best_allowed<L: Ledger>(
+        &self,
+        bank: BankId,
+        side: Side,
+        limit: Option<Price>,
+        before: u64,
+        past: Option<&Place>,
+        steps: &mut Steps<L>,
+    ) -> Option<(Resting, Place)>
+        ensures none { result ≡ None → Each (λ order. allows (opposite side) limit order.price ≡ false) (owned side bank before (option_copied past.entry) self.now.orders) }
+        ensures best { IfSome result (λ found. IsBest (opposite side) (owned side bank before (option_copied past.entry) self.now.orders) found.0) }
+        ensures allowed { IfSome result (λ found. allows (opposite side) limit found.0.price ≡ true) }
+        ensures place { IfSome result (λ found. IsPlaceOf found.0 found.1) }
+        ensures steps { AreInTime side before self.now.orders → steps.new ≤ steps.old + 1 }
+        ensures valid { IsBook self.now }
+    {
         let front = self.rows.first_of(bank, side, before, past, steps)?;
-        if limit.crosses(front.price, side.opposite()) {
+        if is_allowed(limit, front.price, side.opposite()) {
             return Some((self.orders.get(OrderKey(front.key)), front));
         }
         None
@@ -422,6 +445,16 @@ impl PairBook {
     {
         let level = self.levels.get(bank, side, at)?;
         Some((level.price, level.lots))
+    }
+}
+
+/// Whether a limit, where there is one, allows a taker of a side this price.
+fn is_allowed(limit: Option<Price>, price: Price, taker: Side) -> bool
+    ensures { result ≡ allows taker limit price }
+{
+    match limit {
+        Some(limit) => limit.crosses(price, taker),
+        None => true,
     }
 }
 

@@ -22,7 +22,7 @@ pub fn carry(book: &mut PairBook, plan: &Plan)
     carry_fills(book, plan.fills.as_slice());
 }
 
-/// The same of these fills, as an outcome tells them.
+/// Carries fills out in a book, in order, as `carry` does those of a plan.
 pub fn carry_fills(book: &mut PairBook, fills: &[Fill])
     ensures orders { book.new.orders ≡ carried book.old.orders fills.now }
     ensures state { (S : State) → EachPair Rises S.orders → book.old.orders ≡ orders_in book.old.pair S.orders → book.new.orders ≡ orders_in book.old.pair (filled_all S fills.now).orders }

@@ -6,8 +6,8 @@ pub fn sweeps_are_carried()
     ensures carried { SweepsAreCarried }
 {}
 
-/// The same of the fills that a credit change makes in a pair: each maker rests, and each taker, with the fill's lots at
-/// least.
+/// The fills that a credit change makes in a pair are those of its book: each maker rests, and each taker, with the fill's
+/// lots at least. Carried out, they leave the book of the state that they lead to.
 pub fn turns_are_carried()
     ensures carried { TurnsAreCarried }
 {}

@@ -17,7 +17,7 @@ pub(crate) struct Opening {
     /// The order that it takes first.
     pub(crate) first: Resting,
     /// Of each bank whether something may be taken of it; nothing of the taker's own.
-    pub(crate) opens: [bool; 64],
+    pub(crate) opens: [bool; BankId::SENDERS],
 }
 
 /// Finds where a sweep begins; `None` where nothing may be taken of any bank. The banks are those that have an order.
@@ -42,7 +42,7 @@ pub(crate) fn find_opening<L: Ledger>(
     }
     let prices = TakenPrices::of(order);
     let mut first = None;
-    let mut opens = [false; 64];
+    let mut opens = [false; BankId::SENDERS];
     for owner in owners {
         if let Some(head) = open_head(book, lines, weight, order, &prices, *owner, steps) {
             opens[owner.index()] = true;

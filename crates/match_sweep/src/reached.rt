@@ -32,9 +32,9 @@ pub fn levels_in_reach(
     let mut walk = LevelWalk {
         taker: side,
         weight,
-        lines: [0; 64],
-        heads: [None; 64],
-        ranks: [NO_RANK; 64],
+        lines: [0; BankId::SENDERS],
+        heads: [None; BankId::SENDERS],
+        ranks: [NO_RANK; BankId::SENDERS],
         last: None,
     };
     walk.open_banks(book, lines, bank);
@@ -60,11 +60,11 @@ pub(crate) struct LevelWalk {
     /// What a lot costs, in credit units.
     weight: u32,
     /// What is left of the lines with each bank that has an order, in credit units; nothing with the bank's own.
-    lines: [u64; 64],
+    lines: [u64; BankId::SENDERS],
     /// Of each bank with which the line pays for a lot, its best level behind the last price.
-    heads: [Option<BankLevel>; 64],
+    heads: [Option<BankLevel>; BankId::SENDERS],
     /// The rank of each head's price for the taker, where the line with the bank pays for a lot; `NO_RANK` with the others.
-    ranks: [u32; 64],
+    ranks: [u32; BankId::SENDERS],
     /// The price of the last level, where there is one.
     last: Option<Price>,
 }
@@ -181,7 +181,7 @@ impl LevelWalk {
         lots
     }
 
-    /// The same of one bank.
+    /// Takes what one bank has at the price, as far as its line allows, and goes on to its next price.
     fn take_of(&mut self, book: &PairBook, bank: BankId, price: Price) -> u64
         requires weight { IsWeight self.old.weight }
         requires head { 1 ≤ slice_index self.old.lines bank / self.old.weight → IsHead self.old.taker bank self.old.last book.now.orders (slice_index_or self.old.heads bank None) }

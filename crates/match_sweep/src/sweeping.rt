@@ -68,8 +68,8 @@ pub fn plan<L: Ledger>(
     })
 }
 
-/// The same of an order of the book's pair that may want more than an order can have. The lots of its fills are at most all
-/// that the lines of its bank allow.
+/// The sweep of an order of the book's pair, which may want more lots than an order can have, as `plan` finds that of a taker.
+/// The lots of its fills are at most all that the lines of its bank allow.
 pub fn sweep<L: Ledger>(
     alloc: Global,
     book: &PairBook,
@@ -138,8 +138,8 @@ fn walk_on<L: Ledger>(
     let mut walk = Walk {
         order: *order,
         weight,
-        lines: [0; 64],
-        heads: [None; 64],
+        lines: [0; BankId::SENDERS],
+        heads: [None; BankId::SENDERS],
         last: None,
     };
     walk.take_first(book, owners, lines, opening, steps);

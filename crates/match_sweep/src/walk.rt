@@ -24,10 +24,10 @@ pub(crate) struct Walk {
     /// What a lot costs, in credit units.
     pub(crate) weight: u32,
     /// What is left of the lines with the banks of which something may be taken, in credit units; nothing with others.
-    pub(crate) lines: [u64; 64],
+    pub(crate) lines: [u64; BankId::SENDERS],
     /// Of each of these banks the best order that the sweep may still come to, where the order takes its price. That of the
     /// bank that was taken from last is out of date.
-    pub(crate) heads: [Option<Resting>; 64],
+    pub(crate) heads: [Option<Resting>; BankId::SENDERS],
     /// The order that was taken last, if there is one.
     pub(crate) last: Option<Resting>,
 }

@@ -37,7 +37,7 @@ impl Model for OrderStore {
 }
 
 impl OrderStore {
-    /// No orders of so many banks, 64 at most, and no room for any. `Memory` for want of memory.
+    /// No orders of so many banks, 64 at most, and no room for any. `Memory` when out of memory.
     pub fn new(alloc: Global, banks: usize) -> Result<OrderStore, Memory>
         ensures empty { IfOk result (λ store. store.slots ≡ []) }
         ensures banks { IfOk result (λ store. length store.room ≡ min banks 64) }

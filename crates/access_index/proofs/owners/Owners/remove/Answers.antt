@@ -7,7 +7,7 @@ use Rattle.access_index.specs.Sides.{OwnRows, row_of}
 use Rattle.access_index.specs.Owned.{OwnerLoses, row_at}
 use Rattle.access_index.proofs.Rows.{bank_within, owned_changed, owner_lost, read_rows}
 use Rattle.access_index.proofs.Fronting.{fronts_changed}
-use Rattle.access_index.proofs.Listing.{contains_has, index_lost, index_same, read_has}
+use Rattle.access_index.proofs.Listing.{contains_has, index_lost, read_has}
 use Rattle.access_index.proofs.owners.Owners.remove.Goals as goal
 
 there_read : (inside owners : List OwnRows) (at bank : ℕ) (side : Side) (place : Place) (rows : OwnRows) → at < length inside → rows ≡ get_or inside at rows → at ≡ bank → inside ≡ owners
@@ -25,31 +25,16 @@ remove-requires c =
           c.index_mut-rows.ensures.value c.index.ensures.value c.self.view_is c.requires.there;
     }
 
-pub returns-then-not-has_places-clause-loses : goal.returns-then-not-has_places-clause-loses
-returns-then-not-has_places-clause-loses c =
+pub returns-clause-loses : goal.returns-clause-loses
+returns-clause-loses c =
     let there = bank_within c.args.self.now c.args.bank c.args.side c.args.place.now c.requires.there in
     let within : c.index.result < length c.self.inside.rows.items = omega (arith, there, c.index.ensures.value, ap length c.self.view_is) in
     subst (λ (o : List OwnRows). OwnerLoses o (slice_set c.self.inside.rows.items c.index.result c.remove.new.self) c.args.bank c.args.side c.args.place.now) c.self.view_is
     (owner_lost c.self.inside.rows.items c.index.result c.args.bank c.args.side c.index_mut-rows.result.now c.remove.new.self c.args.place.now c.index.ensures.value within c.index_mut-rows.ensures.value
     c.remove.ensures.loses c.remove.ensures.other)
 
-pub returns-then-not-has_places-clause-valid : goal.returns-then-not-has_places-clause-valid
-returns-then-not-has_places-clause-valid c =
-    let there = bank_within c.args.self.now c.args.bank c.args.side c.args.place.now c.requires.there in
-    let within : c.index.result < length c.self.inside.rows.items = omega (arith, there, c.index.ensures.value, ap length c.self.view_is) in
-    owned_changed c.self.inside.rows.items c.index.result c.args.side c.index_mut-rows.result.now c.remove.new.self c.self.invariant.index.owned within c.index_mut-rows.ensures.value
-    c.remove.ensures.loses.side c.remove.ensures.other c.remove.ensures.sorted
-
-pub returns-else-not-has_places-clause-loses : goal.returns-else-not-has_places-clause-loses
-returns-else-not-has_places-clause-loses c =
-    let there = bank_within c.args.self.now c.args.bank c.args.side c.args.place.now c.requires.there in
-    let within : c.index.result < length c.self.inside.rows.items = omega (arith, there, c.index.ensures.value, ap length c.self.view_is) in
-    subst (λ (o : List OwnRows). OwnerLoses o (slice_set c.self.inside.rows.items c.index.result c.remove.new.self) c.args.bank c.args.side c.args.place.now) c.self.view_is
-    (owner_lost c.self.inside.rows.items c.index.result c.args.bank c.args.side c.index_mut-rows.result.now c.remove.new.self c.args.place.now c.index.ensures.value within c.index_mut-rows.ensures.value
-    c.remove.ensures.loses c.remove.ensures.other)
-
-pub returns-else-not-has_places-clause-valid : goal.returns-else-not-has_places-clause-valid
-returns-else-not-has_places-clause-valid c =
+pub returns-clause-valid : goal.returns-clause-valid
+returns-clause-valid c =
     let there = bank_within c.args.self.now c.args.bank c.args.side c.args.place.now c.requires.there in
     let within : c.index.result < length c.self.inside.rows.items = omega (arith, there, c.index.ensures.value, ap length c.self.view_is) in
     owned_changed c.self.inside.rows.items c.index.result c.args.side c.index_mut-rows.result.now c.remove.new.self c.self.invariant.index.owned within c.index_mut-rows.ensures.value
@@ -61,26 +46,13 @@ invariant_of-self c =
     let within : c.index.result < length c.self.inside.rows.items = omega (arith, there, c.index.ensures.value, ap length c.self.view_is) in
     record {
       index =
-          index_lost c.self.inside.rows.items c.self.inside.listed.items c.unlist.new.banks.items _ _ c.index.result c.args.bank c.remove.new.self c.self.invariant.index
-          (returns-then-not-has_places-clause-valid c) c.index.ensures.value within (sym c.has_places.ensures ∙ c.if-not-has_places.true)
-          c.unlist.ensures.banks c.unlist.ensures.room;
-      fronts = fronts_changed c.self.inside.rows.items c.self.inside.fronts c.set.new.self c.index.result c.args.bank c.args.side c.index_mut-rows.result.now c.remove.new.self c.front_price-front.result
-          c.self.invariant.fronts c.index.ensures.value c.index_mut-rows.ensures.value c.remove.ensures.other c.front_price-front.ensures c.set.ensures.set c.set.ensures.other;
-    }
-
-pub invariant_of-self-else-not-has_places : goal.invariant_of-self-else-not-has_places
-invariant_of-self-else-not-has_places c =
-    let there = bank_within c.args.self.now c.args.bank c.args.side c.args.place.now c.requires.there in
-    let within : c.index.result < length c.self.inside.rows.items = omega (arith, there, c.index.ensures.value, ap length c.self.view_is) in
-    record {
-      index =
-          index_same c.self.inside.rows.items c.self.inside.listed.items _ c.index.result c.remove.new.self c.self.invariant.index
-          (returns-else-not-has_places-clause-valid c) within
-          (sym c.has_places.ensures ∙ c.if-not-has_places.false
-          ∙ sym (contains_has c.index_mut-rows.result.now c.args.side c.args.place.now
+          index_lost c.self.inside.rows.items c.self.inside.listed.items c.unlist_gone.new.banks.items _ _ c.index.result c.args.bank c.remove.new.self c.has_places-has_places.result c.self.invariant.index
+          (returns-clause-valid c) c.index.ensures.value within
+          (sym (read_has c.self.inside.rows.items c.index.result c.index_mut-rows.result.now within c.index_mut-rows.ensures.value)
+          ∙ contains_has c.index_mut-rows.result.now c.args.side c.args.place.now
           (there_read c.self.inside.rows.items c.args.self.now c.index.result c.args.bank c.args.side c.args.place.now c.index_mut-rows.result.now within
           c.index_mut-rows.ensures.value c.index.ensures.value c.self.view_is c.requires.there))
-          ∙ read_has c.self.inside.rows.items c.index.result c.index_mut-rows.result.now within c.index_mut-rows.ensures.value);
+          c.has_places-has_places.ensures c.unlist_gone.ensures.banks c.unlist_gone.ensures.room;
       fronts = fronts_changed c.self.inside.rows.items c.self.inside.fronts c.set.new.self c.index.result c.args.bank c.args.side c.index_mut-rows.result.now c.remove.new.self c.front_price-front.result
           c.self.invariant.fronts c.index.ensures.value c.index_mut-rows.ensures.value c.remove.ensures.other c.front_price-front.ensures c.set.ensures.set c.set.ensures.other;
     }

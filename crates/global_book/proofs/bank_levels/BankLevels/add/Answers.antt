@@ -1,6 +1,6 @@
 use Rattle.std.proofs.Common.{◌<◌, ap, length, arith}
 use Rattle.level_rows.specs.Rows.{Row, lots_of}
-use Rattle.global_book.proofs.Banks.{written, written-at, added_at, keeps_other, changed_sides}
+use Rattle.global_book.proofs.Banks.{written, added_at, one_changed}
 use Rattle.global_book.proofs.bank_levels.BankLevels.add.Goals as goal
 
 pub add-requires-clause-room : goal.add-requires-clause-room
@@ -17,20 +17,14 @@ add-requires-clause-few c =
 
 pub invariant_of-self : goal.invariant_of-self
 invariant_of-self c =
-    let within : c.index.result < length c.self.inside.banks.items = omega (arith, c.requires.bank, c.index.ensures.value, ap length c.self.view_is) in
-    changed_sides c.self.inside.banks.items _ c.index.result c.args.side c.index_mut-sides.result.now c.add.new.self
-    (written-at c.self.inside.banks.items c.index.result c.index_mut-sides.result.now c.add.new.self within c.index_mut-sides.ensures.value) c.self.invariant c.add.ensures.adds.side c.add.ensures.other
+    (one_changed c.self.inside.banks.items _ c.index.result c.args.bank c.args.side c.index_mut-sides.result.now c.add.new.self
+    c.self.view_is c.index.ensures.value c.requires.bank c.index_mut-sides.ensures.value c.self.invariant c.add.ensures.adds.side c.add.ensures.other).are
 
-pub returns-clause-adds : goal.returns-clause-adds
-returns-clause-adds c =
-    let within : c.index.result < length c.self.inside.banks.items = omega (arith, c.requires.bank, c.index.ensures.value, ap length c.self.view_is) in
-    added_at c.args.self.now _ c.args.bank c.args.side c.index_mut-sides.result.now c.add.new.self
-    (written c.self.inside.banks.items c.args.self.now c.index.result c.args.bank c.index_mut-sides.result.now c.add.new.self c.self.view_is c.index.ensures.value within c.index_mut-sides.ensures.value)
-    c.args.price c.args.lots c.add.ensures.adds
-
-pub returns-clause-others : goal.returns-clause-others
-returns-clause-others c =
-    let within : c.index.result < length c.self.inside.banks.items = omega (arith, c.requires.bank, c.index.ensures.value, ap length c.self.view_is) in
-    keeps_other c.args.self.now _ c.args.bank c.args.side c.index_mut-sides.result.now c.add.new.self
-    (written c.self.inside.banks.items c.args.self.now c.index.result c.args.bank c.index_mut-sides.result.now c.add.new.self c.self.view_is c.index.ensures.value within c.index_mut-sides.ensures.value)
-    c.add.ensures.other
+pub returns : goal.returns
+returns c =
+    let it = one_changed c.self.inside.banks.items _ c.index.result c.args.bank c.args.side c.index_mut-sides.result.now c.add.new.self
+    c.self.view_is c.index.ensures.value c.requires.bank c.index_mut-sides.ensures.value c.self.invariant c.add.ensures.adds.side c.add.ensures.other in
+    record {
+      adds = added_at _ _ c.args.bank c.args.side c.index_mut-sides.result.now c.add.new.self it.written c.args.price c.args.lots c.add.ensures.adds;
+      others = it.others;
+    }

@@ -1,6 +1,6 @@
 use Rattle.std.proofs.Common.{◌<◌, ap, length, arith}
 use Rattle.level_rows.specs.Rows.{Row, lots_of}
-use Rattle.global_book.proofs.Banks.{written, written-at, taken_at, keeps_other, changed_sides}
+use Rattle.global_book.proofs.Banks.{written, taken_at, one_changed}
 use Rattle.global_book.proofs.bank_levels.BankLevels.take.Goals as goal
 
 pub take-requires : goal.take-requires
@@ -11,20 +11,14 @@ take-requires c =
 
 pub invariant_of-self : goal.invariant_of-self
 invariant_of-self c =
-    let within : c.index.result < length c.self.inside.banks.items = omega (arith, c.requires.bank, c.index.ensures.value, ap length c.self.view_is) in
-    changed_sides c.self.inside.banks.items _ c.index.result c.args.side c.index_mut-sides.result.now c.take.new.self
-    (written-at c.self.inside.banks.items c.index.result c.index_mut-sides.result.now c.take.new.self within c.index_mut-sides.ensures.value) c.self.invariant c.take.ensures.takes.side c.take.ensures.other
+    (one_changed c.self.inside.banks.items _ c.index.result c.args.bank c.args.side c.index_mut-sides.result.now c.take.new.self
+    c.self.view_is c.index.ensures.value c.requires.bank c.index_mut-sides.ensures.value c.self.invariant c.take.ensures.takes.side c.take.ensures.other).are
 
-pub returns-clause-takes : goal.returns-clause-takes
-returns-clause-takes c =
-    let within : c.index.result < length c.self.inside.banks.items = omega (arith, c.requires.bank, c.index.ensures.value, ap length c.self.view_is) in
-    taken_at c.args.self.now _ c.args.bank c.args.side c.index_mut-sides.result.now c.take.new.self
-    (written c.self.inside.banks.items c.args.self.now c.index.result c.args.bank c.index_mut-sides.result.now c.take.new.self c.self.view_is c.index.ensures.value within c.index_mut-sides.ensures.value)
-    c.args.price c.args.lots c.take.ensures.takes
-
-pub returns-clause-others : goal.returns-clause-others
-returns-clause-others c =
-    let within : c.index.result < length c.self.inside.banks.items = omega (arith, c.requires.bank, c.index.ensures.value, ap length c.self.view_is) in
-    keeps_other c.args.self.now _ c.args.bank c.args.side c.index_mut-sides.result.now c.take.new.self
-    (written c.self.inside.banks.items c.args.self.now c.index.result c.args.bank c.index_mut-sides.result.now c.take.new.self c.self.view_is c.index.ensures.value within c.index_mut-sides.ensures.value)
-    c.take.ensures.other
+pub returns : goal.returns
+returns c =
+    let it = one_changed c.self.inside.banks.items _ c.index.result c.args.bank c.args.side c.index_mut-sides.result.now c.take.new.self
+    c.self.view_is c.index.ensures.value c.requires.bank c.index_mut-sides.ensures.value c.self.invariant c.take.ensures.takes.side c.take.ensures.other in
+    record {
+      takes = taken_at _ _ c.args.bank c.args.side c.index_mut-sides.result.now c.take.new.self it.written c.args.price c.args.lots c.take.ensures.takes;
+      others = it.others;
+    }
