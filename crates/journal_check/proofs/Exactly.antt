@@ -1,4 +1,4 @@
--- The verdict is Yes exactly at the outputs of legal histories.
+-- The verdict is yes exactly at the outputs of legal histories.
 use Rattle.std.proofs.Common.{◌≡◌, ℕ, zero, suc, ◌+◌, ◌^◌, ◌<◌, ◌≤◌, Bool, true, false, List, [], ◌∷◌, ◌++◌, length, map, drop, Option, Some, None, Result, Ok, Err, refl, sym, ap, ◌∙◌, subst, arith, eqb, cond, inl, inr, append_assoc, append-nil, length-append}
 use Rattle.std.specs.List.{flat_map}
 use Rattle.std.proofs.lemmas.Bool.{cases_Bool, cond-true, cond-false, eqb-true}
@@ -25,11 +25,15 @@ use Rattle.journal_check.specs.Listed.{Listed, ◌>>=◌, header_in, count_told,
 use Rattle.journal_check.specs.Compared.{beginning}
 use Rattle.journal_check.specs.Laws.{OutputsList}
 use Rattle.fx_rules.specs.Sending.{sent_by}
-use Rattle.journal_check.specs.Verdict.{last_in, last_behind, day_verdict, IsJudged, IsVerdict, IsVerdictOn, IsSomeOutput}
+use Rattle.journal_check.specs.Verdict.{yes, last_in, last_behind, day_verdict, IsJudged, IsVerdict, IsVerdictOn, IsSomeOutput}
 use Rattle.journal_check.specs.declared.check.Verdict.{Verdict}
-use Rattle.journal_check.specs.declared.check.Verdict.TheVariants.{Yes}
+use Rattle.journal_check.specs.declared.check.Verdict.TheVariants.{No}
 use Rattle.journal_check.specs.declared.journal.Counted.{Counted}
-use Rattle.journal_check.proofs.JudgeLemmas.{listed_commands}
+use Rattle.journal_check.specs.Reading.{IsReadOf}
+use Rattle.journal_check.specs.inside.Stops.{IsKept, IsComparedWith}
+use Rattle.journal_check.specs.declared.header.Headed.{Headed}
+use Rattle.journal_check.specs.declared.kept.Kept.{Kept}
+use Rattle.journal_check.proofs.JudgeLemmas.{WasRead, listed_commands, verdict_behind}
 use Rattle.journal_check.proofs.CompareLemmas.{beginning-shared, beginning-ends}
 use Rattle.journal_check.proofs.HeadWalk.{header_in-head_text}
 use Rattle.journal_check.proofs.JournalWalk.{counts_at, entries_at}
@@ -128,11 +132,11 @@ begins day rest =
 
 -- Yes is said of outputs alone
 
-yes_by : (text day : List ℕ) (read : Result ℕ ℕ) → beginning 0 day text ≡ read → last_behind text read ≡ Yes → (end : ℕ) × (beginning 0 day text ≡ Ok end) × (last_in (length text) (lines_from text end) ≡ Yes)
+yes_by : (text day : List ℕ) (read : Result ℕ ℕ) → beginning 0 day text ≡ read → last_behind text read ≡ yes → (end : ℕ) × (beginning 0 day text ≡ Ok end) × (last_in (length text) (lines_from text end) ≡ yes)
 yes_by text day (Ok end) is taken = (end, is, taken)
 yes_by text day (Err end) is taken = absurd cc
 
-output_of : (text day : List ℕ) → day_verdict text day ≡ Yes → (last : List ℕ) × (text ≡ day ++ last) × IsLast last
+output_of : (text day : List ℕ) → day_verdict text day ≡ yes → (last : List ℕ) × (text ≡ day ++ last) × IsLast last
 unfolding day_verdict
 output_of text day taken =
     let it = yes_by text day (beginning 0 day text) refl taken in
@@ -142,24 +146,50 @@ output_of text day taken =
     let rest : drop it.0 text ≡ on.rest = ap (λ (n : ℕ). drop n text) here ∙ ap (drop (length day)) on.joined ∙ drop_at day on.rest (length day) refl in
     (on.rest, on.joined, subst IsLast rest (last_only text it.0 within it.2))
 
-sound_by : (text : List ℕ) (read : Result Listed ℕ) → listed text ≡ read → IsVerdictOn text read Yes → IsSomeOutput text
-sound_by text (Err offset) is verdict = absurd cc
-sound_by text (Ok found) is verdict =
-    let it = output_of text verdict.day (sym verdict.judged) in
-    let few : length found.commands ≤ most_entries = listed_few text found is in
-    let size : length verdict.entries ≡ length found.commands = sym (length-map verdict.entries sent_by) ∙ ap length verdict.in_order in
+-- what a text is read as, where it is an output
+read_by : (text : List ℕ) (h : Header) (entries : List Entry) (day : List ℕ) → IsLegal h entries → listed text ≡ Ok (record { session = h; commands = map sent_by entries }) → IsDayText h entries day → day_verdict text day ≡ yes → IsReadOf text h entries
+read_by text h entries day legal lists is_day taken =
+    let it = output_of text day taken in
+    let few : length (map sent_by entries) ≤ most_entries = listed_few text (record { session = h; commands = map sent_by entries }) lists in
     record {
-      session = found.session;
-      entries = verdict.entries;
+      legal = legal;
+      few = omega (arith, few, length-map entries sent_by);
+      as_listed = lists;
       strays = it.2.strays;
-      ending = it.2.ending;
-      legal = verdict.legal;
-      few = omega (arith, few, size);
       strays_most = it.2.few;
-      output = record { day = verdict.day; is_day = verdict.is_day; whole = it.1 ∙ ap (λ (last : List ℕ). verdict.day ++ last) it.2.is };
+      ending = it.2.ending;
+      output = record { day = day; is_day = is_day; whole = it.1 ∙ ap (λ (last : List ℕ). day ++ last) it.2.is };
     }
 
-pub sound : (text : List ℕ) (verdict : Verdict) → IsVerdict text verdict → verdict ≡ Yes → IsSomeOutput text
+pub read_last : (text : List ℕ) (header : Headed) (count : Counted) (entries : List Entry) (end : ℕ) (verdict : Verdict) → WasRead text header count entries → IsComparedWith header.session entries text (Ok end)
+    → verdict ≡ last_in (length text) (lines_from text end) → verdict ≡ yes → IsReadOf text header.session entries
+read_last text header count entries end verdict was is verdict_is taken =
+    read_by text header.session entries is.day was.legal (listed_commands text header count (Ok (map sent_by entries)) was.header_is was.count_is was.commands_are) is.is_day
+    (verdict_behind text is.day (Ok end) is.compared ∙ sym verdict_is ∙ taken)
+
+pub kept_whole : (whole : Bool) (entries : List Entry) (kept : Kept) → whole ≡ true → IsKept whole entries kept → kept.entries.items ≡ entries
+kept_whole whole entries kept is keeps = keeps.items ∙ cond-true whole entries [] is
+
+-- what a text is read as is some output
+pub some_output : (text : List ℕ) (h : Header) (entries : List Entry) → IsReadOf text h entries → IsSomeOutput text
+some_output text h entries read = record {
+  session = h;
+  entries = entries;
+  strays = read.strays;
+  ending = read.ending;
+  legal = read.legal;
+  few = read.few;
+  strays_most = read.strays_most;
+  output = read.output;
+}
+
+sound_by : (text : List ℕ) (read : Result Listed ℕ) → listed text ≡ read → IsVerdictOn text read yes → IsSomeOutput text
+sound_by text (Err offset) is verdict = absurd cc
+sound_by text (Ok found) is verdict =
+    some_output text found.session verdict.entries
+    (read_by text found.session verdict.entries verdict.day verdict.legal (is ∙ ap (λ (sent : List Sent). Ok (record { session = found.session; commands = sent })) (sym verdict.in_order)) verdict.is_day (sym verdict.judged))
+
+pub sound : (text : List ℕ) (verdict : Verdict) → IsVerdict text verdict → verdict ≡ yes → IsSomeOutput text
 sound text verdict holds is = sound_by text (listed text) refl (subst (IsVerdict text) is holds)
 
 -- An output lists its history
@@ -186,7 +216,7 @@ outputs_list h entries strays ending text legal few is =
     ∙ ap (λ (t : List ℕ). head_text_of h ++ t) (append_assoc (journal_text h entries) begins_so.0 (last_text strays ending)))
 
 -- what is said of the output of a legal history
-yes_of : (text day : List ℕ) (strays : ℕ) (ending : Ending) → strays < 2 ^ 64 → text ≡ day ++ last_text strays ending → day_verdict text day ≡ Yes
+yes_of : (text day : List ℕ) (strays : ℕ) (ending : Ending) → strays < 2 ^ 64 → text ≡ day ++ last_text strays ending → day_verdict text day ≡ yes
 unfolding day_verdict
 yes_of text day strays ending few is =
     let within : length day ≤ length text = omega (arith, ap length is, length-append day (last_text strays ending)) in
@@ -195,14 +225,24 @@ yes_of text day strays ending few is =
     ∙ ap (last_behind text) (begins day (last_text strays ending))
     ∙ last_taken text (length day) strays ending within few rest
 
-complete_by : (text : List ℕ) (is : IsSomeOutput text) (verdict : Verdict) → IsJudged text (record { session = is.session; commands = map sent_by is.entries }) verdict → verdict ≡ Yes
+complete_by : (text : List ℕ) (is : IsSomeOutput text) (verdict : Verdict) → IsJudged text (record { session = is.session; commands = map sent_by is.entries }) verdict → verdict ≡ yes
 complete_by text is verdict judged =
     let same : judged.entries ≡ is.entries = histories_agree is.session judged.entries is.entries judged.legal is.legal judged.in_order in
     let day : judged.day ≡ is.output.day = days_agree is.session is.entries judged.day is.output.day is.legal
     (subst (λ (entries : List Entry). IsDayText is.session entries judged.day) same judged.is_day) is.output.is_day in
     judged.judged ∙ ap (day_verdict text) day ∙ yes_of text is.output.day is.strays is.ending is.strays_most is.output.whole
 
-pub complete : (text : List ℕ) (verdict : Verdict) → IsVerdict text verdict → IsSomeOutput text → verdict ≡ Yes
+pub complete : (text : List ℕ) (verdict : Verdict) → IsVerdict text verdict → IsSomeOutput text → verdict ≡ yes
 complete text verdict holds is =
     let found = outputs_list is.session is.entries is.strays is.ending text is.legal is.few is.output in
     complete_by text is verdict (subst (λ (read : Result Listed ℕ). IsVerdictOn text read verdict) found holds)
+
+-- a text at which the verdict is No is no output
+pub other : (text : List ℕ) (offset : ℕ) → IsVerdict text (No offset) → ¬ (IsSomeOutput text)
+other text offset verdict is = no_yes offset (complete text (No offset) verdict is)
+  where
+    no_yes : (at : ℕ) → No at ≡ yes → ⊥
+    no_yes at same = cc
+
+pub other_of : (text : List ℕ) (offset : ℕ) (verdict : Verdict) → verdict ≡ No offset → IsVerdict text verdict → IsVerdict text (No offset) × ¬ (IsSomeOutput text)
+other_of text offset verdict is holds = let same : IsVerdict text (No offset) = subst (IsVerdict text) is holds in (same, other text offset same)

@@ -1,19 +1,20 @@
 -- A journal that is read line by line.
-use Rattle.std.proofs.Common.{◌≡◌, ℕ, zero, suc, ◌+◌, ◌<◌, true, false, List, [], ◌∷◌, ◌++◌, length, map, Option, Some, None, Result, Ok, Err, refl, sym, ap, ◌∙◌, arith}
+use Rattle.std.proofs.Common.{◌≡◌, ℕ, zero, suc, ◌+◌, ◌<◌, Bool, true, false, List, [], ◌∷◌, ◌++◌, length, map, Option, Some, None, Result, Ok, Err, refl, sym, ap, ◌∙◌, arith}
 use Rattle.std.proofs.lemmas.Bool.{cond-true, cond-false, lt-ltb, le-ltb}
 use Rattle.fx_text.specs.Lines.{line_of, line_seen}
-use Rattle.std.proofs.lemmas.List.{length-map, length_push, map-append}
+use Rattle.std.proofs.lemmas.List.{length_push, map-append}
 use Rattle.fx_rules.specs.Session.{Header}
 use Rattle.fx_rules.specs.declared.outcome.Entry.{Entry}
 use Rattle.fx_rules.specs.Sending.{sent_by}
 use Rattle.pair_host.specs.Standing.{HostState, stands}
-use Rattle.day_run.specs.Serving.{Day, HasServed, ServesOn}
+use Rattle.day_run.specs.Serving.{Day, HasServed, GoesOnBy}
 use Rattle.order_lines.specs.Grammar.{journal_line}
 use Rattle.journal_check.specs.Lines.{LineAt, is_long, lines_from}
 use Rattle.fx_rules.specs.declared.command.Command.{Command}
 use Rattle.fx_rules.specs.declared.command.Sent.{Sent}
 use Rattle.journal_check.specs.Listed.{counted, count_told, count_of, said_by, sent_in, commands_in}
-use Rattle.journal_check.specs.inside.Stops.{IsReadAt, IsStopAt, Missing, TooLong, ReadsLine, Answers, ReadsEntries}
+use Rattle.journal_check.specs.inside.Stops.{IsReadAt, IsStopAt, Missing, TooLong, ReadsLine, Answers, IsKept, ReadsEntries}
+use Rattle.journal_check.specs.declared.kept.Kept.{Kept}
 use Rattle.journal_check.specs.declared.line.ReadLine.{ReadLine}
 use Rattle.journal_check.specs.declared.stop.Stop.{Stop}
 use Rattle.journal_check.specs.declared.stop.Stop.TheVariants.{Wrong, Memory}
@@ -115,31 +116,33 @@ pub count_stopped : (text : List ℕ) (at : ℕ) (stop : Stop) → ReadsLine tex
 count_stopped text at (Wrong offset) stops = count_stops text at offset stops
 count_stopped text at (Memory memory) stops = absurd stops
 
-pub commands_stopped : (h : Header) (text : List ℕ) (at : ℕ) (before : List Sent) (count : ℕ) (stop : Stop) (there : Result (List Sent) ℕ) → 0 < count → ReadsLine text at (Err stop)
-    → there ≡ commands_in h (length text) before count (lines_from text at) → ReadsEntries h (Err stop) there
-commands_stopped h text at before count (Wrong offset) there some stops is = is ∙ commands_stop h text at offset before count some stops
-commands_stopped h text at before count (Memory memory) there some stops is = absurd stops
+pub commands_stopped : (h : Header) (whole : Bool) (kept : Kept) (text : List ℕ) (at : ℕ) (before : List Sent) (count : ℕ) (stop : Stop) (there : Result (List Sent) ℕ) → 0 < count → ReadsLine text at (Err stop)
+    → there ≡ commands_in h (length text) before count (lines_from text at) → ReadsEntries h whole kept (Err stop) there
+commands_stopped h whole kept text at before count (Wrong offset) there some stops is = is ∙ commands_stop h text at offset before count some stops
+commands_stopped h whole kept text at before count (Memory memory) there some stops is = absurd stops
 
 -- Entries that are served as they are read
 
 -- so many were read up to an offset, and so many are left
-pub record HasReadSome (h : Header) (text : List ℕ) (there : Result (List Sent) ℕ) (run : Day HostState) (count left at : ℕ) : Type 0 where
+pub record HasReadSome (h : Header) (text : List ℕ) (there : Result (List Sent) ℕ) (whole : Bool) (kept : Kept) (run : Day HostState) (count left at : ℕ) : Type 0 where
   pub entries : List Entry
   pub has_served : HasServed stands h entries run
   pub size : length entries ≡ count
   pub reads : there ≡ commands_in h (length text) (map sent_by entries) left (lines_from text at)
+  pub is_kept : IsKept whole entries kept
 
 -- one more was read
-pub entry_read : (h : Header) (text : List ℕ) (there : Result (List Sent) ℕ) (was now : Day HostState) (count left left' at : ℕ) (read : ReadLine) (said : ℕ × Command) → HasReadSome h text there was count left at
-    → IsReadAt text at read → Some said ≡ journal_line h (line_seen read.line) → left ≡ left' + 1 → ServesOn stands h was now (said_by said ∷ []) → HasReadSome h text there now (count + 1) left' read.next
-entry_read h text there was now count left left' at read said has is then one on =
-    let went = on has.entries has.has_served in
-    let sent : map sent_by (has.entries ++ went.more) ≡ map sent_by has.entries ++ said_by said ∷ [] =
-    map-append sent_by has.entries went.more ∙ ap (λ (more : List Sent). map sent_by has.entries ++ more) went.sent_is in
+pub entry_read : (h : Header) (text : List ℕ) (there : Result (List Sent) ℕ) (whole : Bool) (kept kept' : Kept) (was now : Day HostState) (count left left' at : ℕ) (read : ReadLine) (said : ℕ × Command) (e : Entry)
+    → HasReadSome h text there whole kept was count left at → IsReadAt text at read → Some said ≡ journal_line h (line_seen read.line) → left ≡ left' + 1
+    → sent_by e ≡ said_by said → GoesOnBy stands h was now e → ((entries : List Entry) → IsKept whole entries kept → IsKept whole (entries ++ e ∷ []) kept')
+    → HasReadSome h text there whole kept' now (count + 1) left' read.next
+entry_read h text there whole kept kept' was now count left left' at read said e has is then one sent_is on keeps =
+    let sent : map sent_by (has.entries ++ e ∷ []) ≡ map sent_by has.entries ++ said_by said ∷ [] =
+    map-append sent_by has.entries (e ∷ []) ∙ ap (λ (s : Sent). map sent_by has.entries ++ s ∷ []) sent_is in
     record {
-      entries = has.entries ++ went.more;
-      has_served = went.has_served;
-      size = sym (length-map (has.entries ++ went.more) sent_by) ∙ ap length sent ∙ length_push (map sent_by has.entries) (said_by said)
-          ∙ ap (λ (n : ℕ). n + 1) (length-map has.entries sent_by ∙ has.size);
-      reads = has.reads ∙ commands_more h text at (map sent_by has.entries) (map sent_by (has.entries ++ went.more)) left left' read said is then one sent;
+      entries = has.entries ++ e ∷ [];
+      has_served = on has.entries has.has_served;
+      size = length_push has.entries e ∙ ap (λ (n : ℕ). n + 1) has.size;
+      reads = has.reads ∙ commands_more h text at (map sent_by has.entries) (map sent_by (has.entries ++ e ∷ [])) left left' read said is then one sent;
+      is_kept = keeps has.entries has.is_kept;
     }

@@ -1,5 +1,5 @@
 -- The verdict on a text, step by step.
-use Rattle.std.proofs.Common.{◌≡◌, ℕ, List, [], length, map, Result, Ok, Err, refl, sym, ap, ◌∙◌, subst}
+use Rattle.std.proofs.Common.{◌≡◌, ℕ, Bool, List, [], length, map, Result, Ok, Err, refl, sym, ap, ◌∙◌, subst}
 use Rattle.fx_rules.specs.History.{IsLegal}
 use Rattle.fx_rules.specs.declared.outcome.Entry.{Entry}
 use Rattle.session_head.specs.Head.{Begun}
@@ -14,6 +14,7 @@ use Rattle.journal_check.specs.declared.check.Verdict.{Verdict}
 use Rattle.journal_check.specs.declared.check.Verdict.TheVariants.{No}
 use Rattle.journal_check.specs.declared.header.Headed.{Headed}
 use Rattle.journal_check.specs.declared.journal.Counted.{Counted}
+use Rattle.journal_check.specs.declared.kept.Kept.{Kept}
 use Rattle.journal_check.specs.declared.stop.Stop.{Stop}
 use Rattle.journal_check.specs.declared.stop.Stop.TheVariants.{Wrong, Memory}
 
@@ -41,20 +42,20 @@ unlisted text offset is = subst (λ (read : Result Listed ℕ). IsVerdictOn text
 judged : (text : List ℕ) (found : Listed) (verdict : Verdict) → listed text ≡ Ok found → IsJudged text found verdict → IsVerdict text verdict
 judged text found verdict is holds = subst (λ (read : Result Listed ℕ). IsVerdictOn text read verdict) (sym is) holds
 
-pub judged_header : (text : List ℕ) (stop : Stop) → Answers (Err stop) (header_in (length text) (Begun 0) (lines_from text 0)) → Judges text (Err stop)
-judged_header text (Wrong offset) is = unlisted text offset (listed_header text (Err offset) is)
-judged_header text (Memory memory) is = tt
+pub judged_header : (text : List ℕ) (whole : Bool) (stop : Stop) → Answers (Err stop) (header_in (length text) (Begun 0) (lines_from text 0)) → Judges text whole (Err stop)
+judged_header text whole (Wrong offset) is = unlisted text offset (listed_header text (Err offset) is)
+judged_header text whole (Memory memory) is = tt
 
-pub judged_count : (text : List ℕ) (header : Headed) (stop : Stop) → header_in (length text) (Begun 0) (lines_from text 0) ≡ Ok header → Answers (Err stop) (count_of (length text) (lines_from text header.next)) → Judges text (Err stop)
-judged_count text header (Wrong offset) read is = unlisted text offset (listed_journal text header (Err offset) read is)
-judged_count text header (Memory memory) read is = tt
+pub judged_count : (text : List ℕ) (whole : Bool) (header : Headed) (stop : Stop) → header_in (length text) (Begun 0) (lines_from text 0) ≡ Ok header → Answers (Err stop) (count_of (length text) (lines_from text header.next)) → Judges text whole (Err stop)
+judged_count text whole header (Wrong offset) read is = unlisted text offset (listed_journal text header (Err offset) read is)
+judged_count text whole header (Memory memory) read is = tt
 
-pub judged_commands : (text : List ℕ) (header : Headed) (count : Counted) (stop : Stop) → header_in (length text) (Begun 0) (lines_from text 0) ≡ Ok header → count_of (length text) (lines_from text header.next) ≡ Ok count
-    → ReadsEntries header.session (Err stop) (commands_in header.session (length text) [] count.entries (lines_from text count.next)) → Judges text (Err stop)
-judged_commands text header count (Wrong offset) read counts is = unlisted text offset (listed_commands text header count (Err offset) read counts is)
-judged_commands text header count (Memory memory) read counts is = tt
+pub judged_commands : (text : List ℕ) (whole : Bool) (kept : Kept) (header : Headed) (count : Counted) (stop : Stop) → header_in (length text) (Begun 0) (lines_from text 0) ≡ Ok header → count_of (length text) (lines_from text header.next) ≡ Ok count
+    → ReadsEntries header.session whole kept (Err stop) (commands_in header.session (length text) [] count.entries (lines_from text count.next)) → Judges text whole (Err stop)
+judged_commands text whole kept header count (Wrong offset) read counts is = unlisted text offset (listed_commands text header count (Err offset) read counts is)
+judged_commands text whole kept header count (Memory memory) read counts is = tt
 
-verdict_behind : (text day : List ℕ) (read : Result ℕ ℕ) → beginning 0 day text ≡ read → day_verdict text day ≡ last_behind text read
+pub verdict_behind : (text day : List ℕ) (read : Result ℕ ℕ) → beginning 0 day text ≡ read → day_verdict text day ≡ last_behind text read
 unfolding day_verdict
 verdict_behind text day read is = ap (last_behind text) is
 
@@ -79,9 +80,9 @@ judged_day text header count entries compared read verdict was is begins verdict
       judged = verdict_is ∙ sym (verdict_behind text is.day read begins);
     })
 
-pub judged_apart : (text : List ℕ) (header : Headed) (count : Counted) (entries : List Entry) (stop : Stop) → WasRead text header count entries → IsComparedWith header.session entries text (Err stop) → Judges text (Err stop)
-judged_apart text header count entries (Wrong offset) was is = judged_day text header count entries (Err (Wrong offset)) (Err offset) (No offset) was is is.compared refl
-judged_apart text header count entries (Memory memory) was is = tt
+pub judged_apart : (text : List ℕ) (whole : Bool) (header : Headed) (count : Counted) (entries : List Entry) (stop : Stop) → WasRead text header count entries → IsComparedWith header.session entries text (Err stop) → Judges text whole (Err stop)
+judged_apart text whole header count entries (Wrong offset) was is = judged_day text header count entries (Err (Wrong offset)) (Err offset) (No offset) was is is.compared refl
+judged_apart text whole header count entries (Memory memory) was is = tt
 
 pub judged_last : (text : List ℕ) (header : Headed) (count : Counted) (entries : List Entry) (end : ℕ) (verdict : Verdict) → WasRead text header count entries → IsComparedWith header.session entries text (Ok end)
     → verdict ≡ last_in (length text) (lines_from text end) → IsVerdict text verdict

@@ -15,9 +15,9 @@ use Rattle.reply_lines.specs.Output.{strays_line, ending_line, last_text}
 use Rattle.reply_lines.specs.declared.output.Ending.{Ending}
 use Rattle.reply_lines.specs.declared.output.Ending.TheVariants.{End, Cut, Read, Much}
 use Rattle.journal_check.specs.Lines.{LineAt, behind, placed, lines_from}
-use Rattle.journal_check.specs.Verdict.{is_strays, is_ending, ending_in, last_in}
+use Rattle.journal_check.specs.Verdict.{yes, is_strays, is_ending, ending_in, last_in}
 use Rattle.journal_check.specs.declared.check.Verdict.{Verdict}
-use Rattle.journal_check.specs.declared.check.Verdict.TheVariants.{Yes, No}
+use Rattle.journal_check.specs.declared.check.Verdict.TheVariants.{No}
 use Rattle.journal_check.proofs.LineLemmas.{parts_of-line, begins_with}
 use Rattle.journal_check.proofs.Walking.{IsPlain, unbroken, IsAt-plain, ended}
 
@@ -93,10 +93,10 @@ last_in-strays : (end : ℕ) (line : LineAt) (more : List LineAt) → is_strays 
 unfolding last_in
 last_in-strays end line more is = cond-true (is_strays line.part) _ _ is
 
-ending_in-end : (end : ℕ) (line : LineAt) (more : List LineAt) → is_ending line.part ≡ true → behind line ≡ end → ending_in end (line ∷ more) ≡ Yes
+ending_in-end : (end : ℕ) (line : LineAt) (more : List LineAt) → is_ending line.part ≡ true → behind line ≡ end → ending_in end (line ∷ more) ≡ yes
 ending_in-end end line more is ends = cond-true (is_ending line.part) _ _ is ∙ cond-true (eqb (behind line) end) _ _ (eq-eqb (behind line) end ends)
 
-pub last_taken : (text : List ℕ) (at strays : ℕ) (ending : Ending) → at ≤ length text → strays < 2 ^ 64 → drop at text ≡ last_text strays ending → last_in (length text) (lines_from text at) ≡ Yes
+pub last_taken : (text : List ℕ) (at strays : ℕ) (ending : Ending) → at ≤ length text → strays < 2 ^ 64 → drop at text ≡ last_text strays ending → last_in (length text) (lines_from text at) ≡ yes
 last_taken text at strays ending within few there =
     let first : List ℕ = strays_part strays in
     let second : List ℕ = ending_part ending in
@@ -150,17 +150,17 @@ record EndsWith (end at : ℕ) (parts : List (List ℕ)) : Type 0 where
   ends : at + length part + 1 ≡ end
 
 abbrev if_end : Bool → ℕ → Verdict
-if_end b next = cond b Yes (No next)
+if_end b next = cond b yes (No next)
 
-is_end : (b : Bool) (next : ℕ) → if_end b next ≡ Yes → b ≡ true
+is_end : (b : Bool) (next : ℕ) → if_end b next ≡ yes → b ≡ true
 is_end true next same = refl
 is_end false next same = absurd cc
 
-ends_with : (end at : ℕ) (parts : List (List ℕ)) → ending_in end (placed at parts) ≡ Yes → EndsWith end at parts
+ends_with : (end at : ℕ) (parts : List (List ℕ)) → ending_in end (placed at parts) ≡ yes → EndsWith end at parts
 ends_with end at [] taken = absurd cc
 ends_with end at (part ∷ more) taken = elim (cases_Bool (is_ending part)) [
-  | inr other ↦ let wrong : No at ≡ Yes = sym (cond-false (is_ending part) _ (No at) other) ∙ taken in absurd cc
-  | inl is ↦ let inner : (if_end (eqb (at + length part + 1) end) (at + length part + 1)) ≡ Yes = sym (cond-true (is_ending part) _ (No at) is) ∙ taken in
+  | inr other ↦ let wrong : No at ≡ yes = sym (cond-false (is_ending part) _ (No at) other) ∙ taken in absurd cc
+  | inl is ↦ let inner : (if_end (eqb (at + length part + 1) end) (at + length part + 1)) ≡ yes = sym (cond-true (is_ending part) _ (No at) is) ∙ taken in
       record { part = part; more = more; are = refl; is = is; ends = eqb-true (at + length part + 1) end (is_end (eqb (at + length part + 1) end) (at + length part + 1) inner) }
 ]
 
@@ -171,14 +171,14 @@ pub record IsLast (text : List ℕ) : Type 0 where
   pub few : strays < 2 ^ 64
   pub is : text ≡ last_text strays ending
 
-last_by : (end at : ℕ) (rest : List ℕ) (parts : List (List ℕ)) → end ≡ at + length rest → all_but_last (parts_of rest) ≡ parts → last_in end (placed at parts) ≡ Yes → IsLast rest
+last_by : (end at : ℕ) (rest : List ℕ) (parts : List (List ℕ)) → end ≡ at + length rest → all_but_last (parts_of rest) ≡ parts → last_in end (placed at parts) ≡ yes → IsLast rest
 unfolding last_in
 last_by end at rest [] size are taken = absurd cc
 last_by end at rest (part ∷ more) size are taken = elim (cases_Bool (is_strays part)) [
-  | inr other ↦ let wrong : No at ≡ Yes = sym (cond-false (is_strays part) _ (No at) other) ∙ taken in absurd cc
+  | inr other ↦ let wrong : No at ≡ yes = sym (cond-false (is_strays part) _ (No at) other) ∙ taken in absurd cc
   | inl is ↦
       let line : LineAt = record { at = at; part = part } in
-      let inner : ending_in end (placed (at + length part + 1) more) ≡ Yes = sym (cond-true (is_strays part) _ (No at) is) ∙ taken in
+      let inner : ending_in end (placed (at + length part + 1) more) ≡ yes = sym (cond-true (is_strays part) _ (No at) is) ∙ taken in
       let ends = ends_with end (at + length part + 1) more inner in
       let first = begins_with rest part more are in
       let second = begins_with first.rest ends.part ends.more (first.parts ∙ ends.are) in
@@ -192,7 +192,7 @@ last_by end at rest (part ∷ more) size are taken = elim (cases_Bool (is_strays
       record { strays = strays.strays; ending = ending.0; few = strays.few; is = joined ∙ sym (last_text-parts strays.strays ending.0) }
 ]
 
-pub last_only : (text : List ℕ) (at : ℕ) → at ≤ length text → last_in (length text) (lines_from text at) ≡ Yes → IsLast (drop at text)
+pub last_only : (text : List ℕ) (at : ℕ) → at ≤ length text → last_in (length text) (lines_from text at) ≡ yes → IsLast (drop at text)
 unfolding lines_from
 last_only text at within taken =
     let size : length text ≡ at + length (drop at text) = omega (arith, length-drop at text) in

@@ -13,6 +13,10 @@ use Rattle.journal_check.specs.Compared.{beginning}
 use Rattle.journal_check.specs.declared.check.Verdict.{Verdict}
 use Rattle.journal_check.specs.declared.check.Verdict.TheVariants.{Yes, No}
 
+-- the verdict on an output
+abbrev pub yes : Verdict
+yes = Yes
+
 -- The last lines
 
 -- the line tells the strays: a number below 2^64, in its one spelling, one space behind the word
@@ -28,7 +32,7 @@ is_ending part =
 abbrev pub ending_in : ℕ → List LineAt → Verdict
 ending_in end [] = No end
 ending_in end (line ∷ more) =
-    if is_ending line.part then (if behind line == end then Yes else No (behind line)) else No line.at
+    if is_ending line.part then (if behind line == end then yes else No (behind line)) else No line.at
 
 -- the line of the strays and that of the ending, and nothing more
 unfoldable pub last_in : ℕ → List LineAt → Verdict

@@ -2,8 +2,9 @@ ghost use Rattle.std.specs.Prelude.{◌≡◌, ◌≤◌, ◌^◌, length, [], I
 ghost use Rattle.fx_text.specs.Lines.{line_seen};
 ghost use Rattle.journal_check.specs.Lines.{lines_from};
 ghost use Rattle.journal_check.specs.Listed.{count_of, count_told, commands_in, most_entries};
-ghost use Rattle.journal_check.specs.inside.Stops.{Answers, ReadsEntries};
+ghost use Rattle.journal_check.specs.inside.Stops.{Answers, IsKept, ReadsEntries};
 
+use crate::kept::Kept;
 use crate::line::read_line;
 use crate::stop::Stop;
 use day_run::{DayRun, open_day};
@@ -60,16 +61,19 @@ fn count_told(line: &LineView<'_>) -> Option<u64>
     number(fields.field(1), 0, MOST_ENTRIES)
 }
 
-/// Reads the entries of a journal and carries out their commands in order: the run of the only legal history that has them.
+/// Reads the entries of a journal and carries out their commands in order: the run of the only legal history that has them. Its
+/// entries are kept, where they are to be.
 pub(crate) fn read_entries(
     alloc: Global,
     session: &Session,
     text: &[u8],
     counted: &Counted,
+    kept: &mut Kept,
 ) -> Result<DayRun<PairHost>, Stop>
     requires within { counted.now.next ≤ length text.now }
     requires few { counted.now.entries ≤ 2 ^ 28 }
-    ensures run { ReadsEntries session.now result
+    requires none { IsKept kept.old.whole [] kept.old }
+    ensures run { ReadsEntries session.now kept.old.whole kept.new result
         (commands_in session.now (length text.now) [] counted.now.entries (lines_from text.now counted.now.next)) }
 {
     let mut run = open_day(alloc, session)?;
@@ -82,7 +86,8 @@ pub(crate) fn read_entries(
         let Some((bank, command)) = journal_in(session, &read.line) else {
             return Err(Stop::Wrong { offset: at as u64 });
         };
-        run.serve(session, Sent { bank, command })?;
+        let served = run.serve_entry(session, Sent { bank, command })?;
+        kept.keep(served)?;
         at = read.next;
     }
     Ok(run)

@@ -1,5 +1,5 @@
 -- What a reading of a text answers.
-use Rattle.std.specs.Prelude.{ℕ, ◌≡◌, ◌≤◌, ◌<◌, ◌+◌, List, [], ◌∷◌, length, map, Option, Some, None, Result, Ok, Err}
+use Rattle.std.specs.Prelude.{ℕ, ◌≡◌, ◌≤◌, ◌<◌, ◌+◌, Bool, true, if◌then◌else◌, List, [], ◌∷◌, length, map, Option, Some, None, Result, Ok, Err}
 use Rattle.fx_text.specs.Lines.{line_of, line_seen}
 use Rattle.fx_rules.specs.Session.{Header}
 use Rattle.fx_rules.specs.declared.command.Sent.{Sent}
@@ -10,8 +10,10 @@ use Rattle.day_run.specs.Serving.{Day, HasServed}
 use Rattle.reply_lines.specs.Output.{IsDayText}
 use Rattle.journal_check.specs.Lines.{lines_from}
 use Rattle.journal_check.specs.Compared.{beginning}
-use Rattle.journal_check.specs.Verdict.{IsVerdict}
-use Rattle.journal_check.specs.declared.check.Verdict.{Verdict}
+use Rattle.journal_check.specs.Verdict.{yes, IsVerdict}
+use Rattle.journal_check.specs.Reading.{IsReadOf}
+use Rattle.journal_check.specs.declared.judging.Judged.{Judged}
+use Rattle.journal_check.specs.declared.kept.Kept.{Kept}
 use Rattle.journal_check.specs.declared.check.Verdict.TheVariants.{No}
 use Rattle.journal_check.specs.declared.line.ReadLine.{ReadLine}
 use Rattle.journal_check.specs.declared.stop.Stop.{Stop}
@@ -47,17 +49,23 @@ ReadsLine text at (Ok read) = IsReadAt text at read
 ReadsLine text at (Err (Wrong offset)) = IsStopAt text at offset
 ReadsLine text at (Err (Memory memory)) = ⊥
 
--- a run served a history of these commands
-pub record IsRunOf (h : Header) (there : Result (List Sent) ℕ) (run : Day HostState) : Type 0 where
+-- what is kept of entries: all of them, or none
+pub record IsKept (whole : Bool) (entries : List Entry) (kept : Kept) : Type 0 where
+  pub same : kept.whole ≡ whole
+  pub items : kept.entries.items ≡ (if whole then entries else [])
+
+-- a run served a history of these commands, whose entries are kept, all or none
+pub record IsRunOf (h : Header) (there : Result (List Sent) ℕ) (whole : Bool) (kept : Kept) (run : Day HostState) : Type 0 where
   pub entries : List Entry
   pub has_served : HasServed stands h entries run
   pub in_order : there ≡ Ok (map sent_by entries)
+  pub is_kept : IsKept whole entries kept
 
 -- the answer of a reading of commands that serves them
-abbrev pub ReadsEntries : Header → Result (Day HostState) Stop → Result (List Sent) ℕ → Type 0
-ReadsEntries h (Ok run) there = IsRunOf h there run
-ReadsEntries h (Err (Wrong offset)) there = there ≡ Err offset
-ReadsEntries h (Err (Memory memory)) there = Unit {0}
+abbrev pub ReadsEntries : Header → Bool → Kept → Result (Day HostState) Stop → Result (List Sent) ℕ → Type 0
+ReadsEntries h whole kept (Ok run) there = IsRunOf h there whole kept run
+ReadsEntries h whole kept (Err (Wrong offset)) there = there ≡ Err offset
+ReadsEntries h whole kept (Err (Memory memory)) there = Unit {0}
 
 -- a text was compared with the output of a history, up to its last lines
 pub record IsComparedWith (h : Header) (entries : List Entry) (text : List ℕ) (result : Result ℕ Stop) : Type 0 where
@@ -70,8 +78,13 @@ abbrev pub end_of : ℕ → Option ℕ → Result ℕ Stop
 end_of at None = Ok at
 end_of at (Some byte) = Err (Wrong at)
 
--- the answer of a check of a text
-abbrev pub Judges : List ℕ → Result Verdict Stop → Type 0
-Judges text (Ok verdict) = IsVerdict text verdict
-Judges text (Err (Wrong offset)) = IsVerdict text (No offset)
-Judges text (Err (Memory memory)) = Unit {0}
+-- A text was judged: where it is an output whose entries were to be kept, its session and its history are there.
+pub record IsJudgedAs (text : List ℕ) (whole : Bool) (judged : Judged) : Type 0 where
+  pub is_verdict : IsVerdict text judged.verdict
+  pub read : whole ≡ true → judged.verdict ≡ yes → IsReadOf text judged.session judged.entries.items
+
+-- the answer of a judgement
+abbrev pub Judges : List ℕ → Bool → Result Judged Stop → Type 0
+Judges text whole (Ok judged) = IsJudgedAs text whole judged
+Judges text whole (Err (Wrong offset)) = IsVerdict text (No offset)
+Judges text whole (Err (Memory memory)) = Unit {0}

@@ -1,4 +1,6 @@
-use Rattle.std.proofs.Common.{◌-◌, map, arith, ◌∙◌}
+use Rattle.std.proofs.Common.{◌-◌, Bool, List, [], ◌∷◌, ◌++◌, map, subst, arith, ◌∙◌}
+use Rattle.fx_rules.specs.declared.outcome.Entry.{Entry}
+use Rattle.journal_check.specs.inside.Stops.{IsKept}
 use Rattle.fx_rules.specs.Sending.{sent_by}
 use Rattle.journal_check.proofs.HeaderLemmas.{read-within}
 use Rattle.journal_check.proofs.JournalLemmas.{commands_stopped, commands_wrong, commands_in-all, entry_read}
@@ -7,7 +9,7 @@ use Rattle.journal_check.proofs.journal.read_entries.Goals as goal
 pub returns-in-Err : goal.returns-in-Err
 returns-in-Err c =
     let read = c.loop-entry.invariant.read in
-    record { run = commands_stopped c.args.session.now c.args.text.now c.loop-entry.at (map sent_by read.entries) (c.args.counted.now.entries - c.loop-entry._entry) c.in-Err.stop _ (omega arith) c.in-Err.ensures read.reads }
+    record { run = commands_stopped c.args.session.now c.args.kept.now.whole c.loop-entry.kept c.args.text.now c.loop-entry.at (map sent_by read.entries) (c.args.counted.now.entries - c.loop-entry._entry) c.in-Err.stop _ (omega arith) c.in-Err.ensures read.reads }
 
 pub returns-in_default : goal.returns-in_default
 returns-in_default c =
@@ -17,8 +19,8 @@ returns-in_default c =
           ∙ commands_wrong c.args.session.now c.args.text.now c.loop-entry.at (map sent_by read.entries) (c.args.counted.now.entries - c.loop-entry._entry) c.in-Ok.read (omega arith) c.in-Ok.ensures c.in_default.ensures.reads;
     }
 
-pub serve-requires : goal.serve-requires
-serve-requires c =
+pub serve_entry-requires : goal.serve_entry-requires
+serve_entry-requires c =
     let read = c.loop-entry.invariant.read in
     record {
       may_serve = record {
@@ -32,7 +34,10 @@ serve-requires c =
 pub loop-entry-preserved : goal.loop-entry-preserved
 loop-entry-preserved c = record {
   within = read-within c.args.text.now c.loop-entry.at c.in-Ok.read c.in-Ok.ensures;
-  read = entry_read c.args.session.now c.args.text.now _ c.loop-entry.run c.serve.new.self c.loop-entry._entry _ _ c.loop-entry.at c.in-Ok.read _ c.loop-entry.invariant.read c.in-Ok.ensures c.in-Some.ensures.reads (omega arith) c.in_ok-serve.ensures.served;
+  read = entry_read c.args.session.now c.args.text.now _ c.args.kept.now.whole c.loop-entry.kept c.keep.new.self c.loop-entry.run c.serve_entry.new.self c.loop-entry._entry _ _ c.loop-entry.at c.in-Ok.read _ c.in_ok-served.served
+      c.loop-entry.invariant.read c.in-Ok.ensures c.in-Some.ensures.reads (omega arith) c.in_ok-served.ensures.sent c.in_ok-served.ensures.served
+      (subst (λ (whole : Bool). (entries : List Entry) → IsKept whole entries c.loop-entry.kept → IsKept whole (entries ++ c.in_ok-served.served ∷ []) c.keep.new.self) c.loop-entry.invariant.same c.in_ok-keep.ensures.kept);
+  same = c.keep.ensures.whole ∙ c.loop-entry.invariant.same;
 }
 
 pub returns : goal.returns
@@ -42,6 +47,7 @@ returns c =
       run = record {
         entries = read.entries;
         has_served = read.has_served;
+        is_kept = read.is_kept;
         in_order = read.reads ∙ commands_in-all c.args.session.now _ (map sent_by read.entries) (c.args.counted.now.entries - c.loop-entry._entry) _ (omega arith);
       };
     }
