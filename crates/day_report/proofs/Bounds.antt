@@ -67,10 +67,12 @@ length_total : (fills : List Fill) → length fills ≡ total (λ (_ : Fill). 1)
 length_total [] = refl
 length_total (f ∷ fills) = let rest : length fills ≡ total (λ (_ : Fill). 1) fills = length_total fills in omega arith
 
+-- a fill has a lot at least
+pub all-fit : (h : Header) (fills : List Fill) → AreTrades h fills → length fills ≤ 4096000000000000000
+all-fit h fills are = omega (arith, count-most fills (Each-weaker (IsTrade h) (λ f. 1 ≤ f.lots) (λ f trade. trade.least) fills are.each), are.lots)
+
 pub count-fits : (h : Header) (pair : ℕ) (fills : List Fill) → AreTrades h fills → length (fills_in pair fills) ≤ 4096000000000000000
-count-fits h pair fills are =
-    let all : length fills ≤ lots_in fills = count-most fills (Each-weaker (IsTrade h) (λ f. 1 ≤ f.lots) (λ f trade. trade.least) fills are.each) in
-    omega (arith, length_total fills, length_total (fills_in pair fills), part-most (λ _. 1) pair fills, are.lots)
+count-fits h pair fills are = omega (arith, length_total fills, length_total (fills_in pair fills), part-most (λ _. 1) pair fills, all-fit h fills are)
 
 pub lots-fit : (h : Header) (pair : ℕ) (fills : List Fill) → AreTrades h fills → lots_in (fills_in pair fills) ≤ 4096000000000000000
 lots-fit h pair fills are = omega (arith, part-most (λ f. f.lots) pair fills, are.lots)

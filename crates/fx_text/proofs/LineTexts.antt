@@ -64,17 +64,21 @@ pub length-fields_text : (fields : List (List ℕ)) → AllByRecursion (λ field
 length-fields_text [] all = omega arith
 length-fields_text (field ∷ fields) all = omega (arith, all.0, length-fields_text fields all.1, length-append (32 ∷ field) (fields_text fields))
 
+-- a line whose fields are pushed behind the first
+pub pushed_line : (first : List ℕ) (fields : List (List ℕ)) (start one two after : List ℕ) → start ≡ [] → one ≡ take 256 (start ++ first) → two ≡ take 256 (one ++ fields_text fields)
+    → after ≡ take 256 (two ++ 10 ∷ []) → length first ≤ 39 → length (fields_text fields) ≤ 200 → after ≡ first ++ fields_text fields ++ 10 ∷ []
+pushed_line first fields start one two after empty begun told ended first_few few =
+    let text : List ℕ = first ++ (fields_text fields ++ 10 ∷ []) in
+    let made : after ≡ take 256 (start ++ text) = pushed_two start one after first (fields_text fields ++ 10 ∷ []) begun (pushed_two one two after (fields_text fields) (10 ∷ []) told ended) in
+    let short : length text ≤ 256 = omega (arith, first_few, few, length-append first (fields_text fields ++ 10 ∷ []), length-append (fields_text fields) (10 ∷ [])) in
+    fits_room text after short (made ∙ ap (λ (t : List ℕ). take 256 (t ++ text)) empty) ∙ sym (append_assoc first (fields_text fields) (10 ∷ []))
+
 -- a line whose fields are pushed in two parts behind the first
 pub pushed_row : (first : List ℕ) (head rest : List (List ℕ)) (start one two three after : List ℕ) → start ≡ [] → one ≡ take 256 (start ++ first) → two ≡ take 256 (one ++ fields_text head)
     → three ≡ take 256 (two ++ fields_text rest) → after ≡ take 256 (three ++ 10 ∷ []) → length first ≤ 39 → length (fields_text head) ≤ 84 → length (fields_text rest) ≤ 84
     → after ≡ first ++ fields_text (head ++ rest) ++ 10 ∷ []
 pushed_row first head rest start one two three after empty begun named told ended first_few head_few rest_few =
-    let tail : List ℕ = fields_text rest ++ 10 ∷ [] in
-    let text : List ℕ = first ++ (fields_text head ++ tail) in
-    let made : after ≡ take 256 (start ++ text) =
-    pushed_two start one after first (fields_text head ++ tail) begun (pushed_two one two after (fields_text head) tail named (pushed_two two three after (fields_text rest) (10 ∷ []) told ended)) in
-    let short : length text ≤ 256 = omega (arith, first_few, head_few, rest_few, length-append first (fields_text head ++ tail), length-append (fields_text head) tail, length-append (fields_text rest) (10 ∷ [])) in
     let joined : fields_text (head ++ rest) ≡ fields_text head ++ fields_text rest = flat_map-append (λ (field : List ℕ). 32 ∷ field) head rest in
-    fits_room text after short (made ∙ ap (λ (t : List ℕ). take 256 (t ++ text)) empty)
-    ∙ ap (λ (t : List ℕ). first ++ t) (sym (append_assoc (fields_text head) (fields_text rest) (10 ∷ [])) ∙ ap (λ (t : List ℕ). t ++ 10 ∷ []) (sym joined))
-    ∙ sym (append_assoc first (fields_text (head ++ rest)) (10 ∷ []))
+    let both : three ≡ take 256 (one ++ fields_text (head ++ rest)) =
+    pushed_two one two three (fields_text head) (fields_text rest) named told ∙ ap (λ (t : List ℕ). take 256 (one ++ t)) (sym joined) in
+    pushed_line first (head ++ rest) start one three after empty begun both ended first_few (omega (arith, head_few, rest_few, ap length joined, length-append (fields_text head) (fields_text rest)))

@@ -15,5 +15,5 @@ pub use field::Fields;
 pub use line::{Bytes, Line, LineView};
 pub use line_text::LineText;
 pub use numeral::number;
-pub use push::{push_number, push_price, push_signed};
+pub use push::{push_number, push_price};
 pub use split::fields;

@@ -2,6 +2,7 @@ ghost use Rattle.std.specs.Prelude.{◌≡◌, [], ◌∷◌, ◌<◌, ◌≤◌
 ghost use Rattle.fx_amounts.specs.Numeral.{numeral};
 ghost use Rattle.fx_amounts.specs.PriceText.{price_text};
 ghost use Rattle.fx_amounts.specs.Quantity.{IsDecimals};
+ghost use Rattle.fx_text.specs.Number.{signed_numeral};
 
 use fx_amounts::Price;
 use itoa::Buffer;
@@ -147,6 +148,15 @@ impl LineText {
     {
         self.push_byte(b' ');
         self.push_wide(value);
+    }
+
+    /// Appends a number behind a space, with a minus before its digits where it is below 0.
+    pub fn push_signed_field(&mut self, value: i128)
+        ensures text { self.new ≡ take 256 (self.old ++ 32 ∷ signed_numeral value) }
+        ensures few { length (signed_numeral value) ≤ 40 }
+    {
+        let mut buffer = Buffer::new();
+        self.push_field(buffer.format(value).as_bytes());
     }
 
     /// Appends a price behind a space, where a tick is the last of `decimals` decimal places.

@@ -1,7 +1,7 @@
 ghost use Rattle.std.specs.Prelude.{◌≡◌, ℕ, ◌<◌, ◌≤◌, ◌^◌, ◌++◌, take, vec_len, OnOk, OnErr};
 ghost use Rattle.fx_amounts.specs.Numeral.{numeral};
 ghost use Rattle.fx_amounts.specs.PriceText.{price_text, price_of};
-ghost use Rattle.fx_text.specs.Number.{number_of, signed_numeral};
+ghost use Rattle.fx_text.specs.Number.{number_of};
 
 use fx_amounts::{Memory, Price};
 use itoa::Buffer;
@@ -14,16 +14,6 @@ pub fn push_number(value: u128, out: &mut Vec<u8>) -> Result<(), Memory>
     ensures ok { OnOk result (out.new.items ≡ out.old.items ++ numeral value) }
     ensures err { OnErr result (out.new.items ≡ out.old.items) }
     ensures read_back { (least most : ℕ) → least ≤ value → value ≤ most → number_of least most (numeral value) ≡ Some value }
-{
-    let mut buffer = Buffer::new();
-    out.extend_from_slice(buffer.format(value).as_bytes())?;
-    Ok(())
-}
-
-/// Appends a number's decimal digits, behind a minus where it is below 0. After `Err` the list is as it was.
-pub fn push_signed(value: i128, out: &mut Vec<u8>) -> Result<(), Memory>
-    ensures ok { OnOk result (out.new.items ≡ out.old.items ++ signed_numeral value) }
-    ensures err { OnErr result (out.new.items ≡ out.old.items) }
 {
     let mut buffer = Buffer::new();
     out.extend_from_slice(buffer.format(value).as_bytes())?;

@@ -7,6 +7,6 @@ mod Reporting
 mod Shown
 pub mod Outputs
 mod Gathering
-mod Telling
+mod FillLines
 mod Journals
 mod Levels

@@ -2,10 +2,10 @@
 use Rattle.std.proofs.Common.{ℕ, ◌≡◌, List, [], ◌++◌, Option, Result, Ok, Err, OnOk, IsErrAnd, refl, ap, sym, subst, ◌∙◌, arith}
 use Rattle.std.specs.List.{flat_map}
 use Rattle.fx_amounts.specs.declared.memory.Memory.{Memory as OutOfMemory}
-use Rattle.fx_edges.specs.Writing.{Wrote}
-use Rattle.fx_edges.specs.Gathered.{Gathered}
+use Rattle.fx_edges.specs.Writing.{IsPrefixOf, Wrote}
+use Rattle.fx_edges.specs.Gathered.{Kept, Gathered}
 use Rattle.fx_edges.proofs.Writing.{IsPrefixOf-append, IsPrefixOf-nil, append_known-nil}
-use Rattle.fx_edges.proofs.Gathering.{Gathered-of_longer, Gathered-wanting}
+use Rattle.fx_edges.proofs.Gathering.{Gathered-cut, Gathered-of_longer, Gathered-wanting, Wrote-from_Gathered, Wrote-from_none}
 use Rattle.fx_edges.specs.declared.sink.SinkFault.{SinkFault}
 use Rattle.fx_edges.specs.declared.sink.SinkFault.TheVariants as sinks
 use Rattle.fx_rules.specs.declared.outcome.Entry.{Entry}
@@ -25,6 +25,18 @@ pub on_ok : {T E P Q : Type 0} (result : Result T E) → (P → Q) → OnOk resu
 on_ok (Ok value) leads known = leads known
 on_ok (Err e) leads known = tt
 
+-- a call that met a fault, handed on by one that had to hand on the last piece
+pub not_ended : {K T U : Type 0} {written : K → Option (List ℕ)} {faults : K → ℕ} {held : List ℕ} {a : K} {rest : List ℕ} {b : K} {text : List ℕ} {e : SinkFault} (result : Result U SinkFault) → IsErrAnd result (λ fault. fault ≡ e) → Gathered {T = T} written faults held a rest b text (Err e) → Wrote {T = U} written faults a b (held ++ text) result
+not_ended (Ok value) same wrote = absurd same
+not_ended {U = U} {written = written} {faults = faults} {held = held} {a = a} {b = b} {text = text} (Err fault) same wrote =
+    subst (λ (e : SinkFault). Wrote {T = U} written faults a b (held ++ text) (Err e)) (sym same) (Wrote-from_Gathered wrote)
+
+-- handed on by one that had written a part of its text, and met the fault at a piece of the rest
+pub cut_at : {K T U : Type 0} {written : K → Option (List ℕ)} {faults : K → ℕ} {held : List ℕ} {a : K} {rest : List ℕ} {b : K} {last : List ℕ} {c : K} {part piece text : List ℕ} {e : SinkFault} (result : Result U SinkFault) → IsErrAnd result (λ fault. fault ≡ e) → Kept written faults held a rest b part → Gathered {T = T} written faults rest b last c piece (Err e) → IsPrefixOf (part ++ piece) text → Gathered {T = U} written faults held a last c text result
+cut_at (Ok value) same kept wrote within = absurd same
+cut_at {T = T} {U = U} {written = written} {faults = faults} {held = held} {a = a} {last = last} {c = c} {text = text} {e = e} (Err fault) same kept wrote within =
+    subst (λ (e : SinkFault). Gathered {T = U} written faults held a last c text (Err e)) (sym same) (Gathered-cut kept wrote within)
+
 -- a call that met a fault, handed on by one that had more to write
 pub cut_short : {K T U : Type 0} {written : K → Option (List ℕ)} {faults : K → ℕ} {held : List ℕ} {a : K} {rest : List ℕ} {b : K} {text : List ℕ} {e : SinkFault} (result : Result U SinkFault) (more : List ℕ) → IsErrAnd result (λ fault. fault ≡ e) → Gathered {T = T} written faults held a rest b text (Err e) → Gathered {T = U} written faults held a rest b (text ++ more) result
 cut_short (Ok value) more same wrote = absurd same
@@ -36,6 +48,19 @@ pub not_begun : {K U : Type 0} (written : K → Option (List ℕ)) (faults : K �
 not_begun written faults held before rest text (Ok value) same = absurd same
 not_begun {U = U} written faults held before rest text {memory} (Err fault) same =
     subst (λ (e : SinkFault). Gathered {T = U} written faults held before rest before text (Err e)) (sym same) (Gathered-wanting written faults held before rest text memory)
+
+-- and before the sink got anything at all
+pub nothing_written : {K U : Type 0} (written : K → Option (List ℕ)) (faults : K → ℕ) (before : K) (text : List ℕ) {memory : OutOfMemory} (result : Result U SinkFault) → IsErrAnd result (λ fault. fault ≡ sinks.Memory memory) → Wrote {T = U} written faults before before text result
+nothing_written written faults before text (Ok value) same = absurd same
+nothing_written {U = U} written faults before text {memory} (Err fault) same =
+    subst (λ (e : SinkFault). Wrote {T = U} written faults before before text (Err e)) (sym same) (Wrote-from_none {T = U} {rest = []} refl (Gathered-wanting written faults [] before [] text memory))
+
+-- a call that met a fault in what stands before some last lines
+pub cut_off : {K T U : Type 0} {written : K → Option (List ℕ)} {faults : K → ℕ} {held : List ℕ} {a : K} {rest : List ℕ} {b : K} {text : List ℕ} {e : SinkFault} (more : List ℕ) (result : Result U SinkFault) → held ≡ [] → IsErrAnd result (λ fault. fault ≡ e) → Gathered {T = T} written faults held a rest b text (Err e) → Wrote {T = U} written faults a b (text ++ more) result
+cut_off more (Ok value) none same wrote = absurd same
+cut_off {T = T} {U = U} {written = written} {faults = faults} {a = a} {b = b} {text = text} more (Err fault) none same wrote =
+    subst (λ (e : SinkFault). Wrote {T = U} written faults a b (text ++ more) (Err e)) (sym same)
+    (Wrote-from_none {T = T} none (Gathered-of_longer {T = T} {U = T} wrote (IsPrefixOf-append text more)))
 
 -- a text that is this one
 pub of_text : {K T : Type 0} {written : K → Option (List ℕ)} {faults : K → ℕ} {held : List ℕ} {a : K} {rest : List ℕ} {b : K} {text same : List ℕ} {result : Result T SinkFault} → text ≡ same → Gathered {T = T} written faults held a rest b text result → Gathered {T = T} written faults held a rest b same result

@@ -1,5 +1,5 @@
 -- Parts of the output's text.
-use Rattle.std.proofs.Common.{ℕ, zero, suc, ◌≡◌, ◌<◌, List, ◌++◌, inl, inr, sym, subst, arith, length, get_or, take, Option, Some, IfSome}
+use Rattle.std.proofs.Common.{ℕ, zero, suc, ◌≡◌, ◌<◌, List, ◌++◌, inl, inr, sym, subst, arith, length, get_or, take}
 use Rattle.std.proofs.lemmas.Bool.{cases_order}
 use Rattle.std.specs.List.{flat_map}
 use Rattle.fx_edges.specs.Writing.{IsPrefixOf}
@@ -51,7 +51,3 @@ book_lines-prefix h books bank pair (suc last) within =
         | inr above ↦ absurd (omega arith)
       ]
     ]
-
--- a number that was found within bounds is the one that was asked for
-pub same_place : (r : Option ℕ) (found place : ℕ) → r ≡ Some found → IfSome r (λ n. n ≡ place) → found ≡ place
-same_place r found place is value = subst (λ (o : Option ℕ). IfSome o (λ n. n ≡ place)) is value

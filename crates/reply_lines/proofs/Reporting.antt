@@ -4,6 +4,8 @@ use Rattle.std.specs.List.{flat_map}
 use Rattle.fx_rules.specs.Lists.{Each}
 use Rattle.fx_rules.specs.Session.{Header, bank_count, pair_count}
 use Rattle.fx_rules.specs.State.{State}
+use Rattle.fx_rules.specs.History.{state}
+use Rattle.fx_rules.specs.declared.outcome.Entry.{Entry}
 use Rattle.fx_rules.specs.Lists.{below}
 use Rattle.fx_rules.proofs.ListLemmas.{Each-append, Each-filter, Each-map, Each-of, Each-weaker}
 use Rattle.day_report.specs.Report.{volume_of, volumes_of, use_of, uses_of, banks_behind, net_of, nets_of, currencies}
@@ -13,6 +15,7 @@ use Rattle.day_report.specs.declared.rows.Net.{Net}
 use Rattle.day_report.specs.declared.rows.Report.{Report}
 use Rattle.reply_lines.specs.Report.{report_of, report_text}
 use Rattle.reply_lines.specs.inside.Report.{AreUsesOf, IsReportOf}
+use Rattle.reply_lines.specs.inside.Day.{IsReportAt}
 
 each_below : (n : ℕ) → Each (λ k. k < n) (below n)
 each_below zero = tt
@@ -42,7 +45,7 @@ nets_name h S =
     (λ bank within. Each-map (λ (net : Net). net.bank < bank_count h) (net_of h S bank) (currencies h) (Each-of (λ code. bank < bank_count h) (currencies h) (λ code there. within)))
     (below (bank_count h)) (each_below (bank_count h)))
 
-pub report-of : (h : Header) (S : State) (report : Report) → report.volumes ≡ volumes_of h S → report.uses ≡ uses_of h S → report.nets ≡ nets_of h S → IsReportOf h report
+report-of : (h : Header) (S : State) (report : Report) → report.volumes ≡ volumes_of h S → report.uses ≡ uses_of h S → report.nets ≡ nets_of h S → IsReportOf h report
 report-of h S report volumes uses nets = record {
   pairs = subst (Each (λ (volume : Volume). volume.pair < pair_count h)) (sym volumes) (volumes_name h S);
   banks = subst (AreUsesOf h) (sym uses) (uses_name h S);
@@ -53,3 +56,6 @@ report-of h S report volumes uses nets = record {
 pub reported : (h : Header) (S : State) (volumes : List Volume) (uses : List Use) (nets : List Net) → volumes ≡ volumes_of h S → uses ≡ uses_of h S → nets ≡ nets_of h S → report_of h volumes uses nets ≡ report_text h S
 reported h S volumes uses nets a b c =
     ap (λ vs. report_of h vs uses nets) a ∙ ap (λ us. report_of h (volumes_of h S) us nets) b ∙ ap (λ ns. report_of h (volumes_of h S) (uses_of h S) ns) c
+
+pub report-at : (h : Header) (entries : List Entry) (report : Report) → report.volumes ≡ volumes_of h (state h entries) → report.uses ≡ uses_of h (state h entries) → report.nets ≡ nets_of h (state h entries) → IsReportAt h entries report
+report-at h entries report volumes uses nets = record { names = report-of h (state h entries) report volumes uses nets; volumes = volumes; uses = uses; nets = nets }

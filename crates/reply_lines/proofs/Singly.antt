@@ -1,5 +1,5 @@
 -- A legal history has one output.
-use Rattle.std.proofs.Common.{ℕ, zero, suc, ◌≡◌, ◌<◌, List, ◌++◌, refl, ap, ap₂, sym, ◌∙◌, arith}
+use Rattle.std.proofs.Common.{ℕ, zero, suc, ◌≡◌, ◌<◌, List, ◌++◌, refl, ap, ap₂, sym, ◌∙◌, arith, append_assoc}
 use Rattle.fx_amounts.specs.declared.side.Side.TheVariants.{Buy, Sell}
 use Rattle.fx_rules.specs.declared.orders.Level.{Level}
 use Rattle.fx_rules.specs.declared.outcome.Entry.{Entry}
@@ -14,9 +14,9 @@ use Rattle.reply_lines.specs.Rows.{row}
 use Rattle.reply_lines.specs.Notices.{book_fields}
 use Rattle.reply_lines.specs.Books.{LocalBook, AreBooks, book_line, book_lines_below, books_below, books_text}
 use Rattle.reply_lines.specs.Report.{report_text}
-use Rattle.reply_lines.specs.Output.{journal_text, desks_text, day_text, last_text, IsDayText, IsOutput}
+use Rattle.reply_lines.specs.Output.{journal_text, desks_text, day_text, last_text, IsDayText, IsOutput, IsRestOfOutput}
 use Rattle.reply_lines.specs.declared.output.Ending.{Ending}
-use Rattle.reply_lines.specs.Laws.{OneOutput}
+use Rattle.reply_lines.specs.Laws.{OneOutput, OutputFromBooks}
 use Rattle.reply_lines.proofs.Outputs.{day-books, is_output}
 
 abbrev AreSame : LocalBook → LocalBook → Type 0
@@ -73,3 +73,24 @@ one_output h entries strays ending legal =
     let one : List ℕ = day_text h entries books.0 ++ last_text strays ending in
     let is : IsOutput h entries strays ending one = is_output h entries strays ending books.0 books.1 in
     (one, is, λ other they. outputs_same h entries strays ending one other legal is they)
+
+-- header, journal and desks, and the rest of an output behind them
+from_books : (h : Header) (entries : List Entry) (strays : ℕ) (ending : Ending) (rest : List ℕ) → IsRestOfOutput h entries strays ending rest
+    → IsOutput h entries strays ending (head_text_of h ++ (journal_text h entries ++ (desks_text h entries ++ rest)))
+unfolding day_text
+from_books h entries strays ending rest is =
+    let closing : List ℕ = books_text h is.books ++ report_text h (state h entries) in
+    let last : List ℕ = last_text strays ending in
+    record {
+      day = day_text h entries is.books;
+      is_day = record { books = is.books; at_the_end = is.at_the_end; exactly = refl };
+      whole = ap (λ (text : List ℕ). head_text_of h ++ (journal_text h entries ++ (desks_text h entries ++ text))) is.exactly
+          ∙ sym (append_assoc (head_text_of h) (journal_text h entries ++ (desks_text h entries ++ closing)) last
+          ∙ ap (λ (text : List ℕ). head_text_of h ++ text)
+          (append_assoc (journal_text h entries) (desks_text h entries ++ closing) last
+          ∙ ap (λ (text : List ℕ). journal_text h entries ++ text) (append_assoc (desks_text h entries) closing last)));
+    }
+
+pub output_from_books : OutputFromBooks
+output_from_books h entries strays ending text rest legal is from =
+    outputs_same h entries strays ending text (head_text_of h ++ (journal_text h entries ++ (desks_text h entries ++ rest))) legal is (from_books h entries strays ending rest from)

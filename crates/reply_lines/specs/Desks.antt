@@ -16,13 +16,9 @@ desk_with count lines = record { count = count; lines = lines }
 abbrev pub nothing_yet : DeskSoFar
 nothing_yet = desk_with 0 []
 
--- a desk with one line more
-abbrev pub with_line : DeskSoFar → List ℕ → DeskSoFar
-with_line desk line = desk_with (desk.count + 1) (desk.lines ++ line)
-
 -- a desk with one notice more, numbered behind those before it
 abbrev pub with_notice : Header → DeskSoFar → Notice → DeskSoFar
-with_notice h desk notice = with_line desk (notice_line h (desk.count + 1) notice)
+with_notice h desk notice = desk_with (desk.count + 1) (desk.lines ++ notice_line h (desk.count + 1) notice)
 
 -- each bank's desk has its notices of a history
 pub record AreDesksOf (h : Header) (entries : List Entry) (desks : List DeskSoFar) : Type 0 where

@@ -1,9 +1,10 @@
 -- What is true of each output.
-use Rattle.std.specs.Prelude.{ℕ, ◌≡◌, List}
+use Rattle.std.specs.Prelude.{ℕ, ◌≡◌, List, ◌++◌}
 use Rattle.fx_rules.specs.Session.{Header}
 use Rattle.fx_rules.specs.History.{IsLegal}
 use Rattle.fx_rules.specs.declared.outcome.Entry.{Entry}
-use Rattle.reply_lines.specs.Output.{IsOutput}
+use Rattle.session_head.specs.HeadText.{head_text_of}
+use Rattle.reply_lines.specs.Output.{IsOutput, IsRestOfOutput, journal_text, desks_text}
 use Rattle.reply_lines.specs.declared.output.Ending.{Ending}
 
 -- A legal history has an output with so many strays and an ending, and no other one.
@@ -11,3 +12,10 @@ abbrev pub OneOutput : Type 0
 OneOutput =
     (h : Header) (entries : List Entry) (strays : ℕ) (ending : Ending) → IsLegal h entries →
     (one : List ℕ) × IsOutput h entries strays ending one × ((other : List ℕ) → IsOutput h entries strays ending other → one ≡ other)
+
+-- The output of a legal history is header, journal and desks, and then what stands from the line `BOOKS` on.
+abbrev pub OutputFromBooks : Type 0
+OutputFromBooks =
+    (h : Header) (entries : List Entry) (strays : ℕ) (ending : Ending) (text rest : List ℕ) →
+    IsLegal h entries → IsOutput h entries strays ending text → IsRestOfOutput h entries strays ending rest →
+    text ≡ head_text_of h ++ (journal_text h entries ++ (desks_text h entries ++ rest))

@@ -65,3 +65,10 @@ pub record IsOutput (h : Header) (entries : List Entry) (strays : ℕ) (ending :
   pub day : List ℕ
   pub is_day : IsDayText h entries day
   pub whole : text ≡ day ++ last_text strays ending
+
+-- A text is what the output of a history has from its line `BOOKS` on: the local books at the end, the report, and the last
+-- lines.
+pub record IsRestOfOutput (h : Header) (entries : List Entry) (strays : ℕ) (ending : Ending) (text : List ℕ) : Type 0 where
+  pub books : ℕ → ℕ → LocalBook
+  pub at_the_end : AreBooks h (state h entries) books
+  pub exactly : text ≡ (books_text h books ++ report_text h (state h entries)) ++ last_text strays ending

@@ -24,10 +24,8 @@ pub(crate) fn write_books<M: Market, K: Sink>(
     ensures wrote { (books : ℕ → ℕ → LocalBook) → AreBooksOf M.stands session.now market.now books →
         Gathered K.written K.faults pieces.old out.old pieces.new out.new (books_text session.now books) result }
 {
-    match pieces.put(b"BOOKS\n", out) {
-        Ok(()) => write_banks(session, market, line, pieces, out),
-        Err(fault) => Err(fault),
-    }
+    pieces.put(b"BOOKS\n", out)?;
+    write_banks(session, market, line, pieces, out)
 }
 
 /// Writes the local books of all banks.
@@ -43,11 +41,7 @@ fn write_banks<M: Market, K: Sink>(
         Gathered K.written K.faults pieces.old out.old pieces.new out.new (books_below session.now books (bank_count session.now)) result }
 {
     for place in 0..session.banks().len() {
-        let bank = BankId::new(place as u8).unwrap();
-        match write_pairs(session, market, bank, line, pieces, out) {
-            Ok(()) => {}
-            Err(fault) => return Err(fault),
-        }
+        write_pairs(session, market, BankId::at(place), line, pieces, out)?;
     }
     Ok(())
 }
@@ -67,11 +61,7 @@ fn write_pairs<M: Market, K: Sink>(
         Gathered K.written K.faults pieces.old out.old pieces.new out.new (book_lines_below session.now books bank (pair_count session.now)) result }
 {
     for place in 0..session.pairs().len() {
-        let pair = PairId::new(place as u8).unwrap();
-        match write_book(session, market, bank, pair, line, pieces, out) {
-            Ok(()) => {}
-            Err(fault) => return Err(fault),
-        }
+        write_book(session, market, bank, PairId::at(place), line, pieces, out)?;
     }
     Ok(())
 }

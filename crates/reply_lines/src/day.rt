@@ -134,7 +134,7 @@ impl DayText {
         let mut line = Vec::new(alloc);
         let mut pieces = Pieces::new(alloc);
         match self.write_text(alloc, session, market, &mut line, &mut pieces, out) {
-            Ok(()) => write_end(strays, ending, &mut line, &mut pieces, out),
+            Ok(()) => write_end(strays, ending, &mut pieces, out),
             Err(fault) => Err(fault),
         }
     }
@@ -183,7 +183,7 @@ impl DayText {
         } = self;
         let found = notices.into_findings(alloc, session)?;
         write_head(session, line, pieces, out)?;
-        write_journal_text(count, &journal, line, pieces, out)?;
+        write_journal_text(count, &journal, pieces, out)?;
         write_closing(session, market, &found, line, pieces, out)
     }
 }
@@ -192,16 +192,13 @@ impl DayText {
 fn write_journal_text<K: Sink>(
     count: usize,
     lines: &[u8],
-    line: &mut Vec<u8>,
     pieces: &mut Pieces,
     out: &mut K,
 ) -> Result<(), SinkFault>
     ensures wrote { Gathered K.written K.faults pieces.old out.old pieces.new out.new (journal_line count ++ lines.now) result }
 {
-    match write_journal_line(count, line, pieces, out) {
-        Ok(()) => pieces.put(lines, out),
-        Err(fault) => Err(fault),
-    }
+    write_journal_line(count, pieces, out)?;
+    pieces.put(lines, out)
 }
 
 /// Writes the output of a legal history from a market in the state after it. It tells the history to a `DayText`, which holds the

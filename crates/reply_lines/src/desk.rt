@@ -4,21 +4,21 @@ ghost use Rattle.fx_edges.specs.Gathered.{Gathered};
 ghost use Rattle.fx_rules.specs.declared.outcome.Entry.{Entry};
 ghost use Rattle.fx_rules.specs.Lists.{Each};
 ghost use Rattle.fx_rules.specs.Session.{bank_count};
-ghost use Rattle.reply_lines.specs.Desks.{nothing_yet, with_line, with_notice, AreDesksOf};
-ghost use Rattle.reply_lines.specs.Fills.{AreTextsOf};
+ghost use Rattle.reply_lines.specs.Desks.{nothing_yet, with_notice, AreDesksOf};
+ghost use Rattle.reply_lines.specs.Fills.{AreTextsOf, notice_to};
 ghost use Rattle.reply_lines.specs.inside.Desks.{HaveGot};
 ghost use Rattle.reply_lines.specs.Notices.{reply_notices, fill_notices, notices_in, desk_line, desk_text};
-ghost use Rattle.reply_lines.specs.Notices.Notice.{Replied, Took, Gave};
+ghost use Rattle.reply_lines.specs.Notices.Notice.{Replied};
 ghost use Rattle.reply_lines.specs.Output.{desks_text};
 ghost use Rattle.reply_lines.specs.Prints.{IsAnswerOf, IsFillOf};
 ghost use Rattle.reply_lines.specs.inside.Prints.{IsEntryOf};
 
-use crate::lines::write_made;
 use crate::notice_writer::NoticeWriter;
-use crate::notices::make_desk;
+use crate::notices::{FillPart, make_desk};
 use fx_amounts::{BankId, Memory};
 use fx_edges::{Pieces, Sink, SinkFault};
 use fx_rules::{Entry, Fill, Session};
+use fx_text::LineText;
 use std::alloc::Global;
 use std::marker::Model;
 
@@ -73,17 +73,6 @@ impl NoticeDesk {
         self.count as u128 + 1
     }
 
-    /// Adds the line of the next notice, made with its number. Without memory for it the desk stays.
-    pub fn add(&mut self, line: &[u8]) -> Result<(), Memory>
-        requires line { 0 < length line.now }
-        ensures ok { OnOk result (self.new ≡ with_line self.old line.now) }
-        ensures memory { OnErr result (self.new ≡ self.old) }
-    {
-        self.lines.extend_from_slice(line)?;
-        self.count += 1;
-        Ok(())
-    }
-
     /// Adds the reply to an entry. Without memory for it the desk stays.
     pub fn reply(
         &mut self,
@@ -102,40 +91,23 @@ impl NoticeDesk {
         Ok(())
     }
 
-    /// Adds the notice of the fill that the writer has begun, as its taker's bank gets it. Without memory for it the desk stays.
-    pub fn taken(
+    /// Adds the notice of the fill that the writer has begun, as the bank with this part in it gets it. Without memory for it
+    /// the desk stays.
+    pub fn fill(
         &mut self,
         session: &Session,
+        part: FillPart,
         fill: &Fill,
         writer: &mut NoticeWriter,
     ) -> Result<(), Memory>
         requires fill { IsFillOf session.now fill.now }
         requires begun { AreTextsOf session.now fill.now writer.old }
-        ensures ok { OnOk result (self.new ≡ with_notice session.now self.old (Took fill.now)) }
+        ensures ok { OnOk result (self.new ≡ with_notice session.now self.old (notice_to part fill.now)) }
         ensures memory { OnErr result (self.new ≡ self.old) }
         ensures begun { writer.new ≡ writer.old }
     {
         let number = self.next_number();
-        writer.taken(session, number, fill, &mut self.lines)?;
-        self.count += 1;
-        Ok(())
-    }
-
-    /// Adds the notice of the fill that the writer has begun, as its maker's bank gets it. Without memory for it the desk stays.
-    pub fn given(
-        &mut self,
-        session: &Session,
-        fill: &Fill,
-        writer: &mut NoticeWriter,
-    ) -> Result<(), Memory>
-        requires fill { IsFillOf session.now fill.now }
-        requires begun { AreTextsOf session.now fill.now writer.old }
-        ensures ok { OnOk result (self.new ≡ with_notice session.now self.old (Gave fill.now)) }
-        ensures memory { OnErr result (self.new ≡ self.old) }
-        ensures begun { writer.new ≡ writer.old }
-    {
-        let number = self.next_number();
-        writer.given(session, number, fill, &mut self.lines)?;
+        writer.fill(session, number, part, fill, &mut self.lines)?;
         self.count += 1;
         Ok(())
     }
@@ -210,8 +182,8 @@ fn add_fill(
     ensures ok { OnOk result (HaveGot session.now (λ bank. fill_notices bank fill.now) desks.old.items desks.new.items) }
 {
     writer.begin_fill(session, fill);
-    desks[fill.taker.index()].taken(session, fill, writer)?;
-    desks[fill.maker.index()].given(session, fill, writer)
+    desks[fill.taker.index()].fill(session, FillPart::Taker, fill, writer)?;
+    desks[fill.maker.index()].fill(session, FillPart::Maker, fill, writer)
 }
 
 /// Writes the desks of all banks.
@@ -219,7 +191,6 @@ fn add_fill(
 pub(crate) fn write_desks<K: Sink>(
     session: &Session,
     desks: &[NoticeDesk],
-    line: &mut Vec<u8>,
     pieces: &mut Pieces,
     out: &mut K,
 ) -> Result<(), SinkFault>
@@ -228,11 +199,7 @@ pub(crate) fn write_desks<K: Sink>(
         Gathered K.written K.faults pieces.old out.old pieces.new out.new (desks_text session.now entries) result }
 {
     for place in 0..session.banks().len() {
-        let bank = BankId::new(place as u8).unwrap();
-        match write_bank(session, bank, desks, line, pieces, out) {
-            Ok(()) => {}
-            Err(fault) => return Err(fault),
-        }
+        write_bank(session, BankId::at(place), desks, pieces, out)?;
     }
     Ok(())
 }
@@ -242,7 +209,6 @@ fn write_bank<K: Sink>(
     session: &Session,
     bank: BankId,
     desks: &[NoticeDesk],
-    line: &mut Vec<u8>,
     pieces: &mut Pieces,
     out: &mut K,
 ) -> Result<(), SinkFault>
@@ -252,7 +218,7 @@ fn write_bank<K: Sink>(
         Gathered K.written K.faults pieces.old out.old pieces.new out.new (desk_text session.now entries bank) result }
 {
     let desk = &desks[bank.index()];
-    write_desk(session, bank, desk.count(), desk.lines(), line, pieces, out)
+    write_desk(session, bank, desk.count(), desk.lines(), pieces, out)
 }
 
 /// Writes a bank's desk: how many notices it has, and their lines.
@@ -261,31 +227,14 @@ fn write_desk<K: Sink>(
     bank: BankId,
     count: usize,
     lines: &[u8],
-    line: &mut Vec<u8>,
     pieces: &mut Pieces,
     out: &mut K,
 ) -> Result<(), SinkFault>
     requires bank { bank < bank_count session.now }
     ensures wrote { Gathered K.written K.faults pieces.old out.old pieces.new out.new (desk_line session.now bank count ++ lines.now) result }
 {
-    match write_desk_line(session, bank, count, line, pieces, out) {
-        Ok(()) => pieces.put(lines, out),
-        Err(fault) => Err(fault),
-    }
-}
-
-/// Writes the line that begins a bank's desk.
-fn write_desk_line<K: Sink>(
-    session: &Session,
-    bank: BankId,
-    count: usize,
-    line: &mut Vec<u8>,
-    pieces: &mut Pieces,
-    out: &mut K,
-) -> Result<(), SinkFault>
-    requires bank { bank < bank_count session.now }
-    ensures wrote { Gathered K.written K.faults pieces.old out.old pieces.new out.new (desk_line session.now bank count) result }
-{
-    let made = make_desk(session, bank, count as u128, line);
-    write_made(made, line, pieces, out)
+    let mut line = LineText::new();
+    make_desk(session, bank, count as u128, &mut line);
+    pieces.put(line.as_slice(), out)?;
+    pieces.put(lines, out)
 }

@@ -3,8 +3,7 @@ ghost use Rattle.fx_edges.specs.Gathered.{Gathered};
 ghost use Rattle.reply_lines.specs.Output.{entry_line, journal_line};
 ghost use Rattle.reply_lines.specs.inside.Prints.{IsEntryOf};
 
-use crate::lines::write_made;
-use crate::notices::make_count;
+use crate::lines::write_count;
 use fx_amounts::Memory;
 use fx_edges::{Pieces, Sink, SinkFault};
 use fx_rules::{Entry, Session};
@@ -15,14 +14,12 @@ use order_lines::make_command;
 #[tactic(auto, unfolding(crate::specs::Output::journal_line))]
 pub(crate) fn write_journal_line<K: Sink>(
     count: usize,
-    line: &mut Vec<u8>,
     pieces: &mut Pieces,
     out: &mut K,
 ) -> Result<(), SinkFault>
     ensures wrote { Gathered K.written K.faults pieces.old out.old pieces.new out.new (journal_line count) result }
 {
-    let made = make_count(b"JOURNAL", count as u128, line);
-    write_made(made, line, pieces, out)
+    write_count(b"JOURNAL", count as u128, pieces, out)
 }
 
 /// Appends an entry's line of the journal. It is made in the line.

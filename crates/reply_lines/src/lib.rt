@@ -16,6 +16,7 @@ mod row;
 
 pub use day::{DayText, write_output_from};
 pub use desk::NoticeDesk;
-pub use laws::one_output;
+pub use laws::{one_output, output_from_books};
 pub use notice_writer::NoticeWriter;
-pub use output::{Ending, OutFault};
+pub use notices::FillPart;
+pub use output::{Ending, OutFault, write_from_books};

@@ -1,12 +1,16 @@
-ghost use Rattle.std.specs.Prelude.{◌≡◌, ℕ, List, [], OnOk, OnErr};
+ghost use Rattle.std.specs.Prelude.{◌≡◌, ◌≤◌, ◌∷◌, ℕ, List, [], length, OnOk};
 ghost use Rattle.std.specs.List.{flat_map};
+ghost use Rattle.fx_amounts.specs.Numeral.{numeral};
 ghost use Rattle.fx_edges.specs.Gathered.{Gathered};
 ghost use Rattle.fx_rules.specs.Lists.{Each};
 ghost use Rattle.fx_rules.specs.Session.{Header};
+ghost use Rattle.reply_lines.specs.Rows.{row};
 
+use crate::notices::make_count;
 use fx_amounts::Memory;
 use fx_edges::{Pieces, Sink, SinkFault};
 use fx_rules::Session;
+use fx_text::LineText;
 
 /// What an output has a line of: an entry of the journal, a row of the report.
 pub(crate) trait Print {
@@ -16,32 +20,43 @@ pub(crate) trait Print {
     // The line, with its line feed.
     ghost text: { Header → Self → List ℕ };
 
-    /// Makes the line anew. At `Memory` it is empty.
-    fn make_line(&self, session: &Session, line: &mut Vec<u8>) -> Result<(), Memory>
+    /// Makes the line anew.
+    fn make_line(&self, session: &Session, line: &mut LineText)
         requires fits { fits session.now self.now }
-        ensures ok { OnOk result (line.new.items ≡ text session.now self.now) }
-        ensures memory { OnErr result (line.new.items ≡ []) };
+        ensures made { line.new ≡ text session.now self.now };
 }
 
 /// Writes a line of each item.
 pub(crate) fn write_lines<T: Print, K: Sink>(
     session: &Session,
     items: &[T],
-    line: &mut Vec<u8>,
     pieces: &mut Pieces,
     out: &mut K,
 ) -> Result<(), SinkFault>
     requires fit { Each (T.fits session.now) items.now }
     ensures wrote { Gathered K.written K.faults pieces.old out.old pieces.new out.new (flat_map (T.text session.now) items.now) result }
 {
+    let mut line = LineText::new();
     for item in items {
-        let made = item.make_line(session, line);
-        match write_made(made, line, pieces, out) {
-            Ok(()) => {}
-            Err(fault) => return Err(fault),
-        }
+        item.make_line(session, &mut line);
+        pieces.put(line.as_slice(), out)?;
     }
     Ok(())
+}
+
+/// Writes the line of a word of at most 20 bytes and a number.
+pub(crate) fn write_count<K: Sink>(
+    word: &[u8],
+    count: u128,
+    pieces: &mut Pieces,
+    out: &mut K,
+) -> Result<(), SinkFault>
+    requires word { length word.now ≤ 20 }
+    ensures wrote { Gathered K.written K.faults pieces.old out.old pieces.new out.new (row word.now (numeral count ∷ [])) result }
+{
+    let mut line = LineText::new();
+    make_count(word, count, &mut line);
+    pieces.put(line.as_slice(), out)
 }
 
 /// Writes a line that was made, where there was memory for it.

@@ -1,12 +1,14 @@
 ghost use Rattle.std.specs.Prelude.{◌≡◌, ◌<◌, ◌++◌, length, OnOk, OnErr};
 ghost use Rattle.fx_rules.specs.Session.{bank_count};
-ghost use Rattle.reply_lines.specs.Fills.{AreShort, AreTextsOf};
+ghost use Rattle.reply_lines.specs.Fills.{AreShort, AreTextsOf, notice_to};
 ghost use Rattle.reply_lines.specs.inside.Fills.{fill_line};
 ghost use Rattle.reply_lines.specs.Notices.{notice_line};
-ghost use Rattle.reply_lines.specs.Notices.Notice.{Replied, Took, Gave};
+ghost use Rattle.reply_lines.specs.Notices.Notice.{Replied};
 ghost use Rattle.reply_lines.specs.Prints.{IsAnswerOf, IsFillOf};
 
-use crate::notices::{FillTexts, Party, booked_pair, make_book_reply, make_fill, make_reply};
+use crate::notices::{
+    FillPart, FillTexts, Party, booked_pair, make_book_reply, make_fill, make_reply,
+};
 use fx_amounts::Memory;
 use fx_rules::{Entry, Fill, Outcome, Session};
 use fx_text::LineText;
@@ -73,7 +75,7 @@ impl NoticeWriter {
         Ok(())
     }
 
-    /// Makes what the two notices of a fill have in common, so that `taken` and `given` can be asked for it.
+    /// Makes what the two notices of a fill have in common, so that `fill` can be asked for each of them.
     pub fn begin_fill(&mut self, session: &Session, fill: &Fill)
         requires fill { IsFillOf session.now fill.now }
         ensures texts { AreTextsOf session.now fill.now self.new }
@@ -81,44 +83,28 @@ impl NoticeWriter {
         self.texts.make(session, fill);
     }
 
-    /// Appends the line of the fill that was begun, as its taker's bank gets it. Without memory for it the list stays.
-    pub fn taken(
+    /// Appends the line of the fill that was begun, as the bank with this part in it gets it. Without memory for it the list
+    /// stays.
+    pub fn fill(
         &mut self,
         session: &Session,
         number: u128,
+        part: FillPart,
         fill: &Fill,
         out: &mut Vec<u8>,
     ) -> Result<(), Memory>
         requires fill { IsFillOf session.now fill.now }
         requires begun { AreTextsOf session.now fill.now self.old }
-        ensures ok { OnOk result (out.new.items ≡ out.old.items ++ notice_line session.now number (Took fill.now)) }
+        ensures ok { OnOk result (out.new.items ≡ out.old.items ++ notice_line session.now number (notice_to part fill.now)) }
         ensures longer { OnOk result (length out.old.items < length out.new.items) }
         ensures memory { OnErr result (out.new.items ≡ out.old.items) }
         ensures begun { self.new ≡ self.old }
     {
-        self.fill(session, number, &Party::taker(fill), out)
-    }
-
-    /// Appends the line of the fill that was begun, as its maker's bank gets it. Without memory for it the list stays.
-    pub fn given(
-        &mut self,
-        session: &Session,
-        number: u128,
-        fill: &Fill,
-        out: &mut Vec<u8>,
-    ) -> Result<(), Memory>
-        requires fill { IsFillOf session.now fill.now }
-        requires begun { AreTextsOf session.now fill.now self.old }
-        ensures ok { OnOk result (out.new.items ≡ out.old.items ++ notice_line session.now number (Gave fill.now)) }
-        ensures longer { OnOk result (length out.old.items < length out.new.items) }
-        ensures memory { OnErr result (out.new.items ≡ out.old.items) }
-        ensures begun { self.new ≡ self.old }
-    {
-        self.fill(session, number, &Party::maker(fill), out)
+        self.party(session, number, &Party::of(part, fill), out)
     }
 
     /// Appends the line of the fill that was begun, as one of its banks sees it.
-    fn fill(
+    fn party(
         &mut self,
         session: &Session,
         number: u128,

@@ -6,12 +6,10 @@ ghost use Rattle.reply_lines.specs.Rows.{row, side_text};
 ghost use Rattle.fx_rules.specs.Session.{bank_count, pair_count, bank_name};
 ghost use Rattle.reply_lines.specs.Notices.{booked_pair, level_fields, book_fields, trade_fields, amount_fields};
 ghost use Rattle.reply_lines.specs.Fills.{AreTextsOf, AreShort};
-ghost use Rattle.reply_lines.specs.inside.Fills.{taker_of, maker_of, fill_line};
+ghost use Rattle.reply_lines.specs.inside.Fills.{party_of, fill_line};
 ghost use Rattle.reply_lines.specs.inside.Replies.{plain_fields};
 
-use crate::row::{
-    begin_row, begin_word_row, end_row, push_field, push_number_field, push_price_field,
-};
+use crate::row::{begin_row, end_row, push_field, push_number_field, push_price_field};
 use fx_amounts::{BankId, Memory, PairId, Side, Units, base_amount, quote_amount};
 use fx_rules::{Command, Fill, Level, Outcome, Session};
 use fx_text::LineText;
@@ -122,7 +120,7 @@ pub(crate) fn booked_pair(command: &Command) -> PairId
 {
     match command {
         Command::Book { pair } => *pair,
-        _ => PairId::new(0).unwrap(),
+        _ => PairId::at(0),
     }
 }
 
@@ -159,6 +157,15 @@ fn push_levels(decimals: u8, levels: &[Level], line: &mut Vec<u8>) -> Result<(),
     Ok(())
 }
 
+/// A bank's part in a fill.
+#[derive(Clone, Copy, Debug, PartialEq, Eq)]
+pub enum FillPart {
+    /// Its order was swept.
+    Taker,
+    /// Its order rested.
+    Maker,
+}
+
 /// A fill as one of its two banks sees it: its own order's number and side, and the other bank.
 #[derive(Clone, Copy)]
 pub(crate) struct Party {
@@ -168,25 +175,21 @@ pub(crate) struct Party {
 }
 
 impl Party {
-    /// The fill as its taker sees it.
-    pub(crate) fn taker(fill: &Fill) -> Party
-        ensures { result ≡ taker_of fill.now }
+    /// The fill as the bank with this part in it sees it.
+    pub(crate) fn of(part: FillPart, fill: &Fill) -> Party
+        ensures { result ≡ party_of part fill.now }
     {
-        Party {
-            number: fill.taker_number,
-            side: fill.taker_side,
-            other: fill.maker,
-        }
-    }
-
-    /// The fill as its maker sees it.
-    pub(crate) fn maker(fill: &Fill) -> Party
-        ensures { result ≡ maker_of fill.now }
-    {
-        Party {
-            number: fill.maker_number,
-            side: fill.taker_side.opposite(),
-            other: fill.taker,
+        match part {
+            FillPart::Taker => Party {
+                number: fill.taker_number,
+                side: fill.taker_side,
+                other: fill.maker,
+            },
+            FillPart::Maker => Party {
+                number: fill.maker_number,
+                side: fill.taker_side.opposite(),
+                other: fill.taker,
+            },
         }
     }
 }
@@ -285,28 +288,24 @@ fn side_word(side: Side) -> &'static [u8]
 }
 
 /// Makes the line that begins a bank's desk.
-pub(crate) fn make_desk(
-    session: &Session,
-    bank: BankId,
-    count: u128,
-    line: &mut Vec<u8>,
-) -> Result<(), Memory>
+pub(crate) fn make_desk(session: &Session, bank: BankId, count: u128, line: &mut LineText)
     requires { bank < bank_count session.now }
-    ensures ok { OnOk result (line.new.items ≡ row (codes "DESK") (bank_name session.now bank ∷ numeral count ∷ [])) }
-    ensures memory { OnErr result (line.new.items ≡ []) }
+    ensures { line.new ≡ row (codes "DESK") (bank_name session.now bank ∷ numeral count ∷ []) }
 {
-    begin_word_row(b"DESK", line)?;
-    push_field(session.name(bank), line)?;
-    push_number_field(count, line)?;
-    end_row(line)
+    line.clear();
+    line.push(b"DESK");
+    line.push_field(session.name(bank));
+    line.push_wide_field(count);
+    line.push_byte(b'\n');
 }
 
 /// Makes the line of a word and a number.
-pub(crate) fn make_count(word: &[u8], count: u128, line: &mut Vec<u8>) -> Result<(), Memory>
-    ensures ok { OnOk result (line.new.items ≡ row word.now (numeral count ∷ [])) }
-    ensures memory { OnErr result (line.new.items ≡ []) }
+pub(crate) fn make_count(word: &[u8], count: u128, line: &mut LineText)
+    requires { length word.now ≤ 20 }
+    ensures { line.new ≡ row word.now (numeral count ∷ []) }
 {
-    begin_word_row(word, line)?;
-    push_number_field(count, line)?;
-    end_row(line)
+    line.clear();
+    line.push(word);
+    line.push_wide_field(count);
+    line.push_byte(b'\n');
 }

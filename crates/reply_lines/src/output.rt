@@ -6,20 +6,21 @@ ghost use Rattle.fx_rules.specs.History.{IsLegal, state};
 ghost use Rattle.session_head.specs.HeadText.{head_text_of};
 ghost use Rattle.reply_lines.specs.Books.{LocalBook, AreBooks};
 ghost use Rattle.reply_lines.specs.inside.Books.{IsMarketOf, AreBooksOf};
-ghost use Rattle.reply_lines.specs.inside.Day.{AreFindingsOf, closing_text};
+ghost use Rattle.reply_lines.specs.inside.Day.{IsReportAt, AreFindingsOf, closing_text};
 ghost use Rattle.reply_lines.specs.Faults.{WroteOutput};
-ghost use Rattle.reply_lines.specs.Output.{day_text, strays_line, ending_line, last_text, IsOutput};
+ghost use Rattle.reply_lines.specs.Output.{desks_text, strays_line, ending_line, last_text, IsRestOfOutput};
 
 use crate::books::write_books;
 use crate::day_notices::Findings;
 use crate::desk::write_desks;
-use crate::lines::write_made;
-use crate::notices::make_count;
+use crate::lines::{write_count, write_made};
 use crate::report::write_report;
+use day_report::{Report, report};
 use fx_amounts::Memory;
 use fx_edges::{Pieces, Sink, SinkFault};
-use fx_rules::{Market, Session};
+use fx_rules::{Entry, Market, Session};
 use session_head::head_text;
+use std::alloc::Global;
 use thiserror::Error;
 
 /// How the reading of a session ended.
@@ -86,27 +87,87 @@ pub(crate) fn write_closing<M: Market, K: Sink>(
     requires found { (entries : List Entry) × AreFindingsOf session.now entries found.now }
     ensures wrote { (entries : List Entry) (books : ℕ → ℕ → LocalBook) →
         AreFindingsOf session.now entries found.now → AreBooksOf M.stands session.now market.now books →
+        Gathered K.written K.faults pieces.old out.old pieces.new out.new (desks_text session.now entries ++ closing_text session.now entries books) result }
+{
+    write_desks(session, &found.desks, pieces, out)?;
+    write_books_and_report(session, market, &found.report, line, pieces, out)
+}
+
+/// Writes local books and report.
+fn write_books_and_report<M: Market, K: Sink>(
+    session: &Session,
+    market: &M,
+    report: &Report,
+    line: &mut Vec<u8>,
+    pieces: &mut Pieces,
+    out: &mut K,
+) -> Result<(), SinkFault>
+    requires market { IsMarketOf M.stands session.now market.now }
+    requires report { (entries : List Entry) × IsReportAt session.now entries report.now }
+    ensures wrote { (entries : List Entry) (books : ℕ → ℕ → LocalBook) →
+        IsReportAt session.now entries report.now → AreBooksOf M.stands session.now market.now books →
         Gathered K.written K.faults pieces.old out.old pieces.new out.new (closing_text session.now entries books) result }
 {
-    write_desks(session, &found.desks, line, pieces, out)?;
     write_books(session, market, line, pieces, out)?;
-    write_report(session, &found.report, line, pieces, out)
+    write_report(session, report, pieces, out)
+}
+
+/// Writes what the output of a legal history has from its line `BOOKS` on: local books, report, and the last lines, which tell
+/// of the strays and of how the reading ended. The market stands for the state after the history. After a fault a prefix of it
+/// was appended; the fault is `Write` only where the sink's count of faults rose. The sink gets it in pieces of 64 KiB at
+/// least, and the last one. The report is found before the first byte is written.
+pub fn write_from_books<M: Market, K: Sink>(
+    alloc: Global,
+    session: &Session,
+    entries: &[Entry],
+    market: &M,
+    strays: u64,
+    ending: Ending,
+    out: &mut K,
+) -> Result<(), OutFault>
+    requires legal { IsLegal session.now entries.now }
+    requires market { M.stands market.now session.now (state session.now entries.now) }
+    ensures wrote { WroteOutput K.written K.faults out.old out.new (IsRestOfOutput session.now entries.now strays ending) result }
+{
+    match write_rest(alloc, session, entries, market, strays, ending, out) {
+        Ok(()) => Ok(()),
+        Err(fault) => Err(OutFault::from(fault)),
+    }
+}
+
+/// Writes the output from its line `BOOKS` on.
+fn write_rest<M: Market, K: Sink>(
+    alloc: Global,
+    session: &Session,
+    entries: &[Entry],
+    market: &M,
+    strays: u64,
+    ending: Ending,
+    out: &mut K,
+) -> Result<(), SinkFault>
+    requires legal { IsLegal session.now entries.now }
+    requires market { M.stands market.now session.now (state session.now entries.now) }
+    ensures wrote { (books : ℕ → ℕ → LocalBook) → AreBooks session.now (state session.now entries.now) books →
+        Wrote K.written K.faults out.old out.new (closing_text session.now entries.now books ++ last_text strays ending) result }
+{
+    let report = report(alloc, session, entries)?;
+    let mut line = Vec::new(alloc);
+    let mut pieces = Pieces::new(alloc);
+    write_books_and_report(session, market, &report, &mut line, &mut pieces, out)?;
+    write_end(strays, ending, &mut pieces, out)
 }
 
 /// Writes the last lines, and hands on the last piece.
 pub(crate) fn write_end<K: Sink>(
     strays: u64,
     ending: Ending,
-    line: &mut Vec<u8>,
     pieces: &mut Pieces,
     out: &mut K,
 ) -> Result<(), SinkFault>
     ensures wrote { Wrote K.written K.faults out.old out.new (pieces.old ++ last_text strays ending) result }
 {
-    match write_last(strays, ending, line, pieces, out) {
-        Ok(()) => pieces.hand_on(out),
-        Err(fault) => Err(fault),
-    }
+    write_last(strays, ending, pieces, out)?;
+    pieces.hand_on(out)
 }
 
 /// Writes the last lines.
@@ -114,13 +175,12 @@ pub(crate) fn write_end<K: Sink>(
 fn write_last<K: Sink>(
     strays: u64,
     ending: Ending,
-    line: &mut Vec<u8>,
     pieces: &mut Pieces,
     out: &mut K,
 ) -> Result<(), SinkFault>
     ensures wrote { Gathered K.written K.faults pieces.old out.old pieces.new out.new (last_text strays ending) result }
 {
-    write_strays(strays, line, pieces, out)?;
+    write_strays(strays, pieces, out)?;
     pieces.put(ending.line(), out)
 }
 
@@ -140,14 +200,8 @@ pub(crate) fn write_head<K: Sink>(
 
 /// Writes the number of strays.
 #[tactic(auto, unfolding(crate::specs::Output::strays_line))]
-fn write_strays<K: Sink>(
-    strays: u64,
-    line: &mut Vec<u8>,
-    pieces: &mut Pieces,
-    out: &mut K,
-) -> Result<(), SinkFault>
+fn write_strays<K: Sink>(strays: u64, pieces: &mut Pieces, out: &mut K) -> Result<(), SinkFault>
     ensures wrote { Gathered K.written K.faults pieces.old out.old pieces.new out.new (strays_line strays) result }
 {
-    let made = make_count(b"STRAYS", u128::from(strays), line);
-    write_made(made, line, pieces, out)
+    write_count(b"STRAYS", u128::from(strays), pieces, out)
 }

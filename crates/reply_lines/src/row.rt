@@ -2,12 +2,11 @@ ghost use Rattle.std.specs.Prelude.{◌≡◌, ◌∷◌, ◌++◌, [], IsErr, O
 ghost use Rattle.fx_amounts.specs.Numeral.{numeral};
 ghost use Rattle.fx_amounts.specs.PriceText.{price_text};
 ghost use Rattle.fx_amounts.specs.Quantity.{IsDecimals};
-ghost use Rattle.fx_text.specs.Number.{signed_numeral};
 
 use fx_amounts::{Memory, Price};
-use fx_text::{push_number, push_price, push_signed};
+use fx_text::{push_number, push_price};
 
-// A line is made in a buffer, field by field. At `Memory` each of these calls leaves it empty, so that no part of a line is
+// A line that shows a local book may be of any length, so it is made in a list, field by field. At `Memory` each of these calls leaves it empty, so that no part of a line is
 // taken for a line.
 
 /// Begins a line anew with its first field, a number.
@@ -53,18 +52,6 @@ pub(crate) fn push_number_field(value: u128, line: &mut Vec<u8>) -> Result<(), M
     }
 }
 
-/// Appends a number with its sign, where it is below 0, behind a space.
-pub(crate) fn push_signed_field(value: i128, line: &mut Vec<u8>) -> Result<(), Memory>
-    ensures ok { OnOk result (line.new.items ≡ line.old.items ++ 32 ∷ signed_numeral value) }
-    ensures memory { OnErr result (line.new.items ≡ []) }
-{
-    push_byte(b' ', line)?;
-    match push_signed(value, line) {
-        Ok(()) => Ok(()),
-        Err(memory) => give_up(line, memory),
-    }
-}
-
 /// Appends a price behind a space.
 pub(crate) fn push_price_field(price: Price, decimals: u8, line: &mut Vec<u8>) -> Result<(), Memory>
     requires { IsDecimals decimals }
@@ -96,7 +83,7 @@ fn push_byte(byte: u8, line: &mut Vec<u8>) -> Result<(), Memory>
     }
 }
 
-/// Empties a line that there was no memory for.
+/// Empties a line that could not grow.
 fn give_up(line: &mut Vec<u8>, memory: Memory) -> Result<(), Memory>
     ensures refused { IsErr result }
     ensures memory { line.new.items ≡ [] }

@@ -1,7 +1,7 @@
 use fx_amounts::{
     BankId, Lots, PairId, Price, PriceFault, Side, Units, base_amount, price_from, quote_amount,
 };
-use fx_text::{number, push_number, push_price, push_signed};
+use fx_text::{LineText, number, push_number, push_price};
 use std::alloc::Global;
 use std::test::Fail;
 use trial_days::{lots, price};
@@ -132,8 +132,10 @@ fn largest(alloc: Global) -> Result<Vec<u8>, Fail> {
     let mut text = Vec::new(alloc);
     push_number(0, &mut text)?;
     push_number(u128::MAX, &mut text)?;
-    push_signed(i128::MIN, &mut text)?;
-    push_signed(7, &mut text)?;
+    let mut signed = LineText::new();
+    signed.push_signed_field(i128::MIN);
+    signed.push_signed_field(7);
+    text.extend_from_slice(signed.as_slice())?;
     Ok(text)
 }
 
@@ -143,7 +145,8 @@ fn what_is_pushed_is_the_one_spelling(rt: HostRuntime) -> Result<(), Fail> {
         let text = spelled(rt.alloc(), *ticks, *decimals)?;
         assert!(rt; text.as_slice() == *want, "price {at}");
     }
-    let want = b"0340282366920938463463374607431768211455-1701411834604692317316873037158841057287";
+    let want =
+        b"0340282366920938463463374607431768211455 -170141183460469231731687303715884105728 7";
     assert!(rt; largest(rt.alloc())?.as_slice() == want.as_slice());
     Ok(())
 }

@@ -5,21 +5,25 @@ use Rattle.fx_rules.specs.Session.{Header}
 use Rattle.fx_rules.specs.State.{State}
 use Rattle.fx_rules.specs.History.{IsLegal, state}
 use Rattle.day_report.specs.Report.{volumes_of, uses_of, nets_of}
+use Rattle.day_report.specs.declared.rows.Report.{Report}
 use Rattle.reply_lines.specs.Books.{LocalBook, books_text}
 use Rattle.reply_lines.specs.Report.{report_text}
-use Rattle.reply_lines.specs.Output.{desks_text}
 use Rattle.reply_lines.specs.Desks.{AreDesksOf}
 use Rattle.reply_lines.specs.Day.{IsTextOf}
 use Rattle.reply_lines.specs.inside.Report.{IsReportOf}
 use Rattle.reply_lines.specs.declared.day.DayText.{DayText}
 use Rattle.reply_lines.specs.declared.day_notices.Findings.{Findings}
 
--- the report is that of the state at the end, and each bank's desk has its notices
+-- the report is that of the state at the end of a history
+pub record IsReportAt (h : Header) (entries : List Entry) (report : Report) : Type 0 where
+  pub names : IsReportOf h report
+  pub volumes : report.volumes ≡ volumes_of h (state h entries)
+  pub uses : report.uses ≡ uses_of h (state h entries)
+  pub nets : report.nets ≡ nets_of h (state h entries)
+
+-- and each bank's desk has its notices
 pub record AreFindingsOf (h : Header) (entries : List Entry) (found : Findings) : Type 0 where
-  pub report : IsReportOf h found.report
-  pub volumes : found.report.volumes ≡ volumes_of h (state h entries)
-  pub uses : found.report.uses ≡ uses_of h (state h entries)
-  pub nets : found.report.nets ≡ nets_of h (state h entries)
+  pub report : IsReportAt h entries found.report
   pub desks : AreDesksOf h entries found.desks.items
 
 -- the entries are a legal history, of which the day tells, and the market stands for the state after it
@@ -28,6 +32,6 @@ pub record IsDayOf {M : Type 0} (stands : M → Header → State → Type 0) (h 
   pub text : IsTextOf h entries day
   pub at_the_end : stands market h (state h entries)
 
--- what stands behind the journal, up to the last lines
+-- what stands behind the desks, up to the last lines
 abbrev pub closing_text : Header → List Entry → (ℕ → ℕ → LocalBook) → List ℕ
-closing_text h entries books = desks_text h entries ++ (books_text h books ++ report_text h (state h entries))
+closing_text h entries books = books_text h books ++ report_text h (state h entries)

@@ -6,15 +6,15 @@ use Rattle.fx_rules.specs.declared.orders.Fill.{Fill}
 use Rattle.fx_rules.specs.Session.{Header, bank_name}
 use Rattle.fx_text.specs.Fields.{fields_text}
 use Rattle.reply_lines.specs.Rows.{side_text}
+use Rattle.reply_lines.specs.declared.notices.FillPart.{FillPart}
+use Rattle.reply_lines.specs.declared.notices.FillPart.TheVariants.{Taker, Maker}
 use Rattle.reply_lines.specs.declared.notices.FillTexts.{FillTexts}
 use Rattle.reply_lines.specs.declared.notices.Party.{Party}
 
--- a fill as its taker sees it, and as its maker does
-abbrev pub taker_of : Fill → Party
-taker_of fill = record { number = fill.taker_number; side = fill.taker_side; other = fill.maker }
-
-abbrev pub maker_of : Fill → Party
-maker_of fill = record { number = fill.maker_number; side = opposite fill.taker_side; other = fill.taker }
+-- a fill as the bank with this part in it sees it
+abbrev pub party_of : FillPart → Fill → Party
+party_of Taker fill = record { number = fill.taker_number; side = fill.taker_side; other = fill.maker }
+party_of Maker fill = record { number = fill.maker_number; side = opposite fill.taker_side; other = fill.taker }
 
 abbrev pub fill_line : Header → ℕ → Party → FillTexts → List ℕ
 fill_line h number party texts =

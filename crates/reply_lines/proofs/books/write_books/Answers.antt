@@ -1,17 +1,16 @@
 -- The books follow their heading.
-use Rattle.std.proofs.Common.{codes}
-use Rattle.fx_edges.proofs.Writing.{IsPrefixOf-append}
-use Rattle.fx_edges.proofs.Gathering.{Gathered-then, Gathered-of_longer}
+use Rattle.fx_edges.proofs.Gathering.{Gathered-then}
 use Rattle.fx_rules.specs.Session.{bank_count}
 use Rattle.reply_lines.specs.Books.{books_below, books_text}
+use Rattle.reply_lines.proofs.Outputs.{cut_short}
 use Rattle.reply_lines.proofs.books.write_books.Goals as goal
 
-pub returns-in-Ok : goal.returns-in-Ok
+pub returns-in_err-put : goal.returns-in_err-put
 unfolding books_text
-returns-in-Ok g c = record { wrote = λ books are. Gathered-then c.write_banks.result c.in-Ok.ensures.gathered (c.write_banks.ensures.wrote books are) }
-
-pub returns-in-Err : goal.returns-in-Err
-unfolding books_text
-returns-in-Err g c = record {
-  wrote = λ books are. Gathered-of_longer c.in-Err.ensures.gathered (IsPrefixOf-append (codes "BOOKS\n") (books_below c.args.session.now books (bank_count c.args.session.now)));
+returns-in_err-put g c = record {
+  wrote = λ books are. cut_short c.from_residual.result (books_below c.args.session.now books (bank_count c.args.session.now)) c.from_residual.ensures.1 c.in_err-put.ensures.gathered;
 }
+
+pub returns : goal.returns
+unfolding books_text
+returns g c = record { wrote = λ books are. Gathered-then c.write_banks.result c.in_ok-put.ensures.gathered (c.write_banks.ensures.wrote books are) }

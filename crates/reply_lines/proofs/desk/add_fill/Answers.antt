@@ -13,13 +13,13 @@ returns c =
     let h = c.args.session.now in
     let f = c.args.fill.now in
     let desks : List DeskSoFar = c.args.desks.now.items in
-    let between : List DeskSoFar = set desks c.index.result c.taken.new.self in
+    let between : List DeskSoFar = set desks c.index.result c.fill.new.self in
     let taker_in : f.taker < length desks = omega (arith, c.requires.fill.taker, c.requires.desks) in
-    let maker_in : f.maker < length between = omega (arith, c.requires.fill.maker, c.requires.desks, length-set desks c.index.result c.taken.new.self) in
+    let maker_in : f.maker < length between = omega (arith, c.requires.fill.maker, c.requires.desks, length-set desks c.index.result c.fill.new.self) in
     record {
-      ok = on_ok c.given.result (λ given.
-          got-then h (λ bank. taken_notices bank f) (λ bank. given_notices bank f) desks between (set between c.index-2.result c.given.new.self)
-          (got-at h f.taker c.index.result (Took f) desks c.index.ensures.value taker_in c.index_mut.ensures.value c.in_ok-taken.ensures.ok)
+      ok = on_ok c.fill-2.result (λ given.
+          got-then h (λ bank. taken_notices bank f) (λ bank. given_notices bank f) desks between (set between c.index-2.result c.fill-2.new.self)
+          (got-at h f.taker c.index.result (Took f) desks c.index.ensures.value taker_in c.index_mut.ensures.value c.in_ok-fill.ensures.ok)
           (got-at h f.maker c.index-2.result (Gave f) between c.index-2.ensures.value maker_in c.index_mut-2.ensures.value given))
-          c.given.ensures.ok;
+          c.fill-2.ensures.ok;
     }

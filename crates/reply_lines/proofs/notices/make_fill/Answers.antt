@@ -3,7 +3,7 @@ use Rattle.fx_amounts.specs.Numeral.{numeral}
 use Rattle.fx_rules.specs.Session.{bank_name}
 use Rattle.fx_text.specs.Fields.{fields_text}
 use Rattle.reply_lines.specs.Rows.{side_text}
-use Rattle.reply_lines.proofs.Telling.{pushed_fill}
+use Rattle.reply_lines.proofs.FillLines.{pushed_fill}
 use Rattle.reply_lines.proofs.notices.make_fill.Goals as goal
 
 pub returns : goal.returns

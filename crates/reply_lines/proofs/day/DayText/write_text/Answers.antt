@@ -1,7 +1,7 @@
 -- The journal is that of the history, and so is what is found of it.
 use Rattle.std.proofs.Common.{◌++◌, ◌∙◌}
 use Rattle.fx_edges.proofs.Gathering.{Gathered-then}
-use Rattle.reply_lines.specs.Output.{day_text, journal_text}
+use Rattle.reply_lines.specs.Output.{day_text, journal_text, desks_text}
 use Rattle.reply_lines.specs.inside.Day.{closing_text}
 use Rattle.reply_lines.proofs.Journals.{journal-told}
 use Rattle.reply_lines.proofs.Outputs.{cut_short, not_begun, of_text}
@@ -32,7 +32,7 @@ unfolding day_text
 returns-in_err-write_head g c =
     let h = c.args.session.now in
     record {
-      wrote = λ entries books is are. cut_short c.from_residual-in_err-write_head.result (journal_text h entries ++ closing_text h entries books) c.from_residual-in_err-write_head.ensures.1 c.in_err-write_head.ensures.wrote;
+      wrote = λ entries books is are. cut_short c.from_residual-in_err-write_head.result (journal_text h entries ++ (desks_text h entries ++ closing_text h entries books)) c.from_residual-in_err-write_head.ensures.1 c.in_err-write_head.ensures.wrote;
     }
 
 pub returns-in_err-write_journal_text : goal.returns-in_err-write_journal_text
@@ -42,7 +42,7 @@ returns-in_err-write_journal_text g c =
     record {
       wrote = λ entries books is are.
           Gathered-then c.from_residual-in_err-write_journal_text.result c.in_ok-write_head.ensures.wrote
-          (cut_short c.from_residual-in_err-write_journal_text.result (closing_text h entries books) c.from_residual-in_err-write_journal_text.ensures.1
+          (cut_short c.from_residual-in_err-write_journal_text.result (desks_text h entries ++ closing_text h entries books) c.from_residual-in_err-write_journal_text.ensures.1
           (of_text (journal-told h entries is.text.count (c.deref.ensures.value ∙ is.text.journal)) c.in_err-write_journal_text.ensures.wrote));
     }
 

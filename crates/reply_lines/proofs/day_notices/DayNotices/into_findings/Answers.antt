@@ -1,6 +1,6 @@
 -- The report is that of the state after the history.
 use Rattle.fx_rules.specs.History.{state}
-use Rattle.reply_lines.proofs.Reporting.{report-of}
+use Rattle.reply_lines.proofs.Reporting.{report-at}
 use Rattle.reply_lines.proofs.day_notices.DayNotices.into_findings.Goals as goal
 
 pub into_report-requires : goal.into_report-requires
@@ -11,10 +11,7 @@ returns c = record {
   found = λ entries are.
       let reports = c.in_ok-into_report.ensures.reports (state c.args.session.now entries) are.sums in
       record {
-        report = report-of c.args.session.now (state c.args.session.now entries) c.in_ok-into_report.field-0 reports.volumes_are reports.uses_are reports.nets_are;
-        volumes = reports.volumes_are;
-        uses = reports.uses_are;
-        nets = reports.nets_are;
+        report = report-at c.args.session.now entries c.in_ok-into_report.field-0 reports.volumes_are reports.uses_are reports.nets_are;
         desks = are.desks;
       };
 }

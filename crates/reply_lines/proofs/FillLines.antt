@@ -1,26 +1,30 @@
 -- The line of a fill is put together from its texts.
-use Rattle.std.proofs.Common.{ℕ, ◌≡◌, ◌≤◌, List, [], ◌∷◌, ◌++◌, length, take, ap, ◌∙◌, arith, append_assoc, length-append, rules}
+use Rattle.std.proofs.Common.{ℕ, ◌≡◌, ◌≤◌, ◌<◌, List, [], ◌∷◌, ◌++◌, length, take, ap, ◌∙◌, arith, append_assoc, length-append, rules}
 use Rattle.fx_amounts.specs.Numeral.{numeral}
 use Rattle.fx_rules.specs.declared.orders.Fill.{Fill}
-use Rattle.fx_rules.specs.Session.{Header}
+use Rattle.fx_rules.specs.Session.{Header, bank_count}
 use Rattle.fx_text.proofs.LineTexts.{pushed_two, fits_room}
 use Rattle.reply_lines.specs.Rows.{row}
 use Rattle.reply_lines.specs.Notices.{fill_fields, notice_line}
-use Rattle.reply_lines.specs.Notices.Notice.{Took, Gave}
-use Rattle.reply_lines.specs.Fills.{AreTextsOf}
-use Rattle.reply_lines.specs.inside.Fills.{taker_of, maker_of, fill_line}
+use Rattle.reply_lines.specs.Fills.{AreTextsOf, notice_to}
+use Rattle.reply_lines.specs.Prints.{IsFillOf}
+use Rattle.reply_lines.specs.inside.Fills.{party_of, fill_line}
+use Rattle.reply_lines.specs.declared.notices.FillPart.{FillPart}
+use Rattle.reply_lines.specs.declared.notices.FillPart.TheVariants.{Taker, Maker}
 use Rattle.reply_lines.specs.declared.notices.FillTexts.{FillTexts}
 use Rattle.reply_lines.specs.declared.notices.Party.{Party}
 
 fill-told : (h : Header) (party : Party) (fill : Fill) {texts : FillTexts} → AreTextsOf h fill texts → (number : ℕ) → fill_line h number party texts ≡ row (numeral number) (fill_fields h party.number party.side party.other fill)
 fill-told h party fill are number = rw are.trade (rw are.amounts (search (rules, append_assoc)))
 
--- as its taker's bank gets it, and as its maker's does
-pub taken-told : (h : Header) (fill : Fill) {texts : FillTexts} → AreTextsOf h fill texts → (number : ℕ) → fill_line h number (taker_of fill) texts ≡ notice_line h number (Took fill)
-taken-told h fill are number = fill-told h (taker_of fill) fill are number
+-- as the bank with this part in it gets it
+pub part-told : (h : Header) (part : FillPart) (fill : Fill) {texts : FillTexts} → AreTextsOf h fill texts → (number : ℕ) → fill_line h number (party_of part fill) texts ≡ notice_line h number (notice_to part fill)
+part-told h Taker fill are number = fill-told h (party_of Taker fill) fill are number
+part-told h Maker fill are number = fill-told h (party_of Maker fill) fill are number
 
-pub given-told : (h : Header) (fill : Fill) {texts : FillTexts} → AreTextsOf h fill texts → (number : ℕ) → fill_line h number (maker_of fill) texts ≡ notice_line h number (Gave fill)
-given-told h fill are number = fill-told h (maker_of fill) fill are number
+pub party-named : {h : Header} {fill : Fill} (part : FillPart) → IsFillOf h fill → (party_of part fill).other < bank_count h
+party-named Taker is = is.maker
+party-named Maker is = is.taker
 
 -- a line of a fill, which is made of five pieces and a line feed
 pub pushed_fill : (first head third name fifth : List ℕ) (start one two three four five after : List ℕ) → start ≡ [] → one ≡ take 256 (start ++ first) → two ≡ take 256 (one ++ head)

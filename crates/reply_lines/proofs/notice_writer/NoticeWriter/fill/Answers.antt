@@ -1,0 +1,22 @@
+-- The line that is made of the fill's texts is the notice's.
+use Rattle.std.proofs.Common.{◌++◌, ◌<◌, ◌∙◌, List, ℕ, ap, sym, subst}
+use Rattle.fx_rules.specs.Session.{bank_count}
+use Rattle.reply_lines.specs.inside.Fills.{fill_line}
+use Rattle.reply_lines.specs.declared.notices.Party.{Party}
+use Rattle.reply_lines.proofs.FillLines.{part-told, party-named}
+use Rattle.reply_lines.proofs.Outputs.{on_ok}
+use Rattle.reply_lines.proofs.notice_writer.NoticeWriter.fill.Goals as goal
+
+pub party-requires : goal.party-requires
+party-requires c = record {
+  other = subst (λ (party : Party). party.other < bank_count c.args.session.now) (sym c.of.ensures) (party-named c.args.part c.requires.fill);
+  short = c.requires.begun.short;
+}
+
+pub returns-clause-ok : goal.returns-clause-ok
+returns-clause-ok c =
+    let h = c.args.session.now in
+    let line : Party → List ℕ = λ party. c.args.out.now.items ++ fill_line h c.args.number party c.args.self.now in
+    on_ok c.party.result
+    (λ told. told ∙ ap line c.of.ensures ∙ ap (λ (text : List ℕ). c.args.out.now.items ++ text) (part-told h c.args.part c.args.fill.now c.requires.begun c.args.number))
+    c.party.ensures.ok
