@@ -1,11 +1,10 @@
 ghost use Rattle.std.specs.Prelude.{◌≡◌, ◌<◌, IfOk};
 ghost use Rattle.fx_amounts.specs.Quantity.{IsWeight};
 ghost use Rattle.local_view.specs.LocalBook.{IsLegalLocalBook, IsLocalBook};
-ghost use Rattle.local_view.specs.inside.LocalBook.{IsShown};
 
 use credit_lines::CreditLines;
 use fx_amounts::{BankId, Memory, Side};
-use fx_rules::{LevelList, Outcome};
+use fx_rules::Outcome;
 use global_book::PairBook;
 use match_sweep::levels_in_reach;
 use std::alloc::Global;
@@ -30,40 +29,7 @@ pub fn depth(
     ensures depth { IfOk result (IsLegalLocalBook book.now lines.now weight viewer) }
     ensures sound { IfOk result (IsLocalBook book.now lines.now weight viewer) }
 {
-    both_sides(alloc, book, lines, weight, viewer)
-}
-
-/// The same, told by one state at a time.
-fn both_sides(
-    alloc: Global,
-    book: &PairBook,
-    lines: &CreditLines,
-    weight: u32,
-    viewer: BankId,
-) -> Result<Outcome, Memory>
-    requires banks { book.now.banks ≡ lines.now.banks }
-    requires bank { viewer < lines.now.banks }
-    requires weight { IsWeight weight }
-    ensures depth { IfOk result (IsLocalBook book.now lines.now weight viewer) }
-{
-    let bids = shown(alloc, book, lines, weight, viewer, Side::Sell)?;
-    let asks = shown(alloc, book, lines, weight, viewer, Side::Buy)?;
+    let bids = levels_in_reach(alloc, book, lines, weight, viewer, Side::Sell)?;
+    let asks = levels_in_reach(alloc, book, lines, weight, viewer, Side::Buy)?;
     Ok(Outcome::Depth { bids, asks })
-}
-
-/// The first ten levels of what an unlimited order of a bank and a side would take now.
-fn shown(
-    alloc: Global,
-    book: &PairBook,
-    lines: &CreditLines,
-    weight: u32,
-    viewer: BankId,
-    side: Side,
-) -> Result<LevelList, Memory>
-    requires banks { book.now.banks ≡ lines.now.banks }
-    requires bank { viewer < lines.now.banks }
-    requires weight { IsWeight weight }
-    ensures shown { IfOk result (IsShown book.now lines.now weight viewer side) }
-{
-    levels_in_reach(alloc, book, lines, weight, viewer, side)
 }
