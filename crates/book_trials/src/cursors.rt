@@ -104,8 +104,8 @@ fn gap() -> Place {
     }
 }
 
-/// The same of searches of a side: from the best order on, among the first thousand that arrived, and from a place at which
-/// none stands.
+/// Whether a book finds what its list has, in three searches of a side: from the best order on, among the first thousand that
+/// arrived, and from a place at which none stands.
 fn are_found_alike<L: Ledger>(
     alloc: Global,
     pair: &Pair,
@@ -136,7 +136,7 @@ fn are_found_alike<L: Ledger>(
     )
 }
 
-/// The same of both sides.
+/// Whether a book finds what its list has on both sides.
 fn both_found_alike<L: Ledger>(
     alloc: Global,
     pair: &Pair,

@@ -84,7 +84,7 @@ fn bought<L: Ledger>(
     plan(alloc, book, lines, WEIGHT, &taker, steps)
 }
 
-/// The same, with a ledger for the steps.
+/// What the buy fills, with a ledger for the steps.
 fn bought_counted<L: Ledger>(
     alloc: Global,
     book: &PairBook,

@@ -41,7 +41,7 @@ impl<N: Naming> Model for CreditBook<N> {
 }
 
 impl<N: Naming> CreditBook<N> {
-    /// The credit book as the session's day opens, over a writer with no entries. `Memory` for want of memory; then the writer is
+    /// The credit book as the session's day opens, over a writer with no entries. `Memory` when out of memory; then the writer is
     /// gone.
     pub fn open(
         alloc: Global,

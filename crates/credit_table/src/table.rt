@@ -43,7 +43,7 @@ impl Model for CreditTable {
 }
 
 impl CreditTable {
-    /// The table with which a session opens: its opening limits, no use, and no commands sent. `Memory` for want of memory.
+    /// The table with which a session opens: its opening limits, no use, and no commands sent. `Memory` when out of memory.
     pub fn open(alloc: Global, session: &Session) -> Result<CreditTable, Memory>
         ensures stands { IfOk result (Stands session.now (opening session.now)) }
     {

@@ -8,7 +8,7 @@ use fx_amounts::Memory;
 use fx_rules::{Entry, Session};
 use std::alloc::Global;
 
-/// The report of a legal history, from one walk along its entries. `Memory` for want of memory; nothing is changed then.
+/// The report of a legal history, from one walk along its entries. `Memory` when out of memory; nothing is changed then.
 pub fn report(alloc: Global, session: &Session, entries: &[Entry]) -> Result<Report, Memory>
     requires legal { IsLegal session.now entries.now }
     ensures volumes { IfOk result (λ report. report.volumes ≡ volumes_of session.now (state session.now entries.now)) }

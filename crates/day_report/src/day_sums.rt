@@ -27,7 +27,7 @@ pub struct DaySums {
 }
 
 impl DaySums {
-    /// The sums of a session's opening state. `Memory` for want of memory.
+    /// The sums of a session's opening state. `Memory` when out of memory.
     pub fn open(alloc: Global, session: &Session) -> Result<DaySums, Memory>
         ensures sums { IfOk result (AreSumsOf session.now (opening session.now)) }
     {
@@ -59,7 +59,7 @@ impl DaySums {
         }
     }
 
-    /// The report of the state after a legal history, of which these are the sums. `Memory` for want of memory.
+    /// The report of the state after a legal history, of which these are the sums. `Memory` when out of memory.
     pub fn into_report(self, alloc: Global, session: &Session) -> Result<Report, Memory>
         requires sums { (entries : List Entry) × IsLegal session.now entries × AreSumsOf session.now (state session.now entries) self }
         ensures reports { IfOk result (λ report. (S : State) → AreSumsOf session.now S self → IsReportOf session.now S report) }

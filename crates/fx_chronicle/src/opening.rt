@@ -40,7 +40,7 @@ impl<E: Keyed + Drop> Model for Blank<E> {
 }
 
 impl<E: Keyed + Drop> Blank<E> {
-    /// A blank for so many keys, at least 1. `Memory` for want of memory.
+    /// A blank for so many keys, at least 1. `Memory` when out of memory.
     pub fn new(alloc: Global, keys: u32) -> Result<Blank<E>, Memory>
         requires least { 1 ≤ keys }
         ensures keys { IfOk result (λ blank. blank.keys ≡ keys) }

@@ -77,7 +77,7 @@ pub record IsWholeOf (bank : ℕ) (seen mine history : List Entry) : Type 0 wher
   pub begins : IsPrefix seen history
   pub own_are_mine : own bank history ≡ mine
 
--- What a bank knows once its command is refused for want of memory, in the words of `Submitted`: the history has nothing of the
+-- What a bank knows once its command is refused when out of memory, in the words of `Submitted`: the history has nothing of the
 -- call, however it goes on.
 pub record Refused (h : Header) (bank : ℕ) (seen mine seen' mine' : List Entry) : Type 0 where
   -- what it has seen and what it submitted stays

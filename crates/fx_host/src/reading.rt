@@ -17,7 +17,7 @@ pub(crate) fn copied_from(
     copied(alloc, &entries[first..])
 }
 
-/// The same entries, in memory of their own.
+/// A copy of some entries, in memory of its own.
 fn copied(alloc: Global, entries: &[Entry]) -> Result<Vec<Entry>, Memory>
     ensures entries { IfOk result (λ copied. copied.items ≡ entries.now) }
 {

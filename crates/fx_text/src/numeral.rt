@@ -37,7 +37,7 @@ fn value_of(text: &[u8]) -> Option<u64>
     }
 }
 
-// The same of a text that is longer, so that it is no number where a zero leads it.
+// The number that a text of more than 19 bytes writes, where it is below 2^64. It is none where a zero leads it.
 fn long_value(text: &[u8]) -> Option<u64>
     requires { 19 < length text.now }
     ensures { result ≡ number_of 0 (2 ^ 64 - 1) text.now }

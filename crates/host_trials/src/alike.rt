@@ -32,7 +32,7 @@ pub(crate) fn told_by_all<R: AllocGlobal + Wait>(
     Ok((entries, resting))
 }
 
-/// The same of the two hosts on one thread.
+/// The history and the number of resting orders of a day at the two hosts on one thread, which have to tell the same.
 fn told_by_markets(
     alloc: Global,
     session: &Session,

@@ -1,4 +1,4 @@
-//! A day at a desk, command by command on one thread. A submit that is refused for want of memory is made again.
+//! A day at a desk, command by command on one thread. A submit that is refused when out of memory is made again.
 ghost use Rattle.std.specs.Prelude.{◌≡◌, ◌≤◌, ◌<◌, ◌-◌, ◌+◌, ◌^◌, OnOk, IfOk, length};
 ghost use Rattle.credit_book.specs.Recorded.{key_count};
 ghost use Rattle.fx_desk.specs.Submitting.{Submitted};
@@ -45,9 +45,9 @@ impl Day {
 /// Why a desk's day came to nothing.
 #[derive(Clone, Copy, Debug, PartialEq, Eq)]
 pub(crate) enum Refused {
-    /// The desk was not opened, for want of memory. It may be tried again.
+    /// The desk was not opened: out of memory. It may be tried again.
     Opening,
-    /// A call was refused for want of memory twice.
+    /// A call was refused twice: out of memory.
     Calling,
     /// A pass was given other entries than those of the history.
     Seeing,
@@ -83,7 +83,7 @@ pub(crate) fn at_pair_locks<R: AllocGlobal + Wait>(
     }
 }
 
-/// The same at a host of this blank.
+/// A day at the host behind one lock, over this blank.
 fn day_at_one_lock<N: Naming + Send, R: AllocGlobal + Wait>(
     rt: &R,
     blank: Blank<Entry>,
@@ -110,7 +110,7 @@ fn day_at_one_lock<N: Naming + Send, R: AllocGlobal + Wait>(
     })
 }
 
-/// The same at a host of this blank.
+/// A day at the host with a lock for each pair, over this blank.
 fn day_at_pair_locks<N: Naming + Send, R: AllocGlobal + Wait>(
     rt: &R,
     blank: Blank<Entry>,
@@ -195,7 +195,7 @@ fn submit_told<D: Desk, R: Wait>(
     }
 }
 
-/// Submits a command, and once more where it was refused for want of memory: a refused one left no trace.
+/// Submits a command, and once more where it was refused when out of memory: a refused one left no trace.
 fn submit_again<D: Desk, R: Wait>(
     rt: &R,
     desk: &D,
@@ -216,7 +216,7 @@ fn submit_again<D: Desk, R: Wait>(
     }
 }
 
-/// The entries that the first pass is given, asked for once more where that was refused for want of memory.
+/// The entries that the first pass is given, asked for once more where that was refused when out of memory.
 fn entries_again<N: Naming, R: Wait>(
     rt: &R,
     host: &Host<N>,

@@ -1,7 +1,7 @@
 //! Trials of the hosts: the plain host, the host over the pair books, and the desks.
 //!
 //! The program plays a day with every kind of command at both desks, and prints what the banks are told at each. A call of a desk
-//! that is refused for want of memory is made again, so that a run of which one allocation is refused prints the same. Status 2:
+//! that is refused when out of memory is made again, so that a run of which one allocation is refused prints the same. Status 2:
 //! standard output failed; 6: the program itself was out of memory.
 //!
 //! Its tests play worked sessions and generated days at each host, and run days on threads.

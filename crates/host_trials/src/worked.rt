@@ -485,7 +485,8 @@ fn sent_by(entry: &Entry, entries: &[Entry], count: usize) -> usize {
         .count()
 }
 
-/// The first row of which another thing came; row 0 where another number of orders rests at the end. The hosts tell alike.
+/// The first row of which another thing came, counted from 1; 0 where only the number of orders that rest at the end is another.
+/// The hosts tell alike.
 fn played_wrong<R: AllocGlobal + Wait>(rt: &R, worked: &Worked) -> Result<Option<usize>, Fail> {
     let alloc = rt.alloc();
     let text = text_of(alloc, worked)?;

@@ -47,7 +47,7 @@ pub fn command_from(session: &Session, line: &Line) -> Spoken
     command_in(session, &line.view())
 }
 
-/// The same of a line where it lies.
+/// What a line of commands says, read where it lies, as `command_from` reads one that is held.
 pub fn command_in(session: &Session, line: &LineView<'_>) -> Spoken
     ensures reads { result ≡ command_line session.now (line_seen line.now) }
 
@@ -89,7 +89,7 @@ fn spoken_by(session: &Session, line: &LineView<'_>) -> Spoken
     }
 }
 
-/// The same of the fields of a line that is not long.
+/// What the fields of a line that is not long say: a bank's command, nothing, or no bank's line.
 #[tactic(auto, unfolding(crate::specs::Grammar::command_line))]
 fn spoken_in(session: &Session, fields: &Fields<'_>) -> Spoken
     ensures { (text : List ℕ) → fields.now ≡ fields_of text → result ≡ command_line session.now (WholeLine text) }
@@ -142,7 +142,7 @@ pub fn journal_from(session: &Session, line: &Line) -> Option<(BankId, Command)>
     journal_in(session, &line.view())
 }
 
-/// The same of a line where it lies.
+/// The entry of a journal that a line spells, read where it lies, as `journal_from` reads one that is held.
 pub fn journal_in(session: &Session, line: &LineView<'_>) -> Option<(BankId, Command)>
     ensures reads { result ≡ journal_line session.now (line_seen line.now) }
 

@@ -97,7 +97,7 @@ const QUIET_CHANGES: [(usize, usize, &[u8], usize); 18] = [
     (80, 1, b"268435456", 90),
 ];
 
-/// The same of the entries of the trading day, which begin at 122, 154 and 185.
+/// Changes of the entries of the trading day, which begin at 122, 154 and 185, each with the place at which it is found.
 const ENTRY_CHANGES: [(usize, usize, &[u8], usize); 8] = [
     (130, 1, b"K", 122),
     (154, 4, b"DELT", 154),

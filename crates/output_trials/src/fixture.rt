@@ -13,7 +13,7 @@ use trial_days::day_of;
 pub(crate) const QUIET: &[u8] =
     b"FXBOOK 1\nBANK ALFA\nBANK BETA\nBANK GAMA\nPAIR EUR/USD 5 1000000 100\nSTART\n";
 
-/// The same with a limit of 1000 between ALFA and BETA.
+/// Three banks with a limit of 1000 between ALFA and BETA and no other, and EUR/USD.
 pub(crate) const TRADING: &[u8] =
     b"FXBOOK 1\nBANK ALFA\nBANK BETA\nBANK GAMA\nPAIR EUR/USD 5 1000000 100\nLINE ALFA BETA 1000\nLINE BETA ALFA 1000\nSTART\n";
 

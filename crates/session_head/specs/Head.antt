@@ -68,7 +68,7 @@ answer_to (Drafting lines draft) = Ok More
 answer_to (Started lines header) = Ok Start
 answer_to (Faulted number reason) = Err (Fault number reason)
 
--- a fact that holds of every answer but want of memory
+-- a fact that holds of every answer but `Memory`
 abbrev pub UnlessMemory : Result HeadStep HeadStop → Type 0 → Type 0
 UnlessMemory (Ok step) fact = fact
 UnlessMemory (Err (Fault number reason)) fact = fact

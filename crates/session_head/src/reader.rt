@@ -76,7 +76,7 @@ impl HeadReader {
         self.line_in(&line.view())
     }
 
-    /// The same of a line where it lies.
+    /// Reads the next line of a header where it lies, as `line` reads one that is held.
     pub fn line_in(&mut self, line: &LineView<'_>) -> Result<HeadStep, HeadStop>
         requires open { ¬ (IsStarted self.old) }
         ensures read { UnlessMemory result (self.new ≡ with_line self.old (line_seen line.now)) }

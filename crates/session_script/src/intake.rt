@@ -59,7 +59,7 @@ impl Intake {
 
     /// Takes a round of the source's bytes, up to the END line, a fault of the header, the source's end or a read that fails;
     /// 65,536 bytes at most, and 2^26 of all rounds. Each read asks for 4,096 bytes, or for what the round leaves where that
-    /// is less. Answers how the text ended, if it did. After `Err` the intake is good for nothing more.
+    /// is less. Answers how the text ended, if it did. After `Err` the intake must not be used any more.
     pub(crate) fn read_round<S: Source>(&mut self, source: &mut S) -> Result<Option<TextEnd>, Stop>
         ensures took { (before : S) (former : List SentCommand) (input : List ℕ) → ReadsOn S.left S.faults before source.old self.old former input → TookRound S.left S.faults before source.new self.new (former ++ sent_at self.old.stage) input result }
         ensures session { (h : SessionHeader) → session_at self.old.stage ≡ Some h → session_at self.new.stage ≡ Some h }
@@ -95,7 +95,7 @@ impl Intake {
     }
 
     /// Takes the next piece. Its first line is read from the cutter, which may hold the front of it, and each other one where
-    /// it lies. After `Err` some of its lines may be taken, and the intake is good for nothing more.
+    /// it lies. After `Err` some of its lines may be taken, and the intake must not be used any more.
     fn feed(&mut self, piece: &[u8]) -> Result<(), Memory>
         requires room { self.old.taken + length piece.now ≤ 2 ^ 26 }
         ensures fed { OnOk result ((text : List ℕ) (former : List SentCommand) → StandsFor self.old text former → StandsFor self.new (text ++ piece.now) former) }

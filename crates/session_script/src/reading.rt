@@ -50,7 +50,7 @@ impl Reading {
     }
 
     /// Reads the next round of a text that has not ended. After `Memory` it has the same session and has not ended, but some
-    /// commands may be missing, so that it is good for nothing more.
+    /// commands may be missing, so that it must not be used any more.
     pub fn read_round<S: Source>(&mut self, source: &mut S) -> Result<(), Memory>
         requires goes_on { self.old.end ≡ None }
         ensures read { OnOk result ((before : S) (h : SessionHeader) (all : List SentCommand) → HasRead S.left S.faults before source.old self.old h all → HasRead S.left S.faults before source.new self.new h (all ++ sent_at self.new.intake.stage)) }

@@ -112,7 +112,7 @@ fn fault(alloc: Global, text: &[u8]) -> Result<Option<(u64, u8)>, Memory> {
     Ok(None)
 }
 
-/// The same of these two parts of a header.
+/// The fault of a header that is given in two parts, by its line and its number.
 fn fault_of(alloc: Global, front: &[u8], last: &[u8]) -> Result<Option<(u64, u8)>, Memory> {
     let mut text = front.to_vec(alloc)?;
     text.extend_from_slice(last)?;

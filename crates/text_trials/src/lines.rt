@@ -25,7 +25,7 @@ const CUT: [(&[u8], &[u8]); 8] = [
     (b"ENDE", b""),
 ];
 
-/// The same of texts with many of one byte in them, and lines with many of one in them.
+/// Texts with many of one byte in them, and the lines into which each is cut.
 const LONG: [(Filled<'static>, Filled<'static>); 11] = [
     ((b"", b'x', 256, b"\n"), (b"", b'x', 256, b"|")),
     ((b"", b'x', 256, b"\r\n"), (b"", b'x', 256, b"|")),
@@ -83,7 +83,7 @@ fn is_cut(alloc: Global, text: &[u8], want: &[u8]) -> Result<bool, Memory> {
     Ok(true)
 }
 
-/// The same of a long text and a long line.
+/// Whether a long text is cut into these long lines, in whatever pieces it comes.
 fn is_cut_long(alloc: Global, text: Filled, want: Filled) -> Result<bool, Memory> {
     let text = filled(alloc, text)?;
     let want = filled(alloc, want)?;

@@ -56,7 +56,7 @@ pub fn is_same(one: &Outcome, other: &Outcome) -> bool {
     }
 }
 
-/// The same of what has no list.
+/// Whether two outcomes that have no list are alike.
 fn is_same_number(one: &Outcome, other: &Outcome) -> bool {
     match (one, other) {
         (Outcome::Killed, Outcome::Killed) | (Outcome::Nothing, Outcome::Nothing) => true,

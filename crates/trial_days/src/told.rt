@@ -30,7 +30,7 @@ pub fn tell(session: &Session, outcome: &Outcome, text: &mut Vec<u8>) -> Result<
     Ok(())
 }
 
-/// The same of what has no list.
+/// Tells an outcome that has no list of levels.
 fn tell_numbers(outcome: &Outcome, text: &mut Vec<u8>) -> Result<(), Memory> {
     match outcome {
         Outcome::Killed => say(b"KILLED", &[], text),
