@@ -5,7 +5,6 @@ ghost use Rattle.day_report.specs.inside.Lists.{HaveNets, nets_at, nets_in};
 
 use crate::amounts::{amounts_of, buyer, seller};
 use crate::currencies::Currencies;
-use crate::places::bank_at;
 use crate::rows::Net;
 use crate::table::Table;
 use fx_amounts::{BankId, Memory};
@@ -57,7 +56,7 @@ impl Flows {
     {
         let mut nets = Vec::new(alloc);
         for place in 0..banks {
-            self.push_nets(banks, bank_at(place), &mut nets)?;
+            self.push_nets(banks, BankId::at(place), &mut nets)?;
         }
         Ok(nets)
     }

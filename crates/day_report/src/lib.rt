@@ -12,7 +12,6 @@ mod currencies;
 mod day;
 mod day_sums;
 mod flows;
-mod places;
 mod rows;
 mod table;
 mod uses;

@@ -1,7 +1,6 @@
 ghost use Rattle.std.specs.Prelude.{ℕ, ◌≡◌, ◌≤◌, ◌<◌, ◌++◌, IfOk, OnOk};
 ghost use Rattle.day_report.specs.inside.Lists.{uses_behind, uses_in};
 
-use crate::places::bank_at;
 use crate::rows::Use;
 use credit_lines::CreditLines;
 use fx_amounts::{BankId, Memory};
@@ -15,7 +14,7 @@ pub(crate) fn uses(alloc: Global, lines: &CreditLines, banks: usize) -> Result<V
 {
     let mut uses = Vec::new(alloc);
     for place in 0..banks {
-        push_uses(lines, banks, bank_at(place), &mut uses)?;
+        push_uses(lines, banks, BankId::at(place), &mut uses)?;
     }
     Ok(uses)
 }
@@ -33,7 +32,7 @@ fn push_uses(
     ensures value { OnOk result (uses.new.items ≡ uses.old.items ++ uses_behind lines.now a) }
 {
     for place in a.index() + 1..banks {
-        let b = bank_at(place);
+        let b = BankId::at(place);
         uses.push(Use {
             a,
             b,

@@ -4,7 +4,6 @@ ghost use Rattle.day_report.specs.inside.Parts.{no_volume};
 ghost use Rattle.day_report.specs.Sums.{AreVolumes};
 
 use crate::amounts::amounts_of;
-use crate::places::pair_at;
 use crate::rows::Volume;
 use fx_amounts::{Memory, PairId};
 use fx_rules::{Fill, Session};
@@ -16,7 +15,7 @@ pub(crate) fn no_volumes(alloc: Global, session: &Session) -> Result<Vec<Volume>
 {
     let mut volumes = Vec::new(alloc);
     for place in 0..session.pairs().len() {
-        volumes.push(no_volume(pair_at(place)))?;
+        volumes.push(no_volume(PairId::at(place)))?;
     }
     Ok(volumes)
 }

@@ -16,5 +16,5 @@ loop-place-init c =
 pub loop-place-preserved : goal.loop-place-preserved
 loop-place-preserved c =
     uses-step c.args.lines.now c.args.a c.loop-place.place _ _ _ _ (omega (arith, c.loop-place.auto.place, c.index-place.ensures.value)) c.loop-place.invariant c.in_ok-push.ensures.items
-    (use-made c.args.lines.now c.args.a c.bank_at-b.result _ _ _ _ _ _ refl refl c.limit.ensures.value c.limit-in-loop-place.ensures.value c.used.ensures.value c.eff.ensures.value
-    ∙ ap (use_in c.args.lines.now c.args.a) c.bank_at-b.ensures)
+    (use-made c.args.lines.now c.args.a c.at-b.result _ _ _ _ _ _ refl refl c.limit.ensures.value c.limit-in-loop-place.ensures.value c.used.ensures.value c.eff.ensures.value
+    ∙ ap (use_in c.args.lines.now c.args.a) c.at-b.ensures.value)

@@ -8,5 +8,5 @@ use Rattle.day_report.proofs.uses.uses.Goals as goal
 pub loop-place-preserved : goal.loop-place-preserved
 loop-place-preserved c =
     let behind = uses_behind c.args.lines.now in
-    c.in_ok-push_uses.ensures.value ∙ ap (λ us. us ++ behind c.bank_at.result) c.loop-place.invariant
-    ∙ ap (λ b. flat_map behind (below c.loop-place.place) ++ behind b) c.bank_at.ensures ∙ sym (flat_map-more behind c.loop-place.place)
+    c.in_ok-push_uses.ensures.value ∙ ap (λ us. us ++ behind c.at.result) c.loop-place.invariant
+    ∙ ap (λ b. flat_map behind (below c.loop-place.place) ++ behind b) c.at.ensures.value ∙ sym (flat_map-more behind c.loop-place.place)

@@ -8,5 +8,5 @@ use Rattle.day_report.proofs.flows.Flows.nets.Goals as goal
 pub loop-place-preserved : goal.loop-place-preserved
 loop-place-preserved c =
     let nets = nets_at c.args.self.now in
-    c.in_ok-push_nets.ensures.value ∙ ap (λ ns. ns ++ nets c.bank_at.result) c.loop-place.invariant
-    ∙ ap (λ b. flat_map nets (below c.loop-place.place) ++ nets b) c.bank_at.ensures ∙ sym (flat_map-more nets c.loop-place.place)
+    c.in_ok-push_nets.ensures.value ∙ ap (λ ns. ns ++ nets c.at.result) c.loop-place.invariant
+    ∙ ap (λ b. flat_map nets (below c.loop-place.place) ++ nets b) c.at.ensures.value ∙ sym (flat_map-more nets c.loop-place.place)
