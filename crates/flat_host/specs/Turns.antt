@@ -1,10 +1,9 @@
 -- The turns of a credit change over the host's orders and tables. Each pair is gone through in a book of its own.
-use Rattle.std.specs.Prelude.{ℕ, zero, suc, ◌≡◌, ◌+◌, List, [], ◌∷◌, ◌++◌, find, MatchOption}
+use Rattle.std.specs.Prelude.{ℕ, zero, suc, ◌≡◌, ◌+◌, List, [], ◌∷◌, ◌++◌, ◌==◌, filter, find, MatchOption}
 use Rattle.fx_rules.specs.declared.orders.ActiveOrder.{ActiveOrder}
 use Rattle.fx_rules.specs.declared.orders.Resting.{Resting}
 use Rattle.fx_rules.specs.declared.orders.Fill.{Fill}
 use Rattle.fx_rules.specs.State.{orders_in}
-use Rattle.fx_rules.specs.inside.Orders.{in_pair}
 use Rattle.fx_rules.specs.Sweep.{is_order}
 use Rattle.fx_rules.specs.Raise.{taker_of_resting}
 use Rattle.flat_host.specs.Parts.{PlannedOver, both_lowered, uses_after}
@@ -24,5 +23,5 @@ TurnedIn weights limits pair book uses (order ∷ orders) fills =
 abbrev pub RaisedIn : List ℕ → List ℕ → List ActiveOrder → ℕ → ℕ → List ℕ → List Fill → Type 0
 RaisedIn weights limits orders zero pair uses fills = fills ≡ []
 RaisedIn weights limits orders (suc pairs) pair uses fills =
-    (own more : List Fill) × TurnedIn weights limits pair (in_pair pair orders) uses (orders_in pair orders) own
+    (own more : List Fill) × TurnedIn weights limits pair (filter (λ active. active.pair == pair) orders) uses (orders_in pair orders) own
     × (fills ≡ own ++ more) × RaisedIn weights limits orders pairs (pair + 1) (uses_after weights limits uses own) more
