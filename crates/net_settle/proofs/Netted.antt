@@ -13,9 +13,9 @@ use Rattle.day_report.proofs.Sums.{length_below}
 use Rattle.day_report.proofs.Balance.{banks-balance}
 use Rattle.day_report.proofs.Listing.{get_or_below}
 use Rattle.net_settle.specs.declared.payment.Payment.{Payment}
-use Rattle.net_settle.specs.Payments.{got_by, paid_by, payments_in, sum_in, owed_of, owes_of, Settles, Walks, IsNetting}
+use Rattle.net_settle.specs.Payments.{got_by, paid_by, payments_in, sum_in, owed_of, owes_of, Settles, IsOfBanks, Walks, IsNetting}
 use Rattle.net_settle.proofs.Amounts.{at, sum, some, at_within, some_apart}
-use Rattle.net_settle.proofs.Walking.{walk-code, walk-some, walk-paid, walk-got, walk-sum, walk-few}
+use Rattle.net_settle.proofs.Walking.{walk-code, walk-banks, walk-some, walk-paid, walk-got, walk-sum, walk-few}
 use Rattle.net_settle.proofs.Twos.{total-map, sum-cross}
 use Rattle.net_settle.proofs.Flows.{Absent, CodesStand, none-below, received-absent, paid-absent}
 use Rattle.net_settle.proofs.InCurrency.{part-of, each-flat}
@@ -91,6 +91,13 @@ netting-few h S ps c is =
           omega (arith, walk-few c (owes_of h S c) (owed_of h S c) (payments_in c ps) walks, count-owes h S c)
       | inr none ↦ omega (arith, ap length none.1)
     ]
+
+pub netting-banks : (h : Header) (S : State) (ps : List Payment) → IsNetting h S ps → Each (IsOfBanks h) ps
+netting-banks h S ps is =
+    subst (Each (IsOfBanks h)) (sym is.in_order)
+    (each-flat (IsOfBanks h) is.part (length (currencies h))
+    (λ k within. walk-banks h (code_at (currencies h) k) (owes_of h S (code_at (currencies h) k)) (owed_of h S (code_at (currencies h) k)) (is.part k)
+    (count-owes h S (code_at (currencies h) k)) (count-owed h S (code_at (currencies h) k)) (is.walks k within)))
 
 pub netting-some : (h : Header) (S : State) (ps : List Payment) → IsNetting h S ps → Each (λ (p : Payment). 1 ≤ p.amount) ps
 netting-some h S ps is =

@@ -1,5 +1,5 @@
 -- What each two banks pay settles each two, and so the day.
-use Rattle.std.proofs.Common.{ℕ, suc, ◌≡◌, ◌+◌, ◌-◌, ◌≤◌, Bool, ◌&&◌, ◌||◌, nat_lt, eqb, cond, pos, ◌-ℤ◌, List, [], ◌∷◌, length, inl, inr, refl, ap, sym, subst, ◌∙◌, arith}
+use Rattle.std.proofs.Common.{ℕ, suc, ◌≡◌, ◌+◌, ◌-◌, ◌≤◌, ◌<◌, Bool, true, ◌&&◌, ◌||◌, nat_lt, eqb, cond, pos, ◌-ℤ◌, List, [], ◌∷◌, length, inl, inr, refl, ap, sym, subst, ◌∙◌, arith}
 use Rattle.std.specs.Prelude.{◌⊎◌}
 use Rattle.std.specs.List.{filter, flat_map}
 use Rattle.std.proofs.lemmas.Bool.{cases_lt, cond_both, cases_Bool, ltb-true}
@@ -12,8 +12,9 @@ use Rattle.fx_rules.proofs.ListLemmas.{Each-append, filter_cons_true, filter_con
 use Rattle.day_report.specs.Report.{currencies, banks_behind, received, paid}
 use Rattle.day_report.specs.Sums.{code_at}
 use Rattle.day_report.proofs.Sums.{when}
+use Rattle.day_report.proofs.Listing.{each-below, each-kept}
 use Rattle.net_settle.specs.declared.payment.Payment.{Payment}
-use Rattle.net_settle.specs.Payments.{due, payments_in, between, sum_in, got_by, paid_by, moves, Settles, SettlesEachTwo, pay, pay_two, twos_of, bilateral_of, LeastEachTwo}
+use Rattle.net_settle.specs.Payments.{due, payments_in, between, sum_in, got_by, paid_by, moves, Settles, SettlesEachTwo, IsOfBanks, pay, pay_two, twos_of, bilateral_of, LeastEachTwo}
 use Rattle.net_settle.proofs.Amounts.{sign, sign_some, sign_most}
 use Rattle.net_settle.proofs.Twos.{sum-cross, le_below, when_or, cells-most, cell-is, two_sums, of_banks, twos-total, moves-twos, got-twos, paid-twos, sum-twos}
 use Rattle.net_settle.proofs.Flows.{Absent, CodesStand, dues-received, dues-paid, due-absent, received-absent, paid-absent}
@@ -36,6 +37,30 @@ each-twos : (h : Header) (S : State) (P : Payment → Type 0) (c : List ℕ) →
 each-twos h S P c has =
     each-in P (λ a. flat_map (λ b. pay_two c a b (due h S a b c) (due h S b a c)) (banks_behind h a)) (below (bank_count h))
     (λ a. each-in P (λ b. pay_two c a b (due h S a b c) (due h S b a c)) (banks_behind h a) (λ b. each-two P c a b (due h S a b c) (due h S b a c) has))
+
+-- They are made between banks of the session.
+
+each-where : (Q : ℕ → Type 0) (P : Payment → Type 0) (f : ℕ → List Payment) (xs : List ℕ) → ((x : ℕ) → Q x → Each P (f x)) → Each Q xs → Each P (flat_map f xs)
+each-where Q P f [] all are = tt
+each-where Q P f (x ∷ xs) all are = Each-append P (f x) (flat_map f xs) (all x are.0) (each-where Q P f xs all are.1)
+
+two-banks : (h : Header) (c : List ℕ) (a b x y : ℕ) → a < bank_count h → b < bank_count h → Each (IsOfBanks h) (pay_two c a b x y)
+two-banks h c a b x y p q =
+    cond_both (nat_lt y x) (pay b a c (x - y) ∷ []) (cond (nat_lt x y) (pay a b c (y - x) ∷ []) []) (Each (IsOfBanks h)) (λ is. ((q, p), tt))
+    (λ other. cond_both (nat_lt x y) (pay a b c (y - x) ∷ []) [] (Each (IsOfBanks h)) (λ is. ((p, q), tt)) (λ none. tt))
+
+twos-banks : (h : Header) (S : State) (c : List ℕ) → Each (IsOfBanks h) (twos_of h S c)
+twos-banks h S c =
+    each-where (λ a. a < bank_count h) (IsOfBanks h) (λ a. flat_map (λ b. pay_two c a b (due h S a b c) (due h S b a c)) (banks_behind h a)) (below (bank_count h))
+    (λ a p. each-where (λ b. (b < bank_count h) × (nat_lt a b ≡ true)) (IsOfBanks h) (λ b. pay_two c a b (due h S a b c) (due h S b a c)) (banks_behind h a)
+    (λ b both. two-banks h c a b (due h S a b c) (due h S b a c) p both.0)
+    (each-kept (λ b. b < bank_count h) (nat_lt a) (below (bank_count h)) (each-below (λ b. b < bank_count h) (bank_count h) (λ i inside. inside))))
+    (each-below (λ a. a < bank_count h) (bank_count h) (λ i inside. inside))
+
+pub bilateral-banks : (h : Header) (S : State) → Each (IsOfBanks h) (bilateral_of h S)
+bilateral-banks h S =
+    subst (Each (IsOfBanks h)) (sym (by-places (twos_of h S) (currencies h)))
+    (each-flat (IsOfBanks h) (λ k. twos_of h S (code_at (currencies h) k)) (length (currencies h)) (λ k within. twos-banks h S (code_at (currencies h) k)))
 
 pub bilateral-some : (h : Header) (S : State) → Each (λ (p : Payment). 1 ≤ p.amount) (bilateral_of h S)
 bilateral-some h S =

@@ -4,8 +4,9 @@ use Rattle.std.specs.Prelude.{◌⊎◌}
 use Rattle.std.proofs.lemmas.Bool.{cases_eq}
 use Rattle.std.proofs.lemmas.List.{get_or-set_other, length-set}
 use Rattle.fx_rules.specs.Lists.{Each, total}
+use Rattle.fx_rules.specs.Session.{Header, bank_count}
 use Rattle.net_settle.specs.declared.payment.Payment.{Payment}
-use Rattle.net_settle.specs.Payments.{IsFirst, Walks, got_by, paid_by}
+use Rattle.net_settle.specs.Payments.{IsFirst, IsOfBanks, Walks, got_by, paid_by}
 use Rattle.net_settle.specs.inside.Dues.{Appends}
 use Rattle.net_settle.proofs.Amounts.{at, sum, sign, some, at_within, some_at, sum_none, none_at, sum-taken, some-taken, at-taken, lesser_left, lesser_right, some_lesser, one_done}
 
@@ -16,6 +17,13 @@ left_by xs bank p = set xs bank (at xs bank - p.amount)
 pub walk-code : (c : List ℕ) (X Y : List ℕ) (ps : List Payment) → Walks c X Y ps → Each (λ (p : Payment). p.currency ≡ c) ps
 walk-code c X Y [] is = tt
 walk-code c X Y (p ∷ ps) is = (is.2, walk-code c (left_by X p.payer p) (left_by Y p.payee p) ps is.4)
+
+pub walk-banks : (h : Header) (c : List ℕ) (X Y : List ℕ) (ps : List Payment) → length X ≡ bank_count h → length Y ≡ bank_count h → Walks c X Y ps → Each (IsOfBanks h) ps
+walk-banks h c X Y [] owing owned is = tt
+walk-banks h c X Y (p ∷ ps) owing owned is = (
+  (subst (λ n. p.payer < n) owing (at_within X p.payer is.0.some), subst (λ n. p.payee < n) owned (at_within Y p.payee is.1.some)),
+  walk-banks h c (left_by X p.payer p) (left_by Y p.payee p) ps (length-set X p.payer (at X p.payer - p.amount) ∙ owing) (length-set Y p.payee (at Y p.payee - p.amount) ∙ owned) is.4,
+)
 
 pub walk-some : (c : List ℕ) (X Y : List ℕ) (ps : List Payment) → Walks c X Y ps → Each (λ (p : Payment). 1 ≤ p.amount) ps
 walk-some c X Y [] is = tt

@@ -38,6 +38,10 @@ abbrev pub between : ℕ → ℕ → List ℕ → List Payment → List Payment
 between a b currency payments =
     filter (λ payment. (payment.payer == a && payment.payee == b) || (payment.payer == b && payment.payee == a)) (payments_in currency payments)
 
+-- a payment is made by a bank of the session to one of them
+abbrev pub IsOfBanks : Header → Payment → Type 0
+IsOfBanks h payment = (payment.payer < bank_count h) × (payment.payee < bank_count h)
+
 -- what they move of it together
 abbrev pub sum_in : List ℕ → List Payment → ℕ
 sum_in currency payments = total (λ payment. payment.amount) (payments_in currency payments)

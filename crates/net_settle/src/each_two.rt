@@ -2,7 +2,7 @@ ghost use Rattle.std.specs.Prelude.{ℕ, List, ◌≡◌, ◌≤◌, ◌<◌, �
 ghost use Rattle.fx_rules.specs.Lists.{Each};
 ghost use Rattle.fx_rules.specs.History.{IsLegal, state};
 ghost use Rattle.net_settle.specs.declared.payment.Payment.{Payment};
-ghost use Rattle.net_settle.specs.Payments.{bilateral_of, Settles, SettlesEachTwo, between, sum_in};
+ghost use Rattle.net_settle.specs.Payments.{bilateral_of, Settles, SettlesEachTwo, IsOfBanks, between, sum_in};
 ghost use Rattle.net_settle.specs.inside.Dues.{HasPlaces, two_in, behind_in, column_in};
 
 use crate::dues::Dues;
@@ -25,6 +25,7 @@ pub fn bilateral(
     ensures each_two { IfOk result (λ payments. SettlesEachTwo session.now (state session.now entries.now) payments.items) }
     ensures day { IfOk result (λ payments. Settles session.now (state session.now entries.now) payments.items) }
     ensures one { IfOk result (λ payments. (a b : ℕ) (currency : List ℕ) → length (between a b currency payments.items) ≤ 1) }
+    ensures banks { IfOk result (λ payments. Each (IsOfBanks session.now) payments.items) }
     ensures some { IfOk result (λ payments. Each (λ payment. 1 ≤ payment.amount) payments.items) }
     ensures least { IfOk result (λ payments. (others : List Payment) (currency : List ℕ) → SettlesEachTwo session.now (state session.now entries.now) others → sum_in currency payments.items ≤ sum_in currency others) }
 {

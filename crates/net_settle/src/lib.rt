@@ -8,11 +8,13 @@
 mod balances;
 mod dues;
 mod each_two;
+mod form;
 mod laws;
 mod netting;
 mod payment;
 
 pub use each_two::bilateral;
+pub use form::Form;
 pub use laws::{flows_are_nets, least_day, least_each_two};
 pub use netting::net;
 pub use payment::Payment;

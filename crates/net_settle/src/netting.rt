@@ -3,7 +3,7 @@ ghost use Rattle.fx_rules.specs.Lists.{Each, total};
 ghost use Rattle.fx_rules.specs.Session.{bank_count};
 ghost use Rattle.fx_rules.specs.History.{IsLegal, state};
 ghost use Rattle.net_settle.specs.declared.payment.Payment.{Payment};
-ghost use Rattle.net_settle.specs.Payments.{Settles, IsNetting, Walks, payments_in, sum_in, owed_of};
+ghost use Rattle.net_settle.specs.Payments.{Settles, IsNetting, IsOfBanks, Walks, payments_in, sum_in, owed_of};
 ghost use Rattle.net_settle.specs.inside.Dues.{HasPlaces, SumsFit, code_in, owes_in, owed_in, Appends};
 
 use crate::balances::Balances;
@@ -23,6 +23,7 @@ pub fn net(alloc: Global, session: &Session, entries: &[Entry]) -> Result<Vec<Pa
     ensures netting { IfOk result (λ payments. IsNetting session.now (state session.now entries.now) payments.items) }
     ensures day { IfOk result (λ payments. Settles session.now (state session.now entries.now) payments.items) }
     ensures few { IfOk result (λ payments. (currency : List ℕ) → length (payments_in currency payments.items) ≤ bank_count session.now - 1) }
+    ensures banks { IfOk result (λ payments. Each (IsOfBanks session.now) payments.items) }
     ensures some { IfOk result (λ payments. Each (λ payment. 1 ≤ payment.amount) payments.items) }
     ensures sum { IfOk result (λ payments. (currency : List ℕ) → sum_in currency payments.items ≡ total (λ n. n) (owed_of session.now (state session.now entries.now) currency)) }
     ensures least { IfOk result (λ payments. (others : List Payment) (currency : List ℕ) → Settles session.now (state session.now entries.now) others → sum_in currency payments.items ≤ sum_in currency others) }

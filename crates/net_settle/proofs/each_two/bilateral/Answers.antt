@@ -4,11 +4,11 @@ use Rattle.fx_rules.specs.Lists.{Each, below}
 use Rattle.fx_rules.specs.History.{state}
 use Rattle.fx_rules.proofs.Trading.{legal-trades}
 use Rattle.net_settle.specs.declared.payment.Payment.{Payment}
-use Rattle.net_settle.specs.Payments.{Settles, SettlesEachTwo, between, sum_in, bilateral_of}
+use Rattle.net_settle.specs.Payments.{Settles, SettlesEachTwo, IsOfBanks, between, sum_in, bilateral_of}
 use Rattle.net_settle.specs.inside.Dues.{column_in}
 use Rattle.net_settle.proofs.Flows.{codes-stand}
 use Rattle.net_settle.proofs.Listing.{all-are}
-use Rattle.net_settle.proofs.TwoByTwo.{bilateral-each-two, bilateral-day, bilateral-one, bilateral-some, least_each_two}
+use Rattle.net_settle.proofs.TwoByTwo.{bilateral-each-two, bilateral-day, bilateral-one, bilateral-banks, bilateral-some, least_each_two}
 use Rattle.net_settle.proofs.each_two.bilateral.Goals as goal
 
 pub returns : goal.returns
@@ -26,6 +26,7 @@ returns c =
       each_two = subst (SettlesEachTwo h S) (sym exactly) (bilateral-each-two h S stand trades);
       day = subst (Settles h S) (sym exactly) (bilateral-day h S stand trades);
       one = λ a b currency. subst (λ (qs : List Payment). length (between a b currency qs) ≤ 1) (sym exactly) (bilateral-one h S a b currency);
+      banks = subst (Each (IsOfBanks h)) (sym exactly) (bilateral-banks h S);
       some = subst (Each (λ (p : Payment). 1 ≤ p.amount)) (sym exactly) (bilateral-some h S);
       least = λ others currency settles.
           subst (λ (qs : List Payment). sum_in currency qs ≤ sum_in currency others) (sym exactly) (least_each_two h S others currency settles);

@@ -4,7 +4,7 @@ use Rattle.fx_rules.proofs.Trading.{legal-trades}
 use Rattle.day_report.specs.Report.{currencies}
 use Rattle.day_report.proofs.Trading.{legal-fits}
 use Rattle.net_settle.proofs.Flows.{codes-stand}
-use Rattle.net_settle.proofs.Netted.{netting-day, netting-few, netting-some, netting-sum, netting-least}
+use Rattle.net_settle.proofs.Netted.{netting-day, netting-few, netting-banks, netting-some, netting-sum, netting-least}
 use Rattle.net_settle.proofs.Columns.{no-parts, one-part, all-parts, sums-fit}
 use Rattle.net_settle.proofs.netting.net.Goals as goal
 
@@ -37,6 +37,7 @@ returns c =
       netting = netting;
       day = netting-day h S ps stand trades netting;
       few = λ currency. netting-few h S ps currency netting;
+      banks = netting-banks h S ps netting;
       some = netting-some h S ps netting;
       sum = λ currency. netting-sum h S ps currency stand trades netting;
       least = λ others currency settles. netting-least h S ps others currency stand trades netting settles;
