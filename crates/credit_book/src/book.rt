@@ -9,7 +9,7 @@ ghost use Rattle.fx_rules.specs.History.{IsLegal, own, state};
 ghost use Rattle.fx_chronicle.specs.Touching.{Untouched, but_last, pends};
 ghost use Rattle.fx_chronicle.specs.Faces.{witness};
 ghost use Rattle.fx_rules.specs.Sending.{IsNextIn};
-ghost use Rattle.credit_table.specs.Table.{is_of_no_pair, next_sender};
+ghost use Rattle.credit_table.specs.Table.{Stands, is_of_no_pair, next_sender};
 ghost use Rattle.credit_book.specs.Recorded.{IsCreditBook, key_count, recorded, signed_by};
 ghost use Rattle.credit_book.specs.Serving.{IsServed};
 
@@ -229,11 +229,12 @@ impl<N: Naming> CreditBook<N> {
         Ok(outcome)
     }
 
-    /// The writer of the history, with what it is.
-    pub fn into_writer(self) -> Writer<N, Entry>
-        ensures value { result ≡ self.history }
-        ensures legal { IsLegal N.session result.entries }
+    /// The credit table and the writer of the history. The table stands for the state after the entries.
+    pub fn into_parts(self) -> (CreditTable, Writer<N, Entry>)
+        ensures history { result.1 ≡ self.history }
+        ensures legal { IsLegal N.session result.1.entries }
+        ensures stands { Stands N.session (state N.session result.1.entries) result.0 }
     {
-        self.writer
+        (self.table, self.writer)
     }
 }

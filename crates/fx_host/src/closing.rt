@@ -2,25 +2,39 @@ ghost use Rattle.std.specs.Prelude.{◌≡◌, ◌≤◌, ◌-◌, [], vec_len, 
 ghost use Rattle.fx_rules.specs.declared.outcome.Entry.{Entry};
 ghost use Rattle.fx_rules.specs.Session.{pair_count};
 ghost use Rattle.fx_rules.specs.Lists.{Among};
-ghost use Rattle.fx_rules.specs.History.{IsLegal, own};
+ghost use Rattle.fx_rules.specs.History.{IsLegal, own, state};
 ghost use Rattle.fx_chronicle.specs.Faces.{Witness};
 ghost use Rattle.fx_desk.specs.Submitting.{IsWholeOf};
+ghost use Rattle.credit_table.specs.Table.{Stands};
 ghost use Rattle.fx_host.specs.Closing.{AreShardsOf};
 
 use crate::host::Host;
 use crate::pair_locks::PairLock;
 use credit_book::CreditBook;
+use credit_table::CreditTable;
 use fx_chronicle::{Naming, close};
 use fx_desk::Pass;
 use fx_rules::Entry;
 use pair_shards::Shard;
 
-/// Closes a host: the whole history, and the shards that served it. What each of these passes had seen is a beginning of the
-/// history, and of their banks it has just their commands; each shard has seen all of it. It takes no memory.
-pub fn close_host<N: Naming>(host: Host<N>, passes: Vec<Pass<N>>) -> (Vec<Entry>, Vec<Shard<N>>)
-    ensures legal { IsLegal N.session result.0.items }
-    ensures passes { (pass : Witness Entry) → Among pass passes.items → IsWholeOf pass.key pass.seen (own pass.key pass.met) result.0.items }
-    ensures shards { AreShardsOf N.session result.0.items result.1.items }
+/// What a host that is closed gives back.
+#[derive(Drop)]
+pub struct Closed<N: Naming> {
+    /// All entries, in order.
+    pub history: Vec<Entry>,
+    /// The credit table in the state after them.
+    pub table: CreditTable,
+    /// The shards of all pairs, each of which has seen all entries.
+    pub shards: Vec<Shard<N>>,
+}
+
+/// Closes a host: the whole history, and the credit table and the shards that served it. What each of these passes had seen is a
+/// beginning of the history, and of their banks it has just their commands. It takes no memory, and reads no entry.
+pub fn close_host<N: Naming>(host: Host<N>, passes: Vec<Pass<N>>) -> Closed<N>
+    ensures legal { IsLegal N.session result.history.items }
+    ensures passes { (pass : Witness Entry) → Among pass passes.items → IsWholeOf pass.key pass.seen (own pass.key pass.met) result.history.items }
+    ensures table { Stands N.session (state N.session result.history.items) result.table }
+    ensures shards { AreShardsOf N.session result.history.items result.shards.items }
 {
     let Host {
         alloc: _,
@@ -33,7 +47,12 @@ pub fn close_host<N: Naming>(host: Host<N>, passes: Vec<Pass<N>>) -> (Vec<Entry>
     meet_passes(&mut credit, passes);
     let room = closed.into_inner().shards;
     let shards = taken_out(&mut credit, pairs.into_locks(), room);
-    (close(credit.into_writer()), shards)
+    let (table, writer) = credit.into_parts();
+    Closed {
+        history: close(writer),
+        table,
+        shards,
+    }
 }
 
 /// Each pass sees the whole history. What it had seen is a beginning of that, and of its bank it has just the pass's commands.

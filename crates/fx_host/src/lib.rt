@@ -16,7 +16,7 @@ mod pair_locks;
 mod reading;
 mod turn;
 
-pub use closing::close_host;
+pub use closing::{Closed, close_host};
 pub use fx_desk::Pass;
 pub use host::Host;
 pub use opening::{keys_of, open_host};

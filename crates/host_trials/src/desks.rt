@@ -11,7 +11,7 @@ ghost use Rattle.host_trials.specs.inside.Passes.{AreOfBanks};
 use fx_amounts::Memory;
 use fx_chronicle::{Blank, Naming};
 use fx_desk::{Desk, Pass};
-use fx_host::{Host, close_host, keys_of, open_host};
+use fx_host::{Closed, Host, close_host, keys_of, open_host};
 use fx_rules::{Command, Entry, EntryList, OpenGate, Outcome, Sent, Session};
 use one_lock_host::{close_one, open_one};
 use pair_shards::Shard;
@@ -129,7 +129,11 @@ fn day_at_pair_locks<N: Naming + Send, R: AllocGlobal + Wait>(
     };
     let done = submit_all(rt, &host, &mut passes, sent, &mut told);
     let seen = entries_again(rt, &host, &mut passes);
-    let (history, shards) = close_host(host, passes);
+    let Closed {
+        history,
+        table: _,
+        shards,
+    } = close_host(host, passes);
     done?;
     if !are_alike(&history, seen?.as_slice()) {
         return Err(Refused::Seeing);

@@ -7,8 +7,6 @@ use Rattle.fx_rules.specs.State.{State, opening}
 use Rattle.fx_rules.specs.History.{IsStep, Steps, IsLegal, after_entry, after_all, state}
 use Rattle.fx_rules.specs.Sound.{IsSound}
 use Rattle.fx_rules.proofs.Soundness.{steps-sound, opening-sound, after_all-push}
-use Rattle.credit_table.specs.Table as tables
-use Rattle.credit_table.specs.Table.{Table, Stands}
 use Rattle.pair_host.specs.Standing.{HostState, StandsFor, IsNextOf, FollowsOn}
 
 -- the first entries, and the one behind them
@@ -39,8 +37,6 @@ next-at h entries n e legal within is =
       leads = ap (state h) more ∙ after_all-push (opening h) (take n entries) e;
     }
 
--- ---- the host
-
 pub next-recorded : (h : Header) (entries : List Entry) (n : ℕ) (e : Entry) (host : HostState) → IsLegal h entries → n < length entries → e ≡ get_or entries n e
     → StandsFor h (state h (take n entries)) host → IsNextOf host e
 next-recorded h entries n e host legal within is stood =
@@ -59,23 +55,3 @@ pub recorded-next : (h : Header) (entries : List Entry) (n : ℕ) (e : Entry) (h
 recorded-next h entries n e host new legal within is stood follows =
     let its : IsNextAt h entries n e = next-at h entries n e legal within is in
     subst (λ (S : State). StandsFor h S new) (sym its.leads) (follows h (state h (take n entries)) legal.session its.sound stood its.step)
-
--- ---- the table
-
-pub next-in_table : (h : Header) (entries : List Entry) (n : ℕ) (e : Entry) (table : Table) → IsLegal h entries → n < length entries → e ≡ get_or entries n e
-    → Stands h (state h (take n entries)) table → tables.IsNextOf table e
-next-in_table h entries n e table legal within is stands =
-    let its : IsNextAt h entries n e = next-at h entries n e legal within is in
-    record {
-      session = h;
-      before = state h (take n entries);
-      sound = its.sound;
-      stands = stands;
-      step = its.step;
-    }
-
-pub table-next : (h : Header) (entries : List Entry) (n : ℕ) (e : Entry) (table new : Table) → IsLegal h entries → n < length entries → e ≡ get_or entries n e
-    → Stands h (state h (take n entries)) table → tables.FollowsOn table new e → Stands h (state h (take (n + 1) entries)) new
-table-next h entries n e table new legal within is stands follows =
-    let its : IsNextAt h entries n e = next-at h entries n e legal within is in
-    subst (λ (S : State). Stands h S new) (sym its.leads) (follows h (state h (take n entries)) its.sound stands its.step)

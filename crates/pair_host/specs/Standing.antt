@@ -48,3 +48,10 @@ pub record IsBookOf (h : Header) (S : State) (pair : ℕ) (book : Book) : Type 0
 pub record AreBooksOf (h : Header) (S : State) (books : List Book) : Type 0 where
   pub count : length books ≡ pair_count h
   pub each : (pair : ℕ) (none : Book) → pair < pair_count h → IsBookOf h S pair (slice_index_or books pair none)
+
+-- books and a credit table are of one state of a session
+pub record AreOfOneState (books : List Book) (table : Table) : Type 0 where
+  pub session : Header
+  pub at : State
+  pub books_are : AreBooksOf session at books
+  pub stands : Stands session at table

@@ -2,16 +2,14 @@ ghost use Rattle.std.specs.Prelude.{◌≡◌, true, length, Some, None, IfOk, O
 ghost use Rattle.fx_rules.specs.declared.command.Command.TheVariants.{Line};
 ghost use Rattle.fx_rules.specs.Session.{Header};
 ghost use Rattle.fx_rules.specs.State.{State, opening};
-ghost use Rattle.fx_rules.specs.History.{IsLegal, state};
 ghost use Rattle.fx_rules.specs.Sound.{IsSound};
 ghost use Rattle.fx_rules.specs.Market.{GoesOn, HasSent, InEach, InSome, IsDepthOf, MayAsk, MaySend};
-ghost use Rattle.credit_table.specs.Table.{is_of_no_pair};
+ghost use Rattle.credit_table.specs.Table.{Stands, is_of_no_pair};
 ghost use Rattle.fx_rules.specs.Sending.{pair_of};
-ghost use Rattle.pair_host.specs.Standing.{AreBooksOf, FollowsOn, IsNextOf, StandsFor, stands};
+ghost use Rattle.pair_host.specs.Standing.{AreBooksOf, AreOfOneState, FollowsOn, IsNextOf, StandsFor, stands};
 
 use crate::every_pair::{all_resting, carry_all_recorded, carry_turns, empty_books, plan_turns};
 use crate::one_pair::{follow_in_pair, serve_in_pair};
-use crate::recorded::table_after;
 use credit_raise::Raising;
 use credit_table::CreditTable;
 use fx_amounts::{BankId, Memory, PairId, Units};
@@ -51,20 +49,13 @@ impl PairHost {
         })
     }
 
-    /// The host in the state after a legal history of the session, from the pairs' books in that state, in the order of the header.
-    /// The credit table follows the entries; the books are neither searched nor changed.
-    pub fn after(
-        alloc: Global,
-        session: &Session,
-        entries: &[Entry],
-        books: Vec<PairBook>,
-    ) -> Result<PairHost, Memory>
-        requires legal { IsLegal session.now entries.now }
-        requires books { AreBooksOf session.now (state session.now entries.now) books.items }
-        ensures stands { IfOk result (StandsFor session.now (state session.now entries.now)) }
+    /// The host of the pairs' books, in the order of the header, and the credit table of one state. It takes no memory, and neither
+    /// searches nor changes a book.
+    pub fn from_parts(books: Vec<PairBook>, table: CreditTable) -> PairHost
+        requires of_one_state { AreOfOneState books.items table }
+        ensures stands { (h : Header) (S : State) → AreBooksOf h S books.items → Stands h S table → StandsFor h S result }
     {
-        let table = table_after(alloc, session, entries)?;
-        Ok(PairHost { books, table })
+        PairHost { books, table }
     }
 
     /// How many commands a bank of the session has sent; 0 for any other bank. It takes no memory.

@@ -1,10 +1,12 @@
-//! The market at the end of a run, from the shards that served it.
+//! The market at the end of a run, from the shards and the credit table that served it.
 ghost use Rattle.std.specs.Prelude.{◌≡◌, List, IfOk, IfSome};
 ghost use Rattle.fx_rules.specs.declared.outcome.Entry.{Entry as HistoryEntry};
 ghost use Rattle.fx_rules.specs.History.{IsLegal, state};
+ghost use Rattle.credit_table.specs.Table.{Stands};
 ghost use Rattle.pair_host.specs.Standing.{AreBooksOf, StandsFor};
 ghost use Rattle.fx_host.specs.Closing.{AreShardsOf};
 
+use credit_table::CreditTable;
 use fx_amounts::Memory;
 use fx_chronicle::Naming;
 use fx_rules::{Entry, Session};
@@ -13,21 +15,24 @@ use pair_host::{PairHost, replay};
 use pair_shards::Shard;
 use std::alloc::Global;
 
-/// The market in the state after a whole history, with the books of the shards that have seen it. They stand in the order of the
-/// header, which is not in their type: where they did not, the history would be replayed.
+/// The market in the state after a whole history, of the credit table and the shards' books in that state. No entry is read: the
+/// shards stand in the order of the header. That is not in their type, so each is asked for its pair. They are never found in
+/// another order, and only then the history would be replayed.
 pub(crate) fn market_of<N: Naming>(
     alloc: Global,
     session: &Session,
     history: &[Entry],
+    table: CreditTable,
     shards: Vec<Shard<N>>,
 ) -> Result<PairHost, Memory>
     requires session { session.now ≡ N.session }
     requires legal { IsLegal N.session history.now }
+    requires table { Stands N.session (state N.session history.now) table }
     requires shards { AreShardsOf N.session history.now shards.items }
     ensures market { IfOk result (StandsFor N.session (state N.session history.now)) }
 {
     match books_of(alloc, shards)? {
-        Some(books) => PairHost::after(alloc, session, history, books),
+        Some(books) => Ok(PairHost::from_parts(books, table)),
         None => replay(alloc, session, history),
     }
 }

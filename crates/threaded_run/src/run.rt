@@ -11,7 +11,7 @@ use crate::market::market_of;
 use fx_amounts::Memory;
 use fx_chronicle::{Blank, Naming};
 use fx_desk::Pass;
-use fx_host::{Host, close_host, open_host};
+use fx_host::{Closed, Host, close_host, open_host};
 use fx_rules::{Entry, Gate, Sent, Session};
 use gateway_workers::{Lane, run_round};
 use pair_host::PairHost;
@@ -75,8 +75,12 @@ impl<N: Naming + Send + Sync> ThreadedRun<N> {
     {
         let ThreadedRun { host, lanes } = self;
         let passes = passes_of(alloc, lanes)?;
-        let (history, shards) = close_host(host, passes);
-        let market = market_of(alloc, session, &history, shards)?;
+        let Closed {
+            history,
+            table,
+            shards,
+        } = close_host(host, passes);
+        let market = market_of(alloc, session, &history, table, shards)?;
         Ok((history, market))
     }
 }

@@ -9,5 +9,5 @@ use Rattle.fx_host.proofs.closing.close_host.Goals as goal
 pub returns-clause-passes : goal.returns-clause-passes
 returns-clause-passes g c = λ pass among.
     subst (IsWholeOf pass.key pass.seen (own pass.key pass.met))
-    (sym (c.close.ensures.entries ∙ ap (λ (w : Chronicle Entry). w.entries) c.into_writer.ensures.value ∙ ap (λ (b : Recorded). b.history.entries) (c.taken_out-shards.ensures.same ∙ c.meet_passes.ensures.same)))
+    (sym (c.close.ensures.entries ∙ ap (λ (w : Chronicle Entry). w.entries) c.into_parts-table.ensures.history ∙ ap (λ (b : Recorded). b.history.entries) (c.taken_out-shards.ensures.same ∙ c.meet_passes.ensures.same)))
     (c.meet_passes.ensures.passes pass among)
