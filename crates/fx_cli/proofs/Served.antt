@@ -27,7 +27,10 @@ use Rattle.session_script.specs.declared.ends.TextEnd.TheVariants.{EndLine, Earl
 use Rattle.session_script.specs.declared.ends.Stop.{Stop}
 use Rattle.session_script.specs.declared.ends.Stop.TheVariants as stops
 use Rattle.session_script.specs.declared.reading.Reading.{Reading}
-use Rattle.day_run.specs.Serving.{Day, HasServed, MayServe, ServesOn}
+use Rattle.market_run.specs.Ran.{Ran as MarketRan}
+use Rattle.market_run.specs.Running.{HasServed, MayServe, ServesOn}
+use Rattle.reply_lines.specs.Day.{IsTextOf as tells}
+use Rattle.reply_lines.specs.declared.day.DayText.{DayText}
 use Rattle.pair_host.specs.Standing.{HostState, stands}
 use Rattle.fx_chronicle.specs.Faces.{Witness, no_session}
 use Rattle.gateway_workers.specs.declared.lane.Lane.{Lane}
@@ -171,17 +174,17 @@ wrote_of written faults out out' result session h entries history strays ending 
 -- In the order of the lines
 
 -- a run that opens has served nothing
-pub serving_open : {S : Type 0} {left : S → Option (List ℕ)} {faults : S → ℕ} {a b : S} {reading : Reading} {h : Header} (session : Header) (run : Day HostState) → HasRead left faults a b reading h (sent_at reading.intake.stage)
-    → session_at reading.intake.stage ≡ Some session → HasServed stands session [] run → IsServing left faults a b reading h run
+pub serving_open : {S : Type 0} {left : S → Option (List ℕ)} {faults : S → ℕ} {a b : S} {reading : Reading} {h : Header} (session : Header) (run : MarketRan HostState DayText) → HasRead left faults a b reading h (sent_at reading.intake.stage)
+    → session_at reading.intake.stage ≡ Some session → HasServed stands tells session [] run → IsServing left faults a b reading h run
 serving_open session run has is opens =
-    record { entries = []; has_read = has; has_served = subst (λ (g : Header). HasServed stands g [] run) (same_session session has is) opens }
+    record { entries = []; has_read = has; has_served = subst (λ (g : Header). HasServed stands tells g [] run) (same_session session has is) opens }
 
 -- the commands of a round can be served
-pub may_serve : {S : Type 0} {left : S → Option (List ℕ)} {faults : S → ℕ} {a b : S} {reading : Reading} {h : Header} (session : Header) (run : Day HostState) (sent : List Sent) → IsServing left faults a b reading h run
-    → session_at reading.intake.stage ≡ Some session → sent ≡ sent_at reading.intake.stage → MayServe stands session run sent
+pub may_serve : {S : Type 0} {left : S → Option (List ℕ)} {faults : S → ℕ} {a b : S} {reading : Reading} {h : Header} (session : Header) (run : MarketRan HostState DayText) (sent : List Sent) → IsServing left faults a b reading h run
+    → session_at reading.intake.stage ≡ Some session → sent ≡ sent_at reading.intake.stage → MayServe stands tells session run sent
 may_serve {reading = reading} {h = h} session run sent serving session_is is =
     let valid : Each (IsSentOf h) (sent_at reading.intake.stage) = round_valid h (map sent_by serving.entries) (sent_at reading.intake.stage) serving.has_read.says.valid in
-    subst (λ (g : Header). MayServe stands g run sent) (sym (same_session session serving.has_read session_is))
+    subst (λ (g : Header). MayServe stands tells g run sent) (sym (same_session session serving.has_read session_is))
     (record {
       entries = serving.entries;
       has_served = serving.has_served;
@@ -190,10 +193,10 @@ may_serve {reading = reading} {h = h} session run sent serving session_is is =
     })
 
 -- and then they are
-pub round_served : {S : Type 0} {left : S → Option (List ℕ)} {faults : S → ℕ} {a b : S} {reading : Reading} {h : Header} (session : Header) (was now : Day HostState) (sent : List Sent) → IsServing left faults a b reading h was
-    → session_at reading.intake.stage ≡ Some session → sent ≡ sent_at reading.intake.stage → ServesOn stands session was now sent → HasServedRound left faults a b reading h now
+pub round_served : {S : Type 0} {left : S → Option (List ℕ)} {faults : S → ℕ} {a b : S} {reading : Reading} {h : Header} (session : Header) (was now : MarketRan HostState DayText) (sent : List Sent) → IsServing left faults a b reading h was
+    → session_at reading.intake.stage ≡ Some session → sent ≡ sent_at reading.intake.stage → ServesOn stands tells session was now sent → HasServedRound left faults a b reading h now
 round_served {left = left} {faults = faults} {a = a} {b = b} {reading = reading} {h = h} session was now sent serving session_is is on =
-    let went = (subst (λ (g : Header). ServesOn stands g was now sent) (same_session session serving.has_read session_is) on) serving.entries serving.has_served in
+    let went = (subst (λ (g : Header). ServesOn stands tells g was now sent) (same_session session serving.has_read session_is) on) serving.entries serving.has_served in
     record {
       entries = serving.entries ++ went.more;
       has_read = subst (λ (all : List Sent). HasRead left faults a b reading h all)
@@ -202,9 +205,9 @@ round_served {left = left} {faults = faults} {a = a} {b = b} {reading = reading}
     }
 
 -- it has served the text, and its output was written
-pub serial_ran : {S K T : Type 0} (left : S → Option (List ℕ)) (failed : S → ℕ) (written : K → Option (List ℕ)) (faults : K → ℕ) (result : Result T OutFault) (a b : S) (out out' : K) (reading : Reading) (h session : Header) (run : Day HostState) (end : TextEnd) (strays : ℕ) (ending : Ending) (status : Status)
+pub serial_ran : {S K T : Type 0} (left : S → Option (List ℕ)) (failed : S → ℕ) (written : K → Option (List ℕ)) (faults : K → ℕ) (result : Result T OutFault) (a b : S) (out out' : K) (reading : Reading) (h session : Header) (run : MarketRan HostState DayText) (end : TextEnd) (strays : ℕ) (ending : Ending) (status : Status)
     → IsServed left failed a b reading h run end → session_at reading.intake.stage ≡ Some session → strays_at reading.intake.stage ≡ strays → ending ≡ ending_of end
-    → ((entries : List Entry) → HasServed stands session entries run → WroteOutput written faults out out' (IsOutput session entries strays ending) result) → status ≡ written_status end result → Ran (IsOutputOf IsSerial) left failed written faults a b out out' status
+    → ((entries : List Entry) → HasServed stands tells session entries run → WroteOutput written faults out out' (IsOutput session entries strays ending) result) → status ≡ written_status end result → Ran (IsOutputOf IsSerial) left failed written faults a b out out' status
 serial_ran left failed written faults result a b out out' reading h session run end strays ending status served is strays_is ending_is wrote status_is =
     let all = served.all in
     let same : session ≡ h = same_session session all.has_read is in
@@ -212,7 +215,7 @@ serial_ran left failed written faults result a b out out' reading h session run 
     (serial_of h (map sent_by all.entries) all.entries all.has_served.legal refl) all.has_served.legal
     (omega (arith, all.has_read.says.few, all.has_read.within, length-map all.entries sent_by))
     (wrote_of written faults out out' result session h all.entries all.entries strays ending (ending_of end) same refl ending_is
-    (wrote all.entries (subst (λ (g : Header). HasServed stands g all.entries run) (sym same) all.has_served))) status_is
+    (wrote all.entries (subst (λ (g : Header). HasServed stands tells g all.entries run) (sym same) all.has_served))) status_is
 
 -- On threads
 

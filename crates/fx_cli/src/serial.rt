@@ -1,4 +1,8 @@
+ghost use Rattle.std.specs.Prelude.{[], IfOk};
 ghost use Rattle.fx_rules.specs.Session.{Header as SessionHeader};
+ghost use Rattle.market_run.specs.Running.{HasServed};
+ghost use Rattle.pair_host.specs.Standing.{stands};
+ghost use Rattle.reply_lines.specs.Day.{IsTextOf};
 ghost use Rattle.session_script.specs.Stage.{sent_at};
 ghost use Rattle.session_script.specs.Rounds.{HasRead};
 ghost use Rattle.fx_cli.specs.Headline.{IsSerial};
@@ -8,10 +12,12 @@ ghost use Rattle.fx_cli.specs.TopCall.{IsOutputOf};
 
 use crate::ending::{ending_of, written_status};
 use crate::status::Status;
-use day_run::{DayRun, open_day};
 use fx_amounts::Memory;
 use fx_edges::{Sink, Source};
+use fx_rules::Session;
+use market_run::Run;
 use pair_host::PairHost;
+use reply_lines::{DayRun, DayText};
 use session_script::{Reading, TextEnd};
 use std::alloc::Global;
 
@@ -45,8 +51,25 @@ fn serve_text<S: Source, K: Sink>(
         Err(memory) => return Status::Memory(memory),
     };
     let script = reading.script();
-    let written = run.write(alloc, &script.session, script.strays, ending_of(end), out);
+    let (host, day) = run.into_parts();
+    let written = day.write(
+        alloc,
+        &script.session,
+        &host,
+        script.strays,
+        ending_of(end),
+        out,
+    );
     written_status(end, written)
+}
+
+/// The run of a session's day as it opens, by one host over the pair books.
+fn open_day(alloc: Global, session: &Session) -> Result<DayRun<PairHost>, Memory>
+    ensures opens { IfOk result (HasServed stands IsTextOf session.now []) }
+{
+    let host = PairHost::open(alloc, session)?;
+    let day = DayText::open(alloc, session)?;
+    Ok(Run::open(session, host, day))
 }
 
 /// Serves the commands of a reading, round by round, and answers how the text ended.

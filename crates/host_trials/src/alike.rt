@@ -45,7 +45,7 @@ fn told_by_markets(
     if !is_alike(alloc, session, &day)? {
         return Err("the host over the pair books tells otherwise".into());
     }
-    let (plain, entries) = day.plain.into_parts();
+    let (entries, plain) = day.plain;
     Ok((entries, plain.resting()))
 }
 

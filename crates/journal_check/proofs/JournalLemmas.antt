@@ -7,7 +7,10 @@ use Rattle.fx_rules.specs.Session.{Header}
 use Rattle.fx_rules.specs.declared.outcome.Entry.{Entry}
 use Rattle.fx_rules.specs.Sending.{sent_by}
 use Rattle.pair_host.specs.Standing.{HostState, stands}
-use Rattle.day_run.specs.Serving.{Day, HasServed, GoesOnBy}
+use Rattle.market_run.specs.Ran.{Ran}
+use Rattle.market_run.specs.Running.{HasServed, GoesOnBy}
+use Rattle.reply_lines.specs.Day.{IsTextOf}
+use Rattle.reply_lines.specs.declared.day.DayText.{DayText}
 use Rattle.order_lines.specs.Grammar.{journal_line}
 use Rattle.journal_check.specs.Lines.{LineAt, is_long, lines_from}
 use Rattle.fx_rules.specs.declared.command.Command.{Command}
@@ -124,17 +127,17 @@ commands_stopped h whole kept text at before count (Memory memory) there some st
 -- Entries that are served as they are read
 
 -- so many were read up to an offset, and so many are left
-pub record HasReadSome (h : Header) (text : List ℕ) (there : Result (List Sent) ℕ) (whole : Bool) (kept : Kept) (run : Day HostState) (count left at : ℕ) : Type 0 where
+pub record HasReadSome (h : Header) (text : List ℕ) (there : Result (List Sent) ℕ) (whole : Bool) (kept : Kept) (run : Ran HostState DayText) (count left at : ℕ) : Type 0 where
   pub entries : List Entry
-  pub has_served : HasServed stands h entries run
+  pub has_served : HasServed stands IsTextOf h entries run
   pub size : length entries ≡ count
   pub reads : there ≡ commands_in h (length text) (map sent_by entries) left (lines_from text at)
   pub is_kept : IsKept whole entries kept
 
 -- one more was read
-pub entry_read : (h : Header) (text : List ℕ) (there : Result (List Sent) ℕ) (whole : Bool) (kept kept' : Kept) (was now : Day HostState) (count left left' at : ℕ) (read : ReadLine) (said : ℕ × Command) (e : Entry)
+pub entry_read : (h : Header) (text : List ℕ) (there : Result (List Sent) ℕ) (whole : Bool) (kept kept' : Kept) (was now : Ran HostState DayText) (count left left' at : ℕ) (read : ReadLine) (said : ℕ × Command) (e : Entry)
     → HasReadSome h text there whole kept was count left at → IsReadAt text at read → Some said ≡ journal_line h (line_seen read.line) → left ≡ left' + 1
-    → sent_by e ≡ said_by said → GoesOnBy stands h was now e → ((entries : List Entry) → IsKept whole entries kept → IsKept whole (entries ++ e ∷ []) kept')
+    → sent_by e ≡ said_by said → GoesOnBy stands IsTextOf h was now e → ((entries : List Entry) → IsKept whole entries kept → IsKept whole (entries ++ e ∷ []) kept')
     → HasReadSome h text there whole kept' now (count + 1) left' read.next
 entry_read h text there whole kept kept' was now count left left' at read said e has is then one sent_is on keeps =
     let sent : map sent_by (has.entries ++ e ∷ []) ≡ map sent_by has.entries ++ said_by said ∷ [] =

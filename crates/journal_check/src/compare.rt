@@ -1,16 +1,16 @@
 ghost use Rattle.std.specs.Prelude.{◌≡◌, ◌≢◌, ◌≤◌, ◌<◌, List, length, take, slice_get, Some, None, IfOk};
 ghost use Rattle.fx_rules.specs.declared.outcome.Entry.{Entry};
-ghost use Rattle.day_run.specs.Serving.{HasServed};
 ghost use Rattle.journal_check.specs.inside.Comparing.{told};
 ghost use Rattle.journal_check.specs.inside.Stops.{IsComparedWith, end_of};
+ghost use Rattle.market_run.specs.Running.{HasServed};
 ghost use Rattle.pair_host.specs.Standing.{stands};
+ghost use Rattle.reply_lines.specs.Day.{IsTextOf};
 
 use crate::stop::Stop;
-use day_run::DayRun;
 use fx_edges::{Sink, SinkFault};
 use fx_rules::Session;
 use pair_host::PairHost;
-use reply_lines::OutFault;
+use reply_lines::{DayRun, OutFault};
 use std::alloc::Global;
 use std::marker::Model;
 
@@ -121,12 +121,13 @@ pub(crate) fn compare_day(
     session: &Session,
     run: DayRun<PairHost>,
 ) -> Result<usize, Stop>
-    requires served { (entries : List Entry) × HasServed stands session.now entries run }
-    ensures compared { (entries : List Entry) → HasServed stands session.now entries run → IsComparedWith session.now entries text.now result }
+    requires served { (entries : List Entry) × HasServed stands IsTextOf session.now entries run }
+    ensures compared { (entries : List Entry) → HasServed stands IsTextOf session.now entries run → IsComparedWith session.now entries text.now result }
     ensures within { IfOk result (λ end. end ≤ length text.now) }
 {
     let mut comparison = Comparison::new(text);
-    match run.write_day(alloc, session, &mut comparison) {
+    let (host, day) = run.into_parts();
+    match day.write_day(alloc, session, &host, &mut comparison) {
         Ok(()) => comparison.end(),
         // The text differed, and nothing more was written.
         Err(OutFault::Write) => comparison.end(),

@@ -7,11 +7,12 @@ ghost use Rattle.journal_check.specs.inside.Stops.{Answers, IsKept, ReadsEntries
 use crate::kept::Kept;
 use crate::line::read_line;
 use crate::stop::Stop;
-use day_run::{DayRun, open_day};
 use fx_rules::{Sent, Session};
 use fx_text::{LineView, fields, number};
+use market_run::Run;
 use order_lines::journal_in;
 use pair_host::PairHost;
+use reply_lines::{DayRun, DayText};
 use std::alloc::Global;
 
 /// The most entries of a history whose output can be checked.
@@ -76,7 +77,8 @@ pub(crate) fn read_entries(
     ensures run { ReadsEntries session.now kept.old.whole kept.new result
         (commands_in session.now (length text.now) [] counted.now.entries (lines_from text.now counted.now.next)) }
 {
-    let mut run = open_day(alloc, session)?;
+    let host = PairHost::open(alloc, session)?;
+    let mut run = Run::open(session, host, DayText::open(alloc, session)?);
     let mut at = counted.next;
     for _entry in 0..counted.entries {
         let read = match read_line(text, at) {

@@ -9,7 +9,8 @@ use crate::stop::Stop;
 use fx_amounts::Memory;
 use fx_rules::{EntryList, Session};
 use keep_disk::Body;
-use serial_run::run_in_order;
+use market_run::run_in_order;
+use pair_host::PairHost;
 use std::alloc::Global;
 
 /// The most commands of a journal that a session goes on from, 2^24.
@@ -62,8 +63,8 @@ fn history_of(alloc: Global, kept: Kept) -> Result<Found, Memory>
             commands: sent.len() as u64,
         });
     }
-    let run = run_in_order(alloc, &session, &sent)?;
-    let (_, entries) = run.into_parts();
+    let host = PairHost::open(alloc, &session)?;
+    let (entries, _host) = run_in_order(alloc, &session, host, &sent)?;
     Ok(Found::Whole {
         session,
         entries: EntryList::from_vec(entries),

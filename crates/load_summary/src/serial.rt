@@ -6,7 +6,8 @@ ghost use Rattle.load_summary.specs.inside.Summary.{counts_of, ComesTo};
 use fx_amounts::Memory;
 use fx_rules::{Sent, Session};
 use made_session::add_up;
-use serial_run::run_in_order;
+use market_run::run_in_order;
+use pair_host::PairHost;
 use std::alloc::Global;
 
 /// What a run in order came to.
@@ -41,12 +42,14 @@ pub(crate) fn serial_totals(
     requires few { length sent.now < 2 ^ 32 }
     ensures comes_to { IfOk result (ComesTo session.now sent.now) }
 {
-    let run = run_in_order(alloc, session, sent)?;
-    let totals = add_up(run.entries());
+    let host = PairHost::open(alloc, session)?;
+    let (history, market) = run_in_order(alloc, session, host, sent)?;
+    let entries = history.as_slice();
+    let totals = add_up(entries);
     Ok(SerialTotals {
-        commands: run.entries().len() as u64,
+        commands: entries.len() as u64,
         fills: totals.fills,
         lots: totals.lots,
-        resting: run.market().resting(),
+        resting: market.resting(),
     })
 }

@@ -1,2 +1,3 @@
-pub mod Running
+pub mod Kept
 pub mod Ran
+pub mod Running

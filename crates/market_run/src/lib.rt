@@ -1,6 +1,11 @@
-//! The loop over one market that keeps its history: commands are served one after another, and each adds its entry.
+//! The loop over one market: commands are served one after another, and an observer is told each entry as it is made. One
+//! observer keeps them, as the history.
 #![tactic(auto)]
 
+mod history;
+mod observer;
 mod running;
 
+pub use history::{History, run_in_order};
+pub use observer::Observer;
 pub use running::Run;

@@ -1,95 +1,94 @@
-ghost use Rattle.std.specs.Prelude.{ℕ, ◌≡◌, ◌<◌, ◌∷◌, [], OnOk, OnErr, length, take};
-ghost use Rattle.fx_rules.specs.Session.{Header, IsSession};
+ghost use Rattle.std.specs.Prelude.{◌≡◌, ◌⊎◌, ◌∷◌, [], IfOk, OnOk, OnErr};
 ghost use Rattle.fx_rules.specs.State.{opening};
-ghost use Rattle.market_run.specs.Running.{HasRun, CanServe, RunsOn, Served};
+ghost use Rattle.market_run.specs.Running.{HasServed, IsAsBefore, MadeEntry, MayServe, ServesOn, ServesSome};
 
+use crate::observer::Observer;
 use fx_amounts::Memory;
-use fx_rules::{Entry, Market, Sent};
-use std::alloc::Global;
+use fx_rules::{Entry, Market, Sent, Session};
 use std::marker::Model;
 
-/// A market and the history of what it has served. Contracts see these two; `HasRun` says that the history is a legal one
-/// of a session, and that the market stands for the state after it.
+/// A market on one thread, and an observer that is told each entry that it makes. `HasServed` says of which history of the session
+/// the two are.
 #[derive(Drop)]
-pub struct Run<M> {
+pub struct Run<M, O> {
     market: M,
-    entries: Vec<Entry>,
+    observer: O,
 }
 
-impl<M> Model for Run<M> {
+impl<M, O> Model for Run<M, O> {
     ghost use Rattle.market_run.specs.Ran.{Ran};
 
-    ghost Value = { Ran M };
+    ghost Value = { Ran M O };
 
-    ghost view = { λ r. record { market = r.market; entries = r.entries.items } };
+    ghost view = { λ r. record { market = r.market; observer = r.observer } };
 }
 
-impl<M: Market> Run<M> {
-    /// The run of a market that has served nothing yet: it has to stand for a session's opening state. It takes no memory.
-    pub fn new(alloc: Global, market: M) -> Self
-        ensures market { result.market ≡ market }
-        ensures none { result.entries ≡ [] }
-        ensures opens { (h : Header) → IsSession h → M.stands market h (opening h) → HasRun M.stands h result }
+impl<M, O> Run<M, O> {
+    /// The market and the observer. It takes no memory.
+    pub fn into_parts(self) -> (M, O)
+        ensures market { result.0 ≡ self.market }
+        ensures observer { result.1 ≡ self.observer }
     {
-        Run {
-            market,
-            entries: Vec::new(alloc),
-        }
+        (self.market, self.observer)
+    }
+}
+
+impl<M: Market, O: Observer> Run<M, O> {
+    /// The run of a market that has served nothing yet and stands for the session's opening state, and of an observer that was
+    /// told nothing yet. It takes no memory.
+    pub fn open(session: &Session, market: M, observer: O) -> Self
+        requires market { M.stands market session.now (opening session.now) }
+        requires told { O.told session.now [] observer }
+        ensures opens { HasServed M.stands O.told session.now [] result }
+        ensures market { result.market ≡ market }
+        ensures observer { result.observer ≡ observer }
+    {
+        // A legal history rests on a valid session, as each is.
+        let _banks = session.banks();
+        Run { market, observer }
     }
 
-    /// Serves a sender's next command: the history goes on, legally, by the entry that the market makes of it. After
-    /// `Memory` market and history are as they were.
-    pub fn serve(&mut self, sent: Sent) -> Result<(), Memory>
-        requires can_serve { CanServe M.stands self.old (sent ∷ []) }
-        ensures run { OnOk result (RunsOn M.stands self.old self.new) }
-        ensures served { OnOk result (Served self.old self.new (sent ∷ [])) }
-        ensures memory { OnErr result (self.new ≡ self.old) }
+    /// Serves a sender's next command, and gives back what the observer leaves of the entry that the market makes of it: the
+    /// history goes on by it, legally. After `Memory` the run is as it was; but where the observer can break, the market may have
+    /// gone on by an entry of which the observer was told a part or nothing, and the run is good for nothing more.
+    pub fn serve_entry(&mut self, session: &Session, sent: Sent) -> Result<O::Left, Memory>
+        requires may_serve { MayServe M.stands O.told session.now self.old (sent ∷ []) }
+        ensures served { IfOk result (MadeEntry M.stands O.told session.now O.leaves self.old self.new sent) }
+        ensures memory { OnErr result (IsAsBefore O.told self.old self.new ⊎ O.may_break) }
     {
-        self.entries.reserve(1)?;
+        self.observer.make_ready()?;
         let number = self.market.count(sent.bank) + 1;
         let outcome = self.market.apply(sent.bank, &sent.command)?;
-        self.entries.push_reserved(Entry {
+        let entry = Entry {
             bank: sent.bank,
             number,
             command: sent.command,
             outcome,
-        });
+        };
+        self.observer.tell(session, entry)
+    }
+
+    /// Serves a sender's next command, as `serve_entry` does, without its answer. After `Memory` the run is as `serve_entry` leaves
+    /// it.
+    pub fn serve(&mut self, session: &Session, sent: Sent) -> Result<(), Memory>
+        requires may_serve { MayServe M.stands O.told session.now self.old (sent ∷ []) }
+        ensures served { OnOk result (ServesOn M.stands O.told session.now self.old self.new (sent ∷ [])) }
+        ensures memory { OnErr result (IsAsBefore O.told self.old self.new ⊎ O.may_break) }
+    {
+        self.serve_entry(session, sent)?;
         Ok(())
     }
 
-    /// Serves commands one after another, each as `serve` does. After `Memory` it has served the first so many of them, and
-    /// not all.
-    pub fn serve_all(&mut self, sent: &[Sent]) -> Result<(), Memory>
-        requires can_serve { CanServe M.stands self.old sent.now }
-        ensures run { RunsOn M.stands self.old self.new }
-        ensures served { OnOk result (Served self.old self.new sent.now) }
-        ensures begun { OnErr result ((count : ℕ) × (count < length sent.now) × Served self.old self.new (take count sent.now)) }
+    /// Serves commands one after another, each as `serve` does. After `Memory` it has served the first so many of them, and not
+    /// all; where the observer can break, the run is good for nothing more.
+    pub fn serve_all(&mut self, session: &Session, sent: &[Sent]) -> Result<(), Memory>
+        requires may_serve { MayServe M.stands O.told session.now self.old sent.now }
+        ensures served { OnOk result (ServesOn M.stands O.told session.now self.old self.new sent.now) }
+        ensures begun { OnErr result (ServesSome M.stands O.told session.now self.old self.new sent.now ⊎ O.may_break) }
     {
         for next in sent {
-            self.serve(*next)?;
+            self.serve(session, *next)?;
         }
         Ok(())
-    }
-
-    /// The market, which stands for the state after the history. It takes no memory.
-    pub fn market(&self) -> &M
-        ensures market { result.now ≡ self.now.market }
-    {
-        &self.market
-    }
-
-    /// The history so far. It takes no memory.
-    pub fn entries(&self) -> &[Entry]
-        ensures entries { result.now ≡ self.now.entries }
-    {
-        self.entries.as_slice()
-    }
-
-    /// The market and the history. It takes no memory.
-    pub fn into_parts(self) -> (M, Vec<Entry>)
-        ensures market { result.0 ≡ self.market }
-        ensures entries { result.1.items ≡ self.entries }
-    {
-        (self.market, self.entries)
     }
 }

@@ -4,7 +4,7 @@ ghost use Rattle.fx_rules.specs.History.{IsLegal};
 
 use flat_host::FlatHost;
 use fx_rules::{Entry, Session};
-use market_run::Run;
+use market_run::run_in_order;
 use std::alloc::Global;
 use std::test::Fail;
 use trial_days::day_of;
@@ -32,11 +32,8 @@ pub(crate) fn played(
     let mut text = header.to_vec(alloc)?;
     text.extend_from_slice(commands)?;
     let (session, sent) = day_of(alloc, &text)?;
-    // A legal history rests on a valid session, as each is.
-    let _banks = session.banks();
-    let mut run = Run::new(alloc, FlatHost::open(alloc, &session)?);
-    run.serve_all(&sent)?;
-    let (_host, entries) = run.into_parts();
+    let host = FlatHost::open(alloc, &session)?;
+    let (entries, _host) = run_in_order(alloc, &session, host, &sent)?;
     Ok((session, entries))
 }
 

@@ -14,7 +14,7 @@ mod output;
 mod report;
 mod row;
 
-pub use day::{DayText, write_output_from};
+pub use day::{DayRun, DayText, write_output_from};
 pub use desk::NoticeDesk;
 pub use laws::{one_output, output_from_books};
 pub use notice_writer::NoticeWriter;

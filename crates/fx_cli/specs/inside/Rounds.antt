@@ -11,7 +11,10 @@ use Rattle.fx_rules.specs.History.{IsLegal, state}
 use Rattle.fx_chronicle.specs.Faces.{Witness}
 use Rattle.fx_desk.specs.Streams.{HasStreams}
 use Rattle.gateway_workers.specs.declared.lane.Lane.{Lane}
-use Rattle.day_run.specs.Serving.{Day, HasServed}
+use Rattle.market_run.specs.Ran.{Ran}
+use Rattle.market_run.specs.Running.{HasServed}
+use Rattle.reply_lines.specs.Day.{IsTextOf}
+use Rattle.reply_lines.specs.declared.day.DayText.{DayText}
 use Rattle.pair_host.specs.Standing.{HostState, stands}
 use Rattle.session_script.specs.Stage.{sent_at}
 use Rattle.session_script.specs.Rounds.{HasRead, TookPromptly}
@@ -29,23 +32,23 @@ module _ {S : Type 0} (left : S → Option (List ℕ)) (faults : S → ℕ) wher
 
   module _ (before now : S) (reading : Reading) (h : Header) where
     -- a run has served what was read of its session in former rounds, in the order of the lines
-    pub record IsServing (run : Day HostState) : Type 0 where
+    pub record IsServing (run : Ran HostState DayText) : Type 0 where
       pub entries : List Entry
       pub has_read : HasRead left faults before now reading h (map sent_by entries ++ sent_at reading.intake.stage)
-      pub has_served : HasServed stands h entries run
+      pub has_served : HasServed stands IsTextOf h entries run
 
     -- and what was read in this round too
-    pub record HasServedRound (run : Day HostState) : Type 0 where
+    pub record HasServedRound (run : Ran HostState DayText) : Type 0 where
       pub entries : List Entry
       pub has_read : HasRead left faults before now reading h (map sent_by entries)
-      pub has_served : HasServed stands h entries run
+      pub has_served : HasServed stands IsTextOf h entries run
 
     -- the text ended so, and the run has served all its commands in the order of the lines
-    pub record IsServed (run : Day HostState) (end : TextEnd) : Type 0 where
+    pub record IsServed (run : Ran HostState DayText) (end : TextEnd) : Type 0 where
       pub ended : reading.end ≡ Some end
       pub all : HasServedRound run
 
-    abbrev pub ServedText : Day HostState → Result TextEnd Memory → Type 0
+    abbrev pub ServedText : Ran HostState DayText → Result TextEnd Memory → Type 0
     ServedText run (Ok end) = IsServed run end
     ServedText run (Err memory) = TookPromptly left faults before now
 

@@ -15,7 +15,7 @@ use fx_desk::{Desk, Note};
 use fx_edges::SteadySource;
 use fx_rules::{Command, CommandList, Entry, Gate, OpenGate, Outcome, Sent, Session};
 use gateway_workers::{Lane, run_round};
-use market_run::Run;
+use market_run::run_in_order;
 use one_lock_host::{OneLockHost, OnePass, close_one, open_one};
 use session_script::Reading;
 use std::alloc::{AllocError, AllocGlobal, Global};
@@ -202,11 +202,10 @@ fn refused_history<N: Naming + Send + Sync, R: AllocGlobal + Threads + Wait + Sy
 fn plain_history(alloc: Global, session: &Session) -> Result<Vec<Entry>, Memory>
     requires banks { bank_count session.now ≡ 2 }
 {
-    let _banks = session.banks();
     let (alfa, beta) = (show(0, 1), show(1, 0));
-    let mut run = Run::new(alloc, FlatHost::open(alloc, session)?);
-    run.serve_all(&[alfa, beta, alfa, alfa, beta, beta])?;
-    let (_market, entries) = run.into_parts();
+    let host = FlatHost::open(alloc, session)?;
+    let sent = [alfa, beta, alfa, alfa, beta, beta];
+    let (entries, _host) = run_in_order(alloc, session, host, &sent)?;
     Ok(entries)
 }
 

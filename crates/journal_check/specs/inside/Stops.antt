@@ -6,7 +6,10 @@ use Rattle.fx_rules.specs.declared.command.Sent.{Sent}
 use Rattle.fx_rules.specs.declared.outcome.Entry.{Entry}
 use Rattle.fx_rules.specs.Sending.{sent_by}
 use Rattle.pair_host.specs.Standing.{HostState, stands}
-use Rattle.day_run.specs.Serving.{Day, HasServed}
+use Rattle.market_run.specs.Ran.{Ran}
+use Rattle.market_run.specs.Running.{HasServed}
+use Rattle.reply_lines.specs.Day.{IsTextOf}
+use Rattle.reply_lines.specs.declared.day.DayText.{DayText}
 use Rattle.reply_lines.specs.Output.{IsDayText}
 use Rattle.journal_check.specs.Lines.{lines_from}
 use Rattle.journal_check.specs.Compared.{beginning}
@@ -55,14 +58,14 @@ pub record IsKept (whole : Bool) (entries : List Entry) (kept : Kept) : Type 0 w
   pub items : kept.entries.items ≡ (if whole then entries else [])
 
 -- a run served a history of these commands, whose entries are kept, all or none
-pub record IsRunOf (h : Header) (there : Result (List Sent) ℕ) (whole : Bool) (kept : Kept) (run : Day HostState) : Type 0 where
+pub record IsRunOf (h : Header) (there : Result (List Sent) ℕ) (whole : Bool) (kept : Kept) (run : Ran HostState DayText) : Type 0 where
   pub entries : List Entry
-  pub has_served : HasServed stands h entries run
+  pub has_served : HasServed stands IsTextOf h entries run
   pub in_order : there ≡ Ok (map sent_by entries)
   pub is_kept : IsKept whole entries kept
 
 -- the answer of a reading of commands that serves them
-abbrev pub ReadsEntries : Header → Bool → Kept → Result (Day HostState) Stop → Result (List Sent) ℕ → Type 0
+abbrev pub ReadsEntries : Header → Bool → Kept → Result (Ran HostState DayText) Stop → Result (List Sent) ℕ → Type 0
 ReadsEntries h whole kept (Ok run) there = IsRunOf h there whole kept run
 ReadsEntries h whole kept (Err (Wrong offset)) there = there ≡ Err offset
 ReadsEntries h whole kept (Err (Memory memory)) there = Unit {0}

@@ -1,7 +1,9 @@
 -- What was written is the output of the history that the run made.
 use Rattle.std.proofs.Common.{refl, sym, subst}
 use Rattle.fx_rules.specs.Session.{Header}
-use Rattle.day_run.specs.Serving.{HasServed}
+use Rattle.market_run.specs.Running.{HasServed}
+use Rattle.market_run.proofs.Serving.{of-parts}
+use Rattle.reply_lines.specs.Day.{IsTextOf}
 use Rattle.pair_host.specs.Standing.{stands}
 use Rattle.fx_cli.specs.Headline.{IsSerial}
 use Rattle.fx_cli.specs.TopCall.{IsOutputOf}
@@ -29,9 +31,9 @@ pub write-written-requires : goal.write-written-requires
 write-written-requires g c =
     let begun = c.requires.begun in
     let all = (c.in-Ok-serve_rounds.ensures.served begun.0 begun.1 (serving_open c.script.result.now.session c.in-Ok.run' begun.2 c.script.ensures.session c.in-Ok.ensures.opens)).all in
-    record {
-      served = (all.entries, subst (λ (h : Header). HasServed stands h all.entries c.serve_rounds.new.run) (sym (same_session c.script-script.result.now.session all.has_read c.script-script.ensures.session)) all.has_served);
-    }
+    let has = subst (λ (h : Header). HasServed stands IsTextOf h all.entries c.serve_rounds.new.run) (sym (same_session c.script-script.result.now.session all.has_read c.script-script.ensures.session)) all.has_served in
+    let parts = of-parts stands IsTextOf c.script-script.result.now.session c.serve_rounds.new.run _ _ all.entries c.into_parts-host.ensures.market c.into_parts-host.ensures.observer has in
+    record { told = (all.entries, parts.0, parts.1, parts.2) }
 
 pub returns : goal.returns
 returns g c = record {
@@ -39,5 +41,9 @@ returns g c = record {
       serial_ran g.S.Source.left g.S.Source.faults g.K.Sink.written g.K.Sink.faults c.write-written.result before c.serve_rounds.new.source c.args.out.now c.write-written.new.out
       c.serve_rounds.new.reading h c.script-script.result.now.session c.serve_rounds.new.run c.in-Ok-serve_rounds.end c.script-script.result.now.strays c.ending_of.result c.written_status.result
       (c.in-Ok-serve_rounds.ensures.served before h (serving_open c.script.result.now.session c.in-Ok.run' has c.script.ensures.session c.in-Ok.ensures.opens))
-      c.script-script.ensures.session c.script-script.ensures.strays c.ending_of.ensures c.write-written.ensures.wrote c.written_status.ensures;
+      c.script-script.ensures.session c.script-script.ensures.strays c.ending_of.ensures
+      (λ entries served.
+      let parts = of-parts stands IsTextOf c.script-script.result.now.session c.serve_rounds.new.run _ _ entries c.into_parts-host.ensures.market c.into_parts-host.ensures.observer served in
+      c.write-written.ensures.wrote entries parts.0 parts.1 parts.2)
+      c.written_status.ensures;
 }
