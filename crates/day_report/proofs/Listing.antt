@@ -10,6 +10,7 @@ use Rattle.fx_rules.specs.Lists.{Each}
 use Rattle.fx_rules.specs.Session.{Header, bank_count, pair_count}
 use Rattle.fx_rules.specs.State.{State}
 use Rattle.fx_rules.specs.Lists.{below}
+use Rattle.fx_rules.proofs.Below.{below_more, flat_map-more, map-more, length_below, get_or_below}
 use Rattle.fx_rules.proofs.ListLemmas.{filter_cons_true, filter_cons_false, Each-append}
 use Rattle.credit_lines.specs.Credit.{Credit, limit_in, used_in, line_in}
 use Rattle.credit_lines.specs.Market.{StandsFor}
@@ -25,32 +26,7 @@ use Rattle.day_report.specs.Table.{sum_at, IsTable}
 use Rattle.day_report.specs.inside.Table.{IsSmall}
 use Rattle.day_report.specs.Sums.{AreVolumes, code_at, got_by, given_by, AreFlows}
 use Rattle.day_report.specs.inside.Lists.{use_in, uses_in, net_in, nets_at, nets_in, HaveNets}
-use Rattle.day_report.proofs.Sums.{length_below}
 use Rattle.day_report.proofs.Bounds.{received-fit, paid-fit}
-
--- The numbers below one.
-
-pub below_more : (n : ℕ) → below (n + 1) ≡ below n ++ n ∷ []
-below_more n = ap below (add-one n)
-
-pub flat_map-more : {X : Type 0} (f : ℕ → List X) (n : ℕ) → flat_map f (below (n + 1)) ≡ flat_map f (below n) ++ f n
-flat_map-more f n = ap (flat_map f) (below_more n) ∙ flat_map-append f (below n) (n ∷ []) ∙ ap (λ xs. flat_map f (below n) ++ xs) (append-nil (f n))
-
-pub map-more : {X : Type 0} (f : ℕ → X) (n : ℕ) → map f (below (n + 1)) ≡ map f (below n) ++ f n ∷ []
-map-more f n = ap (map f) (below_more n) ∙ map_push f (below n) n
-
-pub get_or_below : {X : Type 0} (f : ℕ → X) (n k : ℕ) (d : X) → k < n → get_or (map f (below n)) k d ≡ f k
-get_or_below f zero k d within = absurd (omega arith)
-get_or_below f (suc n) k d within =
-    let count : length (map f (below n)) ≡ n = length-map (below n) f ∙ length_below n in
-    ap (λ xs. get_or xs k d) (map_push f (below n) n)
-    ∙ elim (cases_order k n) [
-      | inl same ↦ ap (λ i. get_or (map f (below n) ++ f n ∷ []) i d) same ∙ get_or_push (map f (below n)) (f n) d n count ∙ ap f (sym same)
-      | inr other ↦ elim other [
-        | inl before ↦ get_or_append_left (map f (below n)) (f n ∷ []) d k (omega arith) ∙ get_or_below f n k d before
-        | inr past ↦ absurd (omega arith)
-      ]
-    ]
 
 -- a list whose items are known by their places
 pub listed : {X : Type 0} (f : ℕ → X) (xs : List X) (n : ℕ) → length xs ≡ n → ((k : ℕ) (d : X) → k < n → get_or xs k d ≡ f k) → xs ≡ map f (below n)

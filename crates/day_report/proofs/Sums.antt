@@ -93,7 +93,3 @@ total_most_below f m (suc n) most =
     let rest : total f (below n) ≤ n * m = total_most_below f m n (λ k within. most k (omega arith)) in
     let push : total f (below (suc n)) ≡ total f (below n) + f n = total_push f (below n) n in
     omega arith
-
-pub length_below : (n : ℕ) → length (below n) ≡ n
-length_below zero = refl
-length_below (suc n) = length_push (below n) n ∙ ap (λ k. k + 1) (length_below n) ∙ add-one n

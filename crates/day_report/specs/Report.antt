@@ -32,13 +32,8 @@ quote_of h fill = quote_amount fill.lots (lot_of h fill.pair) fill.price (decima
 
 -- what was traded of a pair
 abbrev pub volume_of : Header → State → ℕ → Volume
-volume_of h S pair = record {
-  pair = pair;
-  fills = length (fills_in pair S.fills);
-  lots = total (λ fill. fill.lots) (fills_in pair S.fills);
-  base = total (base_of h) (fills_in pair S.fills);
-  quote = total (quote_of h) (fills_in pair S.fills);
-}
+volume_of h S pair = let fs = fills_in pair S.fills in
+    record { pair = pair; fills = length fs; lots = total (λ f. f.lots) fs; base = total (base_of h) fs; quote = total (quote_of h) fs }
 
 -- of each pair
 abbrev pub volumes_of : Header → State → List Volume
@@ -94,23 +89,18 @@ share bank currency to its_currency amount = if to == bank && bytes_eq its_curre
 
 -- what a bank gets of a currency by a fill: the buyer gets the base amount, the seller the quote amount
 abbrev pub received : Header → ℕ → List ℕ → Fill → ℕ
-received h bank currency fill =
-    share bank currency (buyer fill) (base_code h fill.pair) (base_of h fill)
+received h bank currency fill = share bank currency (buyer fill) (base_code h fill.pair) (base_of h fill)
     + share bank currency (seller fill) (quote_code h fill.pair) (quote_of h fill)
 
 -- what it gives: the buyer gives the quote amount, the seller the base amount
 abbrev pub paid : Header → ℕ → List ℕ → Fill → ℕ
-paid h bank currency fill =
-    share bank currency (buyer fill) (quote_code h fill.pair) (quote_of h fill)
+paid h bank currency fill = share bank currency (buyer fill) (quote_code h fill.pair) (quote_of h fill)
     + share bank currency (seller fill) (base_code h fill.pair) (base_of h fill)
 
 -- what a bank has of a currency: what it got by all fills, less what it gave
 abbrev pub net_of : Header → State → ℕ → List ℕ → Net
-net_of h S bank currency = record {
-  bank = bank;
-  currency = currency;
-  amount = pos (total (received h bank currency) S.fills) -ℤ pos (total (paid h bank currency) S.fills);
-}
+net_of h S bank code =
+    record { bank = bank; currency = code; amount = pos (total (received h bank code) S.fills) -ℤ pos (total (paid h bank code) S.fills) }
 
 -- of each bank each currency
 abbrev pub nets_of : Header → State → List Net

@@ -5,7 +5,7 @@ use Rattle.std.specs.declared.io.ErrorKind.{ErrorKind}
 use Rattle.std.specs.declared.io.ErrorKind.TheVariants.{OutOfMemory}
 use Rattle.fx_amounts.specs.OutOfMemory.{refused}
 use Rattle.fx_cli.specs.Answered.{Answered}
-use Rattle.fx_cli.specs.Status.{code_of}
+use Rattle.fx_cli.specs.Status.{status_code}
 use Rattle.fx_cli.specs.declared.status.Status.{Status}
 use Rattle.fx_cli.specs.declared.status.Status.TheVariants.{Usage, Memory}
 
@@ -19,12 +19,12 @@ pub record IsUntouched {S K E : Type 0} (source source' : S) (out out' : K) (err
 pub record EndsBy {S K E : Type 0} (left : S → Option (List ℕ)) (failed : S → ℕ) (written : K → Option (List ℕ)) (faults : K → ℕ) (told : E → Option (List ℕ)) (untold : E → ℕ)
     (words : List (String Global)) (source source' : S) (out out' : K) (err err' : E) (code : ℕ) : Type 0 where
   pub status : Status
-  pub code_is : code ≡ code_of status
+  pub code_is : code ≡ status_code status
   pub answered : Answered left failed written faults told untold words source source' out out' err err' status
       ⊎ ((status ≡ Memory refused) × IsUntouched source source' out out' err err')
 
 -- the arguments could not be read: memory was refused, or there was another reason
 pub record EndsUnread {S K E : Type 0} (kind : ErrorKind) (source source' : S) (out out' : K) (err err' : E) (code : ℕ) : Type 0 where
-  pub memory : kind ≡ OutOfMemory → code ≡ code_of (Memory refused)
-  pub other : kind ≢ OutOfMemory → code ≡ code_of Usage
+  pub memory : kind ≡ OutOfMemory → code ≡ status_code (Memory refused)
+  pub other : kind ≢ OutOfMemory → code ≡ status_code Usage
   pub untouched : IsUntouched source source' out out' err err'

@@ -33,16 +33,16 @@ status_of (stops.Header line reason) = Header line reason
 status_of (stops.Early end) = status_at (Early end)
 status_of (stops.Memory memory) = Memory memory
 
-abbrev pub code_of : Status → ℕ
-code_of Done = 0
-code_of Usage = 1
-code_of (Header line reason) = 2
-code_of Cut = 3
-code_of ReadFault = 4
-code_of WriteFault = 5
-code_of (Memory memory) = 6
-code_of TooMuch = 7
-code_of Differs = 8
+abbrev pub status_code : Status → ℕ
+status_code Done = 0
+status_code Usage = 1
+status_code (Header line reason) = 2
+status_code Cut = 3
+status_code ReadFault = 4
+status_code WriteFault = 5
+status_code (Memory memory) = 6
+status_code TooMuch = 7
+status_code Differs = 8
 
 -- the line of a header's fault
 unfoldable pub fault_text : ℕ → HeadReason → List ℕ

@@ -1,6 +1,6 @@
 ghost use Rattle.std.specs.Prelude.{◌≡◌, IfOk, OnErr};
 ghost use Rattle.fx_edges.specs.Writing.{CutShort, Wrote};
-ghost use Rattle.fx_cli.specs.Status.{code_of, err_text, fault_text, status_of};
+ghost use Rattle.fx_cli.specs.Status.{status_code, err_text, fault_text, status_of};
 
 use crate::ending::status_at;
 use fx_amounts::Memory;
@@ -38,7 +38,7 @@ pub enum Status {
 impl Status {
     /// The exit status of the process.
     pub fn code(self) -> u8
-        ensures { result ≡ code_of self }
+        ensures { result ≡ status_code self }
     {
         match self {
             Status::Done => 0,

@@ -15,7 +15,7 @@ use Rattle.fx_rules.specs.Sending.{IsSentOf}
 use Rattle.fx_rules.specs.Session.{Header, bank_count, pair_count}
 use Rattle.fx_rules.specs.Step.{AreValues}
 use Rattle.fx_rules.proofs.Senders.{bank-suits}
-use Rattle.made_session.proofs.Listed.{length-made}
+use Rattle.fx_rules.proofs.Below.{length-map_below}
 use Rattle.made_session.specs.Session.{made_bank, made_pair, made_header}
 use Rattle.made_session.specs.Draws.{after_draws, draw}
 use Rattle.made_session.specs.Commands.{drawn_order, other_than, drawn_line, drawn_command, drawn_sent, after_sent, drawn_all}
@@ -29,8 +29,8 @@ pub record Counts (h : Header) (banks pairs : ℕ) : Type 0 where
 
 pub counts_of : (seed banks pairs : ℕ) (h : Header) → 2 ≤ banks → 1 ≤ pairs → h ≡ made_header seed banks pairs → Counts h banks pairs
 counts_of seed banks pairs h two one is = record {
-  banks_are = ap bank_count is ∙ length-made made_bank banks;
-  pairs_are = ap pair_count is ∙ length-made made_pair pairs;
+  banks_are = ap bank_count is ∙ length-map_below made_bank banks;
+  pairs_are = ap pair_count is ∙ length-map_below made_pair pairs;
   two = two;
   one = one;
 }

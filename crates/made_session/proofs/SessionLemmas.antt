@@ -12,7 +12,7 @@ use Rattle.fx_rules.specs.declared.session.PairRule.{PairRule}
 use Rattle.credit_lines.proofs.CreditLemmas.{place_below}
 use Rattle.made_session.specs.Draws.{seeded, draw}
 use Rattle.made_session.specs.Session.{made_bank, made_base, made_pair, drawn_limit, after_limit, made_limit, made_limits, is_own_place, before_limit, made_header}
-use Rattle.made_session.proofs.Listed.{length-made, made_at, all-made}
+use Rattle.fx_rules.proofs.Below.{length-map_below, get_or_below, all-below}
 
 -- digits and letters
 
@@ -106,29 +106,29 @@ own_limit banks x i within = rw (own_place banks i within) refl
 
 pub is_session : (seed banks pairs : ℕ) → 2 ≤ banks → banks ≤ 64 → 1 ≤ pairs → pairs ≤ 32 → IsSession (made_header seed banks pairs)
 is_session seed banks pairs two few one most =
-    let bank_total : length (map made_bank (below banks)) ≡ banks = length-made made_bank banks in
-    let pair_total : length (map made_pair (below pairs)) ≡ pairs = length-made made_pair pairs in
+    let bank_total : length (map made_bank (below banks)) ≡ banks = length-map_below made_bank banks in
+    let pair_total : length (map made_pair (below pairs)) ≡ pairs = length-map_below made_pair pairs in
     let limits = made_limits banks (seeded seed) in
-    let full : length limits ≡ banks * banks = length-made (made_limit banks (seeded seed)) (banks * banks) in
+    let full : length limits ≡ banks * banks = length-map_below (made_limit banks (seeded seed)) (banks * banks) in
     record {
       banks_least = omega arith;
       banks_most = omega arith;
-      names = all-made (λ name. IsTrue (is_name name)) made_bank banks (λ k within. bank_is_named k (omega arith));
+      names = all-below (λ name. IsTrue (is_name name)) made_bank banks (λ k within. bank_is_named k (omega arith));
       names_differ = λ i j d before within same.
           let last : j < banks = omega arith in
-          banks_apart i j before (sym (made_at made_bank banks i d (omega arith)) ∙ same ∙ made_at made_bank banks j d last);
+          banks_apart i j before (sym (get_or_below made_bank banks i d (omega arith)) ∙ same ∙ get_or_below made_bank banks j d last);
       pairs_least = omega arith;
       pairs_most = omega arith;
-      rules = all-made IsPairRule made_pair pairs (λ k within. pair_is_rule k (omega arith));
+      rules = all-below IsPairRule made_pair pairs (λ k within. pair_is_rule k (omega arith));
       pairs_differ = λ i j d before within same.
           let last : j < pairs = omega arith in
-          bases_apart i j before (ap (λ (r : PairRule). r.base) (sym (made_at made_pair pairs i d (omega arith))) ∙ same.0 ∙ ap (λ (r : PairRule). r.base) (made_at made_pair pairs j d last));
+          bases_apart i j before (ap (λ (r : PairRule). r.base) (sym (get_or_below made_pair pairs i d (omega arith))) ∙ same.0 ∙ ap (λ (r : PairRule). r.base) (get_or_below made_pair pairs j d last));
       limits_full = rw bank_total full;
-      limits_most = all-made (λ limit. limit ≤ 1000000000000000) (made_limit banks (seeded seed)) (banks * banks) (λ k within. omega (arith, limit_most (is_own_place banks k) (before_limit banks (seeded seed) k)));
+      limits_most = all-below (λ limit. limit ≤ 1000000000000000) (made_limit banks (seeded seed)) (banks * banks) (λ k within. omega (arith, limit_most (is_own_place banks k) (before_limit banks (seeded seed) k)));
       own_limits = λ i within.
           let bank : i < banks = omega arith in
           ap (λ n. slice_index limits (i * n + i)) bank_total
-          ∙ made_at (made_limit banks (seeded seed)) (banks * banks) (i * banks + i) 0 (place_below banks i i bank bank)
+          ∙ get_or_below (made_limit banks (seeded seed)) (banks * banks) (i * banks + i) 0 (place_below banks i i bank bank)
           ∙ own_limit banks (seeded seed) i bank;
     }
 

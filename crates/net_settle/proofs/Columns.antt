@@ -11,9 +11,10 @@ use Rattle.fx_rules.specs.inside.Trade.{IsTrade}
 use Rattle.day_report.specs.Report.{currencies, received, paid}
 use Rattle.day_report.specs.Sums.{code_at}
 use Rattle.day_report.specs.inside.Trades.{AreTrades}
-use Rattle.day_report.proofs.Sums.{length_below, total_swap}
+use Rattle.fx_rules.proofs.Below.{length_below, flat_map-more}
+use Rattle.day_report.proofs.Sums.{total_swap}
 use Rattle.day_report.proofs.Bounds.{received-fit, paid-fit}
-use Rattle.day_report.proofs.Listing.{flat_map-more, each-below, map-agree, flat_map-agree}
+use Rattle.day_report.proofs.Listing.{each-below, map-agree, flat_map-agree}
 use Rattle.net_settle.specs.declared.payment.Payment.{Payment}
 use Rattle.net_settle.specs.declared.dues.Dues.{Dues}
 use Rattle.net_settle.specs.Payments.{due_by, owed_of, owes_of, Walks, IsNetting}

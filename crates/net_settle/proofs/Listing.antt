@@ -7,7 +7,8 @@ use Rattle.fx_rules.specs.Session.{Header, bank_count}
 use Rattle.fx_rules.specs.State.{State}
 use Rattle.day_report.specs.Report.{currencies, banks_behind}
 use Rattle.day_report.specs.Sums.{code_at}
-use Rattle.day_report.proofs.Listing.{flat_map-more, behind-more, each-below, each-kept, flat_map-agree}
+use Rattle.fx_rules.proofs.Below.{flat_map-more}
+use Rattle.day_report.proofs.Listing.{behind-more, each-below, each-kept, flat_map-agree}
 use Rattle.net_settle.specs.declared.payment.Payment.{Payment}
 use Rattle.net_settle.specs.declared.dues.Dues.{Dues}
 use Rattle.net_settle.specs.Payments.{due, pay_two, twos_of, bilateral_of}

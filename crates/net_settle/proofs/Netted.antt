@@ -9,9 +9,8 @@ use Rattle.fx_rules.specs.State.{State}
 use Rattle.fx_rules.specs.inside.Trade.{IsTrade}
 use Rattle.day_report.specs.Report.{currencies, received, paid}
 use Rattle.day_report.specs.Sums.{code_at}
-use Rattle.day_report.proofs.Sums.{length_below}
+use Rattle.fx_rules.proofs.Below.{length_below, get_or_below}
 use Rattle.day_report.proofs.Balance.{banks-balance}
-use Rattle.day_report.proofs.Listing.{get_or_below}
 use Rattle.net_settle.specs.declared.payment.Payment.{Payment}
 use Rattle.net_settle.specs.Payments.{got_by, paid_by, payments_in, sum_in, owed_of, owes_of, Settles, IsOfBanks, Walks, IsNetting}
 use Rattle.net_settle.proofs.Amounts.{at, sum, some, at_within, some_apart}

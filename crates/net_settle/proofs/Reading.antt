@@ -4,7 +4,7 @@ use Rattle.std.proofs.lemmas.Bool.{cases_order}
 use Rattle.fx_rules.specs.Lists.{total, below}
 use Rattle.day_report.specs.Table.{place}
 use Rattle.day_report.proofs.Sums.{total_push}
-use Rattle.day_report.proofs.Listing.{below_more}
+use Rattle.fx_rules.proofs.Below.{below_more}
 use Rattle.day_report.proofs.FlowSums.{place-within}
 use Rattle.net_settle.specs.declared.dues.Dues.{Dues}
 use Rattle.net_settle.specs.inside.Dues.{HasPlaces}

@@ -18,9 +18,7 @@ workers_of _ = None
 
 -- `run` or `run --workers N`, by the words behind `run`
 abbrev pub run_of : List (List ℕ) → Option Task
-run_of rest = do
-  workers ← workers_of rest
-  Some (Run workers)
+run_of rest = workers_of rest >>= (λ workers. Some (Run workers))
 
 -- a word that stands alone
 abbrev pub alone : Task → List (List ℕ) → Option Task

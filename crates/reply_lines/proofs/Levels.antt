@@ -6,7 +6,11 @@ use Rattle.fx_amounts.specs.Numeral.{numeral}
 use Rattle.fx_amounts.specs.PriceText.{price_text}
 use Rattle.fx_rules.specs.declared.orders.Level.{Level}
 use Rattle.fx_text.specs.Fields.{fields_text}
-use Rattle.reply_lines.specs.Notices.{fields_of_level, level_fields}
+use Rattle.reply_lines.specs.Notices.{level_fields}
+
+-- the price and the lots of a level
+abbrev fields_of_level : ℕ → Level → List (List ℕ)
+fields_of_level decimals level = price_text decimals level.price ∷ numeral level.lots ∷ []
 
 -- the levels so far, and one more
 fields_more : (decimals : ℕ) (levels : List Level) (i : ℕ) (level : Level) → i < length levels → level ≡ get_or levels i level → level_fields decimals (take (i + 1) levels) ≡ level_fields decimals (take i levels) ++ fields_of_level decimals level

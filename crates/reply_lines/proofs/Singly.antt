@@ -1,18 +1,21 @@
 -- A legal history has one output.
-use Rattle.std.proofs.Common.{ℕ, zero, suc, ◌≡◌, ◌<◌, List, ◌++◌, refl, ap, ap₂, sym, ◌∙◌, arith, append_assoc}
+use Rattle.std.proofs.Common.{ℕ, ◌≡◌, ◌<◌, List, ◌++◌, refl, ap, ap₂, sym, ◌∙◌, flat_map, codes, append_assoc}
 use Rattle.fx_amounts.specs.declared.side.Side.TheVariants.{Buy, Sell}
 use Rattle.fx_rules.specs.declared.orders.Level.{Level}
 use Rattle.fx_rules.specs.declared.outcome.Entry.{Entry}
+use Rattle.fx_rules.specs.Lists.{below}
 use Rattle.fx_rules.specs.Session.{Header, IsSession, bank_count, pair_count, bank_name}
 use Rattle.fx_rules.specs.State.{State}
 use Rattle.fx_rules.specs.History.{IsLegal, state}
 use Rattle.fx_rules.specs.Sound.{IsSound}
+use Rattle.fx_rules.proofs.Below.{flat_map-same}
 use Rattle.fx_rules.proofs.Soundness.{legal-sound, weight_of-least}
 use Rattle.fx_rules.proofs.Determined.{shows-same}
 use Rattle.session_head.specs.HeadText.{head_text_of}
 use Rattle.reply_lines.specs.Rows.{row}
 use Rattle.reply_lines.specs.Notices.{book_fields}
-use Rattle.reply_lines.specs.Books.{LocalBook, AreBooks, book_line, book_lines_below, books_below, books_text}
+use Rattle.reply_lines.specs.Books.{LocalBook, AreBooks, book_line, books_text}
+use Rattle.reply_lines.specs.inside.Books.{book_lines}
 use Rattle.reply_lines.specs.Report.{report_text}
 use Rattle.reply_lines.specs.Output.{journal_text, desks_text, day_text, last_text, IsDayText, IsOutput, IsRestOfOutput}
 use Rattle.reply_lines.specs.declared.output.Ending.{Ending}
@@ -34,24 +37,17 @@ book_same h S books others bank pair session sound are they first second =
 line_same : (h : Header) (books others : ℕ → ℕ → LocalBook) (bank pair : ℕ) → AreSame (books bank pair) (others bank pair) → book_line h books bank pair ≡ book_line h others bank pair
 line_same h books others bank pair same = ap₂ (λ (bids asks : List Level). row (bank_name h bank) (book_fields h pair bids asks)) same.0 same.1
 
-lines_same : (h : Header) (books others : ℕ → ℕ → LocalBook) (bank pairs : ℕ) → ((pair : ℕ) → pair < pairs → AreSame (books bank pair) (others bank pair)) → book_lines_below h books bank pairs ≡ book_lines_below h others bank pairs
-lines_same h books others bank zero same = refl
-lines_same h books others bank (suc pairs) same =
-    ap₂ (λ (front line : List ℕ). front ++ line) (lines_same h books others bank pairs (λ pair less. same pair (omega arith))) (line_same h books others bank pairs (same pairs (omega arith)))
-
-books_same : (h : Header) (books others : ℕ → ℕ → LocalBook) (banks : ℕ) → ((bank pair : ℕ) → bank < banks → pair < pair_count h → AreSame (books bank pair) (others bank pair)) → books_below h books banks ≡ books_below h others banks
-books_same h books others zero same = refl
-books_same h books others (suc banks) same =
-    ap₂ (λ (front lines : List ℕ). front ++ lines) (books_same h books others banks (λ bank pair less within. same bank pair (omega arith) within))
-    (lines_same h books others banks (pair_count h) (λ pair within. same banks pair (omega arith) within))
+books_same : (h : Header) (books others : ℕ → ℕ → LocalBook) → ((bank pair : ℕ) → bank < bank_count h → pair < pair_count h → AreSame (books bank pair) (others bank pair))
+    → flat_map (book_lines h books) (below (bank_count h)) ≡ flat_map (book_lines h others) (below (bank_count h))
+books_same h books others same =
+    flat_map-same (book_lines h books) (book_lines h others) (bank_count h) (λ bank first.
+    flat_map-same (book_line h books bank) (book_line h others bank) (pair_count h) (λ pair second. line_same h books others bank pair (same bank pair first second)))
 
 -- the local books of a state are one
 books_text-same : (h : Header) (S : State) (books others : ℕ → ℕ → LocalBook) → IsSession h → IsSound h S → AreBooks h S books → AreBooks h S others → books_text h books ≡ books_text h others
 unfolding books_text
 books_text-same h S books others session sound are they =
-    let same : books_below h books (bank_count h) ≡ books_below h others (bank_count h) =
-    books_same h books others (bank_count h) (λ bank pair first second. book_same h S books others bank pair session sound are they first second) in
-    rw same refl
+    ap (λ (lines : List ℕ). codes "BOOKS\n" ++ lines) (books_same h books others (λ bank pair first second. book_same h S books others bank pair session sound are they first second))
 
 -- a legal history has one text of its day
 pub days_agree : (h : Header) (entries : List Entry) (day other : List ℕ) → IsLegal h entries → IsDayText h entries day → IsDayText h entries other → day ≡ other

@@ -1,7 +1,8 @@
 -- The local books of all banks at the end of a day.
-use Rattle.std.specs.Prelude.{ℕ, zero, suc, ◌<◌, List, [], ◌++◌, codes}
+use Rattle.std.specs.Prelude.{ℕ, ◌<◌, List, ◌++◌, flat_map, codes}
 use Rattle.fx_rules.specs.declared.orders.Level.{Level}
 use Rattle.fx_rules.specs.Depth.{IsDepth}
+use Rattle.fx_rules.specs.Lists.{below}
 use Rattle.fx_rules.specs.Session.{Header, bank_count, pair_count, bank_name}
 use Rattle.fx_rules.specs.State.{State}
 use Rattle.reply_lines.specs.Rows.{row}
@@ -20,16 +21,6 @@ AreBooks h S books = (bank pair : ℕ) → bank < bank_count h → pair < pair_c
 abbrev pub book_line : Header → (ℕ → ℕ → LocalBook) → ℕ → ℕ → List ℕ
 book_line h books bank pair = row (bank_name h bank) (book_fields h pair (books bank pair).bids (books bank pair).asks)
 
--- those of the first pairs, in header order
-abbrev pub book_lines_below : Header → (ℕ → ℕ → LocalBook) → ℕ → ℕ → List ℕ
-book_lines_below h books bank zero = []
-book_lines_below h books bank (suc pair) = book_lines_below h books bank pair ++ book_line h books bank pair
-
--- those of the first banks in all pairs, in header order
-abbrev pub books_below : Header → (ℕ → ℕ → LocalBook) → ℕ → List ℕ
-books_below h books zero = []
-books_below h books (suc bank) = books_below h books bank ++ book_lines_below h books bank (pair_count h)
-
--- the local books of each bank in each pair
+-- the local books of each bank in each pair, in header order
 unfoldable pub books_text : Header → (ℕ → ℕ → LocalBook) → List ℕ
-books_text h books = codes "BOOKS\n" ++ books_below h books (bank_count h)
+books_text h books = codes "BOOKS\n" ++ flat_map (λ bank. flat_map (book_line h books bank) (below (pair_count h))) (below (bank_count h))

@@ -3,7 +3,6 @@ use Rattle.std.specs.Prelude.{ℕ, ◌==◌, ◌+◌, if◌then◌else◌, List,
 use Rattle.std.specs.List.{flat_map}
 use Rattle.fx_amounts.specs.Numeral.{numeral}
 use Rattle.fx_amounts.specs.PriceText.{price_text}
-use Rattle.fx_amounts.specs.Amount.{base_amount, quote_amount}
 use Rattle.fx_amounts.specs.Side.{opposite}
 use Rattle.fx_amounts.specs.declared.side.Side.{Side}
 use Rattle.fx_rules.specs.declared.command.Command.{Command}
@@ -14,8 +13,9 @@ use Rattle.fx_rules.specs.declared.outcome.Entry.{Entry}
 use Rattle.fx_rules.specs.declared.outcome.Outcome.{Outcome}
 use Rattle.fx_rules.specs.declared.outcome.Outcome.TheVariants.{Ordered, Killed, Cancelled, Reduced, NotLess, Nothing, Pulled, LineSet, Shown, Depth, Rejected}
 use Rattle.fx_rules.specs.Reject.{code_of}
-use Rattle.fx_rules.specs.Session.{Header, bank_name, decimals_of, lot_of, pair_name}
+use Rattle.fx_rules.specs.Session.{Header, bank_name, decimals_of, pair_name}
 use Rattle.fx_rules.specs.Step.{fills_of}
+use Rattle.day_report.specs.Report.{base_of, quote_of}
 use Rattle.reply_lines.specs.Rows.{row, side_text}
 
 -- a bank's reply to a command of its own; a fill in which it was the taker; one in which it was the maker
@@ -25,21 +25,12 @@ pub data Notice : Type 0 where
   Gave : Fill → Notice
 
 -- of a fill the taker's bank gets one notice, and the maker's bank one
-abbrev pub taken_notices : ℕ → Fill → List Notice
-taken_notices bank fill = if fill.taker == bank then Took fill ∷ [] else []
-
-abbrev pub given_notices : ℕ → Fill → List Notice
-given_notices bank fill = if fill.maker == bank then Gave fill ∷ [] else []
-
 abbrev pub fill_notices : ℕ → Fill → List Notice
-fill_notices bank fill = taken_notices bank fill ++ given_notices bank fill
+fill_notices bank fill = (if fill.taker == bank then Took fill ∷ [] else []) ++ (if fill.maker == bank then Gave fill ∷ [] else [])
 
 -- of an entry its sender gets the reply, and then the fills give theirs in order
-abbrev pub reply_notices : ℕ → Entry → List Notice
-reply_notices bank entry = if entry.bank == bank then Replied entry ∷ [] else []
-
 abbrev pub notices_in : ℕ → Entry → List Notice
-notices_in bank entry = reply_notices bank entry ++ flat_map (fill_notices bank) (fills_of entry.outcome)
+notices_in bank entry = (if entry.bank == bank then Replied entry ∷ [] else []) ++ flat_map (fill_notices bank) (fills_of entry.outcome)
 
 -- a bank's notices of a history
 abbrev pub notices : ℕ → List Entry → List Notice
@@ -50,12 +41,9 @@ abbrev pub booked_pair : Command → ℕ
 booked_pair (Book pair) = pair
 booked_pair _ = 0
 
--- the price and the lots of a level, and of each level, the best first
-abbrev pub fields_of_level : ℕ → Level → List (List ℕ)
-fields_of_level decimals level = price_text decimals level.price ∷ numeral level.lots ∷ []
-
+-- the price and the lots of each level, the best first
 abbrev pub level_fields : ℕ → List Level → List (List ℕ)
-level_fields decimals levels = flat_map (fields_of_level decimals) levels
+level_fields decimals levels = flat_map (λ level. price_text decimals level.price ∷ numeral level.lots ∷ []) levels
 
 -- a local book of a pair: what its bank could sell now, and then what it could buy
 abbrev pub book_fields : Header → ℕ → List Level → List Level → List (List ℕ)
@@ -82,22 +70,16 @@ trade_fields h fill = pair_name h fill.pair ∷ numeral fill.lots ∷ price_text
 
 -- its base and quote amounts
 abbrev pub amount_fields : Header → Fill → List (List ℕ)
-amount_fields h fill =
-    numeral (base_amount fill.lots (lot_of h fill.pair))
-    ∷ numeral (quote_amount fill.lots (lot_of h fill.pair) fill.price (decimals_of h fill.pair)) ∷ []
+amount_fields h fill = numeral (base_of h fill) ∷ numeral (quote_of h fill) ∷ []
 
 -- the fields of a fill as one of its banks sees it: its own order's number and side, and the other bank's name
 abbrev pub fill_fields : Header → ℕ → Side → ℕ → Fill → List (List ℕ)
 fill_fields h number side other fill =
     (codes "FILL" ∷ numeral number ∷ side_text side ∷ []) ++ trade_fields h fill ++ bank_name h other ∷ amount_fields h fill
 
--- the line of a reply, with its number on the desk
-abbrev pub reply_line : Header → ℕ → Entry → List ℕ
-reply_line h number entry = row (numeral number) (codes "REPLY" ∷ numeral entry.number ∷ reply_fields h entry.command entry.outcome)
-
 -- the line of a notice, with its number on the desk
 abbrev pub notice_line : Header → ℕ → Notice → List ℕ
-notice_line h number (Replied entry) = reply_line h number entry
+notice_line h number (Replied e) = row (numeral number) (codes "REPLY" ∷ numeral e.number ∷ reply_fields h e.command e.outcome)
 notice_line h number (Took fill) = row (numeral number) (fill_fields h fill.taker_number fill.taker_side fill.maker fill)
 notice_line h number (Gave fill) = row (numeral number) (fill_fields h fill.maker_number (opposite fill.taker_side) fill.taker fill)
 

@@ -1,8 +1,9 @@
 -- The output of a history: header, journal, desks, local books, report, strays, ending.
-use Rattle.std.specs.Prelude.{ℕ, zero, suc, ◌≡◌, List, [], ◌∷◌, ◌++◌, length, codes}
+use Rattle.std.specs.Prelude.{ℕ, ◌≡◌, List, [], ◌∷◌, ◌++◌, length, codes}
 use Rattle.std.specs.List.{flat_map}
 use Rattle.fx_amounts.specs.Numeral.{numeral}
 use Rattle.fx_rules.specs.declared.outcome.Entry.{Entry}
+use Rattle.fx_rules.specs.Lists.{below}
 use Rattle.fx_rules.specs.Session.{Header, bank_count}
 use Rattle.fx_rules.specs.History.{state}
 use Rattle.session_head.specs.HeadText.{head_text_of}
@@ -26,14 +27,9 @@ journal_line count = row (codes "JOURNAL") (numeral count ∷ [])
 unfoldable pub journal_text : Header → List Entry → List ℕ
 journal_text h entries = journal_line (length entries) ++ flat_map (entry_line h) entries
 
--- the desks of the first banks, in header order
-abbrev pub desks_below : Header → List Entry → ℕ → List ℕ
-desks_below h entries zero = []
-desks_below h entries (suc bank) = desks_below h entries bank ++ desk_text h entries bank
-
--- the desks of all banks
+-- the desks of all banks, in header order
 unfoldable pub desks_text : Header → List Entry → List ℕ
-desks_text h entries = desks_below h entries (bank_count h)
+desks_text h entries = flat_map (desk_text h entries) (below (bank_count h))
 
 -- all but the last lines, which a history has no part in: header, journal, desks, the local books at the end, and the report
 unfoldable pub day_text : Header → List Entry → (ℕ → ℕ → LocalBook) → List ℕ

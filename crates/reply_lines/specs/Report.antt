@@ -13,14 +13,12 @@ use Rattle.reply_lines.specs.Rows.{row}
 
 -- what was traded in a pair: how many fills, their lots, and their base and quote amounts
 abbrev pub volume_line : Header → Volume → List ℕ
-volume_line h volume =
-    row (codes "VOLUME")
+volume_line h volume = row (codes "VOLUME")
     (pair_name h volume.pair ∷ numeral volume.fills ∷ numeral volume.lots ∷ numeral volume.base ∷ numeral volume.quote ∷ [])
 
 -- two banks, the limit that each sets on the other, what they have used, and their line
 abbrev pub use_line : Header → Use → List ℕ
-use_line h credit =
-    row (codes "USE")
+use_line h credit = row (codes "USE")
     (bank_name h credit.a ∷ bank_name h credit.b ∷ numeral credit.limit_ab ∷ numeral credit.limit_ba ∷ numeral credit.used ∷ numeral credit.eff ∷ [])
 
 -- what a bank got of a currency, less what it gave

@@ -1,8 +1,9 @@
-ghost use Rattle.std.specs.Prelude.{◌≡◌, ◌<◌, ℕ, [], OnOk, OnErr};
+ghost use Rattle.std.specs.Prelude.{◌≡◌, ◌<◌, ℕ, [], flat_map, OnOk, OnErr};
 ghost use Rattle.fx_edges.specs.Gathered.{Gathered};
+ghost use Rattle.fx_rules.specs.Lists.{below};
 ghost use Rattle.fx_rules.specs.Session.{bank_count, pair_count};
-ghost use Rattle.reply_lines.specs.Books.{LocalBook, book_line, book_lines_below, books_below, books_text};
-ghost use Rattle.reply_lines.specs.inside.Books.{IsMarketOf, AreBooksOf};
+ghost use Rattle.reply_lines.specs.Books.{LocalBook, book_line, books_text};
+ghost use Rattle.reply_lines.specs.inside.Books.{IsMarketOf, AreBooksOf, book_lines};
 
 use crate::lines::write_made;
 use crate::notices::push_book;
@@ -38,7 +39,7 @@ fn write_banks<M: Market, K: Sink>(
 ) -> Result<(), SinkFault>
     requires market { IsMarketOf M.stands session.now market.now }
     ensures wrote { (books : ℕ → ℕ → LocalBook) → AreBooksOf M.stands session.now market.now books →
-        Gathered K.written K.faults pieces.old out.old pieces.new out.new (books_below session.now books (bank_count session.now)) result }
+        Gathered K.written K.faults pieces.old out.old pieces.new out.new (flat_map (book_lines session.now books) (below (bank_count session.now))) result }
 {
     for place in 0..session.banks().len() {
         write_pairs(session, market, BankId::at(place), line, pieces, out)?;
@@ -58,7 +59,7 @@ fn write_pairs<M: Market, K: Sink>(
     requires market { IsMarketOf M.stands session.now market.now }
     requires bank { bank < bank_count session.now }
     ensures wrote { (books : ℕ → ℕ → LocalBook) → AreBooksOf M.stands session.now market.now books →
-        Gathered K.written K.faults pieces.old out.old pieces.new out.new (book_lines_below session.now books bank (pair_count session.now)) result }
+        Gathered K.written K.faults pieces.old out.old pieces.new out.new (book_lines session.now books bank) result }
 {
     for place in 0..session.pairs().len() {
         write_book(session, market, bank, PairId::at(place), line, pieces, out)?;

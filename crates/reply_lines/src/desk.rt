@@ -1,4 +1,4 @@
-ghost use Rattle.std.specs.Prelude.{◌≡◌, List, [], ◌<◌, ◌+◌, ◌++◌, length, replicate, IfOk, OnOk, OnErr};
+ghost use Rattle.std.specs.Prelude.{◌≡◌, ◌==◌, if◌then◌else◌, List, [], ◌∷◌, ◌<◌, ◌+◌, ◌++◌, length, replicate, IfOk, OnOk, OnErr};
 ghost use Rattle.std.specs.List.{flat_map};
 ghost use Rattle.fx_edges.specs.Gathered.{Gathered};
 ghost use Rattle.fx_rules.specs.declared.outcome.Entry.{Entry};
@@ -7,7 +7,7 @@ ghost use Rattle.fx_rules.specs.Session.{bank_count};
 ghost use Rattle.reply_lines.specs.Desks.{nothing_yet, with_notice, AreDesksOf};
 ghost use Rattle.reply_lines.specs.Fills.{AreTextsOf, notice_to};
 ghost use Rattle.reply_lines.specs.inside.Desks.{HaveGot};
-ghost use Rattle.reply_lines.specs.Notices.{reply_notices, fill_notices, notices_in, desk_line, desk_text};
+ghost use Rattle.reply_lines.specs.Notices.{fill_notices, notices_in, desk_line, desk_text};
 ghost use Rattle.reply_lines.specs.Notices.Notice.{Replied};
 ghost use Rattle.reply_lines.specs.Output.{desks_text};
 ghost use Rattle.reply_lines.specs.Prints.{IsAnswerOf, IsFillOf};
@@ -148,7 +148,7 @@ fn add_reply(
 ) -> Result<(), Memory>
     requires answer { IsAnswerOf session.now entry.now.command entry.now.outcome }
     requires sender { entry.now.bank < length desks.old.items }
-    ensures ok { OnOk result (HaveGot session.now (λ bank. reply_notices bank entry.now) desks.old.items desks.new.items) }
+    ensures ok { OnOk result (HaveGot session.now (λ bank. if entry.now.bank == bank then Replied entry.now ∷ [] else []) desks.old.items desks.new.items) }
 {
     desks[entry.bank.index()].reply(session, entry, writer)
 }

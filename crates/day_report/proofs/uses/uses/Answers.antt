@@ -2,7 +2,7 @@ use Rattle.std.proofs.Common.{◌++◌, ap, sym, ◌∙◌}
 use Rattle.std.specs.List.{flat_map}
 use Rattle.fx_rules.specs.Lists.{below}
 use Rattle.day_report.specs.inside.Lists.{uses_behind}
-use Rattle.day_report.proofs.Listing.{flat_map-more}
+use Rattle.fx_rules.proofs.Below.{flat_map-more}
 use Rattle.day_report.proofs.uses.uses.Goals as goal
 
 pub loop-place-preserved : goal.loop-place-preserved

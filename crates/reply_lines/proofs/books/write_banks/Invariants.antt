@@ -1,11 +1,12 @@
-use Rattle.std.proofs.Common.{ℕ}
+use Rattle.std.proofs.Common.{ℕ, flat_map}
 use Rattle.fx_edges.specs.Gathered.{Kept}
-use Rattle.reply_lines.specs.Books.{LocalBook, books_below}
-use Rattle.reply_lines.specs.inside.Books.{AreBooksOf}
+use Rattle.fx_rules.specs.Lists.{below}
+use Rattle.reply_lines.specs.Books.{LocalBook}
+use Rattle.reply_lines.specs.inside.Books.{AreBooksOf, book_lines}
 use Rattle.reply_lines.proofs.books.write_banks.Given as goal
 
 -- the local books of the banks so far are written
 abbrev pub invariant-loop-place : goal.invariant-loop-place
 invariant-loop-place g l =
     (books : ℕ → ℕ → LocalBook) → AreBooksOf g.M.Market.stands l.session l.market books →
-    Kept g.K.Sink.written g.K.Sink.faults l.initial.pieces l.initial.out l.pieces l.out (books_below l.session books l.place)
+    Kept g.K.Sink.written g.K.Sink.faults l.initial.pieces l.initial.out l.pieces l.out (flat_map (book_lines l.session books) (below l.place))

@@ -1,8 +1,7 @@
 -- The taker's bank gets its notice, and then the maker's.
-use Rattle.std.proofs.Common.{◌<◌, List, arith, length, set}
+use Rattle.std.proofs.Common.{◌<◌, eqb, if◌then◌else◌, List, [], ◌∷◌, arith, length, set}
 use Rattle.std.proofs.lemmas.List.{length-set}
 use Rattle.reply_lines.specs.Desks.{DeskSoFar}
-use Rattle.reply_lines.specs.Notices.{taken_notices, given_notices}
 use Rattle.reply_lines.specs.Notices.Notice.{Took, Gave}
 use Rattle.reply_lines.proofs.Gathering.{got-at, got-then}
 use Rattle.reply_lines.proofs.Outputs.{on_ok}
@@ -18,7 +17,7 @@ returns c =
     let maker_in : f.maker < length between = omega (arith, c.requires.fill.maker, c.requires.desks, length-set desks c.index.result c.fill.new.self) in
     record {
       ok = on_ok c.fill-2.result (λ given.
-          got-then h (λ bank. taken_notices bank f) (λ bank. given_notices bank f) desks between (set between c.index-2.result c.fill-2.new.self)
+          got-then h (λ bank. if eqb f.taker bank then Took f ∷ [] else []) (λ bank. if eqb f.maker bank then Gave f ∷ [] else []) desks between (set between c.index-2.result c.fill-2.new.self)
           (got-at h f.taker c.index.result (Took f) desks c.index.ensures.value taker_in c.index_mut.ensures.value c.in_ok-fill.ensures.ok)
           (got-at h f.maker c.index-2.result (Gave f) between c.index-2.ensures.value maker_in c.index_mut-2.ensures.value given))
           c.fill-2.ensures.ok;
