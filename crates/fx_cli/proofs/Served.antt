@@ -18,9 +18,9 @@ use Rattle.reply_lines.specs.declared.output.OutFault.TheVariants as outs
 use Rattle.reply_lines.specs.declared.output.Ending.{Ending}
 use Rattle.journal_check.proofs.Exactly.{outputs_list}
 use Rattle.session_script.specs.Input.{input_limit}
-use Rattle.session_script.specs.Reading.{Progressed}
+use Rattle.session_script.specs.Reading.{ProgressedBehind}
 use Rattle.session_script.specs.Stage.{session_at, sent_at, strays_at}
-use Rattle.session_script.specs.Rounds.{HasRead, HasStopped, TookPromptly}
+use Rattle.session_script.specs.Rounds.{HasRead, HasStopped, TookPromptlyBehind}
 use Rattle.session_script.specs.declared.ends.EarlyEnd.TheVariants as early
 use Rattle.session_script.specs.declared.ends.TextEnd.{TextEnd}
 use Rattle.session_script.specs.declared.ends.TextEnd.TheVariants.{EndLine, Early}
@@ -56,7 +56,7 @@ round_valid h served sent each = Each-back (IsSentOf h) served sent each
 pub round_few : {S : Type 0} {left : S → Option (List ℕ)} {faults : S → ℕ} {a b : S} {reading : Reading} {h : Header} (served sent : List Sent) → HasRead left faults a b reading h (served ++ sent) → length served + length sent < 2 ^ 32
 round_few served sent has = omega (arith, has.says.few, has.within, length-append served sent)
 
-pub promptly : {S : Type 0} {left : S → Option (List ℕ)} {faults : S → ℕ} {a b : S} {reading : Reading} {h : Header} {all : List Sent} → HasRead left faults a b reading h all → TookPromptly left faults a b
+pub promptly : {S : Type 0} {left : S → Option (List ℕ)} {faults : S → ℕ} {a b : S} {reading : Reading} {h : Header} {all : List Sent} → HasRead left faults a b reading h all → TookPromptlyBehind [] left faults a b
 promptly has = record { input = has.input; took = has.took; within = has.within; prompt = has.prompt }
 
 some_header : (g h : Header) → Some g ≡ Some h → g ≡ h
@@ -74,7 +74,7 @@ read_status (Early early.TooMuch) is = cc
 
 module _ (IsTextOf : KindOfText) {S K : Type 0} (left : S → Option (List ℕ)) (failed : S → ℕ) (written : K → Option (List ℕ)) (faults : K → ℕ) where
   -- out of memory before anything was written
-  pub ran-memory : (a b : S) (out out' : K) → TookPromptly left failed a b → out' ≡ out → Ran IsTextOf left failed written faults a b out out' (Memory refused)
+  pub ran-memory : (a b : S) (out out' : K) → TookPromptlyBehind [] left failed a b → out' ≡ out → Ran IsTextOf left failed written faults a b out out' (Memory refused)
   ran-memory a b out out' took unwritten = record {
     input = took.input;
     took = took.took;
@@ -118,7 +118,7 @@ module _ (IsRight : Header → List Sent → List Entry → Type 0) {S K : Type 
   output_of : (a b : S) (reading : Reading) (h : Header) (sent : List Sent) (end : TextEnd) (history : List Entry) (text : List ℕ) (has : HasRead left failed a b reading h sent) → reading.end ≡ Some end
       → IsRight h sent history → IsLegal h history → length history ≤ 2 ^ 26 → IsOutput h history (strays_at reading.intake.stage) (ending_of end) text → IsOutputOf IsRight end has.input (left b) text
   output_of a b reading h sent end history text has ended right legal few output = record {
-    at_its_end = subst (Progressed (left b) has.input) ended has.ended;
+    at_its_end = subst (ProgressedBehind [] (left b) has.input) ended has.ended;
     session = h;
     of_its_header = has.says.session;
     history = history;
@@ -136,7 +136,7 @@ module _ (IsRight : Header → List Sent → List Entry → Type 0) {S K : Type 
     within = has.within;
     prompt = has.prompt;
     read = Ok end;
-    came = ((h, has.says.session), subst (Progressed (left b) has.input) ended has.ended);
+    came = ((h, has.says.session), subst (ProgressedBehind [] (left b) has.input) ended has.ended);
     cause = λ fault. has.cause (ended ∙ read_status end fault);
     followed = subst (RanText (IsOutputOf IsRight) written faults out out' end has.input (left b)) (sym is)
         (written_so (IsOutputOf IsRight) left failed written faults result out out' end has.input (left b) (IsOutput h history strays (ending_of end))
@@ -156,7 +156,7 @@ less_to_read None (Some later) was now goes_on further within = omega arith
 less_to_read (Some end) end' was now goes_on further within = absurd cc
 
 pub taken_within : {S : Type 0} {left : S → Option (List ℕ)} {faults : S → ℕ} {a b : S} {reading : Reading} {h : Header} {all : List Sent} → HasRead left faults a b reading h all → reading.intake.taken ≤ input_limit
-taken_within has = omega (arith, has.stands.taken, has.within)
+taken_within has = omega (arith, has.taken, has.within)
 
 -- out of memory
 pub for_memory : {T : Type 0} (result : Result T AmountsMemory) (why : AmountsMemory → Type 0) (P : Result T AmountsMemory → Type 0) → IsErrAnd result why → ((memory : AmountsMemory) → P (Err memory)) → P result

@@ -297,6 +297,12 @@ no_limits-at from to first second = zeros_at 4096 (omega arith) from to first se
 record Starts (n : ℕ) (h : Header) : Type 0 where
   count : ℕ
   starts : with_lines (Drafting n empty_draft) (lines_for h.banks (statements_of h)) ≡ Started count h
+  -- all statements before START
+  front : List Statement
+  all_are : statements_of h ≡ front ++ statements.Start ∷ []
+  draft : Draft
+  drafted : ℕ
+  before : with_lines (Drafting n empty_draft) (lines_for h.banks front) ≡ Drafting drafted draft
   lines : Each (λ statement. IsLine (spelling h.banks statement)) (statements_of h)
 
 starts : (n : ℕ) (h : Header) → IsSession h → Starts n h
@@ -327,6 +333,11 @@ starts n h session =
     record {
       count = next rows.leads.count;
       starts = lead_on n h.banks empty_draft (with_limits h rows.after) (named ++ paired ++ limited) last all ∙ read_last;
+      front = named ++ paired ++ limited;
+      all_are = refl;
+      draft = with_limits h rows.after;
+      drafted = all.count;
+      before = all.leads;
       lines = Each-append is_line (named ++ paired ++ limited) last all.lines (spelling_line (with_limits h rows.after) statements.Start rows.leads.valid can, tt);
     }
 
@@ -366,3 +377,28 @@ pub head_text-whole : (h : Header) → IsSession h → rest_of (head_text_of h) 
 head_text-whole h session =
     let it = starts 1 h session in
     rest_of-line_text version_fields (lines_text h.banks (statements_of h)) version_line ∙ rest_of-statements h.banks (statements_of h) it.lines
+
+-- its last line is START, and the lines before it do not end the header
+pub record EndsAtStart (h : Header) : Type 0 where
+  pub lines : List Line
+  pub last : Line
+  pub all_are : lines_of (head_text_of h) ≡ lines ++ last ∷ []
+  pub draft : Draft
+  pub drafted : ℕ
+  pub before : read_head lines ≡ Drafting drafted draft
+
+pub head_text-ends : (h : Header) → IsSession h → EndsAtStart h
+head_text-ends h session =
+    let it = starts 1 h session in
+    let first : Line = Whole (join_with_byte 32 version_fields) in
+    let cut : lines_for h.banks (statements_of h) ≡ lines_for h.banks it.front ++ line_for h.banks statements.Start ∷ [] =
+    ap (lines_for h.banks) it.all_are ∙ map-append (line_for h.banks) it.front (statements.Start ∷ []) in
+    record {
+      lines = first ∷ lines_for h.banks it.front;
+      last = line_for h.banks statements.Start;
+      all_are = lines_of-line_text version_fields (lines_text h.banks (statements_of h)) version_line
+          ∙ ap (λ (lines : List Line). first ∷ lines) (lines_of-statements h.banks (statements_of h) it.lines ∙ cut);
+      draft = it.draft;
+      drafted = it.drafted;
+      before = ap (λ (head : Head). with_lines head (lines_for h.banks it.front)) version_read ∙ it.before;
+    }

@@ -1,19 +1,18 @@
 -- What a text is, by what its lines have come to.
-use Rattle.std.proofs.Common.{◌≡◌, ℕ, ◌^◌, ◌<◌, ◌≤◌, min, Bool, true, false, ◌⊎◌, inl, inr, List, length, Some, sym, ap, ◌∙◌, subst, arith}
+use Rattle.std.proofs.Common.{◌≡◌, ℕ, ◌^◌, ◌<◌, ◌≤◌, min, Bool, true, false, ◌⊎◌, inl, inr, List, ◌++◌, length, Some, sym, ap, ◌∙◌, subst, arith}
 use Rattle.std.specs.Bool.{MatchBool}
 use Rattle.fx_rules.specs.Session.{Header}
 use Rattle.fx_text.specs.Lines.{lines_of, rest_of, is_end_rest}
-use Rattle.fx_text.proofs.LinesLemmas.{length-lines_of}
 use Rattle.session_head.specs.Head as heads
 use Rattle.session_head.specs.Head.{Head, read_head, session_of}
 use Rattle.session_head.specs.declared.reason.HeadReason.{HeadReason}
 use Rattle.session_script.specs.Script.{spoken_of, spoken_in, up_to_end, has_end, strays_in, HasSession, HasFault, HasEnd, EndsWithEnd, sent_in, strays_of}
-use Rattle.session_script.specs.Reading.{HasNoFault, HasNotStarted, GoesOn, Says}
+use Rattle.session_script.specs.Reading.{HasNoFault, HasNotStarted, GoesOn, SaysBehind}
 use Rattle.session_script.specs.Stage.{Tells, most_strays}
 use Rattle.session_script.specs.inside.Stage.{goes_on}
 use Rattle.session_script.specs.inside.Intake.{IsSettled}
 use Rattle.fx_rules.specs.declared.command.Sent.{Sent}
-use Rattle.session_script.proofs.ScriptLaws.{HasSession-one, HasSession-no_fault, length-spoken_of, length-sent_among, strays_in-few}
+use Rattle.session_script.proofs.ScriptLaws.{HasSession-one, HasSession-no_fault, length-sent_among, strays_in-few}
 
 -- a header that goes on
 
@@ -77,15 +76,14 @@ told-settled text h sent strays false tells = (told_no_fault text h sent strays 
 fewer : (a n : ℕ) → a ≤ n → n < 2 ^ 64 → min a most_strays ≡ a
 fewer a n few small = omega arith
 
-pub told_says : (text : List ℕ) (h : Header) (sent : List Sent) (strays : ℕ) (ended : Bool) → length text < 2 ^ 64 → Tells (lines_of text) h sent strays ended → Says text h sent strays
+pub told_says : (front input : List ℕ) (h : Header) (sent : List Sent) (strays : ℕ) (ended : Bool) → length (spoken_of h (lines_of (front ++ input))) ≤ length input → length input < 2 ^ 64 → Tells (lines_of (front ++ input)) h sent strays ended → SaysBehind front input h sent strays
 unfolding HasSession sent_in strays_of spoken_in
-told_says text h sent strays ended small tells =
-    let said = spoken_of h (lines_of text) in
-    let few : length said ≤ length text = omega (arith, length-spoken_of h (lines_of text), length-lines_of text) in
+told_says front input h sent strays ended few small tells =
+    let said = spoken_of h (lines_of (front ++ input)) in
     record {
       session = tells.session;
       sent_is = tells.commands;
-      strays_is = tells.count ∙ fewer (strays_in (up_to_end said)) (length text) (omega (arith, strays_in-few said)) small;
+      strays_is = tells.count ∙ fewer (strays_in (up_to_end said)) (length input) (omega (arith, strays_in-few said)) small;
       valid = tells.valid;
       few = omega (arith, ap (λ (all : List Sent). length all) tells.commands, length-sent_among said);
     }

@@ -1,10 +1,10 @@
 -- A session's text as it goes on: its session, its first fault, its END line and what stands before that stay.
-use Rattle.std.proofs.Common.{◌≡◌, ℕ, ◌+◌, ◌≤◌, Bool, true, false, cond, List, [], ◌∷◌, ◌++◌, length, map, None, Some, refl, sym, ap, ◌∙◌, subst, arith}
+use Rattle.std.proofs.Common.{◌≡◌, ℕ, ◌+◌, ◌≤◌, Bool, true, false, cond, List, [], ◌∷◌, ◌++◌, length, map, None, Some, refl, sym, ap, ◌∙◌, subst, arith, length-append}
 use Rattle.std.proofs.lemmas.List.{map-append, length-map}
 use Rattle.fx_rules.specs.Session.{Header}
 use Rattle.fx_text.specs.declared.line.Line.{Line}
 use Rattle.fx_text.specs.Lines.{lines_of, rest_of}
-use Rattle.fx_text.proofs.LinesLemmas.{lines_of-append}
+use Rattle.fx_text.proofs.LinesLemmas.{lines_of-append, length-lines_of}
 use Rattle.session_head.specs.Head as heads
 use Rattle.session_head.specs.Head.{Head, read_head, with_line, with_lines, session_of}
 use Rattle.session_head.proofs.HeadLemmas.{with_lines-append}
@@ -15,6 +15,7 @@ use Rattle.order_lines.specs.declared.spoken.Spoken.TheVariants.{Of, Stray, End,
 use Rattle.session_script.specs.inside.Script.{is_started}
 use Rattle.session_script.specs.Script.{lines_behind, up_to_end, has_end, sent_among, strays_in, spoken_of, spoken_in, HasSession, HasFault, HasEnd, sent_in, strays_of}
 use Rattle.fx_rules.specs.declared.command.Sent.{Sent}
+use Rattle.session_script.specs.Rounds.{IsFront}
 
 -- A header that has started or has a fault stays as it is.
 
@@ -76,7 +77,7 @@ lines_behind-append head (line ∷ lines) more before behind =
     (λ later. lines_behind-append (with_line head line) lines more later behind)
 
 -- START itself is not behind START
-lines_behind-start : (head : Head) (lines : List Line) (line : Line) → is_started (with_lines head lines) ≡ false → lines_behind head (lines ++ line ∷ []) ≡ []
+pub lines_behind-start : (head : Head) (lines : List Line) (line : Line) → is_started (with_lines head lines) ≡ false → lines_behind head (lines ++ line ∷ []) ≡ []
 lines_behind-start head [] line before = chosen_same (is_started (with_line head line)) []
 lines_behind-start head (first ∷ lines) line before =
     chosen_none (is_started (with_line head first)) (lines ++ line ∷ []) (lines_behind (with_line head first) (lines ++ line ∷ []))
@@ -169,8 +170,26 @@ spoken_of-append h lines more is =
 pub spoken_of-start : (h : Header) (lines : List Line) (line : Line) → is_started (read_head lines) ≡ false → spoken_of h (lines ++ line ∷ []) ≡ []
 spoken_of-start h lines line before = ap (map (command_line h)) (lines_behind-start (heads.Begun 0) lines line before)
 
-pub length-spoken_of : (h : Header) (lines : List Line) → length (spoken_of h lines) ≤ length lines
-length-spoken_of h lines = omega (arith, length-map (lines_behind (heads.Begun 0) lines) (command_line h), length-lines_behind (heads.Begun 0) lines)
+-- lines behind those of a front
+length-lines_behind_front : (head : Head) (front lines : List Line) → lines_behind head front ≡ [] → length (lines_behind head (front ++ lines)) ≤ length lines
+length-lines_behind_front head [] lines silent = length-lines_behind head lines
+length-lines_behind_front head (line ∷ front) lines silent =
+    shorter (is_started (with_line head line)) front (lines_behind (with_line head line) front) (lines_behind (with_line head line) (front ++ lines)) silent (length-lines_behind_front (with_line head line) front lines)
+  where
+    shorter : (b : Bool) (left right more : List Line) → cond b left right ≡ [] → (right ≡ [] → length more ≤ length lines) → length (cond b (left ++ lines) more) ≤ length lines
+    shorter true left right more none then = omega (arith, ap (λ (all : List Line). length all) none, length-append left lines)
+    shorter false left right more none then = then none
+
+pub length-spoken_behind : (front input : List ℕ) (h : Header) → IsFront front → length (spoken_of h (lines_of (front ++ input))) ≤ length input
+length-spoken_behind front input h is =
+    let all : lines_of (front ++ input) ≡ lines_of front ++ lines_of input = lines_of-append front input ∙ ap (λ (rest : List ℕ). lines_of front ++ lines_of (rest ++ input)) is.whole in
+    omega (
+      arith,
+      length-map (lines_behind (heads.Begun 0) (lines_of (front ++ input))) (command_line h),
+      ap (λ (lines : List Line). length (lines_behind (heads.Begun 0) lines)) all,
+      length-lines_behind_front (heads.Begun 0) (lines_of front) (lines_of input) is.silent,
+      length-lines_of input,
+    )
 
 -- Texts.
 

@@ -1,5 +1,5 @@
 -- How the input of a session ended, or that it goes on.
-use Rattle.std.specs.Prelude.{ℕ, ◌≡◌, ◌≤◌, ◌<◌, ◌⊎◌, List, ◌++◌, length, Option, Some, None}
+use Rattle.std.specs.Prelude.{ℕ, ◌≡◌, ◌≤◌, ◌<◌, ◌⊎◌, List, [], ◌++◌, length, Option, Some, None}
 use Rattle.std.specs.Io.KnownBytes.{IsAtEnd}
 use Rattle.fx_rules.specs.declared.command.Sent.{Sent}
 use Rattle.fx_rules.specs.Lists.{Each}
@@ -30,45 +30,58 @@ HasStarted input = (h : SessionHeader) × HasSession input h
 abbrev pub HasNotStarted : List ℕ → Type 0
 HasNotStarted input = (h : SessionHeader) → ¬ (HasSession input h)
 
--- the reading stopped with the read that ended it, which asked for 4,096 bytes at most: the input before went on
-pub record IsPrompt (input : List ℕ) : Type 0 where
-  pub before : List ℕ
-  pub last : List ℕ
-  pub joined : input ≡ before ++ last
-  pub short : length last ≤ 4096
-  pub goes_on : GoesOn before
-
--- the input so far has this session, these commands and so many strays
-pub record Says (input : List ℕ) (h : SessionHeader) (sent : List Sent) (strays : ℕ) : Type 0 where
-  pub session : HasSession input h
-  pub sent_is : sent ≡ sent_in h input
-  pub strays_is : strays ≡ strays_of h input
-  pub valid : Each (IsSentOf h) sent
-  pub few : length sent ≤ length input
-
 -- a read met the source's end, behind this input
 pub record MetEnd (known : Option (List ℕ)) (input : List ℕ) : Type 0 where
   pub met : IsAtEnd known
   pub short : length input < input_limit
 
--- the input reached its END line: it has the line, or a read met the source's end and what is left over is that line
-abbrev pub IsEnded : Option (List ℕ) → List ℕ → Type 0
-IsEnded known input = HasEnd input ⊎ (MetEnd known input × EndsWithEnd input)
+-- The text that is read is the input behind a front, which stands before all that is taken. It is empty but where a reading
+-- goes on behind the header of a session that is known: then it is that header's text.
+module _ (front : List ℕ) where
+  -- the reading stopped with the read that ended it, which asked for 4,096 bytes at most: the text before went on
+  pub record IsPromptBehind (input : List ℕ) : Type 0 where
+    pub before : List ℕ
+    pub last : List ℕ
+    pub joined : input ≡ before ++ last
+    pub short : length last ≤ 4096
+    pub goes_on : GoesOn (front ++ before)
 
--- how the input ended before its END line, by what the source has left then
+  -- the text so far has this session, these commands, of which the input has each, and so many strays
+  pub record SaysBehind (input : List ℕ) (h : SessionHeader) (sent : List Sent) (strays : ℕ) : Type 0 where
+    pub session : HasSession (front ++ input) h
+    pub sent_is : sent ≡ sent_in h (front ++ input)
+    pub strays_is : strays ≡ strays_of h (front ++ input)
+    pub valid : Each (IsSentOf h) sent
+    pub few : length sent ≤ length input
+
+  -- the text reached its END line: it has the line, or a read met the source's end and what is left over is that line
+  abbrev pub IsEndedBehind : Option (List ℕ) → List ℕ → Type 0
+  IsEndedBehind known input = HasEnd (front ++ input) ⊎ (MetEnd known input × EndsWithEnd (front ++ input))
+
+  -- how the text ended before its END line, by what the source has left then
+  abbrev pub EndedEarlyBehind : Option (List ℕ) → List ℕ → EarlyEnd → Type 0
+  EndedEarlyBehind known input Cut = MetEnd known input × HasNoFault (front ++ input) × ¬ (HasEnd (front ++ input)) × ¬ (EndsWithEnd (front ++ input))
+  EndedEarlyBehind known input ReadFault = (length input < input_limit) × HasNoFault (front ++ input) × ¬ (HasEnd (front ++ input))
+  EndedEarlyBehind known input TooMuch = (length input ≡ input_limit) × HasNoFault (front ++ input) × ¬ (HasEnd (front ++ input))
+
+  abbrev pub TextEndedBehind : Option (List ℕ) → List ℕ → TextEnd → Type 0
+  TextEndedBehind known input EndLine = IsEndedBehind known input
+  TextEndedBehind known input (Early early) = EndedEarlyBehind known input early
+
+  -- how the text ended, if it did
+  abbrev pub ProgressedBehind : Option (List ℕ) → List ℕ → Option TextEnd → Type 0
+  ProgressedBehind known input None = GoesOn (front ++ input)
+  ProgressedBehind known input (Some end) = TextEndedBehind known input end
+
+-- where the input is all of the text
+abbrev pub IsPrompt : List ℕ → Type 0
+IsPrompt = IsPromptBehind []
+
 abbrev pub EndedEarly : Option (List ℕ) → List ℕ → EarlyEnd → Type 0
-EndedEarly known input Cut = MetEnd known input × HasNoFault input × ¬ (HasEnd input) × ¬ (EndsWithEnd input)
-EndedEarly known input ReadFault = (length input < input_limit) × HasNoFault input × ¬ (HasEnd input)
-EndedEarly known input TooMuch = (length input ≡ input_limit) × HasNoFault input × ¬ (HasEnd input)
+EndedEarly = EndedEarlyBehind []
 
 abbrev pub TextEnded : Option (List ℕ) → List ℕ → TextEnd → Type 0
-TextEnded known input EndLine = IsEnded known input
-TextEnded known input (Early early) = EndedEarly known input early
-
--- how the input ended, if it did
-abbrev pub Progressed : Option (List ℕ) → List ℕ → Option TextEnd → Type 0
-Progressed known input None = GoesOn input
-Progressed known input (Some end) = TextEnded known input end
+TextEnded = TextEndedBehind []
 
 -- why the reading of a text stopped before START
 abbrev pub Stopped : Option (List ℕ) → List ℕ → Stop → Type 0

@@ -1,42 +1,58 @@
 -- What a reading took of its source, round by round.
-use Rattle.std.specs.Prelude.{ℕ, ◌≡◌, ◌≤◌, List, ◌++◌, length, Option, Some, Result, Ok, Err}
+use Rattle.std.specs.Prelude.{ℕ, ◌≡◌, ◌≤◌, List, [], ◌++◌, length, Option, Some, Result, Ok, Err}
 use Rattle.fx_edges.specs.Faults.{Rose}
 use Rattle.fx_edges.specs.Reading.{Took}
 use Rattle.fx_rules.specs.declared.command.Sent.{Sent}
 use Rattle.fx_rules.specs.Session.{Header}
+use Rattle.fx_text.specs.Lines.{lines_of, rest_of}
+use Rattle.session_head.specs.Head.{Begun}
 use Rattle.session_script.specs.Input.{input_limit}
 use Rattle.session_script.specs.Stage.{session_at, sent_at, strays_at}
 use Rattle.session_script.specs.Intake.{StandsFor}
-use Rattle.session_script.specs.Reading.{IsPrompt, Says, Progressed, Stopped}
+use Rattle.session_script.specs.Reading.{IsPrompt, IsPromptBehind, SaysBehind, ProgressedBehind, Stopped}
+use Rattle.session_script.specs.Script.{lines_behind}
 use Rattle.session_script.specs.declared.ends.EarlyEnd.TheVariants.{ReadFault}
 use Rattle.session_script.specs.declared.ends.TextEnd.TheVariants.{Early}
 use Rattle.session_script.specs.declared.ends.Stop.{Stop}
 use Rattle.session_script.specs.declared.ends.Stop.TheVariants.{Early as EarlyStop}
 use Rattle.session_script.specs.declared.reading.Reading.{Reading}
 
-module _ {S : Type 0} (left : S → Option (List ℕ)) (faults : S → ℕ) (before now : S) where
-  -- some input was taken, at most the limit, by reads that stop where the text ends
-  pub record TookPromptly : Type 0 where
-    pub input : List ℕ
-    pub took : Took left faults before now input
-    pub within : length input ≤ input_limit
-    pub prompt : IsPrompt input
+-- A front ends with a line feed, and says nothing behind START.
+pub record IsFront (front : List ℕ) : Type 0 where
+  pub whole : rest_of front ≡ []
+  pub silent : lines_behind (Begun 0) (lines_of front) ≡ []
 
-  -- The rounds so far took some input, at most the limit. It says this session and, up to the END line, all these commands,
-  -- the last round's at their end. How it ended is by what it says, and a read fault is the source's.
-  pub record HasRead (reading : Reading) (h : Header) (all : List Sent) : Type 0 where
+module _ (front : List ℕ) {S : Type 0} (left : S → Option (List ℕ)) (faults : S → ℕ) (before now : S) where
+  -- some input was taken, at most the limit, by reads that stop where the text ends
+  pub record TookPromptlyBehind : Type 0 where
     pub input : List ℕ
     pub took : Took left faults before now input
     pub within : length input ≤ input_limit
-    pub prompt : IsPrompt input
+    pub prompt : IsPromptBehind front input
+
+  -- The rounds so far took some input, at most the limit. The text of the front and the input says this session and, up to the
+  -- END line, all these commands, the last round's at their end. How it ended is by what it says, and a read fault is the
+  -- source's.
+  pub record HasReadBehind (reading : Reading) (h : Header) (all : List Sent) : Type 0 where
+    pub input : List ℕ
+    pub took : Took left faults before now input
+    pub within : length input ≤ input_limit
+    pub prompt : IsPromptBehind front input
     pub session : session_at reading.intake.stage ≡ Some h
-    pub says : Says input h all (strays_at reading.intake.stage)
-    pub ended : Progressed (left now) input reading.end
+    pub says : SaysBehind front input h all (strays_at reading.intake.stage)
+    pub ended : ProgressedBehind front (left now) input reading.end
     pub cause : reading.end ≡ Some (Early ReadFault) → Rose (faults before) (faults now)
     -- what the next round goes on from
+    pub is_front : IsFront front
     pub former : List Sent
     pub all_is : all ≡ former ++ sent_at reading.intake.stage
-    pub stands : StandsFor reading.intake input former
+    pub stands : StandsFor reading.intake (front ++ input) former
+    pub taken : reading.intake.taken ≡ length input
+
+module _ {S : Type 0} (left : S → Option (List ℕ)) (faults : S → ℕ) (before now : S) where
+  -- where the input is all of the text
+  abbrev pub HasRead : Reading → Header → List Sent → Type 0
+  HasRead = HasReadBehind [] left faults before now
 
   -- the reading stopped before START
   pub record HasStopped (stop : Stop) : Type 0 where

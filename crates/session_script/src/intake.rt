@@ -5,11 +5,13 @@ ghost use Rattle.std.specs.Bool.{MatchBool};
 ghost use Rattle.fx_amounts.specs.OutOfMemory.{refused};
 ghost use Rattle.fx_rules.specs.declared.command.Sent.{Sent as SentCommand};
 ghost use Rattle.fx_rules.specs.Session.{Header as SessionHeader};
+ghost use Rattle.session_head.specs.HeadText.{head_text_of};
 ghost use Rattle.session_script.specs.inside.Stage.{is_open};
 
 use crate::ends::{EarlyEnd, Stop, TextEnd};
 use fx_amounts::Memory;
 use fx_edges::Source;
+use fx_rules::Session;
 use fx_text::LineCutter;
 pub(crate) use stage::Stage;
 use std::alloc::Global;
@@ -42,12 +44,14 @@ impl Intake {
     ghost use Rattle.session_script.specs.Intake.{StandsFor};
     ghost use Rattle.session_script.specs.inside.Intake.{IsSettled, Closed};
     ghost use Rattle.session_script.specs.Reading.{GoesOn};
+    ghost use Rattle.session_script.specs.Rounds.{IsFront};
     ghost use Rattle.session_script.specs.inside.Rounds.{ReadsOn, TookRound};
 
     /// An intake of no bytes. It takes no memory.
     pub(crate) fn new(alloc: Global) -> Intake
         ensures begun { StandsFor result [] [] }
         ensures heading { session_at result.stage ≡ None }
+        ensures none { result.taken ≡ 0 }
     {
         Intake {
             cutter: LineCutter::new(),
@@ -57,11 +61,28 @@ impl Intake {
         }
     }
 
+    /// An intake of no bytes that goes on behind the text of a session's header. It takes no memory.
+    pub(crate) fn resume(alloc: Global, session: Session) -> Intake
+        ensures stands { StandsFor result (head_text_of session) [] }
+        ensures session { session_at result.stage ≡ Some session }
+        ensures sent { sent_at result.stage ≡ [] }
+        ensures front { IsFront (head_text_of session) }
+        ensures goes_on { GoesOn (head_text_of session) }
+        ensures none { result.taken ≡ 0 }
+    {
+        Intake {
+            cutter: LineCutter::new(),
+            alloc,
+            stage: Stage::resume(alloc, session),
+            taken: 0,
+        }
+    }
+
     /// Takes a round of the source's bytes, up to the END line, a fault of the header, the source's end or a read that fails;
     /// 65,536 bytes at most, and 2^26 of all rounds. Each read asks for 4,096 bytes, or for what the round leaves where that
     /// is less. Answers how the text ended, if it did. After `Err` the intake must not be used any more.
     pub(crate) fn read_round<S: Source>(&mut self, source: &mut S) -> Result<Option<TextEnd>, Stop>
-        ensures took { (before : S) (former : List SentCommand) (input : List ℕ) → ReadsOn S.left S.faults before source.old self.old former input → TookRound S.left S.faults before source.new self.new (former ++ sent_at self.old.stage) input result }
+        ensures took { (front : List ℕ) (before : S) (former : List SentCommand) (input : List ℕ) → ReadsOn front S.left S.faults before source.old self.old former input → TookRound front S.left S.faults before source.new self.new (former ++ sent_at self.old.stage) input result }
         ensures session { (h : SessionHeader) → session_at self.old.stage ≡ Some h → session_at self.new.stage ≡ Some h }
         ensures further { result ≡ Ok None → self.old.taken < self.new.taken }
 

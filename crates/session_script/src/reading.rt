@@ -1,4 +1,4 @@
-ghost use Rattle.std.specs.Prelude.{◌≡◌, ◌<◌, ◌≤◌, ◌+◌, ◌++◌, Some, None, IsSome, OnOk, OnErr, List};
+ghost use Rattle.std.specs.Prelude.{ℕ, [], ◌≡◌, ◌<◌, ◌≤◌, ◌+◌, ◌++◌, Option, Some, None, IsSome, OnOk, OnErr, List};
 ghost use Rattle.fx_rules.specs.declared.command.Sent.{Sent as SentCommand};
 ghost use Rattle.fx_rules.specs.Session.{Header as SessionHeader};
 ghost use Rattle.session_script.specs.Stage.{session_at};
@@ -8,6 +8,7 @@ use crate::intake::{Intake, Stage};
 use crate::script::Script;
 use fx_amounts::Memory;
 use fx_edges::Source;
+use fx_rules::Session;
 use std::alloc::Global;
 
 /// The text of a session whose START was read, as it is taken from its source in rounds.
@@ -25,7 +26,8 @@ pub struct Reading {
 
 impl Reading {
     ghost use Rattle.session_script.specs.Stage.{sent_at, strays_at};
-    ghost use Rattle.session_script.specs.Rounds.{HasBegun, HasRead, TookPromptly};
+    ghost use Rattle.session_head.specs.HeadText.{head_text_of};
+    ghost use Rattle.session_script.specs.Rounds.{HasBegun, HasReadBehind, TookPromptlyBehind};
 
     /// Reads the rounds up to the one with START. The reading stops at the first fault of the header too.
     pub fn begin<S: Source>(alloc: Global, source: &mut S) -> Result<Reading, Stop>
@@ -49,17 +51,29 @@ impl Reading {
         }
     }
 
+    /// A reading that goes on behind the START of a session that is known. It has taken nothing of the source; the text that it
+    /// reads is the session's header and then what the source gives, of which at most 2^26 bytes are taken. It takes no memory.
+    pub fn resume<S: Source>(alloc: Global, session: Session, source: &S) -> Reading
+        ensures resumed { HasReadBehind (head_text_of session) S.left S.faults source.now source.now result session [] }
+        ensures none { result.intake.taken ≡ 0 }
+    {
+        Reading {
+            intake: Intake::resume(alloc, session),
+            end: None,
+        }
+    }
+
     /// Reads the next round of a text that has not ended. After `Memory` it has the same session and has not ended, but some
     /// commands may be missing, so that it must not be used any more.
     pub fn read_round<S: Source>(&mut self, source: &mut S) -> Result<(), Memory>
         requires goes_on { self.old.end ≡ None }
-        ensures read { OnOk result ((before : S) (h : SessionHeader) (all : List SentCommand) → HasRead S.left S.faults before source.old self.old h all → HasRead S.left S.faults before source.new self.new h (all ++ sent_at self.new.intake.stage)) }
+        ensures read { OnOk result ((front : List ℕ) (before : S) (h : SessionHeader) (all : List SentCommand) → HasReadBehind front S.left S.faults before source.old self.old h all → HasReadBehind front S.left S.faults before source.new self.new h (all ++ sent_at self.new.intake.stage)) }
         ensures further { OnOk result (self.new.end ≡ None → self.old.intake.taken < self.new.intake.taken) }
         ensures few { OnOk result (self.new.intake.taken ≤ self.old.intake.taken + 65536) }
         ensures whole { OnOk result (self.new.end ≡ None → self.new.intake.taken ≡ self.old.intake.taken + 65536) }
         ensures session { session_at self.new.intake.stage ≡ session_at self.old.intake.stage }
         ensures goes_on { OnErr result (self.new.end ≡ None) }
-        ensures memory { OnErr result ((before : S) (h : SessionHeader) (all : List SentCommand) → HasRead S.left S.faults before source.old self.old h all → TookPromptly S.left S.faults before source.new) }
+        ensures memory { OnErr result ((front : List ℕ) (before : S) (h : SessionHeader) (all : List SentCommand) → HasReadBehind front S.left S.faults before source.old self.old h all → TookPromptlyBehind front S.left S.faults before source.new) }
     {
         match self.intake.read_round(source) {
             Ok(end) => {

@@ -1,4 +1,4 @@
-ghost use Rattle.std.specs.Prelude.{◌≡◌, IfOk};
+ghost use Rattle.std.specs.Prelude.{◌≡◌, [], IfOk};
 ghost use Rattle.fx_text.specs.Lines.{line_seen};
 ghost use Rattle.order_lines.specs.Grammar.{command_line};
 
@@ -6,6 +6,7 @@ use fx_amounts::Memory;
 use fx_rules::{Sent, Session};
 use fx_text::LineView;
 use order_lines::{Spoken, command_in};
+use std::alloc::Global;
 
 /// What the text of a session says: the session of its header, the commands of the last round in the order of their lines,
 /// and how many of the lines behind START were strays so far.
@@ -18,6 +19,19 @@ pub struct Script {
 
 impl Script {
     ghost use Rattle.session_script.specs.inside.Stage.{Adds};
+
+    /// The script of a session, so far without a command.
+    pub(crate) fn of(alloc: Global, session: Session) -> Script
+        ensures session { result.session ≡ session }
+        ensures sent { result.sent.items ≡ [] }
+        ensures strays { result.strays ≡ 0 }
+    {
+        Script {
+            session,
+            sent: Vec::new(alloc),
+            strays: 0,
+        }
+    }
 
     /// Adds what a line behind START says, and answers whether it is the END line. After `Err` the line is not added.
     pub(crate) fn add(&mut self, line: &LineView<'_>) -> Result<bool, Memory>

@@ -1,5 +1,5 @@
 -- A text served round by round, and what came of it.
-use Rattle.std.specs.Prelude.{ℕ, ◌≡◌, List, ◌++◌, map, Option, Some, Result, Ok, Err}
+use Rattle.std.specs.Prelude.{ℕ, ◌≡◌, List, [], ◌++◌, map, Option, Some, Result, Ok, Err}
 use Rattle.std.specs.declared.alloc.Global.{Global}
 use Rattle.std.specs.declared.vec.Vec.{Vec}
 use Rattle.fx_amounts.specs.declared.memory.Memory.{Memory}
@@ -17,7 +17,7 @@ use Rattle.reply_lines.specs.Day.{IsTextOf}
 use Rattle.reply_lines.specs.declared.day.DayText.{DayText}
 use Rattle.pair_host.specs.Standing.{HostState, stands}
 use Rattle.session_script.specs.Stage.{sent_at}
-use Rattle.session_script.specs.Rounds.{HasRead, TookPromptly}
+use Rattle.session_script.specs.Rounds.{HasRead, TookPromptlyBehind}
 use Rattle.session_script.specs.declared.ends.TextEnd.{TextEnd}
 use Rattle.session_script.specs.declared.reading.Reading.{Reading}
 use Rattle.threaded_run.specs.Lanes.{HaveServed}
@@ -50,7 +50,7 @@ module _ {S : Type 0} (left : S → Option (List ℕ)) (faults : S → ℕ) wher
 
     abbrev pub ServedText : Ran HostState DayText → Result TextEnd Memory → Type 0
     ServedText run (Ok end) = IsServed run end
-    ServedText run (Err memory) = TookPromptly left faults before now
+    ServedText run (Err memory) = TookPromptlyBehind [] left faults before now
 
     -- so have the lanes, each bank's in its order
     pub record AreServed (lanes : List (Lane (Witness Entry))) (end : TextEnd) : Type 0 where
@@ -61,7 +61,7 @@ module _ {S : Type 0} (left : S → Option (List ℕ)) (faults : S → ℕ) wher
 
     abbrev pub LanesServedText : List (Lane (Witness Entry)) → Result TextEnd Memory → Type 0
     LanesServedText lanes (Ok end) = AreServed lanes end
-    LanesServedText lanes (Err memory) = TookPromptly left faults before now
+    LanesServedText lanes (Err memory) = TookPromptlyBehind [] left faults before now
 
     -- and this is the history that they made, with the market in the state after it
     pub record IsHistoryOfText (end : TextEnd) (history : List Entry) (market : HostState) : Type 0 where
@@ -74,4 +74,4 @@ module _ {S : Type 0} (left : S → Option (List ℕ)) (faults : S → ℕ) wher
 
     abbrev pub ThreadsServedText : Result (TextEnd × Vec Entry Global × HostState) Memory → Type 0
     ThreadsServedText (Ok done) = IsHistoryOfText done.0 done.1.items done.2
-    ThreadsServedText (Err memory) = TookPromptly left faults before now
+    ThreadsServedText (Err memory) = TookPromptlyBehind [] left faults before now

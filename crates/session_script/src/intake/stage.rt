@@ -5,9 +5,11 @@ ghost use Rattle.fx_rules.specs.Session.{Header as SessionHeader};
 ghost use Rattle.fx_text.specs.Lines.{lines_of, rest_of, line_seen, IsRest};
 ghost use Rattle.fx_text.specs.declared.line.Line.{Line as TextLine};
 ghost use Rattle.session_head.specs.Head.{session_of};
+ghost use Rattle.session_head.specs.HeadText.{head_text_of};
 
 use crate::script::Script;
 use fx_amounts::Memory;
+use fx_rules::Session;
 use fx_text::{LineView, first_line};
 use session_head::{HeadReader, HeadReason, HeadStep, HeadStop};
 use std::alloc::Global;
@@ -27,6 +29,8 @@ pub(crate) enum Stage {
 impl Stage {
     ghost use Rattle.session_script.specs.Stage.{StandsAt, sent_at, session_at};
     ghost use Rattle.session_script.specs.inside.Stage.{is_open};
+    ghost use Rattle.session_script.specs.Reading.{GoesOn};
+    ghost use Rattle.session_script.specs.Rounds.{IsFront};
 
     /// The stage before the first line. It takes no memory.
     pub(crate) fn new(alloc: Global) -> Stage
@@ -35,6 +39,23 @@ impl Stage {
         ensures heading { session_at result ≡ None }
     {
         Stage::Heading(HeadReader::new(alloc))
+    }
+
+    /// The stage behind the START of a session's header. It takes no memory.
+    pub(crate) fn resume(alloc: Global, session: Session) -> Stage
+        ensures stands { StandsAt result (lines_of (head_text_of session)) [] }
+        ensures readable { IsTrue (is_open result) }
+        ensures session { session_at result ≡ Some session }
+        ensures sent { sent_at result ≡ [] }
+        ensures front { IsFront (head_text_of session) }
+        ensures goes_on { GoesOn (head_text_of session) }
+    {
+        // A session is valid as it is seen.
+        let _banks = session.banks();
+        Stage::Commanding {
+            script: Script::of(alloc, session),
+            ended: false,
+        }
     }
 
     /// Whether START was read.
@@ -113,9 +134,5 @@ fn started(alloc: Global, reader: &mut HeadReader) -> Script
     ensures strays { result.strays ≡ 0 }
 {
     let reader = mem::replace(reader, HeadReader::new(alloc));
-    Script {
-        session: reader.into_session().unwrap(),
-        sent: Vec::new(alloc),
-        strays: 0,
-    }
+    Script::of(alloc, reader.into_session().unwrap())
 }

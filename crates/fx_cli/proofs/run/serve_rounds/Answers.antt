@@ -1,5 +1,5 @@
 -- Each round serves what it read.
-use Rattle.std.proofs.Common.{rules, ◌≡◌, ◌++◌, Some, None, Result, sym, ◌∙◌}
+use Rattle.std.proofs.Common.{[], rules, ◌≡◌, ◌++◌, Some, None, Result, sym, ◌∙◌}
 use Rattle.fx_amounts.specs.declared.memory.Memory.{Memory}
 use Rattle.session_script.specs.declared.ends.TextEnd.{TextEnd}
 use Rattle.session_script.specs.Stage.{sent_at}
@@ -39,7 +39,7 @@ loop-reading-preserved g c = record {
   serving = λ before all has are.
       let so_far = c.loop-reading.invariant.serving before all has are in (
         so_far.0 ++ sent_at c.loop-reading.reading.intake.stage,
-        c.in_ok-read_round.ensures.read before g.N.Naming.session (so_far.0 ++ sent_at c.loop-reading.reading.intake.stage) so_far.1,
+        c.in_ok-read_round.ensures.read [] before g.N.Naming.session (so_far.0 ++ sent_at c.loop-reading.reading.intake.stage) so_far.1,
         lanes_served g.N.Naming.session so_far.0 c.deref.result.now (sent_at c.loop-reading.reading.intake.stage) c.serve_round.new.self.lanes.items (c.deref.ensures.value ∙ sym c.script.ensures.sent) (c.in_ok-serve_round.ensures.served so_far.0 so_far.2),
       );
 }
@@ -49,7 +49,7 @@ loop-reading-smaller g c =
     let goes_on : c.loop-reading.reading.end ≡ None = search rules in
     let its = c.requires.serving in
     let so_far = c.loop-reading.invariant.serving its.before its.sent its.has_read its.served in
-    let has = c.in_ok-read_round.ensures.read its.before g.N.Naming.session (so_far.0 ++ sent_at c.loop-reading.reading.intake.stage) so_far.1 in
+    let has = c.in_ok-read_round.ensures.read [] its.before g.N.Naming.session (so_far.0 ++ sent_at c.loop-reading.reading.intake.stage) so_far.1 in
     less_to_read c.loop-reading.reading.end c.read_round.new.self.end c.loop-reading.reading.intake.taken c.read_round.new.self.intake.taken goes_on c.in_ok-read_round.ensures.further (taken_within has)
 
 pub returns-in_err-read_round : goal.returns-in_err-read_round
@@ -57,5 +57,5 @@ returns-in_err-read_round g c = record {
   served = λ before all has are.
       let so_far = c.loop-reading.invariant.serving before all has are in
       for_memory c.from_residual-in_err-read_round.result _ (λ (r : Result TextEnd Memory). LanesServedText g.S.Source.left g.S.Source.faults before c.read_round.new.source c.read_round.new.self g.N.Naming.session c.serve_round.new.self.lanes.items r) c.from_residual-in_err-read_round.ensures.1
-      (λ memory. c.in_err-read_round.ensures.memory before g.N.Naming.session (so_far.0 ++ sent_at c.loop-reading.reading.intake.stage) so_far.1);
+      (λ memory. c.in_err-read_round.ensures.memory [] before g.N.Naming.session (so_far.0 ++ sent_at c.loop-reading.reading.intake.stage) so_far.1);
 }

@@ -1,5 +1,5 @@
 -- Each round serves what it read.
-use Rattle.std.proofs.Common.{rules, ◌≡◌, map, Some, None, Result, sym, ◌∙◌}
+use Rattle.std.proofs.Common.{[], rules, ◌≡◌, map, Some, None, Result, sym, ◌∙◌}
 use Rattle.fx_amounts.specs.declared.memory.Memory.{Memory}
 use Rattle.fx_rules.specs.Sending.{sent_by}
 use Rattle.session_script.specs.declared.ends.TextEnd.{TextEnd}
@@ -34,7 +34,7 @@ pub loop-reading-preserved : goal.loop-reading-preserved
 loop-reading-preserved g c = record {
   serving = λ before h serving.
       let round = round_served c.script-script.result.now.session c.loop-reading.run c.serve_all.new.self c.deref.result.now (c.loop-reading.invariant.serving before h serving) c.script-script.ensures.session (c.deref.ensures.value ∙ sym c.script-script.ensures.sent) c.in_ok-serve_all.ensures.served in
-      record { entries = round.entries; has_read = c.in_ok-read_round.ensures.read before h (map sent_by round.entries) round.has_read; has_served = round.has_served };
+      record { entries = round.entries; has_read = c.in_ok-read_round.ensures.read [] before h (map sent_by round.entries) round.has_read; has_served = round.has_served };
 }
 
 pub loop-reading-smaller : goal.loop-reading-smaller
@@ -43,7 +43,7 @@ loop-reading-smaller g c =
     let its = c.requires.serving in
     let so_far = c.loop-reading.invariant.serving its.0 its.1 its.2 in
     let round = round_served c.script-script.result.now.session c.loop-reading.run c.serve_all.new.self c.deref.result.now so_far c.script-script.ensures.session (c.deref.ensures.value ∙ sym c.script-script.ensures.sent) c.in_ok-serve_all.ensures.served in
-    let has = c.in_ok-read_round.ensures.read its.0 its.1 (map sent_by round.entries) round.has_read in
+    let has = c.in_ok-read_round.ensures.read [] its.0 its.1 (map sent_by round.entries) round.has_read in
     less_to_read c.loop-reading.reading.end c.read_round.new.self.end c.loop-reading.reading.intake.taken c.read_round.new.self.intake.taken goes_on c.in_ok-read_round.ensures.further (taken_within has)
 
 pub returns-in_err-read_round : goal.returns-in_err-read_round
@@ -51,5 +51,5 @@ returns-in_err-read_round g c = record {
   served = λ before h serving.
       let round = round_served c.script-script.result.now.session c.loop-reading.run c.serve_all.new.self c.deref.result.now (c.loop-reading.invariant.serving before h serving) c.script-script.ensures.session (c.deref.ensures.value ∙ sym c.script-script.ensures.sent) c.in_ok-serve_all.ensures.served in
       for_memory c.from_residual-in_err-read_round.result _ (λ (r : Result TextEnd Memory). ServedText g.S.Source.left g.S.Source.faults before c.read_round.new.source c.read_round.new.self h c.serve_all.new.self r) c.from_residual-in_err-read_round.ensures.1
-      (λ memory. c.in_err-read_round.ensures.memory before h (map sent_by round.entries) round.has_read);
+      (λ memory. c.in_err-read_round.ensures.memory [] before h (map sent_by round.entries) round.has_read);
 }

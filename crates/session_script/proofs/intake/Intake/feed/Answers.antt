@@ -11,7 +11,6 @@ pub returns-clause-fed : goal.returns-clause-fed
 returns-clause-fed c = λ text former stands.
     let piece : List ℕ = c.args.piece.now in
     let held : List ℕ = c.args.self.now.cutter in
-    let size : c.args.self.now.taken + length piece ≡ length (text ++ piece) = omega (arith, stands.taken, length-append text piece) in
     elim c.match-complete.branch [
       | in-Some+in_ok-take+in_ok-rest w ↦
           let behind : List ℕ = w.in-Some.behind.now in
@@ -23,12 +22,10 @@ returns-clause-fed c = λ text former stands.
             held = ap (λ s. s.1.0) w.self-is ∙ held-first text piece held behind w.in_ok-rest.rest.now w.hold.new.self line stands.held first w.in_ok-rest.ensures.rest w.in_ok-rest.ensures.behind w.hold.ensures;
             stage = subst (λ (stage : Stage). StandsAt stage (lines_of (text ++ piece)) former) (sym (ap (λ s. s.1.1.1.0) w.self-is))
                 (subst (λ (lines : List Line). StandsAt w.take_all.new.self lines former) (lines-first text piece held behind line stands.held first) taken);
-            taken = size;
           }
       | in_default w ↦ record {
         held = ap (λ s. s.1.0) w.self-is ∙ held-all_held text piece held c.complete.new.self stands.held w.in_default.ensures.line.1;
         stage = subst (λ (stage : Stage). StandsAt stage (lines_of (text ++ piece)) former) (sym (ap (λ s. s.1.1.1.0) w.self-is))
             (subst (λ (lines : List Line). StandsAt c.args.self.now.stage lines former) (lines-all_held text piece held stands.held w.in_default.ensures.line.0) stands.stage);
-        taken = size;
       }
     ]

@@ -1,4 +1,4 @@
-use Rattle.std.proofs.Common.{rules, ◌≡◌, ◌+◌, ◌-◌, ◌<◌, ◌≤◌, min, ℕ, [], ◌++◌, List, Option, Result, Ok, Err, length, take, drop, refl, ap, sym, subst, arith, length-take}
+use Rattle.std.proofs.Common.{rules, ◌∙◌, ◌≡◌, ◌+◌, ◌-◌, ◌<◌, ◌≤◌, min, ℕ, [], ◌++◌, List, Option, Result, Ok, Err, length, take, drop, refl, ap, sym, subst, arith, length-take}
 use Rattle.std.proofs.lemmas.List.{take-append-le}
 use Rattle.std.specs.Prelude.{IsErrAnd}
 use Rattle.std.specs.Io.KnownBytes.{IsAtEnd}
@@ -37,38 +37,40 @@ memory_result (Err stop) is = ap Err is
 
 pub loop-self-init : goal.loop-self-init
 loop-self-init g c = record {
-  round = λ before former input reads.
-      InRound-begun (former ++ sent_at c.args.self.now.stage) _ refl refl reads (c.begin_round.ensures.begun (lines_of input) former reads.stands.stage);
+  round = λ front before former input reads.
+      InRound-begun (former ++ sent_at c.args.self.now.stage) _ refl refl reads (c.begin_round.ensures.begun (lines_of (front ++ input)) former reads.stands.stage);
   session = c.begin_round.ensures.session;
   within = omega (arith, c.min-end.ensures, c.args.self.now.within);
 }
 
 pub returns-in_default-clause-took : goal.returns-in_default-clause-took
-returns-in_default-clause-took g c = λ before former input reads.
-    TookRound-fault (c.loop-self.invariant.round before former input reads) (search rules) (search rules) (search rules) (search rules)
+returns-in_default-clause-took g c = λ front before former input reads.
+    TookRound-fault (c.loop-self.invariant.round front before former input reads) (search rules) (search rules) (search rules) (search rules)
 
 pub returns-then-count-eq0-clause-took : goal.returns-then-count-eq0-clause-took
-returns-then-count-eq0-clause-took g c = λ before former input reads.
+returns-then-count-eq0-clause-took g c = λ front before former input reads.
     let nothing : Took g.S.Source.left g.S.Source.faults c.loop-self.source c.read.new.self [] =
     subst (λ (n : ℕ). Took g.S.Source.left g.S.Source.faults c.loop-self.source c.read.new.self (take n c.read.new.into)) c.if-count-eq0.true c.in-Ok.ensures.ok in
     let at_end : IsAtEnd (g.S.Source.left c.loop-self.source) = c.in-Ok.ensures.end c.if-count-eq0.true (search rules) in
-    TookRound-end (c.loop-self.invariant.round before former input reads) (search rules) nothing at_end c.close.ensures.closed
+    TookRound-end (c.loop-self.invariant.round front before former input reads) (search rules) nothing at_end c.close.ensures.closed
 
 pub returns-in_err-feed-clause-took : goal.returns-in_err-feed-clause-took
-returns-in_err-feed-clause-took g c = λ before former input reads.
+returns-in_err-feed-clause-took g c = λ front before former input reads.
     let taken = c.loop-self.self.taken in
     let piece = IsPiece-read c.read.new.into c.loop-self.piece c.in-Ok.count c.min-room.result taken c.min-end.result c.in-Ok.ensures.room.1 c.in-Ok.ensures.room.0 c.read.auto.into c.min-room.ensures c.loop-self-test.true in
-    subst (λ (result : Result (Option TextEnd) Stop). TookRound g.S.Source.left g.S.Source.faults before c.read.new.self c.feed.new.self (former ++ sent_at c.args.self.now.stage) input result) (sym (memory_result c.from_residual.result c.from_residual.ensures.1))
-    (TookRound-memory c.feed.new.self (c.loop-self.invariant.round before former input reads) c.in-Ok.ensures.ok piece.short (omega (arith, piece.fits, c.min-end.ensures)))
+    subst (λ (result : Result (Option TextEnd) Stop). TookRound front g.S.Source.left g.S.Source.faults before c.read.new.self c.feed.new.self (former ++ sent_at c.args.self.now.stage) input result) (sym (memory_result c.from_residual.result c.from_residual.ensures.1))
+    (TookRound-memory c.feed.new.self (c.loop-self.invariant.round front before former input reads) c.in-Ok.ensures.ok piece.short (omega (arith, piece.fits, c.min-end.ensures)))
 
 pub returns-then-is_settled-clause-took : goal.returns-then-is_settled-clause-took
-returns-then-is_settled-clause-took g c = λ before former input reads.
+returns-then-is_settled-clause-took g c = λ front before former input reads.
     let into = c.read.new.into in
     let piece = IsPiece-read into c.loop-self.piece c.in-Ok.count c.min-room.result c.loop-self.self.taken c.min-end.result c.in-Ok.ensures.room.1 c.in-Ok.ensures.room.0 c.read.auto.into c.min-room.ensures c.loop-self-test.true in
     let feeds : (text : List ℕ) (sent : List Sent) → StandsFor c.loop-self.self text sent → StandsFor c.feed.new.self (text ++ take c.in-Ok.count into) sent =
     subst (λ (bytes : List ℕ). (text : List ℕ) (sent : List Sent) → StandsFor c.loop-self.self text sent → StandsFor c.feed.new.self (text ++ bytes) sent)
     (fed into (drop c.min-room.result c.loop-self.piece) c.in-Ok.count c.in-Ok.ensures.room.0) c.in_ok-feed.ensures.fed in
-    TookRound-settled (c.loop-self.invariant.round before former input reads) c.in-Ok.ensures.ok piece.short (omega (arith, piece.fits, c.min-end.ensures)) feeds c.if-is_settled.ensures c.close-then-is_settled.ensures.closed
+    let taken : c.feed.new.self.taken ≡ c.loop-self.self.taken + length (take c.in-Ok.count into) =
+    c.in_ok-feed.ensures.taken ∙ ap (λ (bytes : List ℕ). c.loop-self.self.taken + length bytes) (fed into (drop c.min-room.result c.loop-self.piece) c.in-Ok.count c.in-Ok.ensures.room.0) in
+    TookRound-settled (c.loop-self.invariant.round front before former input reads) c.in-Ok.ensures.ok piece.short (omega (arith, piece.fits, c.min-end.ensures)) feeds taken c.if-is_settled.ensures c.close-then-is_settled.ensures.closed
 
 pub loop-self-preserved : goal.loop-self-preserved
 loop-self-preserved g c =
@@ -78,14 +80,16 @@ loop-self-preserved g c =
     (fed into (drop c.min-room.result c.loop-self.piece) c.in-Ok.count c.in-Ok.ensures.room.0) c.in_ok-feed.ensures.fed in
     let piece = IsPiece-read into c.loop-self.piece c.in-Ok.count c.min-room.result c.loop-self.self.taken c.min-end.result c.in-Ok.ensures.room.1 c.in-Ok.ensures.room.0 c.read.auto.into c.min-room.ensures c.loop-self-test.true in
     record {
-      round = λ before former input reads. InRound-piece (c.loop-self.invariant.round before former input reads) c.in-Ok.ensures.ok feeds c.if-is_settled.ensures;
+      round = λ front before former input reads. InRound-piece (c.loop-self.invariant.round front before former input reads) c.in-Ok.ensures.ok feeds
+          (c.in_ok-feed.ensures.taken ∙ ap (λ (bytes : List ℕ). c.loop-self.self.taken + length bytes) (fed into (drop c.min-room.result c.loop-self.piece) c.in-Ok.count c.in-Ok.ensures.room.0))
+          c.if-is_settled.ensures;
       session = λ h is. c.in_ok-feed.ensures.session h (c.loop-self.invariant.session h is);
       within = omega (arith, piece.fits, c.in_ok-feed.ensures.taken, ap length (fed into (drop c.min-room.result c.loop-self.piece) c.in-Ok.count c.in-Ok.ensures.room.0));
     }
 
 pub returns-then-end-eq-INPUT_LIMIT-clause-took : goal.returns-then-end-eq-INPUT_LIMIT-clause-took
-returns-then-end-eq-INPUT_LIMIT-clause-took g c = λ before former input reads.
-    TookRound-much (c.loop-self.invariant.round before former input reads) (search rules) c.loop-self.self.within
+returns-then-end-eq-INPUT_LIMIT-clause-took g c = λ front before former input reads.
+    TookRound-much (c.loop-self.invariant.round front before former input reads) (search rules) c.loop-self.self.within
 
 pub returns-clause-took : goal.returns-clause-took
-returns-clause-took g c = λ before former input reads. TookRound-on (c.loop-self.invariant.round before former input reads) c.loop-self.self.within
+returns-clause-took g c = λ front before former input reads. TookRound-on (c.loop-self.invariant.round front before former input reads) c.loop-self.self.within

@@ -7,7 +7,7 @@ use Rattle.session_script.proofs.reading.Reading.begin.Given as goal
 -- START was not read so far
 abbrev pub invariant-loop-end : goal.invariant-loop-end
 invariant-loop-end g l = record {
-  reads : (input : List ℕ) × ReadsOn g.S.Source.left g.S.Source.faults l.fn.source l.source l.intake [] input;
+  reads : (input : List ℕ) × ReadsOn [] g.S.Source.left g.S.Source.faults l.fn.source l.source l.intake [] input;
   none : session_at l.intake.stage ≡ None;
 }
 

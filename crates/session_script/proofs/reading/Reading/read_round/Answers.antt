@@ -4,11 +4,11 @@ use Rattle.session_script.proofs.ScriptReading.{ReadsOn-reading, HasRead-round, 
 use Rattle.session_script.proofs.reading.Reading.read_round.Goals as goal
 
 pub returns-in-Ok-clause-read : goal.returns-in-Ok-clause-read
-returns-in-Ok-clause-read g c = λ before h all has.
-    let round = c.in-Ok.ensures.took before has.former has.input (ReadsOn-reading has c.requires.goes_on) in
+returns-in-Ok-clause-read g c = λ front before h all has.
+    let round = c.in-Ok.ensures.took front before has.former has.input (ReadsOn-reading has c.requires.goes_on) in
     HasRead-round c.read_round.new.self c.in-Ok.end _ h (all ++ sent_at c.read_round.new.self.stage) round (c.in-Ok.ensures.session h has.session) refl refl
-    (ap (λ sent. sent ++ sent_at c.read_round.new.self.stage) has.all_is)
+    (ap (λ sent. sent ++ sent_at c.read_round.new.self.stage) has.all_is) has.is_front
 
 pub returns-in-Err-Memory-clause-memory : goal.returns-in-Err-Memory-clause-memory
-returns-in-Err-Memory-clause-memory g c = λ before h all has.
-    TookPromptly-round (c.read_round.ensures.took before has.former has.input (ReadsOn-reading has c.requires.goes_on))
+returns-in-Err-Memory-clause-memory g c = λ front before h all has.
+    TookPromptly-round (c.read_round.ensures.took front before has.former has.input (ReadsOn-reading has c.requires.goes_on))
