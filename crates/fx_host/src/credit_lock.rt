@@ -79,6 +79,14 @@ impl<N: Naming> CreditLock<N> {
         credit.book.serve(pass, command)
     }
 
+    /// The pass sees the whole history so far. It has the credit lock and no other.
+    pub(crate) fn catch_up<R: Wait>(&self, rt: &R, pass: &mut Pass<N>)
+        ensures caught_up { HasCaughtUp N.session pass.old pass.new }
+    {
+        let mut credit = lock_soon(rt, &self.lock);
+        credit.book.catch_up_pass(pass);
+    }
+
     /// The entries from position `start` on of the history so far, all of which the pass then sees. It has the credit lock and no
     /// other. After `Memory` the pass is as it was.
     pub(crate) fn entries_from<R: Wait>(

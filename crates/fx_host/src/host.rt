@@ -93,6 +93,18 @@ impl<N: Naming> Host<N> {
         change_all(rt, self.alloc, alone, pass, other, asked)
     }
 
+    /// Lets the pass see the whole history so far: a legal one, which begins with all that the pass had seen and has of its bank just
+    /// the commands that the pass submitted. It may wait, and takes no memory.
+    pub fn catch_up<R: Wait>(&self, rt: &R, pass: &mut Pass<N>)
+        ensures begins { IsPrefix pass.old.seen pass.new.seen }
+        ensures legal { IsLegal N.session pass.new.seen }
+        ensures own { own pass.new.key pass.new.seen ≡ own pass.old.key pass.old.met }
+        ensures mine { own pass.new.key pass.new.met ≡ own pass.old.key pass.old.met }
+        ensures bank { pass.new.key ≡ pass.old.key }
+    {
+        self.credit.catch_up(rt, pass);
+    }
+
     /// The entries from position `start` on of a legal history that begins with all that the pass had seen; none where `start`
     /// is past its end. The pass has then seen that history. It may wait. After `Memory` the pass is as it was.
     pub fn entries_from<R: Wait>(

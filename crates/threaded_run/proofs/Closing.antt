@@ -39,7 +39,7 @@ among_mapped f (y ∷ xs) x (inl is) = inl (ap f is)
 among_mapped f (y ∷ xs) x (inr later) = inr (among_mapped f xs x later)
 
 -- nobody's lane
-no_lane : Lane (Witness Entry)
+pub no_lane : Lane (Witness Entry)
 no_lane = record { pass = witness 0 []; bank = 0; sent = 0; stream = []; done = 0; stopped = None }
 
 -- who is no sender of the session has no entry, and sends nothing
@@ -77,21 +77,27 @@ own_stream bank sent lane history is whole =
     ∙ is.commands
 
 -- so the history has each bank's commands once and in its order
-pub has-streams : (h : Header) (sent : List Sent) (lanes : List (Lane (Witness Entry))) (passes : List (Witness Entry)) (history : List Entry)
-    → IsLegal h history → HaveServed h sent lanes → passes ≡ map (λ (lane : Lane (Witness Entry)). lane.pass) lanes → ((pass : Witness Entry) → Among pass passes → IsWholeOf pass.key pass.seen (mine_of pass) history)
-    → HasStreams sent history
-has-streams h sent lanes passes history legal served passes_are whole = λ bank.
+pub streams-of : (h : Header) (sent : List Sent) (lanes : List (Lane (Witness Entry))) (history : List Entry) → IsLegal h history → HaveServed h sent lanes
+    → ((place : ℕ) (lane : Lane (Witness Entry)) → slice_get lanes place ≡ Some lane → IsWholeOf lane.pass.key lane.pass.seen (mine_of lane.pass) history) → HasStreams sent history
+streams-of h sent lanes history legal served whole = λ bank.
     elim (cases_lt bank (sender_places h)) [
       | inl below ↦
-          let d : Lane (Witness Entry) = no_lane in
-          let within : bank < length lanes = omega (arith, below, served.all) in
-          let here : Among (get_or lanes bank d).pass passes =
-          subst (Among (get_or lanes bank d).pass) (sym passes_are) (among_mapped (λ (lane : Lane (Witness Entry)). lane.pass) lanes (get_or lanes bank d) (among_at lanes bank d within)) in
-          own_stream bank sent (get_or lanes bank d) history (served.each bank (get_or lanes bank d) (slice_get-get_or lanes bank d within)) (whole (get_or lanes bank d).pass here)
+          let lane : Lane (Witness Entry) = get_or lanes bank no_lane in
+          let here : slice_get lanes bank ≡ Some lane = slice_get-get_or lanes bank no_lane (omega (arith, below, served.all)) in
+          own_stream bank sent lane history (served.each bank lane here) (whole bank lane here)
       | inr beyond ↦
           ap (map (λ (e : Entry). e.command)) (own_none h (opening h) bank history legal.session beyond legal.steps)
           ∙ sym (stream_none h bank sent served.session beyond served.valid)
     ]
+
+-- what holds of the passes of lanes holds of each
+pub each-lane : (P : Witness Entry → Type 0) (lanes : List (Lane (Witness Entry))) (passes : List (Witness Entry)) → passes ≡ map (λ (lane : Lane (Witness Entry)). lane.pass) lanes → ((pass : Witness Entry) → Among pass passes → P pass)
+    → (place : ℕ) (lane : Lane (Witness Entry)) → slice_get lanes place ≡ Some lane → P lane.pass
+each-lane P lanes passes passes_are holds place lane is =
+    let within : place < length lanes = slice_get_within lanes place lane is in
+    let lane_is : get_or lanes place lane ≡ lane = get_or_from_slice_get lanes place lane lane is in
+    let among : Among lane lanes = subst (λ (l : Lane (Witness Entry)). Among l lanes) lane_is (among_at lanes place lane within) in
+    holds lane.pass (subst (Among lane.pass) (sym passes_are) (among_mapped (λ (l : Lane (Witness Entry)). l.pass) lanes lane among))
 
 -- ---- the lanes of a round as they begin
 
@@ -112,7 +118,7 @@ may_send h bank (s ∷ sent) valid =
           (may_send h bank sent valid.1)
     ]
 
-stream_shorter : (bank : ℕ) (sent : List Sent) → length (stream_of bank sent) ≤ length sent
+pub stream_shorter : (bank : ℕ) (sent : List Sent) → length (stream_of bank sent) ≤ length sent
 stream_shorter bank [] = omega arith
 stream_shorter bank (s ∷ sent) =
     elim (cases_Bool (eqb s.bank bank)) [

@@ -1,3 +1,5 @@
 pub mod Making
 pub mod Closing
+pub mod Gathered
+pub mod Replayed
 pub mod TakingOut

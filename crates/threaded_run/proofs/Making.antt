@@ -19,6 +19,7 @@ use Rattle.fx_chronicle.specs.Faces.{Witness, witness, AreNew}
 use Rattle.fx_desk.specs.Streams.{stream_of}
 use Rattle.gateway_workers.specs.declared.lane.Lane.{Lane}
 use Rattle.threaded_run.specs.Lanes.{HaveServed, IsLaneOf}
+use Rattle.threaded_run.specs.Gathering.{HasSeen, HaveGathered}
 use Rattle.threaded_run.specs.inside.Lanes.{AreStreams, AreFilled, IsFresh, next_lane}
 
 -- one more command of a bank, and of another
@@ -27,35 +28,35 @@ pushed bank sent s =
     let test : Sent → Bool = λ (t : Sent). eqb t.bank bank in
     ap (map (λ (t : Sent). t.command)) (filter-append test sent (s ∷ [])) ∙ map-append (λ (t : Sent). t.command) (filter test sent) (filter test (s ∷ []))
 
-own_pushed : (bank : ℕ) (sent : List Sent) (s : Sent) → s.bank ≡ bank → stream_of bank (sent ++ s ∷ []) ≡ stream_of bank sent ++ s.command ∷ []
+pub own_pushed : (bank : ℕ) (sent : List Sent) (s : Sent) → s.bank ≡ bank → stream_of bank (sent ++ s ∷ []) ≡ stream_of bank sent ++ s.command ∷ []
 own_pushed bank sent s is =
     pushed bank sent s
     ∙ ap (λ (ss : List Sent). stream_of bank sent ++ map (λ (t : Sent). t.command) ss) (filter_cons_true (λ (t : Sent). eqb t.bank bank) s [] (eq-eqb s.bank bank is))
 
-other_pushed : (bank : ℕ) (sent : List Sent) (s : Sent) → s.bank ≢ bank → stream_of bank (sent ++ s ∷ []) ≡ stream_of bank sent
+pub other_pushed : (bank : ℕ) (sent : List Sent) (s : Sent) → s.bank ≢ bank → stream_of bank (sent ++ s ∷ []) ≡ stream_of bank sent
 other_pushed bank sent s other =
     pushed bank sent s
     ∙ ap (λ (ss : List Sent). stream_of bank sent ++ map (λ (t : Sent). t.command) ss) (filter_cons_false (λ (t : Sent). eqb t.bank bank) s [] (ne_eqb s.bank bank other))
     ∙ append-nil (stream_of bank sent)
 
 -- an item of a list of which one was set
-set_here : {X : Type 0} (xs : List X) (i : ℕ) (new x : X) → slice_get (set xs i new) i ≡ Some x → x ≡ new
+pub set_here : {X : Type 0} (xs : List X) (i : ℕ) (new x : X) → slice_get (set xs i new) i ≡ Some x → x ≡ new
 set_here xs i new x is =
     sym (get_or_from_slice_get (set xs i new) i x new is)
     ∙ get_or-set_same xs i new new (omega (arith, slice_get_within (set xs i new) i x is, length-set xs i new))
 
-set_there : {X : Type 0} (xs : List X) (i k : ℕ) (new : X) → k ≢ i → slice_get (set xs i new) k ≡ slice_get xs k
+pub set_there : {X : Type 0} (xs : List X) (i k : ℕ) (new : X) → k ≢ i → slice_get (set xs i new) k ≡ slice_get xs k
 set_there [] i k new other = refl
 set_there (x ∷ xs) zero zero new other = absurd (other refl)
 set_there (x ∷ xs) zero (suc k) new other = refl
 set_there (x ∷ xs) (suc i) zero new other = refl
 set_there (x ∷ xs) (suc i) (suc k) new other = set_there xs i k new (λ same. other (ap suc same))
 
-some_is : {X : Type 0} (a b : X) → Some a ≡ Some b → a ≡ b
+pub some_is : {X : Type 0} (a b : X) → Some a ≡ Some b → a ≡ b
 some_is a b e = cc
 
 -- what holds of each item holds of the one at a place
-Each-at : {X : Type 0} (P : X → Type 0) (xs : List X) (k : ℕ) (x : X) → Each P xs → slice_get xs k ≡ Some x → P x
+pub Each-at : {X : Type 0} (P : X → Type 0) (xs : List X) (k : ℕ) (x : X) → Each P xs → slice_get xs k ≡ Some x → P x
 Each-at P [] k x each is = absurd (cc is)
 Each-at P (y ∷ xs) zero x each is = subst P (some_is y x is) each.0
 Each-at P (y ∷ xs) (suc k) x each is = Each-at P xs k x each.1 is
@@ -106,6 +107,18 @@ lanes_open h passes lanes valid new passes_are fresh = record {
       (slice_get-map (λ (lane : Lane (Witness Entry)). lane.pass) lanes k ∙ ap (option_map (λ (lane : Lane (Witness Entry)). lane.pass)) is) in
       let below : k < sender_places h = omega (arith, slice_get_within passes k lane.pass pass_at, new.0) in
       fresh_lane k lane (Each-at IsFresh lanes k lane fresh is) (some_is lane.pass (witness k []) (sym pass_at ∙ new.1 k below));
+}
+
+-- nothing of them is gathered, and their passes have seen nothing
+pub none-gathered : (keys : ℕ) (passes : List (Witness Entry)) (lanes : List (Lane (Witness Entry))) → AreNew keys passes → map (λ (lane : Lane (Witness Entry)). lane.pass) lanes ≡ passes → HaveGathered [] 0 lanes
+none-gathered keys passes lanes new passes_are = record {
+  counted = refl;
+  each = λ k lane is.
+      let pass_at : slice_get passes k ≡ Some lane.pass =
+      subst (λ (ps : List (Witness Entry)). slice_get ps k ≡ Some lane.pass) passes_are
+      (slice_get-map (λ (lane : Lane (Witness Entry)). lane.pass) lanes k ∙ ap (option_map (λ (lane : Lane (Witness Entry)). lane.pass)) is) in
+      let below : k < keys = omega (arith, slice_get_within passes k lane.pass pass_at, new.0) in
+      subst (HasSeen []) (sym (some_is lane.pass (witness k []) (sym pass_at ∙ new.1 k below))) (record { begins = ([], refl); own_are_mine = refl });
 }
 
 -- the first so many lanes are in the next round, and the others as they were

@@ -1,3 +1,4 @@
 pub mod Lanes
+pub mod Gathering
 pub use Rattle.credit_book.specs.Recorded
 pub mod inside

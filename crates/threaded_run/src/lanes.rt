@@ -3,6 +3,7 @@ ghost use Rattle.fx_rules.specs.Lists.{Each};
 ghost use Rattle.fx_rules.specs.Session.{IsSession, sender_places};
 ghost use Rattle.fx_chronicle.specs.Faces.{AreNew};
 ghost use Rattle.threaded_run.specs.Lanes.{CanServe, HaveServed};
+ghost use Rattle.threaded_run.specs.Gathering.{HaveGathered};
 ghost use Rattle.threaded_run.specs.inside.Lanes.{AreFilled, AreStreams};
 
 use fx_amounts::Memory;
@@ -20,6 +21,7 @@ pub(crate) fn lanes_of<N: Naming>(
     requires passes { AreNew (sender_places N.session) passes.items }
     requires session { IsSession N.session }
     ensures lanes { IfOk result (λ lanes. HaveServed N.session [] lanes.items) }
+    ensures gathered { IfOk result (λ lanes. HaveGathered [] 0 lanes.items) }
 {
     let mut lanes = Vec::new(alloc);
     for pass in passes {

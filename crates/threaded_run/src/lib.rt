@@ -1,8 +1,10 @@
 //! A session's commands run on threads, round by round: one lane for each bank, in workers, at the host with a lock for each pair.
 #![tactic(auto)]
 
+mod gathering;
 mod lanes;
 mod market;
+mod replaying;
 mod run;
 mod whole;
 

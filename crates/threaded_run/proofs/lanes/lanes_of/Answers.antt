@@ -3,7 +3,7 @@ use Rattle.std.proofs.lemmas.List.{nil_from_length}
 use Rattle.fx_rules.specs.declared.outcome.Entry.{Entry}
 use Rattle.fx_chronicle.specs.Faces.{Witness}
 use Rattle.gateway_workers.specs.declared.lane.Lane.{Lane}
-use Rattle.threaded_run.proofs.Making.{lanes_open}
+use Rattle.threaded_run.proofs.Making.{lanes_open, none-gathered}
 use Rattle.threaded_run.proofs.lanes.lanes_of.Goals as goal
 
 -- at the end no pass is left
@@ -12,8 +12,9 @@ returns g c =
     let before = c.loop-pass.invariant in
     let none : c.loop-pass.pass-iterator.rest.items ≡ [] = nil_from_length _ (omega (arith, c.in-None.ensures.steps.0, c.loop-pass.pass-iterator.rest.ok)) in
     let all : c.into_iter-pass-iterator.result.rest.items ≡ c.args.passes.items = search rules in
+    let passes : map (λ (lane : Lane (Witness Entry)). lane.pass) c.loop-pass.lanes.items ≡ c.args.passes.items =
+    sym (append-nil _) ∙ ap (λ (ps : List (Witness Entry)). map (λ (lane : Lane (Witness Entry)). lane.pass) c.loop-pass.lanes.items ++ ps) (sym none) ∙ before.passes ∙ all in
     record {
-      lanes = lanes_open _ c.args.passes.items _ c.requires.session c.requires.passes
-          (sym (append-nil _) ∙ ap (λ (ps : List (Witness Entry)). map (λ (lane : Lane (Witness Entry)). lane.pass) c.loop-pass.lanes.items ++ ps) (sym none) ∙ before.passes ∙ all)
-          before.fresh;
+      lanes = lanes_open _ c.args.passes.items _ c.requires.session c.requires.passes passes before.fresh;
+      gathered = none-gathered _ c.args.passes.items _ c.requires.passes passes;
     }

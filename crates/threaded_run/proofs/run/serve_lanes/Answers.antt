@@ -1,4 +1,5 @@
 use Rattle.threaded_run.proofs.Closing.{ready-lanes, served-on, served-part, none-part, ok_then, err_always}
+use Rattle.threaded_run.proofs.Gathered.{gathered-ran, gathered-same}
 use Rattle.threaded_run.proofs.run.serve_lanes.Goals as goal
 
 pub run_round-requires-clause-ready : goal.run_round-requires-clause-ready
@@ -11,6 +12,9 @@ returns-in_err-fill_lanes-clause-memory g c =
     err_always c.from_residual.result
     (λ so_far served. none-part g.N.Naming.session so_far c.args.sent.now c.args.lanes.now c.fill_lanes.new.lanes served c.in_err-fill_lanes.ensures.memory)
 
+pub returns-in_err-fill_lanes-clause-gathered : goal.returns-in_err-fill_lanes-clause-gathered
+returns-in_err-fill_lanes-clause-gathered g c = λ so_far count gathered. gathered-same so_far count c.args.lanes.now c.fill_lanes.new.lanes gathered c.in_err-fill_lanes.ensures.memory
+
 pub returns : goal.returns
 returns g c = record {
   served = ok_then c.run_round.result
@@ -18,4 +22,6 @@ returns g c = record {
       c.run_round.ensures.done;
   memory = err_always c.run_round.result
       (λ so_far served. served-part g.N.Naming.session so_far c.args.sent.now c.args.lanes.now c.fill_lanes.new.lanes c.run_round.new.lanes served c.in_ok-fill_lanes.ensures.filled c.run_round.ensures.ran);
+  gathered = λ so_far count gathered.
+      gathered-ran g.N.Naming.session c.requires.can_serve.sent c.args.sent.now so_far count c.args.lanes.now c.fill_lanes.new.lanes c.run_round.new.lanes c.requires.can_serve.served gathered c.in_ok-fill_lanes.ensures.filled c.run_round.ensures.ran;
 }
