@@ -1,6 +1,7 @@
 //! A desk that is out of memory at one submit: the lane of that submit stops, the others go on, and the submit may be made
 //! again.
-ghost use Rattle.std.specs.Prelude.{ℕ, ◌≡◌, ◌≢◌, ◌<◌, [], ◌∷◌, All, IfOk, OnOk, length};
+ghost use Rattle.std.specs.Prelude.{ℕ, ◌≡◌, ◌≢◌, ◌<◌, ◌^◌, [], ◌∷◌, All, IfOk, OnOk, length};
+ghost use Rattle.fx_rules.specs.Lists.{Each};
 ghost use Rattle.fx_rules.specs.Session.{Header, IsSession, bank_count};
 ghost use Rattle.fx_rules.specs.History.{own};
 ghost use Rattle.fx_rules.specs.Sending.{IsSentOf};
@@ -198,15 +199,29 @@ fn refused_history<N: Naming + Send + Sync, R: AllocGlobal + Threads + Wait + Sy
     Ok(close_one(desk.host, passes))
 }
 
+// The history of these commands at the plain host.
+fn history_of(alloc: Global, session: &Session, sent: &[Sent]) -> Result<Vec<Entry>, Memory>
+    requires valid { Each (IsSentOf session.now) sent.now }
+    requires few { length sent.now < 2 ^ 32 }
+{
+    let host = FlatHost::open(alloc, session)?;
+    let (entries, _host) = run_in_order(alloc, session, host, sent)?;
+    Ok(entries)
+}
+
 // The history of the same commands at the plain host: each bank's first, then ALFA's others, then BETA's.
 fn plain_history(alloc: Global, session: &Session) -> Result<Vec<Entry>, Memory>
     requires banks { bank_count session.now ≡ 2 }
 {
-    let (alfa, beta) = (show(0, 1), show(1, 0));
-    let host = FlatHost::open(alloc, session)?;
-    let sent = [alfa, beta, alfa, alfa, beta, beta];
-    let (entries, _host) = run_in_order(alloc, session, host, &sent)?;
-    Ok(entries)
+    let sent = [
+        show(0, 1),
+        show(1, 0),
+        show(0, 1),
+        show(0, 1),
+        show(1, 0),
+        show(1, 0),
+    ];
+    history_of(alloc, session, &sent)
 }
 
 #[test]
