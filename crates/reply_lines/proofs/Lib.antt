@@ -1,4 +1,4 @@
-mod Items
+pub mod Items
 pub mod Parts
 pub mod Printable
 pub mod Existing

@@ -60,7 +60,7 @@ impl DayText {
         Ok(day)
     }
 
-    /// Adds the next entry of a legal history. After `Memory` the day is good for nothing more: a part of the entry's lines may
+    /// Adds the next entry of a legal history. After `Memory` the day must not be used any more: a part of the entry's lines may
     /// stand in it, and the rest not, so that it tells of no history.
     pub fn add(&mut self, session: &Session, entry: &Entry) -> Result<(), Memory>
         requires next { (entries : List Entry) × IsLegal session.now (entries ++ entry.now ∷ []) × IsTextOf session.now entries self.old }

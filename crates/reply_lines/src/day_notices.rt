@@ -40,7 +40,7 @@ impl DayNotices {
         })
     }
 
-    /// Adds those of the next entry. After `Memory` they are good for nothing more: some of the entry's notices may stand at
+    /// Adds those of the next entry. After `Memory` they must not be used any more: some of the entry's notices may stand at
     /// their desks, and others not.
     pub(crate) fn add(&mut self, session: &Session, entry: &Entry) -> Result<(), Memory>
         requires next { (entries : List Entry) × IsLegal session.now (entries ++ entry.now ∷ []) × AreNoticesOf session.now entries self.old }

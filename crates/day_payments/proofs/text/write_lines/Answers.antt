@@ -2,7 +2,7 @@
 use Rattle.std.proofs.Common.{◌∙◌, sym, subst}
 use Rattle.fx_edges.specs.Gathered.{Kept}
 use Rattle.fx_edges.proofs.Gathering.{Gathered-cut, Kept-append}
-use Rattle.day_payments.proofs.Items.{flat_more, at-place}
+use Rattle.reply_lines.proofs.Items.{flat_more, at-place}
 use Rattle.reply_lines.proofs.Outputs.{on_ok}
 use Rattle.reply_lines.proofs.Parts.{rows-prefix}
 use Rattle.net_settle.specs.Payments.{IsOfBanks}
