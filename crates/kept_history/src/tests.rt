@@ -53,7 +53,7 @@ const FOUND: [(&[u8], &[u8], &[u8], bool, u64); 12] = [
         false,
         0,
     ),
-    // A line of no bank, one that is passed over, and one that is cut off.
+    // A line of no bank, one that is ignored, and one that is cut off.
     (HEADER, b"GAMA SELL EUR/USD 1.08420 2 DAY\n", b"", false, 1),
     (HEADER, SELL, b"# evening\n", false, 2),
     (HEADER, SELL, b"ALFA BUY EUR/USD 1.08425 3 DAY", false, 2),

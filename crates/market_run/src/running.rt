@@ -50,7 +50,7 @@ impl<M: Market, O: Observer> Run<M, O> {
 
     /// Serves a sender's next command, and gives back what the observer leaves of the entry that the market makes of it: the
     /// history goes on by it, legally. After `Memory` the run is as it was; but where the observer can break, the market may have
-    /// gone on by an entry of which the observer was told a part or nothing, and the run is good for nothing more.
+    /// gone on by an entry of which the observer was told a part or nothing, and the run must not be used any more.
     pub fn serve_entry(&mut self, session: &Session, sent: Sent) -> Result<O::Left, Memory>
         requires may_serve { MayServe M.stands O.told session.now self.old (sent ∷ []) }
         ensures served { IfOk result (MadeEntry M.stands O.told session.now O.leaves self.old self.new sent) }
@@ -80,7 +80,7 @@ impl<M: Market, O: Observer> Run<M, O> {
     }
 
     /// Serves commands one after another, each as `serve` does. After `Memory` it has served the first so many of them, and not
-    /// all; where the observer can break, the run is good for nothing more.
+    /// all; where the observer can break, the run must not be used any more.
     pub fn serve_all(&mut self, session: &Session, sent: &[Sent]) -> Result<(), Memory>
         requires may_serve { MayServe M.stands O.told session.now self.old sent.now }
         ensures served { OnOk result (ServesOn M.stands O.told session.now self.old self.new sent.now) }

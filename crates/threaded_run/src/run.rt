@@ -60,7 +60,7 @@ impl<N: Naming + Send + Sync> ThreadedRun<N> {
     }
 
     /// Serves a round's commands, each bank's in its order, in at most `workers` threads (1 or more). A round without
-    /// commands is not run. After `Memory` the first so many of each bank's are served, and the run is good for nothing more.
+    /// commands is not run. After `Memory` the first so many of each bank's are served, and the run must not be used any more.
     /// It may wait.
     pub fn serve_round<R: AllocGlobal + Threads + Wait + Sync, G: Gate + Sync>(
         &mut self,
@@ -97,8 +97,8 @@ impl<N: Naming + Send + Sync> ThreadedRun<N> {
     }
 
     /// Submits the commands of a legal history again in its order, at a run that has served nothing. Each pass learns a note of the
-    /// pass before, and no gate is called. The history is then gathered, and it is the one that was given. After `Memory` the run is
-    /// good for nothing more. It may wait.
+    /// pass before, and no gate is called. The history is then gathered, and it is the one that was given. After `Memory` the run must
+    /// not be used any more. It may wait.
     pub fn replay<R: Wait>(&mut self, rt: &R, entries: &[Entry]) -> Result<(), Memory>
         requires served { HaveServed N.session [] self.old.lanes.items }
         requires gathered { HaveGathered [] self.old.gathered self.old.lanes.items }
