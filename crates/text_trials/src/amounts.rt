@@ -7,9 +7,9 @@ use std::test::Fail;
 use trial_days::{lots, price};
 
 #[test]
-fn amounts_know_their_ranges_and_what_they_come_to(rt: HostRuntime) {
-    let (two, most) = (lots(2), lots(1_000_000));
-    let (near, highest) = (price(108_420), price(1_000_000_000));
+fn amounts_know_their_ranges(rt: HostRuntime) {
+    let most = lots(1_000_000);
+    let highest = price(1_000_000_000);
     for (what, holds) in [
         ("no price", Price::new(0) == None),
         ("a price too high", Price::new(1_000_000_001) == None),
@@ -29,6 +29,20 @@ fn amounts_know_their_ranges_and_what_they_come_to(rt: HostRuntime) {
             "the last pair",
             PairId::new(31).map(PairId::index) == Some(31),
         ),
+        (
+            "the faults' numbers",
+            (PriceFault::Form.code(), PriceFault::Range.code()) == (1, 2),
+        ),
+    ] {
+        assert!(rt; holds, "{what}");
+    }
+}
+
+#[test]
+fn amounts_are_compared_and_multiplied(rt: HostRuntime) {
+    let (two, most) = (lots(2), lots(1_000_000));
+    let (near, highest) = (price(108_420), price(1_000_000_000));
+    for (what, holds) in [
         ("the other side", Side::Buy.opposite() == Side::Sell),
         ("a buy that crosses", highest.crosses(near, Side::Buy)),
         ("a sell that does not", !highest.crosses(near, Side::Sell)),
@@ -49,10 +63,6 @@ fn amounts_know_their_ranges_and_what_they_come_to(rt: HostRuntime) {
         (
             "the most credit units",
             most.cost(1_000_000).get() == 1_000_000_000_000,
-        ),
-        (
-            "the faults' numbers",
-            (PriceFault::Form.code(), PriceFault::Range.code()) == (1, 2),
         ),
     ] {
         assert!(rt; holds, "{what}");
