@@ -28,7 +28,7 @@ HERE = os.path.dirname(os.path.realpath(__file__))
 sys.path.insert(0, f"{HERE}/tools")
 sys.dont_write_bytecode = True
 from command.table import GAVE_UP, MOST_BYTES, MOST_MINUTES, NO_PACKAGE, REFUSED, UNPROVED
-from command.words import HELP, fault_of
+from command.words import asks_for_help, fault_of
 from sources.crates import read_crates
 
 TOP = "fx_cli"
@@ -174,9 +174,9 @@ def print_help():
 
 def main(words):
     if fault := fault_of(words):
-        say(f"{fault}; ./fx help tells the words, with examples")
+        say(f"{fault}. See ./fx help")
         return WRONG_WORDS
-    if words[0] in HELP:
+    if asks_for_help(words):
         return print_help()
     if words[0] == "build":
         return build()

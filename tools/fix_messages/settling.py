@@ -64,7 +64,7 @@ def filled_before(output: bytes, wanted: dict[tuple[str, int], int]) -> dict[tup
                 elif (name, notice.command) in wanted:
                     found[name, notice.command] = filled[wanted[name, notice.command]]
     except BadLine as fault:
-        raise NoAnswer(f"what the program wrote is no output: {fault}") from fault
+        raise NoAnswer(f"what the program wrote is not an output: {fault}") from fault
     if len(found) < len(wanted):
         raise NoAnswer("the program's output has not all replies")
     return found

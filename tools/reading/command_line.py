@@ -7,7 +7,7 @@ from collections.abc import Callable, Iterator
 from typing import BinaryIO
 
 from .output import PIECE, BadLine
-from .session import is_session
+from .session import is_output, is_session
 
 UNREADABLE = 2
 
@@ -28,7 +28,7 @@ class Parser(argparse.ArgumentParser):
         super().__init__(prog=name, description=summary, epilog=rest, formatter_class=argparse.RawDescriptionHelpFormatter)
 
     def error(self, message: str):
-        raise Failed(f"{message}; {self.prog} --help tells the words")
+        raise Failed(f"{message}; see {self.prog} --help")
 
 
 class Text:
@@ -66,7 +66,20 @@ class Text:
         return Failed(f"{self.name} can't be read: {fault.strerror}")
 
     def no_output(self, bad: BadLine) -> Failed:
-        return Failed(f"{self.name} is {'a session and ' if is_session(self.start) else ''}no output: {bad}")
+        return Failed(no_output(self.name, self.start, bad))
+
+    def is_output(self) -> bool:
+        """Whether the text, of which something was read, begins as an output does."""
+        return is_output(self.start)
+
+
+def no_output(name: str, start: bytes, bad: BadLine) -> str:
+    """Why a text with this beginning is not an output, in words."""
+    if is_session(start):
+        return f"{name} is a session, not an output: {bad}"
+    if start.partition(b"\n")[0].endswith(b"\r"):
+        return f"{name} is not an output: its lines end with CR LF, and those of an output with LF alone"
+    return f"{name} is not an output: {bad}"
 
 
 def printable(text: str | bytes) -> str:

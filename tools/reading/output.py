@@ -63,7 +63,7 @@ STRAYS_LINE = form(f"STRAYS {NUMBER}")
 
 
 class BadLine(Exception):
-    """The text is no output, as its line of this number shows."""
+    """The text is not an output, as the line of this number shows."""
 
     def __init__(self, number: int, what: str):
         super().__init__(f"line {number}: {what}")
@@ -100,25 +100,25 @@ class Lines:
                 self.kept.append(line)
             return line
         self.number += 1
-        raise self.bad(f"the text ends where {''.join(map(str, wanted))} is wanted")
+        raise self.bad(f"the text ends, and {''.join(map(str, wanted))} is missing")
 
     def take(self, shape: re.Pattern[bytes], wanted: str) -> list[str]:
         """The parts of the next line, which has to have this form."""
         found = shape.fullmatch(self.next(wanted))
         if not found:
-            raise self.bad(f"not {wanted}")
+            raise self.bad(f"expected {wanted}")
         return [part.decode() if part is not None else "" for part in found.groups()]
 
     def take_word(self, word: str) -> None:
         """Takes the next line, which has to be this word."""
         if self.next(f"the line {word}") != word.encode():
-            raise self.bad(f"not the line {word}")
+            raise self.bad(f"expected the line {word}")
 
 
 def bank_of(lines: Lines, header: Header, name: bytes) -> int:
     at = header.bank_at.get(name)
     if at is None:
-        raise lines.bad(f"no bank of the header has the name {name.decode()}")
+        raise lines.bad(f"the header has no bank {name.decode()}")
     return at
 
 
@@ -145,15 +145,15 @@ def read_header(lines: Lines) -> Header:
         header.add_pair(Pair(f"{base}/{quote}", base, quote, *map(int, numbers)))
         line = lines.next("a line PAIR, LINE or START")
     if not 2 <= len(header.banks) <= MOST_BANKS or len(header.bank_at) < len(header.banks):
-        raise lines.bad("the header has not 2 to 64 different banks")
+        raise lines.bad("the header does not have 2 to 64 different banks")
     if not 1 <= len(header.pairs) <= MOST_PAIRS or len(header.pair_at) < len(header.pairs):
-        raise lines.bad("the header has not 1 to 32 different pairs")
+        raise lines.bad("the header does not have 1 to 32 different pairs")
     while found := LIMIT_LINE.fullmatch(line):
         of, on, limit = found.groups()
         header.opening[bank_of(lines, header, of), bank_of(lines, header, on)] = int(limit)
         line = lines.next("a line LINE or START")
     if line != b"START":
-        raise lines.bad("not a line of a header, nor START")
+        raise lines.bad("expected a line of the header, or START")
     return header
 
 
@@ -186,7 +186,7 @@ def read_entries(lines: Lines, header: Header, count: int) -> Iterator[Entry]:
         shape = COMMANDS.get(word)
         found = shape and shape.fullmatch(line)
         if not found:
-            raise lines.bad("not a command of a bank")
+            raise lines.bad("expected a command of a bank")
         yield Entry(bank_of(lines, header, found[1]), word, line, found.groups())
 
 
@@ -226,7 +226,7 @@ def read_desk(lines: Lines, header: Header, bank: int) -> int:
     name = header.banks[bank]
     told, count = lines.take(DESK_LINE, f"the line DESK {name} with a number")
     if told != name:
-        raise lines.bad(f"not the desk of {name}")
+        raise lines.bad(f"expected the desk of {name}")
     return int(count)
 
 
@@ -238,14 +238,14 @@ def read_notices(lines: Lines, header: Header, bank: int, count: int, sent: int)
         shape = FILL if b" FILL " in line else REPLY
         found = shape.fullmatch(line)
         if not found or int(found[1]) != number:
-            raise lines.bad(f"not notice {number} of {name}")
+            raise lines.bad(f"expected notice {number} of {name}")
         if shape is FILL:
             yield fill_told(lines, header, bank, replied, line, found)
             continue
         replied += 1
         parts = found.groups()
         if int(parts[1]) != replied or replied > sent:
-            raise lines.bad(f"not the reply to command {replied} of {name}")
+            raise lines.bad(f"expected the reply to command {replied} of {name}")
         numbers = tuple([int(part) for part in parts[3:9] if part is not None])
         yield Reply(number, replied, parts[2].decode(), line, numbers, parts[9:] if parts[9] else ())
 
@@ -327,7 +327,7 @@ def read_books(lines: Lines, header: Header) -> Iterator[tuple[int, int, list[st
         for at, pair in enumerate(header.pairs):
             parts = lines.take(BOOK_LINE, f"the local book {name} {pair.name}")
             if parts[:2] != [name, pair.name]:
-                raise lines.bad(f"not the local book {name} {pair.name}")
+                raise lines.bad(f"expected the local book {name} {pair.name}")
             yield bank, at, parts[2].split(), parts[3].split()
 
 
@@ -337,7 +337,7 @@ def read_volumes(lines: Lines, header: Header) -> Iterator[tuple[int, ...]]:
     for pair in header.pairs:
         name, *numbers = lines.take(VOLUME_LINE, f"the line VOLUME {pair.name}")
         if name != pair.name:
-            raise lines.bad(f"not the line VOLUME {pair.name}")
+            raise lines.bad(f"expected the line VOLUME {pair.name}")
         yield tuple(map(int, numbers))
 
 
@@ -347,7 +347,7 @@ def read_uses(lines: Lines, header: Header) -> Iterator[tuple[int, ...]]:
         for second in range(first + 1, len(header.banks)):
             *names, here, there, used, left = lines.take(USE_LINE, f"the line USE {name} {header.banks[second]}")
             if names != [name, header.banks[second]]:
-                raise lines.bad(f"not the line USE {name} {header.banks[second]}")
+                raise lines.bad(f"expected the line USE {name} {header.banks[second]}")
             yield first, second, int(here), int(there), int(used), int(left)
 
 
@@ -358,7 +358,7 @@ def read_nets(lines: Lines, header: Header) -> Iterator[tuple[int, str, int]]:
         for code in currencies:
             *names, amount = lines.take(NET_LINE, f"the line NET {name} {code}")
             if names != [name, code]:
-                raise lines.bad(f"not the line NET {name} {code}")
+                raise lines.bad(f"expected the line NET {name} {code}")
             yield bank, code, int(amount)
 
 
@@ -367,8 +367,8 @@ def read_end(lines: Lines) -> tuple[int, str]:
     strays = int(lines.take(STRAYS_LINE, "the line STRAYS with a number")[0])
     ending = lines.next("the ending").decode(errors="replace")
     if ending not in ENDINGS:
-        raise lines.bad("not one of the endings END, CUT, READ and MUCH")
+        raise lines.bad("expected one of the endings END, CUT, READ and MUCH")
     for _ in lines.source:
         lines.number += 1
-        raise lines.bad("a line behind the ending")
+        raise lines.bad("a line after the ending")
     return strays, ending

@@ -287,6 +287,11 @@ def read_session(file) -> Session:
     return Session(text, bool(file.read(1)))
 
 
+def is_output(start: bytes) -> bool:
+    """Whether a text that begins so is an output: directly behind its START stands its journal."""
+    return re.search(rb"\nSTART\r?\nJOURNAL [0-9]+\r?\n", start) is not None
+
+
 def is_session(start: bytes) -> bool:
     """Whether a text that begins so is a session, and not an output, whose journal would stand behind START."""
     lines = (FIELD.findall(line.removesuffix(b"\r")) for line in start.split(b"\n"))

@@ -13,20 +13,20 @@ from tool_trials.common import HERE, PROGRAM, read
 from .common import PATIENCE, CopyTrial
 
 WRONG = {
-    (): "a word is wanted",
-    ("sreial",): "'sreial' is none of its words, which are serial, run",
+    (): "no command given",
+    ("sreial",): "unknown command 'sreial' (did you mean serial?); the commands are serial, run",
     ("serial", "day.fx"): "comes from standard input, as in ./fx serial < FILE",
-    ("check", "--all"): "'--all' is one word too many",
+    ("check", "--all"): "unexpected argument '--all'",
     ("run", "--workers"): "--workers needs a number from 1 to 64 after it",
-    ("run", "--workers", "65"): "from 1 to 64, without sign and leading zero, and not '65'",
-    ("run", "--workers", "08"): "and not '08'",
-    ("run", "--workers", "8", "9"): "'9' is one word too many",
-    ("load", "7", "8"): "PAIRS is missing, how many pairs",
-    ("load", "7", "65", "4", "10"): "BANKS is a number from 2 to 64",
-    ("load", "7", "8", "4", "20001"): "COMMANDS is a number from 1 to 20000",
-    ("build", "now"): "'now' is one word too many",
-    ("package", "here", "there"): "'there' is one word too many",
-    ("run\n", "\udcff"): "is none of its words",
+    ("run", "--workers", "65"): "from 1 to 64, without sign or leading zeros, not '65'",
+    ("run", "--workers", "08"): "not '08'",
+    ("run", "--workers", "8", "9"): "unexpected argument '9'",
+    ("load", "7", "8"): "PAIRS is missing (how many pairs)",
+    ("load", "7", "65", "4", "10"): "BANKS must be a number from 2 to 64",
+    ("load", "7", "8", "4", "20001"): "COMMANDS must be a number from 1 to 20000",
+    ("build", "now"): "unexpected argument 'now'",
+    ("package", "here", "there"): "unexpected argument 'there'",
+    ("run\n", "\udcff"): "unknown command",
 }
 # Each word of these is right or just wrong at its place.
 EDGES = {
@@ -52,8 +52,8 @@ def word_lists() -> list[list[str]]:
 class Help(CopyTrial):
     def test_help(self) -> None:
         """The page comes without a toolchain and without a program."""
-        for word in ("help", "--help"):
-            self.assertEqual(self.fx(word), (0, help_page().encode(), ""))
+        for words in (("help",), ("--help",), ("serial", "--help"), ("load", "-h")):
+            self.assertEqual(self.fx(*words), (0, help_page().encode(), ""))
         page = help_page()
         for text in ("2 to 64", "1 to 32", "256 bytes", "2^26 bytes", "1 to 64, and 4", "1 to 20,000", *(word.summary for word in WORDS)):
             self.assertIn(text, page)
@@ -66,7 +66,7 @@ class Help(CopyTrial):
         for words in ((), ("run\n", "\udcff"), ("load", "7", "8")):
             status, out, err = self.fx(*words)
             self.assertEqual((status, out), (1, b""), words)
-            self.assertRegex(err, r"\Afx: .*; \./fx help tells the words, with examples\n\Z", words)
+            self.assertRegex(err, r"\Afx: .*\. See \./fx help\n\Z", words)
 
     def test_bounds(self) -> None:
         """The bounds are those of the readers of texts, and the statuses those of the page of the output."""

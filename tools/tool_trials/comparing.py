@@ -38,11 +38,13 @@ class Compare(Trial):
 
     def test_a_session_is_told_as_one(self) -> None:
         for name, words in (("compare", (MORNING[1], MORNING[0])), ("covers", (MORNING[0], MORNING[0])), ("export", (MORNING[0], "--csv", f"{self.folder}/made")), ("explain", (MORNING[0], MORNING[0]))):
-            self.assertIn(f"{MORNING[0]} is a session and no output: line ", ran(name, *words)[2], name)
+            self.assertIn(f"{MORNING[0]} is a session, not an output: line ", ran(name, *words)[2], name)
         windows = b"# a day\r\n\r\n" + read(MORNING[0]).replace(b"\n", b"\r\n")
-        self.assertIn("standard input is a session and no output: line 1: ", ran("compare", MORNING[1], "-", text=windows)[2])
+        self.assertIn("standard input is a session, not an output: line 1: ", ran("compare", MORNING[1], "-", text=windows)[2])
         cut = read(MORNING[1]).partition(b"JOURNAL")[0]
         self.assertNotIn("session", ran("compare", MORNING[1], "-", text=cut)[2])
+        foreign = read(MORNING[1]).replace(b"\n", b"\r\n")
+        self.assertIn("its lines end with CR LF", ran("compare", MORNING[1], "-", text=foreign)[2])
 
     @needs_program
     def test_two_orders_of_one_session(self) -> None:

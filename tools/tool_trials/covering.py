@@ -14,7 +14,7 @@ class Covers(Trial):
         status, out, err = ran("covers", *MORNING)
         digests = [hashlib.sha256(read(path)).hexdigest() for path in MORNING]
         self.assertEqual((status, err), (0, ""))
-        self.assertEqual(out, f"YES, the output is one of this session\nSHA-256 of the session {digests[0]}\nSHA-256 of the output  {digests[1]}\n")
+        self.assertEqual(out, f"YES, the output belongs to this session\nSHA-256 of the session {digests[0]}\nSHA-256 of the output  {digests[1]}\n")
 
     def test_changed_texts(self) -> None:
         session, output = map(read, MORNING)
@@ -24,10 +24,11 @@ class Covers(Trial):
         self.no(session.replace(b"1.08380 3 DAY", b"1.08380 3 IOC"), output, "NO, BETA's command 6 is BETA BUY EUR/USD 1.08380 3 IOC at line 37")
         self.no(session.replace(b"END\n", b"BETA SHOW ALFA\nEND\n"), output, "NO, the journal has 6 commands of BETA, and the session 7: the next is at line 38")
         self.no(session.replace(b"BETA BUY EUR/USD 1.08380 3 DAY\n", b""), output, "and the session has only 5 of BETA")
-        self.no(session.replace(b"END\n", b"stray\nEND\n"), output, "NO, the session has 1 strays, and the output tells 0")
+        self.no(session.replace(b"END\n", b"stray\nEND\n"), output, "NO, the session has 1 stray, and the output says 0")
         self.no(session.replace(b"END\n", b""), output, "ends with CUT, and this one with END")
         self.no(session.replace(b"FXBOOK 1", b"FXBOOK 2"), output, "NO, the session's header has a fault at line 1 (reason 1)")
         self.no(b"FXBOOK 1\n", output, "NO, the session ends before START")
+        self.no(output, output, "NO, the first text is an output, not a session")
 
     def test_a_failed_read(self) -> None:
         """An output that ends with READ is one of a beginning of the session."""

@@ -1,7 +1,7 @@
 """Trials of tools/explain, and of the reading of sessions against the program."""
 import sys
 
-from .common import HERE, MORNING, Trial, faulty, needs_program, program, ran
+from .common import HERE, MORNING, Trial, faulty, needs_program, program, ran, read
 
 sys.path.insert(0, f"{HERE}/tools")
 
@@ -30,7 +30,7 @@ CASES = [
     (b"BETA SHOW ALFA" + b" " * 300, "BAD 11: the line has more than 256 bytes"),
     (b"DESK ALFA 2", "is this text an output"),
     (b"end", "only a line that has END alone ends the session"),
-    (b"END\nALFA SHOW BETA", "behind END, so nothing looks at it"),
+    (b"END\nALFA SHOW BETA", "after END, so it is not read"),
 ]
 HEADS = [
     (b"\xef\xbb\xbfFXBOOK 1\n", "line 1: the header's first fault, reason 1", "byte order mark (EF BB BF)"),
@@ -60,7 +60,7 @@ class Explain(Trial):
     def test_nothing_to_tell(self) -> None:
         status, out, err = ran("explain", "-", text=(HEAD + b"# so\n\nALFA SHOW BETA\nEND\n\n# behind\n").replace(b"\n", b"\r\n"))
         self.assertEqual((status, err), (0, ""))
-        self.assertIn("lines end with CR LF: that is as good as LF", out)
+        self.assertIn("lines end with CR LF, which is as good as LF", out)
         self.assertIn("line 7: ignored, a comment", out)
         self.assertEqual(ran("explain", "--brief", "-", text=HEAD + b"# so\nEND\n")[1], "8 text lines: 6 of the header, 1 ignored, 1 END\n")
 
@@ -76,7 +76,13 @@ class Explain(Trial):
         self.assertIn("BAD 3, answers its command 5: line 33: DELT BUY EURUSD 1.08400 1 DAY\n", out)
         status, out, _ = ran("explain", "-", MORNING[1], text=HEAD + b"END\n")
         self.assertEqual(status, 3)
-        self.assertIn("the output is not one of this session", out)
+        self.assertIn("the output does not belong to this session", out)
+
+    def test_an_output_in_place_of_the_session(self) -> None:
+        for text in (read(MORNING[1]), read(MORNING[1]).replace(b"\n", b"\r\n")):
+            status, out, _ = ran("explain", "-", text=text)
+            self.assertEqual((status, out.startswith("this text is an output, not a session")), (1, True))
+        self.assertNotIn("is an output", ran("explain", MORNING[0])[1])
 
     def test_words_and_unreadable_texts(self) -> None:
         for words in ((), ("-", "-"), ("a", "b", "c"), (f"{self.folder}/none",), (self.folder,), (MORNING[0], MORNING[0])):

@@ -147,6 +147,12 @@ class Orders(Trial):
         self.assertEqual([(row["sender"], row["command"], row["answer"]) for row in rows], [("DESK-1", "1", ""), ("DESK-2", "2", ""), ("ALFA", "0", "j")])
         self.assertEqual(ran("fix", *words)[0], 5)
 
+    def test_pipes_without_the_option(self) -> None:
+        """Messages for people, which --pipes reads, are told as that."""
+        status, out, err = ran("fix", "orders", f"{HERE}/examples/first.fx", f"{HERE}/examples/orders.fix")
+        self.assertEqual((status, out), (2, ""))
+        self.assertIn("--pipes reads it", err)
+
     def test_words_and_unreadable_texts(self) -> None:
         head = self.file("head", HEAD)
         bad = self.file("bad", b"FXBOOK 2\n")
