@@ -143,7 +143,7 @@ alone.
 .PP
 Where a clone has no program that is newer than its sources,
 .B ./fx
-tells on standard error:
+says on standard error:
 {roff(UNPROVED)}.
 .SH WORDS
 {words}

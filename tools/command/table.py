@@ -76,7 +76,7 @@ WORDS = (
         folder=True,
         own=True,
     ),
-    Word("help", "prints this page", "So do --help and -h, alone or behind a command.", own=True),
+    Word("help", "prints this page", "So do --help and -h, alone or after a command.", own=True),
 )
 
 BOUNDS = (

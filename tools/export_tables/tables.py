@@ -81,7 +81,7 @@ TABLES = [
         Column("fault", "INTEGER", "the fault of a BAD, 1 to 11"),
     ], ("UNIQUE (bank, command)",)),
     Table("notices", "a text line of a bank's desk: a reply to one of its commands, or a fill", [
-        Column("bank", "TEXT", "the bank that was told", BANK),
+        Column("bank", "TEXT", "the bank whose desk it is on", BANK),
         Column("notice", "INTEGER", "the notice's number on the desk, from 1", NEEDED),
         Column("kind", "TEXT", "FILL, or the reply's word: ORDERED, KILLED, CANCELLED, REDUCED, NOTLESS, NOTHING, PULLED, LIMIT, SHOWN, BOOK or BAD", NEEDED),
         Column("command", "INTEGER", "the number of the bank's own command that it is of", NEEDED),
@@ -125,12 +125,12 @@ TABLES = [
         Column("bank", "TEXT", "the bank whose book it is", BANK),
         Column("pair", "TEXT", "the pair", PAIR),
         Column("side", "TEXT", "BID, what the bank could sell to, or ASK, what it could buy", NEEDED),
-        Column("level", "INTEGER", "1 is the best, 10 the last that is told", NEEDED),
+        Column("level", "INTEGER", "1 is the best, 10 the last that the output has", NEEDED),
         Column("price", "TEXT", "the price as it is spelled", NEEDED),
         Column("ticks", "INTEGER", "the price in ticks", NEEDED),
         Column("lots", "INTEGER", "the lots that the bank could take there", NEEDED),
     ], ("PRIMARY KEY (bank, pair, side, level)",), True),
-    Table("volumes", "a pair's volume, as the report tells it", [
+    Table("volumes", "a pair's volume, as the report has it", [
         Column("pair", "TEXT", "the pair", "NOT NULL PRIMARY KEY REFERENCES pairs"),
         Column("fills", "INTEGER", "how many fills there were", NEEDED),
         Column("lots", "INTEGER", "their lots", NEEDED),
