@@ -3,6 +3,7 @@ pub mod Parts
 pub mod Printable
 pub mod Existing
 pub mod Singly
+pub mod ToldTexts
 mod Reporting
 mod Shown
 pub mod Outputs
@@ -10,3 +11,4 @@ mod Gathering
 mod FillLines
 mod Journals
 mod Levels
+mod Counting

@@ -10,12 +10,13 @@ use Rattle.fx_rules.specs.declared.outcome.Outcome.TheVariants.{Ordered, Killed,
 use Rattle.fx_rules.specs.declared.outcome.Entry.{Entry}
 use Rattle.fx_rules.specs.declared.orders.Fill.{Fill}
 use Rattle.fx_rules.specs.declared.orders.Resting.{Resting}
-use Rattle.fx_rules.specs.Session.{Header, pair_count}
+use Rattle.fx_rules.specs.Session.{Header, IsSession, pair_count}
 use Rattle.fx_rules.specs.State.{State}
 use Rattle.fx_rules.specs.Sweep.{Taker, taker_of}
 use Rattle.fx_rules.specs.Raise.{order_of}
 use Rattle.fx_rules.specs.Step.{AreValues, IsOrdered, IsOutcome, fills_of, cancel_answer, reduce_answer}
-use Rattle.fx_rules.specs.History.{IsLegal, state}
+use Rattle.fx_rules.specs.History.{IsLegal, IsStep, state}
+use Rattle.fx_rules.specs.Sound.{IsSound}
 use Rattle.fx_rules.specs.inside.Trade.{IsTrade}
 use Rattle.fx_rules.proofs.ListLemmas.{Each-weaker}
 use Rattle.fx_rules.proofs.Continuing.{legal-last}
@@ -67,14 +68,17 @@ outcome-answer h S bank (Bad reason) outcome valid is = answer_plain h (Bad reas
 fill-of : (h : Header) (fill : Fill) → IsTrade h fill → IsFillOf h fill
 fill-of h fill is = record { pair = is.pair; taker = is.taker; maker = is.maker }
 
+-- an entry that is a step of a sound state
+pub step-prints : (h : Header) (S : State) (e : Entry) → IsSession h → IsSound h S → IsStep h S e → IsEntryOf h e
+step-prints h S e session sound step = record {
+  sender = suits-sender h e.bank e.command step.command.sends;
+  command = step.command;
+  answer = outcome-answer h S e.bank e.command e.outcome step.command.values step.outcome;
+  fills = Each-weaker (IsTrade h) (IsFillOf h) (fill-of h) (fills_of e.outcome) (step-trades h S e session sound step);
+}
+
 -- the last entry of a legal history
 pub last-prints : (h : Header) (entries : List Entry) (e : Entry) → IsLegal h (entries ++ e ∷ []) → IsEntryOf h e
 last-prints h entries e legal =
     let last = legal-last h entries e legal in
-    let S : State = state h entries in
-    record {
-      sender = suits-sender h e.bank e.command last.1.command.sends;
-      command = last.1.command;
-      answer = outcome-answer h S e.bank e.command e.outcome last.1.command.values last.1.outcome;
-      fills = Each-weaker (IsTrade h) (IsFillOf h) (fill-of h) (fills_of e.outcome) (step-trades h S e legal.session (legal-sound h entries last.0) last.1);
-    }
+    step-prints h (state h entries) e legal.session (legal-sound h entries last.0) last.1

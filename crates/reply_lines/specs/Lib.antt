@@ -2,6 +2,7 @@ pub mod Rows
 pub mod Notices
 pub mod Books
 pub mod Desks
+pub mod Telling
 pub mod Prints
 pub mod Fills
 pub mod Report

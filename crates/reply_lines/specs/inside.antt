@@ -1,6 +1,7 @@
 pub mod Books
 pub mod Day
 pub mod Desks
+pub mod Telling
 pub mod Fills
 pub mod Prints
 pub mod Replies

@@ -13,10 +13,12 @@ mod notices;
 mod output;
 mod report;
 mod row;
+mod telling;
 
 pub use day::{DayRun, DayText, write_output_from};
 pub use desk::NoticeDesk;
-pub use laws::{one_output, output_from_books};
+pub use laws::{desks_are_told, one_output, output_from_books};
 pub use notice_writer::NoticeWriter;
 pub use notices::FillPart;
 pub use output::{Ending, OutFault, write_from_books};
+pub use telling::Telling;

@@ -8,6 +8,7 @@ ghost use Rattle.reply_lines.specs.Notices.{booked_pair, level_fields, book_fiel
 ghost use Rattle.reply_lines.specs.Fills.{AreTextsOf, AreShort};
 ghost use Rattle.reply_lines.specs.inside.Fills.{party_of, fill_line};
 ghost use Rattle.reply_lines.specs.inside.Replies.{plain_fields};
+ghost use Rattle.reply_lines.specs.inside.Telling.{bank_of};
 
 use crate::row::{begin_row, end_row, push_field, push_number_field, push_price_field};
 use fx_amounts::{BankId, Memory, PairId, Side, Units, base_amount, quote_amount};
@@ -164,6 +165,18 @@ pub enum FillPart {
     Taker,
     /// Its order rested.
     Maker,
+}
+
+impl FillPart {
+    /// The bank with this part in a fill.
+    pub(crate) fn bank(self, fill: &Fill) -> BankId
+        ensures { result ≡ bank_of self fill.now }
+    {
+        match self {
+            FillPart::Taker => fill.taker,
+            FillPart::Maker => fill.maker,
+        }
+    }
 }
 
 /// A fill as one of its two banks sees it: its own order's number and side, and the other bank.

@@ -1,5 +1,5 @@
 -- Each turn writes one line behind those so far.
-use Rattle.std.proofs.Common.{◌≡◌, ◌∙◌, sym, subst}
+use Rattle.std.proofs.Common.{◌∙◌, sym, subst}
 use Rattle.fx_edges.specs.Gathered.{Kept}
 use Rattle.fx_edges.proofs.Gathering.{Kept-append}
 use Rattle.reply_lines.proofs.Items.{flat_more, at-place}

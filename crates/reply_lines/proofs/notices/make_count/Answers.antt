@@ -1,4 +1,4 @@
-use Rattle.std.proofs.Common.{◌++◌, ◌∷◌, [], arith, length-append}
+use Rattle.std.proofs.Common.{◌∷◌, [], arith, length-append}
 use Rattle.fx_amounts.specs.Numeral.{numeral}
 use Rattle.fx_text.proofs.LineTexts.{last_field, pushed_line}
 use Rattle.reply_lines.proofs.notices.make_count.Goals as goal

@@ -1,4 +1,4 @@
-use Rattle.std.proofs.Common.{◌≡◌, ◌≤◌, ◌++◌, ◌∷◌, ◌∙◌, [], List, ℕ, ap, sym, take, codes, length, arith, length-append}
+use Rattle.std.proofs.Common.{◌≡◌, ◌++◌, ◌∷◌, ◌∙◌, [], List, ℕ, ap, sym, take, codes, length, arith, length-append}
 use Rattle.fx_amounts.specs.Numeral.{numeral}
 use Rattle.fx_rules.proofs.NameTexts.{HasPairBytes-pair_text}
 use Rattle.fx_rules.specs.Session.{pair_name}

@@ -1,0 +1,15 @@
+use Rattle.std.proofs.Common.{take, drop}
+use Rattle.std.specs.List.{flat_map}
+use Rattle.fx_rules.specs.Lists.{Each}
+use Rattle.reply_lines.specs.Prints.{IsFillOf}
+use Rattle.reply_lines.specs.Telling.{fill_addressed}
+use Rattle.reply_lines.specs.inside.Telling.{CanCount, HasTold}
+use Rattle.reply_lines.proofs.telling.Telling.tell_fills.Given as goal
+
+-- those so far are told, and the others can be
+abbrev pub invariant-loop-fill : goal.invariant-loop-fill
+invariant-loop-fill l = record {
+  told : HasTold l.session (flat_map fill_addressed (take l.fill-index l.fills)) l.initial.self.counts.items l.self.counts.items l.initial.text.items l.text.items;
+  can : CanCount (flat_map fill_addressed (drop l.fill-index l.fills)) l.self.counts.items;
+  each : Each (IsFillOf l.session) (drop l.fill-index l.fills);
+}
