@@ -136,21 +136,21 @@ The program reads it from standard input and prints what happened, what each ban
 .B ./fx
 starts the program from a clone of the repository.
 .B fx_cli
-is the program itself, as the package installs it. It has the words
-{roff(", ".join(word.word for word in WORDS if not word.own))}; the others are of
+is the program itself, as the package installs it. It has the commands
+{roff(", ".join(word.word for word in WORDS if not word.own))}; only
 .B ./fx
-alone.
+has the others.
 .PP
-Where a clone has no program that is newer than its sources,
+If a clone has no built program, or a source is newer than it,
 .B ./fx
 says on standard error:
 {roff(UNPROVED)}.
-.SH WORDS
+.SH COMMANDS
 {words}
 .SH OPTIONS
 .TP
 .B {roff(f"--workers {WORKERS.name}")}
-how many {roff(WORKERS.what)}, {WORKERS.low} to {WORKERS.high}; {DEFAULT_WORKERS} where it is not said. It stands last.
+how many {roff(WORKERS.what)}, {WORKERS.low} to {WORKERS.high}; the default is {DEFAULT_WORKERS}. The option comes last.
 .SH BOUNDS
 {bounds}
 .SH EXIT STATUS

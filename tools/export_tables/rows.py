@@ -19,7 +19,7 @@ class Sink(Protocol):
 
 
 def wrong(what: str) -> Failed:
-    return Failed(f"this is no right output, as ./fx check will tell: {what}", WRONG)
+    return Failed(f"this is not a right output, as ./fx check will say: {what}", WRONG)
 
 
 class Rows:

@@ -20,7 +20,7 @@ def unwritable(path: str, fault: OSError | sqlite3.Error) -> Failed:
 def only_new(path: str) -> None:
     """What is there already is left as it is."""
     if os.path.lexists(path):
-        raise Failed(f"{path} is there already", UNWRITABLE)
+        raise Failed(f"{path} exists already", UNWRITABLE)
 
 
 class CsvFolder:
@@ -89,7 +89,7 @@ class SqliteFile:
         except OverflowError as fault:
             raise Failed("an amount is above 2^63 - 1, which SQLite can't hold exactly: --csv has no such limit", TOO_LARGE) from fault
         except sqlite3.IntegrityError as fault:
-            raise Failed(f"this is no right output, as ./fx check will tell: {fault}", 1) from fault
+            raise Failed(f"this is not a right output, as ./fx check will say: {fault}", 1) from fault
         except sqlite3.Error as fault:
             raise unwritable(self.path, fault) from fault
 

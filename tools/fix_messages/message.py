@@ -55,7 +55,7 @@ def body_of(text: bytes) -> bytes:
         raise Garbled("it does not begin with 8=FIX.4.4 and then a BodyLength (9)")
     length, _, _ = text[len(BEGIN) + 3:].partition(SOH)
     if not re.fullmatch(rb"[0-9]{1,9}", length):
-        raise Garbled("the BodyLength (9) is no number")
+        raise Garbled("the BodyLength (9) is not a number")
     begin = len(BEGIN) + 3 + len(length) + 1
     behind = text[begin + int(length):]
     ending = ENDING.fullmatch(behind)

@@ -68,7 +68,7 @@ def lots_of(value: str, pair: Pair) -> int:
     """The whole number of lots that an OrderQty is, in units of the base currency; ValueError in words where it is none."""
     units, _, parts = value.partition(".")
     if parts.strip("0") or int(units) % pair.lot:
-        raise ValueError(f"OrderQty (38) {value} is no whole number of lots: a lot of {pair.name} is {pair.lot} {pair.base}")
+        raise ValueError(f"OrderQty (38) {value} is not a whole number of lots: a lot of {pair.name} is {pair.lot} {pair.base}")
     return int(units) // pair.lot
 
 
@@ -91,12 +91,12 @@ def check_form(message: Message) -> None:
             raise Refusal(REJECT, MISSING, f"{named(tag)} is missing", tag)
     for tag in sorted(read | {34, 49, 56}):
         if message.count(tag) > 1:
-            raise Refusal(REJECT, TWICE, f"{named(tag)} stands more than once", tag)
+            raise Refusal(REJECT, TWICE, f"{named(tag)} appears more than once", tag)
     for tag, value in message.fields:
         if not value.isascii() or not value.isprintable():
-            raise Refusal(REJECT, WRONG_FORM, f"{named(tag)} has a character that is no printable ASCII", tag)
+            raise Refusal(REJECT, WRONG_FORM, f"{named(tag)} has a character that is not printable ASCII", tag)
         if tag in FORMS and not re.fullmatch(FORMS[tag], value):
-            raise Refusal(REJECT, WRONG_VALUE if tag in CODES else WRONG_FORM, f"{named(tag)} has not its form: {value}", tag)
+            raise Refusal(REJECT, WRONG_VALUE if tag in CODES else WRONG_FORM, f"{named(tag)} is malformed: {value}", tag)
 
 
 @dataclass
@@ -136,7 +136,7 @@ class Desk:
             if message.get(tag) is None:
                 raise Garbled(f"the {name} ({tag}) is missing, so nobody can be answered")
         if not re.fullmatch("[0-9]{1,18}", message.get(34)):
-            raise Garbled("the MsgSeqNum (34) is no number, so no answer could name it")
+            raise Garbled("the MsgSeqNum (34) is not a number, so no answer could name it")
         row = Row(message.place, message.get(49), message.get(56), kind=message.kind, identity=message.get(11) or "", original=message.get(41) or "")
         self.rows.append(row)
         try:
@@ -150,7 +150,7 @@ class Desk:
             raise Refusal(BUSINESS_REJECT, UNKNOWN_KIND, "only NewOrderSingle (D), OrderCancelRequest (F) and OrderCancelReplaceRequest (G) are taken")
         row.bank = self.senders.get(row.sender, "")
         if not row.bank:
-            raise Refusal(BUSINESS_REJECT, NOT_AUTHORIZED, f"the SenderCompID (49) {row.sender} is no bank's")
+            raise Refusal(BUSINESS_REJECT, NOT_AUTHORIZED, f"the SenderCompID (49) {row.sender} is not a bank's")
         check_form(message)
         self.check_request(message, row)
         make = {NEW: self.new_line, CANCEL: self.cancel_line, REPLACE: self.replace_line}[row.kind]
@@ -174,13 +174,13 @@ class Desk:
         """Refuses what holds for all three kinds: a ClOrdID that stood before, a tag that asks for more than a line can, an unknown symbol."""
         seen = (row.sender, row.identity)
         if seen in self.used:
-            raise self.refused(row, DUPLICATE_ORDER, DUPLICATE_REQUEST, f"the ClOrdID (11) {row.identity} stood before")
+            raise self.refused(row, DUPLICATE_ORDER, DUPLICATE_REQUEST, f"the ClOrdID (11) {row.identity} was used before")
         self.used.add(seen)
         for tag, _ in message.fields:
             if tag not in ALLOWED[row.kind]:
                 raise self.refused(row, UNSUPPORTED, VENUE_RULE, f"the tag {tag} has no counterpart in a session")
         if message.get(55).encode() not in self.header.pair_at:
-            raise self.refused(row, UNKNOWN_SYMBOL, OTHER, f"the Symbol (55) {message.get(55)} is no pair of the header")
+            raise self.refused(row, UNKNOWN_SYMBOL, OTHER, f"the Symbol (55) {message.get(55)} is not a pair of the header")
         if message.get(21) not in (None, "1"):
             raise self.refused(row, UNSUPPORTED, VENUE_RULE, "a HandlInst (21) other than 1 has no counterpart")
         pair = self.pair(message)
@@ -245,7 +245,7 @@ class Desk:
         """The order that a cancel or replace is for, which has to have the same symbol and side."""
         order = self.orders.get((row.sender, row.original))
         if order is None:
-            raise Refusal(CANCEL_REJECT, UNKNOWN_ORDER, f"the OrigClOrdID (41) {row.original} is none of an order that was taken")
+            raise Refusal(CANCEL_REJECT, UNKNOWN_ORDER, f"the OrigClOrdID (41) {row.original} names no order that was accepted")
         row.order = order.number
         if message.get(55) != order.pair.name or SIDES.get(message.get(54)) != order.side:
             raise Refusal(CANCEL_REJECT, OTHER, f"the order {row.original} is a {order.side} of {order.pair.name}: Symbol (55) and Side (54) can't change")

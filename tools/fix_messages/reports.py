@@ -70,7 +70,7 @@ class Reports:
         self.states: dict[int, State] = {}
 
     def other(self, what: str) -> Failed:
-        return Failed(f"the output is not one of this table's session: line {self.lines.number}: {what}", OTHER_SESSION)
+        return Failed(f"the output does not belong to this table's session: line {self.lines.number}: {what}", OTHER_SESSION)
 
     def messages(self) -> Iterator[bytes]:
         """The reports, bank by bank, each bank's in the order of its notices."""
@@ -80,7 +80,7 @@ class Reports:
             sent[name] += 1
             row = self.asked.get((name, sent[name]))
             if row is None or row.line.encode() != entry.line:
-                raise self.other(f"the table has not this as {name}'s command {sent[name]}")
+                raise self.other(f"the table does not have this as {name}'s command {sent[name]}")
         for bank, name in enumerate(self.header.banks):
             self.states = {}
             count = read_desk(self.lines, self.header, bank)
@@ -119,7 +119,7 @@ class Reports:
         elif row.kind != NEW and reply.kind == "NOTLESS":
             yield self.reject(row, VENUE_RULE, "the order has no more left than was asked for, and stays")
         else:
-            raise self.other(f"{reply.kind} is no reply to {row.line}")
+            raise self.other(f"{reply.kind} is not a reply to {row.line}")
 
     def ordered(self, row: Row, reply: Reply) -> Iterator[bytes]:
         """A new order: it is told as new, and what was not filled and does not rest is told as cancelled behind its fills."""

@@ -66,7 +66,7 @@ def filled_before(output: bytes, wanted: dict[tuple[str, int], int]) -> dict[tup
     except BadLine as fault:
         raise NoAnswer(f"what the program wrote is not an output: {fault}") from fault
     if len(found) < len(wanted):
-        raise NoAnswer("the program's output has not all replies")
+        raise NoAnswer("the program's output does not have all replies")
     return found
 
 

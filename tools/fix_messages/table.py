@@ -60,7 +60,7 @@ def read(text: bytes) -> list[Row]:
 def only_new(path: str) -> None:
     """What is there already is left as it is."""
     if os.path.lexists(path):
-        raise Failed(f"{path} is there already", UNWRITABLE)
+        raise Failed(f"{path} exists already", UNWRITABLE)
 
 
 def keep(path: str, text: bytes) -> None:

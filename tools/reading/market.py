@@ -11,10 +11,10 @@ FAULT_LONG, FAULT_WORD, FAULT_COUNT, FAULT_PAIR, FAULT_PRICE_FORM, FAULT_PRICE_R
 FAULT_LOTS, FAULT_BANK, FAULT_LIMIT, FAULT_NUMBER, FAULT_LIFE = 6, 7, 8, 9, 10
 
 FAULTS = {
-    FAULT_WORD: "the second field is missing or is no word of a command",
-    FAULT_COUNT: "the line has another number of fields than its word asks for",
+    FAULT_WORD: "the second field is missing or is not a command's word",
+    FAULT_COUNT: "the line has the wrong number of fields for its word",
     FAULT_PAIR: "the header has no such pair",
-    FAULT_PRICE_FORM: "this is no price with the pair's decimals",
+    FAULT_PRICE_FORM: "this is not a price with the pair's decimals",
     FAULT_PRICE_RANGE: "the price is 0 or above 10^9 ticks",
     FAULT_LOTS: "the lots are not a number from 1 to 1000000",
     FAULT_BANK: "this is not another bank's name",

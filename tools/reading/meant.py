@@ -157,7 +157,7 @@ def lots_hint(header: Header, fields: list[bytes]) -> str:
     lot = header.pairs[header.pair_at[fields[2]]].lot
     number = plain_number(text)
     if number and int(number) > MOST_LOTS and int(number) % lot == 0:
-        return f"a quantity is told in lots, and a lot of {fields[2].decode()} is {lot}"
+        return f"a quantity is given in lots, and a lot of {fields[2].decode()} is {lot}"
     return "lots are a whole number without a sign, a separator or a leading zero"
 
 
@@ -167,7 +167,7 @@ def bank_hint(header: Header, sender: int, fields: list[bytes]) -> str:
 
 def word_hint(fields: list[bytes]) -> str:
     if len(fields) < 2:
-        return "a bank's name stands alone: the command behind it is missing"
+        return "a bank's name alone: the command after it is missing"
     if fields[1] == b"BAD":
         return "BAD is a word of an output's journal alone"
     return ""
@@ -199,18 +199,18 @@ def stray_hint(header: Header, said: Said) -> tuple[str, list[bytes] | None]:
     if len(said.text) > LONGEST_LINE:
         return f"a text line has at most {LONGEST_LINE} bytes, and this one {len(said.text)}", None
     if first in OUTPUT_WORDS:
-        return f"{first.decode()} is a word of an output: is this text an output, and no session?", None
+        return f"{first.decode()} is a word of an output: is this text an output, not a session?", None
     if first.upper().strip(b".;") == b"END":
         return "only a line that has END alone ends the session", [b"END"] if len(said.fields) == 1 else None
     if first.startswith(COMMENTS):
         return "a comment begins with #", None
     if first in (b"FXBOOK", b"BANK", b"PAIR", b"START"):
-        return f"{first.decode()} belongs to the header, in front of START", None
+        return f"{first.decode()} belongs to the header, before START", None
     name = nearest(first, header.bank_at)
     if name is not None:
         return f"the name is probably {name.decode()}", mended(header, header.bank_at[name], [name, *said.fields[1:]])
     if nearest(first, WORDS):
-        return "the bank's name is missing in front", None
+        return "the bank's name is missing at the start", None
     return "the header has no bank of this name", None
 
 
@@ -222,14 +222,14 @@ def head_hint(header: Header, said: Said) -> str:
     if code == 2:
         word = nearest(fields[0], STATEMENTS)
         if fields[0] in header.bank_at:
-            return "this is a bank's command, and START is not there yet"
+            return "this is a bank's command, and START has not come yet"
         return f"the word is probably {word.decode()}" if word else ""
     if code == 4:
         return name_hint(header, fields[1])
     if code == 5:
         codes = re.sub(rb"[^A-Z]", b"", fields[1].upper())
         meant = codes[:3] + b"/" + codes[3:]
-        return "the pair stands already" if fields[1] in header.pair_at else f"the pair is probably {meant.decode()}" if len(codes) == 6 and meant != fields[1] else ""
+        return "the pair has been named already" if fields[1] in header.pair_at else f"the pair is probably {meant.decode()}" if len(codes) == 6 and meant != fields[1] else ""
     if code == 9:
         return limit_banks_hint(header, fields[1:3])
     if code in (6, 7, 8, 10):
@@ -245,13 +245,13 @@ def version_hint(said: Said) -> str:
     if said.text.startswith(WIDE_MARKS):
         return "the text is UTF-16, as its byte order mark says: save it as plain ASCII"
     if said.fields[:1] and said.fields[0] in (b"BANK", b"PAIR"):
-        return "the line FXBOOK 1 is missing in front"
+        return "the line FXBOOK 1 is missing before it"
     return "probably meant: FXBOOK 1"
 
 
 def name_hint(header: Header, name: bytes) -> str:
     if name in header.bank_at:
-        return "the name stands already"
+        return "the name is taken already"
     if name in (b"HOST", b"END"):
         return "the name is reserved"
     if name.upper() != name:
@@ -274,6 +274,6 @@ def explained(header: Header, said: Said) -> tuple[str, str]:
         return REASONS[said.code], head_hint(header, said)
     if said.kind == STRAY:
         hint, fields = stray_hint(header, said)
-        return "the first field is no bank's name", "; ".join(part for part in (hint, told_line(fields)) if part)
+        return "the first field is not a bank's name", "; ".join(part for part in (hint, told_line(fields)) if part)
     line = told_line(mended(header, said.bank, said.fields)) if said.code != market.FAULT_LONG else ""
     return market.FAULTS[said.code], "; ".join(part for part in (bad_hint(header, said), line) if part)

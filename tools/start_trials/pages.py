@@ -132,7 +132,7 @@ class Pages(Trial):
         shown = re.sub(r".\x08", "", run.stdout)
         for word in WORDS:
             self.assertIn(f"./fx {word.word}", shown)
-        for section in ("NAME", "SYNOPSIS", "DESCRIPTION", "WORDS", "OPTIONS", "BOUNDS", "EXIT STATUS", "EXAMPLES"):
+        for section in ("NAME", "SYNOPSIS", "DESCRIPTION", "COMMANDS", "OPTIONS", "BOUNDS", "EXIT STATUS", "EXAMPLES"):
             self.assertRegex(shown, rf"(?m)^{section}$")
 
     def test_vim_words(self) -> None:

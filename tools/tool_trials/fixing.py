@@ -54,38 +54,38 @@ REFUSALS = [
     (fresh(t21=3), "8", 103, "11", "HandlInst (21)"),
     (fresh(t15="USD"), "8", 103, "11", "quantities are in EUR"),
     (fresh(t110=1000000), "8", 103, "11", "the tag 110 has no counterpart"),
-    (fresh(t38=1500000), "8", 103, "13", "1500000 is no whole number of lots: a lot of EUR/USD is 1000000 EUR"),
-    (fresh(t38="1000000.5"), "8", 103, "13", "is no whole number of lots"),
+    (fresh(t38=1500000), "8", 103, "13", "1500000 is not a whole number of lots: a lot of EUR/USD is 1000000 EUR"),
+    (fresh(t38="1000000.5"), "8", 103, "13", "is not a whole number of lots"),
     (fresh(t38=0), "8", 103, "13", "the lots are not a number from 1 to 1000000"),
     (fresh(t38=1000001000000), "8", 103, "13", "the lots are not a number from 1 to 1000000"),
     (fresh(t44="1.084205"), "8", 103, "99", "has more than the 5 decimals of EUR/USD"),
     (fresh(t44="0"), "8", 103, "99", "the price is 0 or above 10^9 ticks"),
     (fresh(t44="10000.00001"), "8", 103, "99", "the price is 0 or above 10^9 ticks"),
     (fresh(t44="-1.0"), "8", 103, "99", "is below 0"),
-    (fresh(t55="EUR/GBP"), "8", 103, "1", "EUR/GBP is no pair of the header"),
-    (fresh(t11="k1"), "8", 103, "6", "the ClOrdID (11) k1 stood before"),
+    (fresh(t55="EUR/GBP"), "8", 103, "1", "EUR/GBP is not a pair of the header"),
+    (fresh(t11="k1"), "8", 103, "6", "the ClOrdID (11) k1 was used before"),
     (fresh(t44=None), "j", 380, "5", "a limit order needs a Price (44)"),
     (sent("AE", "ALFA", 2, []), "j", 380, "3", "only NewOrderSingle (D)"),
-    (sent("D", "OMEGA", 2, KNOWN), "j", 380, "6", "OMEGA is no bank's"),
+    (sent("D", "OMEGA", 2, KNOWN), "j", 380, "6", "OMEGA is not a bank's"),
     (fresh(t38=None), "3", 373, "1", "OrderQty (38) is missing"),
     (fresh(t60=None), "3", 373, "1", "TransactTime (60) is missing"),
-    (fresh(t40="Z"), "3", 373, "5", "OrdType (40) has not its form"),
-    (fresh(t38="many"), "3", 373, "6", "OrderQty (38) has not its form"),
-    (fresh(t44="1,1"), "3", 373, "6", "Price (44) has not its form"),
-    (fresh(t58="gr\xfcn"), "3", 373, "6", "no printable ASCII"),
-    (sent("D", "ALFA", 2, changed(KNOWN, t11="n1") + [(38, 1000000)]), "3", 373, "13", "OrderQty (38) stands more than once"),
+    (fresh(t40="Z"), "3", 373, "5", "OrdType (40) is malformed"),
+    (fresh(t38="many"), "3", 373, "6", "OrderQty (38) is malformed"),
+    (fresh(t44="1,1"), "3", 373, "6", "Price (44) is malformed"),
+    (fresh(t58="gr\xfcn"), "3", 373, "6", "not printable ASCII"),
+    (sent("D", "ALFA", 2, changed(KNOWN, t11="n1") + [(38, 1000000)]), "3", 373, "13", "OrderQty (38) appears more than once"),
     (request("G", t38=6000000), "9", 102, "2", "a replace can only lower the quantity, and 5000000 was asked for before"),
     (request("G", t38=5000000), "9", 102, "2", "a replace can only lower the quantity"),
-    (request("G", t38=1500000), "9", 102, "99", "is no whole number of lots"),
+    (request("G", t38=1500000), "9", 102, "99", "is not a whole number of lots"),
     (request("G", t38=0), "9", 102, "2", "a replace can't lower the quantity to nothing"),
     (request("G", t44="1.08410"), "9", 102, "2", "a replace can't change the price, which is 1.08420"),
     (request("G", t59=3), "9", 102, "2", "a replace can't change the TimeInForce"),
     (request("G", t40=1, t44=None), "9", 102, "2", "OrdType (40) 1 has no counterpart"),
     (request("G", t54=2), "9", 102, "99", "can't change"),
-    (request("G", t41="k9"), "9", 102, "1", "the OrigClOrdID (41) k9 is none of an order that was taken"),
-    (request("F", t41="k9"), "9", 102, "1", "the OrigClOrdID (41) k9 is none of an order that was taken"),
-    (request("F", t11="k1"), "9", 102, "6", "the ClOrdID (11) k1 stood before"),
-    (request("F", t55="EUR/GBP"), "9", 102, "99", "EUR/GBP is no pair of the header"),
+    (request("G", t41="k9"), "9", 102, "1", "the OrigClOrdID (41) k9 names no order that was accepted"),
+    (request("F", t41="k9"), "9", 102, "1", "the OrigClOrdID (41) k9 names no order that was accepted"),
+    (request("F", t11="k1"), "9", 102, "6", "the ClOrdID (11) k1 was used before"),
+    (request("F", t55="EUR/GBP"), "9", 102, "99", "EUR/GBP is not a pair of the header"),
     (request("F", t41=None), "3", 373, "1", "OrigClOrdID (41) is missing"),
 ]
 GARBLED = [
@@ -333,7 +333,7 @@ class RoundTrips(Trial):
         lines = session.partition("START\n")[2].splitlines()
         self.assertEqual((status, lines[2:]), (1, ["ALFA BUY EUR/USD 1.08410 5 DAY", "ALFA REDUCE EUR/USD 2 2", "END"]))
         self.assertIn("58=message 3: OrderQty (38) counts what was filled before, and that can't be told here: ", err)
-        self.assertIn("58=message 4: the OrigClOrdID (41) s2 is none of an order that was taken", err)
+        self.assertIn("58=message 4: the OrigClOrdID (41) s2 names no order that was accepted", err)
 
     def test_another_order_of_the_banks(self) -> None:
         """A session that is run in another order than its own leaves another quantity, and the report says so."""
