@@ -1,4 +1,4 @@
-"""Trials of what is made from the table of words, and of the syntax for Vim."""
+"""Trials of what is made from the table of words, of the syntax for Vim, and of the links of all pages."""
 import os
 import re
 import shutil
@@ -58,6 +58,34 @@ endfor
 redir END
 qall!
 """
+
+
+def anchor_of(heading: str) -> str:
+    """The name by which a link finds a heading."""
+    text = re.sub(r"\[([^\]]*)\]\([^)]*\)", r"\1", heading.strip().lower())
+    return re.sub(r"[^\w\- ]", "", text).replace(" ", "-")
+
+
+def prose(path: str) -> str:
+    """A page without its blocks of code."""
+    return re.sub(r"^```.*?^```$", "", read(path).decode(), flags=re.M | re.S)
+
+
+class Links(unittest.TestCase):
+    def test_links(self) -> None:
+        """Each link of a page leads to a file of the repository, and to a heading where it names one."""
+        pages = [f"{HERE}/{name}" for name in os.listdir(HERE) if name.endswith(".md")]
+        pages += [f"{HERE}/{folder}/{name}" for folder in ("docs", "bench", "examples", "share") for name in os.listdir(f"{HERE}/{folder}") if name.endswith(".md")]
+        self.assertGreater(len(pages), 20)
+        for page in pages:
+            for link in re.findall(r"\]\(([^)\s]+)\)", prose(page)):
+                path, _, anchor = link.partition("#")
+                target = os.path.normpath(os.path.join(os.path.dirname(page), path)) if path else page
+                if link.startswith("https:"):
+                    continue
+                self.assertTrue(os.path.exists(target), (page, link))
+                if anchor:
+                    self.assertIn(anchor, map(anchor_of, re.findall(r"^#+ (.*)$", prose(target), re.M)), (page, link))
 
 
 class Stale(CopyTrial):
