@@ -28,7 +28,7 @@ HERE = os.path.dirname(os.path.realpath(__file__))
 sys.path.insert(0, f"{HERE}/tools")
 sys.dont_write_bytecode = True
 from command.table import GAVE_UP, MOST_BYTES, MOST_MINUTES, NO_PACKAGE, REFUSED, UNPROVED
-from command.words import asks_for_help, fault_of
+from command.words import BY_WORD, asks_for_help, fault_of
 from sources.crates import read_crates
 
 TOP = "fx_cli"
@@ -182,6 +182,9 @@ def main(words):
         return build()
     if words[0] == "package":
         return package(words[1] if len(words) > 1 else f"{HERE}/out")
+    reads = BY_WORD[words[0]].reads.lower()
+    if reads and os.isatty(0):
+        say(f"reading the {reads} from the terminal, up to Ctrl-D; ./fx {words[0]} < FILE reads a file")
     if is_current():
         os.execv(PROGRAM, [PROGRAM, *words])
     return run_checked(words)

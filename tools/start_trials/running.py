@@ -100,6 +100,18 @@ class Running(CopyTrial):
         self.assertEqual((status, out), (70, b""))
         self.assertIn("rt is not on the PATH", err)
 
+    def test_reads_a_terminal(self) -> None:
+        """Who starts a word that reads, and gives it nothing, is told that it waits."""
+        self.put_program(STAND_IN)
+        here, there = os.openpty()
+        self.addCleanup(os.close, here)
+        run = subprocess.Popen([sys.executable, f"{self.copy}/fx", "serial"], stdin=there, stdout=subprocess.PIPE, stderr=subprocess.PIPE, env=self.known())
+        os.close(there)
+        os.write(here, b"x\n\x04")
+        out, err = run.communicate(timeout=PATIENCE)
+        self.assertEqual((run.returncode, out), (0, b"words serial\nx\n"), err)
+        self.assertIn(b"reading the session from the terminal, up to Ctrl-D", err)
+
     def test_starts_the_program(self) -> None:
         """A program that is newer than all sources is started; with a source that is newer the sources are."""
         self.put_program(STAND_IN)
