@@ -1,23 +1,20 @@
 -- From one pair to the next: what a host that plans a credit change pair by pair may rest on.
-use Rattle.std.proofs.Common.{ℕ, ◌≡◌, ◌≢◌, ◌-◌, ◌*◌, ◌/◌, ◌≤◌, ◌<◌, false, ◌&&◌, eqb, List, [], ◌∷◌, ◌++◌, min, inl, inr, refl, ap, sym, subst, ◌∙◌, arith}
+use Rattle.std.proofs.Common.{ℕ, ◌≡◌, ◌≢◌, ◌-◌, ◌*◌, ◌/◌, ◌≤◌, ◌<◌, false, ◌&&◌, eqb, List, [], ◌∷◌, min, inl, inr, refl, ap, ◌∙◌, arith}
 use Rattle.std.proofs.Math.Nat.{add-mul}
 use Rattle.std.proofs.lemmas.Bool.{cond-false, and_left, and_right, and_from, or_left, or_right, ne_eqb, eq-eqb, cases_eq, both_ways}
 use Rattle.fx_amounts.specs.Quantity.{IsUnits}
-use Rattle.fx_rules.specs.declared.orders.Resting.{Resting}
 use Rattle.fx_rules.specs.declared.orders.Fill.{Fill}
 use Rattle.fx_rules.specs.declared.outcome.Entry.{Entry}
 use Rattle.fx_rules.specs.Lists.{Each}
 use Rattle.fx_rules.specs.Session.{Header, bank_count, weight_of}
 use Rattle.fx_rules.specs.State.{State, orders_in, line, used, reach}
-use Rattle.fx_rules.specs.Sweep.{Swept, filled, filled_all}
-use Rattle.fx_rules.specs.Raise.{limit_set, limited, order_of, taker_of_resting, Turned}
+use Rattle.fx_rules.specs.Sweep.{filled, filled_all}
+use Rattle.fx_rules.specs.Raise.{limit_set, limited, Turned}
 use Rattle.fx_rules.specs.History.{IsLegal, state}
-use Rattle.fx_rules.specs.Sound.{IsSound}
 use Rattle.fx_rules.specs.NoCross.{NoCross}
 use Rattle.fx_rules.proofs.Following.{filled_all-follows}
 use Rattle.fx_rules.proofs.Staying.{turned-stays}
-use Rattle.fx_rules.proofs.SweepSound.{swept-sound, filled_all-append}
-use Rattle.fx_rules.proofs.RaiseSound.{IsTurn, match_cases, turn_of, turn-sender, turned-sound, limited-sound}
+use Rattle.fx_rules.proofs.RaiseSound.{turned-sound, limited-sound}
 use Rattle.fx_rules.proofs.Soundness.{legal-sound}
 use Rattle.fx_rules.proofs.Uncrossed.{legal-uncrossed}
 use Rattle.global_book.specs.Book.{Book}

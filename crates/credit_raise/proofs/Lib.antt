@@ -12,3 +12,4 @@ pub mod Facing
 pub mod Gathering
 pub mod Quiet
 pub mod Pairs
+pub mod Changes

@@ -5,6 +5,7 @@ use Rattle.fx_amounts.specs.Quantity.{IsUnits}
 use Rattle.fx_rules.specs.declared.orders.Fill.{Fill}
 use Rattle.fx_rules.specs.declared.orders.Plan.{Plan}
 use Rattle.fx_rules.specs.declared.orders.Resting.{Resting}
+use Rattle.fx_rules.specs.declared.command.Command.{Command}
 use Rattle.fx_rules.specs.declared.outcome.Entry.{Entry}
 use Rattle.fx_rules.specs.Lists.{Each}
 use Rattle.fx_rules.specs.Session.{Header, bank_count, pair_count, weight_of}
@@ -18,7 +19,7 @@ use Rattle.global_book.specs.Book.{Book}
 use Rattle.credit_lines.specs.Credit.{Credit, limit_in, used_in}
 use Rattle.credit_lines.specs.Market.{StandsFor}
 use Rattle.credit_raise.specs.Two.{IsRaised, IsFillOf, lots_of}
-use Rattle.credit_raise.specs.UnderWay.{Raise, fills_of_all, command_of, outcome_of, opened, begun, reached, IsPairOf, Makes, EachMakes, IsUnderWay}
+use Rattle.credit_raise.specs.UnderWay.{Change, fills_of_all, outcome_of, opened, begun, reached, IsPairOf, Makes, EachMakes, IsUnderWay}
 use Rattle.credit_raise.specs.inside.UnderWay.{with_plan}
 use Rattle.fx_rules.proofs.Staying.{turned-stays}
 use Rattle.credit_raise.proofs.Going.{raised-first, raised-next}
@@ -34,9 +35,9 @@ push_count : (plans : List Plan) (plan : Plan) → length (plans ++ plan ∷ [])
 push_count [] plan = refl
 push_count (p ∷ plans) plan = omega (arith, push_count plans plan)
 
-reached_push : (raise : Raise) (plan : Plan) (weight : ℕ) (S : State) → reached (with_plan raise plan weight) S ≡ filled_all (reached raise S) plan.fills
-reached_push raise plan weight S =
-    ap (filled_all (begun raise S)) (push_fills raise.plans plan) ∙ filled_all-append (begun raise S) (fills_of_all raise.plans) plan.fills
+reached_push : (change : Change) (plan : Plan) (weight : ℕ) (S : State) → reached (with_plan change plan weight) S ≡ filled_all (reached change S) plan.fills
+reached_push change plan weight S =
+    ap (filled_all (begun change S)) (push_fills change.plans plan) ∙ filled_all-append (begun change S) (fills_of_all change.plans) plan.fills
 
 -- plans make as much where their pairs stay as they are
 makes_later : (S T U : State) (pair : ℕ) (plans : List Plan) → ((p : ℕ) → p < pair + length plans → orders_in p U.orders ≡ orders_in p T.orders) → EachMakes S T pair plans → EachMakes S U pair plans
@@ -84,55 +85,58 @@ behind pair other n at past same = absurd (omega arith)
 before : (pair p n : ℕ) → pair ≡ n → p < 0 + n → pair ≢ p
 before pair p n at below same = absurd (omega arith)
 
-pub goes_on : (h : Header) (S : State) (raise : Raise) (book : Book) (weight : ℕ) (plan : Plan) → 1 ≤ weight → book.pair ≡ length raise.plans
-    → ((T : State) → IsRaised h T book weight raise.bank raise.other raise.line → Turned h book.pair T book.orders plan.fills) → Each (IsFillOf book.pair raise.bank raise.other) plan.fills
-    → IsUnderWay h S raise → IsPairOf h S book weight → IsUnderWay h S (with_plan raise plan weight)
-goes_on h S raise book weight plan some at plans parties under of =
-    let T : State = reached raise S in
+pub goes_on : (h : Header) (S : State) (change : Change) (book : Book) (weight : ℕ) (plan : Plan) → 1 ≤ weight → book.pair ≡ length change.plans
+    → ((T : State) → IsRaised h T book weight change.bank change.course.other change.course.line → Turned h book.pair T book.orders plan.fills) → Each (IsFillOf book.pair change.bank change.course.other) plan.fills
+    → IsUnderWay h S change → IsPairOf h S book weight → IsUnderWay h S (with_plan change plan weight)
+goes_on h S change book weight plan some at plans parties under of =
+    let T : State = reached change S in
     let U : State = filled_all T plan.fills in
-    let next : Raise = with_plan raise plan weight in
-    let here : IsRaised h T book weight raise.bank raise.other raise.line = under.waits book weight (omega (arith, at)) some of in
+    let next : Change = with_plan change plan weight in
+    let here : IsRaised h T book weight change.bank change.course.other change.course.line = under.waits book weight (omega (arith, at)) some of in
     let turned : Turned h book.pair T book.orders plan.fills = plans T here in
     let heavy : 0 < weight_of h book.pair = omega (arith, some, of.weighs) in
-    let is_next : reached next S ≡ U = reached_push raise plan weight S in
-    let more : length next.plans ≡ length raise.plans + 1 = push_count raise.plans plan in
+    let is_next : reached next S ≡ U = reached_push change plan weight S in
+    let more : length next.plans ≡ length change.plans + 1 = push_count change.plans plan in
     let last : Makes S U book.pair plan.fills = record { turn = T; rising = here.sound.rising; orders = here.orders ∙ of.orders; leaves = refl } in
-    let place : book.pair ≡ 0 + length raise.plans = omega (arith, at) in
-    let those : EachMakes S U 0 raise.plans = makes_later S T U 0 raise.plans
-    (λ p below. turned-stays h book.pair T book.orders plan.fills p (before book.pair p (length raise.plans) at below) heavy here.sound turned) under.makes in
+    let place : book.pair ≡ 0 + length change.plans = omega (arith, at) in
+    let those : EachMakes S U 0 change.plans = makes_later S T U 0 change.plans
+    (λ p below. turned-stays h book.pair T book.orders plan.fills p (before book.pair p (length change.plans) at below) heavy here.sound turned) under.makes in
     record {
+      asked = under.asked;
+      command_is = under.command_is;
       limit_is = under.limit_is;
       waits = λ other other_weight past other_some other_of.
-          let late : length raise.plans + 1 ≤ other.pair = omega (arith, past, more) in
-          let there : IsRaised h T other other_weight raise.bank raise.other raise.line = under.waits other other_weight (omega (arith, late)) other_some other_of in
-          subst (λ (V : State). IsRaised h V other other_weight raise.bank raise.other (raise.line - lots_of plan.fills * weight)) (sym is_next)
-          (raised-next h T book other weight other_weight raise.bank raise.other raise.line plan.fills (behind book.pair other.pair (length raise.plans) at late) some other_some
+          let late : length change.plans + 1 ≤ other.pair = omega (arith, past, more) in
+          let there : IsRaised h T other other_weight change.bank change.course.other change.course.line = under.waits other other_weight (omega (arith, late)) other_some other_of in
+          subst (λ (V : State). IsRaised h V other other_weight change.bank change.course.other (change.course.line - lots_of plan.fills * weight)) (sym is_next)
+          (raised-next h T book other weight other_weight change.bank change.course.other change.course.line plan.fills (behind book.pair other.pair (length change.plans) at late) some other_some
           here turned parties there.orders there.weight_is there.apart);
       goes_on = λ pairs fills rest.
-          let rest' : PairsTurned h pairs (length raise.plans + 1) U fills =
-          subst (λ (V : State). PairsTurned h pairs (length raise.plans + 1) V fills) is_next (subst (λ n. PairsTurned h pairs n (reached next S) fills) more rest) in
-          let turned' : Turned h (length raise.plans) T (orders_in (length raise.plans) T.orders) plan.fills =
+          let rest' : PairsTurned h pairs (length change.plans + 1) U fills =
+          subst (λ (V : State). PairsTurned h pairs (length change.plans + 1) V fills) is_next (subst (λ n. PairsTurned h pairs n (reached next S) fills) more rest) in
+          let turned' : Turned h (length change.plans) T (orders_in (length change.plans) T.orders) plan.fills =
           subst (λ p. Turned h p T (orders_in p T.orders) plan.fills) at (subst (λ (os : List Resting). Turned h book.pair T os plan.fills) (sym here.orders) turned) in
-          let all : PairsTurned h (length raise.plans + suc pairs) 0 (begun raise S) (fills_of_all raise.plans ++ (plan.fills ++ fills)) =
+          let all : PairsTurned h (length change.plans + suc pairs) 0 (begun change S) (fills_of_all change.plans ++ (plan.fills ++ fills)) =
           under.goes_on (suc pairs) (plan.fills ++ fills) (plan.fills, fills, turned', refl, rest') in
-          let count : length raise.plans + suc pairs ≡ length next.plans + pairs = omega (arith, more) in
-          let list : fills_of_all raise.plans ++ (plan.fills ++ fills) ≡ fills_of_all next.plans ++ fills =
-          sym (append_assoc (fills_of_all raise.plans) plan.fills fills) ∙ ap (λ (fs : List Fill). fs ++ fills) (sym (push_fills raise.plans plan)) in
-          subst (PairsTurned h (length next.plans + pairs) 0 (begun raise S)) list
-          (subst (λ n. PairsTurned h n 0 (begun raise S) (fills_of_all raise.plans ++ (plan.fills ++ fills))) count all);
+          let count : length change.plans + suc pairs ≡ length next.plans + pairs = omega (arith, more) in
+          let list : fills_of_all change.plans ++ (plan.fills ++ fills) ≡ fills_of_all next.plans ++ fills =
+          sym (append_assoc (fills_of_all change.plans) plan.fills fills) ∙ ap (λ (fs : List Fill). fs ++ fills) (sym (push_fills change.plans plan)) in
+          subst (PairsTurned h (length next.plans + pairs) 0 (begun change S)) list
+          (subst (λ n. PairsTurned h n 0 (begun change S) (fills_of_all change.plans ++ (plan.fills ++ fills))) count all);
       makes = subst (λ (V : State). EachMakes S V 0 next.plans) (sym is_next)
-          (makes_push S U 0 raise.plans plan those (subst (λ n. Makes S U n plan.fills) place last));
+          (makes_push S U 0 change.plans plan those (subst (λ n. Makes S U n plan.fills) place last));
     }
 
 -- ---- the end
 
-pub answered : (h : Header) (S : State) (raise : Raise) → IsUnderWay h S raise → length raise.plans ≡ pair_count h → IsOutcome h S raise.bank (command_of raise) (outcome_of raise)
-answered h S raise under all =
-    let turned : PairsTurned h (length raise.plans + zero) 0 (begun raise S) (fills_of_all raise.plans ++ []) = under.goes_on zero [] refl in
-    let count : length raise.plans + zero ≡ pair_count h = omega (arith, all) in (
+pub answered : (h : Header) (S : State) (change : Change) → IsUnderWay h S change → length change.plans ≡ pair_count h → IsOutcome h S change.bank change.command (outcome_of change)
+answered h S change under all =
+    let turned : PairsTurned h (length change.plans + zero) 0 (begun change S) (fills_of_all change.plans ++ []) = under.goes_on zero [] refl in
+    let count : length change.plans + zero ≡ pair_count h = omega (arith, all) in
+    subst (λ (c : Command). IsOutcome h S change.bank c (outcome_of change)) (sym under.command_is) (
       under.limit_is,
-      subst (PairsTurned h (pair_count h) 0 (begun raise S)) (append-nil (fills_of_all raise.plans))
-          (subst (λ n. PairsTurned h n 0 (begun raise S) (fills_of_all raise.plans ++ [])) count turned),
+      subst (PairsTurned h (pair_count h) 0 (begun change S)) (append-nil (fills_of_all change.plans))
+          (subst (λ n. PairsTurned h n 0 (begun change S) (fills_of_all change.plans ++ [])) count turned),
     )
 
 -- ---- the start
@@ -153,19 +157,21 @@ pub begins : (h : Header) (entries : List Entry) (credit : Credit) (bank other a
     → bank < credit.banks → other < credit.banks → bank ≢ other → IsUnits asked → IsUnderWay h (state h entries) (opened credit bank other asked)
 begins h entries credit bank other asked legal stands bank_in other_in differ units =
     let S : State = state h entries in
-    let raise : Raise = opened credit bank other asked in
+    let change : Change = opened credit bank other asked in
     let bank' : bank < bank_count h = omega (arith, bank_in, stands.banks) in
     let other' : other < bank_count h = omega (arith, other_in, stands.banks) in
     let differ' : other ≢ bank = λ same. differ (sym same) in
     let spent : used_in credit bank other ≡ used h S bank other = stands.uses bank other bank' other' differ in
     let back : limit_in credit other bank ≡ S.limits other bank = stands.limits other bank other' bank' differ' in
-    let limit_is : raise.limit ≡ limit_set h S bank other asked = ap (max asked) spent in
+    let limit_is : change.course.limit ≡ limit_set h S bank other asked = ap (max asked) spent in
     record {
+      asked = asked;
+      command_is = refl;
       limit_is = limit_is;
       waits = λ book weight past some of.
-          subst (λ n. IsRaised h (limited bank other n S) book weight bank other raise.line) (sym limit_is)
-          (raised-first h entries book weight bank other asked raise.line legal bank' other' differ' units (sym of.orders) (sym of.weighs)
-          (ap (λ n. line h (limited bank other n S) bank other) (sym limit_is) ∙ opened_line h S credit bank other raise.limit differ back spent));
-      goes_on = λ pairs fills rest. let count : pairs ≡ 0 + pairs = omega arith in subst (λ n. PairsTurned h n 0 (begun raise S) fills) count rest;
+          subst (λ n. IsRaised h (limited bank other n S) book weight bank other change.course.line) (sym limit_is)
+          (raised-first h entries book weight bank other asked change.course.line legal bank' other' differ' units (sym of.orders) (sym of.weighs)
+          (ap (λ n. line h (limited bank other n S) bank other) (sym limit_is) ∙ opened_line h S credit bank other change.course.limit differ back spent));
+      goes_on = λ pairs fills rest. let count : pairs ≡ 0 + pairs = omega arith in subst (λ n. PairsTurned h n 0 (begun change S) fills) count rest;
       makes = tt;
     }

@@ -1,5 +1,5 @@
--- A credit change under way: a limit is set, and some of the pairs have had their turns, in the order of the header.
-use Rattle.std.specs.Prelude.{ℕ, ◌≡◌, ◌+◌, ◌-◌, ◌≤◌, min, max, List, [], ◌∷◌, ◌++◌, length}
+-- A credit change under way: some of the pairs have had their turns, in the order of the header.
+use Rattle.std.specs.Prelude.{ℕ, ◌≡◌, ◌≢◌, ◌+◌, ◌-◌, ◌≤◌, ◌<◌, min, max, Bool, true, false, List, [], ◌∷◌, ◌++◌, length}
 use Rattle.fx_rules.specs.declared.orders.Fill.{Fill}
 use Rattle.fx_rules.specs.declared.orders.Plan.{Plan}
 use Rattle.fx_rules.specs.declared.outcome.Outcome.{Outcome}
@@ -16,14 +16,27 @@ use Rattle.global_book.specs.Book.{Book}
 use Rattle.credit_lines.specs.Credit.{Credit, limit_in, used_in}
 use Rattle.credit_raise.specs.Two.{IsRaised}
 
--- The bank that asks, the other one, and what it asks; the limit that is set; what the fills so far leave of the line between
--- the two; and the plan of each pair that had its turn.
-pub record Raise : Type 0 where
-  pub bank : ℕ
+-- a command that is a credit change: a bank sets its limit on another one
+abbrev pub is_change : Command → Bool
+is_change (Line other asked) = true
+is_change _ = false
+
+-- it is one that this bank can send, among so many banks
+abbrev pub IsChange : ℕ → ℕ → Command → Type 0
+IsChange banks bank (Line other asked) = (bank < banks) × (other < banks) × (bank ≢ other)
+IsChange _ _ _ = ⊥
+
+-- the course of a limit on another bank: the limit that is set, and what the fills so far leave of the line between the two banks
+pub record Course : Type 0 where
   pub other : ℕ
-  pub asked : ℕ
   pub limit : ℕ
   pub line : ℕ
+
+-- the bank that sends it, its command, its course, and the plan of each pair that had its turn
+pub record Change : Type 0 where
+  pub bank : ℕ
+  pub command : Command
+  pub course : Course
   pub plans : List Plan
 
 -- the fills of some plans, in order
@@ -31,30 +44,34 @@ abbrev pub fills_of_all : List Plan → List Fill
 fills_of_all [] = []
 fills_of_all (plan ∷ plans) = plan.fills ++ fills_of_all plans
 
--- the command, and what it answers once all pairs had their turns
-abbrev pub command_of : Raise → Command
-command_of raise = Line raise.other raise.asked
+-- what it answers once all pairs had their turns
+abbrev pub outcome_of : Change → Outcome
+outcome_of change = LineSet change.course.limit (fills_of_all change.plans)
 
-abbrev pub outcome_of : Raise → Outcome
-outcome_of raise = LineSet raise.limit (fills_of_all raise.plans)
-
--- before the first turn, by the credit: the limit is what is asked, or what the two have used where that is more
-abbrev pub opened : Credit → ℕ → ℕ → ℕ → Raise
+-- a bank's limit on another one before the first turn, by the credit: the limit is what is asked, or what the two have used where
+-- that is more
+abbrev pub opened : Credit → ℕ → ℕ → ℕ → Change
 opened credit bank other asked = record {
   bank = bank;
-  other = other;
-  asked = asked;
-  limit = max asked (used_in credit bank other);
-  line = min (max asked (used_in credit bank other)) (limit_in credit other bank) - used_in credit bank other;
+  command = Line other asked;
+  course = record {
+    other = other;
+    limit = max asked (used_in credit bank other);
+    line = min (max asked (used_in credit bank other)) (limit_in credit other bank) - used_in credit bank other;
+  };
   plans = [];
 }
 
--- a state with the limit set, and with the fills so far
-abbrev pub begun : Raise → State → State
-begun raise S = limited raise.bank raise.other raise.limit S
+-- a bank's command before the first turn, by the credit
+abbrev pub IsOpened : Credit → ℕ → Command → Change → Type 0
+IsOpened credit bank command change = (other asked : ℕ) × (command ≡ Line other asked) × (change ≡ opened credit bank other asked)
 
-abbrev pub reached : Raise → State → State
-reached raise S = filled_all (begun raise S) (fills_of_all raise.plans)
+-- a state with the limit set, and with the fills so far
+abbrev pub begun : Change → State → State
+begun change S = limited change.bank change.course.other change.course.limit S
+
+abbrev pub reached : Change → State → State
+reached change S = filled_all (begun change S) (fills_of_all change.plans)
 
 -- a pair's book, and what a lot costs there, as they are in a state
 pub record IsPairOf (h : Header) (S : State) (book : Book) (weight : ℕ) : Type 0 where
@@ -77,10 +94,12 @@ EachMakes S T pair (plan ∷ plans) = Makes S T pair plan.fills × EachMakes S T
 -- The credit change of a state is under way. Each pair whose turn is still to come can have it, with what is left of the line.
 -- Whatever fills the turns still to come make, make, behind those so far, the fills of all turns. And the plans make in their
 -- pairs what the fills so far make of the market.
-pub record IsUnderWay (h : Header) (S : State) (raise : Raise) : Type 0 where
-  pub limit_is : raise.limit ≡ limit_set h S raise.bank raise.other raise.asked
-  pub waits : (book : Book) (weight : ℕ) → length raise.plans ≤ book.pair → 1 ≤ weight → IsPairOf h S book weight →
-      IsRaised h (reached raise S) book weight raise.bank raise.other raise.line
-  pub goes_on : (pairs : ℕ) (more : List Fill) → PairsTurned h pairs (length raise.plans) (reached raise S) more →
-      PairsTurned h (length raise.plans + pairs) 0 (begun raise S) (fills_of_all raise.plans ++ more)
-  pub makes : EachMakes S (reached raise S) 0 raise.plans
+pub record IsUnderWay (h : Header) (S : State) (change : Change) : Type 0 where
+  pub asked : ℕ
+  pub command_is : change.command ≡ Line change.course.other asked
+  pub limit_is : change.course.limit ≡ limit_set h S change.bank change.course.other asked
+  pub waits : (book : Book) (weight : ℕ) → length change.plans ≤ book.pair → 1 ≤ weight → IsPairOf h S book weight →
+      IsRaised h (reached change S) book weight change.bank change.course.other change.course.line
+  pub goes_on : (pairs : ℕ) (more : List Fill) → PairsTurned h pairs (length change.plans) (reached change S) more →
+      PairsTurned h (length change.plans + pairs) 0 (begun change S) (fills_of_all change.plans ++ more)
+  pub makes : EachMakes S (reached change S) 0 change.plans

@@ -2,13 +2,13 @@
 //! pair.
 #![tactic(auto)]
 
-mod all_pairs;
+mod change;
 mod laws;
 mod prices;
 mod raise;
 mod replay;
 mod walk;
 
-pub use all_pairs::Raising;
+pub use change::{CreditChange, is_change};
 pub use laws::{limits_set_others_apart, raises_begin, raises_go_on, two_banks_turn};
 pub use raise::plan_raise;

@@ -1,8 +1,7 @@
 -- A credit change: its entry, who signs it, and what it comes to.
-use Rattle.std.proofs.Common.{ℕ, ◌≡◌, ◌+◌, ◌<◌, ◌^◌, List, [], ◌∷◌, ◌++◌, length, refl, ap, sym, subst, ◌∙◌, arith}
+use Rattle.std.proofs.Common.{ℕ, ◌≡◌, ◌+◌, ◌<◌, ◌^◌, true, List, [], ◌∷◌, ◌++◌, length, refl, ap, sym, subst, ◌∙◌, arith}
 use mathlib.Core.List.{IsPrefix}
 use Rattle.fx_rules.specs.declared.command.Command.{Command}
-use Rattle.fx_rules.specs.declared.command.Command.TheVariants.{Line}
 use Rattle.fx_rules.specs.declared.outcome.Outcome.{Outcome}
 use Rattle.fx_rules.specs.declared.outcome.Entry.{Entry}
 use Rattle.fx_rules.specs.Session.{Header, pair_count, sender_places}
@@ -15,7 +14,7 @@ use Rattle.fx_rules.proofs.Continuing.{entry_same, legal-last}
 use Rattle.fx_rules.proofs.Senders.{command-place, places-most}
 use Rattle.fx_chronicle.specs.Faces.{Witness, witness}
 use Rattle.fx_desk.specs.Submitting.{next_own}
-use Rattle.credit_raise.specs.UnderWay.{Makes, Raise, IsUnderWay, command_of, outcome_of, reached}
+use Rattle.credit_raise.specs.UnderWay.{Change, IsUnderWay, Makes, is_change, outcome_of, reached}
 use Rattle.fx_rules.specs.declared.sender.Sender.{Sender}
 use Rattle.fx_rules.specs.Sending.{IsNextIn, entry_of}
 use Rattle.credit_book.specs.Recorded.{Recorded, IsCreditBook, key_count, recorded, signed_by}
@@ -23,39 +22,37 @@ use Rattle.credit_book.specs.Serving.{IsServed}
 use Rattle.credit_book.proofs.Entering.{goes_on}
 use Rattle.pair_shards.specs.Shards.{AreOfLast}
 use Rattle.pair_shards.specs.inside.Shards.{PairsPend}
-use Rattle.pair_shards.proofs.Lines.{line_pends, pair_signs, of_last}
+use Rattle.pair_shards.proofs.Lines.{change_pends, pair_signs, of_last}
 use Rattle.fx_host.specs.inside.Changing.{IsLast, IsPlanned}
 
 -- ---- planned
 
 -- the answer of a change for which all pairs had their turns is the market's
-answered : (h : Header) (S : State) (bank : ℕ) (command : Command) (raise : Raise) (answer : Outcome) → IsUnderWay h S raise → length raise.plans ≡ pair_count h → command_of raise ≡ command → raise.bank ≡ bank
-    → ((g : Header) (T : State) → IsUnderWay g T raise → length raise.plans ≡ pair_count g → IsOutcome g T raise.bank (command_of raise) answer) → IsOutcome h S bank command answer
-answered h S bank command raise answer under_way all command_is bank_is answers =
-    subst (λ b. IsOutcome h S b command answer) bank_is (subst (λ (c : Command). IsOutcome h S raise.bank c answer) command_is (answers h S under_way all))
+answered : (h : Header) (S : State) (bank : ℕ) (command : Command) (change : Change) (answer : Outcome) → IsUnderWay h S change → length change.plans ≡ pair_count h → change.command ≡ command → change.bank ≡ bank
+    → ((g : Header) (T : State) → IsUnderWay g T change → length change.plans ≡ pair_count g → IsOutcome g T change.bank change.command answer) → IsOutcome h S bank command answer
+answered h S bank command change answer under_way all command_is bank_is answers =
+    subst (λ b. IsOutcome h S b command answer) bank_is (subst (λ (c : Command). IsOutcome h S change.bank c answer) command_is (answers h S under_way all))
 
--- `first` is the credit book as the call began, `mid` as the pairs have their turns
-pub planned : (h : Header) (first mid : Recorded) (key other asked : ℕ) (sender : Sender) (raise : Raise) (answer copy : Outcome) → mid ≡ first → IsCreditBook h mid → IsNextIn (state h first.history.entries) sender → sender.bank ≡ key → sender.bank < sender_places h → sender.number < 2 ^ 32 → AreValues h key (Line other asked)
-    → IsUnderWay h (state h mid.history.entries) raise → length raise.plans ≡ pair_count h → command_of raise ≡ Line other asked → raise.bank ≡ sender.bank → answer ≡ outcome_of raise
-    → ((g : Header) (T : State) → IsUnderWay g T raise → length raise.plans ≡ pair_count g → IsOutcome g T raise.bank (command_of raise) answer) → copy ≡ answer
-    → IsPlanned h first.history.entries key (Line other asked) raise (entry_of sender (Line other asked) copy) answer
-planned h first mid key other asked sender raise answer copy same kept next bank_is place most values started all command_is raises value answers copied =
+pub planned : (h : Header) (first : Recorded) (sender : Sender) (command : Command) (change : Change) (answer copy : Outcome) → IsCreditBook h first → IsNextIn (state h first.history.entries) sender → sender.bank < sender_places h → sender.number < 2 ^ 32 → AreValues h sender.bank command → is_change command ≡ true
+    → IsUnderWay h (state h first.history.entries) change → length change.plans ≡ pair_count h → change.command ≡ command → change.bank ≡ sender.bank → answer ≡ outcome_of change
+    → ((g : Header) (T : State) → IsUnderWay g T change → length change.plans ≡ pair_count g → IsOutcome g T change.bank change.command answer) → copy ≡ answer
+    → IsPlanned h first.history.entries sender.bank command change (entry_of sender command copy) answer
+planned h first sender command change answer copy kept next place most values changes under_way all command_is bank_is value answers copied =
     let before : List Entry = first.history.entries in
-    let under_way : IsUnderWay h (state h before) raise = subst (λ (b : Recorded). IsUnderWay h (state h b.history.entries) raise) same started in
-    let legal : IsLegal h before = subst (λ (b : Recorded). IsLegal h b.history.entries) same kept.legal in
     record {
-      legal = goes_on h before sender key (Line other asked) answer copy legal next bank_is place most values
-          (answered h (state h before) sender.bank (Line other asked) raise answer under_way all command_is raises answers) copied;
-      sender = bank_is;
+      legal = goes_on h before sender sender.bank command answer copy kept.legal next refl place most values
+          (answered h (state h before) sender.bank command change answer under_way all command_is bank_is answers) copied;
+      sender = refl;
       asks = refl;
+      changes = changes;
       answers = copied;
       last = record {
         before = before;
-        last = entry_of sender (Line other asked) copy;
+        last = entry_of sender command copy;
         ends = refl;
         under_way = under_way;
         all_turned = all;
-        sender = sym raises;
+        sender = sym bank_is;
         command = sym command_is;
         outcome = copied ∙ value;
       };
@@ -67,28 +64,28 @@ planned h first mid key other asked sender raise answer copy same kept next bank
 pub roomy : (first mid now : Recorded) {places : ℕ} → mid ≡ first → now ≡ record mid { history = record mid.history { room = places } } → now.history.entries ≡ first.history.entries
 roomy first mid now mid_is now_is = ap (λ (b : Recorded). b.history.entries) now_is ∙ ap (λ (b : Recorded). b.history.entries) mid_is
 
-pub may_enter : (h : Header) (first now : Recorded) (key : ℕ) (command : Command) (raise : Raise) (entry : Entry) (answer : Outcome) → now.history.entries ≡ first.history.entries → IsPlanned h first.history.entries key command raise entry answer → IsLegal h (now.history.entries ++ entry ∷ [])
-may_enter h first now key command raise entry answer same plan = subst (λ (es : List Entry). IsLegal h (es ++ entry ∷ [])) (sym same) plan.legal
+pub may_enter : (h : Header) (first now : Recorded) (key : ℕ) (command : Command) (change : Change) (entry : Entry) (answer : Outcome) → now.history.entries ≡ first.history.entries → IsPlanned h first.history.entries key command change entry answer → IsLegal h (now.history.entries ++ entry ∷ [])
+may_enter h first now key command change entry answer same plan = subst (λ (es : List Entry). IsLegal h (es ++ entry ∷ [])) (sym same) plan.legal
 
 pub entered-entries : (first now entered : Recorded) (entry : Entry) (key : ℕ) → now.history.entries ≡ first.history.entries → entered ≡ signed_by key (recorded now entry) → entered.history.entries ≡ first.history.entries ++ entry ∷ []
 entered-entries first now entered entry key same entered_is = ap (λ (b : Recorded). b.history.entries) entered_is ∙ ap (λ (es : List Entry). es ++ entry ∷ []) same
 
-pub is_last : (h : Header) (first now entered : Recorded) (pass_key key : ℕ) (command : Command) (raise : Raise) (entry : Entry) (answer : Outcome) → now.history.entries ≡ first.history.entries → IsPlanned h first.history.entries key command raise entry answer
-    → entered ≡ signed_by pass_key (recorded now entry) → IsLast h entered.history.entries raise
-is_last h first now entered pass_key key command raise entry answer same plan entered_is =
-    subst (λ (es : List Entry). IsLast h es raise) (sym (entered-entries first now entered entry pass_key same entered_is)) plan.last
+pub is_last : (h : Header) (first now entered : Recorded) (pass_key key : ℕ) (command : Command) (change : Change) (entry : Entry) (answer : Outcome) → now.history.entries ≡ first.history.entries → IsPlanned h first.history.entries key command change entry answer
+    → entered ≡ signed_by pass_key (recorded now entry) → IsLast h entered.history.entries change
+is_last h first now entered pass_key key command change entry answer same plan entered_is =
+    subst (λ (es : List Entry). IsLast h es change) (sym (entered-entries first now entered entry pass_key same entered_is)) plan.last
 
 -- each pair has to sign
-pub all_pend : (h : Header) (first now entered : Recorded) (pass_key key other asked : ℕ) (raise : Raise) (entry : Entry) (answer : Outcome) → now.history.keys ≡ key_count h → pass_key ≡ key → IsPlanned h first.history.entries key (Line other asked) raise entry answer
+pub all_pend : (h : Header) (first now entered : Recorded) (pass_key key : ℕ) (command : Command) (change : Change) (entry : Entry) (answer : Outcome) → now.history.keys ≡ key_count h → pass_key ≡ key → IsPlanned h first.history.entries key command change entry answer
     → entered ≡ signed_by pass_key (recorded now entry) → PairsPend h 0 entered.history.pending
-all_pend h first now entered pass_key key other asked raise entry answer count key_is plan entered_is =
+all_pend h first now entered pass_key key command change entry answer count key_is plan entered_is =
     let last = legal-last h first.history.entries entry plan.legal in
-    line_pends h now entered entry pass_key other asked count (plan.sender ∙ sym key_is) (omega (arith, command-place h entry.bank entry.command last.0.session last.1.command, places-most h last.0.session)) plan.asks entered_is
+    change_pends h now entered entry pass_key count (plan.sender ∙ sym key_is) (omega (arith, command-place h entry.bank entry.command last.0.session last.1.command, places-most h last.0.session)) (ap is_change plan.asks ∙ plan.changes) entered_is
 
-pub serves : (h : Header) (first now entered last : Recorded) (pass mid pass' : Witness Entry) (command : Command) (raise : Raise) (entry : Entry) (answer : Outcome) → now.history.entries ≡ first.history.entries → mid ≡ pass → IsPlanned h first.history.entries pass.key command raise entry answer
+pub serves : (h : Header) (first now entered last : Recorded) (pass mid pass' : Witness Entry) (command : Command) (change : Change) (entry : Entry) (answer : Outcome) → now.history.entries ≡ first.history.entries → mid ≡ pass → IsPlanned h first.history.entries pass.key command change entry answer
     → entered ≡ signed_by mid.key (recorded now entry) → last.history.entries ≡ entered.history.entries → IsPrefix mid.seen now.history.entries → own mid.key now.history.entries ≡ own mid.key mid.met
     → pass' ≡ witness mid.key (now.history.entries ++ entry ∷ []) → IsServed h first.history.entries pass command last.history.entries pass' answer
-serves h first now entered last pass mid pass' command raise entry answer same mid_is plan entered_is last_is begins owns pass_is =
+serves h first now entered last pass mid pass' command change entry answer same mid_is plan entered_is last_is begins owns pass_is =
     let before : List Entry = first.history.entries in
     let step = legal-last h before entry plan.legal in
     let begins' : IsPrefix pass.seen before = subst (λ (w : Witness Entry). IsPrefix w.seen before) mid_is (subst (λ (es : List Entry). IsPrefix mid.seen es) same begins) in
@@ -111,10 +108,10 @@ serves h first now entered last pass mid pass' command raise entry answer same m
 -- ---- carried
 
 -- a pair's part of it
-pub parts_of : (h : Header) (entries : List Entry) (raise : Raise) (pair its : ℕ) (plan : _) → IsLast h entries raise → its ≡ pair → ((g : Header) (S : State) → IsUnderWay g S raise → Makes S (reached raise S) pair plan) → AreOfLast h entries its plan
-parts_of h entries raise pair its fills last its_is makes =
+pub parts_of : (h : Header) (entries : List Entry) (change : Change) (pair its : ℕ) (plan : _) → IsLast h entries change → its ≡ pair → ((g : Header) (S : State) → IsUnderWay g S change → Makes S (reached change S) pair plan) → AreOfLast h entries its plan
+parts_of h entries change pair its fills last its_is makes =
     subst (λ p. AreOfLast h entries p fills) (sym its_is)
-    (of_last h last.before entries raise last.last pair fills last.ends last.sender last.command last.outcome (makes h (state h last.before) last.under_way))
+    (of_last h last.before entries change last.last pair fills last.ends last.sender last.command last.outcome last.under_way (makes h (state h last.before) last.under_way))
 
 -- the pairs from the next one on have still to sign
 pub signs-pair : (h : Header) (pair : ℕ) (credit now : Recorded) → PairsPend h pair credit.history.pending → now ≡ signed_by (pair_key pair) credit → PairsPend h (pair + 1) now.history.pending

@@ -1,17 +1,13 @@
 -- A command that is served at the host.
-use Rattle.std.proofs.Common.{ℕ, ◌≡◌, ◌<◌, List, Result, Ok, Err, IfOk, OnErr, Some, ap, arith}
+use Rattle.std.proofs.Common.{◌≡◌, List, Result, Ok, Err, IfOk, OnErr, ap}
 use Rattle.fx_amounts.specs.declared.memory.Memory.{Memory}
 use Rattle.fx_rules.specs.declared.command.Command.{Command}
-use Rattle.fx_rules.specs.declared.command.Command.TheVariants.{Order, Cancel, Reduce, Pull, Line, Show, Book, Bad}
 use Rattle.fx_rules.specs.declared.outcome.Outcome.{Outcome}
 use Rattle.fx_rules.specs.declared.outcome.Entry.{Entry}
-use Rattle.fx_rules.specs.Session.{Header, pair_count}
-use Rattle.fx_rules.specs.Step.{AreValues}
+use Rattle.fx_rules.specs.Session.{Header}
 use Rattle.fx_rules.specs.History.{own}
 use Rattle.fx_chronicle.specs.Faces.{Witness}
 use Rattle.fx_desk.specs.Submitting.{Submitted}
-use Rattle.fx_rules.specs.Sending.{pair_of}
-use Rattle.fx_rules.proofs.Senders.{one_pair}
 use Rattle.credit_book.specs.Serving.{IsServed}
 use Rattle.credit_book.proofs.Submitting.{submitted}
 

@@ -1,13 +1,13 @@
 //! A credit change over all pairs, while no other command of a pair is served.
 ghost use Rattle.std.specs.Prelude.{◌≡◌, ◌<◌, ◌-◌, ◌+◌, ◌^◌, [], true, length, IfOk, OnOk, OnErr};
-ghost use Rattle.fx_rules.specs.declared.command.Command.TheVariants.{Line};
-ghost use Rattle.fx_rules.specs.Session.{IsSession, pair_count};
+ghost use Rattle.fx_rules.specs.Session.{IsSession, pair_count, sender_places};
 ghost use Rattle.fx_rules.specs.Keyed.{pair_key};
 ghost use Rattle.fx_rules.specs.Step.{AreValues};
 ghost use Rattle.fx_rules.specs.History.{state, own};
+ghost use Rattle.fx_rules.specs.Sending.{IsNextIn};
 ghost use Rattle.fx_chronicle.specs.Touching.{pends};
-ghost use Rattle.credit_raise.specs.UnderWay.{IsUnderWay, command_of};
-ghost use Rattle.credit_book.specs.Recorded.{IsCreditBook, signed_by};
+ghost use Rattle.credit_raise.specs.UnderWay.{IsUnderWay, is_change};
+ghost use Rattle.credit_book.specs.Recorded.{signed_by};
 ghost use Rattle.credit_book.specs.Serving.{IsServed};
 ghost use Rattle.fx_desk.specs.Submitting.{Submitted};
 ghost use Rattle.pair_shards.specs.inside.Shards.{PairsPend};
@@ -16,17 +16,17 @@ ghost use Rattle.fx_host.specs.inside.Changing.{IsLast, IsPlanned};
 use crate::credit_lock::CreditAlone;
 use crate::pair_locks::PairsAlone;
 use credit_book::{CreditBook, Pass};
-use credit_raise::Raising;
-use fx_amounts::{BankId, Memory, PairId, Units};
+use credit_raise::CreditChange;
+use fx_amounts::{Memory, PairId};
 use fx_chronicle::Naming;
-use fx_rules::{Command, Entry, Outcome};
+use fx_rules::{Command, Entry, Outcome, Sender};
 use std::alloc::Global;
 use std::sync::Wait;
 
 /// A credit change once every pair had its turn. Nothing is made of it yet.
 struct Planned {
     /// What it makes in each pair.
-    raising: Raising,
+    change: CreditChange,
     /// Its entry.
     entry: Entry,
     /// What its bank is told.
@@ -40,17 +40,17 @@ pub(crate) fn change_all<R: Wait, N: Naming>(
     alloc: Global,
     alone: CreditAlone<'_, N>,
     pass: &mut Pass<N>,
-    other: BankId,
-    asked: Units,
+    command: &Command,
 ) -> Result<Outcome, Memory>
-    requires values { AreValues N.session pass.old.key (Line other asked) }
+    requires values { AreValues N.session pass.old.key command.now }
+    requires change { is_change command.now ≡ true }
     requires few { length (own pass.old.key pass.old.met) < 2 ^ 32 - 1 }
     ensures bank { pass.new.key ≡ pass.old.key }
-    ensures submitted { IfOk result (Submitted N.session pass.old.key pass.old.seen (own pass.old.key pass.old.met) (Line other asked) pass.new.seen (own pass.new.key pass.new.met)) }
+    ensures submitted { IfOk result (Submitted N.session pass.old.key pass.old.seen (own pass.old.key pass.old.met) command.now pass.new.seen (own pass.new.key pass.new.met)) }
     ensures memory { OnErr result (pass.new ≡ pass.old) }
 {
     let (pairs, mut credit) = alone.into_parts();
-    change_credit(rt, alloc, &pairs, &mut credit.book, pass, other, asked)
+    change_credit(rt, alloc, &pairs, &mut credit.book, pass, command)
 }
 
 /// Serves it over these pairs. All of them are planned, and all memory is taken, before anything is made; then it is entered into
@@ -61,62 +61,59 @@ fn change_credit<R: Wait, N: Naming>(
     pairs: &PairsAlone<'_, N>,
     credit: &mut CreditBook<N>,
     pass: &mut Pass<N>,
-    other: BankId,
-    asked: Units,
+    command: &Command,
 ) -> Result<Outcome, Memory>
     requires signed { credit.old.history.pending ≡ [] }
-    requires values { AreValues N.session pass.old.key (Line other asked) }
+    requires values { AreValues N.session pass.old.key command.now }
+    requires change { is_change command.now ≡ true }
     requires few { length (own pass.old.key pass.old.met) < 2 ^ 32 - 1 }
-    ensures served { IfOk result (IsServed N.session credit.old.history.entries pass.old (Line other asked) credit.new.history.entries pass.new) }
+    ensures served { IfOk result (IsServed N.session credit.old.history.entries pass.old command.now credit.new.history.entries pass.new) }
     ensures signed { credit.new.history.pending ≡ [] }
     ensures memory { OnErr result (credit.new ≡ credit.old) }
     ensures pass_memory { OnErr result (pass.new ≡ pass.old) }
 {
+    let sender = credit.sender(pass);
     let Planned {
-        raising,
+        change,
         entry,
         answer,
-    } = plan_change(rt, alloc, pairs, credit, pass, other, asked)?;
+    } = plan_change(rt, alloc, pairs, credit, sender, command)?;
     credit.reserve()?;
     credit.enter(pass, entry);
-    carry_all(rt, pairs, credit, &raising);
+    carry_all(rt, pairs, credit, &change);
     Ok(answer)
 }
 
-/// Plans the next command of the pass's bank, a credit change, pair by pair. It takes memory for all that is made of it, but for the
-/// history's room.
+/// Plans a sender's credit change, the next command of its bank, pair by pair. It takes memory for all that is made of it, but for
+/// the history's room.
 fn plan_change<R: Wait, N: Naming>(
     rt: &R,
     alloc: Global,
     pairs: &PairsAlone<'_, N>,
     credit: &mut CreditBook<N>,
-    pass: &mut Pass<N>,
-    other: BankId,
-    asked: Units,
+    sender: Sender,
+    command: &Command,
 ) -> Result<Planned, Memory>
     requires signed { credit.old.history.pending ≡ [] }
-    requires values { AreValues N.session pass.old.key (Line other asked) }
-    requires few { length (own pass.old.key pass.old.met) < 2 ^ 32 - 1 }
-    ensures planned { IfOk result (λ planned. IsPlanned N.session credit.old.history.entries pass.old.key (Line other asked) planned.raising planned.entry planned.answer) }
+    requires next { IsNextIn (state N.session credit.old.history.entries) sender }
+    requires place { sender.bank < sender_places N.session }
+    requires number { sender.number < 2 ^ 32 }
+    requires values { AreValues N.session sender.bank command.now }
+    requires change { is_change command.now ≡ true }
+    ensures planned { IfOk result (λ planned. IsPlanned N.session credit.old.history.entries sender.bank command.now planned.change planned.entry planned.answer) }
     ensures same { credit.new ≡ credit.old }
-    ensures pass { pass.new ≡ pass.old }
-    ensures kept { IsCreditBook N.session credit.new }
 {
-    let sender = credit.sender(pass);
-    let mut raising = Raising::open(alloc, credit.lines(), sender.bank, other, asked);
-    plan_all(rt, alloc, pairs, credit, &mut raising)?;
-    let answer = raising.outcome(alloc)?;
+    let mut change = CreditChange::open(alloc, credit.lines(), sender.bank, command);
+    plan_all(rt, alloc, pairs, credit, &mut change)?;
+    let answer = change.outcome(alloc)?;
     let entry = Entry {
         bank: sender.bank,
         number: sender.number,
-        command: Command::Line {
-            bank: other,
-            limit: asked,
-        },
+        command: *command,
         outcome: answer.copy()?,
     };
     Ok(Planned {
-        raising,
+        change,
         entry,
         answer,
     })
@@ -128,20 +125,20 @@ fn plan_all<R: Wait, N: Naming>(
     alloc: Global,
     pairs: &PairsAlone<'_, N>,
     credit: &mut CreditBook<N>,
-    raising: &mut Raising,
+    change: &mut CreditChange,
 ) -> Result<(), Memory>
     requires session { IsSession N.session }
     requires signed { credit.old.history.pending ≡ [] }
-    requires under_way { IsUnderWay N.session (state N.session credit.old.history.entries) raising.old }
-    requires begins { raising.old.plans ≡ [] }
-    ensures goes_on { OnOk result (IsUnderWay N.session (state N.session credit.old.history.entries) raising.new) }
-    ensures turns { OnOk result (length raising.new.plans ≡ pair_count N.session) }
-    ensures command { command_of raising.new ≡ command_of raising.old }
-    ensures bank { raising.new.bank ≡ raising.old.bank }
+    requires under_way { IsUnderWay N.session (state N.session credit.old.history.entries) change.old }
+    requires begins { change.old.plans ≡ [] }
+    ensures goes_on { OnOk result (IsUnderWay N.session (state N.session credit.old.history.entries) change.new) }
+    ensures turns { OnOk result (length change.new.plans ≡ pair_count N.session) }
+    ensures command { change.new.command ≡ change.old.command }
+    ensures bank { change.new.bank ≡ change.old.bank }
     ensures same { credit.new ≡ credit.old }
 {
     for place in 0..pairs.count() {
-        plan_pair(rt, alloc, pairs, credit, raising, PairId::at(place))?;
+        plan_pair(rt, alloc, pairs, credit, change, PairId::at(place))?;
     }
     Ok(())
 }
@@ -152,21 +149,21 @@ fn plan_pair<R: Wait, N: Naming>(
     alloc: Global,
     pairs: &PairsAlone<'_, N>,
     credit: &mut CreditBook<N>,
-    raising: &mut Raising,
+    change: &mut CreditChange,
     pair: PairId,
 ) -> Result<(), Memory>
     requires within { pair < pair_count N.session }
     requires signed { credit.old.history.pending ≡ [] }
-    requires under_way { IsUnderWay N.session (state N.session credit.old.history.entries) raising.old }
-    requires next { pair ≡ length raising.old.plans }
-    ensures goes_on { OnOk result (IsUnderWay N.session (state N.session credit.old.history.entries) raising.new) }
-    ensures turns { OnOk result (length raising.new.plans ≡ length raising.old.plans + 1) }
-    ensures command { command_of raising.new ≡ command_of raising.old }
-    ensures bank { raising.new.bank ≡ raising.old.bank }
+    requires under_way { IsUnderWay N.session (state N.session credit.old.history.entries) change.old }
+    requires next { pair ≡ length change.old.plans }
+    ensures goes_on { OnOk result (IsUnderWay N.session (state N.session credit.old.history.entries) change.new) }
+    ensures turns { OnOk result (length change.new.plans ≡ length change.old.plans + 1) }
+    ensures command { change.new.command ≡ change.old.command }
+    ensures bank { change.new.bank ≡ change.old.bank }
     ensures same { credit.new ≡ credit.old }
 {
     let mut shard = pairs.lock(rt, pair);
-    shard.turn(alloc, credit, raising)
+    shard.turn(alloc, credit, change)
 }
 
 /// Each pair signs the last entry, of a credit change for which each had its turn, and makes its part.
@@ -174,16 +171,16 @@ fn carry_all<R: Wait, N: Naming>(
     rt: &R,
     pairs: &PairsAlone<'_, N>,
     credit: &mut CreditBook<N>,
-    raising: &Raising,
+    change: &CreditChange,
 )
     requires session { IsSession N.session }
-    requires last { IsLast N.session credit.old.history.entries raising.now }
+    requires last { IsLast N.session credit.old.history.entries change.now }
     requires pend { PairsPend N.session 0 credit.old.history.pending }
     ensures entries { credit.new.history.entries ≡ credit.old.history.entries }
     ensures signed { credit.new.history.pending ≡ [] }
 {
     for place in 0..pairs.count() {
-        carry_pair(rt, pairs, credit, raising, PairId::at(place));
+        carry_pair(rt, pairs, credit, change, PairId::at(place));
     }
 }
 
@@ -192,14 +189,14 @@ fn carry_pair<R: Wait, N: Naming>(
     rt: &R,
     pairs: &PairsAlone<'_, N>,
     credit: &mut CreditBook<N>,
-    raising: &Raising,
+    change: &CreditChange,
     pair: PairId,
 )
     requires within { pair < pair_count N.session }
-    requires last { IsLast N.session credit.old.history.entries raising.now }
+    requires last { IsLast N.session credit.old.history.entries change.now }
     requires pends { pends credit.old.history.pending (pair_key pair) ≡ true }
     ensures value { credit.new ≡ signed_by (pair_key pair) credit.old }
 {
     let mut shard = pairs.lock(rt, pair);
-    shard.carry(credit, raising.plan(pair));
+    shard.carry(credit, change.plan(pair));
 }

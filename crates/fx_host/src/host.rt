@@ -1,9 +1,9 @@
 ghost use Rattle.std.specs.Prelude.{◌≡◌, ◌≤◌, ◌<◌, ◌-◌, ◌^◌, Some, true, drop, length, IfOk, OnOk, OnErr, vec_len, vec_capacity};
 ghost use mathlib.Core.List.{IsPrefix};
-ghost use Rattle.fx_rules.specs.declared.command.Command.TheVariants.{Line};
 ghost use Rattle.fx_rules.specs.Session.{IsSession, pair_count};
 ghost use Rattle.fx_rules.specs.Step.{AreValues};
 ghost use Rattle.fx_rules.specs.History.{IsLegal, own};
+ghost use Rattle.credit_raise.specs.UnderWay.{is_change};
 ghost use Rattle.fx_desk.specs.Submitting.{Submitted};
 ghost use Rattle.fx_rules.specs.Sending.{pair_of};
 
@@ -12,7 +12,8 @@ use crate::credit_lock::CreditLock;
 use crate::locks::tell_all;
 use crate::pair_locks::PairLocks;
 use crate::turn::Turn;
-use fx_amounts::{BankId, Memory, PairId, Units};
+use credit_raise::is_change;
+use fx_amounts::{Memory, PairId};
 use fx_chronicle::Naming;
 use fx_desk::{Desk, Note, Pass};
 use fx_rules::{Command, EntryList, Gate, Outcome};
@@ -78,19 +79,19 @@ impl<N: Naming> Host<N> {
         rt: &R,
         gate: &G,
         pass: &mut Pass<N>,
-        other: BankId,
-        asked: Units,
+        command: &Command,
     ) -> Result<Outcome, Memory>
-        requires values { AreValues N.session pass.old.key (Line other asked) }
+        requires values { AreValues N.session pass.old.key command.now }
+        requires change { is_change command.now ≡ true }
         requires few { length (own pass.old.key pass.old.met) < 2 ^ 32 - 1 }
         ensures bank { pass.new.key ≡ pass.old.key }
-        ensures submitted { IfOk result (Submitted N.session pass.old.key pass.old.seen (own pass.old.key pass.old.met) (Line other asked) pass.new.seen (own pass.new.key pass.new.met)) }
+        ensures submitted { IfOk result (Submitted N.session pass.old.key pass.old.seen (own pass.old.key pass.old.met) command.now pass.new.seen (own pass.new.key pass.new.met)) }
         ensures memory { OnErr result (pass.new ≡ pass.old) }
     {
         let turn = self.turn.take(rt);
         tell_all(rt, gate, self.pairs.count());
         let alone = self.credit.lock_alone(rt, self.pairs.alone(&turn));
-        change_all(rt, self.alloc, alone, pass, other, asked)
+        change_all(rt, self.alloc, alone, pass, command)
     }
 
     /// Lets the pass see the whole history so far: a legal one, which begins with all that the pass had seen and has of its bank just
@@ -150,10 +151,8 @@ impl<N: Naming + Send> Desk for Host<N> {
     ) -> Result<Outcome, Memory> {
         match command.pair() {
             Some(pair) => self.serve_in(rt, gate, pair, pass, command),
-            None => match *command {
-                Command::Line { bank, limit } => self.change_credit(rt, gate, pass, bank, limit),
-                _ => self.credit.serve(rt, pass, command),
-            },
+            None if is_change(command) => self.change_credit(rt, gate, pass, command),
+            None => self.credit.serve(rt, pass, command),
         }
     }
 

@@ -1,5 +1,5 @@
 -- What is made of a command or an entry, in the books and the table, goes on each legal history.
-use Rattle.std.proofs.Common.{ℕ, ◌≡◌, ◌+◌, ◌<◌, false, List, [], length, get_or, set, Some, None, refl, ap, sym, subst, ◌∙◌, arith}
+use Rattle.std.proofs.Common.{ℕ, ◌≡◌, ◌+◌, ◌<◌, true, false, List, [], length, get_or, set, Some, None, refl, ap, sym, subst, ◌∙◌, arith}
 use Rattle.std.proofs.lemmas.List.{length-set}
 use Rattle.fx_rules.specs.declared.command.Command.{Command}
 use Rattle.fx_rules.specs.declared.command.Command.TheVariants.{Order, Cancel, Reduce, Pull, Line, Show, Book as BookOf, Bad}
@@ -7,7 +7,7 @@ use Rattle.fx_rules.specs.declared.orders.Fill.{Fill}
 use Rattle.fx_rules.specs.declared.outcome.Entry.{Entry}
 use Rattle.fx_rules.specs.declared.outcome.Outcome.{Outcome}
 use Rattle.fx_rules.specs.declared.outcome.Outcome.TheVariants.{LineSet}
-use Rattle.fx_rules.specs.Session.{Header, IsSession, pair_count}
+use Rattle.fx_rules.specs.Session.{Header, IsSession, bank_count, pair_count}
 use Rattle.fx_rules.specs.State.{State, opening, orders_in, count_of}
 use Rattle.fx_rules.specs.Sweep.{filled_all}
 use Rattle.fx_rules.specs.Raise.{limited}
@@ -21,7 +21,8 @@ use Rattle.fx_rules.proofs.Staying.{other_pairs-stay}
 use Rattle.global_book.specs.Book.{Book}
 use Rattle.credit_lines.specs.Credit.{Credit}
 use Rattle.credit_lines.specs.Market as lines
-use Rattle.credit_raise.specs.UnderWay.{Raise, IsUnderWay, opened, reached, command_of, outcome_of, fills_of_all}
+use Rattle.credit_raise.specs.UnderWay.{Change, IsChange, IsOpened, IsUnderWay, is_change, outcome_of, reached}
+use Rattle.credit_raise.proofs.Changes.{opened-bank, opened-command, reached-orders, values-change}
 use Rattle.match_sweep.specs.Carries.{carried}
 use Rattle.credit_table.specs.Table as table
 use Rattle.credit_table.specs.Table.{Table, Stands}
@@ -31,7 +32,7 @@ use Rattle.pair_host.specs.Standing.{HostState, StandsFor, IsNextOf, FollowsOn, 
 use Rattle.pair_host.specs.inside.Books.{AreBooks, HaveOrders, EachBook, IsCarried, IsRecorded, PlansEach, host_of}
 use Rattle.pair_host.specs.inside.OnePair.{AreOf, MayServe, ServesEach, FollowsEach}
 use Rattle.pair_host.proofs.Holding.{BooksOf, books-of, stands-by, have-orders-set}
-use Rattle.fx_rules.proofs.Senders.{pair-within}
+use Rattle.fx_rules.proofs.Senders.{command-place, pair-within}
 use Rattle.pair_host.proofs.Sending.{changes_none}
 
 -- ---- from a step to the histories that it goes on
@@ -131,68 +132,73 @@ one-follows_on banks books at book new table table' e are within is about same f
 
 -- ---- all pairs
 
+-- a bank may open a credit change that it may send
+pub opens-change : (books : List Book) (table : Table) (bank : ℕ) (command : Command) → InSome (stands (host_of books table)) (MaySend bank command) → is_change command ≡ true → IsChange table.lines.banks bank command
+opens-change books table bank command some changes =
+    let h : Header = some.0 in
+    let banks : table.lines.banks ≡ bank_count h = some.3.credit.lines.banks in
+    values-change h table.lines.banks bank command changes banks (omega (arith, banks, command-place h bank command some.2.session some.4.allowed)) some.4.allowed.values
+
 -- what is told of a credit change that is planned in all pairs
-pub record IsPlanned (books : List Book) (table : Table) (raise : Raise) (bank other asked : ℕ) (outcome : Outcome) : Type 0 where
-  pub under_way : (h : Header) (H : List Entry) → IsLegal h H → StandsFor h (state h H) (host_of books table) → IsUnderWay h (state h H) raise
-  pub turns : length raise.plans ≡ length books
-  pub bank_is : raise.bank ≡ bank
-  pub command : command_of raise ≡ Line other asked
-  pub value : outcome ≡ outcome_of raise
-  pub answers : (h : Header) (S : State) → IsUnderWay h S raise → length raise.plans ≡ pair_count h → IsOutcome h S raise.bank (command_of raise) outcome
+pub record IsPlanned (books : List Book) (table : Table) (change : Change) (bank : ℕ) (command : Command) (outcome : Outcome) : Type 0 where
+  pub under_way : (h : Header) (H : List Entry) → IsLegal h H → StandsFor h (state h H) (host_of books table) → IsUnderWay h (state h H) change
+  pub turns : length change.plans ≡ length books
+  pub bank_is : change.bank ≡ bank
+  pub command_is : change.command ≡ command
+  pub value : outcome ≡ outcome_of change
+  pub answers : (h : Header) (S : State) → IsUnderWay h S change → length change.plans ≡ pair_count h → IsOutcome h S change.bank change.command outcome
 
 -- it is planned by the books and the lines, pair by pair
-pub planned-by : (books now : List Book) (table : Table) (credit : Credit) (begun raise : Raise) (bank other asked : ℕ) (outcome : Outcome) → now ≡ books → credit ≡ table.lines
-    → begun ≡ opened credit bank other asked
+pub planned-by : (books now : List Book) (table : Table) (credit : Credit) (begun change : Change) (bank : ℕ) (command : Command) (outcome : Outcome) → now ≡ books → credit ≡ table.lines
+    → IsOpened credit bank command begun
     → ((h : Header) (H : List Entry) → IsLegal h H → lines.StandsFor h (state h H) credit → IsUnderWay h (state h H) begun)
-    → PlansEach now table begun raise → length raise.plans ≡ length now → command_of raise ≡ command_of begun → raise.bank ≡ begun.bank → outcome ≡ outcome_of raise
-    → ((h : Header) (S : State) → IsUnderWay h S raise → length raise.plans ≡ pair_count h → IsOutcome h S raise.bank (command_of raise) outcome)
-    → IsPlanned books table raise bank other asked outcome
-planned-by books now table credit begun raise bank other asked outcome same paid opens begins plans turns command bank_is value answers = record {
+    → PlansEach now table begun change → length change.plans ≡ length now → change.command ≡ begun.command → change.bank ≡ begun.bank → outcome ≡ outcome_of change
+    → ((h : Header) (S : State) → IsUnderWay h S change → length change.plans ≡ pair_count h → IsOutcome h S change.bank change.command outcome)
+    → IsPlanned books table change bank command outcome
+planned-by books now table credit begun change bank command outcome same paid opens begins plans turns command_is bank_is value answers = record {
   under_way = λ h H legal stood.
       let S : State = state h H in
       let of : BooksOf h S books table = books-of h S books table stood in
       plans h S legal.session (subst (HaveOrders S) (sym same) of.orders) of.credit
       (begins h H legal (subst (λ (its : Credit). lines.StandsFor h S its) (sym paid) of.credit.lines));
   turns = turns ∙ ap (λ (bs : List Book). length bs) same;
-  bank_is = bank_is ∙ ap (λ (r : Raise). r.bank) opens;
-  command = command ∙ ap command_of opens;
+  bank_is = bank_is ∙ opened-bank credit bank command begun opens;
+  command_is = command_is ∙ opened-command credit bank command begun opens;
   value = value;
   answers = answers;
 }
 
-pub planned-answers : (books : List Book) (table : Table) (raise : Raise) (bank other asked : ℕ) (outcome : Outcome) → IsPlanned books table raise bank other asked outcome
-    → (h : Header) (H : List Entry) → IsLegal h H → StandsFor h (state h H) (host_of books table) → IsOutcome h (state h H) bank (Line other asked) outcome
-planned-answers books table raise bank other asked outcome planned h H legal stood =
+pub planned-answers : (books : List Book) (table : Table) (change : Change) (bank : ℕ) (command : Command) (outcome : Outcome) → IsPlanned books table change bank command outcome
+    → (h : Header) (H : List Entry) → IsLegal h H → StandsFor h (state h H) (host_of books table) → IsOutcome h (state h H) bank command outcome
+planned-answers books table change bank command outcome planned h H legal stood =
     let S : State = state h H in
-    subst (λ (c : Command). IsOutcome h S bank c outcome) planned.command
-    (subst (λ b. IsOutcome h S b (command_of raise) outcome) planned.bank_is
+    subst (λ (c : Command). IsOutcome h S bank c outcome) planned.command_is
+    (subst (λ b. IsOutcome h S b change.command outcome) planned.bank_is
     (planned.answers h S (planned.under_way h H legal stood) (planned.turns ∙ (books-of h S books table stood).count)))
 
-other_is : (raise : Raise) (other asked : ℕ) → command_of raise ≡ Line other asked → raise.other ≡ other
-other_is raise other asked is = cc
+changed_orders : (h : Header) (S : State) (change : Change) (bank pair : ℕ) (command : Command) (outcome : Outcome) → IsUnderWay h S change → change.bank ≡ bank → change.command ≡ command → outcome ≡ outcome_of change
+    → orders_in pair (reached change S).orders ≡ orders_in pair (after S bank command outcome).orders
+changed_orders h S change bank pair command outcome under bank_is command_is value =
+    ap (orders_in pair) (sym (reached-orders h S change under))
+    ∙ ap (λ b. orders_in pair (after S b change.command (outcome_of change)).orders) bank_is
+    ∙ ap (λ (c : Command). orders_in pair (after S bank c (outcome_of change)).orders) command_is
+    ∙ ap (λ (o : Outcome). orders_in pair (after S bank command o).orders) (sym value)
 
-raised_orders : (S : State) (raise : Raise) (bank other asked pair : ℕ) (outcome : Outcome) → raise.bank ≡ bank → command_of raise ≡ Line other asked → outcome ≡ outcome_of raise
-    → orders_in pair (reached raise S).orders ≡ orders_in pair (after S bank (Line other asked) outcome).orders
-raised_orders S raise bank other asked pair outcome bank_is command value =
-    ap (λ b. orders_in pair (filled_all (limited b raise.other raise.limit S) (fills_of_all raise.plans)).orders) bank_is
-    ∙ ap (λ b. orders_in pair (filled_all (limited bank b raise.limit S) (fills_of_all raise.plans)).orders) (other_is raise other asked command)
-    ∙ ap (λ (o : Outcome). orders_in pair (after S bank (Line other asked) o).orders) (sym value)
-
-pub raise-goes_on : (banks : ℕ) (books books' : List Book) (table table' : Table) (raise : Raise) (bank other asked : ℕ) (outcome : Outcome) → AreBooks banks books
-    → ((h : Header) (S : State) → StandsFor h S (host_of books table) → MaySend bank (Line other asked) h S)
-    → IsPlanned books table raise bank other asked outcome
-    → ((h : Header) (H : List Entry) → IsLegal h H → StandsFor h (state h H) (host_of books table) → IsStep h (state h H) (next_entry (state h H) bank (Line other asked) outcome)
-    → Stands h (after_entry (state h H) (next_entry (state h H) bank (Line other asked) outcome)) table')
-    → EachBook (IsCarried raise) books books'
-    → GoesOn (stands (host_of books table)) (stands (host_of books' table')) bank (Line other asked) outcome
-raise-goes_on banks books books' table table' raise bank other asked outcome are may planned credit carried =
-    goes-on (host_of books table) (host_of books' table') bank (Line other asked) outcome (λ h H legal stood.
+pub change-goes_on : (banks : ℕ) (books books' : List Book) (table table' : Table) (change : Change) (bank : ℕ) (command : Command) (outcome : Outcome) → AreBooks banks books
+    → ((h : Header) (S : State) → StandsFor h S (host_of books table) → MaySend bank command h S)
+    → IsPlanned books table change bank command outcome
+    → ((h : Header) (H : List Entry) → IsLegal h H → StandsFor h (state h H) (host_of books table) → IsStep h (state h H) (next_entry (state h H) bank command outcome)
+    → Stands h (after_entry (state h H) (next_entry (state h H) bank command outcome)) table')
+    → EachBook (IsCarried change) books books'
+    → GoesOn (stands (host_of books table)) (stands (host_of books' table')) bank command outcome
+change-goes_on banks books books' table table' change bank command outcome are may planned credit carried =
+    goes-on (host_of books table) (host_of books' table') bank command outcome (λ h H legal stood.
     let S : State = state h H in
-    let e : Entry = next_entry S bank (Line other asked) outcome in
+    let e : Entry = next_entry S bank command outcome in
     let of : BooksOf h S books table = books-of h S books table stood in
-    let under : IsUnderWay h S raise = planned.under_way h H legal stood in
-    let sent : MaySend bank (Line other asked) h S = may h S stood in
-    let answer : IsOutcome h S bank (Line other asked) outcome = planned-answers books table raise bank other asked outcome planned h H legal stood in
+    let under : IsUnderWay h S change = planned.under_way h H legal stood in
+    let sent : MaySend bank command h S = may h S stood in
+    let answer : IsOutcome h S bank command outcome = planned-answers books table change bank command outcome planned h H legal stood in
     let step : IsStep h S e = record { command = sent.allowed; number = refl; number_most = sent.number; outcome = answer } in
     record {
       step = step;
@@ -203,8 +209,8 @@ raise-goes_on banks books books' table table' raise bank other asked outcome are
             let its = carried.each place none within' in
             let pair_is : (get_or books place none).pair ≡ place = (are place none within').pair in
             its.reaches h S under (of.orders place none within' ∙ ap (λ p. orders_in p S.orders) (sym pair_is))
-            ∙ ap (λ p. orders_in p (reached raise S).orders) (its.pair ∙ pair_is)
-            ∙ raised_orders S raise bank other asked place outcome planned.bank_is planned.command planned.value;
+            ∙ ap (λ p. orders_in p (reached change S).orders) (its.pair ∙ pair_is)
+            ∙ changed_orders h S change bank place command outcome under planned.bank_is planned.command_is planned.value;
         credit = credit h H legal stood step;
       });
     })

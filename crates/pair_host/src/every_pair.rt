@@ -1,10 +1,9 @@
 //! What a credit change does in every pair, in the order of the header.
 ghost use Rattle.std.specs.Prelude.{◌≡◌, ◌<◌, ◌≤◌, [], length, All, IfOk, OnOk};
 ghost use Rattle.fx_rules.specs.Session.{bank_count, pair_count};
-ghost use Rattle.credit_raise.specs.UnderWay.{command_of};
 ghost use Rattle.pair_host.specs.inside.Books.{AreBooks, AreEmpty, EachBook, IsCarried, IsRecorded, PlansEach, RestsIn};
 
-use credit_raise::Raising;
+use credit_raise::CreditChange;
 use credit_table::CreditTable;
 use fx_amounts::{Memory, PairId};
 use fx_rules::{Fill, Session};
@@ -31,29 +30,29 @@ pub(crate) fn plan_turns(
     alloc: Global,
     books: &[PairBook],
     table: &CreditTable,
-    raising: &mut Raising,
+    change: &mut CreditChange,
 ) -> Result<(), Memory>
     requires books { AreBooks (bank_count table.now.session) books.now }
     requires pairs { length books.now ≡ pair_count table.now.session }
-    requires begins { raising.old.plans ≡ [] }
-    ensures under_way { OnOk result (PlansEach books.now table.now raising.old raising.new) }
-    ensures turns { OnOk result (length raising.new.plans ≡ length books.now) }
-    ensures command { command_of raising.new ≡ command_of raising.old }
-    ensures bank { raising.new.bank ≡ raising.old.bank }
+    requires begins { change.old.plans ≡ [] }
+    ensures under_way { OnOk result (PlansEach books.now table.now change.old change.new) }
+    ensures turns { OnOk result (length change.new.plans ≡ length books.now) }
+    ensures command { change.new.command ≡ change.old.command }
+    ensures bank { change.new.bank ≡ change.old.bank }
 {
     for book in books {
-        raising.pair(alloc, book, table.weight(book.pair()))?;
+        change.pair(alloc, book, table.weight(book.pair()))?;
     }
     Ok(())
 }
 
 /// Makes what a credit change brings about in each pair, once all had their turns.
-pub(crate) fn carry_turns(books: &mut [PairBook], raising: &Raising)
-    requires turned { All (λ book. book.pair < length raising.now.plans) books.old }
-    ensures carried { EachBook (IsCarried raising.now) books.old books.new }
+pub(crate) fn carry_turns(books: &mut [PairBook], change: &CreditChange)
+    requires turned { All (λ book. book.pair < length change.now.plans) books.old }
+    ensures carried { EachBook (IsCarried change.now) books.old books.new }
 {
     for book in books.iter_mut() {
-        carry_turn(book, raising);
+        carry_turn(book, change);
     }
 }
 

@@ -1,18 +1,18 @@
 ghost use Rattle.std.specs.Prelude.{◌≡◌, true, length, Some, None, IfOk, OnOk, OnErr};
-ghost use Rattle.fx_rules.specs.declared.command.Command.TheVariants.{Line};
 ghost use Rattle.fx_rules.specs.Session.{Header};
 ghost use Rattle.fx_rules.specs.State.{State, opening};
 ghost use Rattle.fx_rules.specs.Sound.{IsSound};
 ghost use Rattle.fx_rules.specs.Market.{GoesOn, HasSent, InEach, InSome, IsDepthOf, MayAsk, MaySend};
+ghost use Rattle.credit_raise.specs.UnderWay.{is_change};
 ghost use Rattle.credit_table.specs.Table.{Stands, is_of_no_pair};
 ghost use Rattle.fx_rules.specs.Sending.{pair_of};
 ghost use Rattle.pair_host.specs.Standing.{AreBooksOf, AreOfOneState, FollowsOn, IsNextOf, StandsFor, stands};
 
 use crate::every_pair::{all_resting, carry_all_recorded, carry_turns, empty_books, plan_turns};
 use crate::one_pair::{follow_in_pair, serve_in_pair};
-use credit_raise::Raising;
+use credit_raise::{CreditChange, is_change};
 use credit_table::CreditTable;
-use fx_amounts::{BankId, Memory, PairId, Units};
+use fx_amounts::{BankId, Memory, PairId};
 use fx_rules::{Command, Entry, Outcome, Session};
 use global_book::PairBook;
 use local_view::depth;
@@ -75,10 +75,8 @@ impl PairHost {
     {
         match command.pair() {
             Some(pair) => self.serve_in(pair, bank, command),
-            None => match *command {
-                Command::Line { bank: other, limit } => self.raise(bank, other, limit),
-                _ => Ok(self.tell(bank, command)),
-            },
+            None if is_change(command) => self.change(bank, command),
+            None => Ok(self.tell(bank, command)),
         }
     }
 
@@ -94,24 +92,25 @@ impl PairHost {
         serve_in_pair(alloc, book, &mut self.table, bank, command)
     }
 
-    /// A bank sets its limit on another: each pair's turn is planned, and then all is made.
-    fn raise(&mut self, bank: BankId, other: BankId, limit: Units) -> Result<Outcome, Memory>
-        requires may_send { InSome (stands self.old) (MaySend bank (Line other limit)) }
-        ensures goes_on { IfOk result (GoesOn (stands self.old) (stands self.new) bank (Line other limit)) }
+    /// A bank's credit change: each pair's turn is planned, and then all is made.
+    fn change(&mut self, bank: BankId, command: &Command) -> Result<Outcome, Memory>
+        requires may_send { InSome (stands self.old) (MaySend bank command.now) }
+        requires change { is_change command.now ≡ true }
+        ensures goes_on { IfOk result (GoesOn (stands self.old) (stands self.new) bank command.now) }
         ensures memory { OnErr result (self.new ≡ self.old) }
     {
         let alloc = *self.books.allocator();
-        let mut raising = Raising::open(alloc, self.table.lines(), bank, other, limit);
-        plan_turns(alloc, &self.books, &self.table, &mut raising)?;
-        let outcome = raising.outcome(alloc)?;
+        let mut change = CreditChange::open(alloc, self.table.lines(), bank, command);
+        plan_turns(alloc, &self.books, &self.table, &mut change)?;
+        let outcome = change.outcome(alloc)?;
         let entry = Entry {
             bank,
             number: self.table.sender(bank).number,
-            command: Command::Line { bank: other, limit },
+            command: *command,
             outcome,
         };
         self.table.follow(&entry);
-        carry_turns(&mut self.books, &raising);
+        carry_turns(&mut self.books, &change);
         Ok(entry.outcome)
     }
 

@@ -1,11 +1,12 @@
 -- A command over all pairs: its entry has to be signed by each pair, and a pair's part of it leads the pair to the state behind it.
-use Rattle.std.proofs.Common.{ℕ, ◌≡◌, ◌≢◌, ◌+◌, ◌-◌, ◌≤◌, ◌<◌, true, false, List, [], ◌∷◌, ◌++◌, ap, sym, subst, ◌∙◌, arith}
+use Rattle.std.proofs.Common.{ℕ, ◌≡◌, ◌≢◌, ◌+◌, ◌-◌, ◌≤◌, ◌<◌, true, false, List, [], ◌∷◌, ◌++◌, refl, ap, sym, subst, ◌∙◌, arith}
+use Rattle.std.specs.Prelude.{nat_le}
 use Rattle.std.proofs.lemmas.Bool.{le-leb}
 use mathlib.Core.Logic.{dite}
 use native.Mathlib.Decide.{ℕ_discrete, dec_lt}
 use borrow.Author.Tests.{lt-leb}
 use Rattle.fx_rules.specs.declared.command.Command.{Command}
-use Rattle.fx_rules.specs.declared.command.Command.TheVariants.{Line}
+use Rattle.fx_rules.specs.declared.command.Command.TheVariants.{Order, Cancel, Reduce, Pull, Line, Show, Book, Bad}
 use Rattle.fx_rules.specs.declared.orders.Fill.{Fill}
 use Rattle.fx_rules.specs.declared.outcome.Outcome.{Outcome}
 use Rattle.fx_rules.specs.declared.outcome.Entry.{Entry}
@@ -18,31 +19,41 @@ use Rattle.fx_rules.proofs.Soundness.{after_all-push}
 use Rattle.fx_rules.proofs.KeyedLemmas.{touches-pair, touches-other}
 use Rattle.fx_chronicle.specs.Touching.{touched, pends, without}
 use Rattle.fx_chronicle.proofs.Pending.{nothing_pends, pends-touched, pends-touched_above, pends-without, pends-without_same}
-use Rattle.credit_raise.specs.UnderWay.{Makes, Raise, command_of, outcome_of, reached}
+use Rattle.credit_raise.specs.UnderWay.{Change, IsUnderWay, Makes, is_change, outcome_of, reached}
+use Rattle.credit_raise.proofs.Changes.{reached-orders}
 use Rattle.credit_book.specs.Recorded.{Recorded, key_count, recorded, signed_by}
 use Rattle.pair_shards.specs.Shards.{AreOfLast}
 use Rattle.pair_shards.specs.inside.Shards.{PairsPend}
 
 -- ---- which keys have still to sign
 
--- a credit change is about every pair
-about_pairs : (command : Command) (other asked pair : ℕ) → command ≡ Line other asked → is_about command (pair_key pair) ≡ true
-about_pairs command other asked pair is = ap (λ (c : Command). is_about c (pair_key pair)) is ∙ le-leb (pair_key 0) (pair_key pair) (omega arith)
+-- a credit change is about the keys of the pairs, and no others
+change_is_about : (command : Command) (key : ℕ) → is_change command ≡ true → is_about command key ≡ nat_le 65 key
+change_is_about (Line other asked) key is = refl
+change_is_about (Order side pair price lots life) key is = cc
+change_is_about (Cancel pair number) key is = cc
+change_is_about (Reduce pair number lots) key is = cc
+change_is_about (Pull pair) key is = cc
+change_is_about (Show other) key is = cc
+change_is_about (Book pair) key is = cc
+change_is_about (Bad reason) key is = cc
 
--- and about nothing else
-about_no_more : (command : Command) (other asked key : ℕ) → command ≡ Line other asked → key < 65 → is_about command key ≡ false
-about_no_more command other asked key is below = ap (λ (c : Command). is_about c key) is ∙ lt-leb 65 key below
+about_pairs : (command : Command) (pair : ℕ) → is_change command ≡ true → is_about command (pair_key pair) ≡ true
+about_pairs command pair is = change_is_about command (pair_key pair) is ∙ le-leb (pair_key 0) (pair_key pair) (omega arith)
+
+about_no_more : (command : Command) (key : ℕ) → is_change command ≡ true → key < 65 → is_about command key ≡ false
+about_no_more command key is below = change_is_about command key is ∙ lt-leb 65 key below
 
 -- once its sender has signed, all pairs have to
-pub line_pends : (h : Header) (credit new : Recorded) (entry : Entry) (pass_key other asked : ℕ) → credit.history.keys ≡ key_count h → entry.bank ≡ pass_key → entry.bank < 65 → entry.command ≡ Line other asked → new ≡ signed_by pass_key (recorded credit entry) → PairsPend h 0 new.history.pending
-line_pends h credit new entry pass_key other asked count bank_is bank command_is new_is = record {
+pub change_pends : (h : Header) (credit new : Recorded) (entry : Entry) (pass_key : ℕ) → credit.history.keys ≡ key_count h → entry.bank ≡ pass_key → entry.bank < 65 → is_change entry.command ≡ true → new ≡ signed_by pass_key (recorded credit entry) → PairsPend h 0 new.history.pending
+change_pends h credit new entry pass_key count bank_is bank changes new_is = record {
   these = λ pair from below.
       let key : ℕ = pair_key pair in
       let apart : key ≢ pass_key = λ same. omega (arith, same, bank_is, bank) in
       let dealt : key < key_count h = omega (arith, below) in
       whole key ∙ pends-without pass_key key (touched touches_key entry (key_count h)) apart
       ∙ pends-touched touches_key entry (key_count h) key dealt
-      ∙ touches-pair entry pair (about_pairs entry.command other asked pair command_is);
+      ∙ touches-pair entry pair (about_pairs entry.command pair changes);
   no_others = λ key others. whole key ∙ none key others (ℕ_discrete key pass_key) (dec_lt key (key_count h)) (dec_lt key 65);
 }
   where
@@ -55,7 +66,7 @@ line_pends h credit new entry pass_key other asked count bank_is bank command_is
     none key others (no apart) (yes dealt) (no pair) = absurd (others (key - 65) (omega arith) (omega arith) (omega arith))
     none key others (no apart) (yes dealt) (yes low) = pends-without pass_key key (touched touches_key entry (key_count h)) apart
         ∙ pends-touched touches_key entry (key_count h) key dealt
-        ∙ touches-other entry key (λ same. apart (same ∙ bank_is)) (about_no_more entry.command other asked key command_is low)
+        ∙ touches-other entry key (λ same. apart (same ∙ bank_is)) (about_no_more entry.command key changes low)
 
 -- once the next pair has signed, those behind it have to
 pub pair_signs : (h : Header) (pair : ℕ) (pending : List ℕ) → PairsPend h pair pending → PairsPend h (pair + 1) (without (pair_key pair) pending)
@@ -79,15 +90,16 @@ all_signed h pending pend = nothing_pends pending (λ key. pend.no_others key (�
 -- ---- a pair's part
 
 -- the fills that a pair's plan has are those of the command's entry
-pub of_last : (h : Header) (before entries : List Entry) (raise : Raise) (entry : Entry) (pair : ℕ) (fills : List Fill) → entries ≡ before ++ entry ∷ [] → entry.bank ≡ raise.bank → entry.command ≡ command_of raise → entry.outcome ≡ outcome_of raise
-    → Makes (state h before) (reached raise (state h before)) pair fills → AreOfLast h entries pair fills
-of_last h before entries raise entry pair fills ends bank_is command_is outcome_is makes =
+pub of_last : (h : Header) (before entries : List Entry) (change : Change) (entry : Entry) (pair : ℕ) (fills : List Fill) → entries ≡ before ++ entry ∷ [] → entry.bank ≡ change.bank → entry.command ≡ change.command → entry.outcome ≡ outcome_of change
+    → IsUnderWay h (state h before) change → Makes (state h before) (reached change (state h before)) pair fills → AreOfLast h entries pair fills
+of_last h before entries change entry pair fills ends bank_is command_is outcome_is under makes =
     let S : State = state h before in
-    let then' : (after_entry S entry).orders ≡ (reached raise S).orders =
+    let then' : (after_entry S entry).orders ≡ (reached change S).orders =
     ap (λ b. (after S b entry.command entry.outcome).orders) bank_is
-    ∙ ap (λ (c : Command). (after S raise.bank c entry.outcome).orders) command_is
-    ∙ ap (λ (o : Outcome). (after S raise.bank (command_of raise) o).orders) outcome_is in
-    let whole : (state h entries).orders ≡ (reached raise S).orders =
+    ∙ ap (λ (c : Command). (after S change.bank c entry.outcome).orders) command_is
+    ∙ ap (λ (o : Outcome). (after S change.bank change.command o).orders) outcome_is
+    ∙ reached-orders h S change under in
+    let whole : (state h entries).orders ≡ (reached change S).orders =
     ap (λ (T : State). T.orders) (ap (state h) ends ∙ after_all-push (opening h) before entry) ∙ then' in
     record {
       before = before;

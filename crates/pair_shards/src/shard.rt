@@ -8,14 +8,14 @@ ghost use Rattle.fx_chronicle.specs.Touching.{pends};
 ghost use Rattle.fx_chronicle.specs.Faces.{witness};
 ghost use Rattle.fx_rules.specs.Sending.{IsNextIn, pair_of, entry_of};
 ghost use Rattle.pair_steps.specs.Carries.{HasRoomFor};
-ghost use Rattle.credit_raise.specs.UnderWay.{IsUnderWay, command_of};
+ghost use Rattle.credit_raise.specs.UnderWay.{IsUnderWay};
 ghost use Rattle.credit_book.specs.Recorded.{IsCreditBook, signed_by};
 ghost use Rattle.credit_book.specs.Serving.{IsServed};
 ghost use Rattle.pair_shards.specs.Shards.{AreOfLast, IsShard};
 ghost use Rattle.pair_shards.specs.inside.Shards.{IsPrepared};
 
 use credit_book::{CreditBook, Pass, SignedBook};
-use credit_raise::Raising;
+use credit_raise::CreditChange;
 use fx_amounts::{BankId, Memory, PairId};
 use fx_chronicle::{Front, Naming};
 use fx_rules::{Command, Entry, Outcome, Plan, Sender, Session};
@@ -207,16 +207,16 @@ impl<N: Naming> Shard<N> {
         &mut self,
         alloc: Global,
         credit: &mut CreditBook<N>,
-        raising: &mut Raising,
+        change: &mut CreditChange,
     ) -> Result<(), Memory>
         requires signed { credit.old.history.pending ≡ [] }
-        requires under_way { IsUnderWay N.session (state N.session credit.old.history.entries) raising.old }
-        requires next { self.old.book.pair ≡ length raising.old.plans }
-        ensures goes_on { OnOk result (IsUnderWay N.session (state N.session credit.old.history.entries) raising.new) }
-        ensures turns { OnOk result (length raising.new.plans ≡ length raising.old.plans + 1) }
-        ensures command { command_of raising.new ≡ command_of raising.old }
-        ensures bank { raising.new.bank ≡ raising.old.bank }
-        ensures memory { OnErr result (raising.new ≡ raising.old) }
+        requires under_way { IsUnderWay N.session (state N.session credit.old.history.entries) change.old }
+        requires next { self.old.book.pair ≡ length change.old.plans }
+        ensures goes_on { OnOk result (IsUnderWay N.session (state N.session credit.old.history.entries) change.new) }
+        ensures turns { OnOk result (length change.new.plans ≡ length change.old.plans + 1) }
+        ensures command { change.new.command ≡ change.old.command }
+        ensures bank { change.new.bank ≡ change.old.bank }
+        ensures memory { OnErr result (change.new ≡ change.old) }
         ensures front { self.new.front ≡ witness self.old.front.key credit.old.history.entries }
         ensures book { self.new.book ≡ self.old.book }
         ensures same { credit.new ≡ credit.old }
@@ -224,7 +224,7 @@ impl<N: Naming> Shard<N> {
     {
         self.catch_up(credit);
         let weight = credit.weight(self.pair());
-        raising.pair(alloc, self.book(), weight)
+        change.pair(alloc, self.book(), weight)
     }
 
     /// Signs the entry of a command over all pairs, the last one, and makes in the book what it makes there: `plan` has the entry's fills

@@ -7,14 +7,14 @@ use Rattle.fx_rules.specs.Sweep.{filled_all}
 use Rattle.fx_rules.specs.Raise.{Raised}
 use Rattle.fx_rules.specs.Sound.{IsSound}
 use Rattle.global_book.specs.Book.{Book}
-use Rattle.credit_raise.specs.UnderWay.{Raise, IsUnderWay, reached}
+use Rattle.credit_raise.specs.UnderWay.{Change, IsUnderWay, reached}
 
 -- Each state of which the credit change is under way and whose book it was: it is the pair's book with the limit set and the
 -- fills so far made.
-abbrev pub ReachesEach : Raise → Book → Book → Type 0
-ReachesEach raise old new =
-    (h : Header) (S : State) → IsUnderWay h S raise → old.orders ≡ orders_in old.pair S.orders →
-    new.orders ≡ orders_in new.pair (reached raise S).orders
+abbrev pub ReachesEach : Change → Book → Book → Type 0
+ReachesEach change old new =
+    (h : Header) (S : State) → IsUnderWay h S change → old.orders ≡ orders_in old.pair S.orders →
+    new.orders ≡ orders_in new.pair (reached change S).orders
 
 -- those of some fills that are of a pair
 abbrev pub fills_in : ℕ → List Fill → List Fill

@@ -3,7 +3,7 @@ ghost use Rattle.global_book.specs.Book.{KeepsRoom};
 ghost use Rattle.match_sweep.specs.Carries.{carried};
 ghost use Rattle.pair_steps.specs.Turns.{FollowsRaise, ReachesEach, fills_in};
 
-use credit_raise::Raising;
+use credit_raise::CreditChange;
 use fx_rules::Fill;
 use global_book::PairBook;
 use match_sweep::{carry, carry_fills};
@@ -12,14 +12,14 @@ use match_sweep::{carry, carry_fills};
 ///
 /// In each state of which the credit change is under way and whose book it was, it is then the pair's book with the limit set
 /// and the fills so far made.
-pub fn carry_turn(book: &mut PairBook, raising: &Raising)
-    requires turned { book.old.pair < length raising.now.plans }
-    ensures reaches { ReachesEach raising.now book.old book.new }
+pub fn carry_turn(book: &mut PairBook, change: &CreditChange)
+    requires turned { book.old.pair < length change.now.plans }
+    ensures reaches { ReachesEach change.now book.old book.new }
     ensures pair { book.new.pair ≡ book.old.pair }
     ensures banks { book.new.banks ≡ book.old.banks }
     ensures room { KeepsRoom book.old book.new }
 {
-    let plan = raising.plan(book.pair());
+    let plan = change.plan(book.pair());
     carry(book, plan);
 }
 

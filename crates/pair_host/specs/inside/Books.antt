@@ -5,7 +5,7 @@ use Rattle.fx_rules.specs.Lists.{Each}
 use Rattle.fx_rules.specs.Session.{Header, IsSession, bank_count, pair_count}
 use Rattle.fx_rules.specs.State.{State, orders_in}
 use Rattle.global_book.specs.Book.{Book}
-use Rattle.credit_raise.specs.UnderWay.{Raise, IsUnderWay}
+use Rattle.credit_raise.specs.UnderWay.{Change, IsUnderWay}
 use Rattle.credit_table.specs.Table.{Table, Stands}
 use Rattle.match_sweep.specs.Carries.{carried}
 use Rattle.pair_steps.specs.Turns.{ReachesEach, FollowsRaise, fills_in}
@@ -43,15 +43,15 @@ pub record EachBook (became : Book → Book → Type 0) (old new : List Book) : 
   pub each : (place : ℕ) (none : Book) → place < length old → became (slice_index_or old place none) (slice_index_or new place none)
 
 -- Each state of which the credit change was under way, and whose books and table these are: it is under way still.
-abbrev pub PlansEach : List Book → Table → Raise → Raise → Type 0
+abbrev pub PlansEach : List Book → Table → Change → Change → Type 0
 PlansEach books table old new =
     (h : Header) (S : State) → IsSession h → HaveOrders S books → Stands h S table → IsUnderWay h S old → IsUnderWay h S new
 
 -- a pair's book with what a credit change makes in it
-pub record IsCarried (raise : Raise) (old new : Book) : Type 0 where
+pub record IsCarried (change : Change) (old new : Book) : Type 0 where
   pub pair : new.pair ≡ old.pair
   pub banks : new.banks ≡ old.banks
-  pub reaches : ReachesEach raise old new
+  pub reaches : ReachesEach change old new
 
 -- and with what these fills of a recorded one make
 pub record IsRecorded (fills : List Fill) (old new : Book) : Type 0 where

@@ -1,11 +1,22 @@
-use Rattle.std.proofs.Common.{ap, ◌∙◌}
-use Rattle.credit_raise.specs.UnderWay.{Raise, command_of}
+use Rattle.std.proofs.Common.{◌≡◌, ◌∙◌, arith, sym, subst}
+use Rattle.fx_rules.specs.Session.{bank_count}
+use Rattle.credit_lines.specs.Credit.{Credit}
+use Rattle.credit_raise.specs.UnderWay.{IsChange}
+use Rattle.credit_raise.proofs.Changes.{opened-bank, opened-command, values-change}
 use Rattle.fx_host.proofs.Changing.{planned}
 use Rattle.fx_host.proofs.change.plan_change.Goals as goal
 
+pub open-change-requires : goal.open-change-requires
+open-change-requires g c =
+    let lines : Credit = c.args.credit.now.table.lines in
+    let banks : lines.banks ≡ bank_count g.N.Naming.session = c.lines.ensures.kept.stands.lines.banks in
+    record {
+      change = subst (λ (credit : Credit). IsChange credit.banks c.args.sender.bank c.args.command.now) (sym c.lines.ensures.value)
+          (values-change g.N.Naming.session lines.banks c.args.sender.bank c.args.command.now c.requires.change banks (omega (arith, banks, c.requires.place)) c.requires.values);
+    }
+
 pub returns-clause-planned : goal.returns-clause-planned
 returns-clause-planned g c =
-    planned _ c.args.credit.now c.sender-sender.new.self _ _ _ c.sender-sender.result _ _ _ c.sender-sender.ensures.same c.sender-sender.ensures.kept c.sender-sender.ensures.next c.sender-sender.ensures.bank c.sender-sender.ensures.sender
-    c.sender-sender.ensures.number c.requires.values c.in_ok-plan_all.ensures.goes_on c.in_ok-plan_all.ensures.turns
-    (c.in_ok-plan_all.ensures.command ∙ ap command_of c.open-raising.ensures.value) (c.in_ok-plan_all.ensures.bank ∙ ap (λ (r : Raise). r.bank) c.open-raising.ensures.value)
-    c.in_ok-answer.ensures.value c.in_ok-answer.ensures.answers c.in_ok-copy.ensures.equal
+    planned _ c.args.credit.now c.args.sender c.args.command.now _ _ _ c.lines.ensures.kept c.requires.next c.requires.place c.requires.number c.requires.values c.requires.change
+    c.in_ok-plan_all.ensures.goes_on c.in_ok-plan_all.ensures.turns (c.in_ok-plan_all.ensures.command ∙ opened-command _ _ _ _ c.open-change.ensures.opens)
+    (c.in_ok-plan_all.ensures.bank ∙ opened-bank _ _ _ _ c.open-change.ensures.opens) c.in_ok-answer.ensures.value c.in_ok-answer.ensures.answers c.in_ok-copy.ensures.equal

@@ -5,7 +5,7 @@ use Rattle.fx_rules.specs.State.{State}
 use Rattle.credit_raise.specs.UnderWay.{IsPairOf, IsUnderWay}
 use Rattle.credit_raise.specs.inside.UnderWay.{with_plan}
 use Rattle.credit_raise.proofs.Pairs.{goes_on}
-use Rattle.credit_raise.proofs.all_pairs.Raising.pair.Goals as goal
+use Rattle.credit_raise.proofs.change.CreditChange.pair.Goals as goal
 
 on_ok : (r : Result (Unit {0}) Memory) (P Q : Type 0) → (P → Q) → OnOk r P → OnOk r Q
 on_ok (Ok u) P Q step h = step h

@@ -4,7 +4,7 @@ use Rattle.std.proofs.Math.Nat.{add-mul}
 use Rattle.std.proofs.lemmas.List.{drop_more}
 use Rattle.fx_rules.specs.declared.orders.Fill.{Fill}
 use Rattle.credit_raise.specs.Two.{lots_of}
-use Rattle.credit_raise.proofs.all_pairs.line_left.Goals as goal
+use Rattle.credit_raise.proofs.change.line_left.Goals as goal
 
 cost_next : (fills : List Fill) (i : ℕ) (f : Fill) (weight : ℕ) → i < length fills → f ≡ get_or fills i f → lots_of (drop i fills) * weight ≡ f.lots * weight + lots_of (drop (i + 1) fills) * weight
 cost_next fills i f weight within is =

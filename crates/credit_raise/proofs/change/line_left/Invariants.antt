@@ -1,6 +1,6 @@
 use Rattle.std.proofs.Common.{◌≡◌, ◌-◌, ◌*◌, drop}
 use Rattle.credit_raise.specs.Two.{lots_of}
-use Rattle.credit_raise.proofs.all_pairs.line_left.Given as goal
+use Rattle.credit_raise.proofs.change.line_left.Given as goal
 
 -- what is left is what the fills to come leave as much of as all fills of the line
 abbrev pub invariant-loop-fill : goal.invariant-loop-fill

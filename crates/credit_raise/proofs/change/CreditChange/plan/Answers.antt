@@ -1,6 +1,6 @@
 use Rattle.credit_raise.specs.UnderWay.{reached}
 use Rattle.credit_raise.proofs.Pairs.{plan_makes}
-use Rattle.credit_raise.proofs.all_pairs.Raising.plan.Goals as goal
+use Rattle.credit_raise.proofs.change.CreditChange.plan.Goals as goal
 
 pub returns-clause-makes : goal.returns-clause-makes
 returns-clause-makes c h S under =

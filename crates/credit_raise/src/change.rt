@@ -10,73 +10,92 @@ ghost use Rattle.fx_rules.specs.Step.{IsOutcome};
 ghost use Rattle.fx_rules.specs.History.{IsLegal, state};
 ghost use Rattle.credit_lines.specs.Market.{StandsFor};
 ghost use Rattle.credit_raise.specs.Two.{IsFillOf, IsRaised, lots_of};
-ghost use Rattle.credit_raise.specs.UnderWay.{IsPairOf, IsUnderWay, Makes, command_of, fills_of_all, opened, outcome_of, reached};
+ghost use Rattle.credit_raise.specs.UnderWay.{IsChange, IsOpened, IsPairOf, IsUnderWay, Makes, fills_of_all, is_change, outcome_of, reached};
 ghost use Rattle.credit_raise.specs.inside.UnderWay.{with_plan};
 
 use crate::raise::plan_raise;
 use credit_lines::CreditLines;
 use fx_amounts::{BankId, Memory, PairId, Units};
-use fx_rules::{Fill, FillList, Outcome, Plan};
+use fx_rules::{Command, Fill, FillList, Outcome, Plan};
 use global_book::PairBook;
 use price_levels::Steps;
 use std::alloc::Global;
 use std::marker::{Brand, Model};
 use std::sync::ledger::{Blank, Ledger};
 
-/// A bank's credit change under way: its limit is set, and pairs have had their turns, in the order of the header. It
-/// changes no lines and no book, but holds what is to be made of them.
+/// Whether a command is a credit change, in which each pair has its turn.
+pub fn is_change(command: &Command) -> bool
+    ensures value { result ≡ is_change command.now }
+{
+    matches!(command, Command::Line { .. })
+}
+
+/// A credit change under way: pairs have had their turns, in the order of the header. It changes no lines and no book, but holds
+/// what is to be made of them.
 #[derive(Drop)]
-pub struct Raising {
-    /// The bank that sets its limit.
+pub struct CreditChange {
+    /// The bank that sends it.
     bank: BankId,
-    /// The bank that it sets its limit on.
-    other: BankId,
-    /// The limit that it asked for, in credit units.
-    asked: Units,
-    /// The limit that is set, in credit units.
-    limit: Units,
-    /// What the fills so far leave of the line between the two banks, in credit units.
-    line: Units,
+    command: Command,
+    course: Course,
     /// What each pair that had its turn is to make.
     plans: Vec<Plan>,
 }
 
-impl Model for Raising {
-    ghost use Rattle.std.specs.Prelude.{◌≢◌};
-    ghost use Rattle.credit_raise.specs.UnderWay.{Raise};
-
-    ghost Value = { Raise };
-
-    ghost view = { λ r. record { bank = r.bank; other = r.other; asked = r.asked; limit = r.limit; line = r.line; plans = r.plans.items } };
-
-    ghost invariant = { λ r. r.bank ≢ r.other };
+/// The course of a change by which its bank sets its limit on another one.
+#[derive(Clone, Copy)]
+struct Course {
+    /// The bank that it sets its limit on.
+    other: BankId,
+    /// The limit that is set, in credit units.
+    limit: Units,
+    /// What the fills so far leave of the line between the two banks, in credit units.
+    line: Units,
 }
 
-impl Raising {
-    /// A bank's credit change on another bank before the first pair's turn, by the lines as they stand. It takes no memory.
-    /// In the state of every legal history that the lines are of it is under way.
-    pub fn open(
-        alloc: Global,
-        lines: &CreditLines,
-        bank: BankId,
-        other: BankId,
-        asked: Units,
-    ) -> Raising
-        requires bank { bank < lines.now.banks }
-        requires other { other < lines.now.banks }
-        requires differ { bank ≢ other }
-        ensures value { result ≡ opened lines.now bank other asked }
+impl Model for CreditChange {
+    ghost use Rattle.std.specs.Prelude.{◌≢◌};
+    ghost use Rattle.credit_raise.specs.UnderWay.{Change};
+
+    ghost Value = { Change };
+
+    ghost view = { λ c. record {
+      bank = c.bank;
+      command = c.command;
+      course = record { other = c.course.other; limit = c.course.limit; line = c.course.line };
+      plans = c.plans.items;
+    } };
+
+    ghost invariant = { λ c. c.bank ≢ c.course.other };
+}
+
+impl CreditChange {
+    /// A bank's credit change before the first pair's turn, by the lines as they stand. It takes no memory. In the state of every
+    /// legal history that the lines are of it is under way.
+    pub fn open(alloc: Global, lines: &CreditLines, bank: BankId, command: &Command) -> CreditChange
+        requires change { IsChange lines.now.banks bank command.now }
+        ensures opens { IsOpened lines.now bank command.now result }
         ensures begins { (h : Header) (entries : List Entry) → IsLegal h entries → StandsFor h (state h entries) lines.now → IsUnderWay h (state h entries) result }
     {
+        let Command::Line {
+            bank: other,
+            limit: asked,
+        } = *command
+        else {
+            unreachable!();
+        };
         let used = lines.used(bank, other);
         let limit = greater(asked, used);
         let back = lines.limit(other, bank);
-        Raising {
-            bank,
+        let course = Course {
             other,
-            asked,
             limit,
             line: left_of(limit.min(back), used),
+        };
+        CreditChange {
+            bank,
+            command: *command,
+            course,
             plans: Vec::new(alloc),
         }
     }
@@ -89,7 +108,7 @@ impl Raising {
         requires next { book.now.pair ≡ length self.old.plans }
         ensures goes_on { OnOk result ((h : Header) (S : State) → IsUnderWay h S self.old → IsPairOf h S book.now weight → IsUnderWay h S self.new) }
         ensures turns { OnOk result (length self.new.plans ≡ length self.old.plans + 1) }
-        ensures command { command_of self.new ≡ command_of self.old }
+        ensures command { self.new.command ≡ self.old.command }
         ensures bank { self.new.bank ≡ self.old.bank }
         ensures memory { OnErr result (self.new ≡ self.old) }
     {
@@ -100,17 +119,17 @@ impl Raising {
     /// What the two banks' orders make in one pair of the line that is left.
     fn plan_next(&self, alloc: Global, book: &PairBook, weight: u32) -> Result<Plan, Memory>
         requires weight { IsWeight weight }
-        ensures fills { IfOk result (λ plan. (h : Header) (S : State) → IsRaised h S book.now weight self.now.bank self.now.other self.now.line →
+        ensures fills { IfOk result (λ plan. (h : Header) (S : State) → IsRaised h S book.now weight self.now.bank self.now.course.other self.now.course.line →
             Turned h book.now.pair S book.now.orders plan.fills) }
-        ensures parties { IfOk result (λ plan. Each (IsFillOf book.now.pair self.now.bank self.now.other) plan.fills) }
+        ensures parties { IfOk result (λ plan. Each (IsFillOf book.now.pair self.now.bank self.now.course.other) plan.fills) }
     {
         counted_plan::<Brand>(
             alloc,
             book,
             weight,
             self.bank,
-            self.other,
-            self.line,
+            self.course.other,
+            self.course.line,
             Blank::new(1),
         )
     }
@@ -119,13 +138,13 @@ impl Raising {
     fn add(&mut self, plan: Plan, weight: u32) -> Result<(), Memory>
         requires weight { IsWeight weight }
         ensures added { OnOk result (self.new ≡ with_plan self.old plan weight) }
-        ensures command { command_of self.new ≡ command_of self.old }
+        ensures command { self.new.command ≡ self.old.command }
         ensures bank { self.new.bank ≡ self.old.bank }
         ensures memory { OnErr result (self.new ≡ self.old) }
     {
-        let line = line_left(self.line, weight, plan.fills.as_slice());
+        let line = line_left(self.course.line, weight, plan.fills.as_slice());
         self.plans.push(plan)?;
-        self.line = line;
+        self.course.line = line;
         Ok(())
     }
 
@@ -141,7 +160,7 @@ impl Raising {
     pub fn outcome(&self, alloc: Global) -> Result<Outcome, Memory>
         ensures value { IfOk result (λ outcome. outcome ≡ outcome_of self.now) }
         ensures answers { IfOk result (λ outcome. (h : Header) (S : State) → IsUnderWay h S self.now → length self.now.plans ≡ pair_count h →
-            IsOutcome h S self.now.bank (command_of self.now) outcome) }
+            IsOutcome h S self.now.bank self.now.command outcome) }
     {
         self.told(alloc)
     }
@@ -152,7 +171,7 @@ impl Raising {
     {
         let fills = all_fills(alloc, &self.plans)?;
         Ok(Outcome::LineSet {
-            limit: self.limit,
+            limit: self.course.limit,
             fills: FillList::from_vec(fills),
         })
     }
