@@ -33,11 +33,23 @@ from sources.crates import read_crates
 
 TOP = "fx_cli"
 PROGRAM = f"{HERE}/crates/{TOP}/out/{TOP}"
-WRONG_WORDS = 1
+WRONG_WORDS, WRITE_FAILED = 1, 5
 
 
 def say(text):
     print(f"fx: {text}", file=sys.stderr, flush=True)
+
+
+def put(text):
+    """Writes to standard output, and answers the exit status: where it can't be written, the program's own."""
+    try:
+        sys.stdout.buffer.write(text)
+        sys.stdout.flush()
+        return 0
+    except OSError:
+        os.dup2(os.open(os.devnull, os.O_WRONLY), sys.stdout.fileno())  # What is still held goes nowhere.
+        print("write failed", file=sys.stderr)
+        return WRITE_FAILED
 
 
 def crates():
@@ -92,9 +104,7 @@ def run_checked(words):
     sys.stderr.buffer.write(said[: ended.start()] if ended else said)
     sys.stderr.flush()
     if ended and len(wrote) < MOST_BYTES:
-        sys.stdout.buffer.write(wrote)
-        sys.stdout.flush()
-        return int(ended[1])
+        return put(wrote) or int(ended[1])
     if ended or b"\nrun=no-answer" in said:
         say(f"the toolchain ended the run: it lets one write less than 1 MiB and take {MOST_MINUTES} minutes. Nothing of it was written; ./fx build makes the program, which has no such limit")
         return GAVE_UP
@@ -158,18 +168,16 @@ def package(folder):
         say("the program is not built, or a source is newer than it: no package was made. ./fx build proves and builds it")
         return NO_PACKAGE
     try:
-        print(make_package(HERE, PROGRAM, folder))
+        return put(f"{make_package(HERE, PROGRAM, folder)}\n".encode())
     except Refused as fault:
         say(f"{fault}: no package was made")
         return NO_PACKAGE
-    return 0
 
 
 def print_help():
     from command.pages import help_page
 
-    print(help_page(), end="")
-    return 0
+    return put(help_page().encode())
 
 
 def main(words):

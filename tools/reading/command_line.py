@@ -9,7 +9,7 @@ from typing import BinaryIO
 from .output import PIECE, BadLine
 from .session import is_output, is_session
 
-UNREADABLE = 2
+UNREADABLE, WRITE_FAILED = 2, 5
 
 
 class Failed(Exception):
@@ -29,6 +29,11 @@ class Parser(argparse.ArgumentParser):
 
     def error(self, message: str):
         raise Failed(f"{message}; see {self.prog} --help")
+
+    def exit(self, status: int = 0, message: str | None = None):
+        """Ends behind the page of help, which has to be written by then."""
+        sys.stdout.flush()
+        super().exit(status, message)
 
 
 class Text:
@@ -96,6 +101,11 @@ def only_one_input(parser: Parser, paths: list[str | None]) -> None:
         parser.error("standard input can be one text alone")
 
 
+def drop_output() -> None:
+    """Lets what standard output still holds go nowhere: it can't be written, or who read it wanted no more."""
+    os.dup2(os.open(os.devnull, os.O_WRONLY), sys.stdout.fileno())
+
+
 def end(name: str, run: Callable[[list[str]], int]) -> None:
     """Runs a tool on its words and ends with its status; a fault is told in one line on standard error."""
     try:
@@ -105,8 +115,12 @@ def end(name: str, run: Callable[[list[str]], int]) -> None:
         print(f"{name}: {printable(str(failed))}", file=sys.stderr)
         status = failed.status
     except BrokenPipeError:
-        os.dup2(os.open(os.devnull, os.O_WRONLY), sys.stdout.fileno())  # Who read it wanted no more.
+        drop_output()
         status = 141
+    except OSError as fault:
+        drop_output()
+        print(f"{name}: standard output can't be written: {fault.strerror}", file=sys.stderr)
+        status = WRITE_FAILED
     except KeyboardInterrupt:
         print(f"{name}: stopped", file=sys.stderr)
         status = 130

@@ -59,6 +59,12 @@ class Help(CopyTrial):
             self.assertIn(text, page)
         self.assertLessEqual(max(map(len, page.splitlines())), 130)
 
+    def test_an_output_that_nobody_takes(self) -> None:
+        """Where the page of help can't be written, ./fx ends as the program does."""
+        with open("/dev/full", "wb") as full:
+            run = subprocess.run([f"{self.copy}/fx", "help"], stdout=full, stderr=subprocess.PIPE)
+        self.assertEqual((run.returncode, run.stderr), (5, b"write failed\n"))
+
     def test_wrong_words(self) -> None:
         """Each fault in words; ./fx tells it in one line, whatever bytes the words have."""
         for words, told in WRONG.items():

@@ -1,9 +1,17 @@
-"""Trials of the page docs/TOOLS.md: each example is what the tools print."""
+"""Trials of the page docs/TOOLS.md: each example is what the tools print, and each exit status stands in it."""
 import os
 import re
 import shlex
+import subprocess
+import sys
 
-from .common import HERE, Trial, ran, read
+from .common import HERE, MORNING, Trial, ran, read
+
+# Runs that write to standard output, one at least of each tool.
+WRITING = (
+    ("explain", *MORNING), ("covers", *MORNING), ("compare", MORNING[1], MORNING[1]), ("export", "--tables"),
+    ("fix", "reports", f"{HERE}/examples/orders.csv", f"{HERE}/examples/orders.out"),
+)
 
 
 class Page(Trial):
@@ -27,3 +35,18 @@ class Page(Trial):
             row = re.search(rf"^\| `tools/{name}` \|(.*)$", page, re.M)
             self.assertTrue(told and row, name)
             self.assertTrue(all(f"{status} " in row[1] for status in told if status != "130"), (name, told))
+
+    def test_an_output_that_nobody_takes(self) -> None:
+        """A full standard output ends with status 5 and one line, one whose reader has gone with 141 and none."""
+        for buffered in ({}, {"PYTHONUNBUFFERED": "1"}):
+            known = {name: value for name, value in os.environ.items() if name != "PYTHONUNBUFFERED"} | buffered
+            for name, *words in WRITING:
+                run = [sys.executable, f"{HERE}/tools/{name}", *words]
+                with open("/dev/full", "wb") as full:
+                    ended = subprocess.run(run, stdout=full, stderr=subprocess.PIPE, env=known)
+                self.assertEqual((ended.returncode, ended.stderr.count(b"\n")), (5, 1), (name, ended.stderr))
+                here, there = os.pipe()
+                os.close(here)
+                ended = subprocess.run(run, stdout=there, stderr=subprocess.PIPE, env=known)
+                os.close(there)
+                self.assertEqual((ended.returncode, ended.stderr), (141, b""), name)
