@@ -24,10 +24,9 @@ impl Balances {
         let mut owes = Vec::new(alloc);
         let mut owed = Vec::new(alloc);
         for bank in 0..dues.banks {
-            let got = dues.got(bank, column);
-            let gave = dues.gave(bank, column);
-            owes.push(gave.saturating_sub(got))?;
-            owed.push(got.saturating_sub(gave))?;
+            let flow = dues.flow(bank, column);
+            owes.push(flow.gave.saturating_sub(flow.got))?;
+            owed.push(flow.got.saturating_sub(flow.gave))?;
         }
         Ok(Balances { owes, owed })
     }

@@ -1,8 +1,8 @@
-ghost use Rattle.std.specs.Prelude.{List, [], ◌∷◌, ◌++◌, ◌≡◌, ◌≤◌, ◌<◌, ◌^◌, length, IfOk};
+ghost use Rattle.std.specs.Prelude.{List, [], ◌∷◌, ◌++◌, ◌≡◌, ◌≤◌, ◌<◌, length, IfOk};
 ghost use Rattle.fx_rules.specs.History.{IsLegal, state};
 ghost use Rattle.day_report.specs.Table.{place};
 ghost use Rattle.day_report.specs.inside.Trades.{CanAdd, Adds};
-ghost use Rattle.net_settle.specs.inside.Dues.{HasPlaces, AreDues, CanAddAll, due_in, got_in, gave_in};
+ghost use Rattle.net_settle.specs.inside.Dues.{HasPlaces, SumsFit, AreDues, CanAddAll, due_in, got_in, gave_in};
 
 use day_report::{Currencies, Table, amounts_of, buyer, seller};
 use fx_amounts::Memory;
@@ -17,6 +17,13 @@ pub(crate) struct Dues {
     pub currencies: Currencies,
     /// A row for each two banks, by the one that gets and then by the one that gives, and a column for each currency.
     sums: Table,
+}
+
+/// What a bank gets of a currency by all fills, and what it gives, in units of it.
+#[derive(Clone, Copy, Debug)]
+pub(crate) struct Flow {
+    pub got: u128,
+    pub gave: u128,
 }
 
 impl Dues {
@@ -87,34 +94,22 @@ impl Dues {
         self.sums.at(row_of(self.banks, a, b), column)
     }
 
-    /// What a bank is due of a column's currency from all banks together.
-    pub(crate) fn got(&self, bank: usize, column: usize) -> u128
+    /// What a bank gets of a column's currency from all banks together, and what it gives them.
+    pub(crate) fn flow(&self, bank: usize, column: usize) -> Flow
         requires places { HasPlaces self.now }
         requires bank { bank < self.now.banks }
         requires column { column < length self.now.currencies.codes.items }
-        requires fits { got_in self.now bank column < 2 ^ 128 }
-        ensures value { result ≡ got_in self.now bank column }
+        requires fit { SumsFit self.now column }
+        ensures got { result.got ≡ got_in self.now bank column }
+        ensures gave { result.gave ≡ gave_in self.now bank column }
     {
-        let mut sum = 0;
+        let mut got = 0;
+        let mut gave = 0;
         for other in 0..self.banks {
-            sum += self.due(bank, other, column);
+            got += self.due(bank, other, column);
+            gave += self.due(other, bank, column);
         }
-        sum
-    }
-
-    /// What all banks together are due of it from a bank.
-    pub(crate) fn gave(&self, bank: usize, column: usize) -> u128
-        requires places { HasPlaces self.now }
-        requires bank { bank < self.now.banks }
-        requires column { column < length self.now.currencies.codes.items }
-        requires fits { gave_in self.now bank column < 2 ^ 128 }
-        ensures value { result ≡ gave_in self.now bank column }
-    {
-        let mut sum = 0;
-        for other in 0..self.banks {
-            sum += self.due(other, bank, column);
-        }
-        sum
+        Flow { got, gave }
     }
 }
 

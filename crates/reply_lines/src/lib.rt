@@ -18,6 +18,7 @@ mod telling;
 pub use day::{DayRun, DayText, write_output_from};
 pub use desk::NoticeDesk;
 pub use laws::{desks_are_told, one_output, output_from_books};
+pub use lines::write_count;
 pub use notice_writer::NoticeWriter;
 pub use notices::FillPart;
 pub use output::{Ending, OutFault, write_from_books};

@@ -45,7 +45,7 @@ pub(crate) fn write_lines<T: Print, K: Sink>(
 }
 
 /// Writes the line of a word of at most 20 bytes and a number.
-pub(crate) fn write_count<K: Sink>(
+pub fn write_count<K: Sink>(
     word: &[u8],
     count: u128,
     pieces: &mut Pieces,
