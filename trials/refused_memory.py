@@ -157,7 +157,8 @@ def main():
         subprocess.run(["cc", "-O1", "-shared", "-fPIC", source, "-o", shim], check=True)
         for name, text in sessions:
             output = subprocess.run([told.program, "serial"], input=text, capture_output=True).stdout
-            rows = [(["serial"], text), (["run", "--workers", "1"], text), (["run", "--workers", "2"], text), (["check"], output)]
+            rows = [(["serial"], text), (["run", "--workers", "1"], text), (["run", "--workers", "2"], text)]
+            rows += [(asked, output) for asked in (["check"], ["payments", "bilateral"], ["payments", "net"])]
             for command, given in rows:
                 bad += show(name, Trial(told.program, shim, folder, given, command))
         if not told.sessions:

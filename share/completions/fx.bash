@@ -11,8 +11,10 @@ _fx() {
         --workers) choices='1 2 4 8 16 32 64' ;;
     esac
     if [ "$COMP_CWORD" = 1 ]; then
-        choices='serial run check load'
+        choices='serial run check load payments'
         [ "${COMP_WORDS[0]##*/}" = fx_cli ] || choices+=' build package help'
+    elif [ "${COMP_WORDS[1]} $COMP_CWORD" = 'payments 2' ]; then
+        choices='bilateral net'
     elif [ "${COMP_WORDS[1]} $COMP_CWORD" = 'package 2' ]; then
         compopt -o filenames 2> /dev/null
         mapfile -t COMPREPLY < <(compgen -d -- "$current")

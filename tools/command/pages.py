@@ -32,6 +32,9 @@ def bash() -> str:
     """The completions for bash."""
     shared = " ".join(word.word for word in WORDS if not word.own)
     own = " ".join(word.word for word in WORDS if word.own)
+    formed = "\n".join(
+        f"    elif [ \"${{COMP_WORDS[1]}} $COMP_CWORD\" = '{word.word} 2' ]; then\n        choices='{' '.join(word.forms)}'" for word in WORDS if word.forms
+    )
     places = "\n".join(f"        {word.word}) at={2 + len(word.numbers)} ;;" for word in WORDS if word.threaded)
     return f"""# Completions for bash of ./fx, and of fx_cli, the program itself. {MADE}
 # In a shell: source share/completions/fx.bash
@@ -48,6 +51,7 @@ _fx() {{
     if [ "$COMP_CWORD" = 1 ]; then
         choices='{shared}'
         [ "${{COMP_WORDS[0]##*/}}" = fx_cli ] || choices+=' {own}'
+{formed}
     elif [ "${{COMP_WORDS[1]}} $COMP_CWORD" = 'package 2' ]; then
         compopt -o filenames 2> /dev/null
         mapfile -t COMPREPLY < <(compgen -d -- "$current")
@@ -73,13 +77,14 @@ def zsh_arguments(word) -> str:
     places = [f"'{place}:{number.name}, {number.low} to {number.high}:'" for place, number in enumerate(word.numbers, 1)]
     places += [f"'--workers[{zsh_text(WORKERS.what)}]:{WORKERS.name}, {WORKERS.low} to {WORKERS.high}:({WORKER_CHOICES})'"] * word.threaded
     places += ["'1:folder:_files -/'"] * word.folder
+    places += [f"'1:form:({' '.join(word.forms)})'"] * bool(word.forms)
     return f"        {word.word}) _arguments {' '.join(places)} ;;"
 
 
 def zsh() -> str:
     """The completions for zsh."""
     described = {own: "\n".join(f"        '{word.word}:{zsh_text(word.summary)}'" for word in WORDS if word.own == own) for own in (False, True)}
-    arguments = "\n".join(zsh_arguments(word) for word in WORDS if word.threaded or word.folder)
+    arguments = "\n".join(zsh_arguments(word) for word in WORDS if word.threaded or word.folder or word.forms)
     return f"""#compdef fx fx_cli
 # Completions for zsh of ./fx, and of fx_cli, the program itself. {MADE}
 # In a shell: fpath=($PWD/share/completions $fpath); autoload -Uz compinit; compinit

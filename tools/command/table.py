@@ -13,13 +13,15 @@ class Number(NamedTuple):
 
 
 class Word(NamedTuple):
-    """A word of ./fx. `reads` is the text that it takes from standard input, `threaded` says that `--workers N` may stand behind
-    the numbers, `folder` that a folder may; `own` marks the words that ./fx itself has, and the program has not."""
+    """A word of ./fx. `reads` is the text that it takes from standard input, `forms` are the words of which one stands behind it,
+    `threaded` says that `--workers N` may stand behind the numbers, `folder` that a folder may; `own` marks the words that ./fx
+    itself has, and the program has not."""
 
     word: str
     summary: str
     more: str
     reads: str = ""
+    forms: tuple[str, ...] = ()
     numbers: tuple[Number, ...] = ()
     threaded: bool = False
     folder: bool = False
@@ -64,6 +66,13 @@ WORDS = (
         threaded=True,
     ),
     Word(
+        "payments",
+        "tells what the banks pay at the end of the day of an output: each two banks one another, or netted over all banks",
+        "No list that settles the day pays less. It prints NO and the offset, as check does, where the text is not a right output.",
+        reads="OUTPUT",
+        forms=("bilateral", "net"),
+    ),
+    Word(
         "build",
         "proves and builds the program once, in about half an hour",
         "From then on ./fx starts the proved program at once.",
@@ -84,7 +93,7 @@ BOUNDS = (
     ("pairs", "1 to 32"),
     ("a text line", "at most 256 bytes, not counting its end"),
     ("a session", "at most 2^26 bytes (64 MiB)"),
-    ("an output that is checked", "below 2^28 bytes (256 MiB)"),
+    ("an output that is read", "below 2^28 bytes (256 MiB)"),
     ("workers", f"{WORKERS.low} to {WORKERS.high}, and {DEFAULT_WORKERS} if none is given"),
     ("commands of load", "1 to 20,000"),
 )
@@ -99,7 +108,7 @@ STATUSES = {
     5: "a write to standard output failed",
     6: "out of memory",
     7: "the input is too long",
-    8: "check says NO",
+    8: "check or payments says NO",
 }
 REFUSED, NO_PACKAGE, GAVE_UP, STOPPED = 70, 73, 75, 130
 OWN_STATUSES = {
@@ -112,6 +121,7 @@ OWN_STATUSES = {
 EXAMPLES = (
     ("./fx serial < examples/morning.fx > morning.out", "a morning, in the order of its lines"),
     ("./fx check < morning.out", "YES: it is a right output"),
+    ("./fx payments net < morning.out", "what the banks pay for that morning, netted over all of them"),
     ("./fx run --workers 8 < examples/morning.fx | ./fx check", "the same morning on eight threads, and checked"),
     ("./fx load 7 8 4 5000", "5,000 commands of 8 banks in 4 pairs, made from the number 7"),
     ("tools/explain day.fx", "which lines of a session the program will refuse, and why"),
@@ -127,6 +137,6 @@ UNPROVED = (
 
 def synopsis(word: Word, name: str = "./fx") -> str:
     """How a word is written, with what it reads."""
-    parts = [name, word.word, *(number.name for number in word.numbers)]
+    parts = [name, word.word, *["|".join(word.forms)] * bool(word.forms), *(number.name for number in word.numbers)]
     parts += [f"[--workers {WORKERS.name}]"] * word.threaded + ["[DIR]"] * word.folder
     return " ".join(parts + [f"< {word.reads}"] * bool(word.reads))

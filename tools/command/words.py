@@ -2,7 +2,7 @@
 import difflib
 import re
 
-from command.table import WORDS, WORKERS, Number
+from command.table import WORDS, WORKERS, Number, Word
 
 HELP = ("help", "--help", "-h")
 BY_WORD = {word.word: word for word in WORDS}
@@ -31,6 +31,21 @@ def asks_for_help(words: list[str]) -> bool:
     return words[0] in HELP or words[0] in BY_WORD and words[1:] in (["--help"], ["-h"])
 
 
+def form_fault(word: Word, rest: list[str]) -> str:
+    """What is wrong with the words behind one that has forms."""
+    wanted = " or ".join(word.forms)
+    if not rest:
+        return f"{word.word} needs {wanted} after it"
+    if rest[0] not in word.forms:
+        return f"what follows {word.word} is {wanted}, not {rest[0]!r}"
+    if len(rest) == 1:
+        return ""
+    fault = f"unexpected argument {rest[1]!r}"
+    if len(rest) == 2 and not rest[1].startswith("-"):
+        return f"{fault}: the {word.reads.lower()} comes from standard input, as in ./fx {word.word} {rest[0]} < FILE"
+    return fault
+
+
 def fault_of(words: list[str]) -> str:
     """What is wrong with the words; nothing where they are in one of the forms."""
     if not words:
@@ -41,6 +56,8 @@ def fault_of(words: list[str]) -> str:
     if word is None:
         near = difflib.get_close_matches(words[0].lower(), BY_WORD, 1)
         return f"unknown command {words[0]!r}{f' (did you mean {near[0]}?)' if near else ''}; the commands are {', '.join(BY_WORD)}"
+    if word.forms:
+        return form_fault(word, words[1:])
     said = words[1 : 1 + len(word.numbers)]
     for number, text in zip(word.numbers, said):
         if fault := number_fault(number, text, number.name):

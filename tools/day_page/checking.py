@@ -1,4 +1,4 @@
-"""Asks `./fx check` about a text, and tells what it said."""
+"""Asks `./fx check` and `./fx payments` about a text, and tells what they said."""
 import os
 import re
 import signal
@@ -36,13 +36,14 @@ class Source:
     digest: str
 
 
-class Check:
-    """A run of `./fx check` that is handed the text as it is read, so that it is of the same bytes."""
+class Asked:
+    """A run of `./fx` with some words, which is handed the text as it is read, so that it is of the same bytes."""
 
-    def __init__(self, program):
+    def __init__(self, program, *words):
+        self.words = " ".join(words)
         self.out, self.err = tempfile.TemporaryFile(), tempfile.TemporaryFile()
         try:
-            self.run = subprocess.Popen([program, "check"], stdin=subprocess.PIPE, stdout=self.out, stderr=self.err, start_new_session=True)
+            self.run = subprocess.Popen([program, *words], stdin=subprocess.PIPE, stdout=self.out, stderr=self.err, start_new_session=True)
         except OSError as fault:
             raise NoAnswer(f"./fx can't be started: {fault.strerror}") from fault
 
@@ -63,6 +64,22 @@ class Check:
             file.seek(0)
         return status, self.out.read(), self.err.read()
 
+    def no_answer(self, status, err):
+        told = err.decode(errors="replace").strip().splitlines()
+        return NoAnswer(f"./fx {self.words} came to no answer (status {status}{': ' + told[-1] if told else ''})")
+
+    def stop(self):
+        if self.run.poll() is None:
+            os.killpg(self.run.pid, signal.SIGTERM)
+            self.run.wait()
+
+
+class Check(Asked):
+    """A run of `./fx check`."""
+
+    def __init__(self, program):
+        super().__init__(program, "check")
+
     def verdict(self, path):
         """What it says of the text, which is the file of this path, or standard input for `-`. The proved program writes nothing on
         standard error beside the status' own line; the sources with run-time checks say there that they are not it."""
@@ -73,13 +90,22 @@ class Check:
         if status == DIFFERS and no:
             offset = int(no[1])
             return Verdict(WRONG, err == b"output differs\n", offset, *line_at(path, offset))
-        told = err.decode(errors="replace").strip().splitlines()
-        raise NoAnswer(f"./fx check came to no answer (status {status}{': ' + told[-1] if told else ''})")
+        raise self.no_answer(status, err)
 
-    def stop(self):
-        if self.run.poll() is None:
-            os.killpg(self.run.pid, signal.SIGTERM)
-            self.run.wait()
+
+class Payments(Asked):
+    """A run of `./fx payments`, in one of its forms."""
+
+    def __init__(self, program, form):
+        super().__init__(program, "payments", form)
+        self.form = form
+
+    def text(self):
+        """What it writes of an output that is a right one."""
+        status, out, err = self.answer()
+        if status != 0:
+            raise self.no_answer(status, err)
+        return out
 
 
 def line_at(path, offset):

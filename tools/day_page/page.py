@@ -11,6 +11,7 @@ from .checking import RIGHT, UNCHECKED, WRONG
 from .credit_path import FOLLOWED
 from .refused import refused_section, words_of_faults
 from .scale import is_full, is_nearly_full, percent
+from .settling import settlement_section
 from .tables import few, grouped, safe, table
 
 HERE = os.path.dirname(os.path.realpath(__file__))
@@ -187,7 +188,7 @@ def differences(day):
         return ""
     shown = "".join(f"<li>{safe(what)}</li>" for what in day.differences[:10])
     more = f"<p>and {grouped(len(day.differences) - 10)} more.</p>" if len(day.differences) > 10 else ""
-    return f'<div class="differences" id="differences"><p><strong>The desks and the report do not agree:</strong></p><ul>{shown}</ul>{more}</div>'
+    return f'<div class="differences" id="differences"><p><strong>What is told twice does not agree:</strong></p><ul>{shown}</ul>{more}</div>'
 
 
 def desk_text(day, bank):
@@ -340,7 +341,7 @@ def made_text(day, source, verdict):
         if reduced or binned
         else "The page has every notice and every fill of the day."
     )
-    agree = "do not agree, as said above" if day.differences else "agree"
+    agree = "do not all agree, as said above" if day.differences else "agree"
     return f"""<ul>
 <li><strong>Not proved.</strong> <code>tools/day</code> made this page. The program that makes such texts and checks them is proved; that doesn't make the page proved.</li>
 <li><strong>The text.</strong> <span id="source-name">{safe(source.name)}</span>, {grouped(source.size)} bytes in {grouped(day.lines)} text lines, SHA-256 <span class="hash" id="digest">{source.digest}</span>. These bytes were {'not checked' if verdict.kind == UNCHECKED else 'the ones that were checked'}.</li>
@@ -371,7 +372,7 @@ def page(day, source, verdict, session=None, tell=lambda part: None):
         "chip": CHIPS[verdict.kind], "verdict": verdict_text(verdict), "differences": differences(day), "figures": figures(day),
         "heat": heat, "heat_left": str(left), "heat_top": str(top), "heat_cell": str(cell), "legend": legend(day),
         "nearest": nearest_table(day), "exposure": exposure_table(day), "uses": uses_table(day), "credit": credit_part(day, tell), "use_count": few(len(day.uses), "line"),
-        "nets": nets_table(day), "nets_controls": chosen, "nets_open": "" if many else " open", "net_charts": net_charts(day, tell),
+        "settlement": settlement_section(day), "nets": nets_table(day), "nets_controls": chosen, "nets_open": "" if many else " open", "net_charts": net_charts(day, tell),
         "volume": charts.volume(day), "volume_bars": volume_bars(day), "volumes": volumes_table(day), "refused": refused_section(day, session), "fill_charts": fill_charts(day, tell),
         "made": made_text(day, source, verdict), "data": data(day),
     }

@@ -97,7 +97,7 @@ class Bad(NamedTuple):
 
 class Day:
     """A day as it is summed up. `kept` is how many of a desk's notices, of a bank's commands, of a pair's fills and of the bad commands
-    are held at most."""
+    are held at most; `paid_alike` is whether `./fx payments` tells what the page finds, once it was asked."""
 
     def __init__(self, kept, header):
         self.kept, self.header = kept, header
@@ -108,6 +108,7 @@ class Day:
         self.desks, self.fills, self.books = [], [], []
         self.volumes, self.uses, self.nets = [], [], []
         self.strays, self.ending, self.differences, self.lines = 0, "", [], 0
+        self.paid_alike = None
 
     def differs(self, what):
         self.differences.append(what)

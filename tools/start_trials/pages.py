@@ -128,6 +128,7 @@ class Shells(Trial):
         self.assertEqual(self.completed("./fx", "load", "7", ""), set())
         self.assertEqual(self.completed("./fx", "load", "7", "8", "4", "10", ""), {"--workers"})
         self.assertEqual(self.completed("./fx", "serial", ""), set())
+        self.assertEqual(self.completed("./fx", "payments", ""), {"bilateral", "net"})
         self.assertIn("examples/morning.fx", self.completed("./fx", "serial", "<", "examples/m"))
         self.assertEqual(self.completed("./fx", "package", "exam"), {"examples"})
 

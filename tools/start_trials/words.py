@@ -24,6 +24,9 @@ WRONG = {
     ("load", "7", "8"): "PAIRS is missing (how many pairs)",
     ("load", "7", "65", "4", "10"): "BANKS must be a number from 2 to 64",
     ("load", "7", "8", "4", "20001"): "COMMANDS must be a number from 1 to 20000",
+    ("payments",): "payments needs bilateral or net after it",
+    ("payments", "gross"): "what follows payments is bilateral or net, not 'gross'",
+    ("payments", "net", "day.out"): "comes from standard input, as in ./fx payments net < FILE",
     ("build", "now"): "unexpected argument 'now'",
     ("package", "here", "there"): "unexpected argument 'there'",
     ("run\n", "\udcff"): "unknown command",
@@ -41,6 +44,7 @@ RIGHT_LOAD = ["1", "2", "1", "2"]
 def word_lists() -> list[list[str]]:
     """Words in all forms of the program, right and wrong, and none that makes it work for long."""
     lists = [[], ["serial"], ["check"], ["run"], ["serial", ""], ["check", "x"], ["load"], ["RUN"], [" run"], ["run", "--workers=2"], ["run", "2"], ["run", "--"]]
+    lists += [["payments", *rest] for rest in ([], ["net"], ["bilateral"], ["gross"], ["Net"], ["net", ""], ["net", "bilateral"], ["--workers", "2"])]
     lists += [["run", "--workers", number] for number in ("1", "64", "0", "65", "01", "+1", "", " 1", "4294967297", "1_0", "\u0661")]
     lists += [["run", "--workers", "2", "--workers", "2"], ["--workers", "2", "run"], ["load", "--workers", "2", *RIGHT_LOAD], ["load", *RIGHT_LOAD, "2"]]
     lists += [["load", *RIGHT_LOAD, "--workers", number] for number in ("1", "64", "65")] + [["load", *RIGHT_LOAD[:count]] for count in range(1, 5)]

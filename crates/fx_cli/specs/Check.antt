@@ -1,4 +1,5 @@
--- The check of an output: what was read, the verdict, and what was written.
+-- The check of an output: what was read, the verdict, and what was written. With the payments of an output it is the same, but for
+-- the text that is written where it is one.
 use Rattle.std.specs.Prelude.{ℕ, ◌≡◌, ◌≤◌, ◌<◌, ◌^◌, ◌⊎◌, List, [], ◌∷◌, ◌++◌, length, codes, Option, Result, Ok, Err}
 use Rattle.std.specs.declared.alloc.Global.{Global}
 use Rattle.std.specs.declared.vec.Vec.{Vec}
@@ -7,7 +8,7 @@ use Rattle.fx_amounts.specs.Numeral.{numeral}
 use Rattle.fx_edges.specs.Faults.{Rose}
 use Rattle.fx_edges.specs.Reading.{Took}
 use Rattle.fx_edges.specs.Writing.{Appended, AppendedPart}
-use Rattle.journal_check.specs.Verdict.{IsVerdict, IsSomeOutput}
+use Rattle.journal_check.specs.Verdict.{yes, IsVerdict, IsSomeOutput}
 use Rattle.journal_check.specs.declared.check.Verdict.{Verdict}
 use Rattle.journal_check.specs.declared.check.Verdict.TheVariants.{Yes, No}
 use Rattle.fx_cli.specs.declared.check.Halt.{Halt}
@@ -19,10 +20,22 @@ use Rattle.fx_cli.specs.declared.status.Status.TheVariants.{Done, Differs, ReadF
 abbrev pub output_limit : ℕ
 output_limit = 2 ^ 28
 
--- the line that a verdict is written as
-unfoldable pub verdict_text : Verdict → List ℕ
-verdict_text Yes = codes "YES\n"
-verdict_text (No offset) = codes "NO " ++ numeral offset ++ 10 ∷ []
+-- What is said to be written of bytes that are an output: the bytes and the text.
+abbrev pub KindOfAnswer : Type 1
+KindOfAnswer = List ℕ → List ℕ → Type 0
+
+-- by `check`: that they are one
+abbrev pub SaysYes : KindOfAnswer
+SaysYes bytes text = text ≡ codes "YES\n"
+
+-- of bytes that are none: where they are none
+unfoldable pub no_line : ℕ → List ℕ
+no_line offset = codes "NO " ++ numeral offset ++ 10 ∷ []
+
+-- and by the verdict on them
+abbrev pub IsAnswerAt : KindOfAnswer → List ℕ → Verdict → List ℕ → Type 0
+IsAnswerAt IsAnswer bytes Yes text = IsAnswer bytes text
+IsAnswerAt IsAnswer bytes (No offset) text = text ≡ no_line offset
 
 -- the status where the source was not read to its end
 abbrev pub halted : Halt → Status
@@ -45,33 +58,37 @@ pub record HasTaken {S : Type 0} (left : S → Option (List ℕ)) (faults : S �
   pub ended : Halted (left now) bytes result
   pub cause : result ≡ Err halts.ReadFault → Rose (faults before) (faults now)
 
--- a sink got the line of the bytes' verdict, or a prefix of it
-pub record WroteVerdict {K : Type 0} (written : K → Option (List ℕ)) (faults : K → ℕ) (before now : K) (bytes : List ℕ) (verdict : Verdict) : Type 0 where
-  pub is_verdict : IsVerdict bytes verdict
-  pub all : Appended written faults before now (verdict_text verdict)
+module _ (IsAnswer : KindOfAnswer) {K : Type 0} (written : K → Option (List ℕ)) (faults : K → ℕ) (before now : K) where
+  -- a sink got the text that goes with the bytes' verdict, or a prefix of it
+  pub record WroteVerdict (bytes : List ℕ) (verdict : Verdict) : Type 0 where
+    pub is_verdict : IsVerdict bytes verdict
+    pub text : List ℕ
+    pub is_text : IsAnswerAt IsAnswer bytes verdict text
+    pub all : Appended written faults before now text
 
-pub record WrotePartOf {K : Type 0} (written : K → Option (List ℕ)) (faults : K → ℕ) (before now : K) (bytes : List ℕ) : Type 0 where
-  pub verdict : Verdict
-  pub is_verdict : IsVerdict bytes verdict
-  pub part : AppendedPart written faults before now (verdict_text verdict)
+  pub record WrotePartOf (bytes : List ℕ) : Type 0 where
+    pub verdict : Verdict
+    pub is_verdict : IsVerdict bytes verdict
+    pub text : List ℕ
+    pub is_text : IsAnswerAt IsAnswer bytes verdict text
+    pub part : AppendedPart written faults before now text
 
--- what the check of some bytes did to standard output, by the status that it ended with
-abbrev pub ToldVerdict : {K : Type 0} (written : K → Option (List ℕ)) (faults : K → ℕ) (before now : K) → List ℕ → Status → Type 0
-ToldVerdict written faults before now bytes Done = IsSomeOutput bytes × WroteVerdict written faults before now bytes Yes
-ToldVerdict written faults before now bytes Differs =
-    ¬ (IsSomeOutput bytes) × ((offset : ℕ) × WroteVerdict written faults before now bytes (No offset))
-ToldVerdict written faults before now bytes WriteFault = WrotePartOf written faults before now bytes × Rose (faults before) (faults now)
-ToldVerdict written faults before now bytes (Memory memory) = (now ≡ before) ⊎ WrotePartOf written faults before now bytes
-ToldVerdict written faults before now bytes _ = ⊥
+  -- what the check of some bytes did to standard output, by the status that it ended with
+  abbrev pub ToldVerdict : List ℕ → Status → Type 0
+  ToldVerdict bytes Done = IsSomeOutput bytes × WroteVerdict bytes yes
+  ToldVerdict bytes Differs = ¬ (IsSomeOutput bytes) × ((offset : ℕ) × WroteVerdict bytes (No offset))
+  ToldVerdict bytes WriteFault = WrotePartOf bytes × Rose (faults before) (faults now)
+  ToldVerdict bytes (Memory memory) = (now ≡ before) ⊎ WrotePartOf bytes
+  ToldVerdict bytes _ = ⊥
 
--- what came of the reading
-abbrev pub ThenTold : {K : Type 0} (written : K → Option (List ℕ)) (faults : K → ℕ) (before now : K) → Result (Vec ℕ Global) Halt → Status → Type 0
-ThenTold written faults before now (Ok all) status = ToldVerdict written faults before now all.items status
-ThenTold written faults before now (Err halt) status = (status ≡ halted halt) × (now ≡ before)
+  -- what came of the reading
+  abbrev pub ThenTold : Result (Vec ℕ Global) Halt → Status → Type 0
+  ThenTold (Ok all) status = ToldVerdict all.items status
+  ThenTold (Err halt) status = (status ≡ halted halt) × (now ≡ before)
 
 -- what the check of a source did, by the status that it ended with
-pub record Checked {S K : Type 0} (left : S → Option (List ℕ)) (taken : S → ℕ) (written : K → Option (List ℕ)) (faults : K → ℕ)
+pub record Checked (IsAnswer : KindOfAnswer) {S K : Type 0} (left : S → Option (List ℕ)) (taken : S → ℕ) (written : K → Option (List ℕ)) (faults : K → ℕ)
     (source source' : S) (out out' : K) (status : Status) : Type 0 where
   pub read : Result (Vec ℕ Global) Halt
   pub has_taken : HasTaken left taken source source' read
-  pub told : ThenTold written faults out out' read status
+  pub told : ThenTold IsAnswer written faults out out' read status

@@ -7,6 +7,7 @@ pub mod SessionCall
 pub mod Load
 pub mod LoadCall
 pub mod CheckCall
+pub mod Payments
 pub mod Answered
 pub mod Process
 pub mod inside

@@ -1,6 +1,6 @@
 ghost use Rattle.std.specs.Prelude.{◌≡◌, IfOk};
-ghost use Rattle.fx_cli.specs.Check.{HasTaken, Checked, ToldVerdict, verdict_text};
-ghost use Rattle.fx_cli.specs.inside.Check.{status_for};
+ghost use Rattle.fx_cli.specs.Check.{HasTaken, Checked, SaysYes, ToldVerdict, no_line};
+ghost use Rattle.fx_cli.specs.inside.Check.{EndedWith};
 ghost use Rattle.fx_cli.specs.declared.check.Halt.TheVariants.{Memory as OutOfMemory};
 
 use crate::status::Status;
@@ -51,7 +51,7 @@ impl From<Halt> for Status {
 
 /// Checks the source's bytes, and writes the verdict.
 pub fn check<S: Source, K: Sink>(alloc: Global, source: &mut S, out: &mut K) -> Status
-    ensures checked { Checked S.left S.faults K.written K.faults source.old source.new out.old out.new result }
+    ensures checked { Checked SaysYes S.left S.faults K.written K.faults source.old source.new out.old out.new result }
 {
     match read_all(alloc, source) {
         Ok(bytes) => check_bytes(alloc, &bytes, out),
@@ -61,55 +61,50 @@ pub fn check<S: Source, K: Sink>(alloc: Global, source: &mut S, out: &mut K) -> 
 
 /// Checks some bytes, and writes the verdict.
 fn check_bytes<K: Sink>(alloc: Global, bytes: &[u8], out: &mut K) -> Status
-    ensures told { ToldVerdict K.written K.faults out.old out.new bytes.now result }
+    ensures told { ToldVerdict SaysYes K.written K.faults out.old out.new bytes.now result }
 {
-    let verdict = match check_output(alloc, bytes) {
-        Ok(verdict) => verdict,
-        Err(memory) => return Status::Memory(memory),
-    };
-    let text = match verdict_line(alloc, verdict) {
-        Ok(text) => text,
-        Err(memory) => return Status::Memory(memory),
-    };
-    match write_all(out, &text) {
-        Ok(()) => status_for(verdict),
+    match check_output(alloc, bytes) {
+        Ok(Verdict::Yes) => write_answer(b"YES\n", Status::Done, out),
+        Ok(Verdict::No { offset }) => write_no(alloc, offset, out),
+        Err(memory) => Status::Memory(memory),
+    }
+}
+
+/// Writes the line of a text that is no output, `NO` and the offset.
+pub(crate) fn write_no<K: Sink>(alloc: Global, offset: u64, out: &mut K) -> Status
+    ensures { EndedWith K.written K.faults out.old out.new (no_line offset) Status.Differs result }
+{
+    match make_no(alloc, offset) {
+        Ok(line) => write_answer(&line, Status::Differs, out),
+        Err(memory) => Status::Memory(memory),
+    }
+}
+
+/// Writes a text, and answers with the status that goes with it, or with that of the fault.
+fn write_answer<K: Sink>(text: &[u8], status: Status, out: &mut K) -> Status
+    ensures { EndedWith K.written K.faults out.old out.new text.now status result }
+{
+    match write_all(out, text) {
+        Ok(()) => status,
         Err(SinkFault::Failed) => Status::WriteFault,
         Err(SinkFault::Memory(memory)) => Status::Memory(memory),
     }
 }
 
-/// The status that a verdict ends with.
-fn status_for(verdict: Verdict) -> Status
-    ensures { result ≡ status_for verdict }
+/// Makes the line of a text that is no output, `NO` and the offset.
+#[tactic(auto, unfolding(crate::specs::Check::no_line))]
+fn make_no(alloc: Global, offset: u64) -> Result<Vec<u8>, Memory>
+    ensures value { IfOk result (λ text. text.items ≡ no_line offset) }
 {
-    match verdict {
-        Verdict::Yes => Status::Done,
-        Verdict::No { .. } => Status::Differs,
-    }
-}
-
-/// The line of a verdict.
-#[tactic(auto, unfolding(crate::specs::Check::verdict_text))]
-fn verdict_line(alloc: Global, verdict: Verdict) -> Result<Vec<u8>, Memory>
-    ensures value { IfOk result (λ text. text.items ≡ verdict_text verdict) }
-{
-    match verdict {
-        Verdict::Yes => {
-            let text = b"YES\n".to_vec(alloc)?;
-            Ok(text)
-        }
-        Verdict::No { offset } => {
-            let mut text = b"NO ".to_vec(alloc)?;
-            push_number(u128::from(offset), &mut text)?;
-            text.push(b'\n')?;
-            Ok(text)
-        }
-    }
+    let mut text = b"NO ".to_vec(alloc)?;
+    push_number(u128::from(offset), &mut text)?;
+    text.push(b'\n')?;
+    Ok(text)
 }
 
 /// Reads a source to its end, in pieces of 4,096 bytes at most. It stops at a read that fails, and where 2^28 bytes were
 /// taken.
-fn read_all<S: Source>(alloc: Global, source: &mut S) -> Result<Vec<u8>, Halt>
+pub(crate) fn read_all<S: Source>(alloc: Global, source: &mut S) -> Result<Vec<u8>, Halt>
     ensures taken { HasTaken S.left S.faults source.old source.new result }
 {
     let mut bytes = Vec::new(alloc);

@@ -4,6 +4,7 @@
 mod check;
 mod ending;
 mod load;
+mod payments;
 mod process;
 mod run;
 mod serial;

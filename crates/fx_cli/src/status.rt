@@ -63,7 +63,7 @@ impl Status {
             Status::Done => write_all(err, b""),
             Status::Usage => write_all(
                 err,
-                b"usage: fx_cli run [--workers N] | serial | check | load SEED BANKS PAIRS COMMANDS [--workers N]\n",
+                b"usage: fx_cli run [--workers N] | serial | check | load SEED BANKS PAIRS COMMANDS [--workers N] | payments bilateral | payments net\n",
             ),
             Status::Header { line, reason } => write_fault_line(alloc, line, reason, err),
             Status::Cut => write_all(err, b"input ended before END\n"),

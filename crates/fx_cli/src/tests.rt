@@ -22,7 +22,7 @@ mod samples;
 mod threads;
 
 const USAGE: &[u8] =
-    b"usage: fx_cli run [--workers N] | serial | check | load SEED BANKS PAIRS COMMANDS [--workers N]\n";
+    b"usage: fx_cli run [--workers N] | serial | check | load SEED BANKS PAIRS COMMANDS [--workers N] | payments bilateral | payments net\n";
 
 // The calls of an end that fail, counted from 1.
 #[derive(Clone, Copy, Debug)]
@@ -335,6 +335,9 @@ fn other_words(rt: HostRuntime) -> Result<(), Fail> {
             &usage,
         )?;
     }
+    for form in ["", "gross", "Net"] {
+        expect(&rt, &["payments", form], input, 64, &NONE, &usage)?;
+    }
     // Standard error that fails changes no status.
     let fails = Fails { err: &[1], ..NONE };
     expect(&rt, &["Serial"], input, 64, &fails, &refusal(1, b""))
@@ -568,6 +571,58 @@ fn a_check_whose_streams_fail(rt: HostRuntime) -> Result<(), Fail> {
             ..NONE
         };
         expect(&rt, &["check"], text, 64, &fails, &write_fault)?;
+    }
+    Ok(())
+}
+
+// What the banks pay by the output of a session, in one of the two ways.
+const PAYMENTS: [(&str, Sample, &[u8]); 2] = [
+    (
+        "bilateral",
+        samples::ONE_SELL_ONE_BUY,
+        b"PAY BETA ALFA EUR 2000000
+PAY ALFA BETA USD 2168400
+PAYMENTS 2
+",
+    ),
+    (
+        "net",
+        samples::MORNING,
+        b"PAY GAMA ALFA EUR 1000000
+PAY DELT ALFA EUR 1000000
+PAY DELT BETA EUR 5000000
+PAY ALFA GAMA USD 1168100
+PAY BETA GAMA USD 2916000
+PAY BETA DELT USD 6504100
+PAY ALFA BETA JPY 149300000
+PAY GAMA BETA JPY 447750000
+PAYMENTS 8
+",
+    ),
+];
+
+#[test]
+fn payments_of_an_output_and_of_other_texts(rt: HostRuntime) -> Result<(), Fail> {
+    let differs = Ending {
+        out: b"NO 0\n",
+        ..refusal(8, b"output differs\n")
+    };
+    for (form, sample, text) in PAYMENTS {
+        let words = ["payments", form];
+        for most in [7, 4096] {
+            expect(&rt, &words, sample.output, most, &NONE, &done(text))?;
+        }
+        expect(&rt, &words, b"JOURNAL\n", 64, &NONE, &differs)?;
+        let source: &[u64] = &[2];
+        let fails = Fails { source, ..NONE };
+        let read_fault = refusal(4, b"read failed\n");
+        expect(&rt, &words, sample.output, 64, &fails, &read_fault)?;
+        let write_fault = Ending {
+            out: &text[..9],
+            ..refusal(5, b"write failed\n")
+        };
+        let fails = Fails { out: &[10], ..NONE };
+        expect(&rt, &words, sample.output, 64, &fails, &write_fault)?;
     }
     Ok(())
 }

@@ -1,16 +1,19 @@
 ghost use Rattle.std.specs.Prelude.{ℕ, ◌≡◌, [], ◌∷◌, Some, None};
 ghost use Rattle.fx_amounts.specs.OutOfMemory.{refused};
 ghost use Rattle.fx_rules.specs.Lists.{Among};
+ghost use Rattle.net_settle.specs.declared.form.Form.{Form};
 ghost use Rattle.fx_cli.specs.Answered.{Answered, asked};
 ghost use Rattle.fx_cli.specs.Headline.{IsHeadline, IsSerial};
-ghost use Rattle.fx_cli.specs.Check.{Checked};
+ghost use Rattle.fx_cli.specs.Check.{Checked, SaysYes};
 ghost use Rattle.fx_cli.specs.Load.{Loaded};
+ghost use Rattle.fx_cli.specs.Payments.{IsPaymentsOf};
 ghost use Rattle.fx_cli.specs.Run.{Ran};
 ghost use Rattle.fx_cli.specs.TopCall.{IsOutputOf, ToldErr};
 ghost use Rattle.fx_cli.specs.inside.TopCall.{Refused};
 
 use crate::check::check;
 use crate::load::load;
+use crate::payments::payments;
 use crate::run::run;
 use crate::serial::serial;
 use crate::status::Status;
@@ -31,12 +34,14 @@ use std::thread::Threads;
 ///   are the output of a legal history, else `NO` and the offset at which they are not.
 /// - `load SEED BANKS PAIRS COMMANDS`, also followed by `--workers N`: makes a session from a number, runs it both ways and
 ///   writes a summary. It reads nothing.
+/// - `payments bilateral`, `payments net`: reads an output as `check` does, and writes what the banks pay by its history; where
+///   the bytes are no output, it writes what `check` does.
 ///
 /// Refusals come in the order `Usage`; `Header`; the first of `ReadFault`, `Cut` and `TooMuch` that the reading meets. Where
 /// START was read by then, `run` and `serial` write the output of the whole lines so far, with a last line that names the
 /// refusal; else nothing. `WriteFault` takes the place of `Done`, `Differs` and of these three where it comes while the
 /// output is written, and `Memory` that of any. With `run` and `load` it may wait;
-/// `serial` and `check` are handed nothing by which they could.
+/// `serial`, `check` and `payments` are handed nothing by which they could.
 pub fn fx_main<R: AllocGlobal + Threads + Wait + Sync, S: Source, K: Sink, E: Sink, G: Gate + Sync>(
     rt: &R,
     words: &[String],
@@ -61,8 +66,9 @@ fn follow<R: AllocGlobal + Threads + Wait + Sync, S: Source, K: Sink, G: Gate + 
 ) -> Status
     ensures run { (workers : ℕ) → asked words.now ≡ Some (Task.Run workers) → Ran (IsOutputOf IsHeadline) S.left S.faults K.written K.faults source.old source.new out.old out.new result }
     ensures serial { asked words.now ≡ Some Task.Serial → Ran (IsOutputOf IsSerial) S.left S.faults K.written K.faults source.old source.new out.old out.new result }
-    ensures check { asked words.now ≡ Some Task.Check → Checked S.left S.faults K.written K.faults source.old source.new out.old out.new result }
+    ensures check { asked words.now ≡ Some Task.Check → Checked SaysYes S.left S.faults K.written K.faults source.old source.new out.old out.new result }
     ensures load { (seed banks pairs commands workers : ℕ) → asked words.now ≡ Some (Task.Load seed banks pairs commands workers) → Loaded K.written K.faults out.old out.new seed banks pairs commands result }
+    ensures payments { (form : Form) → asked words.now ≡ Some (Task.Payments form) → Checked (IsPaymentsOf form) S.left S.faults K.written K.faults source.old source.new out.old out.new result }
     ensures unread { (seed banks pairs commands workers : ℕ) → asked words.now ≡ Some (Task.Load seed banks pairs commands workers) → source.new ≡ source.old }
     ensures other { asked words.now ≡ None → Refused source.old source.new out.old out.new result }
     ensures usage { result ≡ Status.Usage → asked words.now ≡ None }
@@ -80,6 +86,7 @@ fn follow<R: AllocGlobal + Threads + Wait + Sync, S: Source, K: Sink, G: Gate + 
                 workers,
             },
         ) => load(rt, seed, banks, pairs, commands, workers, out, gate),
+        Ok(Task::Payments { form }) => payments(rt.alloc(), form, source, out),
         Err(WordsFault::Usage) => Status::Usage,
         Err(WordsFault::Memory(memory)) => Status::Memory(memory),
     }

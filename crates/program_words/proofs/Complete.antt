@@ -10,6 +10,8 @@ use Rattle.fx_amounts.specs.OutOfMemory.{refused}
 use Rattle.fx_text.specs.Number.{number_of}
 use Rattle.fx_text.proofs.NumberLemmas.{number_of-no_byte, number_of-other_byte}
 use Rattle.clap.specs.Words.{Row, Text, takes, subcommand_of}
+use Rattle.net_settle.specs.declared.form.Form.{Form}
+use Rattle.net_settle.specs.declared.form.Form.TheVariants.{Bilateral, Net}
 use Rattle.program_words.specs.inside.Tool.{tool}
 use Rattle.program_words.specs.inside.Printed.{printed, matched_words}
 use Rattle.program_words.specs.declared.matched.Matched.{Matched}
@@ -17,10 +19,10 @@ use Rattle.program_words.specs.declared.reading.WordsFault.{WordsFault}
 use Rattle.program_words.specs.declared.reading.WordsFault.TheVariants.{Usage, Memory}
 use Rattle.program_words.proofs.MatchedLemmas.{some_is}
 use Rattle.program_words.specs.declared.task.Task.{Task}
-use Rattle.program_words.specs.declared.task.Task.TheVariants.{Run, Serial, Check}
-use Rattle.program_words.specs.Forms.{◌>>=◌, workers_of, run_of, alone, load_of, task_of}
+use Rattle.program_words.specs.declared.task.Task.TheVariants.{Run, Serial, Check, Payments}
+use Rattle.program_words.specs.Forms.{◌>>=◌, workers_of, run_of, alone, load_of, form_of, payments_of, task_of}
 use Rattle.program_words.proofs.Walking.{IsPlain, plain}
-use Rattle.program_words.proofs.Taken.{IsTaken, load_alone, load_with, run_with, run_alone, serial_alone, check_alone}
+use Rattle.program_words.proofs.Taken.{IsTaken, load_alone, load_with, run_with, run_alone, serial_alone, check_alone, payments_taken_by}
 
 -- what a step gave
 pub record Gave {A B : Type 0} (given : Option A) (f : A → Option B) (b : B) : Type 0 where
@@ -94,22 +96,40 @@ load_taken (a ∷ b ∷ c ∷ d ∷ rest) task e =
     let workers = gave _ _ task commands.rest in
     load_behind a b c d rest workers.value (no_hyphen _ _ _ a seed.is) (no_hyphen _ _ _ b banks.is) (no_hyphen _ _ _ c pairs.is) (no_hyphen _ _ _ d commands.is) workers.is
 
+-- `payments`
+
+form_plain : (word : Text) (form : Form) → form_of word ≡ Some form → IsPlain word
+form_plain word form e = go (bytes_eq word (codes "bilateral")) (bytes_eq word (codes "net")) refl refl e
+  where
+    go : (two net : Bool) → bytes_eq word (codes "bilateral") ≡ two → bytes_eq word (codes "net") ≡ net → (if two then Some Bilateral else if net then Some Net else None) ≡ Some form → IsPlain word
+    go true net t n given = subst IsPlain (sym ((bytes_eq-Decides word (codes "bilateral")).0 t)) (plain 98 (codes "ilateral") refl)
+    go false true t n given = subst IsPlain (sym ((bytes_eq-Decides word (codes "net")).0 n)) (plain 110 (codes "et") refl)
+    go false false t n given = absurd (none-some form given)
+
+payments_taken : (rest : List Text) (task : Task) → payments_of rest ≡ Some task → IsTaken (codes "payments" ∷ rest)
+payments_taken [] task e = absurd (none-some task e)
+payments_taken (word ∷ []) task e =
+    let form = gave (form_of word) (λ f. Some (Payments f)) task e in
+    payments_taken_by word (form_plain word form.value form.is)
+payments_taken (word ∷ more ∷ rest) task e = absurd (none-some task e)
+
 named : (word name : Text) (rest : List Text) → bytes_eq word name ≡ true → IsTaken (name ∷ rest) → IsTaken (word ∷ rest)
 named word name rest is taken = subst (λ (w : Text). IsTaken (w ∷ rest)) (sym ((bytes_eq-Decides word name).0 is)) taken
 
 -- Words that ask for a task are taken.
 pub all_taken : (words : List Text) (task : Task) → task_of words ≡ Some task → IsTaken words
 all_taken [] task e = absurd (none-some task e)
-all_taken (word ∷ rest) task e = go (bytes_eq word (codes "run")) (bytes_eq word (codes "serial")) (bytes_eq word (codes "check")) (bytes_eq word (codes "load")) refl refl refl refl e
+all_taken (word ∷ rest) task e = go (bytes_eq word (codes "run")) (bytes_eq word (codes "serial")) (bytes_eq word (codes "check")) (bytes_eq word (codes "load")) (bytes_eq word (codes "payments")) refl refl refl refl refl e
   where
-    go : (run serial check load : Bool) → bytes_eq word (codes "run") ≡ run → bytes_eq word (codes "serial") ≡ serial → bytes_eq word (codes "check") ≡ check → bytes_eq word (codes "load") ≡ load
-        → (if run then run_of rest else if serial then alone Serial rest else if check then alone Check rest else if load then load_of rest else None) ≡ Some task
+    go : (run serial check load pay : Bool) → bytes_eq word (codes "run") ≡ run → bytes_eq word (codes "serial") ≡ serial → bytes_eq word (codes "check") ≡ check → bytes_eq word (codes "load") ≡ load → bytes_eq word (codes "payments") ≡ pay
+        → (if run then run_of rest else if serial then alone Serial rest else if check then alone Check rest else if load then load_of rest else if pay then payments_of rest else None) ≡ Some task
         → IsTaken (word ∷ rest)
-    go true serial check load r s k l given = named word (codes "run") rest r (run_taken rest task given)
-    go false true check load r s k l given = named word (codes "serial") rest s (alone_taken (codes "serial") Serial rest task serial_alone given)
-    go false false true load r s k l given = named word (codes "check") rest k (alone_taken (codes "check") Check rest task check_alone given)
-    go false false false true r s k l given = named word (codes "load") rest l (load_taken rest task given)
-    go false false false false r s k l given = absurd (none-some task given)
+    go true serial check load pay r s k l p given = named word (codes "run") rest r (run_taken rest task given)
+    go false true check load pay r s k l p given = named word (codes "serial") rest s (alone_taken (codes "serial") Serial rest task serial_alone given)
+    go false false true load pay r s k l p given = named word (codes "check") rest k (alone_taken (codes "check") Check rest task check_alone given)
+    go false false false true pay r s k l p given = named word (codes "load") rest l (load_taken rest task given)
+    go false false false false true r s k l p given = named word (codes "payments") rest p (payments_taken rest task given)
+    go false false false false false r s k l p given = absurd (none-some task given)
 
 -- Why words are in no form.
 

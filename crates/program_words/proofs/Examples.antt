@@ -2,7 +2,8 @@
 use Rattle.std.proofs.Common.{◌≡◌, [], ◌∷◌, Some, None, refl, codes}
 use Rattle.fx_amounts.specs.Numeral.{is_numeral}
 use Rattle.fx_text.specs.Number.{number_of}
-use Rattle.program_words.specs.declared.task.Task.TheVariants.{Run, Serial, Check, Load}
+use Rattle.net_settle.specs.declared.form.Form.TheVariants.{Bilateral, Net}
+use Rattle.program_words.specs.declared.task.Task.TheVariants.{Run, Serial, Check, Load, Payments}
 use Rattle.program_words.specs.Forms.{task_of}
 
 run_alone : task_of (codes "run" ∷ []) ≡ Some (Run 4)
@@ -26,6 +27,12 @@ load_with_option : task_of (codes "load" ∷ codes "18446744073709551615" ∷ co
     ≡ Some (Load 18446744073709551615 64 32 20000 1)
 unfolding number_of is_numeral
 load_with_option = refl
+
+payments_of_each_two : task_of (codes "payments" ∷ codes "bilateral" ∷ []) ≡ Some (Payments Bilateral)
+payments_of_each_two = refl
+
+payments_netted : task_of (codes "payments" ∷ codes "net" ∷ []) ≡ Some (Payments Net)
+payments_netted = refl
 
 -- Words in none of the forms: a number out of its range or with a leading zero, an option in another spelling or in front, a
 -- word too many, another word, no word.
@@ -53,6 +60,12 @@ option_in_front = refl
 
 word_too_many : task_of (codes "serial" ∷ codes "now" ∷ []) ≡ None
 word_too_many = refl
+
+no_form : task_of (codes "payments" ∷ []) ≡ None
+no_form = refl
+
+other_form : task_of (codes "payments" ∷ codes "gross" ∷ []) ≡ None
+other_form = refl
 
 help : task_of (codes "--help" ∷ []) ≡ None
 help = refl

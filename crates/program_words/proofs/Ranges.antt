@@ -6,8 +6,8 @@ use Rattle.fx_text.specs.Number.{number_of}
 use Rattle.fx_text.proofs.NumberLemmas.{Reads, Reads-number_of}
 use Rattle.clap.specs.Words.{Text}
 use Rattle.program_words.specs.declared.task.Task.{Task}
-use Rattle.program_words.specs.declared.task.Task.TheVariants.{Run, Serial, Check, Load}
-use Rattle.program_words.specs.Forms.{◌>>=◌, workers_of, run_of, alone, load_of, task_of, AreWorkers, IsTask}
+use Rattle.program_words.specs.declared.task.Task.TheVariants.{Run, Serial, Check, Load, Payments}
+use Rattle.program_words.specs.Forms.{◌>>=◌, workers_of, run_of, alone, load_of, form_of, payments_of, task_of, AreWorkers, IsTask}
 use Rattle.program_words.proofs.MatchedLemmas.{some_is}
 use Rattle.program_words.proofs.Complete.{gave}
 
@@ -75,15 +75,23 @@ load_is_task (a ∷ b ∷ c ∷ d ∷ rest) task e =
     let seed = gave (number_of 0 (2 ^ 64 - 1) a) (λ s. number_of 2 64 b >>= (λ k. number_of 1 32 c >>= (λ p. number_of 1 20000 d >>= (λ n. workers_of rest >>= (λ w. Some (Load s k p n w)))))) task e in
     of_banks seed.value b c d rest task seed.rest
 
+payments_is_task : (rest : List Text) (task : Task) → payments_of rest ≡ Some task → IsTask task
+payments_is_task [] task e = absurd (none-some task e)
+payments_is_task (word ∷ []) task e =
+    let form = gave (form_of word) (λ f. Some (Payments f)) task e in
+    subst IsTask (some_is (Payments form.value) task form.rest) tt
+payments_is_task (word ∷ more ∷ rest) task e = absurd (none-some task e)
+
 pub task_is_task : (words : List Text) (task : Task) → task_of words ≡ Some task → IsTask task
 task_is_task [] task e = absurd (none-some task e)
-task_is_task (word ∷ rest) task e = go (bytes_eq word (codes "run")) (bytes_eq word (codes "serial")) (bytes_eq word (codes "check")) (bytes_eq word (codes "load")) e
+task_is_task (word ∷ rest) task e = go (bytes_eq word (codes "run")) (bytes_eq word (codes "serial")) (bytes_eq word (codes "check")) (bytes_eq word (codes "load")) (bytes_eq word (codes "payments")) e
   where
-    go : (run serial check load : Bool)
-        → (if run then run_of rest else if serial then alone Serial rest else if check then alone Check rest else if load then load_of rest else None) ≡ Some task
+    go : (run serial check load pay : Bool)
+        → (if run then run_of rest else if serial then alone Serial rest else if check then alone Check rest else if load then load_of rest else if pay then payments_of rest else None) ≡ Some task
         → IsTask task
-    go true serial check load given = run_is_task rest task given
-    go false true check load given = alone_is_task Serial rest task tt given
-    go false false true load given = alone_is_task Check rest task tt given
-    go false false false true given = load_is_task rest task given
-    go false false false false given = absurd (none-some task given)
+    go true serial check load pay given = run_is_task rest task given
+    go false true check load pay given = alone_is_task Serial rest task tt given
+    go false false true load pay given = alone_is_task Check rest task tt given
+    go false false false true pay given = load_is_task rest task given
+    go false false false false true given = payments_is_task rest task given
+    go false false false false false given = absurd (none-some task given)

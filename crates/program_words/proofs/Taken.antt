@@ -185,6 +185,37 @@ run_with n pn = record {
       ∙ ap (λ (k : Walk). printed_of (codes "run") (finished run_leaf.rules k.held)) (run_numbers n pn);
 }
 
+-- `payments`
+
+abbrev payments_leaf : Shape
+payments_leaf = leaf 4
+
+abbrev payments_held : Text → Held
+payments_held w = (to_positional payments_leaf.rules (arg_by_index payments_leaf.rules 1) w (at_place 1 nothing_held) nothing_held).held
+
+module _ (w : Text) (pw : IsPlain w) where
+  form_word : walk payments_leaf.rules [] nothing_held (w ∷ []) ≡ at_place 2 (payments_held w)
+  form_word = step payments_leaf.rules 1 nothing_held w pw
+
+  form_level : level_passes payments_leaf [] nothing_held (w ∷ []) false ≡ true
+  form_level = level payments_leaf _ (at_place 2 (payments_held w)) form_word (goes_on payments_leaf _ _ w _ (turn payments_leaf 1 nothing_held w pw refl) form_word (no_more payments_leaf _)) refl
+
+payments_met : (w : Text) → walk top.rules (names_of (built tool)) nothing_held (codes "payments" ∷ w ∷ []) ≡ met (codes "payments") (w ∷ [])
+unfolding clap_on_literals
+payments_met w = refl
+
+payments_walks : (w : Text) → walk_passes top (names_of (built tool)) (walk_from nothing_held) (codes "payments" ∷ w ∷ []) ≡ true
+unfolding clap_on_literals
+payments_walks w = refl
+
+pub payments_taken_by : (w : Text) → IsPlain w → IsTaken (codes "payments" ∷ w ∷ [])
+payments_taken_by w pw = record {
+  taken = takes-by tool _ (met (codes "payments") (w ∷ [])) simple (payments_met w) (payments_walks w) (form_level w pw) refl;
+  back =
+      ap printed (subcommand-by tool (codes "payments" ∷ w ∷ []) (met (codes "payments") (w ∷ [])) (payments_met w))
+      ∙ ap (λ (k : Walk). printed_of (codes "payments") (finished payments_leaf.rules k.held)) (form_word w pw);
+}
+
 -- the words that stand alone
 
 pub run_alone : IsTaken (codes "run" ∷ [])

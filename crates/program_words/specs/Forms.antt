@@ -1,8 +1,10 @@
 -- The forms of the words, and what each asks for.
 use Rattle.std.specs.Prelude.{ℕ, ◌^◌, ◌-◌, ◌≤◌, List, [], ◌∷◌, Option, Some, None, if◌then◌else◌, bytes_eq, codes}
 use Rattle.fx_text.specs.Number.{number_of}
+use Rattle.net_settle.specs.declared.form.Form.{Form}
+use Rattle.net_settle.specs.declared.form.Form.TheVariants.{Bilateral, Net}
 use Rattle.program_words.specs.declared.task.Task.{Task}
-use Rattle.program_words.specs.declared.task.Task.TheVariants.{Run, Serial, Check, Load}
+use Rattle.program_words.specs.declared.task.Task.TheVariants.{Run, Serial, Check, Load, Payments}
 
 infixl 10 ◌>>=◌
 -- what all steps give, where each gives something
@@ -36,6 +38,20 @@ load_of (seed_said ∷ banks_said ∷ pairs_said ∷ commands_said ∷ rest) = d
   Some (Load seed banks pairs commands workers)
 load_of _ = None
 
+-- a form of payments, by its word
+abbrev pub form_of : List ℕ → Option Form
+form_of word =
+    if bytes_eq word (codes "bilateral") then Some Bilateral
+    else if bytes_eq word (codes "net") then Some Net
+    else None
+
+-- `payments bilateral` or `payments net`, by the words behind `payments`
+abbrev pub payments_of : List (List ℕ) → Option Task
+payments_of (word ∷ []) = do
+  form ← form_of word
+  Some (Payments form)
+payments_of _ = None
+
 -- what the words ask for; none where they are in none of the forms
 abbrev pub task_of : List (List ℕ) → Option Task
 task_of [] = None
@@ -44,6 +60,7 @@ task_of (word ∷ rest) =
     else if bytes_eq word (codes "serial") then alone Serial rest
     else if bytes_eq word (codes "check") then alone Check rest
     else if bytes_eq word (codes "load") then load_of rest
+    else if bytes_eq word (codes "payments") then payments_of rest
     else None
 
 -- so many workers can be asked for

@@ -1,7 +1,7 @@
 ghost use Rattle.std.specs.Prelude.{◌≡◌, IfOk, false};
 ghost use Rattle.clap.specs.Words.{app_of, rule_of};
 ghost use Rattle.clap.specs.declared.builder.command.Command.TheViews.{out-Command};
-ghost use Rattle.program_words.specs.inside.Tool.{tool, run_app, load_app, workers_rule, number_rule};
+ghost use Rattle.program_words.specs.inside.Tool.{tool, run_app, load_app, payments_app, workers_rule, word_rule};
 
 use clap::{Arg, Command};
 use fx_amounts::Memory;
@@ -18,7 +18,8 @@ pub(crate) fn command_line<'a>(alloc: Global) -> Result<Command<'a>, Memory>
         .subcommand(run_command(alloc)?)?
         .subcommand(Command::new(alloc, "serial"))?
         .subcommand(Command::new(alloc, "check"))?
-        .subcommand(load_command(alloc)?)?;
+        .subcommand(load_command(alloc)?)?
+        .subcommand(payments_command(alloc)?)?;
     Ok(tool)
 }
 
@@ -34,12 +35,19 @@ fn load_command<'a>(alloc: Global) -> Result<Command<'a>, Memory>
     ensures local { IfOk result (λ command. (out-Command command).has_globals ≡ false) }
 {
     let load = Command::new(alloc, "load")
-        .arg(number(alloc, "SEED"))?
-        .arg(number(alloc, "BANKS"))?
-        .arg(number(alloc, "PAIRS"))?
-        .arg(number(alloc, "COMMANDS"))?
+        .arg(word(alloc, "SEED"))?
+        .arg(word(alloc, "BANKS"))?
+        .arg(word(alloc, "PAIRS"))?
+        .arg(word(alloc, "COMMANDS"))?
         .arg(workers(alloc))?;
     Ok(load)
+}
+
+fn payments_command<'a>(alloc: Global) -> Result<Command<'a>, Memory>
+    ensures app { IfOk result (λ command. app_of command ≡ payments_app) }
+    ensures local { IfOk result (λ command. (out-Command command).has_globals ≡ false) }
+{
+    Ok(Command::new(alloc, "payments").arg(word(alloc, "FORM"))?)
 }
 
 fn workers<'a>(alloc: Global) -> Arg<'a>
@@ -49,9 +57,9 @@ fn workers<'a>(alloc: Global) -> Arg<'a>
     Arg::new(alloc, "workers").long("workers")
 }
 
-/// A number that has to stand at its place.
-fn number<'a>(alloc: Global, name: &'a str) -> Arg<'a>
-    ensures rule { rule_of result ≡ number_rule name.entry.now }
+/// A word that has to stand at its place.
+fn word<'a>(alloc: Global, name: &'a str) -> Arg<'a>
+    ensures rule { rule_of result ≡ word_rule name.entry.now }
     ensures local { result.global ≡ false }
 {
     Arg::new(alloc, name).required(true)

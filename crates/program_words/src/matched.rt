@@ -1,12 +1,13 @@
 ghost use Rattle.std.specs.Prelude.{◌≡◌, ◌++◌, IfOk, OnOk, map, option_map};
 ghost use Rattle.clap.specs.Words.{first_of, found_of, rows_of, subcommand_rows_of};
-ghost use Rattle.program_words.specs.Forms.{workers_of, task_of};
-ghost use Rattle.program_words.specs.inside.Printed.{matched_words, option_words, printed, printed_load};
+ghost use Rattle.program_words.specs.Forms.{form_of, workers_of, task_of};
+ghost use Rattle.program_words.specs.inside.Printed.{matched_words, option_words, printed, printed_load, printed_payments};
 
 use crate::task::{DEFAULT_WORKERS, Task};
 use clap::ArgMatches;
 use fx_amounts::Memory;
 use fx_text::number;
+use net_settle::Form;
 use std::alloc::Global;
 
 /// The words of a command as they were matched.
@@ -24,6 +25,9 @@ pub(crate) enum Matched<'a> {
         commands: &'a str,
         workers: Option<&'a str>,
     },
+    Payments {
+        form: &'a str,
+    },
 }
 
 impl<'a> Matched<'a> {
@@ -39,6 +43,7 @@ impl<'a> Matched<'a> {
             "serial" => Some(Matched::Serial),
             "check" => Some(Matched::Check),
             "load" => load_in(inner),
+            "payments" => payments_in(inner),
             _ => None,
         }
     }
@@ -69,6 +74,10 @@ impl<'a> Matched<'a> {
                 words.push(*commands)?;
                 push_option(&mut words, *workers)?;
             }
+            Matched::Payments { form } => {
+                words.push("payments")?;
+                words.push(*form)?;
+            }
         }
         Ok(words)
     }
@@ -95,6 +104,9 @@ impl<'a> Matched<'a> {
                 pairs: number(pairs.as_bytes(), 1, 32)? as u8,
                 commands: number(commands.as_bytes(), 1, 20_000)? as u32,
                 workers: workers_from(*workers)?,
+            }),
+            Matched::Payments { form } => Some(Task::Payments {
+                form: form_from(form)?,
             }),
         }
     }
@@ -127,6 +139,15 @@ fn load_in<'a>(matches: &ArgMatches<'a>) -> Option<Matched<'a>>
     })
 }
 
+/// `payments` with what was matched behind it; `None` where the form is missing.
+fn payments_in<'a>(matches: &ArgMatches<'a>) -> Option<Matched<'a>>
+    ensures { option_map matched_words result ≡ printed_payments (rows_of (found_of matches.now)) }
+{
+    Some(Matched::Payments {
+        form: value_of(matches, "FORM")?,
+    })
+}
+
 fn push_option<'a>(words: &mut Vec<&'a str>, workers: Option<&'a str>) -> Result<(), Memory>
     ensures { OnOk result (map (λ word. word.now) words.new.items ≡ map (λ word. word.now) words.old.items ++ option_words workers.entry) }
 {
@@ -144,5 +165,16 @@ fn workers_from(said: Option<&str>) -> Option<u32>
     match said {
         None => Some(DEFAULT_WORKERS),
         Some(text) => Some(number(text.as_bytes(), 1, 64)? as u32),
+    }
+}
+
+/// A form of payments, by its word.
+fn form_from(said: &str) -> Option<Form>
+    ensures { result ≡ form_of said.now }
+{
+    match said {
+        "bilateral" => Some(Form::Bilateral),
+        "net" => Some(Form::Net),
+        _ => None,
     }
 }

@@ -1,3 +1,5 @@
+use net_settle::Form;
+
 /// How many workers run a session where no number is said.
 pub(crate) const DEFAULT_WORKERS: u32 = 4;
 
@@ -20,5 +22,9 @@ pub enum Task {
         pairs: u8,
         commands: u32,
         workers: u32,
+    },
+    /// To read an output, and tell what the banks pay.
+    Payments {
+        form: Form,
     },
 }

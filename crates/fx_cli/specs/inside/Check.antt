@@ -1,10 +1,14 @@
 -- What private functions and proofs alone say of it, beside `specs/Check.antt`.
-use Rattle.journal_check.specs.declared.check.Verdict.{Verdict}
-use Rattle.journal_check.specs.declared.check.Verdict.TheVariants.{Yes, No}
+use Rattle.std.specs.Prelude.{ℕ, ◌≡◌, ◌⊎◌, List, Option}
+use Rattle.fx_amounts.specs.OutOfMemory.{refused}
+use Rattle.fx_edges.specs.Faults.{Rose}
+use Rattle.fx_edges.specs.Writing.{Appended, AppendedPart}
 use Rattle.fx_cli.specs.declared.status.Status.{Status}
-use Rattle.fx_cli.specs.declared.status.Status.TheVariants.{Done, Differs}
+use Rattle.fx_cli.specs.declared.status.Status.TheVariants.{WriteFault, Memory}
 
--- the status that a verdict ends with
-abbrev pub status_for : Verdict → Status
-status_for Yes = Done
-status_for (No offset) = Differs
+-- a text was written whole, with this status then; or a prefix of it, with the status of the fault
+abbrev pub EndedWith : {K : Type 0} (written : K → Option (List ℕ)) (faults : K → ℕ) (before now : K) → List ℕ → Status → Status → Type 0
+EndedWith written faults before now text status result =
+    ((result ≡ status) × Appended written faults before now text)
+    ⊎ (((result ≡ WriteFault) × (AppendedPart written faults before now text × Rose (faults before) (faults now)))
+    ⊎ ((result ≡ Memory refused) × AppendedPart written faults before now text))

@@ -4,7 +4,7 @@ use Rattle.std.specs.Borrow.{Bor}
 use Rattle.clap.specs.Words.{Row, Text, first_of}
 use Rattle.program_words.specs.Forms.{◌>>=◌}
 use Rattle.program_words.specs.declared.matched.Matched.{Matched}
-use Rattle.program_words.specs.declared.matched.Matched.TheVariants.{Run, Serial, Check, Load}
+use Rattle.program_words.specs.declared.matched.Matched.TheVariants.{Run, Serial, Check, Load, Payments}
 
 -- an option, where it was given
 abbrev pub with_option : Option Text → List Text
@@ -19,6 +19,7 @@ matched_words (Run workers) = codes "run" ∷ option_words workers
 matched_words Serial = codes "serial" ∷ []
 matched_words Check = codes "check" ∷ []
 matched_words (Load seed banks pairs commands workers) = codes "load" ∷ seed.now ∷ banks.now ∷ pairs.now ∷ commands.now ∷ option_words workers
+matched_words (Payments form) = codes "payments" ∷ form.now ∷ []
 
 -- the same of a subcommand with what its rows have
 abbrev pub printed_load : List Row → Option (List Text)
@@ -29,12 +30,18 @@ printed_load rows = do
   commands ← first_of (codes "COMMANDS") rows
   Some (codes "load" ∷ seed ∷ banks ∷ pairs ∷ commands ∷ with_option (first_of (codes "workers") rows))
 
+abbrev pub printed_payments : List Row → Option (List Text)
+printed_payments rows = do
+  form ← first_of (codes "FORM") rows
+  Some (codes "payments" ∷ form ∷ [])
+
 abbrev pub printed_of : Text → List Row → Option (List Text)
 printed_of name rows =
     if bytes_eq name (codes "run") then Some (codes "run" ∷ with_option (first_of (codes "workers") rows))
     else if bytes_eq name (codes "serial") then Some (codes "serial" ∷ [])
     else if bytes_eq name (codes "check") then Some (codes "check" ∷ [])
     else if bytes_eq name (codes "load") then printed_load rows
+    else if bytes_eq name (codes "payments") then printed_payments rows
     else None
 
 abbrev pub printed : Option (Text × List Row) → Option (List Text)

@@ -4,6 +4,8 @@ use Rattle.fx_cli.specs.Headline.{IsHeadline, IsSerial}
 use Rattle.fx_cli.specs.TopCall.{IsOutputOf}
 use Rattle.fx_cli.proofs.TopCallLaws.{not_begun}
 use Rattle.fx_cli.proofs.CheckLaws.{check_not_begun}
+use Rattle.fx_cli.specs.Check.{SaysYes}
+use Rattle.fx_cli.specs.Payments.{IsPaymentsOf}
 use Rattle.fx_cli.proofs.top.follow.Goals as goal
 
 pub returns-in-Err-Memory-clause-run : goal.returns-in-Err-Memory-clause-run
@@ -16,4 +18,8 @@ returns-in-Err-Memory-clause-serial g c = λ asked.
 
 pub returns-in-Err-Memory-clause-check : goal.returns-in-Err-Memory-clause-check
 returns-in-Err-Memory-clause-check g c = λ asked.
-    check_not_begun g.S.Source.left g.S.Source.faults g.K.Sink.written g.K.Sink.faults c.args.source.now c.args.source.now c.args.out.now c.args.out.now refl refl
+    check_not_begun SaysYes g.S.Source.left g.S.Source.faults g.K.Sink.written g.K.Sink.faults c.args.source.now c.args.source.now c.args.out.now c.args.out.now refl refl
+
+pub returns-in-Err-Memory-clause-payments : goal.returns-in-Err-Memory-clause-payments
+returns-in-Err-Memory-clause-payments g c = λ form asked.
+    check_not_begun (IsPaymentsOf form) g.S.Source.left g.S.Source.faults g.K.Sink.written g.K.Sink.faults c.args.source.now c.args.source.now c.args.out.now c.args.out.now refl refl

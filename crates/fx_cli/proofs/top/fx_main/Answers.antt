@@ -4,6 +4,8 @@ use Rattle.fx_cli.specs.TopCall.{IsOutputOf}
 use Rattle.fx_cli.proofs.TopCallLaws.{session_did, told_usage}
 use Rattle.fx_cli.proofs.CheckLaws.{check_did}
 use Rattle.fx_cli.proofs.LoadLaws.{load_did}
+use Rattle.fx_cli.specs.Check.{SaysYes}
+use Rattle.fx_cli.specs.Payments.{IsPaymentsOf}
 use Rattle.fx_cli.proofs.top.fx_main.Goals as goal
 
 pub returns : goal.returns
@@ -18,11 +20,14 @@ returns g c = record {
         session_did (IsOutputOf IsSerial) g.S.Source.left g.S.Source.faults g.K.Sink.written g.K.Sink.faults c.args.source.now c.follow-status.new.source c.args.out.now c.follow-status.new.out
         c.follow-status.result c.tell.result (c.follow-status.ensures.serial asked) c.tell.ensures.same;
     check = λ asked.
-        check_did g.S.Source.left g.S.Source.faults g.K.Sink.written g.K.Sink.faults c.args.source.now c.follow-status.new.source c.args.out.now c.follow-status.new.out
+        check_did SaysYes g.S.Source.left g.S.Source.faults g.K.Sink.written g.K.Sink.faults c.args.source.now c.follow-status.new.source c.args.out.now c.follow-status.new.out
         c.follow-status.result c.tell.result (c.follow-status.ensures.check asked) c.tell.ensures.same;
     load = λ seed banks pairs commands workers asked.
         load_did g.K.Sink.written g.K.Sink.faults seed banks pairs commands c.args.source.now c.follow-status.new.source c.args.out.now c.follow-status.new.out
         c.follow-status.result c.tell.result (c.follow-status.ensures.unread seed banks pairs commands workers asked) (c.follow-status.ensures.load seed banks pairs commands workers asked) c.tell.ensures.same;
+    payments = λ form asked.
+        check_did (IsPaymentsOf form) g.S.Source.left g.S.Source.faults g.K.Sink.written g.K.Sink.faults c.args.source.now c.follow-status.new.source c.args.out.now c.follow-status.new.out
+        c.follow-status.result c.tell.result (c.follow-status.ensures.payments form asked) c.tell.ensures.same;
     standard_error = c.tell.ensures.err;
   };
 }
