@@ -192,7 +192,7 @@ def main(words):
         return package(words[1] if len(words) > 1 else f"{HERE}/out")
     reads = BY_WORD[words[0]].reads.lower()
     if reads and os.isatty(0):
-        say(f"reading the {reads} from the terminal, up to Ctrl-D; ./fx {words[0]} < FILE reads a file")
+        say(f"reading the {reads} from the terminal, up to Ctrl-D; ./fx {' '.join(words)} < FILE reads a file")
     if is_current():
         os.execv(PROGRAM, [PROGRAM, *words])
     return run_checked(words)

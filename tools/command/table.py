@@ -67,7 +67,7 @@ WORDS = (
     ),
     Word(
         "payments",
-        "tells what the banks pay at the end of the day of an output: each two banks one another, or netted over all banks",
+        "prints what the banks pay at the end of the day: each two banks one another, or netted over all banks",
         "No list that settles the day pays less. It prints NO and the offset, as check does, where the text is not a right output.",
         reads="OUTPUT",
         forms=("bilateral", "net"),
