@@ -3,4 +3,6 @@ pub mod Printed
 pub mod SaidCommands
 pub mod SaidFields
 pub mod SaidLines
+pub mod SpelledFields
+pub mod SpelledLines
 pub mod WrittenCommands

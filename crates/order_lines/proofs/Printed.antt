@@ -18,7 +18,7 @@ join_with_byte-first : (c : ℕ) (first : List ℕ) (rest : List (List ℕ)) →
 join_with_byte-first c first [] = sym (append-nil first)
 join_with_byte-first c first (second ∷ more) = ap (λ (text : List ℕ). first ++ (c ∷ text)) (join_with_byte-first c second more)
 
-command_fields-named : (h : Header) (bank : ℕ) (said : Command) → command_fields h bank said ≡ bank_name h bank ∷ word_field said ∷ subject_field h said ∷ details h said
+pub command_fields-named : (h : Header) (bank : ℕ) (said : Command) → command_fields h bank said ≡ bank_name h bank ∷ word_field said ∷ subject_field h said ∷ details h said
 command_fields-named h bank (command.Order side pair price lots life) = refl
 command_fields-named h bank (command.Cancel pair number) = refl
 command_fields-named h bank (command.Reduce pair number lots) = refl

@@ -3,9 +3,11 @@
 #![tactic(auto)]
 
 mod reading;
+mod spelled;
 mod spoken;
 mod word;
 mod writing;
 
+pub use spelled::spelled_command;
 pub use spoken::{Spoken, command_by, command_from, command_in, journal_from, journal_in};
 pub use writing::{command_text, make_command};

@@ -5,7 +5,7 @@ ghost use Rattle.order_lines.specs.Grammar.{command_line};
 use fx_amounts::Memory;
 use fx_rules::{Sent, Session};
 use fx_text::LineView;
-use order_lines::{Spoken, command_in};
+use order_lines::{Spoken, command_in, spelled_command};
 use std::alloc::Global;
 
 /// What the text of a session says: the session of its header, the commands of the last round in the order of their lines,
@@ -18,7 +18,7 @@ pub struct Script {
 }
 
 impl Script {
-    ghost use Rattle.session_script.specs.inside.Stage.{Adds};
+    ghost use Rattle.session_script.specs.inside.Stage.{Adds, AddsFront};
 
     /// The script of a session, so far without a command.
     pub(crate) fn of(alloc: Global, session: Session) -> Script
@@ -46,5 +46,19 @@ impl Script {
             Spoken::End => return Ok(true),
         }
         Ok(false)
+    }
+
+    /// Adds the commands with whose lines in their one spelling a text begins, and answers what stands behind these lines. After
+    /// `Err` some of them may be added.
+    pub(crate) fn add_spelled<'p>(&mut self, text: &'p [u8]) -> Result<&'p [u8], Memory>
+        ensures adds { IfOk result (λ rest. AddsFront self.old self.new text.now rest.now) }
+        ensures session { self.new.session ≡ self.old.session }
+    {
+        let mut rest = text;
+        while let Some((sent, behind)) = spelled_command(&self.session, rest) {
+            self.sent.push(sent)?;
+            rest = behind;
+        }
+        Ok(rest)
     }
 }

@@ -1,6 +1,9 @@
 -- What private functions and proofs alone say of it, beside `specs/Stage.antt`.
-use Rattle.std.specs.Prelude.{ℕ, ◌≡◌, ◌+◌, min, Bool, true, false, [], ◌∷◌, ◌++◌}
+use Rattle.std.specs.Prelude.{ℕ, ◌≡◌, ◌≤◌, ◌+◌, min, Bool, true, false, List, [], ◌∷◌, ◌++◌, length}
 use Rattle.fx_rules.specs.Lists.{Each}
+use Rattle.fx_rules.specs.declared.command.Sent.{Sent}
+use Rattle.fx_text.specs.declared.line.Line.{Line}
+use Rattle.fx_text.specs.Lines.{lines_of, rest_of}
 use Rattle.session_head.specs.Head as heads
 use Rattle.session_head.specs.Head.{Head}
 use Rattle.order_lines.specs.declared.spoken.Spoken.{Spoken}
@@ -10,7 +13,7 @@ use Rattle.fx_rules.specs.Sending.{IsSentOf}
 use Rattle.session_script.specs.declared.script.Script.{Script}
 use Rattle.session_script.specs.declared.intake.stage.Stage.{Stage}
 use Rattle.session_script.specs.declared.intake.stage.Stage.TheVariants.{Heading, Commanding, Faulted}
-use Rattle.session_script.specs.Stage.{most_strays}
+use Rattle.session_script.specs.Stage.{Tells, StandsAt, most_strays}
 
 -- a count of strays, once this is said too
 abbrev pub counted : ℕ → Spoken → ℕ
@@ -26,6 +29,24 @@ pub record Adds (old new : Script) (said : Spoken) (is_end : Bool) : Type 0 wher
   pub strays : new.strays ≡ counted old.strays said
   pub ended : is_end ≡ has_end (said ∷ [])
   pub valid : Each (IsSentOf old.session) (sent_among (said ∷ []))
+
+-- the first lines of a text make a script of another, and none of them is the END line; this is what stands behind them
+pub record AddsFront (old new : Script) (text rest : List ℕ) : Type 0 where
+  pub done : List Line
+  pub lines : lines_of text ≡ done ++ lines_of rest
+  pub behind : rest_of text ≡ rest_of rest
+  pub shorter : length rest ≤ length text
+  pub session : new.session ≡ old.session
+  pub tells : (lines : List Line) (former : List Sent) → Tells lines old.session (former ++ old.sent.items) old.strays false
+      → Tells (lines ++ done) new.session (former ++ new.sent.items) new.strays false
+
+-- the first lines of a text were taken; this is what stands behind them
+pub record TakesFront (old new : Stage) (text rest : List ℕ) : Type 0 where
+  pub done : List Line
+  pub lines : lines_of text ≡ done ++ lines_of rest
+  pub behind : rest_of text ≡ rest_of rest
+  pub shorter : length rest ≤ length text
+  pub stands : (lines : List Line) (former : List Sent) → StandsAt old lines former → StandsAt new (lines ++ done) former
 
 -- the header goes on: neither START nor a fault has come
 abbrev pub goes_on : Head → Bool

@@ -28,7 +28,7 @@ pub(crate) enum Stage {
 
 impl Stage {
     ghost use Rattle.session_script.specs.Stage.{StandsAt, sent_at, session_at};
-    ghost use Rattle.session_script.specs.inside.Stage.{is_open};
+    ghost use Rattle.session_script.specs.inside.Stage.{is_open, TakesFront};
     ghost use Rattle.session_script.specs.Reading.{GoesOn};
     ghost use Rattle.session_script.specs.Rounds.{IsFront};
 
@@ -117,12 +117,28 @@ impl Stage {
         ensures readable { IsTrue (is_open self.new) }
         ensures session { (h : SessionHeader) → session_at self.old ≡ Some h → session_at self.new ≡ Some h }
     {
-        let mut rest = text;
+        let mut rest = self.take_spelled(text)?;
         while let Some((line, behind)) = first_line(rest) {
             self.take(alloc, &line)?;
-            rest = behind;
+            rest = self.take_spelled(behind)?;
         }
         Ok(rest)
+    }
+
+    /// Takes the lines that a text begins with and that are commands in their one spelling, and answers what stands behind them.
+    /// After `Err` some of them may be taken.
+    fn take_spelled<'p>(&mut self, text: &'p [u8]) -> Result<&'p [u8], Memory>
+        requires { IsTrue (is_open self.old) }
+        ensures taken { IfOk result (λ rest. TakesFront self.old self.new text.now rest.now) }
+        ensures readable { IsTrue (is_open self.new) }
+        ensures session { (h : SessionHeader) → session_at self.old ≡ Some h → session_at self.new ≡ Some h }
+    {
+        if let Stage::Commanding { script, ended } = self {
+            if !*ended {
+                return script.add_spelled(text);
+            }
+        }
+        Ok(text)
     }
 }
 
