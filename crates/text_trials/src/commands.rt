@@ -1,7 +1,7 @@
 use crate::filled::filled;
-use fx_rules::{Command, Reject, Session};
+use fx_rules::{Command, Reject, Sent, Session};
 use fx_text::{Line, LineCutter};
-use order_lines::{Spoken, command_from, command_text, journal_from};
+use order_lines::{Spoken, command_from, command_text, journal_from, spelled_command};
 use std::alloc::Global;
 use std::test::Fail;
 use trial_days::{ALFA, bank, session_of};
@@ -75,6 +75,9 @@ const RECORDED: [(&[u8], &str); 38] = [
     (b"# ALFA SHOW BETA", "None"),
     (b"  #", "None"),
 ];
+
+/// How many of them, the first, are commands that are not bad.
+const COMMANDS: usize = 9;
 
 /// Lines of ALFA's bad commands, and the fault of each.
 const BAD: [(&[u8], Reject); 57] = [
@@ -181,6 +184,15 @@ fn said(alloc: Global, session: &Session, text: &[u8], letters: usize) -> Result
     Ok(command_from(session, &line))
 }
 
+/// The command with whose line in its one spelling a text begins, where that is all of the text.
+fn spelled(alloc: Global, session: &Session, line: &[u8]) -> Result<Option<Sent>, Fail> {
+    let text = filled(alloc, (line, b'x', 0, b"\n"))?;
+    Ok(match spelled_command(session, &text) {
+        Some((sent, b"")) => Some(sent),
+        _ => None,
+    })
+}
+
 /// The command that a line of a journal says; `None` too where it is spelled otherwise, or says another thing in a session.
 fn recorded(alloc: Global, session: &Session, text: &[u8]) -> Result<Option<Command>, Fail> {
     let line = line_of(alloc, text, 0)?;
@@ -201,6 +213,11 @@ fn lines_say_their_commands(rt: HostRuntime) -> Result<(), Fail> {
     for (at, (text, want)) in RECORDED.iter().enumerate() {
         let told = format!(in alloc; "{:?}", recorded(alloc, &session, text)?)?;
         assert!(rt; told.as_str() == *want, "in a journal: {at} says {told}");
+        let is_command = at < COMMANDS;
+        assert!(rt;
+            spelled(alloc, &session, text)?.is_some() == is_command,
+            "in one spelling: {at}"
+        );
     }
     for (at, (text, letters, want)) in SAID.iter().enumerate() {
         let told = format!(in alloc; "{:?}", said(alloc, &session, text, *letters)?)?;
@@ -209,6 +226,7 @@ fn lines_say_their_commands(rt: HostRuntime) -> Result<(), Fail> {
     for (at, (text, reason)) in BAD.iter().enumerate() {
         let want = Spoken::Of(bank(ALFA), Command::Bad { reason: *reason });
         assert!(rt; said(alloc, &session, text, 0)? == want, "bad line {at}");
+        assert!(rt; spelled(alloc, &session, text)?.is_none(), "bad line {at}");
     }
     Ok(())
 }
