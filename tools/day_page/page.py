@@ -188,13 +188,13 @@ def differences(day):
         return ""
     shown = "".join(f"<li>{safe(what)}</li>" for what in day.differences[:10])
     more = f"<p>and {grouped(len(day.differences) - 10)} more.</p>" if len(day.differences) > 10 else ""
-    return f'<div class="differences" id="differences"><p><strong>What is told twice does not agree:</strong></p><ul>{shown}</ul>{more}</div>'
+    return f'<div class="differences" id="differences"><p><strong>The output contradicts itself:</strong></p><ul>{shown}</ul>{more}</div>'
 
 
 def desk_text(day, bank):
     desk = day.desks[bank]
     words = [f"{grouped(count)} {kind}" for kind, count in sorted(desk.kinds.items())]
-    return f"{few(desk.commands, 'command')} sent, {few(desk.fills, 'fill')} told; {few(desk.count, 'notice')} in all. Replies: {', '.join(words) or 'none'}."
+    return f"{few(desk.commands, 'command')} sent, {few(desk.fills, 'fill')}; {few(desk.count, 'notice')} in all. Replies: {', '.join(words) or 'none'}."
 
 
 def desk_data(day, bank):

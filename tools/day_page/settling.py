@@ -64,7 +64,7 @@ def compare_payments(day, told):
     other = [form for form, paid in lists(day).items() if told[form] != text_of(day, paid).encode()]
     day.paid_alike = not other
     for form in other:
-        day.differs(f"what ./fx payments {form} tells is not what the fills come to")
+        day.differs(f"what ./fx payments {form} prints is not what the fills come to")
 
 
 def gross(day):
@@ -98,7 +98,7 @@ def banks_table(day, paid):
 
 
 def mark(day, credit, one):
-    """Why a payment is between banks that are nothing to one another; nothing where they are."""
+    """Why a payment of the net list is marked: its banks never traded, or have no credit between them; empty if neither holds."""
     use = credit[min(one.payer, one.payee), max(one.payer, one.payee)]
     reasons = ["never traded"] * (not day.desks[one.payer].used.get(one.payee)) + ["no credit"] * (min(use.limits) == 0)
     return ", ".join(reasons)
