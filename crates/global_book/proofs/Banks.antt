@@ -9,7 +9,7 @@ use Rattle.fx_amounts.specs.declared.side.Side.{Side}
 use Rattle.fx_amounts.specs.declared.side.Side.TheVariants.{Buy, Sell}
 use Rattle.access_index.proofs.Rows.{both}
 use Rattle.level_rows.specs.Rows.{Row}
-use Rattle.global_book.specs.inside.Levels.{LevelSides, side_row, no_levels, levels_at, AreOfSides, AreBare, Adds, Takes, Widens, KeepsOtherLevels, AllWiden}
+use Rattle.global_book.specs.inside.Levels.{LevelSides, side_row, no_levels, levels_at, AreOfSides, AreBare, Widens, KeepsOtherLevels, AllWiden}
 
 set_here : (levels : List LevelSides) (at : ℕ) (sides : LevelSides) (side : Side) → at < length levels → levels_at (set levels at sides) at side ≡ side_row sides side
 set_here levels at sides side within = ap (λ (s : LevelSides). side_row s side) (get_or-set_same levels at sides no_levels within)
@@ -46,15 +46,11 @@ module _ (old new : List LevelSides) (bank : ℕ) (side : Side) (sides sides' : 
   keeps_other : side_row sides' (opposite side) ≡ side_row sides (opposite side) → KeepsOtherLevels old new bank side
   keeps_other same = record { count = written.count; other_side = written.is (opposite side) ∙ same ∙ written.was (opposite side); others = written.others }
 
-  pub added_at : (price lots : ℕ) → Adds (side_row sides side) (side_row sides' side) price lots → Adds (levels_at old bank side) (levels_at new bank side) price lots
-  added_at price lots adds =
-      subst (λ (r : Row). Adds (levels_at old bank side) r price lots) (sym (written.is side))
-      (subst (λ (r : Row). Adds r (side_row sides' side) price lots) (written.was side) adds)
-
-  pub taken_at : (price lots : ℕ) → Takes (side_row sides side) (side_row sides' side) price lots → Takes (levels_at old bank side) (levels_at new bank side) price lots
-  taken_at price lots takes =
-      subst (λ (r : Row). Takes (levels_at old bank side) r price lots) (sym (written.is side))
-      (subst (λ (r : Row). Takes r (side_row sides' side) price lots) (written.was side) takes)
+  -- the row of the side changed as the bank's own did
+  became_at : (became : Row → Row → Type 0) → became (side_row sides side) (side_row sides' side) → became (levels_at old bank side) (levels_at new bank side)
+  became_at became it =
+      subst (became (levels_at old bank side)) (sym (written.is side))
+      (subst (λ (r : Row). became r (side_row sides' side)) (written.was side) it)
 
   of_sides : AreOfSides old → ((one : Side) → (side_row sides' one).side ≡ (side_row sides one).side) → AreOfSides new
   of_sides are stays = record {
@@ -86,19 +82,26 @@ module _ (old new : List LevelSides) (bank : ℕ) (side : Side) (sides sides' : 
     ];
   }
 
+-- the row of a side, as it was read of its bank
+pub row_was : (inside seen : List LevelSides) (at bank : ℕ) (side : Side) (sides : LevelSides) → inside ≡ seen → at ≡ bank → bank < length seen → sides ≡ get_or inside at sides
+    → side_row sides side ≡ levels_at seen bank side
+row_was inside seen at bank side sides view_is at_is bank_in read =
+    let within : at < length inside = omega (arith, bank_in, at_is, ap length view_is) in
+    (written inside seen at bank sides sides view_is at_is within read).was side
+
 -- the levels of one side of a bank changed, and no others
-pub record OneChanged (old new : List LevelSides) (bank : ℕ) (side : Side) (sides sides' : LevelSides) : Type 0 where
-  pub written : Written old new bank sides sides'
+pub record OneChanged (old new : List LevelSides) (bank : ℕ) (side : Side) (became : Row → Row → Type 0) : Type 0 where
+  pub row : became (levels_at old bank side) (levels_at new bank side)
   pub are : AreOfSides new
   pub others : KeepsOtherLevels old new bank side
 
-pub one_changed : (inside seen : List LevelSides) (at bank : ℕ) (side : Side) (sides sides' : LevelSides) → inside ≡ seen → at ≡ bank → bank < length seen → sides ≡ get_or inside at sides → AreOfSides inside
-    → (side_row sides' side).side ≡ (side_row sides side).side → side_row sides' (opposite side) ≡ side_row sides (opposite side) → OneChanged seen (set inside at sides') bank side sides sides'
-one_changed inside seen at bank side sides sides' view_is at_is bank_in read are stays same =
+pub one_changed : (inside seen : List LevelSides) (at bank : ℕ) (side : Side) (sides sides' : LevelSides) (became : Row → Row → Type 0) → inside ≡ seen → at ≡ bank → bank < length seen → sides ≡ get_or inside at sides → AreOfSides inside
+    → became (side_row sides side) (side_row sides' side) → (side_row sides' side).side ≡ (side_row sides side).side → side_row sides' (opposite side) ≡ side_row sides (opposite side) → OneChanged seen (set inside at sides') bank side became
+one_changed inside seen at bank side sides sides' became view_is at_is bank_in read are it stays same =
     let within : at < length inside = omega (arith, bank_in, at_is, ap length view_is) in
     let here : Written seen (set inside at sides') bank sides sides' = written inside seen at bank sides sides' view_is at_is within read in
     record {
-      written = here;
+      row = became_at seen (set inside at sides') bank side sides sides' here became it;
       are = changed_sides seen (set inside at sides') bank side sides sides' here (subst AreOfSides view_is are) stays same;
       others = keeps_other seen (set inside at sides') bank side sides sides' here same;
     }

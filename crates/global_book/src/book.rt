@@ -339,6 +339,7 @@ impl PairBook {
     /// The best order of a bank and a side, and its place, among those that arrived before `before` and stand behind the place
     /// `past`; `None` where there is none, or where the limit, if there is one, does not allow its price. It reads no order that
     /// is not allowed.
+    #[inline(always)]
     fn best_allowed<L: Ledger>(
         &self,
         bank: BankId,

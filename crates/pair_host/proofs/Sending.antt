@@ -1,9 +1,9 @@
 -- What may be sent, and which pair it is about.
-use Rattle.std.proofs.Common.{ℕ, ◌≡◌, ◌≢◌, ◌+◌, ◌<◌, ◌^◌, false, List, get_or, Some, None, refl, sym, subst, ◌∙◌, arith}
+use Rattle.std.proofs.Common.{ℕ, ◌≡◌, ◌≢◌, ◌+◌, ◌<◌, ◌^◌, false, List, get_or, Some, None, refl, sym, subst, ◌∙◌}
 use Rattle.std.proofs.lemmas.Bool.{ne_eqb}
 use Rattle.fx_rules.specs.declared.command.Command.{Command}
 use Rattle.fx_rules.specs.declared.command.Command.TheVariants.{Order, Cancel, Reduce, Pull, Line, Show, Book, Bad}
-use Rattle.fx_rules.specs.Session.{Header, pair_count}
+use Rattle.fx_rules.specs.Session.{Header}
 use Rattle.fx_rules.specs.State.{State}
 use Rattle.fx_rules.specs.Step.{IsCommand, may_change}
 use Rattle.fx_rules.specs.History.{state}

@@ -9,7 +9,6 @@ use Rattle.fx_rules.specs.declared.outcome.Outcome.{Outcome}
 use Rattle.fx_rules.specs.declared.outcome.Outcome.TheVariants.{LineSet}
 use Rattle.fx_rules.specs.Session.{Header, IsSession, bank_count, pair_count}
 use Rattle.fx_rules.specs.State.{State, opening, orders_in, count_of}
-use Rattle.fx_rules.specs.Sweep.{filled_all}
 use Rattle.fx_rules.specs.Raise.{limited}
 use Rattle.fx_rules.specs.Step.{IsCommand, IsOutcome, after, fills_of, may_change}
 use Rattle.fx_rules.specs.History.{IsStep, IsLegal, after_entry, state}

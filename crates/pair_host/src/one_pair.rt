@@ -7,7 +7,7 @@ use credit_table::CreditTable;
 use fx_amounts::{BankId, Memory};
 use fx_rules::{Command, Entry, Outcome};
 use global_book::PairBook;
-use pair_steps::{carry_out, prepare, reserve};
+use pair_steps::{answer, carry_out, reserve};
 use std::alloc::Global;
 
 /// Carries out a bank's next command in the book's pair. At `Memory` the book's orders and the table are as they were.
@@ -30,7 +30,8 @@ pub(crate) fn serve_in_pair(
 {
     let sender = table.sender(bank);
     let weight = table.weight(book.pair());
-    let outcome = prepare(alloc, book, table.lines(), weight, &sender, command)?;
+    reserve(book, sender.bank, command)?;
+    let outcome = answer(alloc, book, table.lines(), weight, &sender, command)?;
     let entry = Entry {
         bank,
         number: sender.number,
