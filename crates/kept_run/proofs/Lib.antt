@@ -1,0 +1,6 @@
+pub mod Results
+pub mod Commands
+pub mod Streams
+pub mod Rounds
+pub mod Keeping
+pub mod Ending

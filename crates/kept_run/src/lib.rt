@@ -1,0 +1,7 @@
+//! A session that outlives a crash: its rounds are served on threads, and each is kept in a journal file before it is told.
+#![tactic(auto)]
+
+mod round;
+mod run;
+
+pub use run::KeptRun;
