@@ -13,9 +13,11 @@ itself stands in tools/command/table.py.
 import signal
 import sys
 
-# Ctrl-C ends the run with its status and without a traceback, from here on.
-if signal.getsignal(signal.SIGINT) is not signal.SIG_IGN:
-    signal.signal(signal.SIGINT, lambda *_: sys.exit(130))
+# Ctrl-C, a kill and a terminal that is closed end the run with its status, without a traceback, and with it what it started.
+STOPS = (signal.SIGINT, signal.SIGTERM, signal.SIGHUP)
+for number in STOPS:
+    if signal.getsignal(number) is not signal.SIG_IGN:
+        signal.signal(number, lambda number, _: sys.exit(128 + number))
 
 import contextlib
 import os
@@ -75,13 +77,15 @@ def is_current():
 
 @contextlib.contextmanager
 def rt(words, **how):
-    """A running command of the toolchain, which is ended where this run is stopped."""
+    """A running command of the toolchain, which is ended where this run is stopped. While it starts a stop has to wait."""
+    before = signal.pthread_sigmask(signal.SIG_BLOCK, STOPS)
     try:
-        run = subprocess.Popen(["rt", *words], **how)
+        run = subprocess.Popen(["rt", *words], preexec_fn=lambda: signal.pthread_sigmask(signal.SIG_SETMASK, before), **how)
     except FileNotFoundError:
         say("the Rattle toolchain's command rt is not on the PATH")
         sys.exit(REFUSED)
     try:
+        signal.pthread_sigmask(signal.SIG_SETMASK, before)
         yield run
     finally:
         if run.poll() is None:

@@ -53,6 +53,10 @@ class Asked:
         except BrokenPipeError:
             pass  # It has ended; its answer says how.
 
+    def slowed(self):
+        """Why a run that is not over takes long: the proved program says nothing before it ends, and `./fx` says where it is not built."""
+        return ", which runs the sources, since no proved program is built" if os.pread(self.err.fileno(), 1, 0) else ""
+
     def answer(self):
         """The exit status, and what was written on either output."""
         try:

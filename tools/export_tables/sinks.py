@@ -28,12 +28,24 @@ class CsvFolder:
 
     def __init__(self, path: str):
         only_new(path)
-        self.path = os.path.abspath(path)
+        self.path, self.files = os.path.abspath(path), {}
         try:
             self.made = tempfile.mkdtemp(prefix=".export-", dir=os.path.dirname(self.path))
-            self.files = {table.name: open(f"{self.made}/{table.name}.csv", "w", encoding="ascii", newline="") for table in TABLES}
         except OSError as fault:
             raise unwritable(path, fault) from fault
+        try:
+            self.open()
+        except BaseException:
+            self.drop()
+            raise
+
+    def open(self) -> None:
+        """Makes the files, each with its column names."""
+        for table in TABLES:
+            try:
+                self.files[table.name] = open(f"{self.made}/{table.name}.csv", "w", encoding="ascii", newline="")
+            except OSError as fault:
+                raise unwritable(self.path, fault) from fault
         self.writers = {name: csv.writer(file, lineterminator="\n") for name, file in self.files.items()}
         for table in TABLES:
             self.write(table.name, [[column.name for column in table.columns]])
@@ -72,16 +84,25 @@ class SqliteFile:
         self.path = os.path.abspath(path)
         try:
             place, self.made = tempfile.mkstemp(prefix=".export-", dir=os.path.dirname(self.path))
-            os.close(place)
         except OSError as fault:
             raise unwritable(path, fault) from fault
-        self.base = sqlite3.connect(self.made, isolation_level=None)
+        self.base = None
+        self.insertions = {table.name: table.insertion() for table in TABLES}
+        try:
+            os.close(place)
+            self.base = sqlite3.connect(self.made, isolation_level=None)
+            self.open()
+        except BaseException:
+            self.drop()
+            raise
+
+    def open(self) -> None:
+        """Makes the tables."""
         for step in ("PRAGMA journal_mode = OFF", "PRAGMA synchronous = OFF", "PRAGMA cache_size = -65536", "BEGIN"):
             self.base.execute(step)
         strict = "STRICT" if sqlite3.sqlite_version_info >= (3, 37) else ""
         for table in TABLES:
             self.base.execute(table.schema(strict))
-        self.insertions = {table.name: table.insertion() for table in TABLES}
 
     def write(self, table: str, rows: Sequence[Sequence]) -> None:
         try:
@@ -106,7 +127,8 @@ class SqliteFile:
 
     def drop(self) -> None:
         """Takes away what is not whole."""
-        self.base.close()
+        if self.base:
+            self.base.close()
         if os.path.exists(self.made):
             os.remove(self.made)
 

@@ -73,10 +73,16 @@ def filled_before(output: bytes, wanted: dict[tuple[str, int], int]) -> dict[tup
 def asked(program: str, session: bytes) -> bytes:
     """The output of a session by the program's word `serial`."""
     try:
-        run = subprocess.run([program, "serial"], input=session, capture_output=True)
+        run = subprocess.Popen([program, "serial"], stdin=subprocess.PIPE, stdout=subprocess.PIPE, stderr=subprocess.PIPE)
     except OSError as fault:
         raise NoAnswer(f"{program} can't be started: {fault.strerror}") from fault
+    with run:
+        try:
+            out, err = run.communicate(session)
+        except BaseException:
+            run.terminate()  # Not killed: ./fx ends what it started.
+            raise
     if run.returncode:
-        told = run.stderr.decode(errors="replace").strip().splitlines()
+        told = err.decode(errors="replace").strip().splitlines()
         raise NoAnswer(f"{program} serial ended with status {run.returncode}{': ' + told[-1] if told else ''}")
-    return run.stdout
+    return out

@@ -2,6 +2,7 @@
 import argparse
 import hashlib
 import os
+import signal
 import sys
 from collections.abc import Callable, Iterator
 from typing import BinaryIO
@@ -101,6 +102,13 @@ def only_one_input(parser: Parser, paths: list[str | None]) -> None:
         parser.error("standard input can be one text alone")
 
 
+def stop_as_by_keys() -> None:
+    """Has a kill, and a terminal that is closed, end the run as Ctrl-C does: with what it started, and without what it has half made."""
+    for number in (signal.SIGTERM, signal.SIGHUP):
+        if signal.getsignal(number) is not signal.SIG_IGN:
+            signal.signal(number, lambda number, _: sys.exit(128 + number))
+
+
 def drop_output() -> None:
     """Lets what standard output still holds go nowhere: it can't be written, or who read it wanted no more."""
     os.dup2(os.open(os.devnull, os.O_WRONLY), sys.stdout.fileno())
@@ -108,6 +116,7 @@ def drop_output() -> None:
 
 def end(name: str, run: Callable[[list[str]], int]) -> None:
     """Runs a tool on its words and ends with its status; a fault is told in one line on standard error."""
+    stop_as_by_keys()
     try:
         status = run(sys.argv[1:])
         sys.stdout.flush()

@@ -7,15 +7,12 @@ import sys
 import time
 from collections.abc import Callable
 
+from tool_trials.common import takes_stops
+
 from .common import PATIENCE, STAND_IN, CopyTrial
 
 WAITS = 'echo $$ > "$RT_PID"\nexec sleep 3600\n'
 ENDS = "run=ended status={} steps=1\n"
-
-
-def takes_stops() -> None:
-    """A process that a shell started behind & is deaf for Ctrl-C."""
-    signal.signal(signal.SIGINT, signal.SIG_DFL)
 
 
 def state_of(process: int) -> str:
@@ -45,7 +42,7 @@ class Running(CopyTrial):
             start_new_session=True, preexec_fn=takes_stops,
         )
         self.addCleanup(run.communicate)
-        self.addCleanup(run.kill)
+        self.addCleanup(run.terminate)  # Not killed: it ends the toolchain.
         return run
 
     def pid_of_toolchain(self) -> int:
@@ -63,24 +60,24 @@ class Running(CopyTrial):
             self.assertIn(text, line)
         self.assertIsNone(run.poll())
 
-    def check_stopped(self, words: tuple[str, ...], whole_group: bool) -> None:
+    def check_stopped(self, words: tuple[str, ...], whole_group: bool, number: int = signal.SIGINT) -> None:
         run = self.started(*words)
         toolchain = self.pid_of_toolchain()
         wait_until(lambda: state_of(run.pid) == "S", "./fx waits for the toolchain")
-        os.killpg(run.pid, signal.SIGINT) if whole_group else os.kill(run.pid, signal.SIGINT)
+        os.killpg(run.pid, number) if whole_group else os.kill(run.pid, number)
         out, err = run.communicate(timeout=PATIENCE)
-        self.assertEqual((run.returncode, out), (130, b""), err)
+        self.assertEqual((run.returncode, out), (128 + number, b""), err)
         self.assertNotIn(b"Traceback", err)
         wait_until(lambda: state_of(toolchain) in ("", "Z"), "the toolchain has ended")
 
     def test_stopped(self) -> None:
-        """Ctrl-C, which the whole group gets, and a signal to ./fx alone."""
+        """Ctrl-C, which the whole group gets, and signals to ./fx alone."""
         for words in (("serial",), ("build",)):
-            for whole_group in (True, False):
-                with self.subTest(words=words, whole_group=whole_group):
+            for whole_group, number in ((True, signal.SIGINT), (False, signal.SIGINT), (False, signal.SIGTERM), (False, signal.SIGHUP)):
+                with self.subTest(words=words, whole_group=whole_group, number=number):
                     if os.path.exists(f"{self.folder}/pid"):
                         os.remove(f"{self.folder}/pid")
-                    self.check_stopped(words, whole_group)
+                    self.check_stopped(words, whole_group, number)
 
     def test_passes_on(self) -> None:
         """What the sources wrote, and their status, without the toolchain's own lines."""

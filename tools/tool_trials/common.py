@@ -2,6 +2,7 @@
 import os
 import random
 import shutil
+import signal
 import subprocess
 import sys
 import tempfile
@@ -34,6 +35,11 @@ def made(*words: object) -> bytes:
 def read(path: str) -> bytes:
     with open(path, "rb") as file:
         return file.read()
+
+
+def takes_stops() -> None:
+    """A process that a shell started behind & is deaf for Ctrl-C."""
+    signal.signal(signal.SIGINT, signal.SIG_DFL)
 
 
 class Trial(unittest.TestCase):

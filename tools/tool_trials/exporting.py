@@ -3,9 +3,13 @@ import csv
 import os
 import re
 import shutil
+import signal
 import sqlite3
+import subprocess
+import sys
+import time
 
-from .common import HERE, MORNING, Trial, made, needs_program, program, ran, read
+from .common import HERE, MORNING, Trial, made, needs_program, program, ran, read, takes_stops
 
 PAGE = f"{HERE}/docs/TOOLS.md"
 # The derived tables agree with the report, and the makers' prices with the fills'.
@@ -91,6 +95,22 @@ class Export(Trial):
         self.file("made", b"")
         self.assertEqual(ran("export", MORNING[1], "--sqlite", f"{self.folder}/made")[0], 5)
         self.assertEqual(ran("export", MORNING[1], "--sqlite", f"{self.folder}/none/made")[0], 5)
+
+    def test_a_stop_leaves_nothing(self) -> None:
+        """A run that is stopped while it reads takes away what it has made so far."""
+        for number in (signal.SIGINT, signal.SIGTERM, signal.SIGHUP):
+            for form in ("--csv", "--sqlite"):
+                words = [sys.executable, f"{HERE}/tools/export", "-", form, f"{self.folder}/made"]
+                run = subprocess.Popen(words, stdin=subprocess.PIPE, stderr=subprocess.PIPE, preexec_fn=takes_stops)
+                self.addCleanup(run.kill)
+                run.stdin.write(read(MORNING[1])[:1000])
+                run.stdin.flush()
+                while not os.listdir(self.folder):
+                    self.assertIsNone(run.poll(), run.returncode)
+                    time.sleep(0.01)
+                run.send_signal(number)
+                run.communicate(timeout=300)
+                self.assertEqual((run.returncode, os.listdir(self.folder)), (128 + number, []), (number, form))
 
     def test_words(self) -> None:
         for words in ((), ("-",), ("--csv", "x"), (MORNING[1], "--csv", "x", "--sqlite", "y"), (f"{self.folder}/none", "--csv", f"{self.folder}/x")):
