@@ -8,10 +8,10 @@ use Rattle.fx_rules.specs.declared.session.PairRule.{PairRule}
 use Rattle.fx_rules.specs.Lists.{Each, total}
 use Rattle.fx_rules.specs.Session.{Header, IsSession, IsPairRule, pair_count, lot_of, decimals_of}
 use Rattle.fx_rules.proofs.ListLemmas.{Each-weaker}
-use Rattle.day_report.specs.Report.{base_of, quote_of, fills_in, received, paid, share, buyer, seller, base_code, quote_code}
+use Rattle.day_report.specs.Report.{base_of, quote_of, received, paid, share, buyer, seller, base_code, quote_code}
 use Rattle.fx_rules.specs.inside.Trade.{IsTrade}
 use Rattle.day_report.specs.Trades.{lots_in}
-use Rattle.day_report.specs.inside.Trades.{AreTrades}
+use Rattle.day_report.specs.inside.Trades.{fills_in, AreTrades}
 use Rattle.day_report.proofs.Sums.{when, when_most, total_le, total_mul, total_push, total_filter}
 
 lots-most : (rules : List PairRule) (pair : ℕ) → Each IsPairRule rules → pair < length rules → get_or (map (λ (rule : PairRule). rule.lot) rules) pair 0 ≤ 1000000000

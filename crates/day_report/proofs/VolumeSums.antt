@@ -8,8 +8,8 @@ use Rattle.fx_rules.specs.Lists.{total}
 use Rattle.fx_rules.specs.Session.{Header, pair_count}
 use Rattle.fx_rules.proofs.ListLemmas.{filter_cons_true, filter_cons_false}
 use Rattle.day_report.specs.declared.rows.Volume.{Volume}
-use Rattle.day_report.specs.Report.{base_of, quote_of, fills_in, volume_of}
-use Rattle.day_report.specs.inside.Trades.{CanAdd}
+use Rattle.day_report.specs.Report.{base_of, quote_of, volume_of}
+use Rattle.day_report.specs.inside.Trades.{fills_in, CanAdd}
 use Rattle.day_report.specs.Trades.{with_fills}
 use Rattle.day_report.specs.Sums.{AreVolumes}
 use Rattle.day_report.proofs.Sums.{total_push}

@@ -19,10 +19,6 @@ use Rattle.day_report.specs.declared.rows.Report.{Report}
 
 -- Volumes.
 
--- the fills of a pair
-abbrev pub fills_in : ℕ → List Fill → List Fill
-fills_in pair fills = filter (λ fill. fill.pair == pair) fills
-
 -- what a fill moves of its pair's base currency, and of its quote currency
 abbrev pub base_of : Header → Fill → ℕ
 base_of h fill = base_amount fill.lots (lot_of h fill.pair)
@@ -30,9 +26,9 @@ base_of h fill = base_amount fill.lots (lot_of h fill.pair)
 abbrev pub quote_of : Header → Fill → ℕ
 quote_of h fill = quote_amount fill.lots (lot_of h fill.pair) fill.price (decimals_of h fill.pair)
 
--- what was traded of a pair
+-- what was traded of a pair, by its fills
 abbrev pub volume_of : Header → State → ℕ → Volume
-volume_of h S pair = let fs = fills_in pair S.fills in
+volume_of h S pair = let fs = filter (λ fill. fill.pair == pair) S.fills in
     record { pair = pair; fills = length fs; lots = total (λ f. f.lots) fs; base = total (base_of h) fs; quote = total (quote_of h) fs }
 
 -- of each pair

@@ -13,7 +13,7 @@ use Rattle.fx_edges.proofs.Writing.{Appended-nil, AppendedPart-whole}
 use Rattle.session_head.specs.Head as heads
 use Rattle.session_head.specs.declared.reason.HeadReason.{HeadReason}
 use Rattle.session_script.specs.Input.{input_limit}
-use Rattle.session_script.specs.Reading.{HasNoFault, IsPrompt, IsEndedBehind, EndedEarly, TextEnded, Stopped}
+use Rattle.session_script.specs.Reading.{HasNoFault, IsPrompt, EndedEarly, TextEnded, Stopped}
 use Rattle.session_script.specs.Script.{HasFault, HasEnd, EndsWithEnd}
 use Rattle.session_script.specs.declared.ends.EarlyEnd.{EarlyEnd}
 use Rattle.session_script.specs.declared.ends.EarlyEnd.TheVariants as early
@@ -180,11 +180,11 @@ much_early input rest early.ReadFault ended much = absurd (omega (arith, ended.0
 much_early input rest early.TooMuch ended much = refl
 
 -- an end with the END line is no early one
-ended_cut : (input rest : List ℕ) → IsEndedBehind [] (Some rest) input → EndedEarly (Some rest) input early.Cut → ⊥
+ended_cut : (input rest : List ℕ) → TextEnded (Some rest) input EndLine → EndedEarly (Some rest) input early.Cut → ⊥
 ended_cut input rest (inl has) cut = cut.2 has
 ended_cut input rest (inr ends) cut = cut.3 ends.1
 
-ended_much : (input rest : List ℕ) → IsEndedBehind [] (Some rest) input → EndedEarly (Some rest) input early.TooMuch → ⊥
+ended_much : (input rest : List ℕ) → TextEnded (Some rest) input EndLine → EndedEarly (Some rest) input early.TooMuch → ⊥
 ended_much input rest (inl has) much = much.2 has
 ended_much input rest (inr ends) much = omega (arith, ends.0.short, much.0)
 

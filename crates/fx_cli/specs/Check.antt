@@ -34,7 +34,7 @@ no_line offset = codes "NO " ++ numeral offset ++ 10 ∷ []
 
 -- and by the verdict on them
 abbrev pub IsAnswerAt : KindOfAnswer → List ℕ → Verdict → List ℕ → Type 0
-IsAnswerAt IsAnswer bytes Yes text = IsAnswer bytes text
+IsAnswerAt IsAnswer bytes (Yes passed) text = IsAnswer bytes text
 IsAnswerAt IsAnswer bytes (No offset) text = text ≡ no_line offset
 
 -- the status where the source was not read to its end

@@ -64,7 +64,7 @@ fn check_bytes<K: Sink>(alloc: Global, bytes: &[u8], out: &mut K) -> Status
     ensures told { ToldVerdict SaysYes K.written K.faults out.old out.new bytes.now result }
 {
     match check_output(alloc, bytes) {
-        Ok(Verdict::Yes) => write_answer(b"YES\n", Status::Done, out),
+        Ok(Verdict::Yes(_)) => write_answer(b"YES\n", Status::Done, out),
         Ok(Verdict::No { offset }) => write_no(alloc, offset, out),
         Err(memory) => Status::Memory(memory),
     }

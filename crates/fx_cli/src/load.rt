@@ -1,7 +1,9 @@
-ghost use Rattle.std.specs.Prelude.{◌≤◌};
+ghost use Rattle.std.specs.Prelude.{◌≤◌, IfOk};
+ghost use Rattle.load_summary.specs.Summary.{IsSummary};
 ghost use Rattle.fx_cli.specs.Load.{Loaded, WroteText};
 
 use crate::status::Status;
+use fx_amounts::Memory;
 use fx_edges::{Sink, SinkFault, write_all};
 use fx_rules::Gate;
 use load_summary::load_summary;
@@ -27,10 +29,30 @@ pub fn load<R: AllocGlobal + Threads + Wait + Sync, K: Sink, G: Gate + Sync>(
     requires workers { 1 ≤ workers }
     ensures loaded { Loaded K.written K.faults out.old out.new seed banks pairs commands result }
 {
-    match load_summary(rt, seed, banks, pairs, commands, workers, gate) {
+    match summary_text(rt, seed, banks, pairs, commands, workers, gate) {
         Ok(text) => write_summary(&text, out),
         Err(memory) => Status::Memory(memory),
     }
+}
+
+/// The text of the summary.
+fn summary_text<R: AllocGlobal + Threads + Wait + Sync, G: Gate + Sync>(
+    rt: &R,
+    seed: u64,
+    banks: u8,
+    pairs: u8,
+    commands: u32,
+    workers: u32,
+    gate: &G,
+) -> Result<Vec<u8>, Memory>
+    requires banks { (2 ≤ banks) × (banks ≤ 64) }
+    requires pairs { (1 ≤ pairs) × (pairs ≤ 32) }
+    requires commands { (1 ≤ commands) × (commands ≤ 20000) }
+    requires workers { 1 ≤ workers }
+    ensures summary { IfOk result (λ text. IsSummary seed banks pairs commands text.items) }
+{
+    let summary = load_summary(rt, seed, banks, pairs, commands, workers, gate)?;
+    summary.text(rt.alloc())
 }
 
 /// Writes the summary.

@@ -10,22 +10,23 @@ use Rattle.fx_rules.specs.State.{opening}
 use Rattle.fx_rules.specs.History.{IsLegal}
 use Rattle.fx_rules.specs.declared.outcome.Entry.{Entry}
 use Rattle.session_head.specs.HeadText.{head_text_of}
-use Rattle.reply_lines.specs.Output as output
-use Rattle.reply_lines.specs.Output.{entry_line, journal_text, last_text, IsDayText, IsOutput}
+use Rattle.reply_lines.specs.inside.Journals.{count_line}
+use Rattle.reply_lines.specs.Output.{entry_line, journal_text, day_text, last_text, IsDayText, IsOutput}
 use Rattle.reply_lines.specs.declared.output.Ending.{Ending}
 use Rattle.journal_check.specs.Lines.{lines_from}
 use Rattle.fx_rules.specs.declared.command.Sent.{Sent}
-use Rattle.journal_check.specs.Listed.{Listed, commands_in, listed}
+use Rattle.journal_check.specs.Listed.{Listed, commands_among, listed}
 use Rattle.fx_rules.specs.Sending.{sent_by}
 use Rattle.journal_check.specs.Verdict.{day_verdict, IsJudged, IsVerdictOn}
 use Rattle.journal_check.specs.Laws.{OutputsAgree, VerdictsAgree}
 use Rattle.journal_check.specs.declared.check.Verdict.{Verdict}
 use Rattle.journal_check.specs.declared.header.Headed.{Headed}
 use Rattle.journal_check.proofs.LineLemmas.{parts_of-line}
-use Rattle.journal_check.proofs.HeadWalk.{header_in-head_text}
+use Rattle.journal_check.proofs.HeadWalk.{header_among-head_text}
 use Rattle.journal_check.proofs.JournalWalk.{entries_at}
 use Rattle.fx_rules.proofs.Continuing.{histories_agree}
 use Rattle.journal_check.proofs.Histories.{steps_sent, day_begins}
+use Rattle.reply_lines.proofs.Outputs.{is_day}
 use Rattle.reply_lines.proofs.Singly.{days_agree}
 use Rattle.journal_check.proofs.LastLines.{numeral_plain, same_number, last_agrees}
 use Rattle.journal_check.proofs.Walking.{IsPlain, unbroken, IsAt-plain, ended}
@@ -45,9 +46,9 @@ journal_word rest plain =
 count_plain : (n : ℕ) → IsPlain (count_part n)
 count_plain n = journal_word (numeral n) (numeral_plain n)
 
-journal_line-part : (n : ℕ) → output.journal_line n ≡ count_part n ++ 10 ∷ []
-unfolding output.journal_line
-journal_line-part n = ap (λ (t : List ℕ). codes "JOURNAL " ++ (t ++ 10 ∷ [])) (append-nil (numeral n))
+count_line-part : (n : ℕ) → count_line n ≡ count_part n ++ 10 ∷ []
+unfolding count_line
+count_line-part n = ap (λ (t : List ℕ). codes "JOURNAL " ++ (t ++ 10 ∷ [])) (append-nil (numeral n))
 
 first_parts : (n : ℕ) (more : List ℕ) → all_but_last (parts_of (count_part n ++ 10 ∷ more)) ≡ count_part n ∷ all_but_last (parts_of more)
 first_parts n more = parts_of-line (count_part n) more (unbroken (count_part n) (count_plain n))
@@ -69,16 +70,16 @@ record HasJournal (h : Header) (text : List ℕ) (at : ℕ) (entries : List Entr
   there : drop at text ≡ count_part (length entries) ++ 10 ∷ (flat_map (entry_line h) entries ++ more)
 
 has_journal : (h : Header) (text : List ℕ) (at : ℕ) (entries : List Entry) (more : List ℕ) → drop at text ≡ journal_text h entries ++ more → HasJournal h text at entries
-unfolding journal_text
+unfolding journal_text count_line
 has_journal h text at entries more there = record {
   more = more;
-  there = there ∙ append_assoc (output.journal_line (length entries)) (flat_map (entry_line h) entries) more
-      ∙ ap (λ (t : List ℕ). t ++ (flat_map (entry_line h) entries ++ more)) (journal_line-part (length entries))
+  there = there ∙ append_assoc (count_line (length entries)) (flat_map (entry_line h) entries) more
+      ∙ ap (λ (t : List ℕ). t ++ (flat_map (entry_line h) entries ++ more)) (count_line-part (length entries))
       ∙ ended (count_part (length entries)) (flat_map (entry_line h) entries ++ more);
 }
 
 commands_of : (h : Header) (text : List ℕ) (at : ℕ) (entries : List Entry) → IsLegal h entries → HasJournal h text at entries
-    → commands_in h (length text) [] (length entries) (lines_from text (at + length (count_part (length entries)) + 1)) ≡ Ok (map sent_by entries)
+    → commands_among h (length text) [] (length entries) (lines_from text (at + length (count_part (length entries)) + 1)) ≡ Ok (map sent_by entries)
 commands_of h text at entries legal has =
     let on = IsAt-plain text at (count_part (length entries)) (flat_map (entry_line h) entries ++ has.more) has.there (count_plain (length entries)) in
     entries_at h (length text) text has.more entries (at + length (count_part (length entries)) + 1) [] legal.session (steps_sent h (opening h) entries legal.steps) on.rest
@@ -92,7 +93,7 @@ journals_agree h text at entries others legal other_legal has other_has =
     let commands : map sent_by entries ≡ map sent_by others =
     ok_agree (map sent_by entries) (map sent_by others)
     (sym (commands_of h text at entries legal has)
-    ∙ ap (λ (n : ℕ). commands_in h (length text) [] n (lines_from text (at + length (count_part n) + 1))) count
+    ∙ ap (λ (n : ℕ). commands_among h (length text) [] n (lines_from text (at + length (count_part n) + 1))) count
     ∙ commands_of h text at others other_legal other_has) in
     histories_agree h entries others legal other_legal commands
 
@@ -105,10 +106,10 @@ record HasParts (h : Header) (entries : List Entry) (text : List ℕ) : Type 0 w
 
 parts_of_output : (h : Header) (entries : List Entry) (strays : ℕ) (ending : Ending) (text : List ℕ) → IsOutput h entries strays ending text → HasParts h entries text
 parts_of_output h entries strays ending text is =
-    let day = day_begins h entries is.day is.is_day in
+    let day = day_begins h entries (day_text h entries is.books) (is_day h entries is.books is.at_the_end) in
     record {
       more = day.0 ++ last_text strays ending;
-      is = is.whole ∙ ap (λ (d : List ℕ). d ++ last_text strays ending) day.1
+      is = is.exactly ∙ ap (λ (d : List ℕ). d ++ last_text strays ending) day.1
           ∙ append_assoc (head_text_of h) (journal_text h entries ++ day.0) (last_text strays ending)
           ∙ ap (λ (t : List ℕ). head_text_of h ++ t) (append_assoc (journal_text h entries) day.0 (last_text strays ending));
     }
@@ -119,8 +120,8 @@ found_agree one other same = let inside : one ≡ other = cc in ap (λ (found : 
 headers_agree : (one other : Header) (entries others : List Entry) (text : List ℕ) → IsLegal one entries → IsLegal other others → HasParts one entries text → HasParts other others text → one ≡ other
 headers_agree one other entries others text legal other_legal has other_has =
     found_agree (record { session = one; next = length (head_text_of one) }) (record { session = other; next = length (head_text_of other) })
-    (sym (header_in-head_text one (length text) text (journal_text one entries ++ has.more) legal.session has.is)
-    ∙ header_in-head_text other (length text) text (journal_text other others ++ other_has.more) other_legal.session other_has.is)
+    (sym (header_among-head_text one (length text) text (journal_text one entries ++ has.more) legal.session has.is)
+    ∙ header_among-head_text other (length text) text (journal_text other others ++ other_has.more) other_legal.session other_has.is)
 
 journal_of : (h : Header) (entries : List Entry) (text : List ℕ) → HasParts h entries text → HasJournal h text (length (head_text_of h)) entries
 journal_of h entries text has =
@@ -133,10 +134,12 @@ Agree one entries strays ending other others others_strays others_ending = (one 
 -- with one session and one history
 last_lines_agree : (h : Header) (entries : List Entry) (strays others : ℕ) (ending other : Ending) (text : List ℕ) → IsLegal h entries → IsOutput h entries strays ending text → IsOutput h entries others other text → (strays ≡ others) × (ending ≡ other)
 last_lines_agree h entries strays others ending other text legal is they =
-    let day : is.day ≡ they.day = days_agree h entries is.day they.day legal is.is_day they.is_day in
+    let one : List ℕ = day_text h entries is.books in
+    let two : List ℕ = day_text h entries they.books in
+    let day : one ≡ two = days_agree h entries one two legal (is_day h entries is.books is.at_the_end) (is_day h entries they.books they.at_the_end) in
     last_agrees strays others ending other
-    (append_cancel_left is.day (last_text strays ending) (last_text others other)
-    (sym is.whole ∙ they.whole ∙ ap (λ (d : List ℕ). d ++ last_text others other) (sym day)))
+    (append_cancel_left one (last_text strays ending) (last_text others other)
+    (sym is.exactly ∙ they.exactly ∙ ap (λ (d : List ℕ). d ++ last_text others other) (sym day)))
 
 -- with one session
 agree_in : (h : Header) (entries others : List Entry) (strays others_strays : ℕ) (ending others_ending : Ending) (text : List ℕ) → IsLegal h entries → IsLegal h others → IsOutput h entries strays ending text → IsOutput h others others_strays others_ending text

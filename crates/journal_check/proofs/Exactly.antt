@@ -3,6 +3,7 @@ use Rattle.std.proofs.Common.{◌≡◌, ℕ, zero, suc, ◌+◌, ◌^◌, ◌<�
 use Rattle.std.specs.List.{flat_map}
 use Rattle.std.proofs.lemmas.Bool.{cases_Bool, cond-true, cond-false, eqb-true}
 use Rattle.std.proofs.lemmas.List.{drop_at, length-map}
+use Rattle.fx_text.specs.Faults.{◌>>=◌}
 use Rattle.fx_text.specs.Lines.{line_of}
 use Rattle.fx_text.specs.Number.{number_of}
 use Rattle.fx_text.specs.declared.line.Line.{Line}
@@ -17,14 +18,14 @@ use Rattle.fx_rules.specs.declared.outcome.Entry.{Entry}
 use Rattle.session_head.specs.Head.{Begun}
 use Rattle.session_head.specs.HeadText.{head_text_of}
 use Rattle.order_lines.specs.Grammar.{journal_line}
-use Rattle.reply_lines.specs.Output as output
-use Rattle.reply_lines.specs.Output.{entry_line, journal_text, last_text, IsDayText, IsOutput}
+use Rattle.reply_lines.specs.inside.Journals.{count_line}
+use Rattle.reply_lines.specs.Output.{entry_line, journal_text, day_text, last_text, IsDayText, IsOutput}
 use Rattle.reply_lines.specs.declared.output.Ending.{Ending}
 use Rattle.journal_check.specs.Lines.{LineAt, behind, is_long, lines_from}
-use Rattle.journal_check.specs.Listed.{Listed, ◌>>=◌, header_in, count_told, counted, count_of, said_by, sent_in, commands_in, with_session, listed_behind, journal_behind, listed, most_entries}
+use Rattle.journal_check.specs.Listed.{Listed, header_among, count_told, count_among, commands_among, listed, most_entries}
 use Rattle.journal_check.specs.Compared.{beginning}
 use Rattle.journal_check.specs.Laws.{OutputsList}
-use Rattle.fx_rules.specs.Sending.{sent_by}
+use Rattle.fx_rules.specs.Sending.{sent_by, sent_of}
 use Rattle.journal_check.specs.Verdict.{yes, last_in, last_behind, day_verdict, IsJudged, IsVerdict, IsVerdictOn, IsSomeOutput}
 use Rattle.journal_check.specs.declared.check.Verdict.{Verdict}
 use Rattle.journal_check.specs.declared.check.Verdict.TheVariants.{No}
@@ -33,12 +34,14 @@ use Rattle.journal_check.specs.Reading.{IsReadOf}
 use Rattle.journal_check.specs.inside.Stops.{IsKept, IsComparedWith}
 use Rattle.journal_check.specs.declared.header.Headed.{Headed}
 use Rattle.journal_check.specs.declared.kept.Kept.{Kept}
-use Rattle.journal_check.proofs.JudgeLemmas.{WasRead, listed_commands, verdict_behind}
+use Rattle.journal_check.proofs.JournalLemmas.{counted, followed, commands_among-long, commands_among-short}
+use Rattle.journal_check.proofs.JudgeLemmas.{WasRead, with_session, listed_behind, journal_behind, listed_commands, verdict_behind}
 use Rattle.journal_check.proofs.CompareLemmas.{beginning-shared, beginning-ends}
-use Rattle.journal_check.proofs.HeadWalk.{header_in-head_text}
+use Rattle.journal_check.proofs.HeadWalk.{header_among-head_text}
 use Rattle.journal_check.proofs.JournalWalk.{counts_at, entries_at}
 use Rattle.fx_rules.proofs.Continuing.{histories_agree}
 use Rattle.journal_check.proofs.Histories.{steps_sent, day_begins}
+use Rattle.reply_lines.proofs.Outputs.{is_day as day_is}
 use Rattle.reply_lines.proofs.Singly.{days_agree}
 use Rattle.journal_check.proofs.LastLines.{IsLast, last_taken, last_only}
 
@@ -66,29 +69,29 @@ counted_few most line (Some n) count few is =
     let same : record { entries = n; next = behind line } ≡ count = cc in
     subst (λ (c : Counted). c.entries ≤ most) same (few n refl)
 
-count_few : (end : ℕ) (lines : List LineAt) (count : Counted) → count_of end lines ≡ Ok count → count.entries ≤ most_entries
-unfolding count_of
+count_few : (end : ℕ) (lines : List LineAt) (count : Counted) → count_among end lines ≡ Ok count → count.entries ≤ most_entries
+unfolding count_among
 count_few end [] count is = let wrong : ◌≡◌ {A = Result Counted ℕ} (Err end) (Ok count) = is in absurd cc
 count_few end (line ∷ more) count is = elim (cases_Bool (is_long line)) [
   | inl long ↦ let wrong : ◌≡◌ {A = Result Counted ℕ} (Err line.at) (Ok count) = sym (cond-true (is_long line) _ _ long) ∙ is in absurd cc
   | inr short ↦ counted_few most_entries line (count_told (line_of line.part)) count (told_few (line_of line.part)) (sym (cond-false (is_long line) (Err line.at) _ short) ∙ is)
 ]
 
-sent_ok : (line : LineAt) (said : Option (ℕ × Command)) (on : Sent → Result (List Sent) ℕ) (all : List Sent) → sent_in line said on ≡ Ok all → (one : Sent) × (on one ≡ Ok all)
+sent_ok : (line : LineAt) (said : Option (ℕ × Command)) (on : Sent → Result (List Sent) ℕ) (all : List Sent) → followed line said on ≡ Ok all → (one : Sent) × (on one ≡ Ok all)
 sent_ok line None on all is = let wrong : ◌≡◌ {A = Result (List Sent) ℕ} (Err line.at) (Ok all) = is in absurd cc
-sent_ok line (Some one) on all is = (said_by one, is)
+sent_ok line (Some one) on all is = (sent_of one, is)
 
 same_ok : (xs ys : List Sent) → ◌≡◌ {A = Result (List Sent) ℕ} (Ok xs) (Ok ys) → xs ≡ ys
 same_ok xs ys is = cc
 
-commands_count : (h : Header) (end : ℕ) (before : List Sent) (count : ℕ) (lines : List LineAt) (all : List Sent) → commands_in h end before count lines ≡ Ok all → length all ≡ length before + count
-unfolding commands_in
+commands_count : (h : Header) (end : ℕ) (before : List Sent) (count : ℕ) (lines : List LineAt) (all : List Sent) → commands_among h end before count lines ≡ Ok all → length all ≡ length before + count
+unfolding commands_among
 commands_count h end before zero lines all is = omega (arith, ap length (same_ok before all is))
 commands_count h end before (suc count) [] all is = let wrong : ◌≡◌ {A = Result (List Sent) ℕ} (Err end) (Ok all) = is in absurd cc
 commands_count h end before (suc count) (line ∷ more) all is = elim (cases_Bool (is_long line)) [
-  | inl long ↦ let wrong : ◌≡◌ {A = Result (List Sent) ℕ} (Err line.at) (Ok all) = sym (cond-true (is_long line) _ _ long) ∙ is in absurd cc
+  | inl long ↦ let wrong : ◌≡◌ {A = Result (List Sent) ℕ} (Err line.at) (Ok all) = sym (commands_among-long h end before count line more long) ∙ is in absurd cc
   | inr short ↦
-      let on = sent_ok line (journal_line h (line_of line.part)) (λ sent. commands_in h end (before ++ sent ∷ []) count more) all (sym (cond-false (is_long line) (Err line.at) _ short) ∙ is) in
+      let on = sent_ok line (journal_line h (line_of line.part)) (λ sent. commands_among h end (before ++ sent ∷ []) count more) all (sym (commands_among-short h end before count line more short) ∙ is) in
       let rest = commands_count h end (before ++ on.0 ∷ []) count more all on.1 in
       omega (arith, rest, length-append before (on.0 ∷ []))
 ]
@@ -99,9 +102,9 @@ same_found h commands found is = let same : record { session = h; commands = com
 listed_few : (text : List ℕ) (found : Listed) → listed text ≡ Ok found → length found.commands ≤ most_entries
 unfolding listed
 listed_few text found is =
-    let header = bind_ok (header_in (length text) (Begun 0) (lines_from text 0)) (journal_behind text) found is in
-    let count = bind_ok (count_of (length text) (lines_from text header.0.next)) (listed_behind text header.0.session) found header.2 in
-    let commands = bind_ok (commands_in header.0.session (length text) [] count.0.entries (lines_from text count.0.next)) (with_session header.0.session) found count.2 in
+    let header = bind_ok (header_among (length text) (Begun 0) (lines_from text 0)) (journal_behind text) found is in
+    let count = bind_ok (count_among (length text) (lines_from text header.0.next)) (listed_behind text header.0.session) found header.2 in
+    let commands = bind_ok (commands_among header.0.session (length text) [] count.0.entries (lines_from text count.0.next)) (with_session header.0.session) found count.2 in
     let few : count.0.entries ≤ most_entries = count_few (length text) (lines_from text header.0.next) count.0 count.1 in
     let size : length commands.0 ≡ 0 + count.0.entries = commands_count header.0.session (length text) [] count.0.entries (lines_from text count.0.next) commands.0 commands.1 in
     omega (arith, ap length (same_found header.0.session commands.0 found commands.2), size, few)
@@ -158,7 +161,11 @@ read_by text h entries day legal lists is_day taken =
       strays = it.2.strays;
       strays_most = it.2.few;
       ending = it.2.ending;
-      output = record { day = day; is_day = is_day; whole = it.1 ∙ ap (λ (last : List ℕ). day ++ last) it.2.is };
+      output = record {
+        books = is_day.books;
+        at_the_end = is_day.at_the_end;
+        exactly = it.1 ∙ ap (λ (last : List ℕ). day ++ last) it.2.is ∙ ap (λ (d : List ℕ). d ++ last_text it.2.strays it.2.ending) is_day.exactly;
+      };
     }
 
 pub read_last : (text : List ℕ) (header : Headed) (count : Counted) (entries : List Entry) (end : ℕ) (verdict : Verdict) → WasRead text header count entries → IsComparedWith header.session entries text (Ok end)
@@ -196,22 +203,22 @@ sound text verdict holds is = sound_by text (listed text) refl (subst (IsVerdict
 
 pub listed_output : (h : Header) (entries : List Entry) (text more : List ℕ) → IsLegal h entries → length entries ≤ most_entries → text ≡ head_text_of h ++ (journal_text h entries ++ more)
     → listed text ≡ Ok (record { session = h; commands = map sent_by entries })
-unfolding journal_text
+unfolding journal_text count_line
 listed_output h entries text more legal few is =
     let rows : List ℕ = flat_map (entry_line h) entries in
     let at : ℕ = length (head_text_of h) in
-    let header = header_in-head_text h (length text) text (journal_text h entries ++ more) legal.session is in
-    let there : drop at text ≡ output.journal_line (length entries) ++ (rows ++ more) =
-    ap (drop at) is ∙ drop_at (head_text_of h) (journal_text h entries ++ more) at refl ∙ append_assoc (output.journal_line (length entries)) rows more in
+    let header = header_among-head_text h (length text) text (journal_text h entries ++ more) legal.session is in
+    let there : drop at text ≡ count_line (length entries) ++ (rows ++ more) =
+    ap (drop at) is ∙ drop_at (head_text_of h) (journal_text h entries ++ more) at refl ∙ append_assoc (count_line (length entries)) rows more in
     let count = counts_at (length text) text at (length entries) (rows ++ more) (omega (arith, few)) few there in
     listed_commands text (record { session = h; next = at }) (record { entries = length entries; next = count.behind }) (Ok (map sent_by entries)) header count.count
     (entries_at h (length text) text more entries count.behind [] legal.session (steps_sent h (opening h) entries legal.steps) count.rest)
 
 pub outputs_list : OutputsList
 outputs_list h entries strays ending text legal few is =
-    let begins_so = day_begins h entries is.day is.is_day in
+    let begins_so = day_begins h entries (day_text h entries is.books) (day_is h entries is.books is.at_the_end) in
     listed_output h entries text (begins_so.0 ++ last_text strays ending) legal few
-    (is.whole ∙ ap (λ (day : List ℕ). day ++ last_text strays ending) begins_so.1
+    (is.exactly ∙ ap (λ (day : List ℕ). day ++ last_text strays ending) begins_so.1
     ∙ append_assoc (head_text_of h) (journal_text h entries ++ begins_so.0) (last_text strays ending)
     ∙ ap (λ (t : List ℕ). head_text_of h ++ t) (append_assoc (journal_text h entries) begins_so.0 (last_text strays ending)))
 
@@ -228,9 +235,10 @@ yes_of text day strays ending few is =
 complete_by : (text : List ℕ) (is : IsSomeOutput text) (verdict : Verdict) → IsJudged text (record { session = is.session; commands = map sent_by is.entries }) verdict → verdict ≡ yes
 complete_by text is verdict judged =
     let same : judged.entries ≡ is.entries = histories_agree is.session judged.entries is.entries judged.legal is.legal judged.in_order in
-    let day : judged.day ≡ is.output.day = days_agree is.session is.entries judged.day is.output.day is.legal
-    (subst (λ (entries : List Entry). IsDayText is.session entries judged.day) same judged.is_day) is.output.is_day in
-    judged.judged ∙ ap (day_verdict text) day ∙ yes_of text is.output.day is.strays is.ending is.strays_most is.output.whole
+    let its_day : List ℕ = day_text is.session is.entries is.output.books in
+    let day : judged.day ≡ its_day = days_agree is.session is.entries judged.day its_day is.legal
+    (subst (λ (entries : List Entry). IsDayText is.session entries judged.day) same judged.is_day) (day_is is.session is.entries is.output.books is.output.at_the_end) in
+    judged.judged ∙ ap (day_verdict text) day ∙ yes_of text its_day is.strays is.ending is.strays_most is.output.exactly
 
 pub complete : (text : List ℕ) (verdict : Verdict) → IsVerdict text verdict → IsSomeOutput text → verdict ≡ yes
 complete text verdict holds is =

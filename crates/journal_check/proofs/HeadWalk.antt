@@ -28,10 +28,10 @@ use Rattle.session_head.specs.inside.HeadText.{limits_of}
 use Rattle.session_head.specs.declared.reason.HeadReason.{HeadReason}
 use Rattle.session_head.proofs.RoundLemmas.{head_text-read}
 use Rattle.journal_check.specs.Lines.{LineAt, behind, lines_from}
-use Rattle.journal_check.specs.Listed.{headed, header_in}
+use Rattle.journal_check.specs.Listed.{headed, header_among}
 use Rattle.journal_check.specs.declared.header.Headed.{Headed}
 use Rattle.journal_check.proofs.LineLemmas.{parts_of-line}
-use Rattle.journal_check.proofs.HeaderLemmas.{header_in-short, started}
+use Rattle.journal_check.proofs.HeaderLemmas.{header_among-short, started}
 use Rattle.journal_check.proofs.Walking.{IsPlain, unbroken, IsAt-plain, short_line, line_of-plain, ended}
 
 -- Rows: fields that make a line
@@ -260,19 +260,19 @@ size_is : (row : List (List ℕ)) (rest : List ℕ) → length (line_text row ++
 size_is row rest = omega (arith, ap length (row_in_front row rest), length-append (row_text row) (10 ∷ rest))
 
 abbrev LeadsTo : Header → ℕ → List ℕ → ℕ → Head → ℕ → Type 0
-LeadsTo h end text at head behind = header_in end head (lines_from text at) ≡ Ok (record { session = h; next = behind })
+LeadsTo h end text at head behind = header_among end head (lines_from text at) ≡ Ok (record { session = h; next = behind })
 
 -- one line of the header
 step : (end at : ℕ) (text more : List ℕ) (head : Head) (row : List (List ℕ)) → IsRow row → drop at text ≡ row_text row ++ 10 ∷ more
-    → header_in end head (lines_from text at)
-    ≡ headed (record { at = at; part = row_text row }) (with_line head (Whole (row_text row))) (header_in end (with_line head (Whole (row_text row))) (lines_from text (at + length (row_text row) + 1)))
+    → header_among end head (lines_from text at)
+    ≡ headed (record { at = at; part = row_text row }) (with_line head (Whole (row_text row))) (header_among end (with_line head (Whole (row_text row))) (lines_from text (at + length (row_text row) + 1)))
 step end at text more head row is there =
     let part : List ℕ = row_text row in
     let line : LineAt = record { at = at; part = part } in
     let on = IsAt-plain text at part more there (row-plain row is) in
-    ap (header_in end head) on.line
-    ∙ header_in-short end head line (lines_from text (at + length part + 1)) (short_line at part (row-short row is))
-    ∙ ap (λ (l : Line). headed line (with_line head l) (header_in end (with_line head l) (lines_from text (at + length part + 1)))) (row-line row is)
+    ap (header_among end head) on.line
+    ∙ header_among-short end head line (lines_from text (at + length part + 1)) (short_line at part (row-short row is))
+    ∙ ap (λ (l : Line). headed line (with_line head l) (header_among end (with_line head l) (lines_from text (at + length part + 1)))) (row-line row is)
 
 goes_further : (h : Header) (line : LineAt) (head : Head) (on there : Result Headed ℕ) (more : List Line) → GoesOn head → session_of (with_lines head more) ≡ Some h
     → ((n : ℕ) (d : Draft) → head ≡ Drafting n d → on ≡ there) → headed line head on ≡ there
@@ -289,7 +289,7 @@ walk h end text more [] at n d are there whole =
     let part : List ℕ = row_text start_row in
     let after : Head = with_line (Drafting n d) (Whole part) in
     step end at text more (Drafting n d) start_row start_is_row there
-    ∙ started (record { at = at; part = part }) after (header_in end after (lines_from text (at + length part + 1))) h (at + length (flat_map line_text (start_row ∷ []))) whole (omega arith)
+    ∙ started (record { at = at; part = part }) after (header_among end after (lines_from text (at + length part + 1))) h (at + length (flat_map line_text (start_row ∷ []))) whole (omega arith)
 walk h end text more (row ∷ rows) at n d are there whole =
     let part : List ℕ = row_text row in
     let rest : List ℕ = flat_map line_text (rows ++ start_row ∷ []) in
@@ -298,9 +298,9 @@ walk h end text more (row ∷ rows) at n d are there whole =
     let on = IsAt-plain text at part (rest ++ more) here (row-plain row are.0.is_row) in
     let size : at + length part + 1 + length rest ≡ at + length (line_text row ++ rest) = omega (arith, size_is row rest) in
     step end at text (rest ++ more) (Drafting n d) row are.0.is_row here
-    ∙ goes_further h (record { at = at; part = part }) after (header_in end after (lines_from text (at + length part + 1))) (Ok (record { session = h; next = at + length (line_text row ++ rest) }))
+    ∙ goes_further h (record { at = at; part = part }) after (header_among end after (lines_from text (at + length part + 1))) (Ok (record { session = h; next = at + length (line_text row ++ rest) }))
     (lines (rows ++ start_row ∷ [])) (are.0.goes_on n d) whole
-    (λ m e is. ap (λ (head : Head). header_in end head (lines_from text (at + length part + 1))) is
+    (λ m e is. ap (λ (head : Head). header_among end head (lines_from text (at + length part + 1))) is
     ∙ walk h end text more rows (at + length part + 1) m e are.1 on.rest (ap (λ (head : Head). session_of (with_lines head (lines (rows ++ start_row ∷ [])))) (sym is) ∙ whole)
     ∙ ap (λ (k : ℕ). Ok (record { session = h; next = k })) size)
 
@@ -326,9 +326,9 @@ whole h session =
     ∙ head_text-read h session
 
 -- a text that begins with a session's header
-pub header_in-head_text : (h : Header) (end : ℕ) (text more : List ℕ) → IsSession h → text ≡ head_text_of h ++ more
-    → header_in end (Begun 0) (lines_from text 0) ≡ Ok (record { session = h; next = length (head_text_of h) })
-header_in-head_text h end text more session is =
+pub header_among-head_text : (h : Header) (end : ℕ) (text more : List ℕ) → IsSession h → text ≡ head_text_of h ++ more
+    → header_among end (Begun 0) (lines_from text 0) ≡ Ok (record { session = h; next = length (head_text_of h) })
+header_among-head_text h end text more session is =
     let part : List ℕ = row_text version_row in
     let rest : List ℕ = flat_map line_text (fronts h ++ start_row ∷ []) in
     let there : text ≡ part ++ 10 ∷ (rest ++ more) = is ∙ ap (λ (t : List ℕ). (codes "FXBOOK 1\n" ++ t) ++ more) (text-rows h) in
@@ -336,6 +336,6 @@ header_in-head_text h end text more session is =
     let same : length (lines_text h.banks (statements_of h)) ≡ length rest = ap length (text-rows h) in
     let size : 0 + length part + 1 + length rest ≡ length (head_text_of h) = omega (arith, same, length-append (codes "FXBOOK 1\n") (lines_text h.banks (statements_of h))) in
     step end 0 text (rest ++ more) (Begun 0) version_row version_is_row there
-    ∙ ap (λ (head : Head). headed (record { at = 0; part = part }) head (header_in end head (lines_from text (0 + length part + 1)))) version_read
+    ∙ ap (λ (head : Head). headed (record { at = 0; part = part }) head (header_among end head (lines_from text (0 + length part + 1)))) version_read
     ∙ walk h end text more (fronts h) (0 + length part + 1) 1 empty_draft (fronts-are h session) on.rest (whole h session)
     ∙ ap (λ (n : ℕ). Ok (record { session = h; next = n })) size

@@ -1,22 +1,24 @@
 -- A journal that is read line by line.
-use Rattle.std.proofs.Common.{◌≡◌, ℕ, zero, suc, ◌+◌, ◌<◌, Bool, true, false, List, [], ◌∷◌, ◌++◌, length, map, Option, Some, None, Result, Ok, Err, refl, sym, ap, ◌∙◌, arith}
+use Rattle.std.proofs.Common.{◌≡◌, ℕ, zero, suc, ◌+◌, ◌<◌, Bool, true, false, List, [], ◌∷◌, ◌++◌, length, map, Option, Some, None, option_map, ok_or, Result, Ok, Err, refl, sym, ap, ◌∙◌, arith}
 use Rattle.std.proofs.lemmas.Bool.{cond-true, cond-false, lt-ltb, le-ltb}
+use Rattle.fx_text.specs.Faults.{◌>>=◌}
 use Rattle.fx_text.specs.Lines.{line_of, line_seen}
 use Rattle.std.proofs.lemmas.List.{length_push, map-append}
 use Rattle.fx_rules.specs.Session.{Header}
 use Rattle.fx_rules.specs.declared.outcome.Entry.{Entry}
-use Rattle.fx_rules.specs.Sending.{sent_by}
+use Rattle.fx_rules.specs.Sending.{sent_by, sent_of}
 use Rattle.pair_host.specs.Standing.{HostState, stands}
 use Rattle.market_run.specs.Ran.{Ran}
 use Rattle.market_run.specs.Running.{HasServed, GoesOnBy}
 use Rattle.reply_lines.specs.Day.{IsTextOf}
 use Rattle.reply_lines.specs.declared.day.DayText.{DayText}
 use Rattle.order_lines.specs.Grammar.{journal_line}
-use Rattle.journal_check.specs.Lines.{LineAt, is_long, lines_from}
+use Rattle.journal_check.specs.Lines.{LineAt, behind, is_long, lines_from}
 use Rattle.fx_rules.specs.declared.command.Command.{Command}
 use Rattle.fx_rules.specs.declared.command.Sent.{Sent}
-use Rattle.journal_check.specs.Listed.{counted, count_told, count_of, said_by, sent_in, commands_in}
+use Rattle.journal_check.specs.Listed.{count_told, count_among, commands_among}
 use Rattle.journal_check.specs.inside.Stops.{IsReadAt, IsStopAt, Missing, TooLong, ReadsLine, Answers, IsKept, ReadsEntries}
+use Rattle.journal_check.specs.declared.journal.Counted.{Counted}
 use Rattle.journal_check.specs.declared.kept.Kept.{Kept}
 use Rattle.journal_check.specs.declared.line.ReadLine.{ReadLine}
 use Rattle.journal_check.specs.declared.stop.Stop.{Stop}
@@ -24,103 +26,113 @@ use Rattle.journal_check.specs.declared.stop.Stop.TheVariants.{Wrong, Memory}
 
 -- How many entries there are
 
-count_of-long : (end : ℕ) (line : LineAt) (more : List LineAt) → is_long line ≡ true → count_of end (line ∷ more) ≡ Err line.at
-unfolding count_of
-count_of-long end line more long = cond-true (is_long line) _ _ long
+-- a line that tells so many entries, where it tells them
+abbrev pub counted : LineAt → Option ℕ → Result Counted ℕ
+counted line told = ok_or told line.at >>= (λ entries. Ok (record { entries = entries; next = behind line }))
 
-pub count_of-short : (end : ℕ) (line : LineAt) (more : List LineAt) → is_long line ≡ false → count_of end (line ∷ more) ≡ counted line (count_told (line_of line.part))
-unfolding count_of
-count_of-short end line more short = cond-false (is_long line) _ _ short
+count_among-long : (end : ℕ) (line : LineAt) (more : List LineAt) → is_long line ≡ true → count_among end (line ∷ more) ≡ Err line.at
+unfolding count_among
+count_among-long end line more long = cond-true (is_long line) _ _ long
 
-count_of-none : (end : ℕ) → count_of end [] ≡ Err end
-unfolding count_of
-count_of-none end = refl
+pub count_among-short : (end : ℕ) (line : LineAt) (more : List LineAt) → is_long line ≡ false → count_among end (line ∷ more) ≡ counted line (count_told (line_of line.part))
+unfolding count_among
+count_among-short end line more short = cond-false (is_long line) _ _ short
 
-pub count_stops : (text : List ℕ) (at offset : ℕ) → IsStopAt text at offset → count_of (length text) (lines_from text at) ≡ Err offset
-count_stops text at offset (Missing none is) = ap (count_of (length text)) none ∙ count_of-none (length text) ∙ ap (λ (n : ℕ). Err n) (sym is)
+count_among-none : (end : ℕ) → count_among end [] ≡ Err end
+unfolding count_among
+count_among-none end = refl
+
+pub count_stops : (text : List ℕ) (at offset : ℕ) → IsStopAt text at offset → count_among (length text) (lines_from text at) ≡ Err offset
+count_stops text at offset (Missing none is) = ap (count_among (length text)) none ∙ count_among-none (length text) ∙ ap (λ (n : ℕ). Err n) (sym is)
 count_stops text at offset (TooLong part there long is) =
-    ap (count_of (length text)) there.lines
-    ∙ count_of-long (length text) (record { at = at; part = part }) (lines_from text (at + length part + 1)) (lt-ltb 256 (length part) long)
+    ap (count_among (length text)) there.lines
+    ∙ count_among-long (length text) (record { at = at; part = part }) (lines_from text (at + length part + 1)) (lt-ltb 256 (length part) long)
     ∙ ap (λ (n : ℕ). Err n) (sym is)
 
 count_reads : (text : List ℕ) (at : ℕ) (read : ReadLine) (told : Option ℕ) (is : IsReadAt text at read) → told ≡ count_told (line_seen read.line)
-    → count_of (length text) (lines_from text at) ≡ counted (record { at = at; part = is.part }) told
+    → count_among (length text) (lines_from text at) ≡ counted (record { at = at; part = is.part }) told
 count_reads text at read told is then =
-    ap (count_of (length text)) is.there.lines
-    ∙ count_of-short (length text) (record { at = at; part = is.part }) (lines_from text (at + length is.part + 1)) (le-ltb 256 (length is.part) is.short)
+    ap (count_among (length text)) is.there.lines
+    ∙ count_among-short (length text) (record { at = at; part = is.part }) (lines_from text (at + length is.part + 1)) (le-ltb 256 (length is.part) is.short)
     ∙ ap (counted (record { at = at; part = is.part })) (ap (count_told) (sym is.line_is) ∙ sym then)
 
-pub count_wrong : (text : List ℕ) (at : ℕ) (read : ReadLine) → IsReadAt text at read → None ≡ count_told (line_seen read.line) → count_of (length text) (lines_from text at) ≡ Err at
+pub count_wrong : (text : List ℕ) (at : ℕ) (read : ReadLine) → IsReadAt text at read → None ≡ count_told (line_seen read.line) → count_among (length text) (lines_from text at) ≡ Err at
 count_wrong text at read is then = count_reads text at read None is then
 
 pub count_right : (text : List ℕ) (at : ℕ) (read : ReadLine) (entries : ℕ) → IsReadAt text at read → Some entries ≡ count_told (line_seen read.line)
-    → count_of (length text) (lines_from text at) ≡ Ok (record { entries = entries; next = read.next })
+    → count_among (length text) (lines_from text at) ≡ Ok (record { entries = entries; next = read.next })
 count_right text at read entries is then =
     count_reads text at read (Some entries) is then ∙ ap (λ (next : ℕ). Ok (record { entries = entries; next = next })) (sym is.next_is)
 
 -- The entries
 
-commands_in-long : (h : Header) (end : ℕ) (before : List Sent) (count : ℕ) (line : LineAt) (more : List LineAt) → is_long line ≡ true → commands_in h end before (suc count) (line ∷ more) ≡ Err line.at
-unfolding commands_in
-commands_in-long h end before count line more long = cond-true (is_long line) _ _ long
+-- a line of a journal, where it is one: its command is sent behind those before it, and the lines behind it follow
+abbrev pub followed : LineAt → Option (ℕ × Command) → (Sent → Result (List Sent) ℕ) → Result (List Sent) ℕ
+followed line said on = ok_or (option_map sent_of said) line.at >>= on
 
-pub commands_in-short : (h : Header) (end : ℕ) (before : List Sent) (count : ℕ) (line : LineAt) (more : List LineAt) → is_long line ≡ false
-    → commands_in h end before (suc count) (line ∷ more) ≡ sent_in line (journal_line h (line_of line.part)) (λ sent. commands_in h end (before ++ sent ∷ []) count more)
-unfolding commands_in
-commands_in-short h end before count line more short = cond-false (is_long line) _ _ short
+pub commands_among-long : (h : Header) (end : ℕ) (before : List Sent) (count : ℕ) (line : LineAt) (more : List LineAt) → is_long line ≡ true → commands_among h end before (suc count) (line ∷ more) ≡ Err line.at
+unfolding commands_among
+commands_among-long h end before count line more long =
+    ap (λ (r : Result Sent ℕ). r >>= (λ sent. commands_among h end (before ++ sent ∷ []) count more)) (cond-true (is_long line) (Err line.at) _ long)
 
-commands_in-none : (h : Header) (end : ℕ) (before : List Sent) (count : ℕ) → commands_in h end before (suc count) [] ≡ Err end
-unfolding commands_in
-commands_in-none h end before count = refl
+pub commands_among-short : (h : Header) (end : ℕ) (before : List Sent) (count : ℕ) (line : LineAt) (more : List LineAt) → is_long line ≡ false
+    → commands_among h end before (suc count) (line ∷ more) ≡ followed line (journal_line h (line_of line.part)) (λ sent. commands_among h end (before ++ sent ∷ []) count more)
+unfolding commands_among
+commands_among-short h end before count line more short =
+    ap (λ (r : Result Sent ℕ). r >>= (λ sent. commands_among h end (before ++ sent ∷ []) count more)) (cond-false (is_long line) (Err line.at) _ short)
 
-pub commands_in-all : (h : Header) (end : ℕ) (before : List Sent) (count : ℕ) (lines : List LineAt) → count ≡ 0 → commands_in h end before count lines ≡ Ok before
-unfolding commands_in
-commands_in-all h end before zero lines none = refl
-commands_in-all h end before (suc count) lines none = absurd (omega arith)
+commands_among-none : (h : Header) (end : ℕ) (before : List Sent) (count : ℕ) → commands_among h end before (suc count) [] ≡ Err end
+unfolding commands_among
+commands_among-none h end before count = refl
 
-pub commands_stop : (h : Header) (text : List ℕ) (at offset : ℕ) (before : List Sent) (count : ℕ) → 0 < count → IsStopAt text at offset → commands_in h (length text) before count (lines_from text at) ≡ Err offset
+pub commands_among-all : (h : Header) (end : ℕ) (before : List Sent) (count : ℕ) (lines : List LineAt) → count ≡ 0 → commands_among h end before count lines ≡ Ok before
+unfolding commands_among
+commands_among-all h end before zero lines none = refl
+commands_among-all h end before (suc count) lines none = absurd (omega arith)
+
+pub commands_stop : (h : Header) (text : List ℕ) (at offset : ℕ) (before : List Sent) (count : ℕ) → 0 < count → IsStopAt text at offset → commands_among h (length text) before count (lines_from text at) ≡ Err offset
 commands_stop h text at offset before zero some stop = absurd (omega arith)
 commands_stop h text at offset before (suc count) some (Missing none is) =
-    ap (commands_in h (length text) before (suc count)) none ∙ commands_in-none h (length text) before count ∙ ap (λ (n : ℕ). Err n) (sym is)
+    ap (commands_among h (length text) before (suc count)) none ∙ commands_among-none h (length text) before count ∙ ap (λ (n : ℕ). Err n) (sym is)
 commands_stop h text at offset before (suc count) some (TooLong part there long is) =
-    ap (commands_in h (length text) before (suc count)) there.lines
-    ∙ commands_in-long h (length text) before count (record { at = at; part = part }) (lines_from text (at + length part + 1)) (lt-ltb 256 (length part) long)
+    ap (commands_among h (length text) before (suc count)) there.lines
+    ∙ commands_among-long h (length text) before count (record { at = at; part = part }) (lines_from text (at + length part + 1)) (lt-ltb 256 (length part) long)
     ∙ ap (λ (n : ℕ). Err n) (sym is)
 
 commands_read : (h : Header) (text : List ℕ) (at : ℕ) (before : List Sent) (count : ℕ) (read : ReadLine) (said : Option (ℕ × Command)) (is : IsReadAt text at read) → said ≡ journal_line h (line_seen read.line)
-    → commands_in h (length text) before (suc count) (lines_from text at) ≡ sent_in (record { at = at; part = is.part }) said (λ sent. commands_in h (length text) (before ++ sent ∷ []) count (lines_from text read.next))
+    → commands_among h (length text) before (suc count) (lines_from text at) ≡ followed (record { at = at; part = is.part }) said (λ sent. commands_among h (length text) (before ++ sent ∷ []) count (lines_from text read.next))
 commands_read h text at before count read said is then =
     let line : LineAt = record { at = at; part = is.part } in
-    ap (commands_in h (length text) before (suc count)) is.there.lines
-    ∙ commands_in-short h (length text) before count line (lines_from text (at + length is.part + 1)) (le-ltb 256 (length is.part) is.short)
-    ∙ ap (λ (o : Option (ℕ × Command)). sent_in line o (λ sent. commands_in h (length text) (before ++ sent ∷ []) count (lines_from text (at + length is.part + 1)))) (ap (journal_line h) (sym is.line_is) ∙ sym then)
-    ∙ ap (λ (n : ℕ). sent_in line said (λ sent. commands_in h (length text) (before ++ sent ∷ []) count (lines_from text n))) (sym is.next_is)
+    ap (commands_among h (length text) before (suc count)) is.there.lines
+    ∙ commands_among-short h (length text) before count line (lines_from text (at + length is.part + 1)) (le-ltb 256 (length is.part) is.short)
+    ∙ ap (λ (o : Option (ℕ × Command)). followed line o (λ sent. commands_among h (length text) (before ++ sent ∷ []) count (lines_from text (at + length is.part + 1)))) (ap (journal_line h) (sym is.line_is) ∙ sym then)
+    ∙ ap (λ (n : ℕ). followed line said (λ sent. commands_among h (length text) (before ++ sent ∷ []) count (lines_from text n))) (sym is.next_is)
 
 pub commands_wrong : (h : Header) (text : List ℕ) (at : ℕ) (before : List Sent) (count : ℕ) (read : ReadLine) → 0 < count → IsReadAt text at read → None ≡ journal_line h (line_seen read.line)
-    → commands_in h (length text) before count (lines_from text at) ≡ Err at
+    → commands_among h (length text) before count (lines_from text at) ≡ Err at
 commands_wrong h text at before zero read some is then = absurd (omega arith)
 commands_wrong h text at before (suc count) read some is then = commands_read h text at before count read None is then
 
 more_sent : (h : Header) (text : List ℕ) (at : ℕ) (before : List Sent) (count : ℕ) (read : ReadLine) (sent : ℕ × Command) → IsReadAt text at read → Some sent ≡ journal_line h (line_seen read.line)
-    → commands_in h (length text) before (suc count) (lines_from text at) ≡ commands_in h (length text) (before ++ said_by sent ∷ []) count (lines_from text read.next)
+    → commands_among h (length text) before (suc count) (lines_from text at) ≡ commands_among h (length text) (before ++ sent_of sent ∷ []) count (lines_from text read.next)
 more_sent h text at before count read sent is then = commands_read h text at before count read (Some sent) is then
 
-pub commands_more : (h : Header) (text : List ℕ) (at : ℕ) (before after : List Sent) (count left : ℕ) (read : ReadLine) (sent : ℕ × Command) → IsReadAt text at read → Some sent ≡ journal_line h (line_seen read.line) → count ≡ left + 1 → after ≡ before ++ said_by sent ∷ []
-    → commands_in h (length text) before count (lines_from text at) ≡ commands_in h (length text) after left (lines_from text read.next)
+pub commands_more : (h : Header) (text : List ℕ) (at : ℕ) (before after : List Sent) (count left : ℕ) (read : ReadLine) (sent : ℕ × Command) → IsReadAt text at read → Some sent ≡ journal_line h (line_seen read.line) → count ≡ left + 1 → after ≡ before ++ sent_of sent ∷ []
+    → commands_among h (length text) before count (lines_from text at) ≡ commands_among h (length text) after left (lines_from text read.next)
 commands_more h text at before after count left read sent is then one after_is =
     let up : count ≡ suc left = omega arith in
-    ap (λ (n : ℕ). commands_in h (length text) before n (lines_from text at)) up
+    ap (λ (n : ℕ). commands_among h (length text) before n (lines_from text at)) up
     ∙ more_sent h text at before left read sent is then
-    ∙ ap (λ (b : List Sent). commands_in h (length text) b left (lines_from text read.next)) (sym after_is)
+    ∙ ap (λ (b : List Sent). commands_among h (length text) b left (lines_from text read.next)) (sym after_is)
 
 -- No line can be read
 
-pub count_stopped : (text : List ℕ) (at : ℕ) (stop : Stop) → ReadsLine text at (Err stop) → Answers (Err stop) (count_of (length text) (lines_from text at))
+pub count_stopped : (text : List ℕ) (at : ℕ) (stop : Stop) → ReadsLine text at (Err stop) → Answers (Err stop) (count_among (length text) (lines_from text at))
 count_stopped text at (Wrong offset) stops = count_stops text at offset stops
 count_stopped text at (Memory memory) stops = absurd stops
 
 pub commands_stopped : (h : Header) (whole : Bool) (kept : Kept) (text : List ℕ) (at : ℕ) (before : List Sent) (count : ℕ) (stop : Stop) (there : Result (List Sent) ℕ) → 0 < count → ReadsLine text at (Err stop)
-    → there ≡ commands_in h (length text) before count (lines_from text at) → ReadsEntries h whole kept (Err stop) there
+    → there ≡ commands_among h (length text) before count (lines_from text at) → ReadsEntries h whole kept (Err stop) there
 commands_stopped h whole kept text at before count (Wrong offset) there some stops is = is ∙ commands_stop h text at offset before count some stops
 commands_stopped h whole kept text at before count (Memory memory) there some stops is = absurd stops
 
@@ -131,16 +143,16 @@ pub record HasReadSome (h : Header) (text : List ℕ) (there : Result (List Sent
   pub entries : List Entry
   pub has_served : HasServed stands IsTextOf h entries run
   pub size : length entries ≡ count
-  pub reads : there ≡ commands_in h (length text) (map sent_by entries) left (lines_from text at)
+  pub reads : there ≡ commands_among h (length text) (map sent_by entries) left (lines_from text at)
   pub is_kept : IsKept whole entries kept
 
 -- one more was read
 pub entry_read : (h : Header) (text : List ℕ) (there : Result (List Sent) ℕ) (whole : Bool) (kept kept' : Kept) (was now : Ran HostState DayText) (count left left' at : ℕ) (read : ReadLine) (said : ℕ × Command) (e : Entry)
     → HasReadSome h text there whole kept was count left at → IsReadAt text at read → Some said ≡ journal_line h (line_seen read.line) → left ≡ left' + 1
-    → sent_by e ≡ said_by said → GoesOnBy stands IsTextOf h was now e → ((entries : List Entry) → IsKept whole entries kept → IsKept whole (entries ++ e ∷ []) kept')
+    → sent_by e ≡ sent_of said → GoesOnBy stands IsTextOf h was now e → ((entries : List Entry) → IsKept whole entries kept → IsKept whole (entries ++ e ∷ []) kept')
     → HasReadSome h text there whole kept' now (count + 1) left' read.next
 entry_read h text there whole kept kept' was now count left left' at read said e has is then one sent_is on keeps =
-    let sent : map sent_by (has.entries ++ e ∷ []) ≡ map sent_by has.entries ++ said_by said ∷ [] =
+    let sent : map sent_by (has.entries ++ e ∷ []) ≡ map sent_by has.entries ++ sent_of said ∷ [] =
     map-append sent_by has.entries (e ∷ []) ∙ ap (λ (s : Sent). map sent_by has.entries ++ s ∷ []) sent_is in
     record {
       entries = has.entries ++ e ∷ [];

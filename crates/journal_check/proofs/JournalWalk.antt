@@ -1,9 +1,10 @@
 -- The journal of a history is read as its commands.
-use Rattle.std.proofs.Common.{◌≡◌, ℕ, suc, ◌+◌, ◌^◌, ◌<◌, ◌≤◌, true, List, [], ◌∷◌, ◌++◌, length, map, take, drop, codes, Some, Option, Ok, refl, sym, ap, ◌∙◌, subst, arith, append_assoc, append-nil, leb, inl, inr}
+use Rattle.std.proofs.Common.{◌≡◌, ℕ, suc, ◌+◌, ◌^◌, ◌<◌, ◌≤◌, ◌==◌, ◌&&◌, if◌then◌else◌, bytes_eq, true, List, [], ◌∷◌, ◌++◌, length, map, take, drop, codes, Some, None, Option, Ok, refl, sym, ap, ◌∙◌, subst, arith, append_assoc, append-nil, leb, inl, inr}
 use Rattle.std.specs.Str.Lines.{strip_carriage_return}
 use Rattle.std.proofs.lemmas.Bool.{cases_Bool, leb-true, cond-true, cond-false}
 use Rattle.fx_amounts.specs.Numeral.{numeral}
-use Rattle.fx_text.specs.Fields.{first_field}
+use Rattle.fx_text.specs.Fields.{first_field, field_at}
+use Rattle.fx_text.specs.Number.{number_of}
 use Rattle.fx_text.specs.Lines.{line_of}
 use Rattle.fx_text.specs.declared.line.Line.{Line}
 use Rattle.fx_text.specs.declared.line.Line.TheVariants.{Whole, Long}
@@ -14,16 +15,16 @@ use Rattle.order_lines.specs.Spelling.{command_text_of}
 use Rattle.fx_text.proofs.FieldTexts.{IsField-tested, IsField-numeral}
 use Rattle.fx_text.proofs.JoinedFields.{fields_of-join, join-visible, length-join, IsField}
 use Rattle.order_lines.proofs.WrittenCommands.{IsWritten-command}
-use Rattle.reply_lines.specs.Output as output
+use Rattle.reply_lines.specs.inside.Journals.{count_line}
 use Rattle.reply_lines.specs.Output.{entry_line, journal_text}
 use Rattle.std.specs.List.{flat_map, join_with_byte, AllByRecursion}
 use Rattle.fx_rules.proofs.Senders.{suits-sender}
 use Rattle.journal_check.specs.Lines.{LineAt, lines_from}
 use Rattle.fx_rules.specs.declared.command.Command.{Command}
 use Rattle.fx_rules.specs.declared.command.Sent.{Sent}
-use Rattle.journal_check.specs.Listed.{most_entries, counted, count_in, count_told, count_of, sent_in, commands_in}
+use Rattle.journal_check.specs.Listed.{most_entries, count_told, count_among, commands_among}
 use Rattle.fx_rules.specs.Sending.{sent_by}
-use Rattle.journal_check.proofs.JournalLemmas.{count_of-short, commands_in-short, commands_in-all}
+use Rattle.journal_check.proofs.JournalLemmas.{counted, followed, count_among-short, commands_among-short, commands_among-all}
 use Rattle.journal_check.proofs.Walking.{IsPlain, IsAt-plain, short_line, line_of-plain, ended}
 use Rattle.journal_check.proofs.Histories.{AreSentOf}
 
@@ -43,9 +44,13 @@ unfolding count_fields
 are_fields n small = (journal_word, (IsField-numeral n small, tt))
 
 -- the line, as it is written
-journal_line-part : (n : ℕ) → output.journal_line n ≡ count_part n ++ 10 ∷ []
-unfolding output.journal_line count_part count_fields
-journal_line-part n = ap (λ (t : List ℕ). codes "JOURNAL" ++ 32 ∷ t ++ 10 ∷ []) (append-nil (numeral n)) ∙ sym (append_assoc (codes "JOURNAL") (32 ∷ numeral n) (10 ∷ []))
+count_line-part : (n : ℕ) → count_line n ≡ count_part n ++ 10 ∷ []
+unfolding count_line count_part count_fields
+count_line-part n = ap (λ (t : List ℕ). codes "JOURNAL" ++ 32 ∷ t ++ 10 ∷ []) (append-nil (numeral n)) ∙ sym (append_assoc (codes "JOURNAL") (32 ∷ numeral n) (10 ∷ []))
+
+-- what the fields of a line tell
+abbrev count_in : List (List ℕ) → Option ℕ
+count_in fields = if (length fields == 2) && bytes_eq (field_at fields 0) (codes "JOURNAL") then number_of 0 most_entries (field_at fields 1) else None
 
 told : (n : ℕ) → n < 10 ^ 20 → n ≤ most_entries → count_told (Whole (count_part n)) ≡ Some n
 unfolding count_part count_fields
@@ -64,19 +69,19 @@ count_plain n small = join-visible (count_fields n) (are_fields n small)
 -- a text in which the journal's first line stands at an offset
 pub record CountsAt (end : ℕ) (text : List ℕ) (at n : ℕ) (more : List ℕ) : Type 0 where
   pub behind : ℕ
-  pub count : count_of end (lines_from text at) ≡ Ok (record { entries = n; next = behind })
+  pub count : count_among end (lines_from text at) ≡ Ok (record { entries = n; next = behind })
   pub rest : drop behind text ≡ more
 
-pub counts_at : (end : ℕ) (text : List ℕ) (at n : ℕ) (more : List ℕ) → n < 10 ^ 20 → n ≤ most_entries → drop at text ≡ output.journal_line n ++ more → CountsAt end text at n more
+pub counts_at : (end : ℕ) (text : List ℕ) (at n : ℕ) (more : List ℕ) → n < 10 ^ 20 → n ≤ most_entries → drop at text ≡ count_line n ++ more → CountsAt end text at n more
 counts_at end text at n more small few there =
     let part : List ℕ = count_part n in
-    let here : drop at text ≡ part ++ 10 ∷ more = there ∙ ap (λ (t : List ℕ). t ++ more) (journal_line-part n) ∙ ended part more in
+    let here : drop at text ≡ part ++ 10 ∷ more = there ∙ ap (λ (t : List ℕ). t ++ more) (count_line-part n) ∙ ended part more in
     let flat = count_plain n small in
     let on = IsAt-plain text at part more here flat in
     record {
       behind = at + length part + 1;
-      count = ap (count_of end) on.line
-          ∙ count_of-short end (record { at = at; part = part }) (lines_from text (at + length part + 1)) (short_line at part (count_short n small))
+      count = ap (count_among end) on.line
+          ∙ count_among-short end (record { at = at; part = part }) (lines_from text (at + length part + 1)) (short_line at part (count_short n small))
           ∙ ap (λ (l : Line). counted (record { at = at; part = part }) (count_told l)) (line_of-plain part flat (count_short n small))
           ∙ ap (counted (record { at = at; part = part })) (told n small few);
       rest = on.rest;
@@ -97,8 +102,8 @@ whole_short part whole = elim (cases_Bool (leb (length (strip_carriage_return pa
 ]
 
 pub entries_at : (h : Header) (end : ℕ) (text more : List ℕ) (entries : List Entry) (at : ℕ) (before : List Sent) → IsSession h → AreSentOf h entries → drop at text ≡ flat_map (entry_line h) entries ++ more
-    → commands_in h end before (length entries) (lines_from text at) ≡ Ok (before ++ map sent_by entries)
-entries_at h end text more [] at before session are there = commands_in-all h end before 0 (lines_from text at) refl ∙ ap (λ (s : List Sent). Ok s) (sym (append-nil before))
+    → commands_among h end before (length entries) (lines_from text at) ≡ Ok (before ++ map sent_by entries)
+entries_at h end text more [] at before session are there = commands_among-all h end before 0 (lines_from text at) refl ∙ ap (λ (s : List Sent). Ok s) (sym (append-nil before))
 entries_at h end text more (e ∷ es) at before session are there =
     let part : List ℕ = command_text_of h e.bank e.command in
     let rest : List ℕ = flat_map (entry_line h) es ++ more in
@@ -106,8 +111,8 @@ entries_at h end text more (e ∷ es) at before session are there =
     let here : drop at text ≡ part ++ 10 ∷ rest = there ∙ append_assoc (part ++ 10 ∷ []) (flat_map (entry_line h) es) more ∙ ended part rest in
     let on = IsAt-plain text at part rest here written.visible in
     let line : LineAt = record { at = at; part = part } in
-    ap (commands_in h end before (suc (length es))) on.line
-    ∙ commands_in-short h end before (length es) line (lines_from text (at + length part + 1)) (short_line at part (whole_short part written.whole))
-    ∙ ap (λ (said : Option (ℕ × Command)). sent_in line said (λ one. commands_in h end (before ++ one ∷ []) (length es) (lines_from text (at + length part + 1)))) written.read_back
+    ap (commands_among h end before (suc (length es))) on.line
+    ∙ commands_among-short h end before (length es) line (lines_from text (at + length part + 1)) (short_line at part (whole_short part written.whole))
+    ∙ ap (λ (said : Option (ℕ × Command)). followed line said (λ one. commands_among h end (before ++ one ∷ []) (length es) (lines_from text (at + length part + 1)))) written.read_back
     ∙ entries_at h end text more es (at + length part + 1) (before ++ sent_by e ∷ []) session are.1 on.rest
     ∙ ap (λ (s : List Sent). Ok s) (append_assoc before (sent_by e ∷ []) (map sent_by es))

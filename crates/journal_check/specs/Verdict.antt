@@ -13,9 +13,9 @@ use Rattle.journal_check.specs.Compared.{beginning}
 use Rattle.journal_check.specs.declared.check.Verdict.{Verdict}
 use Rattle.journal_check.specs.declared.check.Verdict.TheVariants.{Yes, No}
 
--- the verdict on an output
+-- the verdict on an output, with the one `Passed`
 abbrev pub yes : Verdict
-yes = Yes
+yes = Yes (record { 0 = tt })
 
 -- The last lines
 

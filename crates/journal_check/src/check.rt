@@ -2,6 +2,7 @@ ghost use Rattle.std.specs.Prelude.{◌≡◌, IfOk};
 ghost use Rattle.journal_check.specs.Verdict.{yes, IsVerdict, IsSomeOutput};
 
 use crate::judging::judge;
+use crate::last::Passed;
 use crate::stop::Stop;
 use fx_amounts::Memory;
 use std::alloc::Global;
@@ -9,8 +10,8 @@ use std::alloc::Global;
 /// Whether a text is the output of a legal history.
 #[derive(Clone, Copy, Debug, PartialEq, Eq)]
 pub enum Verdict {
-    /// It is the output of a legal history of at most 2^28 entries.
-    Yes,
+    /// It is the output of a legal history of at most 2^28 entries. Only the check makes a `Passed`.
+    Yes(Passed),
     /// It is not.
     No {
         /// The first byte or line, counted in bytes from the text's beginning, at which it is not.

@@ -1,7 +1,7 @@
 ghost use Rattle.std.specs.Prelude.{◌≡◌, ◌≤◌, length, IfOk, Some};
 ghost use Rattle.session_head.specs.Head.{Begun, IsStarted, session_of};
 ghost use Rattle.journal_check.specs.Lines.{lines_from};
-ghost use Rattle.journal_check.specs.Listed.{header_in};
+ghost use Rattle.journal_check.specs.Listed.{header_among};
 ghost use Rattle.journal_check.specs.inside.Stops.{Answers};
 
 use crate::line::read_line;
@@ -20,7 +20,7 @@ pub(crate) struct Headed {
 
 /// Reads the header of a text up to START. At a fault the answer is wrong where its line begins.
 pub(crate) fn read_header(alloc: Global, text: &[u8]) -> Result<Headed, Stop>
-    ensures answers { Answers result (header_in (length text.now) (Begun 0) (lines_from text.now 0)) }
+    ensures answers { Answers result (header_among (length text.now) (Begun 0) (lines_from text.now 0)) }
     ensures within { IfOk result (λ headed. headed.next ≤ length text.now) }
 {
     let mut reader = HeadReader::new(alloc);

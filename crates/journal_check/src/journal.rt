@@ -1,7 +1,7 @@
 ghost use Rattle.std.specs.Prelude.{◌≡◌, ◌≤◌, ◌^◌, length, [], IfOk, IfSome};
 ghost use Rattle.fx_text.specs.Lines.{line_seen};
 ghost use Rattle.journal_check.specs.Lines.{lines_from};
-ghost use Rattle.journal_check.specs.Listed.{count_of, count_told, commands_in, most_entries};
+ghost use Rattle.journal_check.specs.Listed.{count_among, count_told, commands_among, most_entries};
 ghost use Rattle.journal_check.specs.inside.Stops.{Answers, IsKept, ReadsEntries};
 
 use crate::kept::Kept;
@@ -30,7 +30,7 @@ pub(crate) struct Counted {
 /// Reads the line that begins a journal: `JOURNAL` and how many entries it has, at most 2^28.
 pub(crate) fn read_count(text: &[u8], at: usize) -> Result<Counted, Stop>
     requires { at ≤ length text.now }
-    ensures answers { Answers result (count_of (length text.now) (lines_from text.now at)) }
+    ensures answers { Answers result (count_among (length text.now) (lines_from text.now at)) }
     ensures within { IfOk result (λ counted. counted.next ≤ length text.now) }
     ensures few { IfOk result (λ counted. counted.entries ≤ 2 ^ 28) }
 {
@@ -75,7 +75,7 @@ pub(crate) fn read_entries(
     requires few { counted.now.entries ≤ 2 ^ 28 }
     requires none { IsKept kept.old.whole [] kept.old }
     ensures run { ReadsEntries session.now kept.old.whole kept.new result
-        (commands_in session.now (length text.now) [] counted.now.entries (lines_from text.now counted.now.next)) }
+        (commands_among session.now (length text.now) [] counted.now.entries (lines_from text.now counted.now.next)) }
 {
     let host = PairHost::open(alloc, session)?;
     let mut run = Run::open(session, host, DayText::open(alloc, session)?);

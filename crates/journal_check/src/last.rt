@@ -6,6 +6,11 @@ use crate::check::Verdict;
 use crate::line::line_at;
 use fx_text::number;
 
+/// That a text passed the check. It is made here alone, where a text that is right up to its last line ends behind that line, so
+/// that nobody can say `Verdict::Yes` who did not ask the check.
+#[derive(Clone, Copy, Debug, PartialEq, Eq)]
+pub struct Passed(());
+
 /// The verdict on a text that is right up to an offset, by its last lines.
 #[tactic(auto, unfolding(crate::specs::Verdict::last_in))]
 pub(crate) fn last_lines(text: &[u8], at: usize) -> Verdict
@@ -34,7 +39,7 @@ fn ending_line(text: &[u8], at: usize) -> Verdict
     }
     let end = at + line.len() + 1;
     if end == text.len() {
-        Verdict::Yes
+        Verdict::Yes(Passed(()))
     } else {
         wrong(end)
     }

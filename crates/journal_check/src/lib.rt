@@ -15,5 +15,6 @@ mod read;
 mod stop;
 
 pub use check::{Verdict, check_output};
+pub use last::Passed;
 pub use laws::{outputs_agree, outputs_list, verdicts_agree};
 pub use read::{Read, check_read};

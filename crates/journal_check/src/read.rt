@@ -41,7 +41,7 @@ fn read_of(judged: Judged) -> Read
     ensures read { (text : List ℕ) → IsJudgedAs text true judged → IsRead text result }
 {
     match judged.verdict {
-        Verdict::Yes => Read::Yes {
+        Verdict::Yes(_) => Read::Yes {
             session: judged.session,
             entries: EntryList::from_vec(judged.entries),
         },

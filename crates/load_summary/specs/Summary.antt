@@ -3,7 +3,7 @@ use Rattle.std.specs.Prelude.{ℕ, ◌≡◌, List, [], ◌∷◌, length, map}
 use Rattle.fx_rules.specs.declared.outcome.Entry.{Entry}
 use Rattle.fx_rules.specs.History.{IsLegal, state}
 use Rattle.fx_rules.specs.Sending.{sent_by}
-use Rattle.journal_check.specs.declared.check.Verdict.TheVariants.{Yes}
+use Rattle.journal_check.specs.Verdict.{yes}
 use Rattle.made_session.specs.Session.{made_header}
 use Rattle.made_session.specs.Commands.{made_commands}
 use Rattle.made_session.specs.Totals.{fills_told, lots_told}
@@ -13,7 +13,7 @@ use Rattle.load_summary.specs.Lines.{three_lines}
 -- entries as commands, and the check says yes.
 abbrev pub load_text : ℕ → ℕ → ℕ → ℕ → ℕ → ℕ → ℕ → List ℕ
 load_text seed banks pairs commands fills lots resting =
-    three_lines (seed ∷ banks ∷ pairs ∷ commands ∷ []) (commands ∷ fills ∷ lots ∷ resting ∷ []) commands Yes
+    three_lines (seed ∷ banks ∷ pairs ∷ commands ∷ []) (commands ∷ fills ∷ lots ∷ resting ∷ []) commands yes
 
 -- The text tells of a legal history of the session that is made from these numbers, whose commands are the made ones in their
 -- order: its fills, the lots of them all, and how many orders rest at its end.

@@ -6,7 +6,9 @@ mod laws;
 mod lines;
 mod load;
 mod serial;
+mod summary;
 mod threaded;
 
 pub use laws::summaries_agree;
 pub use load::load_summary;
+pub use summary::Summary;

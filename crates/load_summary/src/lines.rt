@@ -1,36 +1,15 @@
-ghost use Rattle.std.specs.Prelude.{◌≡◌, ◌∷◌, ◌++◌, IfOk, OnOk};
+ghost use Rattle.std.specs.Prelude.{◌≡◌, ◌∷◌, ◌++◌, OnOk};
 ghost use Rattle.fx_amounts.specs.Numeral.{numeral};
-ghost use Rattle.load_summary.specs.Lines.{counts_line, verdict_word, threads_line, three_lines};
-ghost use Rattle.load_summary.specs.inside.Summary.{counts_of};
+ghost use Rattle.load_summary.specs.Lines.{counts_line, verdict_word, threads_line};
 
-use crate::serial::SerialTotals;
 use crate::threaded::ThreadedCheck;
 use fx_amounts::Memory;
 use fx_text::push_number;
 use journal_check::Verdict;
-use std::alloc::Global;
-
-/// The three lines of a summary: the numbers that it was made from, what the commands came to in order, and how they came out on
-/// threads.
-#[tactic(auto, unfolding(crate::specs::Lines::three_lines))]
-pub(crate) fn make_lines(
-    alloc: Global,
-    made_from: &[u64],
-    serial: SerialTotals,
-    threaded: ThreadedCheck,
-) -> Result<Vec<u8>, Memory>
-    ensures lines { IfOk result (λ text. text.items ≡ three_lines made_from.now (counts_of serial) threaded.entries threaded.verdict) }
-{
-    let mut text = Vec::new(alloc);
-    push_counts(b"LOAD", made_from, &mut text)?;
-    push_counts(b"SERIAL", &serial.counts(), &mut text)?;
-    push_threads(threaded, &mut text)?;
-    Ok(text)
-}
 
 /// Appends a line: a word, and counts behind it.
 #[tactic(auto, using(crate::proofs::Counting::counts_more), unfolding(crate::specs::Lines::counts_line))]
-fn push_counts(word: &[u8], counts: &[u64], text: &mut Vec<u8>) -> Result<(), Memory>
+pub(crate) fn push_counts(word: &[u8], counts: &[u64], text: &mut Vec<u8>) -> Result<(), Memory>
     ensures ok { OnOk result (text.new.items ≡ text.old.items ++ counts_line word.now counts.now) }
 {
     text.extend_from_slice(word)?;
@@ -43,7 +22,7 @@ fn push_counts(word: &[u8], counts: &[u64], text: &mut Vec<u8>) -> Result<(), Me
 
 /// Appends the line that tells of a run on threads.
 #[tactic(auto, unfolding(crate::specs::Lines::threads_line))]
-fn push_threads(threaded: ThreadedCheck, text: &mut Vec<u8>) -> Result<(), Memory>
+pub(crate) fn push_threads(threaded: ThreadedCheck, text: &mut Vec<u8>) -> Result<(), Memory>
     ensures ok { OnOk result (text.new.items ≡ text.old.items ++ threads_line threaded.entries threaded.verdict) }
 {
     text.extend_from_slice(b"THREADS")?;
@@ -68,7 +47,7 @@ fn push_verdict(verdict: Verdict, text: &mut Vec<u8>) -> Result<(), Memory>
     ensures ok { OnOk result (text.new.items ≡ text.old.items ++ verdict_word verdict) }
 {
     match verdict {
-        Verdict::Yes => {
+        Verdict::Yes(_) => {
             text.extend_from_slice(b"YES")?;
             Ok(())
         }

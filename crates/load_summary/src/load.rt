@@ -1,8 +1,10 @@
-ghost use Rattle.std.specs.Prelude.{◌≤◌, IfOk};
+ghost use Rattle.std.specs.Prelude.{◌≡◌, ◌≤◌, IfOk};
+ghost use Rattle.journal_check.specs.Verdict.{yes};
+ghost use Rattle.load_summary.specs.Lines.{text_of};
 ghost use Rattle.load_summary.specs.Summary.{IsSummary};
 
-use crate::lines::make_lines;
 use crate::serial::serial_totals;
+use crate::summary::Summary;
 use crate::threaded::threaded_check;
 use fx_amounts::Memory;
 use fx_rules::Gate;
@@ -11,9 +13,9 @@ use std::sync::Wait;
 use std::thread::Threads;
 
 /// Makes a session and its commands from a number, runs them in the order in which they were made on one host over the pair books, runs
-/// each bank's in its order in at most `workers` threads (1 or more), and checks the output of the second run. The answer
-/// is three lines on it, which the first four numbers determine: 2 to 64 banks, 1 to 32 pairs, 1 to 20,000 commands. It may
-/// wait.
+/// each bank's in its order in at most `workers` threads (1 or more), and checks the output of the second run. What it tells
+/// is determined by the first four numbers: 2 to 64 banks, 1 to 32 pairs, 1 to 20,000 commands. The verdict is the check's own,
+/// which says yes. It may wait.
 pub fn load_summary<R: AllocGlobal + Threads + Wait + Sync, G: Gate + Sync>(
     rt: &R,
     seed: u64,
@@ -22,12 +24,13 @@ pub fn load_summary<R: AllocGlobal + Threads + Wait + Sync, G: Gate + Sync>(
     commands: u32,
     workers: u32,
     gate: &G,
-) -> Result<Vec<u8>, Memory>
+) -> Result<Summary, Memory>
     requires banks { (2 ≤ banks) × (banks ≤ 64) }
     requires pairs { (1 ≤ pairs) × (pairs ≤ 32) }
     requires commands { (1 ≤ commands) × (commands ≤ 20000) }
     requires workers { 1 ≤ workers }
-    ensures summary { IfOk result (λ text. IsSummary seed banks pairs commands text.items) }
+    ensures summary { IfOk result (λ summary. IsSummary seed banks pairs commands (text_of summary)) }
+    ensures checked { IfOk result (λ summary. summary.threaded.verdict ≡ yes) }
 {
     let (session, sent) = load_session(rt.alloc(), seed, banks, pairs, commands)?;
     let serial = serial_totals(rt.alloc(), &session, &sent)?;
@@ -38,5 +41,9 @@ pub fn load_summary<R: AllocGlobal + Threads + Wait + Sync, G: Gate + Sync>(
         u64::from(pairs),
         u64::from(commands),
     ];
-    make_lines(rt.alloc(), &made_from, serial, threaded)
+    Ok(Summary {
+        made_from,
+        serial,
+        threaded,
+    })
 }

@@ -1,7 +1,8 @@
 ghost use Rattle.std.specs.Prelude.{◌≡◌, ◌<◌, ◌^◌, IfOk, length};
 ghost use Rattle.fx_rules.specs.Lists.{Each};
 ghost use Rattle.fx_rules.specs.Sending.{IsSentOf};
-ghost use Rattle.load_summary.specs.inside.Summary.{counts_of, ComesTo};
+ghost use Rattle.load_summary.specs.Lines.{counts_of};
+ghost use Rattle.load_summary.specs.inside.Summary.{ComesTo};
 
 use fx_amounts::Memory;
 use fx_rules::{Sent, Session};

@@ -3,6 +3,7 @@ ghost use Rattle.fx_rules.specs.Lists.{Each};
 ghost use Rattle.fx_rules.specs.Sending.{IsSentOf};
 ghost use Rattle.fx_rules.specs.History.{IsLegal, state};
 ghost use Rattle.pair_host.specs.Standing.{StandsFor};
+ghost use Rattle.journal_check.specs.Verdict.{yes};
 
 use fx_amounts::Memory;
 use fx_edges::SteadySink;
@@ -37,7 +38,7 @@ pub(crate) fn threaded_check<R: AllocGlobal + Threads + Wait + Sync, G: Gate + S
     requires few { length sent.now ≤ 2 ^ 28 }
     requires workers { 1 ≤ workers }
     ensures entries { IfOk result (λ threaded. threaded.entries ≡ length sent.now) }
-    ensures verdict { IfOk result (λ threaded. threaded.verdict ≡ Verdict.Yes) }
+    ensures verdict { IfOk result (λ threaded. threaded.verdict ≡ yes) }
 {
     let (history, market) = run_on_threads(rt, session, sent, workers, gate)?;
     let verdict = check_history(rt.alloc(), session, &history, &market)?;
@@ -57,7 +58,7 @@ fn check_history(
     requires legal { IsLegal session.now entries.now }
     requires few { length entries.now ≤ 2 ^ 28 }
     requires market { StandsFor session.now (state session.now entries.now) market.now }
-    ensures verdict { IfOk result (λ verdict. verdict ≡ Verdict.Yes) }
+    ensures verdict { IfOk result (λ verdict. verdict ≡ yes) }
 {
     let mut output = SteadySink::new(alloc);
     match write_output_from(alloc, session, entries, market, 0, Ending::End, &mut output) {

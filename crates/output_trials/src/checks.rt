@@ -40,7 +40,7 @@ fn is_right_whole(alloc: Global, text: &[u8]) -> Result<bool, Memory> {
             return Ok(false);
         }
     }
-    Ok(check_output(alloc, text)? == Verdict::Yes)
+    Ok(matches!(check_output(alloc, text)?, Verdict::Yes(_)))
 }
 
 #[test]
@@ -148,7 +148,7 @@ fn wrong_at(
 ) -> Result<Option<u64>, Memory> {
     let changed = spliced(alloc, text, at, count, piece)?;
     match check_output(alloc, &changed)? {
-        Verdict::Yes => Ok(None),
+        Verdict::Yes(_) => Ok(None),
         Verdict::No { offset } => Ok(Some(offset)),
     }
 }

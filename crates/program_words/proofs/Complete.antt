@@ -20,7 +20,7 @@ use Rattle.program_words.specs.declared.reading.WordsFault.TheVariants.{Usage, M
 use Rattle.program_words.proofs.MatchedLemmas.{some_is}
 use Rattle.program_words.specs.declared.task.Task.{Task}
 use Rattle.program_words.specs.declared.task.Task.TheVariants.{Run, Serial, Check, Payments}
-use Rattle.program_words.specs.Forms.{◌>>=◌, workers_of, run_of, alone, load_of, form_of, payments_of, task_of}
+use Rattle.program_words.specs.Forms.{◌>>=◌, workers_of, alone, load_of, form_of, payments_of, task_of}
 use Rattle.program_words.proofs.Walking.{IsPlain, plain}
 use Rattle.program_words.proofs.Taken.{IsTaken, load_alone, load_with, run_with, run_alone, serial_alone, check_alone, payments_taken_by}
 
@@ -59,7 +59,10 @@ has_option word count value e = go (bytes_eq word (codes "--workers")) refl e
     go true is given = record { name = (bytes_eq-Decides word (codes "--workers")).0 is; plain = no_hyphen 1 64 value count given }
     go false is given = absurd (none-some value given)
 
--- `run`
+-- `run` or `run --workers N`, by the words behind `run`
+abbrev pub run_of : List (List ℕ) → Option Task
+run_of rest = workers_of rest >>= (λ workers. Some (Run workers))
+
 run_taken : (rest : List Text) (task : Task) → run_of rest ≡ Some task → IsTaken (codes "run" ∷ rest)
 run_taken [] task e = run_alone
 run_taken (word ∷ []) task e = absurd (none-some task e)

@@ -7,9 +7,9 @@ use Rattle.fx_text.proofs.NumberLemmas.{Reads, Reads-number_of}
 use Rattle.clap.specs.Words.{Text}
 use Rattle.program_words.specs.declared.task.Task.{Task}
 use Rattle.program_words.specs.declared.task.Task.TheVariants.{Run, Serial, Check, Load, Payments}
-use Rattle.program_words.specs.Forms.{◌>>=◌, workers_of, run_of, alone, load_of, form_of, payments_of, task_of, AreWorkers, IsTask}
+use Rattle.program_words.specs.Forms.{◌>>=◌, workers_of, alone, load_of, form_of, payments_of, task_of, AreWorkers, IsTask}
 use Rattle.program_words.proofs.MatchedLemmas.{some_is}
-use Rattle.program_words.proofs.Complete.{gave}
+use Rattle.program_words.proofs.Complete.{gave, run_of}
 
 record InRange (least most value : ℕ) : Type 0 where
   low : least ≤ value

@@ -18,10 +18,6 @@ workers_of [] = Some 4
 workers_of (option ∷ count ∷ []) = if bytes_eq option (codes "--workers") then number_of 1 64 count else None
 workers_of _ = None
 
--- `run` or `run --workers N`, by the words behind `run`
-abbrev pub run_of : List (List ℕ) → Option Task
-run_of rest = workers_of rest >>= (λ workers. Some (Run workers))
-
 -- a word that stands alone
 abbrev pub alone : Task → List (List ℕ) → Option Task
 alone task [] = Some task
@@ -47,16 +43,14 @@ form_of word =
 
 -- `payments bilateral` or `payments net`, by the words behind `payments`
 abbrev pub payments_of : List (List ℕ) → Option Task
-payments_of (word ∷ []) = do
-  form ← form_of word
-  Some (Payments form)
+payments_of (word ∷ []) = form_of word >>= (λ form. Some (Payments form))
 payments_of _ = None
 
 -- what the words ask for; none where they are in none of the forms
 abbrev pub task_of : List (List ℕ) → Option Task
 task_of [] = None
 task_of (word ∷ rest) =
-    if bytes_eq word (codes "run") then run_of rest
+    if bytes_eq word (codes "run") then workers_of rest >>= (λ workers. Some (Run workers))
     else if bytes_eq word (codes "serial") then alone Serial rest
     else if bytes_eq word (codes "check") then alone Check rest
     else if bytes_eq word (codes "load") then load_of rest

@@ -4,7 +4,8 @@ use Rattle.std.specs.List.{flat_map}
 use Rattle.fx_rules.specs.declared.outcome.Entry.{Entry}
 use Rattle.fx_rules.specs.Session.{Header}
 use Rattle.order_lines.specs.Spelling.{command_text_of}
-use Rattle.reply_lines.specs.Output.{entry_line, journal_line, journal_text}
+use Rattle.reply_lines.specs.Output.{entry_line, journal_text}
+use Rattle.reply_lines.specs.inside.Journals.{count_line}
 use Rattle.reply_lines.proofs.Items.{flat_last}
 
 -- one entry's line behind the others
@@ -21,6 +22,6 @@ pub lines-counted : (h : Header) (entries : List Entry) (e : Entry) → length e
 lines-counted h entries e = omega (arith, counted h (entries ++ e ∷ []), length-append entries (e ∷ []))
 
 -- so many lines are the journal of entries of which there are so many
-pub journal-told : (h : Header) (entries : List Entry) {count : ℕ} {lines : List ℕ} → count ≡ length entries → lines ≡ flat_map (entry_line h) entries → journal_line count ++ lines ≡ journal_text h entries
-unfolding journal_text
-journal-told h entries counted are = ap₂ (λ n text. journal_line n ++ text) counted are
+pub journal-told : (h : Header) (entries : List Entry) {count : ℕ} {lines : List ℕ} → count ≡ length entries → lines ≡ flat_map (entry_line h) entries → count_line count ++ lines ≡ journal_text h entries
+unfolding journal_text count_line
+journal-told h entries counted are = ap₂ (λ n text. count_line n ++ text) counted are

@@ -78,7 +78,7 @@ pub is_day : (h : Header) (entries : List Entry) (books : ℕ → ℕ → LocalB
 is_day h entries books are = record { books = books; at_the_end = are; exactly = refl }
 
 pub is_output : (h : Header) (entries : List Entry) (strays : ℕ) (ending : Ending) (books : ℕ → ℕ → LocalBook) → AreBooks h (state h entries) books → IsOutput h entries strays ending (day_text h entries books ++ last_text strays ending)
-is_output h entries strays ending books are = record { day = day_text h entries books; is_day = is_day h entries books are; whole = refl }
+is_output h entries strays ending books are = record { books = books; at_the_end = are; exactly = refl }
 
 failed_from : (fault : SinkFault) → fault_of fault ≡ Write → fault ≡ sinks.Failed
 failed_from sinks.Failed is = refl

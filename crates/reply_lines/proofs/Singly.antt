@@ -20,7 +20,7 @@ use Rattle.reply_lines.specs.Report.{report_text}
 use Rattle.reply_lines.specs.Output.{journal_text, desks_text, day_text, last_text, IsDayText, IsOutput, IsRestOfOutput}
 use Rattle.reply_lines.specs.declared.output.Ending.{Ending}
 use Rattle.reply_lines.specs.Laws.{OneOutput, OutputFromBooks}
-use Rattle.reply_lines.proofs.Outputs.{day-books, is_output}
+use Rattle.reply_lines.proofs.Outputs.{day-books, is_day, is_output}
 
 abbrev AreSame : LocalBook → LocalBook → Type 0
 AreSame one other = (one.bids ≡ other.bids) × (one.asks ≡ other.asks)
@@ -61,7 +61,10 @@ days_agree h entries day other legal is they =
 -- two outputs of a legal history are one
 outputs_same : (h : Header) (entries : List Entry) (strays : ℕ) (ending : Ending) (one other : List ℕ) → IsLegal h entries → IsOutput h entries strays ending one → IsOutput h entries strays ending other → one ≡ other
 outputs_same h entries strays ending one other legal is they =
-    is.whole ∙ ap (λ (day : List ℕ). day ++ last_text strays ending) (days_agree h entries is.day they.day legal is.is_day they.is_day) ∙ sym they.whole
+    is.exactly
+    ∙ ap (λ (day : List ℕ). day ++ last_text strays ending)
+    (days_agree h entries (day_text h entries is.books) (day_text h entries they.books) legal (is_day h entries is.books is.at_the_end) (is_day h entries they.books they.at_the_end))
+    ∙ sym they.exactly
 
 pub one_output : OneOutput
 one_output h entries strays ending legal =
@@ -78,9 +81,9 @@ from_books h entries strays ending rest is =
     let closing : List ℕ = books_text h is.books ++ report_text h (state h entries) in
     let last : List ℕ = last_text strays ending in
     record {
-      day = day_text h entries is.books;
-      is_day = record { books = is.books; at_the_end = is.at_the_end; exactly = refl };
-      whole = ap (λ (text : List ℕ). head_text_of h ++ (journal_text h entries ++ (desks_text h entries ++ text))) is.exactly
+      books = is.books;
+      at_the_end = is.at_the_end;
+      exactly = ap (λ (text : List ℕ). head_text_of h ++ (journal_text h entries ++ (desks_text h entries ++ text))) is.exactly
           ∙ sym (append_assoc (head_text_of h) (journal_text h entries ++ (desks_text h entries ++ closing)) last
           ∙ ap (λ (text : List ℕ). head_text_of h ++ text)
           (append_assoc (journal_text h entries) (desks_text h entries ++ closing) last

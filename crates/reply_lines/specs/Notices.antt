@@ -16,7 +16,8 @@ use Rattle.fx_rules.specs.Reject.{code_of}
 use Rattle.fx_rules.specs.Session.{Header, bank_name, decimals_of, pair_name}
 use Rattle.fx_rules.specs.Step.{fills_of}
 use Rattle.day_report.specs.Report.{base_of, quote_of}
-use Rattle.reply_lines.specs.Rows.{row, side_text}
+use Rattle.order_lines.specs.Words.{word_text, side_word}
+use Rattle.reply_lines.specs.Rows.{row}
 
 -- a bank's reply to a command of its own; a fill in which it was the taker; one in which it was the maker
 pub data Notice : Type 0 where
@@ -64,18 +65,12 @@ reply_fields h command (Shown limit spent eff) = codes "SHOWN" ∷ numeral limit
 reply_fields h command (Depth bids asks) = codes "BOOK" ∷ book_fields h (booked_pair command) bids asks
 reply_fields h command (Rejected reason) = codes "BAD" ∷ numeral (code_of reason) ∷ []
 
--- a fill's pair, lots and price
-abbrev pub trade_fields : Header → Fill → List (List ℕ)
-trade_fields h fill = pair_name h fill.pair ∷ numeral fill.lots ∷ price_text (decimals_of h fill.pair) fill.price ∷ []
-
--- its base and quote amounts
-abbrev pub amount_fields : Header → Fill → List (List ℕ)
-amount_fields h fill = numeral (base_of h fill) ∷ numeral (quote_of h fill) ∷ []
-
--- the fields of a fill as one of its banks sees it: its own order's number and side, and the other bank's name
+-- the fields of a fill as one of its banks sees it: its own order's number and side; the pair, the lots and the price; the other
+-- bank's name; and the base and quote amounts
 abbrev pub fill_fields : Header → ℕ → Side → ℕ → Fill → List (List ℕ)
 fill_fields h number side other fill =
-    (codes "FILL" ∷ numeral number ∷ side_text side ∷ []) ++ trade_fields h fill ++ bank_name h other ∷ amount_fields h fill
+    codes "FILL" ∷ numeral number ∷ word_text (side_word side) ∷ pair_name h fill.pair ∷ numeral fill.lots
+    ∷ price_text (decimals_of h fill.pair) fill.price ∷ bank_name h other ∷ numeral (base_of h fill) ∷ numeral (quote_of h fill) ∷ []
 
 -- the line of a notice, with its number on the desk
 abbrev pub notice_line : Header → ℕ → Notice → List ℕ

@@ -19,13 +19,9 @@ use Rattle.reply_lines.specs.declared.output.Ending.TheVariants.{End, Cut, Read,
 abbrev pub entry_line : Header → Entry → List ℕ
 entry_line h entry = command_text_of h entry.bank entry.command ++ 10 ∷ []
 
--- the line that begins the journal
-unfoldable pub journal_line : ℕ → List ℕ
-journal_line count = row (codes "JOURNAL") (numeral count ∷ [])
-
 -- how many entries there are, and these
 unfoldable pub journal_text : Header → List Entry → List ℕ
-journal_text h entries = journal_line (length entries) ++ flat_map (entry_line h) entries
+journal_text h entries = row (codes "JOURNAL") (numeral (length entries) ∷ []) ++ flat_map (entry_line h) entries
 
 -- the desks of all banks, in header order
 unfoldable pub desks_text : Header → List Entry → List ℕ
@@ -50,17 +46,17 @@ ending_line Much = codes "MUCH\n"
 unfoldable pub last_text : ℕ → Ending → List ℕ
 last_text strays ending = strays_line strays ++ ending_line ending
 
+-- A text is the output of a history: the day up to the report, and the last lines.
+pub record IsOutput (h : Header) (entries : List Entry) (strays : ℕ) (ending : Ending) (text : List ℕ) : Type 0 where
+  pub books : ℕ → ℕ → LocalBook
+  pub at_the_end : AreBooks h (state h entries) books
+  pub exactly : text ≡ day_text h entries books ++ last_text strays ending
+
 -- A text is all but the last lines of a history's output.
 pub record IsDayText (h : Header) (entries : List Entry) (text : List ℕ) : Type 0 where
   pub books : ℕ → ℕ → LocalBook
   pub at_the_end : AreBooks h (state h entries) books
   pub exactly : text ≡ day_text h entries books
-
--- A text is the output of a history.
-pub record IsOutput (h : Header) (entries : List Entry) (strays : ℕ) (ending : Ending) (text : List ℕ) : Type 0 where
-  pub day : List ℕ
-  pub is_day : IsDayText h entries day
-  pub whole : text ≡ day ++ last_text strays ending
 
 -- A text is what the output of a history has from its line `BOOKS` on: the local books at the end, the report, and the last
 -- lines.

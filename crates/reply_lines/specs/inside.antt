@@ -3,6 +3,7 @@ pub mod Day
 pub mod Desks
 pub mod Telling
 pub mod Fills
+pub mod Journals
 pub mod Prints
 pub mod Replies
 pub mod Report

@@ -5,7 +5,8 @@ ghost use Rattle.fx_rules.specs.declared.outcome.Entry.{Entry};
 ghost use Rattle.fx_rules.specs.History.{IsLegal, state};
 ghost use Rattle.reply_lines.specs.Books.{LocalBook, AreBooks};
 ghost use Rattle.reply_lines.specs.Faults.{WroteOutput};
-ghost use Rattle.reply_lines.specs.Output.{day_text, journal_line, last_text, IsDayText, IsOutput};
+ghost use Rattle.reply_lines.specs.inside.Journals.{count_line};
+ghost use Rattle.reply_lines.specs.Output.{day_text, last_text, IsDayText, IsOutput};
 ghost use Rattle.reply_lines.specs.Day.{IsTextOf};
 ghost use Rattle.reply_lines.specs.inside.Day.{IsDayOf};
 
@@ -221,7 +222,7 @@ fn write_journal_text<K: Sink>(
     pieces: &mut Pieces,
     out: &mut K,
 ) -> Result<(), SinkFault>
-    ensures wrote { Gathered K.written K.faults pieces.old out.old pieces.new out.new (journal_line count ++ lines.now) result }
+    ensures wrote { Gathered K.written K.faults pieces.old out.old pieces.new out.new (count_line count ++ lines.now) result }
 {
     write_journal_line(count, pieces, out)?;
     pieces.put(lines, out)

@@ -1,6 +1,7 @@
 ghost use Rattle.std.specs.Prelude.{◌≡◌, ◌++◌, OnOk};
 ghost use Rattle.fx_edges.specs.Gathered.{Gathered};
-ghost use Rattle.reply_lines.specs.Output.{entry_line, journal_line};
+ghost use Rattle.reply_lines.specs.Output.{entry_line};
+ghost use Rattle.reply_lines.specs.inside.Journals.{count_line};
 ghost use Rattle.reply_lines.specs.inside.Prints.{IsEntryOf};
 
 use crate::lines::write_count;
@@ -11,13 +12,13 @@ use fx_text::LineText;
 use order_lines::make_command;
 
 /// Writes the line that begins the journal.
-#[tactic(auto, unfolding(crate::specs::Output::journal_line))]
+#[tactic(auto, unfolding(crate::specs::inside::Journals::count_line))]
 pub(crate) fn write_journal_line<K: Sink>(
     count: usize,
     pieces: &mut Pieces,
     out: &mut K,
 ) -> Result<(), SinkFault>
-    ensures wrote { Gathered K.written K.faults pieces.old out.old pieces.new out.new (journal_line count) result }
+    ensures wrote { Gathered K.written K.faults pieces.old out.old pieces.new out.new (count_line count) result }
 {
     write_count(b"JOURNAL", count as u128, pieces, out)
 }

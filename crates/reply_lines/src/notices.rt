@@ -2,10 +2,11 @@ ghost use Rattle.std.specs.Prelude.{◌≡◌, ◌∷◌, [], ◌<◌, ◌≤◌
 ghost use Rattle.fx_amounts.specs.Numeral.{numeral};
 ghost use Rattle.fx_amounts.specs.Quantity.{IsDecimals};
 ghost use Rattle.fx_text.specs.Fields.{fields_text};
-ghost use Rattle.reply_lines.specs.Rows.{row, side_text};
+ghost use Rattle.order_lines.specs.Words.{word_text, side_word};
+ghost use Rattle.reply_lines.specs.Rows.{row};
 ghost use Rattle.fx_rules.specs.Session.{bank_count, pair_count, bank_name};
-ghost use Rattle.reply_lines.specs.Notices.{booked_pair, level_fields, book_fields, trade_fields, amount_fields};
-ghost use Rattle.reply_lines.specs.Fills.{AreTextsOf, AreShort};
+ghost use Rattle.reply_lines.specs.Notices.{booked_pair, level_fields, book_fields};
+ghost use Rattle.reply_lines.specs.Fills.{trade_fields, amount_fields, AreTextsOf, AreShort};
 ghost use Rattle.reply_lines.specs.inside.Fills.{party_of, fill_line};
 ghost use Rattle.reply_lines.specs.inside.Replies.{plain_fields};
 ghost use Rattle.reply_lines.specs.inside.Telling.{bank_of};
@@ -258,8 +259,8 @@ pub(crate) fn make_fill(
 
 /// Appends the word of a fill, and the number and side of the bank's own order.
 fn push_own_side(own_number: u32, side: Side, line: &mut LineText)
-    ensures text { line.new ≡ take 256 (line.old ++ fields_text (codes "FILL" ∷ numeral own_number ∷ side_text side ∷ [])) }
-    ensures few { length (fields_text (codes "FILL" ∷ numeral own_number ∷ side_text side ∷ [])) ≤ 63 }
+    ensures text { line.new ≡ take 256 (line.old ++ fields_text (codes "FILL" ∷ numeral own_number ∷ word_text (side_word side) ∷ [])) }
+    ensures few { length (fields_text (codes "FILL" ∷ numeral own_number ∷ word_text (side_word side) ∷ [])) ≤ 63 }
 {
     line.push_field(b"FILL");
     line.push_number_field(u64::from(own_number));
@@ -292,7 +293,7 @@ fn make_amounts(session: &Session, fill: &Fill, text: &mut LineText)
 }
 
 fn side_word(side: Side) -> &'static [u8]
-    ensures { result.now ≡ side_text side }
+    ensures { result.now ≡ word_text (side_word side) }
 {
     match side {
         Side::Buy => b"BUY",

@@ -20,7 +20,7 @@ use Rattle.session_script.specs.Stage.{StandsAt, session_at, sent_at, strays_at}
 use Rattle.session_script.specs.inside.Stage.{is_open}
 use Rattle.session_script.specs.Intake.{StandsFor}
 use Rattle.session_script.specs.inside.Intake.{IsSettled, Closed}
-use Rattle.session_script.specs.Reading.{GoesOn, HasNotStarted, IsPromptBehind, MetEnd, SaysBehind, ProgressedBehind, IsEndedBehind, TextEndedBehind, Stopped}
+use Rattle.session_script.specs.Reading.{GoesOn, HasNotStarted, IsPromptBehind, MetEnd, SaysBehind, ProgressedBehind, TextEndedBehind, Stopped}
 use Rattle.session_script.specs.inside.Reading.{RoundCame}
 use Rattle.session_script.specs.Rounds.{IsFront, TookPromptlyBehind, HasReadBehind, HasStopped}
 use Rattle.session_script.specs.inside.Rounds.{ReadsOn, TookRound}
@@ -364,7 +364,7 @@ pub no_end_line : {S : Type 0} {left : S → Option (List ℕ)} {faults : S → 
 no_end_line {left = left} {b = b} {intake = intake} {former = former} {begun = begun} round none =
     ended_nowhere (left b) (begun ++ round.more) (not_started intake.stage (begun ++ round.more) former round.stands.stage intake.readable none) round.came
   where
-    ended_nowhere : (known : Option (List ℕ)) (input : List ℕ) → HasNotStarted input → IsEndedBehind [] known input → ⊥
+    ended_nowhere : (known : Option (List ℕ)) (input : List ℕ) → HasNotStarted input → TextEndedBehind [] known input EndLine → ⊥
     ended_nowhere known input not (inl (h, session, end)) = not h session
     ended_nowhere known input not (inr (met, (h, session, end))) = not h session
 

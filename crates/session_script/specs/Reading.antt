@@ -54,18 +54,16 @@ module _ (front : List ℕ) where
     pub valid : Each (IsSentOf h) sent
     pub few : length sent ≤ length input
 
-  -- the text reached its END line: it has the line, or a read met the source's end and what is left over is that line
-  abbrev pub IsEndedBehind : Option (List ℕ) → List ℕ → Type 0
-  IsEndedBehind known input = HasEnd (front ++ input) ⊎ (MetEnd known input × EndsWithEnd (front ++ input))
-
   -- how the text ended before its END line, by what the source has left then
   abbrev pub EndedEarlyBehind : Option (List ℕ) → List ℕ → EarlyEnd → Type 0
   EndedEarlyBehind known input Cut = MetEnd known input × HasNoFault (front ++ input) × ¬ (HasEnd (front ++ input)) × ¬ (EndsWithEnd (front ++ input))
   EndedEarlyBehind known input ReadFault = (length input < input_limit) × HasNoFault (front ++ input) × ¬ (HasEnd (front ++ input))
   EndedEarlyBehind known input TooMuch = (length input ≡ input_limit) × HasNoFault (front ++ input) × ¬ (HasEnd (front ++ input))
 
+  -- how the text ended: at its END line, where it has the line, or a read met the source's end and what is left over is that line;
+  -- or early
   abbrev pub TextEndedBehind : Option (List ℕ) → List ℕ → TextEnd → Type 0
-  TextEndedBehind known input EndLine = IsEndedBehind known input
+  TextEndedBehind known input EndLine = HasEnd (front ++ input) ⊎ (MetEnd known input × EndsWithEnd (front ++ input))
   TextEndedBehind known input (Early early) = EndedEarlyBehind known input early
 
   -- how the text ended, if it did

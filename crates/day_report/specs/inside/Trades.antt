@@ -1,10 +1,14 @@
 -- What private functions and proofs alone say of it, beside `specs/Trades.antt`.
-use Rattle.std.specs.Prelude.{◌≤◌, List, [], ◌∷◌, ◌++◌}
+use Rattle.std.specs.Prelude.{ℕ, ◌≤◌, ◌==◌, List, [], ◌∷◌, ◌++◌, filter}
 use Rattle.fx_rules.specs.declared.orders.Fill.{Fill}
 use Rattle.fx_rules.specs.Lists.{Each}
 use Rattle.fx_rules.specs.Session.{Header, IsSession}
 use Rattle.fx_rules.specs.inside.Trade.{IsTrade}
 use Rattle.day_report.specs.Trades.{lots_in}
+
+-- the fills of a pair
+abbrev pub fills_in : ℕ → List Fill → List Fill
+fills_in pair fills = filter (λ fill. fill.pair == pair) fills
 
 -- Fills of a session's day. Their lots fit: each lot uses a credit unit at least, use only rises, and between each two of
 -- 64 banks it is at most the greatest limit, 10^15. So all sums fit: fills are no more than lots, a lot is at most 10^9

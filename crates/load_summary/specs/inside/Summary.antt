@@ -1,5 +1,5 @@
 -- What private functions and proofs alone say of it, beside `specs/Summary.antt`.
-use Rattle.std.specs.Prelude.{ℕ, ◌≡◌, List, [], ◌∷◌, length, map}
+use Rattle.std.specs.Prelude.{◌≡◌, List, length, map}
 use Rattle.fx_rules.specs.declared.command.Sent.{Sent}
 use Rattle.fx_rules.specs.declared.outcome.Entry.{Entry}
 use Rattle.fx_rules.specs.Session.{Header}
@@ -7,10 +7,6 @@ use Rattle.fx_rules.specs.History.{IsLegal, state}
 use Rattle.fx_rules.specs.Sending.{sent_by}
 use Rattle.made_session.specs.Totals.{fills_told, lots_told}
 use Rattle.load_summary.specs.declared.serial.SerialTotals.{SerialTotals}
-
--- as they are told
-abbrev pub counts_of : SerialTotals → List ℕ
-counts_of serial = serial.commands ∷ serial.fills ∷ serial.lots ∷ serial.resting ∷ []
 
 -- what a history comes to
 abbrev pub told_of : Header → List Entry → SerialTotals

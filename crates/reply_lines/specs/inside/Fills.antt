@@ -5,7 +5,7 @@ use Rattle.fx_amounts.specs.Side.{opposite}
 use Rattle.fx_rules.specs.declared.orders.Fill.{Fill}
 use Rattle.fx_rules.specs.Session.{Header, bank_name}
 use Rattle.fx_text.specs.Fields.{fields_text}
-use Rattle.reply_lines.specs.Rows.{side_text}
+use Rattle.order_lines.specs.Words.{word_text, side_word}
 use Rattle.reply_lines.specs.declared.notices.FillPart.{FillPart}
 use Rattle.reply_lines.specs.declared.notices.FillPart.TheVariants.{Taker, Maker}
 use Rattle.reply_lines.specs.declared.notices.FillTexts.{FillTexts}
@@ -18,4 +18,4 @@ party_of Maker fill = record { number = fill.maker_number; side = opposite fill.
 
 abbrev pub fill_line : Header → ℕ → Party → FillTexts → List ℕ
 fill_line h number party texts =
-    numeral number ++ fields_text (codes "FILL" ∷ numeral party.number ∷ side_text party.side ∷ []) ++ texts.trade ++ 32 ∷ bank_name h party.other ++ texts.amounts ++ 10 ∷ []
+    numeral number ++ fields_text (codes "FILL" ∷ numeral party.number ∷ word_text (side_word party.side) ∷ []) ++ texts.trade ++ 32 ∷ bank_name h party.other ++ texts.amounts ++ 10 ∷ []

@@ -6,9 +6,9 @@ use Rattle.reply_lines.specs.Day.{IsTextOf}
 use Rattle.journal_check.specs.inside.Stops.{IsKept}
 use Rattle.fx_rules.specs.Sending.{sent_by}
 use Rattle.journal_check.specs.Lines.{lines_from}
-use Rattle.journal_check.specs.Listed.{commands_in}
+use Rattle.journal_check.specs.Listed.{commands_among}
 use Rattle.journal_check.proofs.HeaderLemmas.{read-within}
-use Rattle.journal_check.proofs.JournalLemmas.{commands_stopped, commands_wrong, commands_in-all, entry_read}
+use Rattle.journal_check.proofs.JournalLemmas.{commands_stopped, commands_wrong, commands_among-all, entry_read}
 use Rattle.journal_check.proofs.journal.read_entries.Goals as goal
 
 pub returns-in-Err : goal.returns-in-Err
@@ -45,7 +45,7 @@ loop-entry-init c =
         entries = [];
         has_served = c.open-run.ensures.opens;
         size = refl;
-        reads = ap (λ (left : ℕ). commands_in c.args.session.now (length c.args.text.now) [] left (lines_from c.args.text.now c.args.counted.now.next)) all;
+        reads = ap (λ (left : ℕ). commands_among c.args.session.now (length c.args.text.now) [] left (lines_from c.args.text.now c.args.counted.now.next)) all;
         is_kept = c.requires.none;
       };
       same = refl;
@@ -71,6 +71,6 @@ returns c =
         entries = read.entries;
         has_served = read.has_served;
         is_kept = read.is_kept;
-        in_order = read.reads ∙ commands_in-all c.args.session.now _ (map sent_by read.entries) (c.args.counted.now.entries - c.loop-entry._entry) _ (omega arith);
+        in_order = read.reads ∙ commands_among-all c.args.session.now _ (map sent_by read.entries) (c.args.counted.now.entries - c.loop-entry._entry) _ (omega arith);
       };
     }
