@@ -144,10 +144,10 @@ def fitting(header: Header, sender: int, fields: list[bytes], kind: str) -> byte
 
 def price_hint(header: Header, fields: list[bytes]) -> str:
     pair = header.pairs[header.pair_at[fields[2]]]
-    digits = fields[3].partition(b".")[2]
+    digits, decimals = fields[3].partition(b".")[2], f"{pair.decimals} decimal{'' if pair.decimals == 1 else 's'}"
     if digits.isdigit() and len(digits) != pair.decimals:
-        return f"{pair.name} has {pair.decimals} decimals, and this price {len(digits)}"
-    return f"a price of {pair.name} has {pair.decimals} decimals and no sign, comma or leading zero"
+        return f"{pair.name} has {decimals}, and this price {len(digits)}"
+    return f"a price of {pair.name} has {decimals} and no sign, comma or leading zero"
 
 
 def lots_hint(header: Header, fields: list[bytes]) -> str:
