@@ -56,6 +56,13 @@ impl CreditTable {
         })
     }
 
+    /// The session that it was opened for.
+    pub fn session(&self) -> &Session
+        ensures value { result.now ≡ self.now.session }
+    {
+        &self.session
+    }
+
     /// The lines between the banks.
     pub fn lines(&self) -> &CreditLines
         ensures value { result.now ≡ self.now.lines }

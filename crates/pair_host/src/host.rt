@@ -58,6 +58,13 @@ impl PairHost {
         PairHost { books, table }
     }
 
+    /// The session whose market it is.
+    pub fn session(&self) -> &Session
+        ensures value { result.now ≡ self.now.table.session }
+    {
+        self.table.session()
+    }
+
     /// How many commands a bank of the session has sent; 0 for any other bank. It takes no memory.
     pub fn count(&self, bank: BankId) -> u32
         ensures count { InEach (stands self.now) (HasSent bank result) }

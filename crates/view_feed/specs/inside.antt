@@ -1,0 +1,4 @@
+pub mod Tape
+pub mod Shown
+pub mod Rule
+pub mod Faces
