@@ -1,13 +1,14 @@
-ghost use Rattle.std.specs.Prelude.{◌≡◌, ◌<◌, [], true, length};
+ghost use Rattle.std.specs.Prelude.{◌≡◌, ◌<◌, [], true, length, IfOk};
 ghost use mathlib.Core.List.{IsPrefix};
 ghost use Rattle.fx_rules.specs.Session.{IsSession, sender_places};
 ghost use Rattle.fx_rules.specs.History.{IsLegal, own};
 ghost use Rattle.fx_chronicle.specs.Touching.{pends, without, but_last};
-ghost use Rattle.fx_chronicle.specs.Faces.{witness, longer};
+ghost use Rattle.fx_chronicle.specs.Faces.{AreNew, witness, longer};
 
-use fx_amounts::BankId;
+use fx_amounts::{BankId, Memory};
 use fx_chronicle::{Front, Naming, Slip, Writer};
 use fx_rules::Entry;
+use std::alloc::Global;
 use std::marker::Model;
 
 /// What a bank holds at a desk: the front of its key. Contracts see its bank as the key, the entries that it has seen, which
@@ -118,4 +119,24 @@ impl<N: Naming> Model for Note<N> {
     ghost view = { λ n. n.slip };
 
     ghost invariant = { λ n. IsLegal N.session n.slip };
+}
+
+/// The passes of the first so many senders of the session, over the fronts of their keys, which have seen nothing yet.
+pub fn open_passes<N: Naming>(
+    alloc: Global,
+    banks: usize,
+    mut fronts: Vec<Front<N, Entry>>,
+) -> Result<Vec<Pass<N>>, Memory>
+    requires session { IsSession N.session }
+    requires fronts { AreNew 65 fronts.items }
+    requires banks { banks ≡ sender_places N.session }
+    ensures passes { IfOk result (λ passes. AreNew banks passes.items) }
+{
+    fronts.truncate(banks);
+    let mut passes = Vec::new(alloc);
+    for front in fronts {
+        let bank = BankId::at(front.key() as usize);
+        passes.push(Pass::open(bank, front))?;
+    }
+    Ok(passes)
 }

@@ -3,15 +3,14 @@ ghost use mathlib.Core.List.{IsPrefix};
 ghost use Rattle.fx_rules.specs.Session.{IsSession, pair_count};
 ghost use Rattle.fx_rules.specs.Step.{AreValues};
 ghost use Rattle.fx_rules.specs.History.{IsLegal, own};
-ghost use Rattle.credit_raise.specs.UnderWay.{is_change};
 ghost use Rattle.fx_desk.specs.Submitting.{Submitted};
 ghost use Rattle.fx_rules.specs.Sending.{pair_of};
 
 use crate::change::change_all;
-use crate::credit_lock::CreditLock;
+use crate::credit_lock::{CreditAlone, CreditLock};
 use crate::locks::tell_all;
 use crate::pair_locks::PairLocks;
-use crate::turn::Turn;
+use crate::turn::{Turn, WholeTurn};
 use credit_raise::is_change;
 use fx_amounts::{Memory, PairId};
 use fx_chronicle::Naming;
@@ -72,26 +71,16 @@ impl<N: Naming> Host<N> {
         shard.serve_under(self.alloc, credit, pass, command)
     }
 
-    /// A credit change: it keeps the commands in pairs out, and then has the credit lock. It asks for each pair's lock as the
-    /// pair's turn comes.
-    fn change_credit<R: Wait, G: Gate>(
-        &self,
+    /// All that a credit change needs, for one who keeps the commands in pairs out: the credit lock, and with it the leave to ask for
+    /// each pair's lock as the pair's turn comes.
+    fn lock_all<'a, R: Wait, G: Gate>(
+        &'a self,
         rt: &R,
         gate: &G,
-        pass: &mut Pass<N>,
-        command: &Command,
-    ) -> Result<Outcome, Memory>
-        requires values { AreValues N.session pass.old.key command.now }
-        requires change { is_change command.now ≡ true }
-        requires few { length (own pass.old.key pass.old.met) < 2 ^ 32 - 1 }
-        ensures bank { pass.new.key ≡ pass.old.key }
-        ensures submitted { IfOk result (Submitted N.session pass.old.key pass.old.seen (own pass.old.key pass.old.met) command.now pass.new.seen (own pass.new.key pass.new.met)) }
-        ensures memory { OnErr result (pass.new ≡ pass.old) }
-    {
-        let turn = self.turn.take(rt);
+        turn: &'a WholeTurn<'_>,
+    ) -> CreditAlone<'a, N> {
         tell_all(rt, gate, self.pairs.count());
-        let alone = self.credit.lock_alone(rt, self.pairs.alone(&turn));
-        change_all(rt, self.alloc, alone, pass, command)
+        self.credit.lock_alone(rt, self.pairs.alone(turn))
     }
 
     /// Lets the pass see the whole history so far: a legal one, which begins with all that the pass had seen and has of its bank just
@@ -151,7 +140,11 @@ impl<N: Naming + Send> Desk for Host<N> {
     ) -> Result<Outcome, Memory> {
         match command.pair() {
             Some(pair) => self.serve_in(rt, gate, pair, pass, command),
-            None if is_change(command) => self.change_credit(rt, gate, pass, command),
+            None if is_change(command) => {
+                let turn = self.turn.take(rt);
+                let alone = self.lock_all(rt, gate, &turn);
+                change_all(rt, self.alloc, alone, pass, command)
+            }
             None => self.credit.serve(rt, pass, command),
         }
     }

@@ -10,9 +10,9 @@ use crate::host::{Host, ShardRoom};
 use crate::pair_locks::{PairLock, PairLocks};
 use crate::turn::Turn;
 use credit_book::CreditBook;
-use fx_amounts::{BankId, Memory, PairId};
+use fx_amounts::{Memory, PairId};
 use fx_chronicle::{Blank, Front, Naming, open};
-use fx_desk::Pass;
+use fx_desk::{Pass, open_passes};
 use fx_rules::{Entry, Session};
 use pair_shards::Shard;
 use std::alloc::Global;
@@ -40,7 +40,7 @@ pub fn open_host<N: Naming>(
 {
     let (writer, mut fronts) = open::<N, Entry>(alloc, blank)?;
     let pair_fronts = fronts.split_off(65)?;
-    let passes = passes_of(alloc, session.banks().len(), fronts)?;
+    let passes = open_passes(alloc, session.banks().len(), fronts)?;
     let locks = locks_of(alloc, session, pair_fronts)?;
     let book = CreditBook::open(alloc, session, writer)?;
     let mut closed = Vec::new(alloc);
@@ -75,24 +75,4 @@ fn locks_of<N: Naming>(
         locks.push(PairLock::new(shard))?;
     }
     Ok(locks)
-}
-
-/// The passes of the first so many banks, over the fronts of their keys.
-fn passes_of<N: Naming>(
-    alloc: Global,
-    banks: usize,
-    mut fronts: Vec<Front<N, Entry>>,
-) -> Result<Vec<Pass<N>>, Memory>
-    requires session { IsSession N.session }
-    requires fronts { AreNew 65 fronts.items }
-    requires banks { banks ≡ sender_places N.session }
-    ensures passes { IfOk result (λ passes. AreNew banks passes.items) }
-{
-    fronts.truncate(banks);
-    let mut passes = Vec::new(alloc);
-    for front in fronts {
-        let bank = BankId::at(front.key() as usize);
-        passes.push(Pass::open(bank, front))?;
-    }
-    Ok(passes)
 }

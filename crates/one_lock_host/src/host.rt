@@ -1,6 +1,6 @@
 ghost use Rattle.std.specs.Prelude.{◌≡◌, List, map, IfOk};
 ghost use Rattle.fx_rules.specs.declared.outcome.Entry.{Entry};
-ghost use Rattle.fx_rules.specs.Session.{Header, IsSession, sender_places, senders};
+ghost use Rattle.fx_rules.specs.Session.{Header, sender_places, senders};
 ghost use Rattle.fx_rules.specs.Lists.{Among};
 ghost use Rattle.fx_rules.specs.History.{IsLegal, own};
 ghost use Rattle.fx_chronicle.specs.Faces.{AreNew, Witness};
@@ -8,9 +8,9 @@ ghost use Rattle.fx_desk.specs.Submitting.{IsWholeOf};
 
 use crate::floor::Floor;
 use flat_host::FlatHost;
-use fx_amounts::{BankId, Memory};
-use fx_chronicle::{Blank, Front, Naming, open};
-use fx_desk::{Desk, Note, Pass};
+use fx_amounts::Memory;
+use fx_chronicle::{Blank, Naming, open};
+use fx_desk::{Desk, Note, Pass, open_passes};
 use fx_rules::{Command, Entry, Gate, Outcome, Session};
 use std::alloc::Global;
 use std::sync::{Mutex, Wait};
@@ -38,7 +38,7 @@ pub fn open_one<N: Naming>(
     ensures senders { IfOk result (λ opened. map (λ pass. pass.key) opened.1.items ≡ senders N.session) }
 {
     let (writer, fronts) = open::<N, Entry>(alloc, blank)?;
-    let passes = passes_of(alloc, session.banks().len(), fronts)?;
+    let passes = open_passes(alloc, session.banks().len(), fronts)?;
     let floor = Floor::open(FlatHost::open(alloc, session)?, writer);
     Ok((
         OneLockHost {
@@ -46,26 +46,6 @@ pub fn open_one<N: Naming>(
         },
         passes,
     ))
-}
-
-/// The passes of the first so many banks, over the fronts of their keys.
-fn passes_of<N: Naming>(
-    alloc: Global,
-    banks: usize,
-    mut fronts: Vec<Front<N, Entry>>,
-) -> Result<Vec<OnePass<N>>, Memory>
-    requires session { IsSession N.session }
-    requires fronts { AreNew 65 fronts.items }
-    requires banks { banks ≡ sender_places N.session }
-    ensures passes { IfOk result (λ passes. AreNew banks passes.items) }
-{
-    fronts.truncate(banks);
-    let mut passes = Vec::new(alloc);
-    for front in fronts {
-        let bank = BankId::at(front.key() as usize);
-        passes.push(Pass::open(bank, front))?;
-    }
-    Ok(passes)
 }
 
 /// Closes a host: the whole history. What each of these passes had seen is a beginning of it, and of their banks it has just

@@ -10,8 +10,8 @@ use Rattle.fx_host.proofs.opening.open_host.Goals as goal
 pub locks_of-requires-clause-fronts : goal.locks_of-requires-clause-fronts
 locks_of-requires-clause-fronts g c = subst (ArePairFronts 0) (sym c.in_ok-pair_fronts.ensures.tail) (pair-fronts _ _ c.in_ok-writer.ensures.fronts)
 
-pub passes_of-requires-clause-fronts : goal.passes_of-requires-clause-fronts
-passes_of-requires-clause-fronts g c = subst (AreNew 65) (sym c.in_ok-pair_fronts.ensures.items) (bank-fronts _ _ c.in_ok-writer.ensures.fronts (omega (arith, c.requires.keys)))
+pub open_passes-requires-clause-fronts : goal.open_passes-requires-clause-fronts
+open_passes-requires-clause-fronts g c = subst (AreNew 65) (sym c.in_ok-pair_fronts.ensures.items) (bank-fronts _ _ c.in_ok-writer.ensures.fronts (omega (arith, c.requires.keys)))
 
 pub returns : goal.returns
 returns g c =

@@ -2,7 +2,7 @@ use Rattle.std.proofs.Common.{◌≡◌, ◌<◌, [], ◌++◌}
 use Rattle.fx_rules.specs.declared.outcome.Entry.{Entry}
 use Rattle.fx_rules.specs.Lists.{Each}
 use Rattle.fx_chronicle.specs.Faces.{Witness, witness}
-use Rattle.one_lock_host.proofs.host.passes_of.Given as goal
+use Rattle.fx_desk.proofs.pass.open_passes.Given as goal
 
 -- the passes are the fronts so far, and each front that is left is a bank's that has seen nothing
 abbrev pub invariant-loop-front : goal.invariant-loop-front
