@@ -17,7 +17,7 @@ pub enum Status {
     Done,
     /// The words are none that the program accepts.
     Usage,
-    /// The input's header has a fault: the number of its line, counted from 1 with all lines that are passed over, and the
+    /// The input's header has a fault: the number of its line, counted from 1 with all lines that are ignored, and the
     /// reason.
     Header { line: u64, reason: HeadReason },
     /// The input ended before its END line. With START read, the output of its whole lines was written.

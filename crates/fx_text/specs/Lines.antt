@@ -60,7 +60,7 @@ pub record IsFirstLine (text : List ℕ) (line : Line) (behind : List ℕ) : Typ
 abbrev pub is_end_rest : List ℕ → Bool
 is_end_rest rest = nat_le (length rest) 256 && is_end (fields_of rest)
 
--- whether a line is passed over: one without a field, and one whose first field begins with `#`
+-- whether a line is ignored: one without a field, and one whose first field begins with `#`
 abbrev pub is_passed_over : Line → Bool
 is_passed_over (Whole text) = (length (fields_of text) == 0) || is_comment (first_field text)
 is_passed_over (Long field) = is_comment field

@@ -136,7 +136,7 @@ impl<'a> Fields<'a> {
         self.kept.first[at]
     }
 
-    /// Whether the line is passed over: it has no field, or its first field begins with `#`.
+    /// Whether the line is ignored: it has no field, or its first field begins with `#`.
     pub fn is_passed_over(&self) -> bool
         ensures { result ≡ (length self.now == 0) || is_comment (field_at self.now 0) }
     {

@@ -77,7 +77,7 @@ impl Line {
         }
     }
 
-    /// Whether the line is passed over: it has no field, or its first field begins with `#`. Of a long line
+    /// Whether the line is ignored: it has no field, or its first field begins with `#`. Of a long line
     /// only the field that is kept counts, also where it is empty.
     pub fn is_passed_over(&self) -> bool
         ensures { result ≡ is_passed_over self.now }
@@ -113,7 +113,7 @@ impl<'a> LineView<'a> {
         }
     }
 
-    /// Whether the line is passed over: it has no field, or its first field begins with `#`. Of a long line
+    /// Whether the line is ignored: it has no field, or its first field begins with `#`. Of a long line
     /// only the field that is seen counts, also where it is empty. Takes no memory.
     pub fn is_passed_over(&self) -> bool
         ensures { result ≡ is_passed_over (line_seen self.now) }

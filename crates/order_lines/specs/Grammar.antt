@@ -27,7 +27,7 @@ abbrev pub or_bad : Result Command Reject → Command
 or_bad (Ok command) = command
 or_bad (Err fault) = Bad fault
 
--- a line after START. One that is passed over says nothing; `END` alone ends the session; a line whose first field is a
+-- a line after START. One that is ignored says nothing; `END` alone ends the session; a line whose first field is a
 -- bank's name is that bank's command, which is bad with its first fault; any other is a stray. A long line is bad with
 -- that fault first, and is never the end.
 unfoldable pub command_line : Header → Line → Spoken

@@ -1,4 +1,4 @@
--- The spelling of a statement is a line that is not passed over.
+-- The spelling of a statement is a line that is not ignored.
 use Rattle.std.proofs.Common.{◌≡◌, ℕ, false, ◌||◌, List, [], length, slice_index_or, codes, refl, ap, ◌∙◌, arith, IsTrue, eqb}
 use Rattle.std.specs.List.{join_with_byte}
 use Rattle.std.proofs.lemmas.List.Elements.{All-get_or}

@@ -16,10 +16,10 @@ use Rattle.session_head.specs.declared.reason.HeadStop.TheVariants.{Fault, Memor
 use Rattle.session_head.specs.declared.statement.Statement.{Statement}
 use Rattle.session_head.specs.declared.statement.Statement.TheVariants as statements
 
--- what some lines are as a header. `lines` counts them, with all that are passed over; once a header has started or has
+-- what some lines are as a header. `lines` counts them, those that are ignored included; once a header has started or has
 -- a fault, it is the number of the line that did it, and further lines change nothing
 pub data Head : Type 0 where
-  -- all were passed over
+  -- all were ignored
   Begun : (lines : ℕ) → Head
   -- the first was the version's, and START has not come
   Drafting : (lines : ℕ) (draft : Draft) → Head
@@ -36,12 +36,12 @@ judged number draft (Ok statements.Start) = Started number (header_of draft)
 judged number draft (Ok statement) = Drafting number (with_statement draft statement)
 judged number draft (Err reason) = Faulted number reason
 
--- the first line that is not passed over
+-- the first line that is not ignored
 abbrev pub first_line : ℕ → Line → Head
 first_line number (Whole text) = if is_version (fields_of text) then Drafting number empty_draft else Faulted number reasons.Version
 first_line number (Long field) = Faulted number reasons.Long
 
--- a further line that is not passed over
+-- a further line that is not ignored
 abbrev pub further_line : ℕ → Draft → Line → Head
 further_line number draft (Whole text) = judged number draft (statement_of draft (fields_of text))
 further_line number draft (Long field) = Faulted number reasons.Long

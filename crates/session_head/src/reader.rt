@@ -17,7 +17,7 @@ use std::marker::Model;
 #[derive(Drop)]
 pub struct HeadReader {
     alloc: Global,
-    /// How many lines were read, with all that were passed over.
+    /// How many lines were read, those that are ignored included.
     lines: u64,
     stage: Stage,
 }
@@ -35,7 +35,7 @@ impl Model for HeadReader {
 // How far a header has come.
 #[derive(Drop)]
 enum Stage {
-    // No line but such as are passed over.
+    // Only lines that are ignored.
     Begun,
     // The first line has told the version.
     Drafting(Draft),
@@ -137,7 +137,7 @@ impl Stage {
         taken
     }
 
-    // Takes the line of that number, which is not passed over. After `Err` the stage is as it was.
+    // Takes the line of that number, which is not ignored. After `Err` the stage is as it was.
     fn take(
         &mut self,
         alloc: Global,

@@ -69,7 +69,7 @@ pub enum HeadStep {
 /// Why a reader stops at a line.
 #[derive(Clone, Copy, Debug, PartialEq, Eq)]
 pub enum HeadStop {
-    /// A line is no line of a header. Lines are counted from 1, with all that are passed over.
+    /// A line is no line of a header. Lines are counted from 1, those that are ignored included.
     Fault {
         /// The line's number.
         line: u64,

@@ -27,7 +27,7 @@ pub enum TextEnd {
 /// Why the reading of a session's text stopped.
 #[derive(Clone, Copy, Debug, PartialEq, Eq)]
 pub enum Stop {
-    /// The header has a fault: the number of its line, counted from 1 with all lines that are passed over, and the reason.
+    /// The header has a fault: the number of its line, counted from 1 with all lines that are ignored, and the reason.
     Header { line: u64, reason: HeadReason },
     /// The text ended before START.
     Early(EarlyEnd),

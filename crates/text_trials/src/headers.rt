@@ -6,7 +6,7 @@ use std::alloc::Global;
 use std::test::Fail;
 use trial_days::session_of;
 
-/// Headers with a fault: the line in which it is, counted with those that are passed over, and the number of its reason.
+/// Headers with a fault: the line in which it is, counted with those that are ignored, and the number of its reason.
 const FAULTS: [(&[u8], u64, u8); 17] = [
     (b"FXBOOK 9\n", 1, 1),
     (b"BANC ALFA\n", 1, 1),

@@ -101,7 +101,7 @@ fn texts_are_cut_alike_in_any_pieces(rt: HostRuntime) -> Result<(), Fail> {
     Ok(())
 }
 
-/// Lines, whether each is a long one's first field, and whether it is passed over.
+/// Lines, whether each is a long one's first field, and whether it is ignored.
 const PASSED: [(bool, &[u8], bool); 9] = [
     (false, b"", true),
     (false, b" \t", true),

@@ -127,7 +127,7 @@ const CASES: [Case; 24] = [
         Some(""),
         "Early(Cut)",
     ),
-    // A fault's line is counted with all that are passed over, and no read comes behind it.
+    // A fault's line is counted with all lines that are ignored, and no read comes behind it.
     (
         &[b"# c\n\nFXBOOK 2\nFXBOOK 1\n"],
         &[5],

@@ -23,7 +23,7 @@ is_open (stages.Drafting draft) = true
 is_open (stages.Started header) = false
 is_open (stages.Faulted line reason) = false
 
--- the header with the line of that number, which is not passed over
+-- the header with the line of that number, which is not ignored
 abbrev pub taken : ℕ → Stage → Line → Head
 taken number stages.Begun line = first_line number line
 taken number (stages.Drafting draft) line = further_line number draft line
