@@ -38,8 +38,9 @@ def read(path: str) -> bytes:
 
 
 def takes_stops() -> None:
-    """A process that a shell started behind & is deaf for Ctrl-C."""
-    signal.signal(signal.SIGINT, signal.SIG_DFL)
+    """What a shell started behind & is deaf for Ctrl-C, and what nohup started for a terminal that is closed: the tool is not."""
+    for number in (signal.SIGINT, signal.SIGTERM, signal.SIGHUP):
+        signal.signal(number, signal.SIG_DFL)
 
 
 class Trial(unittest.TestCase):
