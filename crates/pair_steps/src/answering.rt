@@ -23,7 +23,7 @@ use std::sync::ledger::{Blank, Ledger};
 /// legal histories and in those within a command too.
 ///
 /// The command is an order, a cancel, a reduction, a pull or a local book of the book's pair. The book was made for as many
-/// banks as the lines have, and the sender is one of them. `Memory` for want of memory for fills or levels.
+/// banks as the lines have, and the sender is one of them. `Memory` if memory for fills or levels is refused.
 pub fn answer(
     alloc: Global,
     book: &PairBook,

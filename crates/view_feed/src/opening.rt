@@ -16,8 +16,8 @@ use left_right::writer::Writer;
 use std::alloc::Global;
 use std::sync::Wait;
 
-/// Opens a feed of a session's market, with nothing published, and 1 to 64 readers of it. It waits only where it ends a feed for
-/// want of memory.
+/// Opens a feed of a session's market, with nothing published, and 1 to 64 readers of it. It waits only where it ends a feed because
+/// it is out of memory.
 pub fn open_feed<R: Wait>(
     alloc: Global,
     rt: &R,
