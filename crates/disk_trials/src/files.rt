@@ -1,5 +1,5 @@
 use crate::keeping::{append, count};
-use fx_disk::FileDisk;
+use fx_disk::{Disk, FileDisk};
 use fx_edges::SteadySink;
 use keep_disk::RunFault;
 use std::fs;
@@ -27,6 +27,12 @@ fn a_real_file_keeps_its_blocks(rt: HostRuntime) -> Result<(), Fail> {
     assert!(rt; count(alloc, &mut FileDisk::new(&rt), DOTS)? == (49, true));
     let second = append(alloc, &mut FileDisk::new(&rt), &mut out, 3, DOTS);
     assert!(rt; second == Ok(()) && count(alloc, &mut FileDisk::new(&rt), DOTS)? == (52, true));
+
+    // While one disk has the file open, another can't open it.
+    let mut open = FileDisk::new(&rt);
+    assert!(rt; open.size().is_ok());
+    assert!(rt; append(alloc, &mut FileDisk::new(&rt), &mut out, 1, DOTS) == Err(RunFault::Disk));
+    drop(open);
 
     // A folder of that name is no file.
     fs::remove_file(&rt, NAME)?;

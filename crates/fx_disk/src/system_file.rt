@@ -6,7 +6,7 @@ use std::io;
 use std::os::unix::fs::FileExt;
 
 /// A file of the operating system. It is the trusted edge: it tells no calls, so no contract says what its calls do,
-/// and each of them is one call of std.
+/// and each of them is one call of std, but for the open: that takes the file's lock too, and fails where another process has it.
 #[derive(Drop)]
 pub struct SystemFile<'a> {
     rt: &'a HostRuntime,
@@ -28,7 +28,9 @@ impl<'a> BackingFile for SystemFile<'a> {
     ghost calls = { λ _. None };
 
     fn open(&mut self, how: &OpenOptions, name: &str) -> io::Result<()> {
-        self.file = Some(how.open(self.rt, name)?);
+        let file = how.open(self.rt, name)?;
+        file.try_lock()?;
+        self.file = Some(file);
         Ok(())
     }
 
