@@ -1,7 +1,7 @@
 use crate::keeping::{append, count};
 use fx_disk::{MemoryDisk, SteadyDisk};
-use fx_edges::{MemorySink, SteadySink};
-use keep_disk::RunFault;
+use fx_edges::{MemorySink, SinkFault, SteadySink};
+use keep_disk::{KeepFault, RunFault};
 use std::alloc::{AllocError, Global};
 use std::test::Fail;
 
@@ -31,7 +31,7 @@ fn a_disk_fails_at_each_call(rt: HostRuntime) -> Result<(), Fail> {
         let want = if call > CALLS {
             Ok(())
         } else {
-            Err(RunFault::Disk)
+            Err(RunFault::Keep(KeepFault::Disk))
         };
         assert!(rt; kept == want && found == (whole, true), "call {call}");
     }
@@ -51,7 +51,7 @@ fn a_sink_fails_at_each_call(rt: HostRuntime) -> Result<(), Fail> {
         let want = if call > 6 {
             (Ok(()), 4)
         } else {
-            (Err(RunFault::Write), 2 + told / 2)
+            (Err(RunFault::Tell(SinkFault::Failed)), 2 + told / 2)
         };
         assert!(rt; kept == want.0 && found == (want.1, true), "call {call}");
     }

@@ -1,7 +1,7 @@
 use crate::keeping::{append, count};
 use fx_disk::{Disk, FileDisk};
 use fx_edges::SteadySink;
-use keep_disk::RunFault;
+use keep_disk::{KeepFault, RunFault};
 use std::fs;
 use std::test::Fail;
 
@@ -38,7 +38,7 @@ fn a_real_file_keeps_its_blocks(rt: HostRuntime) -> Result<(), Fail> {
     fs::remove_file(&rt, NAME)?;
     fs::create_dir(&rt, NAME)?;
     let third = append(alloc, &mut FileDisk::new(&rt), &mut out, 1, DOTS);
-    assert!(rt; third == Err(RunFault::Disk));
+    assert!(rt; third == Err(RunFault::Keep(KeepFault::Disk)));
     fs::remove_dir(&rt, NAME)?;
     Ok(())
 }

@@ -1,7 +1,7 @@
-ghost use Rattle.std.specs.Prelude.{◌≡◌, ◌↔◌, length, IsTrue, IfOk, OnOk, IsErrOf};
-ghost use Rattle.fx_edges.specs.Faults.{Rose};
+ghost use Rattle.std.specs.Prelude.{◌≡◌, ◌↔◌, length, IsTrue, IfOk, OnOk};
 ghost use Rattle.fx_disk.specs.Disk.{WhereTold, Only, LeavesOnly};
 ghost use Rattle.keep_disk.specs.Blocks.{whole_blocks};
+ghost use Rattle.keep_disk.specs.Keeping.{HasCause};
 ghost use Rattle.keep_disk.specs.Rounds.{RunCauses};
 ghost use Rattle.disk_trials.specs.Numbered.{bodies, room, KeptNumbers, AllNumbers};
 
@@ -9,12 +9,12 @@ use crate::numbers::{Numbers, body_of};
 use fx_amounts::Memory;
 use fx_disk::Disk;
 use fx_edges::Sink;
-use keep_disk::{Body, RunFault, keep_rounds, open_keeper};
+use keep_disk::{Body, KeepFault, RunFault, keep_rounds, open_keeper};
 use std::alloc::Global;
 
 /// Appends the blocks of the next `count` numbers, and writes each number once its block is on the disk. After a fault the disk
 /// has the blocks from before and those of the first so many numbers behind them, and each that was written is among these. The
-/// fault is `Disk` or `Write` only where that count of faults rose, and each count rises at nothing else.
+/// fault is of the disk or of the sink only where that count of faults rose, and each count rises at nothing else.
 pub fn append<D: Disk, K: Sink>(
     alloc: Global,
     disk: &mut D,
@@ -50,16 +50,14 @@ fn are_in_order(alloc: Global, found: &[Body], dots: usize) -> Result<bool, Memo
 }
 
 /// How many blocks the file has, and whether they are those of 1, 2, 3 and so on. The disk keeps its blocks, whatever the answer,
-/// and the fault is `Disk` only where its count of faults rose, which rises at nothing else; it is never `Write`.
-pub fn count<D: Disk>(alloc: Global, disk: &mut D, dots: usize) -> Result<(usize, bool), RunFault>
+/// and the fault is `Disk` only where its count of faults rose, which rises at nothing else.
+pub fn count<D: Disk>(alloc: Global, disk: &mut D, dots: usize) -> Result<(usize, bool), KeepFault>
     ensures blocks { IfOk result (λ found. WhereTold (D.bytes disk.old) (λ file. found.0 ≡ length (whole_blocks file))) }
     ensures in_order { IfOk result (λ found. WhereTold (D.bytes disk.old) (λ file.
         IsTrue found.1 ↔ (whole_blocks file ≡ bodies dots 1 (length (whole_blocks file))))) }
     ensures every_moment { WhereTold (D.bytes disk.old) (λ file. Only file (D.may_leave disk.old) →
         LeavesOnly D.moment D.left_since disk.old disk.new (λ image. whole_blocks image ≡ whole_blocks file)) }
-    ensures cause { IsErrOf result RunFault.Disk → Rose (D.faults disk.old) (D.faults disk.new) }
-    ensures steady { (IsErrOf result RunFault.Disk → ⊥) → D.faults disk.new ≡ D.faults disk.old }
-    ensures not_write { IsErrOf result RunFault.Write → ⊥ }
+    ensures cause { HasCause D.faults disk.old disk.new result }
 {
     let keeper = open_keeper(alloc, disk)?;
     let found = keeper.bodies();

@@ -58,6 +58,21 @@ pub second_write : (file : List ℕ) (place : ℕ) (images : List ℕ → Type 0
 second_write file place images body fits shut only image from =
     gate_torn file place shut body fits image (subst (λ (f : List ℕ). Torn place 1 f image) (only from.0 from.1) from.2)
 
+module _ {D : Type 0} (moment : D → ℕ) (left_since : D → ℕ → List ℕ → Type 0) (may_leave : D → List ℕ → Type 0) where
+  -- once the first write was made
+  pub append_begun : (start middle : D) (file body : List ℕ) (place n : ℕ) → IsClosedAt file place → Only file (may_leave start) → LeavesOnly moment left_since start middle (TornFrom (place + 1) n (may_leave start))
+      → LeavesOnly moment left_since start middle (HasOrLacks (whole_blocks file) body)
+  append_begun start middle file body place n shut only first =
+      leaves_weaker moment left_since start middle (TornFrom (place + 1) n (may_leave start)) (HasOrLacks (whole_blocks file) body) (first_write file place n (may_leave start) body shut only) first
+
+  -- once both were
+  pub append_made : (start middle now : D) (file body : List ℕ) (place n : ℕ) (fits : length body < 2 ^ 64) (shut : IsClosedAt file place) → Only file (may_leave start)
+      → LeavesOnly moment left_since start middle (TornFrom (place + 1) n (may_leave start)) → Only (staged file place shut body fits) (may_leave middle) → LeavesOnly moment left_since middle now (TornFrom place 1 (may_leave middle))
+      → LeavesOnly moment left_since start now (HasOrLacks (whole_blocks file) body)
+  append_made start middle now file body place n fits shut only first staged_only second =
+      leaves_then moment left_since start middle now (HasOrLacks (whole_blocks file) body) (append_begun start middle file body place n shut only first)
+      (leaves_weaker moment left_since middle now (TornFrom place 1 (may_leave middle)) (HasOrLacks (whole_blocks file) body) (second_write file place (may_leave middle) body fits shut staged_only) second)
+
 -- Calls that add no image
 
 module _ {D : Type 0} (bytes : D → Option (List ℕ)) (may_leave : D → List ℕ → Type 0) (moment : D → ℕ) (left_since : D → ℕ → List ℕ → Type 0) (faults : D → ℕ) where

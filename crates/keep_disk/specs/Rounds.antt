@@ -2,25 +2,20 @@
 use Rattle.std.specs.Prelude.{◌≡◌, ◌⊎◌, ℕ, ◌≤◌, List, [], ◌∷◌, ◌++◌, length, take, map, Option, is_some, Result, IsErrOf}
 use Rattle.std.specs.List.{flat_map}
 use Rattle.std.specs.Iterator.{Yields}
-use Rattle.fx_edges.specs.declared.sink.SinkFault.{SinkFault}
-use Rattle.fx_edges.specs.declared.sink.SinkFault.TheVariants as sinks
+use Rattle.fx_amounts.specs.declared.memory.Memory.{Memory}
+use Rattle.fx_edges.specs.declared.sink.SinkFault.TheVariants.{Failed}
 use Rattle.fx_edges.specs.Faults.{Rose}
 use Rattle.fx_edges.specs.Writing.{Appended, AppendedPart}
 use Rattle.fx_disk.specs.Disk.{WhereTold, LeavesOnly}
-use Rattle.keep_disk.specs.declared.write.KeepFault.{KeepFault}
 use Rattle.keep_disk.specs.declared.write.KeepFault.TheVariants as keeps
 use Rattle.keep_disk.specs.declared.rounds.Round.{Round}
 use Rattle.keep_disk.specs.declared.rounds.RunFault.{RunFault}
-use Rattle.keep_disk.specs.declared.rounds.RunFault.TheVariants.{Disk, Write, Memory}
+use Rattle.keep_disk.specs.declared.rounds.RunFault.TheVariants.{Keep, Tell}
 use Rattle.keep_disk.specs.Blocks.{whole_blocks}
 
-abbrev pub of_keeper : KeepFault → RunFault
-of_keeper keeps.Disk = Disk
-of_keeper (keeps.Memory memory) = Memory memory
-
-abbrev pub of_sink : SinkFault → RunFault
-of_sink sinks.Failed = Write
-of_sink (sinks.Memory memory) = Memory memory
+-- no memory for a round
+abbrev pub out_of_memory : Memory → RunFault
+out_of_memory memory = Keep (keeps.Memory memory)
 
 -- the blocks of rounds, and all that is told of them
 abbrev pub bodies_of : List Round → List (List ℕ)
@@ -49,10 +44,10 @@ pub record HasFirst (start more : List (List ℕ)) (least : ℕ) (image : List �
 -- A fault of the disk or of the sink comes only where its own count rose. Neither count falls, and the disk's rises at nothing else.
 pub record RunCauses {D K T : Type 0} (disk_faults : D → ℕ) (sink_faults : K → ℕ) (before now : D) (out_before out_now : K) (result : Result T RunFault) : Type 0 where
   pub disk_count : disk_faults before ≤ disk_faults now
-  pub disk : IsErrOf result Disk → Rose (disk_faults before) (disk_faults now)
-  pub disk_steady : (IsErrOf result Disk → ⊥) → disk_faults now ≡ disk_faults before
+  pub disk : IsErrOf result (Keep keeps.Disk) → Rose (disk_faults before) (disk_faults now)
+  pub disk_steady : (IsErrOf result (Keep keeps.Disk) → ⊥) → disk_faults now ≡ disk_faults before
   pub sink_count : sink_faults out_before ≤ sink_faults out_now
-  pub sink : IsErrOf result Write → Rose (sink_faults out_before) (sink_faults out_now)
+  pub sink : IsErrOf result (Tell Failed) → Rose (sink_faults out_before) (sink_faults out_now)
 
 -- Each of these rounds is kept, and was told of after that.
 pub record KeptSoFar {D K : Type 0} (bytes : D → Option (List ℕ)) (may_leave : D → List ℕ → Type 0) (moment : D → ℕ) (left_since : D → ℕ → List ℕ → Type 0)

@@ -5,10 +5,10 @@ ghost use Rattle.fx_disk.specs.Disk.{WhereTold, LeavesOnly};
 ghost use Rattle.keep_disk.specs.Blocks.{whole_blocks, HasOrLacks};
 ghost use Rattle.keep_disk.specs.Keeping.{AtRest, HasCause};
 
-use crate::body::Body;
 use crate::write::{KeepFault, write_synced};
 use fx_amounts::{Memory, room_for};
 use fx_disk::Disk;
+use fx_text::Bytes;
 use std::alloc::Global;
 use std::mem;
 
@@ -24,7 +24,7 @@ const FRAME: usize = 9;
 /// What opened a journal file: its whole blocks then, until they are taken out, and the place of its last gate now.
 #[derive(Drop)]
 pub struct Keeper {
-    pub(crate) bodies: Vec<Body>,
+    pub(crate) bodies: Vec<Bytes>,
     pub(crate) place: u64,
 }
 
@@ -50,14 +50,14 @@ fn block_of(alloc: Global, body: &[u8]) -> Result<Vec<u8>, Memory>
 
 impl Keeper {
     /// The whole blocks that the file had when it was opened, or none once they were taken out.
-    pub fn bodies(&self) -> &[Body]
+    pub fn bodies(&self) -> &[Bytes]
         ensures { result.now ≡ self.now.bodies.items }
     {
         self.bodies.as_slice()
     }
 
     /// The whole blocks that the file had when it was opened. The keeper has none of them any more. It takes no memory.
-    pub fn take_bodies(&mut self) -> Vec<Body>
+    pub fn take_bodies(&mut self) -> Vec<Bytes>
         ensures bodies { result.items ≡ self.old.bodies.items }
         ensures none { self.new.bodies.items ≡ [] }
         ensures place { self.new.place ≡ self.old.place }

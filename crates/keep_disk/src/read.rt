@@ -4,17 +4,17 @@ ghost use Rattle.keep_disk.specs.Blocks.{blocks_from, whole_blocks, space};
 ghost use Rattle.keep_disk.specs.Keeping.{HasCause};
 ghost use Rattle.keep_disk.specs.inside.Keeping.{Untouched};
 
-use crate::body::Body;
 use crate::keeper::OPEN;
 use crate::write::KeepFault;
 use fx_amounts::Memory;
 use fx_disk::Disk;
+use fx_text::Bytes;
 use std::alloc::Global;
 
 /// What a file's bytes have: the bodies of its whole blocks, and the place behind them.
 #[derive(Drop)]
 pub(crate) struct Found {
-    pub bodies: Vec<Body>,
+    pub bodies: Vec<Bytes>,
     pub place: usize,
 }
 
@@ -51,7 +51,7 @@ pub(crate) fn read_blocks(alloc: Global, file: &[u8]) -> Result<Found, Memory>
     let mut bodies = Vec::new(alloc);
     let mut place = 0;
     'blocks: while let Some(body) = next_body(&file[place..]) {
-        bodies.push(Body::from_vec(body.to_vec(alloc)?))?;
+        bodies.push(Bytes::from_vec(body.to_vec(alloc)?))?;
         place += 9 + body.len();
     }
     Ok(Found { bodies, place })

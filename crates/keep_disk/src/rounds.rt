@@ -14,53 +14,34 @@ use fx_disk::Disk;
 use fx_edges::{Sink, SinkFault, write_all};
 use thiserror::Error;
 
-/// Why a run gave up.
+/// Why a run gave up. After either the file is to be opened again.
 #[derive(Clone, Copy, Debug, Error, PartialEq, Eq)]
 pub enum RunFault {
-    /// The disk failed, and its count of faults rose. The file is to be opened again.
-    #[error("the disk failed")]
-    Disk,
-    /// The sink failed, and its count of faults rose.
-    #[error("a notice could not be written")]
-    Write,
-    /// There wasn't enough memory, and the disk's count did not rise. The file is to be opened again.
-    #[error("out of memory")]
-    Memory(Memory),
+    /// The round could not be kept, or there was no memory for it.
+    #[error("the round could not be kept: {0}")]
+    Keep(KeepFault),
+    /// The round is kept, and could not be told of whole.
+    #[error("the round could not be told of")]
+    Tell(SinkFault),
 }
 
 impl From<KeepFault> for RunFault {
-    ghost use Rattle.keep_disk.specs.Rounds.{of_keeper};
+    ghost use Rattle.keep_disk.specs.declared.rounds.RunFault.TheVariants.{Keep};
 
-    ghost from_gives = { λ keep fault. fault ≡ of_keeper keep };
+    ghost from_gives = { λ keep fault. fault ≡ Keep keep };
 
     fn from(fault: KeepFault) -> Self {
-        match fault {
-            KeepFault::Disk => RunFault::Disk,
-            KeepFault::Memory(memory) => RunFault::Memory(memory),
-        }
-    }
-}
-
-impl From<SinkFault> for RunFault {
-    ghost use Rattle.keep_disk.specs.Rounds.{of_sink};
-
-    ghost from_gives = { λ sink fault. fault ≡ of_sink sink };
-
-    fn from(fault: SinkFault) -> Self {
-        match fault {
-            SinkFault::Failed => RunFault::Write,
-            SinkFault::Memory(memory) => RunFault::Memory(memory),
-        }
+        RunFault::Keep(fault)
     }
 }
 
 impl From<Memory> for RunFault {
-    ghost use Rattle.keep_disk.specs.declared.rounds.RunFault.TheVariants.{Memory as OutOfMemory};
+    ghost use Rattle.keep_disk.specs.Rounds.{out_of_memory};
 
-    ghost from_gives = { λ memory fault. fault ≡ OutOfMemory memory };
+    ghost from_gives = { λ memory fault. fault ≡ out_of_memory memory };
 
     fn from(memory: Memory) -> Self {
-        RunFault::Memory(memory)
+        RunFault::Keep(KeepFault::Memory(memory))
     }
 }
 
@@ -115,8 +96,7 @@ pub fn keep_round<D: Disk, K: Sink>(
     ensures causes { RunCauses D.faults K.faults disk.old disk.new out.old out.new result }
 {
     keeper.append(disk, &round.body)?;
-    write_all(out, &round.text)?;
-    Ok(())
+    write_all(out, &round.text).map_err(RunFault::Tell)
 }
 
 /// Keeps rounds and tells of them, one after the other, until there is none any more.

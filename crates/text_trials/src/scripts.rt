@@ -26,10 +26,10 @@ const BEHIND: &[u8] = b"ALFA PULL EUR/USD\nHOST\nEND\nFXBOOK 1\n";
 /// So many that a line with them is a long one.
 const BLANKS: &[u8] = &[b' '; 300];
 
-/// A text in parts, read in pieces of at most so many bytes each, from a source that fails at one of these calls, or at call 0,
-/// which there is none of. What it says, unless that is left open, and the end of what is told of it.
+/// Texts in parts, each read in pieces of at most so many bytes, from a source that fails at one of these calls, or at call 0,
+/// which there is none of. What each says, unless that is left open, and the end of what is told of it.
 type Case = (
-    &'static [&'static [u8]],
+    &'static [&'static [&'static [u8]]],
     &'static [usize],
     &'static [u64],
     Option<&'static str>,
@@ -39,24 +39,20 @@ type Case = (
 /// Pieces of any size.
 const ANY: &[usize] = &[1, 2, 3, 7, 4096, 10_000];
 
-const CASES: [Case; 24] = [
+const CASES: [Case; 14] = [
+    // The END line may be what is left over at the source's end.
     (
-        &[HEADER, LINES, b"END\r\n", BEHIND],
+        &[
+            &[HEADER, LINES, b"END\r\n", BEHIND],
+            &[HEADER, LINES, b" END\t"],
+        ],
         ANY,
         &[0],
         Some(SAID),
         "2 banks, 1 pairs, 2 strays, Some(EndLine)",
     ),
-    // The END line is what is left over at the source's end.
     (
-        &[HEADER, LINES, b" END\t"],
-        ANY,
-        &[0],
-        Some(SAID),
-        "2 banks, 1 pairs, 2 strays, Some(EndLine)",
-    ),
-    (
-        &[HEADER, b"END"],
+        &[&[HEADER, b"END"]],
         ANY,
         &[0],
         Some("[]"),
@@ -64,17 +60,17 @@ const CASES: [Case; 24] = [
     ),
     // A line of more than 256 bytes is bad where a bank begins it, and else a stray; it is no END line.
     (
-        &[
+        &[&[
             HEADER, b"BETA", BLANKS, b"\nGAMA", BLANKS, b"\nEND", BLANKS, b"\n#", BLANKS,
             b"\nEND\n",
-        ],
+        ]],
         ANY,
         &[0],
         Some("[Sent { bank: BankId(1), command: Bad { reason: Long } }]"),
         "2 banks, 1 pairs, 2 strays, Some(EndLine)",
     ),
     (
-        &[HEADER, b"END", BLANKS],
+        &[&[HEADER, b"END", BLANKS]],
         &[64],
         &[0],
         Some("[]"),
@@ -82,46 +78,26 @@ const CASES: [Case; 24] = [
     ),
     // The whole lines of a text that is cut are read.
     (
-        &[HEADER, LINES],
-        &[64],
-        &[0],
-        Some(SAID),
-        "2 banks, 1 pairs, 2 strays, Some(Early(Cut))",
-    ),
-    (
-        &[HEADER, LINES, b"EN"],
-        &[64],
-        &[0],
-        Some(SAID),
-        "2 banks, 1 pairs, 2 strays, Some(Early(Cut))",
-    ),
-    (
-        &[HEADER, LINES, b"END x"],
-        &[64],
-        &[0],
-        Some(SAID),
-        "2 banks, 1 pairs, 2 strays, Some(Early(Cut))",
-    ),
-    (
-        &[HEADER, LINES, b"BETA WAIT"],
-        &[64],
-        &[0],
-        Some(SAID),
-        "2 banks, 1 pairs, 2 strays, Some(Early(Cut))",
-    ),
-    (
-        &[HEADER, LINES, b"# END"],
+        &[
+            &[HEADER, LINES],
+            &[HEADER, LINES, b"EN"],
+            &[HEADER, LINES, b"END x"],
+            &[HEADER, LINES, b"BETA WAIT"],
+            &[HEADER, LINES, b"# END"],
+        ],
         &[64],
         &[0],
         Some(SAID),
         "2 banks, 1 pairs, 2 strays, Some(Early(Cut))",
     ),
     // Without START there is no END line.
-    (&[b""], &[64], &[0], Some(""), "Early(Cut)"),
-    (&[b"END"], &[64], &[0], Some(""), "Early(Cut)"),
-    (&[b"FXBOOK 1\nEND"], &[64], &[0], Some(""), "Early(Cut)"),
     (
-        &[b"FXBOOK 1\nBANK ALFA\nBANK BETA\nSTART"],
+        &[
+            &[b""],
+            &[b"END"],
+            &[b"FXBOOK 1\nEND"],
+            &[b"FXBOOK 1\nBANK ALFA\nBANK BETA\nSTART"],
+        ],
         &[64],
         &[0],
         Some(""),
@@ -129,21 +105,21 @@ const CASES: [Case; 24] = [
     ),
     // A fault's line is counted with all lines that are ignored, and no read comes behind it.
     (
-        &[b"# c\n\nFXBOOK 2\nFXBOOK 1\n"],
+        &[&[b"# c\n\nFXBOOK 2\nFXBOOK 1\n"]],
         &[5],
         &[0],
         Some(""),
         "Header { line: 3, reason: Version }",
     ),
     (
-        &[b"# c\n\nFXBOOK 2\nFXBOOK 1\n"],
+        &[&[b"# c\n\nFXBOOK 2\nFXBOOK 1\n"]],
         &[14],
         &[2],
         Some(""),
         "Header { line: 3, reason: Version }",
     ),
     (
-        &[b"FXBOOK 1\n#\nBANK ALFA\nEND\n"],
+        &[&[b"FXBOOK 1\n#\nBANK ALFA\nEND\n"]],
         &[64],
         &[0],
         Some(""),
@@ -152,53 +128,43 @@ const CASES: [Case; 24] = [
     // The source fails at one of the calls that are made for the text, of 16 bytes each: 14 up to its END line, or one more where
     // the END line has no line feed, and the source's end has to be met. START ends with the sixth piece.
     (
-        &[HEADER, LINES, b"END\n", BEHIND],
+        &[&[HEADER, LINES, b"END\n", BEHIND], &[HEADER, LINES, b"END"]],
         &[16],
         &[1, 2, 3, 4, 5, 6],
         Some(""),
         "Early(ReadFault)",
     ),
     (
-        &[HEADER, LINES, b"END\n", BEHIND],
+        &[
+            &[HEADER, LINES, b"END\n", BEHIND],
+            &[HEADER, LINES, b"END\n"],
+            &[HEADER, LINES, b"END"],
+        ],
         &[16],
         &[7, 8, 9, 10, 11, 12, 13, 14],
         None,
         "Some(Early(ReadFault))",
     ),
     (
-        &[HEADER, LINES, b"END\n", BEHIND],
+        &[&[HEADER, LINES, b"END"]],
+        &[16],
+        &[15],
+        None,
+        "Some(Early(ReadFault))",
+    ),
+    (
+        &[&[HEADER, LINES, b"END\n", BEHIND]],
         &[16],
         &[15],
         Some(SAID),
         "2 banks, 1 pairs, 2 strays, Some(EndLine)",
     ),
     (
-        &[HEADER, LINES, b"END"],
-        &[16],
-        &[1, 2, 3, 4, 5, 6],
-        Some(""),
-        "Early(ReadFault)",
-    ),
-    (
-        &[HEADER, LINES, b"END"],
-        &[16],
-        &[7, 8, 9, 10, 11, 12, 13, 14, 15],
-        None,
-        "Some(Early(ReadFault))",
-    ),
-    (
-        &[HEADER, LINES, b"END"],
+        &[&[HEADER, LINES, b"END"]],
         &[16],
         &[16],
         Some(SAID),
         "2 banks, 1 pairs, 2 strays, Some(EndLine)",
-    ),
-    (
-        &[HEADER, LINES, b"END\n"],
-        &[16],
-        &[14],
-        None,
-        "Some(Early(ReadFault))",
     ),
 ];
 
@@ -252,11 +218,17 @@ fn read(alloc: Global, source: &mut MemorySource) -> Result<(String, String), Fa
     }
 }
 
-/// Whether a case is read so with these pieces and this failing call.
-fn is_read(alloc: Global, case: &Case, most: usize, call: u64) -> Result<bool, Fail>
+/// Whether a text in parts is read as a case tells, with these pieces and this failing call.
+fn is_read(
+    alloc: Global,
+    case: &Case,
+    parts: &[&[u8]],
+    most: usize,
+    call: u64,
+) -> Result<bool, Fail>
     requires { 1 ≤ most }
 {
-    let (parts, _, _, want, end) = case;
+    let (_, _, _, want, end) = case;
     let (said, rest) = read(alloc, &mut source_of(alloc, parts, most, call)?)?;
     let is_said = match want {
         Some(want) => said.as_str() == *want,
@@ -265,12 +237,12 @@ fn is_read(alloc: Global, case: &Case, most: usize, call: u64) -> Result<bool, F
     Ok(is_said && rest.ends_with(end))
 }
 
-/// Whether a case is read so in all its pieces and with each of its failing calls.
-fn is_always_read(alloc: Global, case: &Case) -> Result<bool, Fail> {
+/// Whether a text is read so in all pieces of a case and with each of its failing calls.
+fn is_always_read(alloc: Global, case: &Case, parts: &[&[u8]]) -> Result<bool, Fail> {
     let (_, sizes, calls, _, _) = case;
     for most in sizes.iter() {
         for call in calls.iter() {
-            if !is_read(alloc, case, (*most).max(1), *call)? {
+            if !is_read(alloc, case, parts, (*most).max(1), *call)? {
                 return Ok(false);
             }
         }
@@ -281,7 +253,9 @@ fn is_always_read(alloc: Global, case: &Case) -> Result<bool, Fail> {
 #[test]
 fn texts_are_read_in_any_pieces(rt: HostRuntime) -> Result<(), Fail> {
     for (at, case) in CASES.iter().enumerate() {
-        assert!(rt; is_always_read(rt.alloc(), case)?, "case {at}");
+        for parts in case.0.iter() {
+            assert!(rt; is_always_read(rt.alloc(), case, parts)?, "case {at}");
+        }
     }
     Ok(())
 }

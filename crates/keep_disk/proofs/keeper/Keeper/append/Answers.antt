@@ -1,41 +1,28 @@
 use Rattle.std.proofs.Common.{◌≡◌, ◌∙◌, ◌+◌, ◌++◌, ◌∷◌, [], ℕ, length, refl, sym, ap, subst, rules, w64}
 use Rattle.std.specs.Int.{to_be_bytes}
-use Rattle.fx_disk.proofs.Leaving.{leaves_weaker, leaves_then}
-use Rattle.keep_disk.specs.Blocks.{whole_blocks, IsClosedAt, HasOrLacks}
-use Rattle.keep_disk.specs.inside.Keeping.{TornFrom}
+use Rattle.keep_disk.specs.Blocks.{whole_blocks, IsClosedAt}
 use Rattle.keep_disk.proofs.Appending.{opened, opened_blocks, opened_closed}
-use Rattle.keep_disk.proofs.Moments.{told_piece, told_before, at_rest_now, first_write, second_write}
+use Rattle.keep_disk.proofs.Moments.{told_piece, told_before, at_rest_now, append_begun, append_made}
 use Rattle.keep_disk.proofs.keeper.Keeper.append.Goals as goal
 
 pub returns-in_err-write_synced-clause-every_moment : goal.returns-in_err-write_synced-clause-every_moment
 returns-in_err-write_synced-clause-every_moment g c = λ file told.
-    leaves_weaker g.D.Disk.moment g.D.Disk.left_since c.args.disk.now c.write_synced.new.disk (TornFrom (c.args.self.now.place + 1) (length c.deref.result.now) (g.D.Disk.may_leave c.args.disk.now)) (HasOrLacks (whole_blocks file) c.args.body.now)
-    (first_write file c.args.self.now.place (length c.deref.result.now) (g.D.Disk.may_leave c.args.disk.now) c.args.body.now (c.requires file told).0 (c.requires file told).1)
-    c.write_synced.ensures.every_moment
+    append_begun g.D.Disk.moment g.D.Disk.left_since g.D.Disk.may_leave c.args.disk.now c.write_synced.new.disk file c.args.body.now c.args.self.now.place (length c.deref.result.now)
+    (c.requires file told).0 (c.requires file told).1 c.write_synced.ensures.every_moment
 
 pub returns-in_err-write_synced-2-clause-every_moment : goal.returns-in_err-write_synced-2-clause-every_moment
 returns-in_err-write_synced-2-clause-every_moment g c = λ file told.
     let block : c.deref.result.now ≡ to_be_bytes w64 (length c.args.body.now) ++ c.args.body.now ++ 0 ∷ [] = search rules in
     let middle = told_piece _ _ (c.args.self.now.place + 1) _ _ file c.in_ok-write_synced.ensures.bytes told block in
-    leaves_then g.D.Disk.moment g.D.Disk.left_since c.args.disk.now c.write_synced.new.disk c.write_synced-2.new.disk (HasOrLacks (whole_blocks file) c.args.body.now)
-    (leaves_weaker g.D.Disk.moment g.D.Disk.left_since c.args.disk.now c.write_synced.new.disk (TornFrom (c.args.self.now.place + 1) (length c.deref.result.now) (g.D.Disk.may_leave c.args.disk.now)) (HasOrLacks (whole_blocks file) c.args.body.now)
-    (first_write file c.args.self.now.place (length c.deref.result.now) (g.D.Disk.may_leave c.args.disk.now) c.args.body.now (c.requires file told).0 (c.requires file told).1)
-    c.write_synced.ensures.every_moment)
-    (leaves_weaker g.D.Disk.moment g.D.Disk.left_since c.write_synced.new.disk c.write_synced-2.new.disk (TornFrom c.args.self.now.place 1 (g.D.Disk.may_leave c.write_synced.new.disk)) (HasOrLacks (whole_blocks file) c.args.body.now)
-    (second_write file c.args.self.now.place (g.D.Disk.may_leave c.write_synced.new.disk) c.args.body.now c.place_behind.ensures.fits (c.requires file told).0 (c.in_ok-write_synced.ensures.durable _ middle))
-    c.write_synced-2.ensures.every_moment)
+    append_made g.D.Disk.moment g.D.Disk.left_since g.D.Disk.may_leave c.args.disk.now c.write_synced.new.disk c.write_synced-2.new.disk file c.args.body.now c.args.self.now.place (length c.deref.result.now)
+    c.place_behind.ensures.fits (c.requires file told).0 (c.requires file told).1 c.write_synced.ensures.every_moment (c.in_ok-write_synced.ensures.durable _ middle) c.write_synced-2.ensures.every_moment
 
 pub returns-clause-every_moment : goal.returns-clause-every_moment
 returns-clause-every_moment g c = λ file told.
     let block : c.deref.result.now ≡ to_be_bytes w64 (length c.args.body.now) ++ c.args.body.now ++ 0 ∷ [] = search rules in
     let middle = told_piece _ _ (c.args.self.now.place + 1) _ _ file c.in_ok-write_synced.ensures.bytes told block in
-    leaves_then g.D.Disk.moment g.D.Disk.left_since c.args.disk.now c.write_synced.new.disk c.write_synced-2.new.disk (HasOrLacks (whole_blocks file) c.args.body.now)
-    (leaves_weaker g.D.Disk.moment g.D.Disk.left_since c.args.disk.now c.write_synced.new.disk (TornFrom (c.args.self.now.place + 1) (length c.deref.result.now) (g.D.Disk.may_leave c.args.disk.now)) (HasOrLacks (whole_blocks file) c.args.body.now)
-    (first_write file c.args.self.now.place (length c.deref.result.now) (g.D.Disk.may_leave c.args.disk.now) c.args.body.now (c.requires file told).0 (c.requires file told).1)
-    c.write_synced.ensures.every_moment)
-    (leaves_weaker g.D.Disk.moment g.D.Disk.left_since c.write_synced.new.disk c.write_synced-2.new.disk (TornFrom c.args.self.now.place 1 (g.D.Disk.may_leave c.write_synced.new.disk)) (HasOrLacks (whole_blocks file) c.args.body.now)
-    (second_write file c.args.self.now.place (g.D.Disk.may_leave c.write_synced.new.disk) c.args.body.now c.place_behind.ensures.fits (c.requires file told).0 (c.in_ok-write_synced.ensures.durable _ middle))
-    c.write_synced-2.ensures.every_moment)
+    append_made g.D.Disk.moment g.D.Disk.left_since g.D.Disk.may_leave c.args.disk.now c.write_synced.new.disk c.write_synced-2.new.disk file c.args.body.now c.args.self.now.place (length c.deref.result.now)
+    c.place_behind.ensures.fits (c.requires file told).0 (c.requires file told).1 c.write_synced.ensures.every_moment (c.in_ok-write_synced.ensures.durable _ middle) c.write_synced-2.ensures.every_moment
 
 pub returns-clause-appended : goal.returns-clause-appended
 returns-clause-appended g c = λ file told image may.
