@@ -31,7 +31,10 @@ fn a_real_file_keeps_its_blocks(rt: HostRuntime) -> Result<(), Fail> {
     // While one disk has the file open, another can't open it.
     let mut open = FileDisk::new(&rt);
     assert!(rt; open.size().is_ok());
-    assert!(rt; append(alloc, &mut FileDisk::new(&rt), &mut out, 1, DOTS) == Err(RunFault::Disk));
+    assert!(rt;
+        append(alloc, &mut FileDisk::new(&rt), &mut out, 1, DOTS)
+            == Err(RunFault::Keep(KeepFault::Disk))
+    );
     drop(open);
 
     // A folder of that name is no file.
