@@ -3,3 +3,4 @@ pub mod Listing
 mod Fronting
 mod Walking
 mod Wanting
+mod Numbering

@@ -128,7 +128,7 @@ room_made owners at bank rows side same within room =
     subst (λ (b : ℕ). 1 ≤ (row_at (set owners at rows) b side).room) same (omega (arith, ap (λ (l : Ladder). l.room) (set_here owners at rows side within)))
 
 -- only a bank that there is has places
-no_places : (side : Side) → (row_of no_rows side).places ≡ []
+pub no_places : (side : Side) → (row_of no_rows side).places ≡ []
 no_places Buy = refl
 no_places Sell = refl
 

@@ -2,3 +2,4 @@ pub mod Listed
 pub mod Owned
 pub mod Search
 pub mod Fronts
+pub mod Numbered

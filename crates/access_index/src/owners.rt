@@ -1,4 +1,4 @@
-ghost use Rattle.std.specs.Prelude.{◌≡◌, ◌≢◌, ◌+◌, ◌≤◌, ◌<◌, ◌==◌, ◌++◌, ℕ, min, true, false, None, [], length, not, nat_lt, if◌then◌else◌, slice_get, vec_len, vec_capacity, OnErr, OnOk, IfOk, IfSome};
+ghost use Rattle.std.specs.Prelude.{◌≡◌, ◌≢◌, ◌+◌, ◌≤◌, ◌<◌, ◌==◌, ◌++◌, ℕ, min, true, false, None, Some, [], length, not, nat_lt, if◌then◌else◌, slice_get, slice_index_or, vec_len, vec_capacity, OnErr, OnOk, IfOk, IfSome};
 ghost use Rattle.std.specs.List.{All, Contains, filter};
 ghost use Rattle.std.specs.List.Sorted.{IsPartitionedBy};
 ghost use Rattle.std.specs.Option.{option_copied, option_map};
@@ -8,13 +8,15 @@ ghost use Rattle.price_levels.specs.declared.place.Place.{Place};
 ghost use Rattle.price_levels.specs.Ladder.{IsFirstOf, IsNewArrival, crossing};
 ghost use Rattle.access_index.specs.Listed.{listed};
 ghost use Rattle.access_index.specs.inside.Listed.{with_bank};
-ghost use Rattle.access_index.specs.Owned.{AreInTime, AreOwned, OwnerGains, OwnerLoses, OwnersGrow, is_ahead, row_at, stands_behind};
-ghost use Rattle.access_index.specs.inside.Owned.{AreEmpty};
+ghost use Rattle.access_index.specs.Owned.{AreInTime, AreOwned, OwnerGains, OwnerLoses, OwnersGrow, is_ahead, no_rows, row_at, stands_behind};
+ghost use Rattle.access_index.specs.inside.Numbered.{AreNumbered, Gives, rows_of};
+ghost use Rattle.indexmap.specs.IndexMap.{keys, spare};
 
 use crate::fronts::{Fronts, any_crosses};
 use crate::search::{first_in_time, first_place_behind};
 use crate::sides::Sides;
 use fx_amounts::{BankId, Memory, Price, Side};
+use indexmap::IndexMap;
 use price_levels::{Levels, Place, Steps};
 use std::alloc::Global;
 use std::marker::Model;
@@ -23,7 +25,12 @@ use std::sync::ledger::Ledger;
 /// For each bank the places of its orders in one pair.
 #[derive(Debug, Drop)]
 pub struct Owners {
-    rows: Vec<Sides>,
+    /// How many banks there can be, 64 at most.
+    banks: usize,
+    /// The places of each owner, numbered in the order in which the owners came. There is room for all banks, and none is taken out.
+    rows: IndexMap<BankId, Sides>,
+    /// The number of each bank that has one, so that none of them is looked for by its hash.
+    numbers: [Option<u8>; BankId::COUNT],
     /// The banks that have a place, from the lowest number on. There is room for all.
     listed: Vec<BankId>,
     fronts: Fronts,
@@ -31,14 +38,15 @@ pub struct Owners {
 
 impl Model for Owners {
     ghost use Rattle.std.specs.Prelude.{List, vec_capacity};
+    ghost use Rattle.indexmap.specs.IndexMap.{spare};
     ghost use Rattle.access_index.specs.Sides.{OwnRows};
-    ghost use Rattle.access_index.specs.inside.Fronts.{AreIndexed};
+    ghost use Rattle.access_index.specs.inside.Numbered.{AreKept, rows_of};
 
     ghost Value = { List OwnRows };
 
-    ghost view = { λ o. o.rows.items };
+    ghost view = { λ o. rows_of o.rows.entries o.banks };
 
-    ghost invariant = { λ o. AreIndexed o.rows.items o.listed.items (vec_capacity o.listed) o.fronts };
+    ghost invariant = { λ o. AreKept o.banks o.numbers o.rows.entries (spare o.rows) o.listed.items (vec_capacity o.listed) o.fronts };
 }
 
 impl Owners {
@@ -48,13 +56,15 @@ impl Owners {
         ensures empty { IfOk result (λ owners. (bank : ℕ) (side : OneSide) → (row_at owners bank side).places ≡ []) }
         ensures valid { IfOk result AreOwned }
     {
-        let count = banks.min(BankId::COUNT);
-        let rows = empty_rows(alloc, count)?;
-        let fronts = Fronts::none(alloc, count)?;
+        let banks = banks.min(BankId::COUNT);
+        let rows = IndexMap::with_capacity(alloc, banks)?;
+        let fronts = Fronts::none(alloc, banks)?;
         let mut listed = Vec::new(alloc);
-        listed.reserve_exact(count)?;
+        listed.reserve_exact(banks)?;
         Ok(Owners {
+            banks,
             rows,
+            numbers: [None; BankId::COUNT],
             listed,
             fronts,
         })
@@ -67,7 +77,8 @@ impl Owners {
         ensures grow { OwnersGrow self.old self.new }
         ensures valid { AreOwned self.new }
     {
-        let rows = &mut self.rows[bank.index()];
+        let number = number_of(self.banks, &mut self.numbers, &mut self.rows, bank);
+        let rows = &mut self.rows[number];
         rows.reserve(side)
     }
 
@@ -79,7 +90,8 @@ impl Owners {
         ensures gains { OwnerGains self.old self.new bank side place }
         ensures valid { AreOwned self.new }
     {
-        let rows = &mut self.rows[bank.index()];
+        let number = self.numbers[bank.index()].unwrap();
+        let rows = &mut self.rows[usize::from(number)];
         let is_listed = rows.has_places();
         rows.insert(side, place);
         let front = rows.front_price(side);
@@ -93,7 +105,8 @@ impl Owners {
         ensures loses { OwnerLoses self.old self.new bank side place.now }
         ensures valid { AreOwned self.new }
     {
-        let rows = &mut self.rows[bank.index()];
+        let number = self.numbers[bank.index()].unwrap();
+        let rows = &mut self.rows[usize::from(number)];
         rows.remove(side, place);
         let front = rows.front_price(side);
         self.fronts.set(bank, side, front);
@@ -109,6 +122,16 @@ impl Owners {
         &self.listed
     }
 
+    /// The rows of a bank; `None` where it has no number, and so no place.
+    fn rows_of(&self, bank: BankId) -> Option<&Sides>
+        ensures some { IfSome result (λ rows. rows.now ≡ slice_index_or self.now bank no_rows) }
+        ensures none { result ≡ None → slice_index_or self.now bank no_rows ≡ no_rows }
+        ensures valid { AreOwned self.now }
+    {
+        let number = self.numbers[bank.index()]?;
+        Some(&self.rows[usize::from(number)])
+    }
+
     /// The places of a bank and a side; `None` exactly where the bank has no order of that side.
     pub fn levels(&self, bank: BankId, side: Side) -> Option<&Levels>
         ensures some { IfSome result (λ levels. levels.now ≡ row_at self.now bank side) }
@@ -116,10 +139,7 @@ impl Owners {
         ensures none { result ≡ None → (row_at self.now bank side).places ≡ [] }
         ensures valid { AreOwned self.now }
     {
-        if bank.index() >= self.rows.len() {
-            return None;
-        }
-        let levels = self.rows[bank.index()].of(side);
+        let levels = self.rows_of(bank)?.of(side);
         if levels.is_empty() {
             return None;
         }
@@ -158,10 +178,10 @@ impl Owners {
         ensures memory { OnErr result (into.new.items ≡ into.old.items) }
         ensures valid { AreOwned self.now }
     {
-        if bank.index() >= self.rows.len() {
-            return Ok(());
+        match self.rows_of(bank) {
+            Some(rows) => rows.of(side).gather_crossing(top, into),
+            None => Ok(()),
         }
-        self.rows[bank.index()].of(side).gather_crossing(top, into)
     }
 
     /// The first place of a bank and a side whose order arrived before `before` and that stands behind the place `past`,
@@ -204,16 +224,28 @@ impl Owners {
     }
 }
 
-/// So many rows of either side, with no places.
-fn empty_rows(alloc: Global, count: usize) -> Result<Vec<Sides>, Memory>
-    ensures count { IfOk result (λ rows. length rows.items ≡ count) }
-    ensures empty { IfOk result (λ rows. All AreEmpty rows.items) }
+/// The number of a bank, which it is given where it has none. There is room for each of so many banks, so that it takes no memory.
+fn number_of(
+    banks: usize,
+    numbers: &mut [Option<u8>; BankId::COUNT],
+    rows: &mut IndexMap<BankId, Sides>,
+    bank: BankId,
+) -> usize
+    requires numbered { AreNumbered banks numbers.old rows.old.entries (spare rows.old) }
+    requires bank { bank < banks }
+    ensures numbered { AreNumbered banks numbers.new rows.new.entries (spare rows.new) }
+    ensures number { slice_get (keys rows.new) result ≡ Some bank }
+    ensures gives { Gives (rows_of rows.old.entries banks) (rows_of rows.new.entries banks) bank }
 {
-    let mut rows = Vec::new(alloc);
-    for _bank in 0..count {
-        rows.push(Sides::new(alloc))?;
+    if let Some(number) = numbers[bank.index()] {
+        return usize::from(number);
     }
-    Ok(rows)
+    let number = rows.len();
+    let sides = Sides::new(*rows.allocator());
+    let added: Result<_, _> = rows.insert(bank, sides);
+    added.unwrap();
+    numbers[bank.index()] = Some(number as u8);
+    number
 }
 
 /// Puts a bank among others, in the order of their numbers, unless it is among them. There is room for it.

@@ -1,30 +1,46 @@
-use Rattle.std.proofs.Common.{List, ◌<◌, ◌∙◌, length, ap, subst, slice_set, arith}
+use Rattle.std.proofs.Common.{List, ◌<◌, length, ap, subst, arith}
+use Rattle.std.proofs.lemmas.Result.{on_ok_weaker}
+use Rattle.indexmap.specs.IndexMap.{spare, with_value_at}
 use Rattle.access_index.specs.Sides.{OwnRows}
 use Rattle.access_index.specs.Owned.{OwnersGrow}
-use Rattle.access_index.proofs.Rows.{grown_places, owned_grown, owners_grown}
-use Rattle.access_index.proofs.Fronting.{fronts_kept}
-use Rattle.access_index.proofs.Listing.{grown_has, index_same, read_has}
+use Rattle.access_index.specs.inside.Numbered.{rows_of}
+use Rattle.access_index.proofs.Numbering.{gives_more, grown_given, indexed_given, length-rows_of, number_within, owned_given, room_given, writes_key}
 use Rattle.access_index.proofs.owners.Owners.reserve.Goals as goal
 
-pub returns-clause-valid : goal.returns-clause-valid
-returns-clause-valid c =
-    let within : c.index.result < length c.self.inside.rows.items = omega (arith, c.requires.bank, c.index.ensures.value, ap length c.self.view_is) in
-    owned_grown c.self.inside.rows.items c.index.result c.index_mut-rows.result.now c.reserve.new.self c.self.invariant.index.owned within c.index_mut-rows.ensures.value c.reserve.ensures.bids c.reserve.ensures.asks
+pub number_of-number-requires-clause-bank : goal.number_of-number-requires-clause-bank
+number_of-number-requires-clause-bank c = omega (arith, c.requires.bank, ap length c.self.view_is, length-rows_of c.self.inside.rows.entries c.self.inside.banks)
+
+pub index_mut-rows-requires : goal.index_mut-rows-requires
+index_mut-rows-requires c =
+    number_within c.self.inside.banks c.number_of-number.new.numbers c.number_of-number.new.rows.entries (spare c.number_of-number.new.rows) c.number_of-number.ensures.numbered c.args.bank c.number_of-number.result c.number_of-number.ensures.number
 
 pub invariant_of-self : goal.invariant_of-self
 invariant_of-self c =
-    let within : c.index.result < length c.self.inside.rows.items = omega (arith, c.requires.bank, c.index.ensures.value, ap length c.self.view_is) in
-    record {
-      index =
-          index_same c.self.inside.rows.items c.self.inside.listed.items _ c.index.result c.reserve.new.self c.self.invariant.index (returns-clause-valid c) within
-          (grown_has c.index_mut-rows.result.now c.reserve.new.self c.reserve.ensures.bids c.reserve.ensures.asks
-          ∙ read_has c.self.inside.rows.items c.index.result c.index_mut-rows.result.now within c.index_mut-rows.ensures.value);
-      fronts = fronts_kept c.self.inside.rows.items c.self.inside.fronts c.index.result c.index_mut-rows.result.now c.reserve.new.self c.self.invariant.fronts c.index_mut-rows.ensures.value
-          (grown_places c.index_mut-rows.result.now c.reserve.new.self c.reserve.ensures.bids c.reserve.ensures.asks);
-    }
+    let w = writes_key c.self.inside.banks c.number_of-number.new.numbers c.number_of-number.new.rows c.args.bank c.number_of-number.result c.index_mut-rows.result.now c.reserve.new.self c.number_of-number.ensures.numbered c.number_of-number.ensures.number c.index_mut-rows.ensures.value in
+    let within : c.args.bank < length (rows_of c.self.inside.rows.entries c.self.inside.banks) = omega (arith, c.requires.bank, ap length c.self.view_is) in
+    let gives = gives_more (rows_of c.self.inside.rows.entries c.self.inside.banks) (rows_of c.number_of-number.new.rows.entries c.self.inside.banks) _ c.args.bank c.index_mut-rows.result.now c.reserve.new.self within
+    c.number_of-number.ensures.gives w.read w.rows_are c.reserve.ensures.bids c.reserve.ensures.asks in
+    record { numbered = w.numbered; indexed = indexed_given (rows_of c.self.inside.rows.entries c.self.inside.banks) _ c.args.bank within gives _ _ _ c.self.invariant.indexed }
+
+pub returns-clause-room : goal.returns-clause-room
+returns-clause-room c =
+    let w = writes_key c.self.inside.banks c.number_of-number.new.numbers c.number_of-number.new.rows c.args.bank c.number_of-number.result c.index_mut-rows.result.now c.reserve.new.self c.number_of-number.ensures.numbered c.number_of-number.ensures.number c.index_mut-rows.ensures.value in
+    on_ok_weaker c.reserve.result
+    (room_given (rows_of c.number_of-number.new.rows.entries c.self.inside.banks) _ c.args.bank c.args.side c.reserve.new.self w.within w.rows_are)
+    c.reserve.ensures.room
 
 pub returns-clause-grow : goal.returns-clause-grow
 returns-clause-grow c =
-    let within : c.index.result < length c.self.inside.rows.items = omega (arith, c.requires.bank, c.index.ensures.value, ap length c.self.view_is) in
-    subst (λ (o : List OwnRows). OwnersGrow o (slice_set c.self.inside.rows.items c.index.result c.reserve.new.self)) c.self.view_is
-    (owners_grown c.self.inside.rows.items c.index.result c.index_mut-rows.result.now c.reserve.new.self within c.index_mut-rows.ensures.value c.reserve.ensures.bids c.reserve.ensures.asks)
+    let w = writes_key c.self.inside.banks c.number_of-number.new.numbers c.number_of-number.new.rows c.args.bank c.number_of-number.result c.index_mut-rows.result.now c.reserve.new.self c.number_of-number.ensures.numbered c.number_of-number.ensures.number c.index_mut-rows.ensures.value in
+    let within : c.args.bank < length (rows_of c.self.inside.rows.entries c.self.inside.banks) = omega (arith, c.requires.bank, ap length c.self.view_is) in
+    let gives = gives_more (rows_of c.self.inside.rows.entries c.self.inside.banks) (rows_of c.number_of-number.new.rows.entries c.self.inside.banks) _ c.args.bank c.index_mut-rows.result.now c.reserve.new.self within
+    c.number_of-number.ensures.gives w.read w.rows_are c.reserve.ensures.bids c.reserve.ensures.asks in
+    subst (λ (o : List OwnRows). OwnersGrow o (rows_of (with_value_at c.number_of-number.new.rows c.number_of-number.result c.reserve.new.self).entries c.self.inside.banks)) c.self.view_is (grown_given (rows_of c.self.inside.rows.entries c.self.inside.banks) _ c.args.bank within gives)
+
+pub returns-clause-valid : goal.returns-clause-valid
+returns-clause-valid c =
+    let w = writes_key c.self.inside.banks c.number_of-number.new.numbers c.number_of-number.new.rows c.args.bank c.number_of-number.result c.index_mut-rows.result.now c.reserve.new.self c.number_of-number.ensures.numbered c.number_of-number.ensures.number c.index_mut-rows.ensures.value in
+    let within : c.args.bank < length (rows_of c.self.inside.rows.entries c.self.inside.banks) = omega (arith, c.requires.bank, ap length c.self.view_is) in
+    let gives = gives_more (rows_of c.self.inside.rows.entries c.self.inside.banks) (rows_of c.number_of-number.new.rows.entries c.self.inside.banks) _ c.args.bank c.index_mut-rows.result.now c.reserve.new.self within
+    c.number_of-number.ensures.gives w.read w.rows_are c.reserve.ensures.bids c.reserve.ensures.asks in
+    owned_given (rows_of c.self.inside.rows.entries c.self.inside.banks) _ c.args.bank within gives c.self.invariant.indexed.index.owned
