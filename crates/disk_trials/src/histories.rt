@@ -1,9 +1,9 @@
 ghost use Rattle.std.specs.Prelude.{◌<◌, length, IfOk};
 
-use crate::{Found, history};
 use fx_amounts::Memory;
 use fx_disk::SteadyDisk;
 use keep_disk::{Body, open_keeper};
+use kept_history::{Found, history};
 use std::alloc::Global;
 use std::test::Fail;
 

@@ -4,13 +4,15 @@
 //! file, and prints how many blocks it has and whether they are those of 1, 2, 3 and so on. Status 1: other words; 2: a fault of
 //! the disk, of standard output where it got a number, or of memory; 3: one of standard output where it got the count.
 //!
-//! Its tests do the same over disks and sinks that fail, and over a real file.
+//! Its tests do the same over disks and sinks that fail, and over a real file, and read kept histories back.
 #![tactic(auto)]
 
 #[cfg(test)]
 mod faults;
 #[cfg(test)]
 mod files;
+#[cfg(test)]
+mod histories;
 mod keeping;
 mod numbers;
 

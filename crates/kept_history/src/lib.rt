@@ -5,7 +5,5 @@ mod blocks;
 mod found;
 mod lines;
 mod stop;
-#[cfg(test)]
-mod tests;
 
 pub use found::{Found, history};
