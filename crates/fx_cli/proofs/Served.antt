@@ -27,6 +27,7 @@ use Rattle.session_script.specs.declared.ends.TextEnd.TheVariants.{EndLine, Earl
 use Rattle.session_script.specs.declared.ends.Stop.{Stop}
 use Rattle.session_script.specs.declared.ends.Stop.TheVariants as stops
 use Rattle.session_script.specs.declared.reading.Reading.{Reading}
+use Rattle.session_script.proofs.RoundLaws.{round_valid, round_few, same_session}
 use Rattle.market_run.specs.Ran.{Ran as MarketRan}
 use Rattle.market_run.specs.Running.{HasServed, MayServe, ServesOn}
 use Rattle.reply_lines.specs.Day.{IsTextOf as tells}
@@ -44,27 +45,6 @@ use Rattle.fx_cli.specs.TopCall.{KindOfText, IsOutputOf}
 use Rattle.fx_cli.specs.declared.status.Status.{Status}
 use Rattle.fx_cli.specs.declared.status.Status.TheVariants.{ReadFault, Memory}
 use Rattle.fx_cli.proofs.HeadlineLaws.{headline_of, serial_of}
-
-Each-back : {X : Type 0} (P : X → Type 0) (xs ys : List X) → Each P (xs ++ ys) → Each P ys
-Each-back P [] ys each = each
-Each-back P (x ∷ xs) ys each = Each-back P xs ys each.1
-
--- the commands of a round may be sent, and are few
-pub round_valid : (h : Header) (served sent : List Sent) → Each (IsSentOf h) (served ++ sent) → Each (IsSentOf h) sent
-round_valid h served sent each = Each-back (IsSentOf h) served sent each
-
-pub round_few : {S : Type 0} {left : S → Option (List ℕ)} {faults : S → ℕ} {a b : S} {reading : Reading} {h : Header} (served sent : List Sent) → HasRead left faults a b reading h (served ++ sent) → length served + length sent < 2 ^ 32
-round_few served sent has = omega (arith, has.says.few, has.within, length-append served sent)
-
-pub promptly : {S : Type 0} {left : S → Option (List ℕ)} {faults : S → ℕ} {a b : S} {reading : Reading} {h : Header} {all : List Sent} → HasRead left faults a b reading h all → TookPromptlyBehind [] left faults a b
-promptly has = record { input = has.input; took = has.took; within = has.within; prompt = has.prompt }
-
-some_header : (g h : Header) → Some g ≡ Some h → g ≡ h
-some_header g h same = cc
-
--- the session of a reading
-pub same_session : {S : Type 0} {left : S → Option (List ℕ)} {faults : S → ℕ} {a b : S} {reading : Reading} {h : Header} {all : List Sent} (g : Header) → HasRead left faults a b reading h all → session_at reading.intake.stage ≡ Some g → g ≡ h
-same_session {h = h} g has is = some_header g h (sym is ∙ has.session)
 
 read_status : (end : TextEnd) → status_at end ≡ ReadFault → Some end ≡ Some (Early early.ReadFault)
 read_status EndLine is = cc
@@ -143,21 +123,6 @@ module _ (IsRight : Header → List Sent → List Entry → Type 0) {S K : Type 
         (λ text output. output_of a b reading h sent end history text has ended right legal few (subst (λ (n : ℕ). IsOutput h history n (ending_of end) text) strays_is output)) wrote);
   }
 
--- Rounds
-
--- how many rounds there may be still
-abbrev pub to_read : Option TextEnd → ℕ → ℕ
-to_read None taken = suc (input_limit - taken)
-to_read (Some end) taken = 0
-
-pub less_to_read : (end end' : Option TextEnd) (was now : ℕ) → end ≡ None → (end' ≡ None → was < now) → now ≤ input_limit → to_read end' now < to_read end was
-less_to_read None None was now goes_on further within = omega (arith, further refl, within)
-less_to_read None (Some later) was now goes_on further within = omega arith
-less_to_read (Some end) end' was now goes_on further within = absurd cc
-
-pub taken_within : {S : Type 0} {left : S → Option (List ℕ)} {faults : S → ℕ} {a b : S} {reading : Reading} {h : Header} {all : List Sent} → HasRead left faults a b reading h all → reading.intake.taken ≤ input_limit
-taken_within has = omega (arith, has.taken, has.within)
-
 -- out of memory
 pub for_memory : {T : Type 0} (result : Result T AmountsMemory) (why : AmountsMemory → Type 0) (P : Result T AmountsMemory → Type 0) → IsErrAnd result why → ((memory : AmountsMemory) → P (Err memory)) → P result
 for_memory (Ok end) why P is then = absurd is
@@ -226,7 +191,7 @@ header_or_none (Some h) = h
 
 pub header_same : (session : Option Header) (h : Header) → session ≡ Some h → h ≡ header_or_none session
 header_same None h is = absurd cc
-header_same (Some g) h is = some_header h g (sym is)
+header_same (Some g) h is = let same : g ≡ h = cc in sym same
 
 pub can_serve_lanes : {S : Type 0} {left : S → Option (List ℕ)} {faults : S → ℕ} {a b : S} {reading : Reading} (h : Header) (served sent : List Sent) (lanes : List (Lane (Witness Entry))) → HasRead left faults a b reading h (served ++ sent_at reading.intake.stage) → HaveServed h served lanes
     → sent ≡ sent_at reading.intake.stage → CanServeLanes h lanes sent

@@ -4,3 +4,5 @@ pub mod Streams
 pub mod Rounds
 pub mod Keeping
 pub mod Ending
+pub mod Causes
+pub mod Texts

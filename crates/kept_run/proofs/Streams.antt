@@ -3,12 +3,14 @@ use Rattle.std.proofs.Common.{ℕ, ◌≡◌, eqb, List, [], ◌∷◌, ◌++◌
 use Rattle.std.proofs.lemmas.Bool.{cases_Bool}
 use Rattle.std.proofs.lemmas.List.{map-append, append_cancel_left}
 use Rattle.std.proofs.lemmas.List.Elements.{filter-append}
+use mathlib.Core.List.{IsPrefix}
 use Rattle.fx_rules.specs.declared.command.Command.{Command}
 use Rattle.fx_rules.specs.declared.command.Sent.{Sent}
 use Rattle.fx_rules.specs.declared.outcome.Entry.{Entry}
 use Rattle.fx_rules.specs.History.{own}
 use Rattle.fx_rules.specs.Sending.{sent_by}
 use Rattle.fx_rules.proofs.ListLemmas.{filter_cons_true, filter_cons_false}
+use Rattle.fx_chronicle.proofs.Prefixes.{prefix_trans}
 use Rattle.fx_desk.specs.Streams.{stream_of, HasStreams}
 use Rattle.fx_desk.proofs.Owning.{own-append}
 use Rattle.kept_run.specs.Running.{AreBegunBy}
@@ -49,3 +51,8 @@ begun-by kept entries sent more streams = λ bank. (
   stream_of bank more,
   ap (λ (cs : List Command). cs ++ stream_of bank more) (streams-behind kept entries sent streams bank) ∙ sym (stream-append bank sent more),
 )
+
+-- what begins some commands begins more
+pub begun-longer : (sent all : List Sent) (entries : List Entry) → IsPrefix sent all → AreBegunBy sent entries → AreBegunBy all entries
+begun-longer sent all entries begins begun = λ bank.
+    prefix_trans _ _ _ (begun bank) (stream_of bank begins.0, sym (stream-append bank sent begins.0) ∙ ap (stream_of bank) begins.1)

@@ -1,3 +1,4 @@
 pub mod Kept
 pub mod Running
+pub mod Text
 pub mod inside

@@ -3,5 +3,6 @@
 
 mod round;
 mod run;
+mod text;
 
 pub use run::KeptRun;

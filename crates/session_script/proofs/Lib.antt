@@ -4,3 +4,4 @@ pub mod Fronts
 pub mod Feeding
 pub mod Closing
 pub mod ScriptReading
+pub mod RoundLaws

@@ -1,6 +1,8 @@
 -- A session's text as it goes on: its session, its first fault, its END line and what stands before that stay.
-use Rattle.std.proofs.Common.{◌≡◌, ℕ, ◌+◌, ◌≤◌, Bool, true, false, cond, List, [], ◌∷◌, ◌++◌, length, map, None, Some, refl, sym, ap, ◌∙◌, subst, arith, length-append}
+use Rattle.std.proofs.Common.{◌≡◌, ℕ, ◌+◌, ◌≤◌, Bool, true, false, cond, List, [], ◌∷◌, ◌++◌, length, map, None, Some, refl, sym, ap, ◌∙◌, subst, arith, inl, inr, append-nil, length-append}
+use Rattle.std.proofs.lemmas.Bool.{cases_Bool}
 use Rattle.std.proofs.lemmas.List.{map-append, length-map}
+use mathlib.Core.List.{IsPrefix}
 use Rattle.fx_rules.specs.Session.{Header}
 use Rattle.fx_text.specs.declared.line.Line.{Line}
 use Rattle.fx_text.specs.Lines.{lines_of, rest_of}
@@ -244,3 +246,17 @@ sent_in-more text more h session end = ap sent_among (up_to_end_in text more h s
 pub strays_of-more : (text more : List ℕ) (h : Header) → HasSession text h → HasEnd text → strays_of h (text ++ more) ≡ strays_of h text
 unfolding strays_of
 strays_of-more text more h session end = ap strays_in (up_to_end_in text more h session end)
+
+-- as a text goes on, its commands stay in front of those that come
+pub sent_in-begins : (text more : List ℕ) (h : Header) → HasSession text h → IsPrefix (sent_in h text) (sent_in h (text ++ more))
+unfolding sent_in
+sent_in-begins text more h session =
+    let said : List Spoken = spoken_in h text in
+    let later : List Spoken = map (command_line h) (lines_of (rest_of text ++ more)) in
+    elim (cases_Bool (has_end said)) [
+      | inl ends ↦ ([], append-nil (sent_among (up_to_end said)) ∙ sym (ap sent_among (ap up_to_end (spoken_in-append text more h session) ∙ up_to_end-more said later ends)))
+      | inr on ↦ (
+        sent_among (up_to_end later),
+        sym (ap sent_among (ap up_to_end (spoken_in-append text more h session) ∙ up_to_end-append said later on) ∙ sent_among-append (up_to_end said) (up_to_end later)),
+      )
+    ]

@@ -12,7 +12,7 @@ use Rattle.fx_text.specs.Lines.{lines_of, rest_of}
 use Rattle.session_head.specs.Head as heads
 use Rattle.session_head.specs.Head.{read_head}
 use Rattle.session_head.specs.HeadText.{head_text_of}
-use Rattle.session_head.proofs.RoundLemmas.{head_text-ends, head_text-read, head_text-whole}
+use Rattle.session_head.proofs.RoundLemmas.{head_text-ends, head_text-whole}
 use Rattle.session_script.specs.Input.{input_limit}
 use Rattle.session_script.specs.Script.{lines_behind}
 use Rattle.session_script.specs.inside.Script.{is_started}
@@ -22,7 +22,7 @@ use Rattle.session_script.specs.Intake.{StandsFor}
 use Rattle.session_script.specs.inside.Intake.{IsSettled, Closed}
 use Rattle.session_script.specs.Reading.{GoesOn, HasNotStarted, IsPromptBehind, MetEnd, SaysBehind, ProgressedBehind, TextEndedBehind, Stopped}
 use Rattle.session_script.specs.inside.Reading.{RoundCame}
-use Rattle.session_script.specs.Rounds.{IsFront, TookPromptlyBehind, HasReadBehind, HasStopped}
+use Rattle.session_script.specs.Rounds.{IsFront, TookOnBehind, HasReadBehind, HasStopped}
 use Rattle.session_script.specs.inside.Rounds.{ReadsOn, TookRound}
 use Rattle.session_script.specs.declared.ends.EarlyEnd.{EarlyEnd}
 use Rattle.session_script.specs.declared.ends.EarlyEnd.TheVariants.{Cut, ReadFault, TooMuch}
@@ -286,9 +286,9 @@ stage_says (Commanding script ended) h front input former is_front at is small =
 stage_says (Faulted line reason) h front input former is_front at is small = absurd (cc)
 
 -- a round taken, whatever came of it
-pub TookPromptly-round : {front : List ℕ} {S : Type 0} {left : S → Option (List ℕ)} {faults : S → ℕ} {a b : S} {intake : Intake} {former : List Sent} {begun : List ℕ} {result : Result (Option TextEnd) Stop}
-    → TookRound front left faults a b intake former begun result → TookPromptlyBehind front left faults a b
-TookPromptly-round {begun = begun} round = record { input = begun ++ round.more; took = round.took; within = round.within; prompt = round.prompt }
+pub TookOn-round : {front : List ℕ} {S : Type 0} {left : S → Option (List ℕ)} {faults : S → ℕ} {a b : S} {intake : Intake} {former : List Sent} {begun : List ℕ} {result : Result (Option TextEnd) Stop}
+    → TookRound front left faults a b intake former begun result → TookOnBehind front left faults a b begun
+TookOn-round {begun = begun} round = (record { input = begun ++ round.more; took = round.took; within = round.within; prompt = round.prompt }, record { rest = round.more; joined = refl })
 
 abbrev came_so : Option TextEnd → Result (Option TextEnd) Stop
 came_so end = Ok end

@@ -2,6 +2,7 @@
 use Rattle.std.specs.Prelude.{ℕ, ◌≡◌, ◌≤◌, List, [], ◌++◌, length, Option, Some, Result, Ok, Err}
 use Rattle.fx_edges.specs.Faults.{Rose}
 use Rattle.fx_edges.specs.Reading.{Took}
+use Rattle.fx_edges.specs.Writing.{IsPrefixOf}
 use Rattle.fx_rules.specs.declared.command.Sent.{Sent}
 use Rattle.fx_rules.specs.Session.{Header}
 use Rattle.fx_text.specs.Lines.{lines_of, rest_of}
@@ -29,6 +30,10 @@ module _ (front : List ℕ) {S : Type 0} (left : S → Option (List ℕ)) (fault
     pub took : Took left faults before now input
     pub within : length input ≤ input_limit
     pub prompt : IsPromptBehind front input
+
+  -- and it begins with what was taken earlier
+  abbrev pub TookOnBehind : List ℕ → Type 0
+  TookOnBehind earlier = (took : TookPromptlyBehind) × IsPrefixOf earlier took.input
 
   -- The rounds so far took some input, at most the limit. The text of the front and the input says this session and, up to the
   -- END line, all these commands, the last round's at their end. How it ended is by what it says, and a read fault is the

@@ -27,7 +27,7 @@ pub struct Reading {
 impl Reading {
     ghost use Rattle.session_script.specs.Stage.{sent_at, strays_at};
     ghost use Rattle.session_head.specs.HeadText.{head_text_of};
-    ghost use Rattle.session_script.specs.Rounds.{HasBegun, HasReadBehind, TookPromptlyBehind};
+    ghost use Rattle.session_script.specs.Rounds.{HasBegun, HasReadBehind, TookOnBehind};
 
     /// Reads the rounds up to the one with START. The reading stops at the first fault of the header too.
     pub fn begin<S: Source>(alloc: Global, source: &mut S) -> Result<Reading, Stop>
@@ -73,7 +73,7 @@ impl Reading {
         ensures whole { OnOk result (self.new.end ≡ None → self.new.intake.taken ≡ self.old.intake.taken + 65536) }
         ensures session { session_at self.new.intake.stage ≡ session_at self.old.intake.stage }
         ensures goes_on { OnErr result (self.new.end ≡ None) }
-        ensures memory { OnErr result ((front : List ℕ) (before : S) (h : SessionHeader) (all : List SentCommand) → HasReadBehind front S.left S.faults before source.old self.old h all → TookPromptlyBehind front S.left S.faults before source.new) }
+        ensures memory { OnErr result ((front : List ℕ) (before : S) (h : SessionHeader) (all : List SentCommand) (has : HasReadBehind front S.left S.faults before source.old self.old h all) → TookOnBehind front S.left S.faults before source.new has.input) }
     {
         match self.intake.read_round(source) {
             Ok(end) => {

@@ -7,7 +7,8 @@ use Rattle.fx_rules.specs.declared.outcome.Entry.{Entry}
 use Rattle.pair_host.specs.Standing.{HostState}
 use Rattle.session_script.specs.declared.ends.TextEnd.{TextEnd}
 use Rattle.fx_cli.specs.inside.Rounds.{ThreadsServedText}
-use Rattle.fx_cli.proofs.Served.{for_memory, promptly, same_session}
+use Rattle.session_script.proofs.RoundLaws.{promptly, same_session}
+use Rattle.fx_cli.proofs.Served.{for_memory}
 use Rattle.fx_cli.proofs.run.serve_at.Goals as goal
 
 pub returns-in_err-end : goal.returns-in_err-end

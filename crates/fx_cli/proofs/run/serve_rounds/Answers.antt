@@ -4,7 +4,8 @@ use Rattle.fx_amounts.specs.declared.memory.Memory.{Memory}
 use Rattle.session_script.specs.declared.ends.TextEnd.{TextEnd}
 use Rattle.session_script.specs.Stage.{sent_at}
 use Rattle.fx_cli.specs.inside.Rounds.{LanesServedText}
-use Rattle.fx_cli.proofs.Served.{can_serve_lanes, for_memory, lanes_served, less_to_read, promptly, taken_within}
+use Rattle.session_script.proofs.RoundLaws.{less_to_read, promptly, taken_within}
+use Rattle.fx_cli.proofs.Served.{can_serve_lanes, for_memory, lanes_served}
 use Rattle.fx_cli.proofs.run.serve_rounds.Goals as goal
 
 pub serve_round-requires-clause-can_serve : goal.serve_round-requires-clause-can_serve
@@ -57,5 +58,5 @@ returns-in_err-read_round g c = record {
   served = λ before all has are.
       let so_far = c.loop-reading.invariant.serving before all has are in
       for_memory c.from_residual-in_err-read_round.result _ (λ (r : Result TextEnd Memory). LanesServedText g.S.Source.left g.S.Source.faults before c.read_round.new.source c.read_round.new.self g.N.Naming.session c.serve_round.new.self.lanes.items r) c.from_residual-in_err-read_round.ensures.1
-      (λ memory. c.in_err-read_round.ensures.memory [] before g.N.Naming.session (so_far.0 ++ sent_at c.loop-reading.reading.intake.stage) so_far.1);
+      (λ memory. (c.in_err-read_round.ensures.memory [] before g.N.Naming.session (so_far.0 ++ sent_at c.loop-reading.reading.intake.stage) so_far.1).0);
 }

@@ -3,7 +3,7 @@ use Rattle.fx_rules.specs.declared.command.Sent.{Sent}
 use Rattle.session_script.specs.Stage.{sent_at}
 use Rattle.session_script.specs.Rounds.{HasRead}
 use Rattle.threaded_run.specs.Lanes.{HaveServed}
-use Rattle.fx_cli.proofs.Served.{to_read}
+use Rattle.session_script.proofs.RoundLaws.{to_read}
 use Rattle.fx_cli.proofs.run.serve_rounds.Given as goal
 
 -- what was read in former rounds is served

@@ -4,7 +4,8 @@ use Rattle.fx_amounts.specs.declared.memory.Memory.{Memory}
 use Rattle.fx_rules.specs.Sending.{sent_by}
 use Rattle.session_script.specs.declared.ends.TextEnd.{TextEnd}
 use Rattle.fx_cli.specs.inside.Rounds.{ServedText}
-use Rattle.fx_cli.proofs.Served.{may_serve, for_memory, less_to_read, promptly, round_served, taken_within}
+use Rattle.session_script.proofs.RoundLaws.{less_to_read, promptly, taken_within}
+use Rattle.fx_cli.proofs.Served.{may_serve, for_memory, round_served}
 use Rattle.fx_cli.proofs.serial.serve_rounds.Goals as goal
 
 pub serve_all-requires : goal.serve_all-requires
@@ -51,5 +52,5 @@ returns-in_err-read_round g c = record {
   served = λ before h serving.
       let round = round_served c.script-script.result.now.session c.loop-reading.run c.serve_all.new.self c.deref.result.now (c.loop-reading.invariant.serving before h serving) c.script-script.ensures.session (c.deref.ensures.value ∙ sym c.script-script.ensures.sent) c.in_ok-serve_all.ensures.served in
       for_memory c.from_residual-in_err-read_round.result _ (λ (r : Result TextEnd Memory). ServedText g.S.Source.left g.S.Source.faults before c.read_round.new.source c.read_round.new.self h c.serve_all.new.self r) c.from_residual-in_err-read_round.ensures.1
-      (λ memory. c.in_err-read_round.ensures.memory [] before h (map sent_by round.entries) round.has_read);
+      (λ memory. (c.in_err-read_round.ensures.memory [] before h (map sent_by round.entries) round.has_read).0);
 }

@@ -1,6 +1,6 @@
 use Rattle.fx_rules.specs.Session.{Header}
 use Rattle.fx_cli.specs.inside.Rounds.{IsServing}
-use Rattle.fx_cli.proofs.Served.{to_read}
+use Rattle.session_script.proofs.RoundLaws.{to_read}
 use Rattle.fx_cli.proofs.serial.serve_rounds.Given as goal
 
 -- what was read in former rounds is served

@@ -7,7 +7,8 @@ use Rattle.reply_lines.specs.Day.{IsTextOf}
 use Rattle.pair_host.specs.Standing.{stands}
 use Rattle.fx_cli.specs.Headline.{IsSerial}
 use Rattle.fx_cli.specs.TopCall.{IsOutputOf}
-use Rattle.fx_cli.proofs.Served.{promptly, ran-memory, same_session, serving_open, serial_ran}
+use Rattle.session_script.proofs.RoundLaws.{promptly, same_session}
+use Rattle.fx_cli.proofs.Served.{ran-memory, serving_open, serial_ran}
 use Rattle.fx_cli.proofs.serial.serve_text.Goals as goal
 
 pub returns-in-Err : goal.returns-in-Err

@@ -1,4 +1,4 @@
-use Rattle.std.proofs.Common.{◌≡◌, ◌∙◌, ◌+◌, ◌++◌, ◌∷◌, [], List, ℕ, length, ap, sym, subst, arith, length-append}
+use Rattle.std.proofs.Common.{◌∙◌, ◌++◌, ◌∷◌, [], List, ℕ, ap, sym, subst}
 use Rattle.fx_text.specs.Lines.{line_seen, lines_of, IsFirstLine}
 use Rattle.fx_text.specs.declared.line.Line.{Line}
 use Rattle.session_script.specs.Stage.{StandsAt}

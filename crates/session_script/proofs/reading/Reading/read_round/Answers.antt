@@ -1,6 +1,6 @@
 use Rattle.std.proofs.Common.{◌++◌, ap, refl}
 use Rattle.session_script.specs.Stage.{sent_at}
-use Rattle.session_script.proofs.ScriptReading.{ReadsOn-reading, HasRead-round, TookPromptly-round}
+use Rattle.session_script.proofs.ScriptReading.{ReadsOn-reading, HasRead-round, TookOn-round}
 use Rattle.session_script.proofs.reading.Reading.read_round.Goals as goal
 
 pub returns-in-Ok-clause-read : goal.returns-in-Ok-clause-read
@@ -11,4 +11,4 @@ returns-in-Ok-clause-read g c = λ front before h all has.
 
 pub returns-in-Err-Memory-clause-memory : goal.returns-in-Err-Memory-clause-memory
 returns-in-Err-Memory-clause-memory g c = λ front before h all has.
-    TookPromptly-round (c.read_round.ensures.took front before has.former has.input (ReadsOn-reading has c.requires.goes_on))
+    TookOn-round (c.read_round.ensures.took front before has.former has.input (ReadsOn-reading has c.requires.goes_on))
