@@ -35,6 +35,19 @@ ALFA PULL EUR/USD
 GAMA BUY EUR/USD 1.08420 1 GTC
 ";
 
+/// How the reports end of days on which ALFA bought two lots of BETA.
+const END_OF_REPORT: &[u8] = b"USE ALFA GAMA 0 0 0 0
+USE BETA GAMA 0 0 0 0
+NET ALFA EUR 2000000
+NET ALFA USD -2168400
+NET BETA EUR -2000000
+NET BETA USD 2168400
+NET GAMA EUR 0
+NET GAMA USD 0
+STRAYS 0
+END
+";
+
 #[test]
 fn a_fill_as_its_banks_see_it(rt: HostRuntime) -> Result<(), Fail> {
     let text = output(rt.alloc(), TRADING, TRADES, 0, Ending::End)?;
@@ -65,22 +78,12 @@ GAMA EUR/USD BIDS ASKS
 REPORT
 VOLUME EUR/USD 1 2 2000000 2168400
 USE ALFA BETA 1000 1000 200 800
-USE ALFA GAMA 0 0 0 0
-USE BETA GAMA 0 0 0 0
-NET ALFA EUR 2000000
-NET ALFA USD -2168400
-NET BETA EUR -2000000
-NET BETA USD 2168400
-NET GAMA EUR 0
-NET GAMA USD 0
-STRAYS 0
-END
 ";
-    assert!(rt; text.as_slice() == expected);
+    assert!(rt; text.as_slice().strip_suffix(END_OF_REPORT) == Some(expected));
     Ok(())
 }
 
-/// Desks and the report of the busy day.
+/// Desks of the busy day, and the report up to its end.
 const BUSY_PARTS: [&[u8]; 4] = [
     b"DESK GAMA 3
 1 REPLY 1 KILLED
@@ -109,24 +112,15 @@ DESK GAMA 3
     b"REPORT
 VOLUME EUR/USD 1 2 2000000 2168400
 USE ALFA BETA 400 1000 200 200
-USE ALFA GAMA 0 0 0 0
-USE BETA GAMA 0 0 0 0
-NET ALFA EUR 2000000
-NET ALFA USD -2168400
-NET BETA EUR -2000000
-NET BETA USD 2168400
-NET GAMA EUR 0
-NET GAMA USD 0
-STRAYS 0
-END
 ",
 ];
 
 #[test]
 fn each_reply_and_the_report_have_their_texts(rt: HostRuntime) -> Result<(), Fail> {
     let text = output(rt.alloc(), TRADING, BUSY, 0, Ending::End)?;
+    let front = text.as_slice().strip_suffix(END_OF_REPORT).unwrap_or(b"");
     for (at, part) in BUSY_PARTS.iter().enumerate() {
-        assert!(rt; holds(&text, part), "part {at}");
+        assert!(rt; holds(front, part), "part {at}");
     }
     Ok(())
 }
