@@ -18,7 +18,7 @@ use Rattle.price_levels.specs.Ladder.{IsSorted}
 use Rattle.price_levels.proofs.Crossing.{IsPartitionedBy-crosses}
 use Rattle.price_levels.proofs.Sorting.{Contains_first}
 use Rattle.access_index.specs.Sides.{OwnRows, row_of}
-use Rattle.access_index.specs.inside.Fronts.{FrontPrices, AreFronts, front_crosses, front_price, prices_of}
+use Rattle.access_index.specs.inside.Fronts.{FrontPrices, AreFronts, front_price, prices_of}
 use Rattle.access_index.specs.inside.Owned.{AreEmpty}
 use Rattle.access_index.specs.Owned.{AreOwned, no_rows, row_at}
 use Rattle.access_index.proofs.Rows.{bank_within, both, empty_side}
@@ -44,19 +44,6 @@ pub fronts_kept : (owners : List OwnRows) (fronts : FrontPrices) (at : ℕ) (row
 fronts_kept owners fronts at rows rows' are read same =
     λ side. are side ∙ sym (map-set_same (price_on side) owners at rows' rows (ap front_price (same side) ∙ ap (price_on side) read))
 
--- where a place crosses a price, so does the first one
-pub first_crosses : (side : Side) (top : ℕ) (places : List Place) (place : Place) → IsSorted side places → Contains places place → crosses side place.price top ≡ true
-    → front_crosses side top (front_price places) ≡ true
-first_crosses side top places place sorted there cross =
-    ap (λ (first : Option Place). front_crosses side top (option_map (λ (p : Place). p.price) first)) (slice_get-get_or places 0 place (omega (arith, there.1)))
-    ∙ IsPartitionedBy-crosses side top places sorted 0 there.0 place (omega arith) there.1 (ap (λ (p : Place). crosses side p.price top) there.2 ∙ cross)
-
--- the first place is one
-pub first_there : (side : Side) (top : ℕ) (places : List Place) → front_crosses side top (front_price places) ≡ true
-    → (place : Place) × Contains places place × (crosses side place.price top ≡ true)
-first_there side top [] cross = cc
-first_there side top (x ∷ xs) cross = (x, Contains_first x xs, cross)
-
 -- rows without places
 none_on : (side : Side) (owners : List OwnRows) → AllByRecursion AreEmpty owners → replicate (length owners) None ≡ map (price_on side) owners
 none_on side [] all = refl
@@ -67,35 +54,3 @@ fronts_none owners fronts count size empty bids asks side =
     both (λ one. prices_of fronts one ≡ map (price_on one) owners) Buy
     (bids ∙ ap (λ (n : ℕ). replicate n None) (sym size) ∙ none_on Buy owners (recursion_from_All AreEmpty owners empty))
     (asks ∙ ap (λ (n : ℕ). replicate n None) (sym size) ∙ none_on Sell owners (recursion_from_All AreEmpty owners empty)) side
-
--- what a bank's price is
-read_price : (owners : List OwnRows) (fronts : FrontPrices) (side : Side) (bank : ℕ) (d : Option ℕ) → AreFronts owners fronts → bank < length owners
-    → get_or (prices_of fronts side) bank d ≡ front_price (row_at owners bank side).places
-read_price owners fronts side bank d are within = ap (λ (prices : List (Option ℕ)). get_or prices bank d) (are side) ∙ get_or-map (price_on side) owners bank no_rows d within
-
-count_prices : (owners : List OwnRows) (fronts : FrontPrices) (side : Side) → AreFronts owners fronts → length (prices_of fronts side) ≡ length owners
-count_prices owners fronts side are = ap (λ (prices : List (Option ℕ)). length prices) (are side) ∙ length-map owners (price_on side)
-
-abbrev pub AnyCrosses : FrontPrices → Side → ℕ → Type 0
-AnyCrosses fronts side top = Any (λ front. front_crosses side top front ≡ true) (prices_of fronts side)
-
-pub none_crosses : (owners : List OwnRows) (fronts : FrontPrices) (side : Side) (top : ℕ) (result : Bool) → AreOwned owners → AreFronts owners fronts → (AnyCrosses fronts side top → IsTrue result) → result ≡ false
-    → (bank : ℕ) (place : Place) → Contains (row_at owners bank side).places place → crosses side place.price top ≡ false
-none_crosses owners fronts side top result owned are told fails bank place there =
-    false_from_ne_true (crosses side place.price top) (λ cross.
-    let within : bank < length owners = bank_within owners bank side place there in
-    let front : Option ℕ = front_price (row_at owners bank side).places in
-    both_ways result fails (told (
-      bank,
-      front,
-      omega (arith, within, count_prices owners fronts side are),
-      read_price owners fronts side bank front are within,
-      first_crosses side top (row_at owners bank side).places place (owned.sorted bank side) there cross,
-    )))
-
-pub some_crosses : (owners : List OwnRows) (fronts : FrontPrices) (side : Side) (top : ℕ) → AreFronts owners fronts → AnyCrosses fronts side top
-    → (bank : ℕ) × (place : Place) × Contains (row_at owners bank side).places place × (crosses side place.price top ≡ true)
-some_crosses owners fronts side top are (bank, front, within, is, cross) =
-    let below : bank < length owners = omega (arith, within, count_prices owners fronts side are) in
-    let it = first_there side top (row_at owners bank side).places (ap (front_crosses side top) (sym (read_price owners fronts side bank front are below) ∙ is) ∙ cross) in
-    (bank, it.0, it.1, it.2)

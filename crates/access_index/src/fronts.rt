@@ -1,7 +1,6 @@
-ghost use Rattle.std.specs.Prelude.{ℕ, ◌≡◌, ◌<◌, ◌↔◌, true, None, length, replicate, slice_set, IfOk, IsTrue};
-ghost use Rattle.std.specs.List.{Any};
+ghost use Rattle.std.specs.Prelude.{◌≡◌, ◌<◌, None, length, replicate, slice_set, IfOk};
 ghost use Rattle.fx_amounts.specs.Side.{opposite};
-ghost use Rattle.access_index.specs.inside.Fronts.{front_crosses, prices_of};
+ghost use Rattle.access_index.specs.inside.Fronts.{prices_of};
 
 use fx_amounts::{BankId, Memory, Price, Side};
 use std::alloc::Global;
@@ -65,26 +64,4 @@ fn no_prices(alloc: Global, banks: usize) -> Result<Vec<Option<Price>>, Memory>
     let mut prices = Vec::new(alloc);
     prices.resize(banks, None)?;
     Ok(prices)
-}
-
-/// Whether one of these prices of a side crosses `price`, one of the other side. It looks at all of them, which takes less time than to
-/// ask after each.
-pub(crate) fn any_crosses(fronts: &[Option<Price>], side: Side, price: Price) -> bool
-    ensures { IsTrue result ↔ Any (λ front. front_crosses side price front ≡ true) fronts.now }
-{
-    let mut any = false;
-    for front in fronts {
-        any |= crosses(*front, side, price);
-    }
-    any
-}
-
-/// Whether there is a price, and it crosses another.
-fn crosses(front: Option<Price>, side: Side, price: Price) -> bool
-    ensures { result ≡ front_crosses side price front }
-{
-    match front {
-        Some(front) => front.crosses(price, side),
-        None => false,
-    }
 }

@@ -1,18 +1,18 @@
-ghost use Rattle.std.specs.Prelude.{◌≡◌, ◌≢◌, ◌+◌, ◌≤◌, ◌<◌, ◌==◌, ◌++◌, ℕ, min, true, false, None, Some, [], length, not, nat_lt, if◌then◌else◌, slice_get, slice_index_or, vec_len, vec_capacity, OnErr, OnOk, IfOk, IfSome};
+ghost use Rattle.std.specs.Prelude.{◌≡◌, ◌≢◌, ◌+◌, ◌≤◌, ◌<◌, ◌==◌, ◌++◌, ℕ, min, false, None, Some, [], length, not, map, nat_lt, if◌then◌else◌, slice_get, slice_index_or, vec_len, vec_capacity, OnErr, OnOk, IfOk, IfSome};
 ghost use Rattle.std.specs.List.{All, Contains, filter};
 ghost use Rattle.std.specs.List.Sorted.{IsPartitionedBy};
 ghost use Rattle.std.specs.Option.{option_copied, option_map};
 ghost use Rattle.fx_amounts.specs.declared.side.Side.{Side as OneSide};
-ghost use Rattle.fx_amounts.specs.Price.{crosses};
 ghost use Rattle.price_levels.specs.declared.place.Place.{Place};
 ghost use Rattle.price_levels.specs.Ladder.{IsFirstOf, IsNewArrival, crossing};
 ghost use Rattle.access_index.specs.Listed.{listed};
+ghost use Rattle.access_index.specs.Sides.{row_of};
 ghost use Rattle.access_index.specs.inside.Listed.{with_bank};
 ghost use Rattle.access_index.specs.Owned.{AreInTime, AreOwned, OwnerGains, OwnerLoses, OwnersGrow, is_ahead, no_rows, row_at, stands_behind};
 ghost use Rattle.access_index.specs.inside.Numbered.{AreNumbered, Gives, rows_of};
 ghost use Rattle.indexmap.specs.IndexMap.{keys, spare};
 
-use crate::fronts::{Fronts, any_crosses};
+use crate::fronts::Fronts;
 use crate::search::{first_in_time, first_place_behind};
 use crate::sides::Sides;
 use fx_amounts::{BankId, Memory, Price, Side};
@@ -146,23 +146,12 @@ impl Owners {
         Some(levels)
     }
 
-    /// The price of the first place of a bank and a side; `None` exactly where the bank has no order of that side. It
-    /// counts no step.
-    pub fn front_price(&self, bank: BankId, side: Side) -> Option<Price>
-        ensures price { result ≡ option_map (λ place. place.price) (slice_get (row_at self.now bank side).places 0) }
+    /// For each bank, from the lowest number on, the price of its first place of a side; `None` where it has no order of that side.
+    pub fn front_prices(&self, side: Side) -> &[Option<Price>]
+        ensures prices { result.now ≡ map (λ own. option_map (λ place. place.price) (slice_get (row_of own side).places 0)) self.now }
         ensures valid { AreOwned self.now }
     {
-        let front = self.fronts.of(side).get(bank.index())?;
-        *front
-    }
-
-    /// Whether a bank has a place of a side whose price crosses `price`, one of the other side. It counts no step.
-    pub fn any_crosses(&self, side: Side, price: Price) -> bool
-        ensures none { result ≡ false → (bank : ℕ) (place : Place) → Contains (row_at self.now bank side).places place → crosses side place.price price ≡ false }
-        ensures some { result ≡ true → (bank : ℕ) × (place : Place) × Contains (row_at self.now bank side).places place × (crosses side place.price price ≡ true) }
-        ensures valid { AreOwned self.now }
-    {
-        any_crosses(self.fronts.of(side), side, price)
+        self.fronts.of(side)
     }
 
     /// Puts the places of a bank and a side that cross `top`, a price of the other side, behind those that `into` has. It counts

@@ -75,7 +75,7 @@ fn fills_of_two<L: Ledger>(
     if !tops_i.meet(&tops_j) {
         return Ok(Vec::new(alloc));
     }
-    let turns = live_turns(alloc, book, i, j, &tops_i, &tops_j)?;
+    let turns = live_turns(alloc, book, i, j, &tops_i, &tops_j, steps)?;
     play(alloc, pair, weight, i, j, eff, &turns, steps)
 }
 

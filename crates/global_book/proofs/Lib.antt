@@ -10,7 +10,6 @@ mod Finding
 mod Turns
 mod Bests
 mod Gathering
-mod Crosses
 pub mod Within
 mod Levelling
 pub mod Levels

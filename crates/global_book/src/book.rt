@@ -1,4 +1,4 @@
-ghost use Rattle.std.specs.Prelude.{◌≡◌, ◌+◌, ◌≤◌, ◌<◌, ◌^◌, ◌↔◌, List, [], ◌∷◌, ◌++◌, Some, None, not, map, filter, length, true, false, slice_get, vec_capacity, vec_len, All, IsPermutation, OnErr, OnOk, IfOk, IfSome, IsSome};
+ghost use Rattle.std.specs.Prelude.{◌≡◌, ◌+◌, ◌≤◌, ◌<◌, ◌^◌, ◌↔◌, List, [], ◌∷◌, ℕ, ◌++◌, Some, None, not, map, filter, length, true, false, slice_get, slice_index_or, vec_capacity, vec_len, All, IsPermutation, OnErr, OnOk, IfOk, IfSome, IsSome};
 ghost use Rattle.std.specs.Option.{option_copied, option_map};
 ghost use Rattle.fx_amounts.specs.Price.{crosses};
 ghost use Rattle.fx_amounts.specs.Side.{opposite};
@@ -254,8 +254,8 @@ impl PairBook {
         count
     }
 
-    /// The first order of a bank that arrived at or after this; `None` where there is none. It counts as one step, but looks
-    /// at all orders of the book.
+    /// The first order of a bank that arrived at or after this; `None` where there is none. It looks at all orders of the book: one
+    /// step for each.
     pub fn next_of<L: Ledger>(
         &self,
         bank: BankId,
@@ -263,10 +263,10 @@ impl PairBook {
         steps: &mut Steps<L>,
     ) -> Option<Resting>
         ensures order { result ≡ first (filter (is_of_from bank after) self.now.orders) }
-        ensures step { steps.new ≡ steps.old + 1 }
+        ensures steps { steps.new ≡ steps.old + length self.now.orders }
         ensures valid { IsBook self.now }
     {
-        steps.tick();
+        count_looks(self.len(), steps);
         self.orders.earliest_of(bank, after)
     }
 
@@ -384,40 +384,37 @@ impl PairBook {
     }
 
     /// Puts a bank's orders of a side that cross `top`, a price of the other side, behind those that `orders` has. It reads none
-    /// that does not cross, and counts no step. At `Memory` `orders` has what it had.
-    pub fn gather_crossing(
+    /// that does not cross: one step, and one for each order that it puts there. At `Memory` `orders` has what it had.
+    pub fn gather_crossing<L: Ledger>(
         &self,
         bank: BankId,
         side: Side,
         top: Price,
         orders: &mut Vec<Resting>,
+        steps: &mut Steps<L>,
     ) -> Result<(), Memory>
         ensures gathered { OnOk result ((gathered : List Resting) × (orders.new.items ≡ orders.old.items ++ gathered) × IsPermutation (crossing bank side top self.now.orders) gathered) }
+        ensures steps { OnOk result (steps.new + length orders.old.items ≡ steps.old + 1 + length orders.new.items) }
         ensures memory { OnErr result (orders.new.items ≡ orders.old.items) }
         ensures valid { IsBook self.now }
     {
+        steps.tick();
         let mut places = Vec::new(*orders.allocator());
         self.rows.gather_crossing(bank, side, top, &mut places)?;
         orders.reserve(places.len())?;
-        push_orders(&self.orders, &places, orders);
+        push_orders(&self.orders, &places, orders, steps);
         Ok(())
     }
 
-    /// Whether an order of a side crosses `price`, one of the other side. It reads no order and counts no step.
-    pub fn any_crosses(&self, side: Side, price: Price) -> bool
-        ensures none { result ≡ false → Each (λ order. order.side ≡ side → crosses side order.price price ≡ false) self.now.orders }
-        ensures some { result ≡ true → (order : Resting) × Among order self.now.orders × (order.side ≡ side) × (crosses side order.price price ≡ true) }
+    /// For each bank, from the lowest number on, the best price at which it has orders of a side; `None` where it has none. The prices lie
+    /// side by side, and it reads no order: one step for them all.
+    pub fn best_prices<L: Ledger>(&self, side: Side, steps: &mut Steps<L>) -> &[Option<Price>]
+        ensures prices { (bank : ℕ) → IsPriceOf (opposite side) bank None self.now.orders (slice_index_or result.now bank None) }
+        ensures step { steps.new ≡ steps.old + 1 }
         ensures valid { IsBook self.now }
     {
-        self.rows.any_crosses(side, price)
-    }
-
-    /// The best price at which a bank has orders of a side; `None` where it has none. It reads no order and counts no step.
-    pub fn best_price(&self, bank: BankId, side: Side) -> Option<Price>
-        ensures price { IsPriceOf (opposite side) bank None self.now.orders result }
-        ensures valid { IsBook self.now }
-    {
-        self.rows.front_price(bank, side)
+        steps.tick();
+        self.rows.front_prices(side)
     }
 
     /// The best price, worse than `past` where there is one, at which a bank has orders of a side; `None` where there is no
@@ -439,11 +436,19 @@ impl PairBook {
     }
 
     /// The level at an index among those of a bank's orders of a side, 0 for the best price: its price, and all lots that they
-    /// have left there. `None` where there are no more levels.
-    pub fn level_at(&self, bank: BankId, side: Side, at: usize) -> Option<(Price, u128)>
+    /// have left there. `None` where there are no more levels. One step.
+    pub fn level_at<L: Ledger>(
+        &self,
+        bank: BankId,
+        side: Side,
+        at: usize,
+        steps: &mut Steps<L>,
+    ) -> Option<(Price, u128)>
+        ensures step { steps.new ≡ steps.old + 1 }
         ensures level { result ≡ slice_get (levels_of (opposite side) bank self.now.orders) at }
         ensures valid { IsBook self.now }
     {
+        steps.tick();
         let level = self.levels.get(bank, side, at)?;
         Some((level.price, level.lots))
     }
@@ -489,14 +494,30 @@ fn remove_at(orders: &mut OrderStore, rows: &mut Owners, levels: &mut BankLevels
     levels.take(order.bank, order.side, order.price, order.left.count());
 }
 
-/// Puts the orders that stand at these places behind others, where there is room for them.
-fn push_orders(store: &OrderStore, places: &[Place], orders: &mut Vec<Resting>)
+/// Puts the orders that stand at these places behind others, where there is room for them. One step for each.
+fn push_orders<L: Ledger>(
+    store: &OrderStore,
+    places: &[Place],
+    orders: &mut Vec<Resting>,
+    steps: &mut Steps<L>,
+)
     requires live { All (λ place. IsSome (order_at store.now place.key)) places.now }
     requires room { vec_len orders.old + length places.now ≤ vec_capacity orders.old }
     ensures orders { orders.new.items ≡ orders.old.items ++ orders_at store.now places.now }
+    ensures steps { steps.new + length orders.old.items ≡ steps.old + length orders.new.items }
 {
     for place in places {
+        steps.tick();
         orders.push_reserved(store.get(OrderKey(place.key)));
+    }
+}
+
+/// Counts so many looks.
+fn count_looks<L: Ledger>(looks: usize, steps: &mut Steps<L>)
+    ensures steps { steps.new ≡ steps.old + looks }
+{
+    for _look in 0..looks {
+        steps.tick();
     }
 }
 

@@ -7,7 +7,10 @@ use fx_amounts::{BankId, Memory, Side};
 use fx_rules::Outcome;
 use global_book::PairBook;
 use match_sweep::levels_in_reach;
+use price_levels::Steps;
 use std::alloc::Global;
+use std::marker::Brand;
+use std::sync::ledger::{Blank, Ledger};
 
 /// The local book of a bank in a pair: `Depth` with, for bids, what an order of it would sell now at any price and, for
 /// asks, what one would buy, each capped by the bank's lines, summed by price and cut to ten levels. Both sides are of
@@ -29,7 +32,29 @@ pub fn depth(
     ensures depth { IfOk result (IsLegalLocalBook book.now lines.now weight viewer) }
     ensures sound { IfOk result (IsLocalBook book.now lines.now weight viewer) }
 {
-    let bids = levels_in_reach(alloc, book, lines, weight, viewer, Side::Sell)?;
-    let asks = levels_in_reach(alloc, book, lines, weight, viewer, Side::Buy)?;
+    depth_counted::<Brand>(alloc, book, lines, weight, viewer, Blank::new(1))
+}
+
+/// The local book of a bank, with a ledger for the steps of its walks.
+fn depth_counted<L: Ledger>(
+    alloc: Global,
+    book: &PairBook,
+    lines: &CreditLines,
+    weight: u32,
+    viewer: BankId,
+    blank: Blank,
+) -> Result<Outcome, Memory>
+    requires name { blank.name ≡ L.name }
+    requires parts { blank.parts ≡ L.parts }
+    requires some { 0 < blank.parts }
+    requires banks { book.now.banks ≡ lines.now.banks }
+    requires bank { viewer < lines.now.banks }
+    requires weight { IsWeight weight }
+    ensures depth { IfOk result (IsLegalLocalBook book.now lines.now weight viewer) }
+    ensures sound { IfOk result (IsLocalBook book.now lines.now weight viewer) }
+{
+    let mut steps = Steps::<L>::new(blank);
+    let bids = levels_in_reach(alloc, book, lines, weight, viewer, Side::Sell, &mut steps)?;
+    let asks = levels_in_reach(alloc, book, lines, weight, viewer, Side::Buy, &mut steps)?;
     Ok(Outcome::Depth { bids, asks })
 }

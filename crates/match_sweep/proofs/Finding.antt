@@ -1,12 +1,11 @@
 -- What the book finds of one bank's orders is that bank's head.
-use Rattle.std.proofs.Common.{ℕ, ◌≡◌, ◌&&◌, false, true, List, Option, Some, None, refl, ap, sym, subst, ◌∙◌}
+use Rattle.std.proofs.Common.{ℕ, ◌≡◌, ◌&&◌, false, true, List, Option, Some, None, refl, ap, subst, ◌∙◌}
 use Rattle.std.proofs.lemmas.Bool.{and_from, both_ways, eq-eqb, false_from_ne_true}
 use Rattle.std.specs.Prelude.{IfSome}
 use Rattle.std.specs.Option.{option_map}
 use Rattle.fx_amounts.specs.Price.{crosses}
 use Rattle.fx_amounts.specs.Side.{opposite}
 use Rattle.fx_amounts.specs.declared.side.Side.{Side}
-use Rattle.fx_amounts.specs.declared.side.Side.TheVariants.{Buy, Sell}
 use Rattle.fx_rules.specs.declared.orders.Resting.{Resting}
 use Rattle.fx_rules.specs.Lists.{Each}
 use Rattle.fx_rules.specs.Sweep.{Taker, IsBest, is_better, is_opposite}
@@ -58,21 +57,3 @@ best-dear orders t bank (Some p) level dear =
     both_ways (crosses t.side t.price p) dear
     (better_or_same t.side t.price p o.price
     (Each-among (λ (q : Resting). is_worse_of t.side bank None q ≡ true → is_better t.side q.price p ≡ false) orders o level.first here.0 (to_come-worse t bank o here.1)) taken)))
-
-crosses-turned : (side : Side) (price other : ℕ) → crosses (opposite side) other price ≡ crosses side price other
-crosses-turned Buy price other = refl
-crosses-turned Sell price other = refl
-
-opposite-is : (side other : Side) → is_opposite side other ≡ true → other ≡ opposite side
-opposite-is Buy Sell is = refl
-opposite-is Sell Buy is = refl
-opposite-is Buy Buy is = cc
-opposite-is Sell Sell is = cc
-
--- where no order of the other side crosses its limit, a taker takes the price of none of a bank
-pub none-dear : (orders : List Resting) (t : Taker) (bank : ℕ) → Each (λ o. o.side ≡ opposite t.side → crosses (opposite t.side) o.price t.price ≡ false) orders → AreDear t (to_come t bank None orders)
-none-dear orders t bank none =
-    Each-of (λ (o : Resting). crosses t.side t.price o.price ≡ false) (to_come t bank None orders) (λ o there.
-    let here = among_to_come t bank None orders o there in
-    sym (crosses-turned t.side t.price o.price)
-    ∙ Each-among (λ (q : Resting). q.side ≡ opposite t.side → crosses (opposite t.side) q.price t.price ≡ false) orders o none here.0 (opposite-is t.side o.side here.1.opposite))

@@ -1,6 +1,7 @@
 mod Passed
 pub mod Tables
 pub mod Finding
+mod Others
 pub mod Planning
 pub mod Picking
 pub mod Levelling

@@ -1,8 +1,8 @@
-ghost use Rattle.std.specs.Prelude.{IfSome, None, IsTrue, ◌↔◌, false, true, ◌≡◌, ◌≤◌, ◌+◌};
+ghost use Rattle.std.specs.Prelude.{ℕ, slice_index_or, IfSome, None, IsTrue, ◌↔◌, false, true, ◌≡◌, ◌≤◌, ◌+◌};
 ghost use Rattle.std.specs.Option.{option_copied, option_map};
 ghost use Rattle.fx_amounts.specs.Price.{IsPrice, crosses};
-ghost use Rattle.fx_rules.specs.Sweep.{is_better, is_preferred};
-ghost use Rattle.match_sweep.specs.inside.Heads.{AreDear, CameBefore, HasTaken, IsFound, IsWithin, place_of, to_come};
+ghost use Rattle.fx_rules.specs.Sweep.{Taker, is_better, is_preferred};
+ghost use Rattle.match_sweep.specs.inside.Heads.{CameBefore, HasTaken, IsDear, IsFound, IsWithin, place_of, to_come};
 
 use fx_amounts::{BankId, Price, Side};
 use fx_rules::{Resting, SweptOrder};
@@ -61,29 +61,33 @@ impl TakenPrices {
         }
     }
 
+    /// Whether a price, where there is one, is one of them.
+    pub(crate) fn take(&self, price: Option<Price>) -> bool
+        ensures dear { (t : Taker) → HasTaken t self.now → result ≡ false → IsDear t price }
+    {
+        match price {
+            Some(price) => self.contains(price),
+            None => false,
+        }
+    }
+
+    /// Whether any of these prices is one of them. It looks at all, which takes less time than to ask after each.
+    pub(crate) fn take_any(&self, prices: &[Option<Price>]) -> bool
+        ensures dear { (t : Taker) → HasTaken t self.now → result ≡ false → (k : ℕ) → IsDear t (slice_index_or prices.now k None) }
+    {
+        let mut any = false;
+        for price in prices {
+            any |= self.take(*price);
+        }
+        any
+    }
+
     /// Whether this is one of them.
     fn contains(&self, price: Price) -> bool
         ensures within { IsTrue result ↔ IsWithin self.now price }
         ensures price { IsPrice price }
     {
         self.least <= price.ticks() && price.ticks() <= self.most
-    }
-}
-
-/// Whether an order, which takes these prices, takes the best one that a bank has for it. Where it does not, it takes none of the
-/// bank's orders. It counts no step.
-pub(crate) fn takes_best(
-    book: &PairBook,
-    order: &SweptOrder,
-    prices: &TakenPrices,
-    bank: BankId,
-) -> bool
-    requires taken { HasTaken order.now prices.now }
-    ensures dear { result ≡ false → AreDear order.now (to_come order.now bank None book.now.orders) }
-{
-    match book.best_price(bank, order.side.opposite()) {
-        Some(price) => prices.contains(price),
-        None => false,
     }
 }
 

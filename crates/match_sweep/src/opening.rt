@@ -1,11 +1,11 @@
-ghost use Rattle.std.specs.Prelude.{◌≡◌, ◌≤◌, ◌<◌, ◌+◌, length};
+ghost use Rattle.std.specs.Prelude.{◌≡◌, ◌≤◌, ◌<◌, ◌+◌, false, None, slice_index_or};
 ghost use Rattle.fx_amounts.specs.Quantity.{IsWeight};
 ghost use Rattle.global_book.specs.Book.{AreOwners, IsBook};
-ghost use Rattle.match_sweep.specs.inside.Heads.{CameBefore, HasTaken, OpensAt, OpensHead, better_head};
+ghost use Rattle.match_sweep.specs.inside.Heads.{AreDear, CameBefore, OpensAt, OpensHead, better_head, to_come};
 
-use crate::heads::{TakenPrices, head_behind, is_preferred, takes_best};
+use crate::heads::{TakenPrices, head_behind, is_preferred};
 use credit_lines::CreditLines;
-use fx_amounts::{BankId, Side};
+use fx_amounts::{BankId, Price, Side};
 use fx_rules::{Resting, SweptOrder};
 use global_book::PairBook;
 use price_levels::Steps;
@@ -20,7 +20,8 @@ pub(crate) struct Opening {
     pub(crate) opens: [bool; BankId::SENDERS],
 }
 
-/// Finds where a sweep begins; `None` where nothing may be taken of any bank. The banks are those that have an order.
+/// Finds where a sweep begins; `None` where nothing may be taken of any bank. The banks are those that have an order. One step for each
+/// bank at most: one for all their best prices, and one for each head that it looks for, of which the order's own bank has none.
 pub(crate) fn find_opening<L: Ledger>(
     book: &PairBook,
     owners: &[BankId],
@@ -35,16 +36,18 @@ pub(crate) fn find_opening<L: Ledger>(
     requires bank { order.now.bank < lines.now.banks }
     requires weight { IsWeight weight }
     ensures opening { OpensAt book.now lines.now weight order.now owners.now result }
-    ensures steps { CameBefore book.now.orders order.now.arrival → steps.new ≤ steps.old + length owners.now }
+    ensures steps { CameBefore book.now.orders order.now.arrival → steps.new ≤ steps.old + book.now.banks }
 {
-    if !book.any_crosses(order.side.opposite(), order.price) {
+    let best = book.best_prices(order.side.opposite(), steps);
+    let prices = TakenPrices::of(order);
+    if !prices.take_any(best) {
         return None;
     }
-    let prices = TakenPrices::of(order);
     let mut first = None;
     let mut opens = [false; BankId::SENDERS];
     for owner in owners {
-        if let Some(head) = open_head(book, lines, weight, order, &prices, *owner, steps) {
+        let is_taken = prices.take(price_at(best, *owner));
+        if let Some(head) = open_head(book, lines, weight, order, is_taken, *owner, steps) {
             opens[owner.index()] = true;
             first = Some(better_head(order.side, first, head));
         }
@@ -65,24 +68,33 @@ fn better_head(side: Side, first: Option<Resting>, head: Resting) -> Resting
     }
 }
 
-/// The head of a bank as a sweep begins; `None` where nothing of the bank may be taken.
+/// The price of a bank among those of all; `None` where it has none.
+fn price_at(prices: &[Option<Price>], bank: BankId) -> Option<Price>
+    ensures value { result ≡ slice_index_or prices.now bank None }
+{
+    *prices.get(bank.index())?
+}
+
+/// The head of a bank as a sweep begins; `None` where nothing of the bank may be taken. It is told whether the order takes the best
+/// price of the bank's orders: where it does not, it takes none of them. At most one step, and none for the order's own bank.
 fn open_head<L: Ledger>(
     book: &PairBook,
     lines: &CreditLines,
     weight: u32,
     order: &SweptOrder,
-    prices: &TakenPrices,
+    is_taken: bool,
     bank: BankId,
     steps: &mut Steps<L>,
 ) -> Option<Resting>
-    requires taken { HasTaken order.now prices.now }
+    requires dear { is_taken ≡ false → AreDear order.now (to_come order.now bank None book.now.orders) }
     requires first { order.now.bank < lines.now.banks }
     requires second { bank < lines.now.banks }
     requires weight { IsWeight weight }
     ensures head { OpensHead book.now lines.now weight order.now bank result }
     ensures steps { CameBefore book.now.orders order.now.arrival → steps.new ≤ steps.old + 1 }
+    ensures own { bank ≡ order.now.bank → steps.new ≡ steps.old }
 {
-    if !takes_best(book, order, prices, bank) || bank == order.bank {
+    if !is_taken || bank == order.bank {
         return None;
     }
     if lines.eff(order.bank, bank).get() < u64::from(weight) {

@@ -1,4 +1,4 @@
-ghost use Rattle.std.specs.Prelude.{ℕ, Option, ◌≡◌, ◌≢◌, ◌≤◌, ◌<◌, ◌*◌, ◌/◌, ◌^◌, min, true, false, Some, None, slice_index, slice_index_or, IfOk, IfSome};
+ghost use Rattle.std.specs.Prelude.{ℕ, Option, ◌≡◌, ◌≢◌, ◌+◌, length, is_some, if◌then◌else◌, ◌≤◌, ◌<◌, ◌*◌, ◌/◌, ◌^◌, min, true, false, Some, None, slice_index, slice_index_or, IfOk, IfSome};
 ghost use Rattle.fx_amounts.specs.Quantity.{IsWeight};
 ghost use Rattle.fx_rules.specs.Lists.{total};
 ghost use Rattle.fx_rules.specs.Sweep.{is_better};
@@ -10,24 +10,29 @@ use credit_lines::CreditLines;
 use fx_amounts::{BankId, Memory, Price, Side};
 use fx_rules::{Level, LevelList, SHOWN_LEVELS};
 use global_book::PairBook;
+use price_levels::Steps;
 use std::alloc::Global;
+use std::sync::ledger::Ledger;
 
 /// The first ten levels of what a bank reaches with an order of this side, at any price and for as many lots as there are, by
 /// its lines, where a lot costs `weight` credit units, 1 to 10^6. It walks from price to price over what each bank has at
-/// it, and not from order to order. It changes nothing, and searches nothing, so it counts no steps. The book was made for
-/// as many banks as the lines have, and the bank is one of them. At `Memory` there was none for the levels.
-pub fn levels_in_reach(
+/// it, and not from order to order. It changes nothing but the counter of its steps, of which it takes one for each bank at most
+/// as it begins, and as many for each level. The book was made for as many banks as the lines have, and the bank is one of them. At
+/// `Memory` there was none for the levels.
+pub fn levels_in_reach<L: Ledger>(
     alloc: Global,
     book: &PairBook,
     lines: &CreditLines,
     weight: u32,
     bank: BankId,
     side: Side,
+    steps: &mut Steps<L>,
 ) -> Result<LevelList, Memory>
     requires banks { book.now.banks ≡ lines.now.banks }
     requires bank { bank < lines.now.banks }
     requires weight { IsWeight weight }
     ensures levels { IfOk result (IsReached book.now lines.now weight bank side) }
+    ensures steps { IfOk result (λ levels. steps.new ≤ steps.old + (length levels + 1) * book.now.banks) }
 {
     let mut walk = LevelWalk {
         taker: side,
@@ -37,11 +42,11 @@ pub fn levels_in_reach(
         ranks: [NO_RANK; BankId::SENDERS],
         last: None,
     };
-    walk.open_banks(book, lines, bank);
+    walk.open_banks(book, lines, bank, steps);
     let mut levels = Vec::new(alloc);
     levels.reserve_exact(SHOWN_LEVELS)?;
     while levels.len() < SHOWN_LEVELS {
-        let Some(level) = walk.next_level(book) else {
+        let Some(level) = walk.next_level(book, steps) else {
             break;
         };
         levels.push(level)?;
@@ -81,25 +86,40 @@ struct BankLevel {
 
 impl LevelWalk {
     /// Finds the lines of a bank with all others that have an order, and their first levels. The walk has found none so far.
-    fn open_banks(&mut self, book: &PairBook, lines: &CreditLines, bank: BankId)
+    /// One step for each at most.
+    fn open_banks<L: Ledger>(
+        &mut self,
+        book: &PairBook,
+        lines: &CreditLines,
+        bank: BankId,
+        steps: &mut Steps<L>,
+    )
         requires bare { IsBareLevel self.old }
         requires banks { book.now.banks ≡ lines.now.banks }
         requires bank { bank < lines.now.banks }
         requires weight { IsWeight self.old.weight }
         ensures begins { BeginsAt book.now lines.now self.old.weight bank self.old.taker self.new }
         ensures ranked { AreRanked self.new }
+        ensures steps { steps.new ≤ steps.old + book.now.banks }
     {
         prove!(bank.index() < BankId::COUNT);
         let owners = book.owners();
         for owner in owners {
             if *owner != bank {
-                self.open_bank(book, lines, bank, *owner);
+                self.open_bank(book, lines, bank, *owner, steps);
             }
         }
     }
 
     /// Finds the line of a bank with another, and the first level of the other where the line pays for a lot.
-    fn open_bank(&mut self, book: &PairBook, lines: &CreditLines, bank: BankId, other: BankId)
+    fn open_bank<L: Ledger>(
+        &mut self,
+        book: &PairBook,
+        lines: &CreditLines,
+        bank: BankId,
+        other: BankId,
+        steps: &mut Steps<L>,
+    )
         requires bank { bank < lines.now.banks }
         requires other { other < lines.now.banks }
         requires differ { bank ≢ other }
@@ -107,9 +127,10 @@ impl LevelWalk {
         ensures opens { OpensLevel book.now lines.now self.old self.new bank other }
         ensures number { other < 64 }
         ensures ranked { AreRanked self.old → AreRanked self.new }
+        ensures steps { steps.new ≤ steps.old + 1 }
     {
         let line = lines.eff(bank, other).get();
-        let head = level_at(book, self.taker, line, self.weight, other, 0);
+        let head = level_at(book, self.taker, line, self.weight, other, 0, steps);
         self.put(other.index(), line, head);
     }
 
@@ -124,17 +145,18 @@ impl LevelWalk {
         self.ranks[number] = rank_of(self.taker, self.price_at(number));
     }
 
-    /// The next level; `None` where nothing more can be reached.
-    fn next_level(&mut self, book: &PairBook) -> Option<Level>
+    /// The next level; `None` where nothing more can be reached. One step for each bank at most, and none for no level.
+    fn next_level<L: Ledger>(&mut self, book: &PairBook, steps: &mut Steps<L>) -> Option<Level>
         requires weight { IsWeight self.old.weight }
         requires most { total (λ line. line) self.old.lines ≤ 64 * 10 ^ 15 }
         requires heads { HaveLevels book.now self.old }
         requires ranked { AreRanked self.old }
         ensures level { TakesLevel book.now self.old self.new result }
         ensures ranked { AreRanked self.new }
+        ensures steps { steps.new ≤ steps.old + (if is_some result then book.now.banks else 0) }
     {
         let price = self.best_price(book.owners())?;
-        let lots = self.take_all(book, price);
+        let lots = self.take_all(book, price, steps);
         self.last = Some(price);
         Some(Level { price, lots })
     }
@@ -164,7 +186,7 @@ impl LevelWalk {
     }
 
     /// Takes of each bank what the line with it pays for of its lots at the best price; how many they are in all.
-    fn take_all(&mut self, book: &PairBook, price: Price) -> u64
+    fn take_all<L: Ledger>(&mut self, book: &PairBook, price: Price, steps: &mut Steps<L>) -> u64
         requires weight { IsWeight self.old.weight }
         requires most { total (λ line. line) self.old.lines ≤ 64 * 10 ^ 15 }
         requires heads { HaveLevels book.now self.old }
@@ -172,17 +194,24 @@ impl LevelWalk {
         requires ranked { AreRanked self.old }
         ensures taken { AreTaken book.now self.old self.new price result }
         ensures ranked { AreRanked self.new }
+        ensures steps { steps.new ≤ steps.old + book.now.banks }
     {
         let mut lots = 0;
         let owners = book.owners();
         for owner in owners {
-            lots += self.take_of(book, *owner, price);
+            lots += self.take_of(book, *owner, price, steps);
         }
         lots
     }
 
     /// Takes what one bank has at the price, as far as its line allows, and goes on to its next price.
-    fn take_of(&mut self, book: &PairBook, bank: BankId, price: Price) -> u64
+    fn take_of<L: Ledger>(
+        &mut self,
+        book: &PairBook,
+        bank: BankId,
+        price: Price,
+        steps: &mut Steps<L>,
+    ) -> u64
         requires weight { IsWeight self.old.weight }
         requires head { 1 ≤ slice_index self.old.lines bank / self.old.weight → IsHead self.old.taker bank self.old.last book.now.orders (slice_index_or self.old.heads bank None) }
         requires worse { is_worse self.old.taker self.old.last price ≡ true }
@@ -190,6 +219,7 @@ impl LevelWalk {
         requires ranked { AreRanked self.old }
         ensures taken { TakesOf book.now self.old self.new bank price result }
         ensures ranked { AreRanked self.new }
+        ensures steps { steps.new ≤ steps.old + 1 }
     {
         let at = bank.index();
         if self.ranks[at] != rank_of(self.taker, Some(price)) {
@@ -204,7 +234,15 @@ impl LevelWalk {
         let left = line - taken * weight;
         // There are no more levels than orders.
         prove!(head.at < book.len());
-        let next = level_at(book, self.taker, left, self.weight, bank, head.at + 1);
+        let next = level_at(
+            book,
+            self.taker,
+            left,
+            self.weight,
+            bank,
+            head.at + 1,
+            steps,
+        );
         self.put(at, left, next);
         taken
     }
@@ -246,21 +284,23 @@ fn price_at_rank(taker: Side, rank: u32) -> Option<Price>
 }
 
 /// The level of a bank at an index, where there is one, for a taker of a side; where the line with the bank, of `line` credit
-/// units, pays for no lot, it is not looked for.
-fn level_at(
+/// units, pays for no lot, it is not looked for. One step at most.
+fn level_at<L: Ledger>(
     book: &PairBook,
     taker: Side,
     line: u64,
     weight: u32,
     bank: BankId,
     at: usize,
+    steps: &mut Steps<L>,
 ) -> Option<BankLevel>
     requires weight { IsWeight weight }
     ensures level { 1 ≤ line / weight → result ≡ bank_level taker bank book.now.orders at }
+    ensures steps { steps.new ≤ steps.old + 1 }
 {
     if line < u64::from(weight) {
         return None;
     }
-    let (price, lots) = book.level_at(bank, taker.opposite(), at)?;
+    let (price, lots) = book.level_at(bank, taker.opposite(), at, steps)?;
     Some(BankLevel { at, price, lots })
 }

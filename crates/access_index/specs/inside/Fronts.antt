@@ -1,7 +1,6 @@
 -- The price of each bank's first place, beside the rows.
-use Rattle.std.specs.Prelude.{ℕ, ◌≡◌, Bool, false, List, map, Option, Some, None, slice_get}
+use Rattle.std.specs.Prelude.{ℕ, ◌≡◌, List, map, Option, Some, None, slice_get}
 use Rattle.std.specs.Option.{option_map}
-use Rattle.fx_amounts.specs.Price.{crosses}
 use Rattle.fx_amounts.specs.declared.side.Side.{Side}
 use Rattle.fx_amounts.specs.declared.side.Side.TheVariants.{Buy, Sell}
 use Rattle.price_levels.specs.declared.place.Place.{Place}
@@ -21,11 +20,6 @@ prices_of fronts Sell = fronts.asks
 -- the price of the first place, if there is one
 abbrev pub front_price : List Place → Option ℕ
 front_price places = option_map (λ place. place.price) (slice_get places 0)
-
--- there is a price, and it crosses one of the other side
-abbrev pub front_crosses : Side → ℕ → Option ℕ → Bool
-front_crosses side top None = false
-front_crosses side top (Some price) = crosses side price top
 
 -- the prices are those of the first places of these rows
 abbrev pub AreFronts : List OwnRows → FrontPrices → Type 0

@@ -1,6 +1,6 @@
 -- The orders of each bank that a sweep may still come to, the best of them first. All of this is for this crate's own functions,
 -- which plan.
-use Rattle.std.specs.Prelude.{ℕ, ◌≡◌, ◌≢◌, ◌≤◌, ◌<◌, ◌/◌, Bool, true, false, ◌&&◌, nat_lt, if◌then◌else◌, List, filter, length, Option, Some, None, slice_index_or}
+use Rattle.std.specs.Prelude.{ℕ, ◌≡◌, ◌≢◌, ◌≤◌, ◌<◌, ◌/◌, Bool, true, false, ◌&&◌, nat_lt, if◌then◌else◌, List, filter, length, Option, Some, None, IfSome, slice_index_or}
 use Rattle.std.specs.List.{Contains}
 use Rattle.fx_amounts.specs.declared.side.Side.{Side}
 use Rattle.fx_amounts.specs.Price.{IsPrice, crosses}
@@ -17,6 +17,10 @@ use Rattle.match_sweep.specs.declared.opening.Opening.{Opening}
 -- a taker takes the price of none of these orders
 abbrev pub AreDear : Taker → List Resting → Type 0
 AreDear t orders = Each (λ order. crosses t.side t.price order.price ≡ false) orders
+
+-- a taker does not take this price, or there is none
+abbrev pub IsDear : Taker → Option ℕ → Type 0
+IsDear t price = IfSome price (λ p. crosses t.side t.price p ≡ false)
 
 -- a price is one of these
 pub record IsWithin (prices : TakenPrices) (price : ℕ) : Type 0 where

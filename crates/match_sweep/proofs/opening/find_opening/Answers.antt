@@ -1,17 +1,19 @@
 -- One more bank is looked at.
-use Rattle.std.proofs.Common.{ℕ, List, Bool, false, true, get_or, refl, replicate, Option, Some, None, [], ◌∷◌, ◌++◌, ◌≡◌, ◌+◌, take, ap, sym, subst, ◌∙◌, arith, length}
+use Rattle.std.proofs.Common.{ℕ, List, Bool, false, true, get_or, refl, replicate, Option, Some, None, [], ◌∷◌, ◌++◌, ◌≡◌, ◌+◌, ◌≤◌, ◌<◌, inl, inr, take, ap, sym, subst, ◌∙◌, arith, length}
 use Rattle.std.proofs.Math.ListN.{set, length-set}
-use Rattle.std.proofs.lemmas.Bool.{both_ways}
-use Rattle.std.proofs.lemmas.List.{take_all, take_more}
-use Rattle.fx_amounts.specs.Price.{crosses}
+use Rattle.std.proofs.lemmas.Bool.{both_ways, cases_eq}
+use Rattle.std.proofs.lemmas.List.{get_or_default, take_all, take_more}
+use Rattle.fx_amounts.specs.Side.{opposite}
 use Rattle.fx_amounts.specs.declared.side.Side.{Side}
-use Rattle.fx_rules.specs.Lists.{Each}
 use Rattle.fx_rules.specs.declared.orders.Resting.{Resting}
 use Rattle.fx_rules.specs.Sweep.{Taker}
 use Rattle.match_sweep.specs.declared.opening.Opening.{Opening}
-use Rattle.match_sweep.specs.inside.Heads.{OpensAt, better_head, opening_of}
+use Rattle.global_book.specs.Book.{AreOwners, Book, IsBook, IsPriceOf}
+use Rattle.global_book.proofs.Sought.{opposite-opposite}
+use Rattle.match_sweep.specs.inside.Heads.{AreDear, IsDear, OpensAt, better_head, opening_of, to_come}
 use Rattle.match_sweep.proofs.Beginning.{NotOwn, marked-apart, opened_past, opened_with}
-use Rattle.match_sweep.proofs.Finding.{none-dear}
+use Rattle.match_sweep.proofs.Finding.{best-dear}
+use Rattle.match_sweep.proofs.Others.{few_others, other_count, others-another, others-own}
 use Rattle.match_sweep.proofs.Stepping.{owner_within}
 use Rattle.match_sweep.proofs.Tables.{replicate-at}
 use Rattle.match_sweep.proofs.opening.find_opening.Goals as goal
@@ -32,12 +34,20 @@ found_now first opens was best head n at first_is best_is opens_is same =
     ap (λ (f : Option Resting). opening_of f opens) (first_is ∙ ap Some best_is)
     ∙ ap (λ (os : List Bool). opening_of (Some head) os) (opens_is ∙ ap (λ (i : ℕ). set was i true) same)
 
+-- a step more, but for the order's own bank
+stepped : (own bank : ℕ) (banks banks' : List ℕ) (first old new : ℕ) → banks' ≡ banks ++ bank ∷ [] → old ≤ first + other_count own banks → new ≤ old + 1 → (bank ≡ own → new ≡ old) → new ≤ first + other_count own banks'
+stepped own bank banks banks' first old new is was more same =
+    subst (λ (bs : List ℕ). new ≤ first + other_count own bs) (sym is) (elim (cases_eq bank own) [
+      | inl here ↦ omega (arith, was, same here, others-own own bank banks here)
+      | inr differ ↦ omega (arith, was, more, others-another own bank banks differ)
+    ])
+
 pub loop-owner-init : goal.loop-owner-init
 loop-owner-init g c = record {
   full = refl;
   others = λ bank flag. absurd (both_ways (get_or (replicate 64 false) bank false) (replicate-at false 64 bank) flag);
   opening = λ bank there. absurd (omega (arith, there.1));
-  steps = λ _. omega arith;
+  steps = λ _. omega (arith, c.best_prices-best.ensures.step);
 }
 
 pub loop-owner-preserved : goal.loop-owner-preserved
@@ -59,7 +69,7 @@ loop-owner-preserved g c =
             w.first-is w.better_head.ensures.value w.opens-is w.index.ensures.value))
             (opened_with c.args.book.now c.args.lines.now c.args.weight t (take k owners) n w.in-Some.head c.loop-owner.first c.loop-owner.opens c.requires.valid
             (omega (arith, w.index.ensures.value, w.index.ensures.most)) c.loop-owner.invariant.full c.loop-owner.invariant.others w.in-Some.ensures.head c.loop-owner.invariant.opening));
-        steps = λ came. omega (arith, c.open_head.ensures.steps came, c.loop-owner.invariant.steps came);
+        steps = λ came. stepped c.args.order.now.bank n (take k owners) (take (k + 1) owners) (c.args.steps.now + 1) c.loop-owner.steps _ more (c.loop-owner.invariant.steps came) (c.open_head.ensures.steps came) c.open_head.ensures.own;
       }
       | in_default w ↦ record {
         full = ap length w.opens-is ∙ c.loop-owner.invariant.full;
@@ -68,7 +78,7 @@ loop-owner-preserved g c =
             (subst (λ (o : Option Opening). OpensAt c.args.book.now c.args.lines.now c.args.weight t (take k owners ++ n ∷ []) o)
             (sym (ap (λ (f : Option Resting). opening_of f c.match-open_head.opens) w.first-is ∙ ap (opening_of c.loop-owner.first) w.opens-is))
             (opened_past c.args.book.now c.args.lines.now c.args.weight t (take k owners) n (opening_of c.loop-owner.first c.loop-owner.opens) w.in_default.ensures.head c.loop-owner.invariant.opening));
-        steps = λ came. omega (arith, c.open_head.ensures.steps came, c.loop-owner.invariant.steps came);
+        steps = λ came. stepped c.args.order.now.bank n (take k owners) (take (k + 1) owners) (c.args.steps.now + 1) c.loop-owner.steps _ more (c.loop-owner.invariant.steps came) (c.open_head.ensures.steps came) c.open_head.ensures.own;
       }
     ]
 
@@ -81,9 +91,38 @@ returns-in_err-first-clause-opening g c =
     (subst (λ (f : Option Resting). OpensAt c.args.book.now c.args.lines.now c.args.weight t (take c.loop-owner.owner-index owners) (opening_of f c.loop-owner.opens)) c.in_err-first.was
     c.loop-owner.invariant.opening))
 
-pub returns-then-not-any_crosses-clause-opening : goal.returns-then-not-any_crosses-clause-opening
-returns-then-not-any_crosses-clause-opening g c bank there differ some =
-    let t : Taker = c.args.order.now in
-    none-dear c.args.book.now.orders t bank
-    (subst (λ (s : Side). Each (λ o. o.side ≡ s → crosses s o.price t.price ≡ false) c.args.book.now.orders) c.opposite.ensures
-    (c.any_crosses.ensures.none c.if-not-any_crosses.true))
+-- a bank's best price, as the taker of an order sees it
+seen : (t : Taker) (side : Side) (orders : List Resting) (bank : ℕ) (price : Option ℕ) → side ≡ opposite t.side → IsPriceOf (opposite side) bank None orders price → IsDear t price → AreDear t (to_come t bank None orders)
+seen t side orders bank price side_is is dear =
+    best-dear orders t bank price (subst (λ (s : Side). IsPriceOf s bank None orders price) (ap opposite side_is ∙ opposite-opposite t.side) is) dear
+
+pub open_head-requires-clause-dear : goal.open_head-requires-clause-dear
+open_head-requires-clause-dear g c = λ fails.
+    seen c.args.order.now c.opposite.result c.args.book.now.orders c.owner-item.result c.price_at.result c.opposite.ensures
+    (subst (IsPriceOf (opposite c.opposite.result) c.owner-item.result None c.args.book.now.orders) (sym c.price_at.ensures.value) (c.best_prices-best.ensures.prices c.owner-item.result))
+    (c.take-is_taken.ensures.dear c.args.order.now c.of-prices.ensures.taken fails)
+
+pub returns-then-not-take_any-clause-opening : goal.returns-then-not-take_any-clause-opening
+returns-then-not-take_any-clause-opening g c = λ bank there differ some.
+    seen c.args.order.now c.opposite.result c.args.book.now.orders bank (get_or c.best_prices-best.result.now bank None) c.opposite.ensures
+    (c.best_prices-best.ensures.prices bank) (c.take_any.ensures.dear c.args.order.now c.of-prices.ensures.taken c.if-not-take_any.true bank)
+
+pub returns-then-not-take_any-clause-steps : goal.returns-then-not-take_any-clause-steps
+returns-then-not-take_any-clause-steps g c = λ came. omega (arith, c.best_prices-best.ensures.step, c.requires.bank, c.requires.banks)
+
+-- the others are fewer than all banks
+all_fewer : (book : Book) (owners : List ℕ) (own lines : ℕ) → IsBook book → AreOwners book owners → own < lines → book.banks ≡ lines → other_count own owners + 1 ≤ book.banks
+all_fewer book owners own lines valid are within banks =
+    few_others own book.banks owners (omega (arith, within, banks)) are.rising (λ k below. owner_within book owners (get_or owners k 0) valid are (k, below, get_or_default owners k (get_or owners k 0) 0 below))
+
+pub returns-in_err-first-clause-steps : goal.returns-in_err-first-clause-steps
+returns-in_err-first-clause-steps g c = λ came.
+    let few = all_fewer c.args.book.now c.args.owners.now c.args.order.now.bank c.args.lines.now.banks c.requires.valid c.requires.owners c.requires.bank c.requires.banks in
+    let all = ap (other_count c.args.order.now.bank) (take_all c.loop-owner.owner-index c.args.owners.now c.loop-owner-test.false) in
+    omega (arith, few, all, c.loop-owner.invariant.steps came)
+
+pub returns-clause-steps : goal.returns-clause-steps
+returns-clause-steps g c = λ came.
+    let few = all_fewer c.args.book.now c.args.owners.now c.args.order.now.bank c.args.lines.now.banks c.requires.valid c.requires.owners c.requires.bank c.requires.banks in
+    let all = ap (other_count c.args.order.now.bank) (take_all c.loop-owner.owner-index c.args.owners.now c.loop-owner-test.false) in
+    omega (arith, few, all, c.loop-owner.invariant.steps came)

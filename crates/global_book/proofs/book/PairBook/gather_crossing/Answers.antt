@@ -10,23 +10,23 @@ use Rattle.global_book.proofs.Gathering.{gathered, places_live}
 use Rattle.global_book.proofs.book.PairBook.gather_crossing.Goals as goal
 
 pub returns-in_err-gather_crossing-clause-valid : goal.returns-in_err-gather_crossing-clause-valid
-returns-in_err-gather_crossing-clause-valid c =
+returns-in_err-gather_crossing-clause-valid g c =
     kept_book c.self.inside.banks c.self.inside.orders c.self.inside.rows c.args.self.now
     c.self.invariant.kept (ap (λ (b : Book). b.orders) c.self.view_is) (ap (λ (b : Book). b.banks) c.self.view_is)
 
 pub returns-in_err-reserve-clause-valid : goal.returns-in_err-reserve-clause-valid
-returns-in_err-reserve-clause-valid c =
+returns-in_err-reserve-clause-valid g c =
     kept_book c.self.inside.banks c.self.inside.orders c.self.inside.rows c.args.self.now
     c.self.invariant.kept (ap (λ (b : Book). b.orders) c.self.view_is) (ap (λ (b : Book). b.banks) c.self.view_is)
 
 pub push_orders-requires-clause-live : goal.push_orders-requires-clause-live
-push_orders-requires-clause-live c =
+push_orders-requires-clause-live g c =
     let those : List Place = crossing_places c.args.side c.args.top (row_at c.self.inside.rows c.args.bank c.args.side).places in
     places_live c.self.inside.banks c.self.inside.orders c.self.inside.rows c.self.invariant.kept c.args.bank c.args.side c.args.top c.deref.result.now
     (c.deref.ensures.value ∙ c.in_ok-gather_crossing.ensures.places ∙ ap (λ (xs : List Place). xs ++ those) c.new-places.ensures.items)
 
 pub returns-clause-gathered : goal.returns-clause-gathered
-returns-clause-gathered c =
+returns-clause-gathered g c =
     let those : List Place = crossing_places c.args.side c.args.top (row_at c.self.inside.rows c.args.bank c.args.side).places in
     let found : List Resting = orders_at c.self.inside.orders those in
     let places : c.deref.result.now ≡ those = c.deref.ensures.value ∙ c.in_ok-gather_crossing.ensures.places ∙ ap (λ (xs : List Place). xs ++ those) c.new-places.ensures.items in
@@ -40,6 +40,6 @@ returns-clause-gathered c =
     )
 
 pub returns-clause-valid : goal.returns-clause-valid
-returns-clause-valid c =
+returns-clause-valid g c =
     kept_book c.self.inside.banks c.self.inside.orders c.self.inside.rows c.args.self.now
     c.self.invariant.kept (ap (λ (b : Book). b.orders) c.self.view_is) (ap (λ (b : Book). b.banks) c.self.view_is)

@@ -9,7 +9,7 @@ use Rattle.match_sweep.proofs.Reaching.{first_head}
 use Rattle.match_sweep.proofs.reached.LevelWalk.open_bank.Goals as goal
 
 pub returns-clause-opens : goal.returns-clause-opens
-returns-clause-opens c =
+returns-clause-opens g c =
     let old : LevelWalk = c.args.self.now in
     let line : ℕ = c.get-line.result in
     let level : Option BankLevel = c.level_at-head.result in

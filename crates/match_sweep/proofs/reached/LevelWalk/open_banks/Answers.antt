@@ -10,12 +10,12 @@ use Rattle.match_sweep.proofs.reached.LevelWalk.open_banks.Goals as goal
 use Rattle.match_sweep.proofs.reached.LevelWalk.open_banks.Goals.{then-ne, else-ne}
 
 pub loop-owner-init : goal.loop-owner-init
-loop-owner-init c =
+loop-owner-init g c =
     let some : 1 ≤ c.args.self.now.weight = omega (arith, c.requires.weight.0) in
-    (none-opened c.args.book.now c.args.lines.now c.args.bank c.args.self.now some c.requires.bare, bare-ranked c.args.self.now some c.requires.bare)
+    (none-opened c.args.book.now c.args.lines.now c.args.bank c.args.self.now some c.requires.bare, bare-ranked c.args.self.now some c.requires.bare, omega arith)
 
 pub open_bank-requires-clause-other : goal.open_bank-requires-clause-other
-open_bank-requires-clause-other c =
+open_bank-requires-clause-other g c =
     omega (
       arith,
       owner_within c.args.book.now c.owners-owners.result.now c.owner-item.result c.owners-owners.ensures.valid c.owners-owners.ensures.owners (c.loop-owner.owner-index, c.loop-owner-test.true, sym c.owner-item.is),
@@ -23,7 +23,7 @@ open_bank-requires-clause-other c =
     )
 
 pub loop-owner-preserved : goal.loop-owner-preserved
-loop-owner-preserved c =
+loop-owner-preserved g c =
     let k : ℕ = c.loop-owner.owner-index in
     let owners : List ℕ = c.owners-owners.result.now in
     let n : ℕ = c.owner-item.result in
@@ -46,13 +46,18 @@ loop-owner-preserved c =
         | then-ne w ↦ subst AreRanked (sym w.self-is) (w.open_bank.ensures.ranked c.loop-owner.invariant.1)
         | else-ne w ↦ subst AreRanked (sym w.self-is) c.loop-owner.invariant.1
       ],
+      elim c.if-ne.branch [
+        | then-ne w ↦ omega (arith, w.steps-is, w.open_bank.ensures.steps, c.loop-owner.invariant.2)
+        | else-ne w ↦ omega (arith, w.steps-is, c.loop-owner.invariant.2)
+      ],
     )
 
 pub returns : goal.returns
-returns c = record {
+returns g c = record {
   begins = opened-begins-at c.args.book.now c.args.lines.now c.owners-owners.result.now c.args.bank c.args.self.now c.loop-owner.self c.owners-owners.ensures.valid c.owners-owners.ensures.owners
       (omega (arith, c.index.ensures.value, c.index.ensures.most)) c.requires.bare
       (subst (λ (banks : List ℕ). HaveOpened c.args.book.now c.args.lines.now banks c.args.bank c.args.self.now c.loop-owner.self)
       (take_all c.loop-owner.owner-index c.owners-owners.result.now c.loop-owner-test.false) c.loop-owner.invariant.0);
   ranked = c.loop-owner.invariant.1;
+  steps = omega (arith, c.loop-owner.invariant.2, c.owners-owners.ensures.owners.few, c.loop-owner.auto);
 }

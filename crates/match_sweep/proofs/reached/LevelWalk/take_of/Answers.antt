@@ -20,7 +20,7 @@ asked_here walk bank at price other at_is below ranked is same =
     has_price walk bank price (ap (price_of walk) (sym at_is) ∙ same_rank walk.taker (price_of walk at) price (slice_index walk.ranks at) other (ranked at below) is same)
 
 pub returns-then-self-at-clause-taken : goal.returns-then-self-at-clause-taken
-returns-then-self-at-clause-taken c =
+returns-then-self-at-clause-taken g c =
     let walk : LevelWalk = c.args.self.now in
     takes_none-head c.args.book.now walk c.args.bank c.args.price c.requires.weight c.requires.worse c.requires.head
     (other_rank walk c.args.bank c.args.price (price_in (head_of walk c.args.bank)) c.requires.weight refl
@@ -28,7 +28,7 @@ returns-then-self-at-clause-taken c =
 
 -- there are no more levels than orders, so an index can rise
 pub prove-unreachable-requires : goal.prove-unreachable-requires
-prove-unreachable-requires c =
+prove-unreachable-requires g c =
     let walk : LevelWalk = c.args.self.now in
     let at_is : c.index-at.result ≡ c.args.bank = c.index-at.ensures.value in
     let within : c.index-at.result < length walk.heads = omega (arith, c.index-at.ensures.most) in
@@ -39,7 +39,7 @@ prove-unreachable-requires c =
     omega (arith, c.if-prove.true, c.len.ensures.count, few)
 
 pub returns-clause-taken : goal.returns-clause-taken
-returns-clause-taken c =
+returns-clause-taken g c =
     let walk : LevelWalk = c.args.self.now in
     let at : ℕ = c.index-at.result in
     let bank : ℕ = c.args.bank in

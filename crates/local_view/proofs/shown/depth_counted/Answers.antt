@@ -4,10 +4,10 @@ use Rattle.fx_rules.specs.declared.outcome.Outcome.TheVariants.{Depth}
 use Rattle.local_view.specs.LocalBook.{IsLocalBook}
 use Rattle.local_view.proofs.InHistories.{in_histories}
 use Rattle.local_view.proofs.Probing.{shown-reached}
-use Rattle.local_view.proofs.shown.depth.Goals as goal
+use Rattle.local_view.proofs.shown.depth_counted.Goals as goal
 
 pub returns-clause-sound : goal.returns-clause-sound
-returns-clause-sound c h S sound fits few =
+returns-clause-sound g c h S sound fits few =
     let some : 0 < c.args.weight = omega (arith, c.requires.weight.0) in
     record {
       sells = shown-reached c.args.book.now c.args.lines.now c.args.weight c.args.viewer Sell c.in_ok-bids.bids c.requires.bank some c.in_ok-bids.ensures.levels h S sound fits few;
@@ -15,5 +15,5 @@ returns-clause-sound c h S sound fits few =
     }
 
 pub returns-clause-depth : goal.returns-clause-depth
-returns-clause-depth c =
-    in_histories c.args.book.now c.args.lines.now c.args.weight c.args.viewer (Depth c.in_ok-bids.bids c.in_ok-asks.asks) (returns-clause-sound c)
+returns-clause-depth g c =
+    in_histories c.args.book.now c.args.lines.now c.args.weight c.args.viewer (Depth c.in_ok-bids.bids c.in_ok-asks.asks) (returns-clause-sound g c)
