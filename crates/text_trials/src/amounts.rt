@@ -1,7 +1,8 @@
 use fx_amounts::{
-    BankId, Lots, PairId, Price, PriceFault, Side, Units, base_amount, price_from, quote_amount,
+    BankId, Lots, Memory, PairId, Price, PriceFault, Side, Units, base_amount, price_from,
+    quote_amount,
 };
-use fx_text::{LineText, number, push_number, push_price};
+use fx_text::{LineText, number, push_price};
 use std::alloc::Global;
 use std::test::Fail;
 use trial_days::{lots, price};
@@ -104,13 +105,15 @@ const NUMBERS: [(&[u8], u64, u64, Option<u64>); 11] = [
     (b"4", 5, 9, None),
 ];
 
+/// The ticks of a price's text.
+fn ticks_of(text: &[u8], decimals: u8) -> Result<u32, PriceFault> {
+    Ok(price_from(text, decimals)?.ticks())
+}
+
 #[test]
 fn prices_and_numbers_are_read(rt: HostRuntime) {
     for (at, (text, decimals, want)) in PRICES.iter().enumerate() {
-        assert!(rt;
-            price_from(text, *decimals).map(Price::ticks) == *want,
-            "price {at}"
-        );
+        assert!(rt; ticks_of(text, *decimals) == *want, "price {at}");
     }
     for (at, (text, least, most, want)) in NUMBERS.iter().enumerate() {
         assert!(rt; number(text, *least, *most) == *want, "number {at}");
@@ -131,22 +134,22 @@ const SPELLED: [(u32, u8, &[u8]); 9] = [
 ];
 
 /// The one spelling of a price.
-fn spelled(alloc: Global, ticks: u32, decimals: u8) -> Result<Vec<u8>, Fail> {
+fn spelled(alloc: Global, ticks: u32, decimals: u8) -> Result<Vec<u8>, Memory> {
     let mut text = Vec::new(alloc);
-    push_price(Price::new(ticks).ok_or("ticks")?, decimals, &mut text)?;
+    if let Some(price) = Price::new(ticks) {
+        push_price(price, decimals, &mut text)?;
+    }
     Ok(text)
 }
 
-/// The one spelling of the largest numbers.
-fn largest(alloc: Global) -> Result<Vec<u8>, Fail> {
-    let mut text = Vec::new(alloc);
-    push_number(0, &mut text)?;
-    push_number(u128::MAX, &mut text)?;
-    let mut signed = LineText::new();
-    signed.push_signed_field(i128::MIN);
-    signed.push_signed_field(7);
-    text.extend_from_slice(signed.as_slice())?;
-    Ok(text)
+/// The one spelling of the least and the largest numbers.
+fn largest() -> LineText {
+    let mut text = LineText::new();
+    text.push_wide(0);
+    text.push_wide(u128::MAX);
+    text.push_signed_field(i128::MIN);
+    text.push_signed_field(7);
+    text
 }
 
 #[test]
@@ -157,6 +160,6 @@ fn what_is_pushed_is_the_one_spelling(rt: HostRuntime) -> Result<(), Fail> {
     }
     let want =
         b"0340282366920938463463374607431768211455 -170141183460469231731687303715884105728 7";
-    assert!(rt; largest(rt.alloc())?.as_slice() == want.as_slice());
+    assert!(rt; largest().as_slice() == want.as_slice());
     Ok(())
 }

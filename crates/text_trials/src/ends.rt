@@ -157,28 +157,52 @@ fn taken_from_memory(alloc: Global, most: usize, fails: &[u64]) -> Result<Vec<u8
     taken(alloc, &mut source)
 }
 
-/// What is taken of a reader that gives three bytes at a time.
-fn taken_by_threes(alloc: Global) -> Result<Vec<u8>, Memory> {
-    let mut reader = ByThrees {
-        left: TEXT,
-        kept: Vec::new(alloc),
-    };
-    taken(alloc, &mut StdSource::new(&mut reader))
+/// What `TEXT` is read from.
+#[derive(Clone, Copy, Debug)]
+enum Reader {
+    Steady,
+    Slice,
+    Threes,
+    Broken,
+}
+
+/// Readers, and what is taken of each.
+const READERS: [(Reader, &[u8]); 4] = [
+    (Reader::Steady, BY_EIGHTS),
+    (Reader::Slice, BY_EIGHTS),
+    (
+        Reader::Threes,
+        b"FXB|OOK| 1\n|BAN|K A|LFA|\nBA|NK |BET|A\n||",
+    ),
+    (Reader::Broken, b"!!!!!!!!!!!"),
+];
+
+/// What is taken of a reader.
+fn taken_from(alloc: Global, reader: Reader) -> Result<Vec<u8>, Memory> {
+    match reader {
+        Reader::Steady => taken(alloc, &mut SteadySource::new(TEXT.to_vec(alloc)?)),
+        Reader::Slice => taken(alloc, &mut StdSource::new(TEXT)),
+        Reader::Threes => {
+            let mut reader = ByThrees {
+                left: TEXT,
+                kept: Vec::new(alloc),
+            };
+            taken(alloc, &mut StdSource::new(&mut reader))
+        }
+        Reader::Broken => taken(alloc, &mut StdSource::new(Broken)),
+    }
 }
 
 #[test]
 fn sources_give_each_byte_once(rt: HostRuntime) -> Result<(), Fail> {
-    let alloc = rt.alloc();
     for (most, fails, want) in SOURCES {
-        let told = taken_from_memory(alloc, most.max(1), fails)?;
+        let told = taken_from_memory(rt.alloc(), most.max(1), fails)?;
         assert!(rt; told.as_slice() == want, "{most} bytes at a call");
     }
-    let mut steady = SteadySource::new(TEXT.to_vec(alloc)?);
-    assert!(rt; taken(alloc, &mut steady)?.as_slice() == BY_EIGHTS);
-    assert!(rt; taken(alloc, &mut StdSource::new(TEXT))?.as_slice() == BY_EIGHTS);
-    let threes = b"FXB|OOK| 1\n|BAN|K A|LFA|\nBA|NK |BET|A\n||".as_slice();
-    assert!(rt; taken_by_threes(alloc)?.as_slice() == threes);
-    assert!(rt; taken(alloc, &mut StdSource::new(Broken))?.as_slice() == b"!!!!!!!!!!!".as_slice());
+    for (reader, want) in READERS {
+        let told = taken_from(rt.alloc(), reader)?;
+        assert!(rt; told.as_slice() == want, "{reader:?}");
+    }
     Ok(())
 }
 
@@ -213,31 +237,65 @@ fn put_in_memory(alloc: Global, most: usize, fails: &[u64]) -> Result<Option<Vec
     Ok(is_told.then_some(written))
 }
 
-/// What is written to a writer that takes three bytes at a time.
-fn put_by_threes(alloc: Global) -> Result<Vec<u8>, SinkFault> {
-    let mut writer = ByThrees {
-        left: b"",
-        kept: Vec::new(alloc),
-    };
-    put(&mut StdSink::new(&mut writer))?;
-    Ok(writer.kept)
+/// What `TEXT` is written to.
+#[derive(Clone, Copy, Debug)]
+enum Writer {
+    Steady,
+    Text,
+    Threes,
+    Broken,
+    Full,
+}
+
+/// Writers, and whether each takes all of `TEXT`, or else fails.
+const WRITERS: [(Writer, bool); 5] = [
+    (Writer::Steady, true),
+    (Writer::Text, true),
+    (Writer::Threes, true),
+    (Writer::Broken, false),
+    (Writer::Full, false),
+];
+
+/// Whether `TEXT`, and nothing else, is written to a writer.
+fn takes_all(alloc: Global, writer: Writer) -> Result<bool, SinkFault> {
+    match writer {
+        Writer::Steady => {
+            let mut sink = SteadySink::new(alloc);
+            put(&mut sink)?;
+            Ok(sink.written() == TEXT)
+        }
+        Writer::Text => {
+            let mut kept = Vec::new(alloc);
+            put(&mut StdSink::new(&mut kept))?;
+            Ok(kept.as_slice() == TEXT)
+        }
+        Writer::Threes => {
+            let mut writer = ByThrees {
+                left: b"",
+                kept: Vec::new(alloc),
+            };
+            put(&mut StdSink::new(&mut writer))?;
+            Ok(writer.kept.as_slice() == TEXT)
+        }
+        Writer::Broken => put(&mut StdSink::new(Broken)).map(|()| false),
+        Writer::Full => put(&mut StdSink::new(Full)).map(|()| false),
+    }
 }
 
 #[test]
 fn sinks_take_each_byte_once(rt: HostRuntime) -> Result<(), Fail> {
-    let alloc = rt.alloc();
     for (most, fails, want) in SINKS {
-        let written = put_in_memory(alloc, most.max(1), fails)?;
+        let written = put_in_memory(rt.alloc(), most.max(1), fails)?;
         assert!(rt; written.as_deref() == Some(want), "{most} bytes at a call");
     }
-    let mut steady = SteadySink::new(alloc);
-    assert!(rt; put(&mut steady) == Ok(()) && steady.written() == TEXT);
-    let mut kept = Vec::new(alloc);
-    assert!(rt; put(&mut StdSink::new(&mut kept)) == Ok(()));
-    assert!(rt; kept.as_slice() == TEXT);
-    assert!(rt; put_by_threes(alloc)?.as_slice() == TEXT);
-    assert!(rt; put(&mut StdSink::new(Broken)) == Err(SinkFault::Failed));
-    assert!(rt; put(&mut StdSink::new(Full)) == Err(SinkFault::Failed));
+    for (writer, is_whole) in WRITERS {
+        let want = if is_whole {
+            Ok(true)
+        } else {
+            Err(SinkFault::Failed)
+        };
+        assert!(rt; takes_all(rt.alloc(), writer) == want, "{writer:?}");
+    }
     Ok(())
 }
 

@@ -7,9 +7,7 @@ pub(crate) type Filled<'a> = (&'a [u8], u8, usize, &'a [u8]);
 /// The whole of such a text.
 pub(crate) fn filled(alloc: Global, (front, byte, count, end): Filled) -> Result<Vec<u8>, Memory> {
     let mut text = Vec::from_slice(alloc, front)?;
-    for _ in 0..count {
-        text.push(byte)?;
-    }
+    text.resize(front.len().saturating_add(count), byte)?;
     text.extend_from_slice(end)?;
     Ok(text)
 }

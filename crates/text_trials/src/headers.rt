@@ -119,6 +119,12 @@ fn fault_of(alloc: Global, front: &[u8], last: &[u8]) -> Result<Option<(u64, u8)
     fault(alloc, &text)
 }
 
+/// The fault of a header whose second line is a long one.
+fn fault_of_long(alloc: Global) -> Result<Option<(u64, u8)>, Memory> {
+    let text = filled(alloc, (b"FXBOOK 1\n", b'x', 257, b"\n"))?;
+    fault(alloc, &text)
+}
+
 #[test]
 fn each_fault_is_told_by_its_line(rt: HostRuntime) -> Result<(), Fail> {
     let alloc = rt.alloc();
@@ -133,8 +139,7 @@ fn each_fault_is_told_by_its_line(rt: HostRuntime) -> Result<(), Fail> {
         let found = fault_of(alloc, &full(alloc, *banks, *pairs)?, last)?;
         assert!(rt; found == Some((*line, *code)), "full header {at}");
     }
-    let long = filled(alloc, (b"FXBOOK 1\n", b'x', 257, b"\n"))?;
-    assert!(rt; fault(alloc, &long)? == Some((2, 13)));
+    assert!(rt; fault_of_long(alloc)? == Some((2, 13)));
     Ok(())
 }
 
