@@ -12,3 +12,5 @@ mod far;
 mod plain;
 #[cfg(test)]
 mod swept;
+#[cfg(test)]
+mod windows;

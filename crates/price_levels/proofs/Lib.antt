@@ -6,3 +6,4 @@ mod Chunking
 mod Parting
 pub mod Crossing
 mod Laying
+mod Marking

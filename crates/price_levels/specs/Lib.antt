@@ -1,2 +1,3 @@
 pub mod Ladder
+pub mod Ticks
 pub mod inside

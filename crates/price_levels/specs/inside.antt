@@ -1,2 +1,4 @@
+pub mod Bits
 pub mod Held
 pub mod Layout
+pub mod Marked

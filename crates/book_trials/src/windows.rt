@@ -1,0 +1,50 @@
+//! A window of levels that grows to either side, walked from its best rank on.
+ghost use Rattle.std.specs.Prelude.{◌<◌, ◌^◌};
+
+use fx_amounts::Memory;
+use price_levels::Window;
+use std::test::Fail;
+use trial_days::lots;
+
+/// An order of ten lots comes to rest at a rank, in front of which the order at the answered place rests there. With a thousand lots there
+/// no more come.
+fn rest(window: &mut Window, rank: u32, place: u32) -> Result<Option<u32>, Memory>
+    requires rank { rank < 2 ^ 31 }
+{
+    window.reserve(rank)?;
+    if window.sum(rank) > 1_000 {
+        return Ok(None);
+    }
+    Ok(window.insert(rank, place, lots(10)))
+}
+
+/// Six orders come to rest at five ranks, the last two on either side of the window so far.
+fn filled(window: &mut Window) -> Result<Option<u32>, Memory> {
+    rest(window, 100_000, 0)?;
+    rest(window, 100_063, 1)?;
+    rest(window, 100_064, 2)?;
+    let before = rest(window, 100_063, 3)?;
+    rest(window, 130_000, 4)?;
+    rest(window, 60, 5)?;
+    Ok(before)
+}
+
+#[test]
+fn ranks_are_walked_from_the_best_one(rt: HostRuntime) -> Result<(), Fail> {
+    let mut window = Window::new(rt.alloc());
+    let before = filled(&mut window)?;
+    assert!(rt; before == Some(1));
+    let mut from = 0u32;
+    for (rank, sum) in [
+        (60, 10),
+        (100_000, 10),
+        (100_063, 20),
+        (100_064, 10),
+        (130_000, 10),
+    ] {
+        assert!(rt; window.next(from) == Some(rank) && window.sum(rank) == sum);
+        from = rank.saturating_add(1);
+    }
+    assert!(rt; window.next(from).is_none() && window.first() == Some(60));
+    Ok(())
+}

@@ -1,0 +1,212 @@
+ghost use Rattle.std.specs.Prelude.{ℕ, ◌≡◌, ◌+◌, ◌-◌, ◌*◌, ◌^◌, ◌≤◌, ◌<◌, None, [], length, IfOk, IfSome, OnErr, OnOk};
+ghost use Rattle.price_levels.specs.Ticks.{Covers, IsNextRank, last_of_level, level_of, no_level, with_level, with_order, without_order};
+ghost use Rattle.price_levels.specs.inside.Marked.{padded};
+
+use crate::bit_row::{WORD, first_mark, mark, unmark};
+use crate::level::Level;
+use fx_amounts::{Lots, Memory, room_for};
+use std::alloc::Global;
+use std::marker::Model;
+
+/// The levels of one owner and side in a window of ranks, one for each tick of the price, under a row of bits that tells which ranks
+/// have orders. The lower a rank, the better its price, so the best level is the first one.
+///
+/// It is to be a part of an owner's ladder, with sorted places for prices far outside of the window, and a pair's book is to stand on it.
+/// Nothing calls it yet.
+#[derive(Debug, Drop)]
+pub struct Window {
+    /// The first rank.
+    base: u32,
+    levels: Vec<Level>,
+    /// A word for each 64 levels.
+    words: Vec<u64>,
+}
+
+impl Model for Window {
+    ghost use Rattle.price_levels.specs.Ticks.{Ticks};
+    ghost use Rattle.price_levels.specs.inside.Marked.{AreMarked};
+
+    ghost Value = { Ticks };
+
+    ghost view = { λ w. record { base = w.base; levels = w.levels.items } };
+
+    ghost invariant = { λ w. AreMarked w.base w.levels.items w.words.items };
+}
+
+impl Window {
+    /// A window of no ranks. It takes no memory.
+    pub fn new(alloc: Global) -> Self
+        ensures { result.levels ≡ [] }
+    {
+        Window {
+            base: 0,
+            levels: Vec::new(alloc),
+            words: Vec::new(alloc),
+        }
+    }
+
+    /// The level of a rank; one without orders where the rank is outside of the window.
+    pub fn level(&self, rank: u32) -> Level
+        ensures { result ≡ level_of self.now rank }
+    {
+        if rank < self.base {
+            return Level::NONE;
+        }
+        let at = (rank - self.base) as usize;
+        match self.levels.get(at) {
+            Some(level) => *level,
+            None => Level::NONE,
+        }
+    }
+
+    /// The lots that the orders of a rank have left.
+    pub fn sum(&self, rank: u32) -> u64
+        ensures { result ≡ (level_of self.now rank).lots }
+    {
+        self.level(rank).lots
+    }
+
+    /// An order of so many lots comes to rest at a rank of the window, behind all others there. It answers the place of the last of
+    /// these, where there is one.
+    pub fn insert(&mut self, rank: u32, place: u32, lots: Lots) -> Option<u32>
+        requires covered { Covers self.old rank }
+        requires fits { (level_of self.old rank).lots + lots < 2 ^ 64 }
+        ensures before { result ≡ last_of_level (level_of self.old rank) }
+        ensures levels { self.new ≡ with_level self.old rank (with_order (level_of self.old rank) place lots) }
+    {
+        let level = self.level(rank);
+        self.set(rank, level.with(place, lots));
+        if level.lots == 0 {
+            return None;
+        }
+        Some(level.last)
+    }
+
+    /// One of the orders of a rank has so many lots less, and some left.
+    pub fn lower(&mut self, rank: u32, lots: Lots)
+        requires above { lots < (level_of self.old rank).lots }
+        ensures { self.new ≡ with_level self.old rank (record (level_of self.old rank) { lots = (level_of self.old rank).lots - lots }) }
+    {
+        let level = self.level(rank);
+        self.set(rank, level.lowered(lots));
+    }
+
+    /// An order of a rank goes, which had so many lots left and stood between two others of the rank, where there are such.
+    pub fn remove(&mut self, rank: u32, lots: Lots, before: Option<u32>, behind: Option<u32>)
+        requires has { lots ≤ (level_of self.old rank).lots }
+        ensures { self.new ≡ with_level self.old rank (without_order (level_of self.old rank) lots before behind) }
+    {
+        let level = self.level(rank);
+        self.set(rank, level.without(lots, before, behind));
+    }
+
+    /// Writes down the level of a rank of the window.
+    fn set(&mut self, rank: u32, level: Level)
+        requires covered { Covers self.old rank }
+        ensures { self.new ≡ with_level self.old rank level }
+    {
+        let at = (rank - self.base) as usize;
+        self.levels[at] = level;
+        if level.lots == 0 {
+            unmark(&mut self.words, at);
+        } else {
+            mark(&mut self.words, at);
+        }
+    }
+
+    /// The best rank with orders; `None` where there is none.
+    pub fn first(&self) -> Option<u32>
+        ensures found { IfSome result (IsNextRank self.now 0) }
+        ensures none { result ≡ None → (rank : ℕ) → (level_of self.now rank).lots ≡ 0 }
+    {
+        self.next(0)
+    }
+
+    /// The first rank with orders from a rank on; `None` where there is none.
+    pub fn next(&self, from: u32) -> Option<u32>
+        ensures found { IfSome result (IsNextRank self.now from) }
+        ensures none { result ≡ None → (rank : ℕ) → from ≤ rank → (level_of self.now rank).lots ≡ 0 }
+    {
+        let start = from.saturating_sub(self.base) as usize;
+        let at = first_mark(&self.words, start)?;
+        Some(self.base + at as u32)
+    }
+
+    /// Has the window cover a rank below 2^31. It grows by blocks of 64 ranks on the side where the rank lies, by a quarter more than is
+    /// needed, so that this is seldom done. At `Memory` it is as it was.
+    pub fn reserve(&mut self, rank: u32) -> Result<(), Memory>
+        requires rank { rank < 2 ^ 31 }
+        ensures covers { OnOk result (Covers self.new rank) }
+        ensures levels { (other : ℕ) → level_of self.new other ≡ level_of self.old other }
+        ensures memory { OnErr result (self.new ≡ self.old) }
+    {
+        let block = rank as usize / WORD;
+        let first = self.base as usize / WORD;
+        let count = self.words.len();
+        if count == 0 {
+            return self.lay(block, 0, 1);
+        }
+        if block < first {
+            let more = first - block;
+            let spare = ((count + more) / 4).min(block);
+            return self.lay(block - spare, more + spare, 0);
+        }
+        if block >= first + count {
+            let more = block - first - count + 1;
+            return self.lay(first, 0, more + (count + more) / 4);
+        }
+        Ok(())
+    }
+
+    /// Lays the levels out anew from a block of 64 ranks on, behind so many blocks without orders and in front of others. At `Memory` the
+    /// window is as it was.
+    fn lay(&mut self, first: usize, before: usize, after: usize) -> Result<(), Memory>
+        requires more { 1 ≤ before + after }
+        requires few { 64 * (first + before + after) + length self.old.levels ≤ 2 ^ 32 }
+        ensures base { OnOk result (self.new.base ≡ 64 * first) }
+        ensures levels { OnOk result (self.new.levels ≡ padded no_level self.old.levels (64 * before) (64 * after)) }
+        ensures memory { OnErr result (self.new ≡ self.old) }
+    {
+        let alloc = *self.levels.allocator();
+        let levels = padded_levels(alloc, &self.levels, before * WORD, after * WORD)?;
+        let words = padded_words(alloc, &self.words, before, after)?;
+        self.base = (first * WORD) as u32;
+        self.levels = levels;
+        self.words = words;
+        Ok(())
+    }
+}
+
+/// The levels, behind so many without orders and in front of others.
+fn padded_levels(
+    alloc: Global,
+    levels: &[Level],
+    before: usize,
+    after: usize,
+) -> Result<Vec<Level>, Memory>
+    ensures { IfOk result (λ all. all.items ≡ padded no_level levels.now before after) }
+{
+    let mut all = Vec::new(alloc);
+    all.resize(before, Level::NONE)?;
+    all.extend_from_slice(levels)?;
+    let count = room_for(all.len(), after)?;
+    all.resize(count, Level::NONE)?;
+    Ok(all)
+}
+
+/// The words, behind so many that mark nothing and in front of others.
+fn padded_words(
+    alloc: Global,
+    words: &[u64],
+    before: usize,
+    after: usize,
+) -> Result<Vec<u64>, Memory>
+    ensures { IfOk result (λ all. all.items ≡ padded 0 words.now before after) }
+{
+    let mut all = Vec::new(alloc);
+    all.resize(before, 0)?;
+    all.extend_from_slice(words)?;
+    let count = room_for(all.len(), after)?;
+    all.resize(count, 0)?;
+    Ok(all)
+}
