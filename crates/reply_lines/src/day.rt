@@ -3,15 +3,16 @@ ghost use Rattle.fx_edges.specs.Writing.{Wrote};
 ghost use Rattle.fx_edges.specs.Gathered.{Gathered};
 ghost use Rattle.fx_rules.specs.declared.outcome.Entry.{Entry};
 ghost use Rattle.fx_rules.specs.History.{IsLegal, state};
+ghost use Rattle.fx_rules.specs.Session.{Header};
 ghost use Rattle.reply_lines.specs.Books.{LocalBook, AreBooks};
 ghost use Rattle.reply_lines.specs.Faults.{WroteOutput};
 ghost use Rattle.reply_lines.specs.inside.Journals.{count_line};
 ghost use Rattle.reply_lines.specs.Output.{day_text, last_text, IsDayText, IsOutput};
-ghost use Rattle.reply_lines.specs.Day.{IsTextOf};
+ghost use Rattle.reply_lines.specs.Day.{AreNoticesOf, IsJournalOf, IsTextOf};
 ghost use Rattle.reply_lines.specs.inside.Day.{IsDayOf};
 
 use crate::day_notices::DayNotices;
-use crate::journal::{push_entry_line, write_journal_line};
+use crate::journal::{JournalText, push_entry_line, write_journal_line};
 use crate::output::{Ending, OutFault, write_closing, write_end, write_head};
 use fx_amounts::Memory;
 use fx_edges::{Pieces, Sink, SinkFault};
@@ -23,11 +24,8 @@ use std::alloc::Global;
 /// What the output tells of a day so far: the journal's lines, each bank's desk, and the sums over the fills. It keeps no entry.
 #[derive(Drop)]
 pub struct DayText {
-    /// How many entries the journal has.
-    count: usize,
-    /// Their lines.
-    journal: Vec<u8>,
-    /// The last of them.
+    journal: JournalText,
+    /// The last line of the journal that was made.
     line: LineText,
     notices: DayNotices,
 }
@@ -37,12 +35,19 @@ impl DayText {
     pub fn open(alloc: Global, session: &Session) -> Result<DayText, Memory>
         ensures opens { IfOk result (IsTextOf session.now []) }
     {
-        Ok(DayText {
-            count: 0,
-            journal: Vec::new(alloc),
+        let notices = DayNotices::open(alloc, session)?;
+        Ok(DayText::of(JournalText::new(alloc), notices))
+    }
+
+    /// The day of a history whose journal and notices these are. It takes no memory.
+    pub fn of(journal: JournalText, notices: DayNotices) -> DayText
+        ensures told { (h : Header) (entries : List Entry) → IsJournalOf h entries journal → AreNoticesOf h entries notices → IsTextOf h entries result }
+    {
+        DayText {
+            journal,
             line: LineText::new(),
-            notices: DayNotices::open(alloc, session)?,
-        })
+            notices,
+        }
     }
 
     /// The day of a legal history.
@@ -69,9 +74,9 @@ impl DayText {
             IsLegal session.now (entries ++ entry.now ∷ []) → IsTextOf session.now entries self.old →
             IsTextOf session.now (entries ++ entry.now ∷ []) self.new) }
     {
-        push_entry_line(session, entry, &mut self.line, &mut self.journal)?;
+        push_entry_line(session, entry, &mut self.line, &mut self.journal.lines)?;
         self.notices.add(session, entry)?;
-        self.count += 1;
+        self.journal.count += 1;
         Ok(())
     }
 
@@ -178,14 +183,13 @@ impl DayText {
             Gathered K.written K.faults pieces.old out.old pieces.new out.new (day_text session.now entries books) result }
     {
         let DayText {
-            count,
             journal,
             notices,
             ..
         } = self;
         let found = notices.into_findings(alloc, session)?;
         write_head(session, line, pieces, out)?;
-        write_journal_text(count, &journal, pieces, out)?;
+        write_journal_text(journal.count, &journal.lines, pieces, out)?;
         write_closing(session, market, &found, line, pieces, out)
     }
 }

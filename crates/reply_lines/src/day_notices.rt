@@ -1,4 +1,4 @@
-ghost use Rattle.std.specs.Prelude.{List, [], ◌∷◌, ◌++◌, IfOk, OnOk};
+ghost use Rattle.std.specs.Prelude.{◌≡◌, List, [], ◌∷◌, ◌++◌, IfOk, OnOk};
 ghost use Rattle.fx_rules.specs.declared.outcome.Entry.{Entry};
 ghost use Rattle.fx_rules.specs.History.{IsLegal};
 ghost use Rattle.reply_lines.specs.Day.{AreNoticesOf};
@@ -9,11 +9,13 @@ use crate::notice_writer::NoticeWriter;
 use day_report::{DaySums, Report};
 use fx_amounts::Memory;
 use fx_rules::{Entry, Session};
+use market_run::Observer;
 use std::alloc::Global;
 
-/// What the entries of a day so far give notice of: to each bank on its desk, and by the sums to all.
+/// What the entries of a day so far give notice of: to each bank on its desk, and by the sums to all. It is told each entry and
+/// keeps none.
 #[derive(Drop)]
-pub(crate) struct DayNotices {
+pub struct DayNotices {
     desks: Vec<NoticeDesk>,
     sums: DaySums,
     writer: NoticeWriter,
@@ -29,8 +31,8 @@ pub(crate) struct Findings {
 }
 
 impl DayNotices {
-    /// Those of a session before its first command.
-    pub(crate) fn open(alloc: Global, session: &Session) -> Result<DayNotices, Memory>
+    /// Those of a session before its first command. `Memory` when out of memory.
+    pub fn open(alloc: Global, session: &Session) -> Result<DayNotices, Memory>
         ensures opens { IfOk result (AreNoticesOf session.now []) }
     {
         Ok(DayNotices {
@@ -40,9 +42,9 @@ impl DayNotices {
         })
     }
 
-    /// Adds those of the next entry. After `Memory` they must not be used any more: some of the entry's notices may stand at
+    /// Adds those of the next entry of a legal history. After `Memory` they must not be used any more: some of the entry's notices may stand at
     /// their desks, and others not.
-    pub(crate) fn add(&mut self, session: &Session, entry: &Entry) -> Result<(), Memory>
+    pub fn add(&mut self, session: &Session, entry: &Entry) -> Result<(), Memory>
         requires next { (entries : List Entry) × IsLegal session.now (entries ++ entry.now ∷ []) × AreNoticesOf session.now entries self.old }
         ensures added { OnOk result ((entries : List Entry) →
             IsLegal session.now (entries ++ entry.now ∷ []) → AreNoticesOf session.now entries self.old →
@@ -61,5 +63,27 @@ impl DayNotices {
             report: self.sums.into_report(alloc, session)?,
             desks: self.desks,
         })
+    }
+}
+
+/// Each entry is told while it lies in the cache, and left whole. Where memory runs out some of its notices may stand.
+impl Observer for DayNotices {
+    type Left = Entry;
+
+    ghost told = { AreNoticesOf };
+
+    ghost is_ready = { λ _. Unit {0} };
+
+    ghost leaves = { λ left entry. left ≡ entry };
+
+    ghost may_break = { Unit {0} };
+
+    fn make_ready(&mut self) -> Result<(), Memory> {
+        Ok(())
+    }
+
+    fn tell(&mut self, session: &Session, entry: Entry) -> Result<Entry, Memory> {
+        self.add(session, &entry)?;
+        Ok(entry)
     }
 }

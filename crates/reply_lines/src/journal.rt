@@ -1,4 +1,4 @@
-ghost use Rattle.std.specs.Prelude.{◌≡◌, ◌++◌, OnOk};
+ghost use Rattle.std.specs.Prelude.{◌≡◌, ◌<◌, ◌+◌, ◌^◌, [], ◌++◌, OnOk, OnErr};
 ghost use Rattle.fx_edges.specs.Gathered.{Gathered};
 ghost use Rattle.reply_lines.specs.Output.{entry_line};
 ghost use Rattle.reply_lines.specs.inside.Journals.{count_line};
@@ -10,6 +10,39 @@ use fx_edges::{Pieces, Sink, SinkFault};
 use fx_rules::{Entry, Session};
 use fx_text::LineText;
 use order_lines::make_command;
+use std::alloc::Global;
+
+/// The journal of a day so far: how many entries it has, and their lines.
+#[derive(Drop)]
+pub struct JournalText {
+    pub(crate) count: usize,
+    pub(crate) lines: Vec<u8>,
+}
+
+impl JournalText {
+    /// The journal without an entry. It takes no memory.
+    pub fn new(alloc: Global) -> JournalText
+        ensures count { result.count ≡ 0 }
+        ensures lines { result.lines.items ≡ [] }
+    {
+        JournalText {
+            count: 0,
+            lines: Vec::new(alloc),
+        }
+    }
+
+    /// Adds the lines of so many entries more, all at once. At `Memory` the journal is as it was.
+    pub fn add_lines(&mut self, count: usize, lines: &[u8]) -> Result<(), Memory>
+        requires few { self.old.count + count < 2 ^ 64 }
+        ensures count { OnOk result (self.new.count ≡ self.old.count + count) }
+        ensures lines { OnOk result (self.new.lines.items ≡ self.old.lines.items ++ lines.now) }
+        ensures memory { OnErr result (self.new.lines.items ≡ self.old.lines.items) }
+    {
+        self.lines.extend_from_slice(lines)?;
+        self.count += count;
+        Ok(())
+    }
+}
 
 /// Writes the line that begins the journal.
 #[tactic(auto, unfolding(crate::specs::inside::Journals::count_line))]

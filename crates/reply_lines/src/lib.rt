@@ -16,7 +16,9 @@ mod row;
 mod telling;
 
 pub use day::{DayRun, DayText, write_output_from};
+pub use day_notices::DayNotices;
 pub use desk::NoticeDesk;
+pub use journal::JournalText;
 pub use laws::{desks_are_told, one_output, output_from_books};
 pub use lines::write_count;
 pub use notice_writer::NoticeWriter;

@@ -1,49 +1,69 @@
 -- The first lines of a text, where each is a command in its one spelling.
-use Rattle.std.proofs.Common.{◌≡◌, ℕ, ◌<◌, Bool, false, List, [], ◌∷◌, ◌++◌, length, refl, sym, ap, ◌∙◌, subst, arith, append_assoc, append-nil}
+use Rattle.std.proofs.Common.{◌≡◌, ℕ, ◌<◌, Bool, false, List, [], ◌∷◌, ◌++◌, length, take, refl, sym, ap, ◌∙◌, subst, arith, append_assoc, append-nil}
+use Rattle.std.proofs.Math.Seq.{take-append_seam}
 use Rattle.fx_rules.specs.Lists.{Each}
 use Rattle.fx_rules.specs.Sending.{IsSentOf}
+use Rattle.fx_rules.specs.Session.{Header}
 use Rattle.fx_rules.specs.declared.command.Sent.{Sent}
 use Rattle.fx_text.specs.Lines.{lines_of, IsFirstLine}
 use Rattle.fx_text.specs.declared.line.Line.{Line}
 use Rattle.order_lines.specs.Grammar.{command_line}
+use Rattle.order_lines.specs.Spelling.{command_text_of}
 use Rattle.order_lines.specs.declared.spoken.Spoken.{Spoken}
 use Rattle.order_lines.specs.declared.spoken.Spoken.TheVariants.{Of}
 use Rattle.session_script.specs.Script.{has_end, sent_among}
 use Rattle.session_script.specs.Stage.{StandsAt, Tells}
-use Rattle.session_script.specs.inside.Stage.{AddsFront, TakesFront, counted}
+use Rattle.session_script.specs.inside.Stage.{AddsLines, AddsFront, TakesFront, counted}
 use Rattle.session_script.specs.declared.script.Script.{Script}
 use Rattle.session_script.specs.declared.intake.stage.Stage.{Stage}
 use Rattle.session_script.specs.declared.intake.stage.Stage.TheVariants.{Commanding}
+use Rattle.session_script.proofs.Journaling.{spelled_on}
 use Rattle.session_script.proofs.Taking.{Tells-line}
 
-pub AddsFront-none : (script : Script) (text : List ℕ) → AddsFront script script text text
-AddsFront-none script text = record {
+pub AddsLines-none : (h : Header) (sent : List Sent) (text : List ℕ) → AddsLines h sent sent text text
+AddsLines-none h sent text = record {
   done = [];
   lines = refl;
   behind = refl;
   shorter = omega arith;
-  session = refl;
-  tells = λ lines former tells. subst (λ (all : List Line). Tells all script.session (former ++ script.sent.items) script.strays false) (sym (append-nil lines)) tells;
+  more = [];
+  added = sym (append-nil sent);
+  spelled = refl;
+  tells = λ lines former strays tells. subst (λ (all : List Line). Tells all h (former ++ sent) strays false) (sym (append-nil lines)) tells;
 }
 
 -- a command more
-pub AddsFront-line : (first old new : Script) (text rest behind : List ℕ) (line : Line) (sent : Sent) → AddsFront first old text rest → IsFirstLine rest line behind → length behind < length rest
-    → command_line old.session line ≡ Of sent.bank sent.command → IsSentOf old.session sent → new.session ≡ old.session → new.strays ≡ old.strays → new.sent.items ≡ old.sent.items ++ sent ∷ []
-    → AddsFront first new text behind
-AddsFront-line first old new text rest behind line sent adds starts less said valid same strays items = record {
+pub AddsLines-line : (h : Header) (first old new : List Sent) (text rest behind : List ℕ) (line : Line) (sent : Sent) → AddsLines h first old text rest → IsFirstLine rest line behind → length behind < length rest
+    → rest ≡ command_text_of h sent.bank sent.command ++ 10 ∷ behind → command_line h line ≡ Of sent.bank sent.command → IsSentOf h sent → new ≡ old ++ sent ∷ [] → AddsLines h first new text behind
+AddsLines-line h first old new text rest behind line sent adds starts less spelled said valid items = record {
   done = adds.done ++ line ∷ [];
   lines = adds.lines ∙ ap (λ (more : List Line). adds.done ++ more) starts.lines ∙ sym (append_assoc adds.done (line ∷ []) (lines_of behind));
   behind = adds.behind ∙ starts.rest;
   shorter = omega (arith, adds.shorter);
-  session = same ∙ adds.session;
-  tells = λ lines former tells.
-      let all : List Sent = former ++ old.sent.items in
-      subst (λ (whole : List Line). Tells whole new.session (former ++ new.sent.items) new.strays false) (append_assoc lines adds.done (line ∷ []))
-      (Tells-line (lines ++ adds.done) line old.session new.session all (former ++ new.sent.items) old.strays new.strays false (adds.tells lines former tells) same
-      (ap (λ (list : List Sent). former ++ list) items ∙ sym (append_assoc former old.sent.items (sent ∷ [])) ∙ ap (λ (spoken : Spoken). all ++ sent_among (spoken ∷ [])) (sym said))
-      (strays ∙ ap (counted old.strays) (sym said))
+  more = adds.more ++ sent ∷ [];
+  added = items ∙ ap (λ (all : List Sent). all ++ sent ∷ []) adds.added ∙ append_assoc first adds.more (sent ∷ []);
+  spelled = adds.spelled ∙ spelled_on h adds.more rest behind sent spelled;
+  tells = λ lines former strays tells.
+      let all : List Sent = former ++ old in
+      subst (λ (whole : List Line). Tells whole h (former ++ new) strays false) (append_assoc lines adds.done (line ∷ []))
+      (Tells-line (lines ++ adds.done) line h h all (former ++ new) strays strays false (adds.tells lines former strays tells) refl
+      (ap (λ (list : List Sent). former ++ list) items ∙ sym (append_assoc former old (sent ∷ [])) ∙ ap (λ (spoken : Spoken). all ++ sent_among (spoken ∷ [])) (sym said))
+      (ap (counted strays) (sym said))
       (ap (λ (spoken : Spoken). has_end (spoken ∷ [])) (sym said))
-      (subst (λ (spoken : Spoken). Each (IsSentOf old.session) (sent_among (spoken ∷ []))) (sym said) (valid, tt)));
+      (subst (λ (spoken : Spoken). Each (IsSentOf h) (sent_among (spoken ∷ []))) (sym said) (valid, tt)));
+}
+
+-- a script with the commands that were added
+pub AddsFront-lines : (old new : Script) (text rest : List ℕ) → AddsLines old.session old.sent.items new.sent.items text rest → new.session ≡ old.session → new.strays ≡ old.strays → AddsFront old new text rest
+AddsFront-lines old new text rest adds same strays = record {
+  done = adds.done;
+  lines = adds.lines;
+  behind = adds.behind;
+  shorter = adds.shorter;
+  session = same;
+  tells = λ lines former tells.
+      subst (λ (h : Header). Tells (lines ++ adds.done) h (former ++ new.sent.items) new.strays false) (sym same)
+      (subst (λ (n : ℕ). Tells (lines ++ adds.done) old.session (former ++ new.sent.items) n false) (sym strays) (adds.tells lines former old.strays tells));
 }
 
 pub TakesFront-script : (stage : Stage) (old new : Script) (ended : Bool) (text rest : List ℕ) → stage ≡ Commanding old ended → ended ≡ false → AddsFront old new text rest
@@ -69,3 +89,7 @@ pub StandsAt-goes_on : (stage : Stage) (lines done front : List Line) (line : Li
 StandsAt-goes_on stage lines done front line former at =
     subst (λ (all : List Line). StandsAt stage all former)
     (ap (λ (all : List Line). all ++ front) (append_assoc lines done (line ∷ [])) ∙ append_assoc lines (done ++ line ∷ []) front) at
+
+-- the commands from before stand before those that were added
+pub AddsLines-before : (h : Header) (old new : List Sent) (text rest : List ℕ) → AddsLines h old new text rest → take (length old) new ≡ old
+AddsLines-before h old new text rest adds = ap (take (length old)) adds.added ∙ take-append_seam old adds.more

@@ -1,5 +1,6 @@
 pub mod ScriptLaws
 pub mod Taking
+pub mod Journaling
 pub mod Fronts
 pub mod Feeding
 pub mod Closing

@@ -1,4 +1,5 @@
 pub mod Input
+pub mod Journal
 pub mod Script
 pub mod Stage
 pub mod Reading

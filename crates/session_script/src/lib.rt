@@ -3,6 +3,7 @@
 #![tactic(auto)]
 
 mod ends;
+mod front;
 mod intake;
 mod reading;
 mod script;

@@ -1,11 +1,14 @@
-ghost use Rattle.std.specs.Prelude.{◌≡◌, [], IfOk};
+ghost use Rattle.std.specs.Prelude.{◌≡◌, [], ◌∷◌, ◌++◌, IfOk, OnOk};
+ghost use Rattle.fx_rules.specs.Sending.{IsSentOf};
 ghost use Rattle.fx_text.specs.Lines.{line_seen};
 ghost use Rattle.order_lines.specs.Grammar.{command_line};
+ghost use Rattle.session_script.specs.Journal.{sent_lines};
 
+use crate::front::push_spelled;
 use fx_amounts::Memory;
 use fx_rules::{Sent, Session};
-use fx_text::LineView;
-use order_lines::{Spoken, command_in, spelled_command};
+use fx_text::{LineText, LineView};
+use order_lines::{Spoken, command_in, make_command};
 use std::alloc::Global;
 
 /// What the text of a session says: the session of its header, the commands of the last round in the order of their lines,
@@ -15,6 +18,11 @@ pub struct Script {
     pub session: Session,
     pub sent: Vec<Sent>,
     pub strays: u64,
+    /// The journal's lines of the last round's commands, in the same order. Those of lines in their one spelling are the bytes of
+    /// the text, and the others are made.
+    pub journal: Vec<u8>,
+
+    pub ghost in_journal: { journal.items ≡ sent_lines session sent.items },
 }
 
 impl Script {
@@ -30,7 +38,18 @@ impl Script {
             session,
             sent: Vec::new(alloc),
             strays: 0,
+            journal: Vec::new(alloc),
         }
+    }
+
+    /// Lets go of the commands so far, which were a former round's.
+    pub(crate) fn begin_round(&mut self)
+        ensures session { self.new.session ≡ self.old.session }
+        ensures sent { self.new.sent.items ≡ [] }
+        ensures strays { self.new.strays ≡ self.old.strays }
+    {
+        self.sent.clear();
+        self.journal.clear();
     }
 
     /// Adds what a line behind START says, and answers whether it is the END line. After `Err` the line is not added.
@@ -40,7 +59,7 @@ impl Script {
         ensures session { self.new.session ≡ self.old.session }
     {
         match command_in(&self.session, line) {
-            Spoken::Of(bank, command) => self.sent.push(Sent { bank, command })?,
+            Spoken::Of(bank, command) => self.add_sent(Sent { bank, command })?,
             Spoken::Stray => self.strays = self.strays.saturating_add(1),
             Spoken::Passed => {}
             Spoken::End => return Ok(true),
@@ -48,17 +67,41 @@ impl Script {
         Ok(false)
     }
 
+    /// Adds a command, of which it makes the journal's line. After `Err` it is not added.
+    fn add_sent(&mut self, sent: Sent) -> Result<(), Memory>
+        requires sent { IsSentOf self.old.session sent }
+        ensures session { self.new.session ≡ self.old.session }
+        ensures sent { OnOk result (self.new.sent.items ≡ self.old.sent.items ++ sent ∷ []) }
+        ensures strays { self.new.strays ≡ self.old.strays }
+    {
+        // The clauses on the line rest on a valid session, as each is.
+        let _banks = self.session.banks();
+        let mut line = LineText::new();
+        make_command(&self.session, sent.bank, &sent.command, &mut line);
+        self.sent.reserve(1)?;
+        self.journal.extend_from_slice(line.as_slice())?;
+        self.sent.push_reserved(sent);
+        Ok(())
+    }
+
     /// Adds the commands with whose lines in their one spelling a text begins, and answers what stands behind these lines. After
-    /// `Err` some of them may be added.
+    /// `Err` none of them is added.
     pub(crate) fn add_spelled<'p>(&mut self, text: &'p [u8]) -> Result<&'p [u8], Memory>
         ensures adds { IfOk result (λ rest. AddsFront self.old self.new text.now rest.now) }
         ensures session { self.new.session ≡ self.old.session }
     {
-        let mut rest = text;
-        while let Some((sent, behind)) = spelled_command(&self.session, rest) {
-            self.sent.push(sent)?;
-            rest = behind;
-        }
-        Ok(rest)
+        let before = self.sent.len();
+        let memory = match push_spelled(&self.session, text, &mut self.sent) {
+            Ok(rest) => {
+                let (lines, _) = text.split_at(text.len() - rest.len());
+                match self.journal.extend_from_slice(lines) {
+                    Ok(()) => return Ok(rest),
+                    Err(refusal) => Memory::from(refusal),
+                }
+            }
+            Err(memory) => memory,
+        };
+        self.sent.truncate(before);
+        Err(memory)
     }
 }

@@ -1,6 +1,7 @@
 -- What private functions and proofs alone say of it, beside `specs/Stage.antt`.
 use Rattle.std.specs.Prelude.{ℕ, ◌≡◌, ◌≤◌, ◌+◌, min, Bool, true, false, List, [], ◌∷◌, ◌++◌, length}
 use Rattle.fx_rules.specs.Lists.{Each}
+use Rattle.fx_rules.specs.Session.{Header}
 use Rattle.fx_rules.specs.declared.command.Sent.{Sent}
 use Rattle.fx_text.specs.declared.line.Line.{Line}
 use Rattle.fx_text.specs.Lines.{lines_of, rest_of}
@@ -8,6 +9,7 @@ use Rattle.session_head.specs.Head as heads
 use Rattle.session_head.specs.Head.{Head}
 use Rattle.order_lines.specs.declared.spoken.Spoken.{Spoken}
 use Rattle.order_lines.specs.declared.spoken.Spoken.TheVariants.{Of, Stray, End, Passed}
+use Rattle.session_script.specs.Journal.{sent_lines}
 use Rattle.session_script.specs.Script.{has_end, sent_among}
 use Rattle.fx_rules.specs.Sending.{IsSentOf}
 use Rattle.session_script.specs.declared.script.Script.{Script}
@@ -29,6 +31,18 @@ pub record Adds (old new : Script) (said : Spoken) (is_end : Bool) : Type 0 wher
   pub strays : new.strays ≡ counted old.strays said
   pub ended : is_end ≡ has_end (said ∷ [])
   pub valid : Each (IsSentOf old.session) (sent_among (said ∷ []))
+
+-- the first lines of a text are commands in their one spelling, each of which is added; this is what stands behind them
+pub record AddsLines (h : Header) (old new : List Sent) (text rest : List ℕ) : Type 0 where
+  pub done : List Line
+  pub lines : lines_of text ≡ done ++ lines_of rest
+  pub behind : rest_of text ≡ rest_of rest
+  pub shorter : length rest ≤ length text
+  pub more : List Sent
+  pub added : new ≡ old ++ more
+  pub spelled : text ≡ sent_lines h more ++ rest
+  pub tells : (lines : List Line) (former : List Sent) (strays : ℕ) → Tells lines h (former ++ old) strays false
+      → Tells (lines ++ done) h (former ++ new) strays false
 
 -- the first lines of a text make a script of another, and none of them is the END line; this is what stands behind them
 pub record AddsFront (old new : Script) (text rest : List ℕ) : Type 0 where

@@ -73,7 +73,7 @@ impl Stage {
         ensures session { (h : SessionHeader) → session_at self.old ≡ Some h → session_at self.new ≡ Some h }
     {
         if let Stage::Commanding { script, .. } = self {
-            script.sent.clear();
+            script.begin_round();
         }
     }
 

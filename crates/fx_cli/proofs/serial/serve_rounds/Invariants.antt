@@ -4,10 +4,10 @@ use Rattle.session_script.proofs.RoundLaws.{to_read}
 use Rattle.fx_cli.proofs.serial.serve_rounds.Given as goal
 
 -- what was read in former rounds is served
-abbrev pub invariant-loop-reading : goal.invariant-loop-reading
-invariant-loop-reading g l = record {
-  serving : (before : _) (h : Header) → IsServing g.S.Source.left g.S.Source.faults before l.fn.source l.fn.reading h l.fn.run → IsServing g.S.Source.left g.S.Source.faults before l.source l.reading h l.run;
+abbrev pub invariant-loop-journal : goal.invariant-loop-journal
+invariant-loop-journal g l = record {
+  serving : (before : _) (h : Header) → IsServing g.S.Source.left g.S.Source.faults before l.fn.source l.fn.reading h l.fn.run l.fn.journal → IsServing g.S.Source.left g.S.Source.faults before l.source l.reading h l.run l.journal;
 }
 
-abbrev pub decreases-loop-reading : goal.decreases-loop-reading
-decreases-loop-reading g l = to_read l.reading.end l.reading.intake.taken
+abbrev pub decreases-loop-journal : goal.decreases-loop-journal
+decreases-loop-journal g l = to_read l.reading.end l.reading.intake.taken

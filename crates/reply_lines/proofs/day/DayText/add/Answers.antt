@@ -14,13 +14,15 @@ pub overflow_add-self : goal.overflow_add-self
 overflow_add-self c =
     let text = c.push_entry_line.new.text in
     let is = c.requires.next.2 in
-    omega (arith, is.count, lines-counted c.args.session.now c.requires.next.0 c.args.entry.now, ap length (journal-more c.args.session.now c.requires.next.0 c.args.entry.now is.journal c.in_ok-push_entry_line.ensures.ok), text.ok.0, text.ok.1, text.small)
+    omega (arith, is.journal.count, lines-counted c.args.session.now c.requires.next.0 c.args.entry.now, ap length (journal-more c.args.session.now c.requires.next.0 c.args.entry.now is.journal.lines c.in_ok-push_entry_line.ensures.ok), text.ok.0, text.ok.1, text.small)
 
 pub returns : goal.returns
 returns c = record {
   added = λ entries legal is. record {
-    count = ap (λ n. n + 1) is.count ∙ sym (length-append entries (c.args.entry.now ∷ []));
-    journal = journal-more c.args.session.now entries c.args.entry.now is.journal c.in_ok-push_entry_line.ensures.ok;
+    journal = record {
+      count = ap (λ n. n + 1) is.journal.count ∙ sym (length-append entries (c.args.entry.now ∷ []));
+      lines = journal-more c.args.session.now entries c.args.entry.now is.journal.lines c.in_ok-push_entry_line.ensures.ok;
+    };
     notices = c.in_ok-add.ensures.added entries legal is.notices;
   };
 }

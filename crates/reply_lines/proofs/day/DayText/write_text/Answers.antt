@@ -43,7 +43,7 @@ returns-in_err-write_journal_text g c =
       wrote = λ entries books is are.
           Gathered-then c.from_residual-in_err-write_journal_text.result c.in_ok-write_head.ensures.wrote
           (cut_short c.from_residual-in_err-write_journal_text.result (desks_text h entries ++ closing_text h entries books) c.from_residual-in_err-write_journal_text.ensures.1
-          (of_text (journal-told h entries is.text.count (c.deref.ensures.value ∙ is.text.journal)) c.in_err-write_journal_text.ensures.wrote));
+          (of_text (journal-told h entries is.text.journal.count (c.deref.ensures.value ∙ is.text.journal.lines)) c.in_err-write_journal_text.ensures.wrote));
     }
 
 pub returns : goal.returns
@@ -54,7 +54,7 @@ returns g c =
       wrote = λ entries books is are.
           Gathered-then c.write_closing.result c.in_ok-write_head.ensures.wrote
           (Gathered-then c.write_closing.result
-          (of_text (journal-told h entries is.text.count (c.deref.ensures.value ∙ is.text.journal)) c.in_ok-write_journal_text.ensures.wrote)
+          (of_text (journal-told h entries is.text.journal.count (c.deref.ensures.value ∙ is.text.journal.lines)) c.in_ok-write_journal_text.ensures.wrote)
           (c.write_closing.ensures.wrote entries books (c.in_ok-found.ensures.found entries is.text.notices)
           (record { entries = entries; legal = is.legal; at_the_end = is.at_the_end; are_books = are })));
     }
