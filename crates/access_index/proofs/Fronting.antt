@@ -1,27 +1,17 @@
 -- The prices of the first places, as rows change beside them.
-use Rattle.std.proofs.Common.{ℕ, ◌≡◌, ◌<◌, Bool, true, false, List, [], ◌∷◌, length, map, replicate, get_or, Option, None, refl, ap, ap₂, sym, ◌∙◌, arith}
+use Rattle.std.proofs.Common.{ℕ, ◌≡◌, List, [], ◌∷◌, length, map, replicate, get_or, Option, None, refl, ap, ap₂, sym, ◌∙◌}
 use Rattle.std.proofs.Math.ListN.{set}
 use Rattle.std.proofs.Math.Seq.{map-set_same}
-use Rattle.std.proofs.lemmas.Bool.{both_ways, false_from_ne_true}
-use Rattle.std.proofs.lemmas.List.{map-set, get_or-map, length-map}
-use Rattle.std.proofs.lemmas.Option.{slice_get-get_or}
-use Rattle.std.specs.Prelude.{IsTrue}
-use Rattle.std.specs.List.{All, AllByRecursion, Any, Contains}
+use Rattle.std.proofs.lemmas.List.{map-set}
+use Rattle.std.specs.List.{All, AllByRecursion}
 use Rattle.std.proofs.lemmas.List.Elements.{recursion_from_All}
-use Rattle.std.specs.Option.{option_map}
-use Rattle.fx_amounts.specs.Price.{crosses}
 use Rattle.fx_amounts.specs.Side.{opposite}
 use Rattle.fx_amounts.specs.declared.side.Side.{Side}
 use Rattle.fx_amounts.specs.declared.side.Side.TheVariants.{Buy, Sell}
-use Rattle.price_levels.specs.declared.place.Place.{Place}
-use Rattle.price_levels.specs.Ladder.{IsSorted}
-use Rattle.price_levels.proofs.Crossing.{IsPartitionedBy-crosses}
-use Rattle.price_levels.proofs.Sorting.{Contains_first}
 use Rattle.access_index.specs.Sides.{OwnRows, row_of}
 use Rattle.access_index.specs.inside.Fronts.{FrontPrices, AreFronts, front_price, prices_of}
 use Rattle.access_index.specs.inside.Owned.{AreEmpty}
-use Rattle.access_index.specs.Owned.{AreOwned, no_rows, row_at}
-use Rattle.access_index.proofs.Rows.{bank_within, both, empty_side}
+use Rattle.access_index.proofs.Rows.{both, empty_side}
 
 -- the price of an owner's first place of a side
 abbrev pub price_on : Side → OwnRows → Option ℕ

@@ -4,3 +4,4 @@ mod Fronting
 mod Walking
 mod Wanting
 mod Numbering
+mod Wording

@@ -2,4 +2,5 @@ pub mod Sides
 pub mod Owned
 pub mod Listed
 pub mod Search
+pub mod Heads
 pub mod inside

@@ -3,3 +3,4 @@ pub mod Owned
 pub mod Search
 pub mod Fronts
 pub mod Numbered
+pub mod Words

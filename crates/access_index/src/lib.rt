@@ -5,6 +5,8 @@ mod fronts;
 mod owners;
 mod search;
 mod sides;
+mod words;
 
 pub use owners::Owners;
 pub use search::best_of;
+pub use words::{Head, HeadWords};

@@ -1,10 +1,11 @@
-//! A window of levels that grows to either side, walked from its best rank on.
+//! A window of levels that grows to either side, walked from its best rank on, and the least of the words of best orders.
 ghost use Rattle.std.specs.Prelude.{◌<◌, ◌^◌};
 
-use fx_amounts::Memory;
+use access_index::{Head, HeadWords};
+use fx_amounts::{BankId, Memory};
 use price_levels::Window;
 use std::test::Fail;
-use trial_days::lots;
+use trial_days::{bank, lots};
 
 /// An order of ten lots comes to rest at a rank, in front of which the order at the answered place rests there. With a thousand lots there
 /// no more come.
@@ -46,5 +47,24 @@ fn ranks_are_walked_from_the_best_one(rt: HostRuntime) -> Result<(), Fail> {
         from = rank.saturating_add(1);
     }
     assert!(rt; window.next(from).is_none() && window.first() == Some(60));
+    Ok(())
+}
+
+#[test]
+fn the_best_order_in_reach_has_the_least_word(rt: HostRuntime) -> Result<(), Fail> {
+    let mut words = HeadWords::new();
+    for (owner, rank, place) in [(0, 7, 3), (1, 7, 2), (2, 5, 9)] {
+        words.set(bank(owner), Some(Head { rank, place }));
+    }
+    let mut lines = [100u64; BankId::COUNT];
+    lines[2] = 9;
+    let found = words.least(&lines, 10);
+    assert!(rt;
+        found.map(|(owner, head)| (owner.index(), head.rank, head.place)) == Some((1, 7, 2))
+    );
+    words.set(bank(1), None);
+    let next = words.least(&lines, 10);
+    assert!(rt; next.map(|(owner, head)| (owner.index(), head.place)) == Some((0, 3)));
+    assert!(rt; words.least(&lines, 101).is_none());
     Ok(())
 }

@@ -1,0 +1,11 @@
+use Rattle.access_index.proofs.Wording.{least_found, least_none}
+use Rattle.access_index.proofs.words.HeadWords.least.Goals as goal
+
+pub returns-then-least-clause-none : goal.returns-then-least-clause-none
+returns-then-least-clause-none c = λ _.
+    least_none c.self.inside.words c.args.lines.now c.args.self.now c.args.units c.least_word-least.result c.self.told c.self.view_is c.least_word-least.ensures c.self.invariant c.if-least.true
+
+pub returns-clause-found : goal.returns-clause-found
+returns-clause-found c =
+    least_found c.self.inside.words c.args.lines.now c.args.self.now c.args.units c.least_word-least.result c.self.told c.self.view_is c.least_word-least.ensures c.self.invariant c.if-least.false
+    c.at-bank.result c.at-bank.ensures.value

@@ -1,0 +1,19 @@
+-- The best order of each owner of one side, and the best of those that can be reached.
+use Rattle.std.specs.Prelude.{ℕ, ◌≡◌, ◌≤◌, ◌<◌, ◌^◌, ◌⊎◌, List, Option, Some, None, slice_index, slice_index_or}
+use Rattle.access_index.specs.declared.words.Head.{Head}
+
+-- a rank that a price can have, and a place that a word has bits for
+pub record IsHead (head : Head) : Type 0 where
+  pub rank : head.rank ≤ 10 ^ 9
+  pub place : head.place < 2 ^ 28
+
+-- one is as good as another at least: its rank is lower, or the same and its place is not behind the other's
+abbrev pub IsUpTo : Head → Head → Type 0
+IsUpTo head other = (head.rank < other.rank) ⊎ ((head.rank ≡ other.rank) × (head.place ≤ other.place))
+
+-- a bank's best order, of those with which a line of so many units at least is left, and none of theirs is better
+pub record IsLeastHead (heads : List (Option Head)) (lines : List ℕ) (units bank : ℕ) (head : Head) : Type 0 where
+  pub within : bank < 64
+  pub there : slice_index_or heads bank None ≡ Some head
+  pub pays : units ≤ slice_index lines bank
+  pub first : (other : ℕ) (found : Head) → other < 64 → units ≤ slice_index lines other → slice_index_or heads other None ≡ Some found → IsUpTo head found

@@ -1,0 +1,107 @@
+ghost use Rattle.std.specs.Prelude.{ℕ, ◌≡◌, ◌-◌, ◌≤◌, ◌<◌, ◌^◌, None, if◌then◌else◌, replicate, slice_index, slice_index_or, slice_set, IfSome};
+ghost use Rattle.access_index.specs.Heads.{IsHead, IsLeastHead};
+ghost use Rattle.access_index.specs.inside.Words.{IsLeastWord, word_of};
+
+use fx_amounts::BankId;
+use std::marker::Model;
+
+/// Where the best order of an owner and a side stands.
+#[derive(Clone, Copy, Debug)]
+pub struct Head {
+    /// The rank of its price: the lower, the better. At most 10^9.
+    pub rank: u32,
+    /// Its place in the list of orders, below 2^28: the lower, the earlier it arrived.
+    pub place: u32,
+}
+
+/// The word of an owner without orders. All others are lower.
+const NO_WORD: u64 = u64::MAX;
+
+/// For each bank the best order of one side in a word: its rank, its place and the bank, so that the least of some words is that of the
+/// best order. They lie side by side, and a search looks at all of them with no branch.
+///
+/// It is to take the place of the best prices beside the owners' rows. Nothing calls it yet.
+#[derive(Debug, Drop)]
+pub struct HeadWords {
+    words: [u64; BankId::COUNT],
+}
+
+impl Model for HeadWords {
+    ghost use Rattle.std.specs.Prelude.{List, Option, map};
+    ghost use Rattle.access_index.specs.declared.words.Head.{Head};
+    ghost use Rattle.access_index.specs.inside.Words.{AreWords, head_of};
+
+    ghost Value = { List (Option Head) };
+
+    ghost view = { λ h. map head_of h.words };
+
+    ghost invariant = { λ h. AreWords h.words };
+}
+
+impl HeadWords {
+    /// Those of banks without orders.
+    pub fn new() -> Self
+        ensures { result ≡ replicate 64 None }
+    {
+        HeadWords {
+            words: [NO_WORD; BankId::COUNT],
+        }
+    }
+
+    /// Writes down the best order of a bank.
+    pub fn set(&mut self, bank: BankId, head: Option<Head>)
+        requires head { IfSome head IsHead }
+        ensures { self.new ≡ slice_set self.old bank head }
+    {
+        self.words[bank.index()] = match head {
+            Some(head) => word_of(head, bank),
+            None => NO_WORD,
+        };
+    }
+
+    /// The best order of all banks with which a line of so many units at least is left, with its bank; `None` where none of these has an
+    /// order. There is a line for each bank.
+    pub fn least(&self, lines: &[u64; BankId::COUNT], units: u64) -> Option<(BankId, Head)>
+        ensures found { IfSome result (λ found. IsLeastHead self.now lines.now units found.0 found.1) }
+        ensures none { result ≡ None → (bank : ℕ) → bank < 64 → units ≤ slice_index lines.now bank → slice_index_or self.now bank None ≡ None }
+    {
+        let least = least_word(&self.words, lines, units);
+        if least == NO_WORD {
+            return None;
+        }
+        let bank = BankId::at((least % 64) as usize);
+        let head = Head {
+            rank: (least >> 34) as u32,
+            place: (least / 64 % (1 << 28)) as u32,
+        };
+        Some((bank, head))
+    }
+}
+
+/// The word of the best order of a bank.
+fn word_of(head: Head, bank: BankId) -> u64
+    requires head { IsHead head }
+    ensures word { result ≡ word_of head bank }
+    ensures some { result < 2 ^ 64 - 1 }
+{
+    (u64::from(head.rank) * (1 << 28) + u64::from(head.place)) * 64 + bank.index() as u64
+}
+
+/// The least word of the banks with which a line of so many units at least is left; `NO_WORD` where there is none.
+fn least_word(words: &[u64; BankId::COUNT], lines: &[u64; BankId::COUNT], units: u64) -> u64
+    ensures { IsLeastWord words.now lines.now units 64 result }
+{
+    let mut least = NO_WORD;
+    for bank in 0..BankId::COUNT {
+        least = least.min(open_word(words[bank], lines[bank] >= units));
+    }
+    least
+}
+
+/// A word where the line pays, and `NO_WORD` where it does not.
+fn open_word(word: u64, pays: bool) -> u64
+    ensures { result ≡ (if pays then word else 2 ^ 64 - 1) }
+{
+    let shut = if pays { 0 } else { NO_WORD };
+    word | shut
+}
