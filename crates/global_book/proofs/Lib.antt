@@ -18,4 +18,5 @@ mod Banks
 mod Summing
 pub mod Lowered
 mod Moving
+mod Chaining
 pub mod Cursor

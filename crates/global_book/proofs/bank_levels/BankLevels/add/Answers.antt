@@ -1,4 +1,4 @@
-use Rattle.std.proofs.Common.{◌≤◌, ap, arith}
+use Rattle.std.proofs.Common.{ap, arith}
 use Rattle.level_rows.specs.Rows.{Row, lots_of}
 use Rattle.global_book.specs.inside.Levels.{Adds}
 use Rattle.global_book.proofs.Banks.{row_was, one_changed}
