@@ -9,7 +9,7 @@ use Rattle.fx_text.specs.Fields.{fields_text}
 use Rattle.reply_lines.specs.Notices.{level_fields}
 
 -- the price and the lots of a level
-abbrev fields_of_level : ℕ → Level → List (List ℕ)
+abbrev pub fields_of_level : ℕ → Level → List (List ℕ)
 fields_of_level decimals level = price_text decimals level.price ∷ numeral level.lots ∷ []
 
 -- the levels so far, and one more
@@ -19,16 +19,11 @@ fields_more decimals levels i level within is =
     ∙ flat_map-append (fields_of_level decimals) (take i levels) (get_or levels i level ∷ [])
     ∙ ap (λ more. level_fields decimals (take i levels) ++ more) (append-nil (fields_of_level decimals (get_or levels i level)) ∙ ap (fields_of_level decimals) (sym is))
 
--- a price and a number behind a text
-two_more : (a p n : List ℕ) → (a ++ 32 ∷ p) ++ 32 ∷ n ≡ a ++ fields_text (p ∷ n ∷ [])
-two_more a p n = append_assoc a (32 ∷ p) (32 ∷ n) ∙ ap (λ more. a ++ ((32 ∷ p) ++ more)) (sym (append-nil (32 ∷ n)))
-
-pub levels-more : (decimals : ℕ) (before : List ℕ) (levels : List Level) (i : ℕ) (level : Level) (a b c : List ℕ) → i < length levels → level ≡ get_or levels i level → a ≡ before ++ fields_text (level_fields decimals (take i levels)) → b ≡ a ++ 32 ∷ price_text decimals level.price → c ≡ b ++ 32 ∷ numeral level.lots → c ≡ before ++ fields_text (level_fields decimals (take (i + 1) levels))
-levels-more decimals before levels i level a b c within is so_far price lots =
+pub levels-more : (decimals : ℕ) (before : List ℕ) (levels : List Level) (i : ℕ) (level : Level) (a b : List ℕ) → i < length levels → level ≡ get_or levels i level → a ≡ before ++ fields_text (level_fields decimals (take i levels)) → b ≡ a ++ fields_text (fields_of_level decimals level) → b ≡ before ++ fields_text (level_fields decimals (take (i + 1) levels))
+levels-more decimals before levels i level a b within is so_far added =
     let front : List (List ℕ) = level_fields decimals (take i levels) in
     let more : List (List ℕ) = fields_of_level decimals level in
-    lots ∙ ap (λ t. t ++ 32 ∷ numeral level.lots) (price ∙ ap (λ t. t ++ 32 ∷ price_text decimals level.price) so_far)
-    ∙ two_more (before ++ fields_text front) (price_text decimals level.price) (numeral level.lots)
+    added ∙ ap (λ t. t ++ fields_text more) so_far
     ∙ append_assoc before (fields_text front) (fields_text more)
     ∙ ap (λ t. before ++ t) (sym (flat_map-append (λ (field : List ℕ). 32 ∷ field) front more))
     ∙ ap (λ fields. before ++ fields_text fields) (sym (fields_more decimals levels i level within is))

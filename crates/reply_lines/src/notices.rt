@@ -1,5 +1,6 @@
 ghost use Rattle.std.specs.Prelude.{◌≡◌, ◌∷◌, [], ◌<◌, ◌≤◌, ◌++◌, codes, length, take, OnOk, OnErr};
 ghost use Rattle.fx_amounts.specs.Numeral.{numeral};
+ghost use Rattle.fx_amounts.specs.PriceText.{price_text};
 ghost use Rattle.fx_amounts.specs.Quantity.{IsDecimals};
 ghost use Rattle.fx_text.specs.Fields.{fields_text};
 ghost use Rattle.order_lines.specs.Words.{word_text, side_word};
@@ -11,7 +12,7 @@ ghost use Rattle.reply_lines.specs.inside.Fills.{party_of, fill_line};
 ghost use Rattle.reply_lines.specs.inside.Replies.{plain_fields};
 ghost use Rattle.reply_lines.specs.inside.Telling.{bank_of};
 
-use crate::row::{begin_row, end_row, push_field, push_number_field, push_price_field};
+use crate::row::{begin_row, end_row, push_field, push_number_field, push_text};
 use fx_amounts::{BankId, Memory, PairId, Side, Units, base_amount, quote_amount};
 use fx_rules::{Command, Fill, Level, Outcome, Session};
 use fx_text::LineText;
@@ -152,11 +153,22 @@ fn push_levels(decimals: u8, levels: &[Level], line: &mut Vec<u8>) -> Result<(),
     ensures ok { OnOk result (line.new.items ≡ line.old.items ++ fields_text (level_fields decimals levels.now)) }
     ensures memory { OnErr result (line.new.items ≡ []) }
 {
+    let mut text = LineText::new();
     for level in levels {
-        push_price_field(level.price, decimals, line)?;
-        push_number_field(u128::from(level.lots), line)?;
+        make_level(decimals, level, &mut text);
+        push_text(text.as_slice(), line)?;
     }
     Ok(())
+}
+
+/// Makes the text of a level's price and lots.
+fn make_level(decimals: u8, level: &Level, text: &mut LineText)
+    requires { IsDecimals decimals }
+    ensures { text.new ≡ fields_text (price_text decimals level.now.price ∷ numeral level.now.lots ∷ []) }
+{
+    text.clear();
+    text.push_price_field(level.price, decimals);
+    text.push_number_field(level.lots);
 }
 
 /// A bank's part in a fill.

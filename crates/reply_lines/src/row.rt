@@ -1,10 +1,8 @@
 ghost use Rattle.std.specs.Prelude.{◌≡◌, ◌∷◌, ◌++◌, [], IsErr, OnOk, OnErr};
 ghost use Rattle.fx_amounts.specs.Numeral.{numeral};
-ghost use Rattle.fx_amounts.specs.PriceText.{price_text};
-ghost use Rattle.fx_amounts.specs.Quantity.{IsDecimals};
 
-use fx_amounts::{Memory, Price};
-use fx_text::{push_number, push_price};
+use fx_amounts::Memory;
+use fx_text::push_number;
 
 // A line that shows a local book may be of any length, so it is made in a list, field by field. At `Memory` each of these calls leaves it empty, so that no part of a line is
 // taken for a line.
@@ -34,6 +32,14 @@ pub(crate) fn push_field(text: &[u8], line: &mut Vec<u8>) -> Result<(), Memory>
     ensures memory { OnErr result (line.new.items ≡ []) }
 {
     push_byte(b' ', line)?;
+    push_text(text, line)
+}
+
+/// Appends a text.
+pub(crate) fn push_text(text: &[u8], line: &mut Vec<u8>) -> Result<(), Memory>
+    ensures ok { OnOk result (line.new.items ≡ line.old.items ++ text.now) }
+    ensures memory { OnErr result (line.new.items ≡ []) }
+{
     match line.extend_from_slice(text) {
         Ok(()) => Ok(()),
         Err(refusal) => give_up(line, Memory::from(refusal)),
@@ -47,19 +53,6 @@ pub(crate) fn push_number_field(value: u128, line: &mut Vec<u8>) -> Result<(), M
 {
     push_byte(b' ', line)?;
     match push_number(value, line) {
-        Ok(()) => Ok(()),
-        Err(memory) => give_up(line, memory),
-    }
-}
-
-/// Appends a price behind a space.
-pub(crate) fn push_price_field(price: Price, decimals: u8, line: &mut Vec<u8>) -> Result<(), Memory>
-    requires { IsDecimals decimals }
-    ensures ok { OnOk result (line.new.items ≡ line.old.items ++ 32 ∷ price_text decimals price) }
-    ensures memory { OnErr result (line.new.items ≡ []) }
-{
-    push_byte(b' ', line)?;
-    match push_price(price, decimals, line) {
         Ok(()) => Ok(()),
         Err(memory) => give_up(line, memory),
     }
