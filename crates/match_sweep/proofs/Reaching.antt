@@ -19,7 +19,7 @@ use Rattle.global_book.specs.Book.{AreOwners, Book, IsLevel, IsLevelOf, IsPriceO
 use Rattle.global_book.proofs.Levels.{first_level, next_level, price_of_level}
 use Rattle.match_sweep.specs.declared.reached.BankLevel.{BankLevel}
 use Rattle.match_sweep.specs.declared.reached.LevelWalk.{LevelWalk}
-use Rattle.match_sweep.specs.inside.Reaches.{AreTaken, HaveLevels, IsBestAmong, IsBestPrice, IsHead, IsLeft, IsPaid, IsTakenOf, TakesOf, as_level, bank_level, better_price, head_of, line_behind, price_in, price_of}
+use Rattle.match_sweep.specs.inside.Reaches.{AreTaken, counted, HaveLevels, IsBestAmong, IsBestPrice, IsHead, IsLeft, IsPaid, IsTakenOf, TakesOf, as_level, bank_level, better_price, head_of, line_behind, price_in, price_of}
 use Rattle.match_sweep.proofs.Tables.{total-changed}
 use Rattle.match_sweep.proofs.Passed.{contains_or}
 use Rattle.match_sweep.proofs.Levelling.{level_parts}
@@ -162,7 +162,11 @@ head_stays taker bank price past orders (Some head) worse is behind =
 head_of_level : (taker : Side) (bank : ℕ) (past : Option ℕ) (orders : List Resting) (at : ℕ) (found : Option (ℕ × ℕ)) → slice_get (levels_of taker bank orders) at ≡ found → IsLevelOf taker bank past orders found
     → IsHead taker bank past orders (option_map (as_level at) found)
 head_of_level taker bank past orders at None is level = record { best = level; lots = tt; level = tt }
-head_of_level taker bank past orders at (Some found) is level = record { best = price_of_level taker bank past orders (Some found) level; lots = level.lots; level = is }
+head_of_level taker bank past orders at (Some found) is level = record {
+  best = price_of_level taker bank past orders (Some found) level;
+  lots = ap counted level.lots;
+  level = is ∙ ap (λ (lots : ℕ). Some (found.0, lots)) level.lots;
+}
 
 -- at first it is the bank's first level
 pub first_head : (taker : Side) (bank : ℕ) (orders : List Resting) → IsHead taker bank None orders (bank_level taker bank orders 0)
@@ -173,7 +177,7 @@ pub next_head : (taker : Side) (bank : ℕ) (past : Option ℕ) (orders : List R
     → IsHead taker bank (Some head.price) orders (bank_level taker bank orders (head.at + 1))
 next_head taker bank past orders head is =
     head_of_level taker bank (Some head.price) orders (head.at + 1) (slice_get (levels_of taker bank orders) (head.at + 1)) refl
-    (next_level taker bank orders head.at (head.price, head.lots) is.level)
+    (next_level taker bank orders head.at (head.price, level_lots taker bank head.price orders) is.level)
 
 -- a worse one stays
 level_stays : (taker : Side) (bank price : ℕ) (past : Option ℕ) (orders : List Resting) (head : Option BankLevel) → is_worse taker past price ≡ true → IsHead taker bank past orders head → IsWorseHead taker price (price_in head)
@@ -206,7 +210,7 @@ few_levels taker bank (order ∷ orders) =
 -- there are no more levels than orders
 pub head_within : (taker : Side) (bank : ℕ) (past : Option ℕ) (orders : List Resting) (head : BankLevel) → IsHead taker bank past orders (Some head) → head.at < length orders
 head_within taker bank past orders head is =
-    let within = slice_get_within (levels_of taker bank orders) head.at (head.price, head.lots) is.level in
+    let within = slice_get_within (levels_of taker bank orders) head.at (head.price, level_lots taker bank head.price orders) is.level in
     let few = few_levels taker bank orders in
     omega (arith, within, few)
 

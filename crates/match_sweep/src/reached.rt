@@ -80,8 +80,8 @@ struct BankLevel {
     /// Its index among the bank's levels, 0 for the best price.
     at: usize,
     price: Price,
-    /// All lots that the bank has at this price.
-    lots: u128,
+    /// All lots that the bank has at this price, or the largest number of 64 bits where there are more: no line pays for these.
+    lots: u64,
 }
 
 impl LevelWalk {
@@ -249,17 +249,17 @@ impl LevelWalk {
 }
 
 /// How many of so many lots a line pays for. Most lines pay for all; then nothing is divided.
-fn lots_by_line(lots: u128, line: u64, weight: u64) -> u64
+fn lots_by_line(lots: u64, line: u64, weight: u64) -> u64
     requires { IsWeight weight }
     ensures value { result ≡ min lots (line / weight) }
+    ensures few { line / weight < 2 ^ 64 }
 {
-    if lots <= u128::from(u32::MAX) {
-        let wanted = lots as u64;
-        if wanted * weight <= line {
-            return wanted;
+    if lots <= u64::from(u32::MAX) {
+        if lots * weight <= line {
+            return lots;
         }
     }
-    lots.min(u128::from(line / weight)) as u64
+    lots.min(line / weight)
 }
 
 /// The rank of a price for a taker of a side, the best price lowest; `NO_RANK` where there is none.
@@ -302,5 +302,6 @@ fn level_at<L: Ledger>(
         return None;
     }
     let (price, lots) = book.level_at(bank, taker.opposite(), at, steps)?;
+    let lots = lots.min(u128::from(u64::MAX)) as u64;
     Some(BankLevel { at, price, lots })
 }

@@ -24,9 +24,13 @@ past_order past = option_map at_end past
 abbrev pub line_behind : ℕ → Side → ℕ → List Resting → ℕ → ℕ → ℕ
 line_behind weight taker price orders bank line = line - min (level_lots taker bank price orders) (line / weight) * weight
 
+-- as many of some lots as are written down: no line pays for more
+abbrev pub counted : ℕ → ℕ
+counted lots = min lots (2 ^ 64 - 1)
+
 -- a bank's level at an index
 abbrev pub as_level : ℕ → ℕ × ℕ → BankLevel
-as_level at level = record { at = at; price = level.0; lots = level.1 }
+as_level at level = record { at = at; price = level.0; lots = counted level.1 }
 
 abbrev pub bank_level : Side → ℕ → List Resting → ℕ → Option BankLevel
 bank_level taker bank orders at = option_map (as_level at) (slice_get (levels_of taker bank orders) at)
@@ -38,8 +42,8 @@ price_in head = option_map (λ level. level.price) head
 -- a bank's best level behind a price, where there is one, is at its head
 pub record IsHead (taker : Side) (bank : ℕ) (past : Option ℕ) (orders : List Resting) (head : Option BankLevel) : Type 0 where
   pub best : IsPriceOf taker bank past orders (price_in head)
-  pub lots : IfSome head (λ level. level.lots ≡ level_lots taker bank level.price orders)
-  pub level : IfSome head (λ level. slice_get (levels_of taker bank orders) level.at ≡ Some (level.price, level.lots))
+  pub lots : IfSome head (λ level. level.lots ≡ counted (level_lots taker bank level.price orders))
+  pub level : IfSome head (λ level. slice_get (levels_of taker bank orders) level.at ≡ Some (level.price, level_lots taker bank level.price orders))
 
 -- the head of a bank, and the price of one with which the line pays for a lot
 abbrev pub head_of : LevelWalk → ℕ → Option BankLevel
