@@ -199,6 +199,9 @@ def main(words):
         say(f"reading the {reads} from the terminal, up to Ctrl-D; ./fx {' '.join(words)} < FILE reads a file")
     if is_current():
         os.execv(PROGRAM, [PROGRAM, *words])
+    if BY_WORD[words[0]].journal:
+        say(f"{words[0]} is left to the proved program, since a run of the sources would have its file in another folder; ./fx build makes it")
+        return GAVE_UP
     return run_checked(words)
 
 

@@ -14,7 +14,7 @@ class Number(NamedTuple):
 
 class Word(NamedTuple):
     """A word of ./fx. `reads` is the text that it takes from standard input, `forms` are the words of which one stands behind it,
-    `threaded` says that `--workers N` may stand behind the numbers, `folder` that a folder may; `own` marks the words that ./fx
+    `threaded` says that `--workers N` may stand behind the numbers, `folder` that a folder may, `journal` that it has the journal file of its folder; `own` marks the words that ./fx
     itself has, and the program has not."""
 
     word: str
@@ -25,6 +25,7 @@ class Word(NamedTuple):
     numbers: tuple[Number, ...] = ()
     threaded: bool = False
     folder: bool = False
+    journal: bool = False
     own: bool = False
 
 
@@ -73,6 +74,20 @@ WORDS = (
         forms=("bilateral", "net"),
     ),
     Word(
+        "keep",
+        "runs a session and keeps it in the file fx.journal of this folder, round by round, so that a stop loses nothing that was printed",
+        "It prints the notices of each round once that is on the disk. It refuses a file that holds a session already.",
+        reads="SESSION",
+        journal=True,
+    ),
+    Word(
+        "restart",
+        "goes on with the session that fx.journal holds",
+        "It reads command lines alone, up to END. With END alone it prints the books and the report of what is kept.",
+        reads="LINES",
+        journal=True,
+    ),
+    Word(
         "build",
         "proves and builds the program once, in about half an hour",
         "From then on ./fx starts the proved program at once.",
@@ -109,6 +124,11 @@ STATUSES = {
     6: "out of memory",
     7: "the input is too long",
     8: "check or payments says NO",
+    10: "restart: a block of the journal file is damaged; its number is printed",
+    11: "keep or restart: the disk failed",
+    12: "keep: the journal file holds a session already",
+    13: "restart: the journal file holds no session",
+    14: "restart: the journal file holds more than 2^24 commands",
 }
 REFUSED, NO_PACKAGE, GAVE_UP, STOPPED = 70, 73, 75, 130
 OWN_STATUSES = {

@@ -4,3 +4,4 @@ pub mod TopCallLaws
 pub mod CheckLaws
 pub mod Answering
 pub mod LoadLaws
+mod KeptLaws

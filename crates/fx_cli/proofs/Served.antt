@@ -43,7 +43,8 @@ use Rattle.threaded_run.specs.Lanes.{HaveServed, CanServe as CanServeLanes}
 use Rattle.fx_cli.specs.Headline.{IsHeadline, IsSerial}
 use Rattle.fx_cli.specs.inside.Rounds.{IsServing, HasServedRound, IsServed, IsHistoryOfText}
 use Rattle.fx_cli.specs.Run.{RanText, Ran}
-use Rattle.fx_cli.specs.Status.{status_at, status_of, ending_of}
+use Rattle.kept_call.specs.Ending.{ending_of}
+use Rattle.fx_cli.specs.Status.{status_at, status_of}
 use Rattle.fx_cli.specs.inside.Status.{written_status}
 use Rattle.fx_cli.specs.TopCall.{KindOfText, IsOutputOf}
 use Rattle.fx_cli.specs.declared.status.Status.{Status}

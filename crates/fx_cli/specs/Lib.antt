@@ -9,5 +9,6 @@ pub mod LoadCall
 pub mod CheckCall
 pub mod Payments
 pub mod Answered
+pub mod KeptCall
 pub mod Process
 pub mod inside

@@ -16,9 +16,10 @@ use Rattle.session_script.specs.Script.{HasSession, HasEnd, EndsWithEnd, sent_in
 use Rattle.session_script.specs.declared.ends.EarlyEnd.{EarlyEnd}
 use Rattle.session_script.specs.declared.ends.TextEnd.{TextEnd}
 use Rattle.session_script.specs.declared.ends.TextEnd.TheVariants.{Early}
-use Rattle.fx_cli.specs.Status.{ending_of, err_text}
+use Rattle.kept_call.specs.Ending.{ending_of}
+use Rattle.fx_cli.specs.Status.{err_text}
 use Rattle.fx_cli.specs.declared.status.Status.{Status}
-use Rattle.fx_cli.specs.declared.status.Status.TheVariants.{Done, Differs, WriteFault, Memory}
+use Rattle.fx_cli.specs.declared.status.Status.TheVariants.{Done, Differs, WriteFault, Memory, DiskFault}
 
 -- The run ended with this status exactly where the cause stands, unless it ended with one of `earlier`, whose causes
 -- come first, or out of memory.
@@ -69,6 +70,7 @@ WritesNothing Done = ⊥
 WritesNothing Differs = ⊥
 WritesNothing WriteFault = ⊥
 WritesNothing (Memory memory) = ⊥
+WritesNothing DiskFault = ⊥
 WritesNothing _ = Unit {0}
 
 -- The text of a session: it has a whole header, and an END line among the bytes that are taken at most; or fewer bytes than

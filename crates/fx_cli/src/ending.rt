@@ -1,22 +1,11 @@
 ghost use Rattle.std.specs.Prelude.{◌≡◌};
-ghost use Rattle.fx_cli.specs.Status.{ending_of, status_at};
+ghost use Rattle.fx_cli.specs.Status.{kept_status, status_at};
 ghost use Rattle.fx_cli.specs.inside.Status.{written_status};
 
 use crate::status::Status;
-use reply_lines::{Ending, OutFault};
+use kept_call::KeptFault;
+use reply_lines::OutFault;
 use session_script::{EarlyEnd, TextEnd};
-
-/// The last line of the output of a text that ended so.
-pub(crate) fn ending_of(end: TextEnd) -> Ending
-    ensures { result ≡ ending_of end }
-{
-    match end {
-        TextEnd::EndLine => Ending::End,
-        TextEnd::Early(EarlyEnd::Cut) => Ending::Cut,
-        TextEnd::Early(EarlyEnd::ReadFault) => Ending::Read,
-        TextEnd::Early(EarlyEnd::TooMuch) => Ending::Much,
-    }
-}
 
 /// What a run ends with whose text ended so, and whose output was written whole.
 pub(crate) fn status_at(end: TextEnd) -> Status
@@ -38,5 +27,15 @@ pub(crate) fn written_status(end: TextEnd, written: Result<(), OutFault>) -> Sta
         Ok(()) => status_at(end),
         Err(OutFault::Write) => Status::WriteFault,
         Err(OutFault::Memory(memory)) => Status::Memory(memory),
+    }
+}
+
+/// What a call that keeps a session ends with, by its answer.
+pub(crate) fn kept_status(answer: Result<TextEnd, KeptFault>) -> Status
+    ensures { result ≡ kept_status answer }
+{
+    match answer {
+        Ok(end) => status_at(end),
+        Err(fault) => Status::from(fault),
     }
 }

@@ -3,6 +3,7 @@
 
 mod check;
 mod ending;
+mod kept;
 mod load;
 mod payments;
 mod process;
@@ -11,18 +12,27 @@ mod serial;
 mod status;
 mod top;
 
+use fx_disk::FileDisk;
 use fx_edges::{StdSink, StdSource};
 use process::serve;
 pub use status::Status;
 use std::env;
 use std::process::ExitCode;
-pub use top::fx_main;
+pub use top::{fx_main, fx_top};
 
 fn main(rt: HostRuntime) -> ExitCode {
     let mut source = StdSource::new(rt.stdin());
     let mut out = StdSink::new(rt.stdout());
     let mut err = StdSink::new(rt.stderr());
-    serve(&rt, env::args(&rt), &mut source, &mut out, &mut err)
+    let mut disk = FileDisk::new(&rt);
+    serve(
+        &rt,
+        env::args(&rt),
+        &mut source,
+        &mut out,
+        &mut err,
+        &mut disk,
+    )
 }
 
 #[cfg(test)]

@@ -10,12 +10,13 @@ ghost use Rattle.fx_cli.specs.inside.Rounds.{AreServing, LanesServedText, Thread
 ghost use Rattle.fx_cli.specs.Run.{Ran};
 ghost use Rattle.fx_cli.specs.TopCall.{IsOutputOf};
 
-use crate::ending::{ending_of, written_status};
+use crate::ending::written_status;
 use crate::status::Status;
 use fx_amounts::Memory;
 use fx_chronicle::{Blank, Naming};
 use fx_edges::{Sink, Source};
 use fx_rules::{Entry, Gate};
+use kept_call::ending_of;
 use pair_host::PairHost;
 use reply_lines::write_output_from;
 use session_script::{Reading, TextEnd};

@@ -10,11 +10,12 @@ ghost use Rattle.fx_cli.specs.inside.Rounds.{IsServing, ServedText};
 ghost use Rattle.fx_cli.specs.Run.{Ran};
 ghost use Rattle.fx_cli.specs.TopCall.{IsOutputOf};
 
-use crate::ending::{ending_of, written_status};
+use crate::ending::written_status;
 use crate::status::Status;
 use fx_amounts::Memory;
 use fx_edges::{Sink, Source};
 use fx_rules::Session;
+use kept_call::ending_of;
 use market_run::Run;
 use pair_host::PairHost;
 use reply_lines::{DayNotices, DayText, JournalText};

@@ -3,6 +3,7 @@ ghost use Rattle.std.specs.Prelude.{◌≤◌, ◌<◌, length};
 use crate::fx_main;
 use crate::process::serve;
 use fx_amounts::{BankId, PairId};
+use fx_disk::SteadyDisk;
 use fx_edges::{MemorySink, MemorySource};
 use fx_rules::{Gate, OpenGate};
 use samples::Sample;
@@ -16,13 +17,14 @@ use std::sync::atomic::Ordering::SeqCst;
 use std::test::Fail;
 use std::thread::Threads;
 
+mod kept;
 mod refused;
 mod rounds;
 mod samples;
 mod threads;
 
 const USAGE: &[u8] =
-    b"usage: fx_cli run [--workers N] | serial | check | load SEED BANKS PAIRS COMMANDS [--workers N] | payments bilateral | payments net\n";
+    b"usage: fx_cli run [--workers N] | serial | check | load SEED BANKS PAIRS COMMANDS [--workers N] | payments bilateral | payments net | keep | restart\n";
 
 // The calls of an end that fail, counted from 1.
 #[derive(Clone, Copy, Debug)]
@@ -142,7 +144,8 @@ fn expect_exit<R: Abort + AllocGlobal + Threads + Wait + Sync>(
     let mut source = MemorySource::new(input, 64, Vec::new(alloc));
     let mut out = MemorySink::new(64, Vec::new(alloc));
     let mut err = MemorySink::new(64, Vec::new(alloc));
-    let exit = serve(rt, arguments, &mut source, &mut out, &mut err);
+    let mut disk = SteadyDisk::new(Vec::new(alloc));
+    let exit = serve(rt, arguments, &mut source, &mut out, &mut err, &mut disk);
     assert!(rt; exit == ExitCode::from(ending.code));
     assert!(rt; out.written() == ending.out);
     assert!(rt; err.written() == ending.err);

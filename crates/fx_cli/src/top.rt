@@ -7,19 +7,22 @@ ghost use Rattle.fx_cli.specs.Headline.{IsHeadline, IsSerial};
 ghost use Rattle.fx_cli.specs.Check.{Checked, SaysYes};
 ghost use Rattle.fx_cli.specs.Load.{Loaded};
 ghost use Rattle.fx_cli.specs.Payments.{IsPaymentsOf};
+ghost use Rattle.fx_cli.specs.KeptCall.{AnsweredTop};
 ghost use Rattle.fx_cli.specs.Run.{Ran};
 ghost use Rattle.fx_cli.specs.TopCall.{IsOutputOf, ToldErr};
 ghost use Rattle.fx_cli.specs.inside.TopCall.{Refused};
 
 use crate::check::check;
+use crate::kept::follow_kept;
 use crate::load::load;
 use crate::payments::payments;
 use crate::run::run;
 use crate::serial::serial;
 use crate::status::Status;
+use fx_disk::Disk;
 use fx_edges::{Sink, SinkFault, Source};
 use fx_rules::Gate;
-use program_words::{Task, WordsFault, read_words};
+use program_words::{Task, WordsFault, kept_task, read_words};
 use std::alloc::Global;
 use std::sync::Wait;
 use std::thread::Threads;
@@ -54,6 +57,43 @@ pub fn fx_main<R: AllocGlobal + Threads + Wait + Sync, S: Source, K: Sink, E: Si
 {
     let status = follow(rt, words, source, out, gate);
     tell(rt.alloc(), status, err)
+}
+
+/// Does what the words ask for, over a disk too, and answers how it ended. `main` calls it.
+///
+/// - `keep`: runs a new session as `run` does, in 4 threads, and keeps it in the journal file on the disk. Each round is written once it is
+///   kept: its notices, each behind its sender's name, and after the last round the output from its line `BOOKS` on.
+/// - `restart`: goes on with the session that the journal file holds. The source has command lines alone, up to END.
+/// - All other words are those of `fx_main`, and the disk is not touched.
+///
+/// With `keep` and `restart` refusals come in the order `Usage`; `DiskFault`, where the file can't be opened; `Kept` with `keep`, and with
+/// `restart` `Empty`, `Damaged` and `Full`; then those of `run`. A `DiskFault`, a `WriteFault` or `Memory` behind these ends the call at
+/// once: what was written is a prefix of the text then, and each round of which a byte was written is kept. It may wait.
+pub fn fx_top<
+    R: AllocGlobal + Threads + Wait + Sync,
+    S: Source,
+    K: Sink,
+    E: Sink,
+    G: Gate + Sync,
+    D: Disk,
+>(
+    rt: &R,
+    words: &[String],
+    source: &mut S,
+    out: &mut K,
+    err: &mut E,
+    gate: &G,
+    disk: &mut D,
+) -> Status
+    ensures answered { AnsweredTop D.bytes D.may_leave D.moment D.left_since D.faults S.left S.faults K.written K.faults E.written E.faults words.now disk.old disk.new source.old source.new out.old out.new err.old err.new result }
+{
+    match kept_task(words) {
+        Some(task) => {
+            let status = follow_kept(rt, task, source, out, gate, disk);
+            tell(rt.alloc(), status, err)
+        }
+        None => fx_main(rt, words, source, out, err, gate),
+    }
 }
 
 /// Does what the words ask for, but for standard error.

@@ -4,7 +4,8 @@ use Rattle.fx_amounts.specs.Numeral.{is_numeral}
 use Rattle.fx_text.specs.Number.{number_of}
 use Rattle.net_settle.specs.declared.form.Form.TheVariants.{Bilateral, Net}
 use Rattle.program_words.specs.declared.task.Task.TheVariants.{Run, Serial, Check, Load, Payments}
-use Rattle.program_words.specs.Forms.{task_of}
+use Rattle.program_words.specs.declared.kept.KeptTask.TheVariants.{Keep, Restart}
+use Rattle.program_words.specs.Forms.{task_of, kept_task_of}
 
 run_alone : task_of (codes "run" ∷ []) ≡ Some (Run 4)
 run_alone = refl
@@ -33,6 +34,22 @@ payments_of_each_two = refl
 
 payments_netted : task_of (codes "payments" ∷ codes "net" ∷ []) ≡ Some (Payments Net)
 payments_netted = refl
+
+keep : kept_task_of (codes "keep" ∷ []) ≡ Some Keep
+keep = refl
+
+restart : kept_task_of (codes "restart" ∷ []) ≡ Some Restart
+restart = refl
+
+-- The words of a kept session ask for nothing else, and no other words for one.
+keep_alone : task_of (codes "keep" ∷ []) ≡ None
+keep_alone = refl
+
+keep_more : kept_task_of (codes "keep" ∷ codes "restart" ∷ []) ≡ None
+keep_more = refl
+
+run_is_not_kept : kept_task_of (codes "run" ∷ []) ≡ None
+run_is_not_kept = refl
 
 -- Words in none of the forms: a number out of its range or with a leading zero, an option in another spelling or in front, a
 -- word too many, another word, no word.

@@ -5,6 +5,8 @@ use Rattle.net_settle.specs.declared.form.Form.{Form}
 use Rattle.net_settle.specs.declared.form.Form.TheVariants.{Bilateral, Net}
 use Rattle.program_words.specs.declared.task.Task.{Task}
 use Rattle.program_words.specs.declared.task.Task.TheVariants.{Run, Serial, Check, Load, Payments}
+use Rattle.program_words.specs.declared.kept.KeptTask.{KeptTask}
+use Rattle.program_words.specs.declared.kept.KeptTask.TheVariants.{Keep, Restart}
 
 infixl 10 ◌>>=◌
 -- what all steps give, where each gives something
@@ -56,6 +58,18 @@ task_of (word ∷ rest) =
     else if bytes_eq word (codes "load") then load_of rest
     else if bytes_eq word (codes "payments") then payments_of rest
     else None
+
+-- what is asked for of a kept session, by its word
+abbrev pub kept_task_named : List ℕ → Option KeptTask
+kept_task_named word =
+    if bytes_eq word (codes "keep") then Some Keep
+    else if bytes_eq word (codes "restart") then Some Restart
+    else None
+
+-- and by the words: it stands alone. `task_of` knows neither
+abbrev pub kept_task_of : List (List ℕ) → Option KeptTask
+kept_task_of (word ∷ []) = kept_task_named word
+kept_task_of _ = None
 
 -- so many workers can be asked for
 abbrev pub AreWorkers : ℕ → Type 0

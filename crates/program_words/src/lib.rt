@@ -2,10 +2,12 @@
 //! has to be the words: so each task has one spelling, but for the number of workers that is left out.
 #![tactic(auto)]
 
+mod kept;
 mod line;
 mod matched;
 mod reading;
 mod task;
 
+pub use kept::{KeptTask, kept_task};
 pub use reading::{WordsFault, read_words};
 pub use task::Task;

@@ -1,0 +1,157 @@
+//! Sessions that are kept, by the words `keep` and `restart`.
+
+use crate::fx_top;
+use crate::status::Status;
+use crate::tests::{owned, samples};
+use fx_amounts::Memory;
+use fx_disk::{Disk, SteadyDisk};
+use fx_edges::{MemorySink, SteadySink, SteadySource};
+use fx_rules::OpenGate;
+use std::alloc::Global;
+use std::sync::Wait;
+use std::test::Fail;
+use std::thread::Threads;
+
+const HEADER: &[u8] = b"FXBOOK 1
+BANK ALFA
+BANK BETA
+BANK GAMA
+PAIR EUR/USD 5 1000000 100
+LINE ALFA BETA 1000
+LINE BETA ALFA 1000
+START
+";
+
+const SELL: &[u8] = b"BETA SELL EUR/USD 1.08420 2 DAY\n";
+
+const BUY: &[u8] = b"ALFA BUY EUR/USD 1.08425 3 DAY\n";
+
+/// What is told of the sell, and the output behind it.
+const SOLD: &[u8] = b"BETA 1 REPLY 1 ORDERED 0 2
+BOOKS
+ALFA EUR/USD BIDS ASKS 1.08420 2
+BETA EUR/USD BIDS ASKS
+GAMA EUR/USD BIDS ASKS
+REPORT
+VOLUME EUR/USD 0 0 0 0
+USE ALFA BETA 1000 1000 0 1000
+USE ALFA GAMA 0 0 0 0
+USE BETA GAMA 0 0 0 0
+NET ALFA EUR 0
+NET ALFA USD 0
+NET BETA EUR 0
+NET BETA USD 0
+NET GAMA EUR 0
+NET GAMA USD 0
+STRAYS 0
+END
+";
+
+/// What is told of the buy behind the sell.
+const BOUGHT: &[u8] = b"ALFA 1 REPLY 1 ORDERED 2 1
+ALFA 2 FILL 1 BUY EUR/USD 2 1.08420 BETA 2000000 2168400
+BETA 2 FILL 1 SELL EUR/USD 2 1.08420 ALFA 2000000 2168400
+";
+
+/// And of the buy alone.
+const ALONE: &[u8] = b"ALFA 1 REPLY 1 ORDERED 0 3
+";
+
+/// How a call ended.
+#[derive(Drop)]
+struct Called {
+    status: Status,
+    out: Vec<u8>,
+    err: Vec<u8>,
+}
+
+fn joined(alloc: Global, pieces: &[&[u8]]) -> Result<Vec<u8>, Memory> {
+    let mut all = Vec::new(alloc);
+    for piece in pieces {
+        all.extend_from_slice(piece)?;
+    }
+    Ok(all)
+}
+
+/// The file of blocks with these bodies.
+fn file_of(alloc: Global, bodies: &[&[u8]]) -> Result<Vec<u8>, Memory> {
+    let mut file = Vec::new(alloc);
+    for body in bodies {
+        file.push(1)?;
+        file.extend_from_slice(&(body.len() as u64).to_be_bytes())?;
+        file.extend_from_slice(body)?;
+    }
+    file.push(0)?;
+    Ok(file)
+}
+
+/// What this word comes to with these lines, over a disk, a source that does not fail, and an output that fails at these calls.
+fn call<R: AllocGlobal + Threads + Wait + Sync, D: Disk>(
+    rt: &R,
+    word: &str,
+    lines: &[&[u8]],
+    fails: &[u64],
+    disk: &mut D,
+) -> Result<Called, Fail> {
+    let alloc = rt.alloc();
+    let words = owned(alloc, &[word])?;
+    let mut source = SteadySource::new(joined(alloc, lines)?);
+    let mut out = MemorySink::new(4096, fails.to_vec(alloc)?);
+    let mut err = SteadySink::new(alloc);
+    let status = fx_top(rt, &words, &mut source, &mut out, &mut err, &OpenGate, disk);
+    Ok(Called {
+        status,
+        out: out.written().to_vec(alloc)?,
+        err: err.written().to_vec(alloc)?,
+    })
+}
+
+#[test]
+fn a_session_is_kept_and_goes_on(rt: HostRuntime) -> Result<(), Fail> {
+    let alloc = rt.alloc();
+    let mut disk = SteadyDisk::new(Vec::new(alloc));
+    let first = call(&rt, "keep", &[HEADER, SELL, b"END\n"], &[], &mut disk)?;
+    assert!(rt; first.status.code() == 0);
+    assert!(rt; first.out.as_slice() == SOLD);
+    assert!(rt; disk.bytes() == file_of(alloc, &[HEADER, SELL])?.as_slice());
+    assert!(rt; disk.bytes().len() == 163);
+    let again = call(&rt, "keep", &[HEADER, SELL, b"END\n"], &[], &mut disk)?;
+    assert!(rt; again.status.code() == 12);
+    assert!(rt; again.out.is_empty());
+    assert!(rt; again.err.as_slice() == b"journal exists\n".as_slice());
+    let second = call(&rt, "restart", &[BUY, b"END\n"], &[], &mut disk)?;
+    assert!(rt; second.status.code() == 0);
+    // Behind the notices stands the output of both commands from its line `BOOKS` on.
+    let rest = second.out.strip_prefix(BOUGHT).ok_or("no notices")?;
+    assert!(rt; rest.starts_with(b"BOOKS\n"));
+    assert!(rt; samples::ONE_SELL_ONE_BUY.output.ends_with(rest));
+    assert!(rt; disk.bytes() == file_of(alloc, &[HEADER, SELL, BUY])?.as_slice());
+    assert!(rt; disk.bytes().len() == 203);
+    Ok(())
+}
+
+/// A byte of the file of the sell that is changed, and how `restart` with the buy ends then: its status, what it tells first, and the line
+/// on standard error.
+type Changed = (usize, u8, (u8, &'static [u8], &'static [u8]));
+
+const CHANGED: [Changed; 3] = [
+    (121, 7, (0, ALONE, b"")),
+    (9, b'G', (10, b"", b"journal block 0 damaged\n")),
+    (0, 0, (13, b"", b"journal empty\n")),
+];
+
+#[test]
+fn a_damaged_file_is_refused(rt: HostRuntime) -> Result<(), Fail> {
+    let alloc = rt.alloc();
+    for (at, byte, (code, told, line)) in CHANGED {
+        let mut file = file_of(alloc, &[HEADER, SELL])?;
+        *file.get_mut(at).ok_or("no such byte")? = byte;
+        let mut disk = SteadyDisk::new(file);
+        let ended = call(&rt, "restart", &[BUY, b"END\n"], &[], &mut disk)?;
+        assert!(rt; ended.status.code() == code, "{at}");
+        assert!(rt; ended.out.starts_with(told), "{at}");
+        assert!(rt; ended.out.is_empty() == told.is_empty(), "{at}");
+        assert!(rt; ended.err.as_slice() == line, "{at}");
+    }
+    Ok(())
+}

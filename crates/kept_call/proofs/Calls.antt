@@ -1,0 +1,448 @@
+-- What `keep` and `restart` did, by how far they came.
+use Rattle.std.proofs.Common.{ℕ, ◌≡◌, ◌⊎◌, ◌+◌, ◌<◌, ◌≤◌, ◌^◌, List, [], ◌∷◌, ◌++◌, length, map, Option, Some, None, Result, Ok, Err, refl, ap, sym, ◌∙◌, subst, arith, inl, inr}
+use Rattle.std.specs.Prelude.{is_some}
+use Rattle.std.proofs.lemmas.List.{length-map}
+use Rattle.fx_amounts.specs.OutOfMemory.{refused}
+use Rattle.fx_amounts.specs.declared.memory.Memory.{Memory as AmountsMemory}
+use Rattle.fx_edges.specs.Faults.{Rose}
+use Rattle.fx_edges.proofs.Reading.{Took-nil}
+use Rattle.fx_edges.proofs.Writing.{Appended-nil}
+use Rattle.fx_rules.specs.declared.command.Sent.{Sent}
+use Rattle.fx_rules.specs.declared.outcome.Entry.{Entry}
+use Rattle.fx_rules.specs.Lists.{Among}
+use Rattle.fx_rules.specs.Session.{Header as SessionHeader}
+use Rattle.fx_rules.specs.Sending.{sent_by}
+use Rattle.fx_disk.specs.Disk.{WhereTold, Only, LeavesOnly}
+use Rattle.keep_disk.specs.Blocks.{whole_blocks}
+use Rattle.keep_disk.specs.declared.rounds.Round.{Round}
+use Rattle.keep_disk.specs.declared.write.KeepFault.{KeepFault}
+use Rattle.keep_disk.specs.declared.write.KeepFault.TheVariants as keeps
+use Rattle.kept_history.specs.Blocks.{Listed, kept_in}
+use Rattle.kept_history.specs.Found.{IsWhole, IsFull}
+use Rattle.kept_run.specs.Running.{new_session}
+use Rattle.session_head.specs.HeadText.{head_text_of}
+use Rattle.session_script.specs.Rounds.{HasStopped}
+use Rattle.session_script.specs.declared.ends.EarlyEnd.TheVariants.{ReadFault}
+use Rattle.session_script.specs.declared.ends.TextEnd.{TextEnd}
+use Rattle.session_script.specs.declared.ends.TextEnd.TheVariants as ends
+use Rattle.session_script.specs.declared.ends.Stop.{Stop}
+use Rattle.session_script.specs.declared.ends.Stop.TheVariants as stops
+use Rattle.session_script.proofs.ScriptReading.{GoesOn-nil, prompt_here}
+use Rattle.session_script.specs.Reading.{TextEndedBehind}
+use Rattle.session_script.specs.Script.{HasSession}
+use Rattle.session_script.specs.declared.ends.EarlyEnd.{EarlyEnd}
+use Rattle.kept_call.specs.Call.{StopsANewSession, StopsARestart, ReadSo, KeptNew, DidKeep, DidRestart}
+use Rattle.kept_call.specs.Fault.{of_keeper, of_stop, Exactly, HasCauses}
+use Rattle.kept_call.specs.Kept.{EveryMoment, AtReturn, StopsASession, AnsweredSo, EndedSo, KeptNothing, KeptBehind}
+use Rattle.kept_call.specs.inside.Served.{Served, gone_on, IsRefusal}
+use Rattle.kept_call.specs.declared.fault.KeptFault.{KeptFault}
+use Rattle.kept_call.specs.declared.fault.KeptFault.TheVariants.{Header, Early, Kept, Empty, Damaged, Full, Disk, Write, Memory}
+use Rattle.kept_call.proofs.Faults.{causes-steady}
+use Rattle.kept_call.proofs.Opening.{opened-short, opened-kept, opened-moments, opened-at_return}
+
+abbrev Answer : Type 0
+Answer = Result TextEnd KeptFault
+
+abbrev err_of : KeptFault → Answer
+err_of fault = Err fault
+
+err_to : (e f : KeptFault) → err_of e ≡ err_of f → e ≡ f
+err_to e f is = cc
+
+-- Faults
+
+session_stops_new : (fault : KeptFault) → StopsASession fault → StopsANewSession fault
+session_stops_new (Header line reason) stops = absurd stops
+session_stops_new (Early end) stops = absurd stops
+session_stops_new Kept stops = absurd stops
+session_stops_new Empty stops = absurd stops
+session_stops_new (Damaged block) stops = absurd stops
+session_stops_new Full stops = absurd stops
+session_stops_new Disk stops = tt
+session_stops_new Write stops = tt
+session_stops_new (Memory memory) stops = tt
+
+-- a session that had begun stops for no other reason
+not_kept : (fault : KeptFault) → StopsASession fault → fault ≡ Kept → ⊥
+not_kept fault stops is = subst StopsASession is stops
+
+not_empty : (fault : KeptFault) → StopsASession fault → fault ≡ Empty → ⊥
+not_empty fault stops is = subst StopsASession is stops
+
+not_damaged : (block : ℕ) (fault : KeptFault) → StopsASession fault → fault ≡ Damaged block → ⊥
+not_damaged block fault stops is = subst StopsASession is stops
+
+not_full : (fault : KeptFault) → StopsASession fault → fault ≡ Full → ⊥
+not_full fault stops is = subst StopsASession is stops
+
+-- an answer that is one of these faults, or none
+abbrev Stops : Answer → Type 0
+Stops (Ok end) = Unit {0}
+Stops (Err fault) = StopsASession fault
+
+never : (result : Answer) (fault : KeptFault) → Stops result → (StopsASession fault → ⊥) → result ≡ Err fault → ⊥
+never result fault stops not is = not (subst Stops is stops)
+
+pub none_of : (blocks : List (List ℕ)) → length blocks ≤ 0 → blocks ≡ []
+none_of [] le = refl
+none_of (block ∷ blocks) le = absurd (omega (arith, le))
+
+none_longer : (blocks : List (List ℕ)) → blocks ≡ [] → 0 < length blocks → ⊥
+none_longer blocks none some = omega (arith, ap (λ (bs : List (List ℕ)). length bs) none, some)
+
+-- The faults of a file that could not be opened
+
+keeper_read : (fault : KeepFault) (known : Option (List ℕ)) → ReadSo [] known [] (Err (of_keeper fault))
+keeper_read keeps.Disk known = tt
+keeper_read (keeps.Memory memory) known = tt
+
+keeper_is_none : (fault : KeepFault) (other : KeptFault) → (Disk ≡ other → ⊥) → ((memory : AmountsMemory) → Memory memory ≡ other → ⊥) → of_keeper fault ≡ other → ⊥
+keeper_is_none keeps.Disk other no_disk no_memory is = no_disk is
+keeper_is_none (keeps.Memory memory) other no_disk no_memory is = no_memory memory is
+
+keeper_among : (fault : KeepFault) (other : KeptFault) → Among (err_of (of_keeper fault)) (Err other ∷ Err Disk ∷ Err (Memory refused) ∷ [])
+keeper_among keeps.Disk other = inr (inl refl)
+keeper_among (keeps.Memory memory) other = inr (inr (inl refl))
+
+keeper_unopened : (f : KeepFault) → Among (err_of (of_keeper f)) (Err Disk ∷ Err (Memory refused) ∷ [])
+keeper_unopened keeps.Disk = inl refl
+keeper_unopened (keeps.Memory memory) = inr (inl refl)
+
+-- Texts that were served
+
+module _ {K : Type 0} (written : K → Option (List ℕ)) (faults : K → ℕ) (out out' : K) (h : SessionHeader) (kept : List Entry) (head : List (List ℕ)) (front input : List ℕ) (known : Option (List ℕ)) where
+  abbrev Told : Answer → List Round → ℕ → Type 0
+  Told result rounds count = KeptNothing written faults out out' StopsASession result rounds ⊎ KeptBehind written faults out out' h kept head front input known result rounds count
+
+  told_stops : (result : Answer) (rounds : List Round) (count : ℕ) → Told result rounds count → Stops result
+  told_stops (Ok end) rounds count told = tt
+  told_stops (Err fault) rounds count (inl nothing) = let same : fault ≡ nothing.fault = err_to fault nothing.fault nothing.answers in subst StopsASession (sym same) nothing.among
+  told_stops (Err fault) rounds count (inr behind) = behind.answered
+
+  -- a text that ended so, and was served
+  told_ended : (end : TextEnd) (rounds : List Round) (count : ℕ) → Told (Ok end) rounds count → TextEndedBehind front known input end
+  told_ended end rounds count (inl nothing) = absurd (let is : Ok end ≡ Err nothing.fault = nothing.answers in cc)
+  told_ended end rounds count (inr behind) =
+      (subst (λ (e : Option TextEnd). EndedSo written faults out out' h kept head front input known behind.entries rounds count behind.rest e) behind.answered.0 behind.ended_so).at_its_end
+
+  read_served : (result : Answer) (rounds : List Round) (count : ℕ) → HasSession (front ++ input) h → Told result rounds count → ReadSo front known input result
+  read_served (Ok end) rounds count session told = ((h, session), told_ended end rounds count told)
+  read_served (Err (Header line reason)) rounds count session told = absurd (told_stops (Err (Header line reason)) rounds count told)
+  read_served (Err (Early end)) rounds count session told = absurd (told_stops (Err (Early end)) rounds count told)
+  read_served (Err Kept) rounds count session told = tt
+  read_served (Err Empty) rounds count session told = tt
+  read_served (Err (Damaged block)) rounds count session told = tt
+  read_served (Err Full) rounds count session told = tt
+  read_served (Err Disk) rounds count session told = tt
+  read_served (Err Write) rounds count session told = (h, session)
+  read_served (Err (Memory memory)) rounds count session told = tt
+
+early_never : (result : Answer) → Stops result → result ≡ Err (Early ReadFault) → ⊥
+early_never result stops is = subst Stops is stops
+
+either_fault : (result : Answer) {P : Type 0} → Stops result → (result ≡ Ok (ends.Early ReadFault) → P) → (result ≡ Ok (ends.Early ReadFault)) ⊎ (result ≡ Err (Early ReadFault)) → P
+either_fault result stops rose (inl is) = rose is
+either_fault result stops rose (inr is) = absurd (early_never result stops is)
+
+-- Readings that stopped before START
+
+stopped_read : {S : Type 0} (left : S → Option (List ℕ)) (failed : S → ℕ) (before now : S) (stop : Stop) (has : HasStopped left failed before now stop) → ReadSo [] (left now) has.input (Err (of_stop stop))
+stopped_read left failed before now (stops.Header line reason) has = has.stopped
+stopped_read left failed before now (stops.Early end) has = has.stopped
+stopped_read left failed before now (stops.Memory memory) has = tt
+
+stopped_fault : (stop : Stop) → of_stop stop ≡ Early ReadFault → stop ≡ stops.Early ReadFault
+stopped_fault (stops.Header line reason) is = absurd cc
+stopped_fault (stops.Early end) is = let same : end ≡ ReadFault = cc in ap (λ (e : EarlyEnd). stops.Early e) same
+stopped_fault (stops.Memory memory) is = absurd cc
+
+stopped_is_none : (stop : Stop) → of_stop stop ≡ Kept → ⊥
+stopped_is_none (stops.Header line reason) is = cc
+stopped_is_none (stops.Early end) is = cc
+stopped_is_none (stops.Memory memory) is = cc
+
+stopped_among : (stop : Stop) → StopsANewSession (of_stop stop)
+stopped_among (stops.Header line reason) = tt
+stopped_among (stops.Early end) = tt
+stopped_among (stops.Memory memory) = tt
+
+-- What blocks hold
+
+abbrev listed_of : Listed → Result Listed ℕ
+listed_of kept = Ok kept
+
+abbrev damaged_of : ℕ → Result Listed ℕ
+damaged_of block = Err block
+
+listed_to : (a b : Listed) → listed_of a ≡ listed_of b → a ≡ b
+listed_to a b is = cc
+
+block_to : (a b : ℕ) → damaged_of a ≡ damaged_of b → a ≡ b
+block_to a b is = cc
+
+no_blocks : (block : ℕ) (kept : Listed) (bodies : List (List ℕ)) → kept_in bodies ≡ Ok kept → kept_in bodies ≡ Err block → ⊥
+no_blocks block kept bodies ok err = let both : listed_of kept ≡ damaged_of block = sym ok ∙ err in cc
+
+whole_some : (bodies : List (List ℕ)) {h : SessionHeader} {entries : List Entry} → IsWhole bodies h entries → bodies ≡ [] → ⊥
+whole_some bodies {h} {entries} whole none = no_blocks 0 (record { session = h; commands = map sent_by entries }) bodies whole.holds (ap kept_in none)
+
+whole_undamaged : (bodies : List (List ℕ)) {h : SessionHeader} {entries : List Entry} → IsWhole bodies h entries → (block : ℕ) → kept_in bodies ≡ Err block → ⊥
+whole_undamaged bodies {h} {entries} whole block damaged = no_blocks block (record { session = h; commands = map sent_by entries }) bodies whole.holds damaged
+
+whole_few : (bodies : List (List ℕ)) {h : SessionHeader} {entries : List Entry} → IsWhole bodies h entries → (commands : ℕ) → IsFull bodies commands → ⊥
+whole_few bodies {h} {entries} whole commands full =
+    let same : full.kept ≡ record { session = h; commands = map sent_by entries } = listed_to full.kept (record { session = h; commands = map sent_by entries }) (sym full.holds ∙ whole.holds) in
+    omega (arith, full.many, full.told, whole.few, ap (λ (kept : Listed). length kept.commands) same, length-map entries sent_by)
+
+refused_empty : (bodies : List (List ℕ)) (fault : KeptFault) → IsRefusal bodies fault → Exactly (err_of fault) Empty (bodies ≡ [])
+refused_empty bodies Empty refusal = record { only = λ is. refusal; always = λ cause. inl refl }
+refused_empty bodies (Damaged block) refusal = record { only = λ is. absurd cc; always = λ none. absurd (none_longer bodies none refusal.0) }
+refused_empty bodies Full refusal = record { only = λ is. absurd cc; always = λ none. absurd (none_longer bodies none refusal.1) }
+refused_empty bodies (Memory memory) refusal = record { only = λ is. absurd cc; always = λ cause. inr (inr (inl refl)) }
+refused_empty bodies (Header line reason) refusal = absurd refusal
+refused_empty bodies (Early end) refusal = absurd refusal
+refused_empty bodies Kept refusal = absurd refusal
+refused_empty bodies Disk refusal = absurd refusal
+refused_empty bodies Write refusal = absurd refusal
+
+err_block : (bodies : List (List ℕ)) (a b : ℕ) → kept_in bodies ≡ Err a → kept_in bodies ≡ Err b → a ≡ b
+err_block bodies a b first second = block_to a b (sym first ∙ second)
+
+refused_damaged : (bodies : List (List ℕ)) (fault : KeptFault) → IsRefusal bodies fault → (block : ℕ) → Exactly (err_of fault) (Damaged block) ((0 < length bodies) × (kept_in bodies ≡ Err block))
+refused_damaged bodies Empty refusal block = record { only = λ is. absurd cc; always = λ cause. absurd (none_longer bodies refusal cause.0) }
+refused_damaged bodies (Damaged other) refusal block = record {
+  only = λ is. let same : Damaged other ≡ Damaged block = err_to (Damaged other) (Damaged block) is in let equal : other ≡ block = cc in (refusal.0, refusal.1 ∙ ap (λ (b : ℕ). Err b) equal);
+  always = λ cause. inl (ap (λ (b : ℕ). err_of (Damaged b)) (err_block bodies other block refusal.1 cause.1));
+}
+refused_damaged bodies Full refusal block = record { only = λ is. absurd cc; always = λ cause. absurd (no_blocks block refusal.2.kept bodies refusal.2.holds cause.1) }
+refused_damaged bodies (Memory memory) refusal block = record { only = λ is. absurd cc; always = λ cause. inr (inr (inl refl)) }
+refused_damaged bodies (Header line reason) refusal block = absurd refusal
+refused_damaged bodies (Early end) refusal block = absurd refusal
+refused_damaged bodies Kept refusal block = absurd refusal
+refused_damaged bodies Disk refusal block = absurd refusal
+refused_damaged bodies Write refusal block = absurd refusal
+
+refused_full : (bodies : List (List ℕ)) (fault : KeptFault) → IsRefusal bodies fault → Exactly (err_of fault) Full ((commands : ℕ) × (0 < length bodies) × IsFull bodies commands)
+refused_full bodies Empty refusal = record { only = λ is. absurd cc; always = λ cause. absurd (none_longer bodies refusal cause.1) }
+refused_full bodies (Damaged block) refusal = record { only = λ is. absurd cc; always = λ cause. absurd (no_blocks block cause.2.kept bodies cause.2.holds refusal.1) }
+refused_full bodies Full refusal = record { only = λ is. refusal; always = λ cause. inl refl }
+refused_full bodies (Memory memory) refusal = record { only = λ is. absurd cc; always = λ cause. inr (inr (inl refl)) }
+refused_full bodies (Header line reason) refusal = absurd refusal
+refused_full bodies (Early end) refusal = absurd refusal
+refused_full bodies Kept refusal = absurd refusal
+refused_full bodies Disk refusal = absurd refusal
+refused_full bodies Write refusal = absurd refusal
+
+refused_disk : (bodies : List (List ℕ)) (fault : KeptFault) → IsRefusal bodies fault → fault ≡ Disk → ⊥
+refused_disk bodies fault refusal is = subst (IsRefusal bodies) is refusal
+
+refused_write : (bodies : List (List ℕ)) (fault : KeptFault) → IsRefusal bodies fault → fault ≡ Write → ⊥
+refused_write bodies fault refusal is = subst (IsRefusal bodies) is refusal
+
+refused_among : (bodies : List (List ℕ)) (fault : KeptFault) → IsRefusal bodies fault → StopsARestart fault
+refused_among bodies Empty refusal = tt
+refused_among bodies (Damaged block) refusal = tt
+refused_among bodies Full refusal = tt
+refused_among bodies (Memory memory) refusal = tt
+refused_among bodies (Header line reason) refusal = absurd refusal
+refused_among bodies (Early end) refusal = absurd refusal
+refused_among bodies Kept refusal = absurd refusal
+refused_among bodies Disk refusal = absurd refusal
+refused_among bodies Write refusal = absurd refusal
+
+module _ {D K S : Type 0} (bytes : D → Option (List ℕ)) (may_leave : D → List ℕ → Type 0) (moment : D → ℕ) (left_since : D → ℕ → List ℕ → Type 0) (disk_faults : D → ℕ)
+    (written : K → Option (List ℕ)) (faults : K → ℕ) (left : S → Option (List ℕ)) (failed : S → ℕ) where
+  abbrev Kept-did : D → D → K → K → S → S → Answer → Type 0
+  Kept-did d d' k k' s s' result = DidKeep bytes may_leave moment left_since disk_faults written faults left failed d d' k k' s s' result
+
+  abbrev Gone-did : D → D → K → K → S → S → Answer → Type 0
+  Gone-did d d' k k' s s' result = DidRestart bytes may_leave moment left_since disk_faults written faults left failed d d' k k' s s' result
+
+  abbrev Opens : D → D → Type 0
+  Opens d0 d = WhereTold (bytes d0) (λ file. Only file (may_leave d0) → LeavesOnly moment left_since d0 d (λ image. whole_blocks image ≡ whole_blocks file))
+
+  abbrev Causes : D → D → K → K → Answer → Type 0
+  Causes d d' k k' result = HasCauses disk_faults faults d d' k k' result
+
+  -- the file could not be opened
+  pub keep-unopened : (d0 d : D) (k : K) (s : S) (fault : KeepFault) → Opens d0 d → Causes d0 d k k (Err (of_keeper fault)) → Kept-did d0 d k k s s (Err (of_keeper fault))
+  keep-unopened d0 d k s fault opens causes = record {
+    took = record {
+      input = [];
+      took = Took-nil left failed s;
+      within = omega arith;
+      prompt = prompt_here [] [] GoesOn-nil;
+      read = keeper_read fault (left s);
+      read_fault = λ is. absurd (no_read_fault is);
+    };
+    kept = λ file told. record { only = λ is. absurd (keeper_is_none fault Kept (λ e. cc) (λ m e. cc) (err_to (of_keeper fault) Kept is)); always = λ cause. keeper_among fault Kept };
+    unread = λ is. refl;
+    causes = causes;
+    on_disk = record { rounds = []; count = 0; every_moment = opened-short bytes may_leave moment left_since d0 d [] opens; at_return = inl (record { fault = keeper_unopened fault; none = refl; unwritten = refl }) };
+    told = inl (record { none = refl; unwritten = Appended-nil written faults k; fault = of_keeper fault; answers = refl; among = stops_new fault });
+  }
+    where
+      no_read_fault : (err_of (of_keeper fault) ≡ Ok (ends.Early ReadFault)) ⊎ (err_of (of_keeper fault) ≡ Err (Early ReadFault)) → ⊥
+      no_read_fault (inl is) = cc
+      no_read_fault (inr is) = keeper_is_none fault (Early ReadFault) (λ e. cc) (λ m e. cc) (err_to (of_keeper fault) (Early ReadFault) is)
+
+      stops_new : (f : KeepFault) → StopsANewSession (of_keeper f)
+      stops_new keeps.Disk = tt
+      stops_new (keeps.Memory memory) = tt
+
+  -- it has a whole block already
+  pub keep-kept : (d0 d : D) (k : K) (s : S) → Opens d0 d → WhereTold (bytes d0) (λ file. (image : List ℕ) → may_leave d image → whole_blocks image ≡ whole_blocks file) → WhereTold (bytes d0) (λ file. 0 < length (whole_blocks file))
+      → disk_faults d ≡ disk_faults d0 → Kept-did d0 d k k s s (Err Kept)
+  keep-kept d0 d k s opens same some steady = record {
+    took = record { input = []; took = Took-nil left failed s; within = omega arith; prompt = prompt_here [] [] GoesOn-nil; read = tt; read_fault = λ is. absurd (no_read_fault is) };
+    kept = λ file told. record { only = λ is. some file told; always = λ cause. inl refl };
+    unread = λ is. refl;
+    causes = causes-steady disk_faults faults d0 d k k (Err Kept) steady (omega arith) (λ is. cc) (λ is. cc);
+    on_disk = record { rounds = []; count = 0; every_moment = opened-short bytes may_leave moment left_since d0 d [] opens; at_return = inr (opened-kept bytes may_leave moment left_since d0 d opens same []) };
+    told = inl (record { none = refl; unwritten = Appended-nil written faults k; fault = Kept; answers = refl; among = tt });
+  }
+    where
+      no_read_fault : (err_of Kept ≡ Ok (ends.Early ReadFault)) ⊎ (err_of Kept ≡ Err (Early ReadFault)) → ⊥
+      no_read_fault (inl is) = cc
+      no_read_fault (inr is) = cc
+
+  -- the text stopped before START
+  pub keep-stopped : (d0 d : D) (k : K) (s s' : S) (stop : Stop) → Opens d0 d → WhereTold (bytes d0) (λ file. (image : List ℕ) → may_leave d image → whole_blocks image ≡ whole_blocks file) → WhereTold (bytes d0) (λ file. whole_blocks file ≡ [])
+      → disk_faults d ≡ disk_faults d0 → HasStopped left failed s s' stop → Kept-did d0 d k k s s' (Err (of_stop stop))
+  keep-stopped d0 d k s s' stop opens same fresh steady has = record {
+    took = record {
+      input = has.input;
+      took = has.took;
+      within = has.within;
+      prompt = has.prompt;
+      read = stopped_read left failed s s' stop has;
+      read_fault = λ is. has.cause (read_fault is);
+    };
+    kept = λ file told. record {
+      only = λ is. absurd (stopped_is_none stop (err_to (of_stop stop) Kept is));
+      always = λ some. absurd (none_longer (whole_blocks file) (fresh file told) some);
+    };
+    unread = λ is. absurd (stopped_is_none stop (err_to (of_stop stop) Kept is));
+    causes = causes-steady disk_faults faults d0 d k k (Err (of_stop stop)) steady (omega arith) (λ is. no_disk stop (err_to (of_stop stop) Disk is)) (λ is. no_write stop (err_to (of_stop stop) Write is));
+    on_disk = record { rounds = []; count = 0; every_moment = opened-short bytes may_leave moment left_since d0 d [] opens; at_return = inr (opened-kept bytes may_leave moment left_since d0 d opens same []) };
+    told = inl (record { none = refl; unwritten = Appended-nil written faults k; fault = of_stop stop; answers = refl; among = stopped_among stop });
+  }
+    where
+      read_fault : (err_of (of_stop stop) ≡ Ok (ends.Early ReadFault)) ⊎ (err_of (of_stop stop) ≡ Err (Early ReadFault)) → stop ≡ stops.Early ReadFault
+      read_fault (inl is) = absurd cc
+      read_fault (inr is) = stopped_fault stop (err_to (of_stop stop) (Early ReadFault) is)
+
+      no_disk : (t : Stop) → of_stop t ≡ Disk → ⊥
+      no_disk (stops.Header line reason) is = cc
+      no_disk (stops.Early end) is = cc
+      no_disk (stops.Memory memory) is = cc
+
+      no_write : (t : Stop) → of_stop t ≡ Write → ⊥
+      no_write (stops.Header line reason) is = cc
+      no_write (stops.Early end) is = cc
+      no_write (stops.Memory memory) is = cc
+
+  -- the session was served, from the disk on which the file is open
+  module _ (reads : (disk : D) → WhereTold (bytes disk) (λ file. may_leave disk file)) (d0 d d' : D) (k k' : K) (s s' : S) (opens : Opens d0 d) (same : WhereTold (bytes d0) (λ file. (image : List ℕ) → may_leave d image → whole_blocks image ≡ whole_blocks file))
+      (tells : is_some (bytes d) ≡ is_some (bytes d0)) (h : SessionHeader) (result : Answer) where
+    pub keep-served : WhereTold (bytes d0) (λ file. whole_blocks file ≡ []) → Served bytes may_leave moment left_since written faults left failed [] s (new_session h d k) d' k' h s' result → Causes d0 d' k k' result → Kept-did d0 d' k k' s s' result
+    keep-served fresh served causes =
+        let stops : Stops result = told_stops written faults k k' h [] (head_text_of h ∷ []) [] served.took.input (left s') result served.rounds served.count served.told in
+        record {
+          took = record {
+            input = served.took.input;
+            took = served.took.took;
+            within = served.took.within;
+            prompt = served.took.prompt;
+            read = read_served written faults k k' h [] (head_text_of h ∷ []) [] served.took.input (left s') result served.rounds served.count served.session served.told;
+            read_fault = either_fault result stops served.read_fault;
+          };
+          kept = λ file told. record {
+            only = λ is. absurd (never result Kept stops (λ no. no) is);
+            always = λ some. absurd (none_longer (whole_blocks file) (fresh file told) some);
+          };
+          unread = λ is. absurd (never result Kept stops (λ no. no) is);
+          causes = causes;
+          on_disk = record {
+            rounds = served.rounds;
+            count = served.count;
+            every_moment = opened-moments bytes may_leave moment left_since d0 d opens same tells reads d' served.rounds served.moments;
+            at_return = inr (opened-at_return bytes may_leave moment left_since d0 d opens same tells reads d' served.rounds served.count served.at_return);
+          };
+          told = new_told served.told;
+        }
+      where
+        new_told : Told written faults k k' h [] (head_text_of h ∷ []) [] served.took.input (left s') result served.rounds served.count
+            → KeptNothing written faults k k' StopsANewSession result served.rounds ⊎ KeptNew bytes may_leave moment left_since disk_faults written faults left failed d0 d' k k' s s' result served.took.input served.rounds served.count
+        new_told (inl nothing) = inl (record { none = nothing.none; unwritten = nothing.unwritten; fault = nothing.fault; answers = nothing.answers; among = session_stops_new nothing.fault nothing.among })
+        new_told (inr behind) = inr (record { session = h; fresh = fresh; behind = behind })
+
+    pub restart-served : (history : List Entry) → WhereTold (bytes d0) (λ file. IsWhole (whole_blocks file) h history) → Served bytes may_leave moment left_since written faults left failed (head_text_of h) s (gone_on history d k) d' k' h s' result → Causes d0 d' k k' result
+        → Gone-did d0 d' k k' s s' result
+    restart-served history whole served causes =
+        let stops : Stops result = told_stops written faults k k' h history [] (head_text_of h) served.took.input (left s') result served.rounds served.count served.told in
+        record {
+          empty = λ file told. record { only = λ is. absurd (never result Empty stops (λ no. no) is); always = λ none. absurd (whole_some (whole_blocks file) (whole file told) none) };
+          damaged = λ file told block. record { only = λ is. absurd (never result (Damaged block) stops (λ no. no) is); always = λ cause. absurd (whole_undamaged (whole_blocks file) (whole file told) block cause.1) };
+          full = λ file told. record { only = λ is. absurd (never result Full stops (λ no. no) is); always = λ cause. absurd (whole_few (whole_blocks file) (whole file told) cause.0 cause.2) };
+          causes = causes;
+          on_disk = record {
+            rounds = served.rounds;
+            count = served.count;
+            every_moment = opened-moments bytes may_leave moment left_since d0 d opens same tells reads d' served.rounds served.moments;
+            at_return = inr (opened-at_return bytes may_leave moment left_since d0 d opens same tells reads d' served.rounds served.count served.at_return);
+          };
+          told = inr (record {
+            session = h;
+            history = history;
+            whole = whole;
+            took = record {
+              input = served.took.input;
+              took = served.took.took;
+              within = served.took.within;
+              prompt = served.took.prompt;
+              read = read_served written faults k k' h history [] (head_text_of h) served.took.input (left s') result served.rounds served.count served.session served.told;
+              read_fault = either_fault result stops served.read_fault;
+            };
+            told = served.told;
+          });
+        }
+
+  -- out of memory once the history was read back
+  pub restart-short : (d0 d : D) (k : K) (s : S) (memory : AmountsMemory) → Opens d0 d → WhereTold (bytes d0) (λ file. (image : List ℕ) → may_leave d image → whole_blocks image ≡ whole_blocks file) → disk_faults d ≡ disk_faults d0
+      → Gone-did d0 d k k s s (Err (Memory memory))
+  restart-short d0 d k s memory opens same steady = record {
+    empty = λ file told. record { only = λ is. absurd cc; always = λ cause. inr (inr (inl refl)) };
+    damaged = λ file told block. record { only = λ is. absurd cc; always = λ cause. inr (inr (inl refl)) };
+    full = λ file told. record { only = λ is. absurd cc; always = λ cause. inr (inr (inl refl)) };
+    causes = causes-steady disk_faults faults d0 d k k (Err (Memory memory)) steady (omega arith) (λ is. cc) (λ is. cc);
+    on_disk = record { rounds = []; count = 0; every_moment = opened-short bytes may_leave moment left_since d0 d [] opens; at_return = inr (opened-kept bytes may_leave moment left_since d0 d opens same []) };
+    told = inl (record { none = refl; unwritten = Appended-nil written faults k; fault = Memory memory; answers = refl; among = tt }, refl);
+  }
+
+  -- the blocks are none to go on from
+  pub restart-refused : (d0 d : D) (k : K) (s : S) (fault : KeptFault) → Opens d0 d → WhereTold (bytes d0) (λ file. (image : List ℕ) → may_leave d image → whole_blocks image ≡ whole_blocks file) → disk_faults d ≡ disk_faults d0
+      → (bodies : List (List ℕ)) → WhereTold (bytes d0) (λ file. bodies ≡ whole_blocks file) → IsRefusal bodies fault → Gone-did d0 d k k s s (Err fault)
+  restart-refused d0 d k s fault opens same steady bodies are refusal = record {
+    empty = λ file told. subst (λ (bs : List (List ℕ)). Exactly (err_of fault) Empty (bs ≡ [])) (are file told) (refused_empty bodies fault refusal);
+    damaged = λ file told block. subst (λ (bs : List (List ℕ)). Exactly (err_of fault) (Damaged block) ((0 < length bs) × (kept_in bs ≡ Err block))) (are file told) (refused_damaged bodies fault refusal block);
+    full = λ file told. subst (λ (bs : List (List ℕ)). Exactly (err_of fault) Full ((commands : ℕ) × (0 < length bs) × IsFull bs commands)) (are file told) (refused_full bodies fault refusal);
+    causes = causes-steady disk_faults faults d0 d k k (Err fault) steady (omega arith) (λ is. refused_disk bodies fault refusal (err_to fault Disk is)) (λ is. refused_write bodies fault refusal (err_to fault Write is));
+    on_disk = record { rounds = []; count = 0; every_moment = opened-short bytes may_leave moment left_since d0 d [] opens; at_return = inr (opened-kept bytes may_leave moment left_since d0 d opens same []) };
+    told = inl (record { none = refl; unwritten = Appended-nil written faults k; fault = fault; answers = refl; among = refused_among bodies fault refusal }, refl);
+  }
+
+  -- the file could not be opened
+  pub restart-unopened : (d0 d : D) (k : K) (s : S) (fault : KeepFault) → Opens d0 d → Causes d0 d k k (Err (of_keeper fault)) → Gone-did d0 d k k s s (Err (of_keeper fault))
+  restart-unopened d0 d k s fault opens causes = record {
+    empty = λ file told. record { only = λ is. absurd (keeper_is_none fault Empty (λ e. cc) (λ m e. cc) (err_to (of_keeper fault) Empty is)); always = λ cause. keeper_among fault Empty };
+    damaged = λ file told block. record { only = λ is. absurd (keeper_is_none fault (Damaged block) (λ e. cc) (λ m e. cc) (err_to (of_keeper fault) (Damaged block) is)); always = λ cause. keeper_among fault (Damaged block) };
+    full = λ file told. record { only = λ is. absurd (keeper_is_none fault Full (λ e. cc) (λ m e. cc) (err_to (of_keeper fault) Full is)); always = λ cause. keeper_among fault Full };
+    causes = causes;
+    on_disk = record { rounds = []; count = 0; every_moment = opened-short bytes may_leave moment left_since d0 d [] opens; at_return = inl (record { fault = keeper_unopened fault; none = refl; unwritten = refl }) };
+    told = inl (record { none = refl; unwritten = Appended-nil written faults k; fault = of_keeper fault; answers = refl; among = keeper_stops fault }, refl);
+  }
+    where
+      keeper_stops : (f : KeepFault) → StopsARestart (of_keeper f)
+      keeper_stops keeps.Disk = tt
+      keeper_stops (keeps.Memory memory) = tt

@@ -1,0 +1,4 @@
+pub mod Serving
+mod Opening
+mod Faults
+mod Calls

@@ -1,0 +1,7 @@
+use Rattle.session_script.specs.Stage.{session_at}
+use Rattle.kept_call.proofs.Serving.{header_or_none}
+use Rattle.kept_call.proofs.keeping.keep_text.Given as goal
+
+-- the host is of this blank, and trades the session of the text
+abbrev pub ghosts-keep_at : goal.ghosts-keep_at
+ghosts-keep_at g a = record { session = header_or_none (session_at a.reading.now.intake.stage); table = a.blank.table }
