@@ -22,6 +22,6 @@ pub use journal::JournalText;
 pub use laws::{desks_are_told, one_output, output_from_books};
 pub use lines::write_count;
 pub use notice_writer::NoticeWriter;
-pub use notices::FillPart;
+pub use notices::{FillPart, push_book};
 pub use output::{Ending, OutFault, write_from_books};
 pub use telling::Telling;

@@ -127,8 +127,8 @@ pub(crate) fn booked_pair(command: &Command) -> PairId
     }
 }
 
-/// Appends a pair and the levels of a local book of it.
-pub(crate) fn push_book(
+/// Appends the fields of a local book, each behind a space: its pair, and the levels of both sides. At `Memory` the line is emptied.
+pub fn push_book(
     session: &Session,
     pair: PairId,
     bids: &[Level],

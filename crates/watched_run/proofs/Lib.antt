@@ -1,0 +1,4 @@
+pub mod Looks
+pub mod Showing
+pub mod Rounds
+pub mod Written
