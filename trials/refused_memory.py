@@ -5,7 +5,9 @@ A shim of the C library's allocator, made by `cc` in a new folder and put before
 run with nothing. For N from 1 until a run makes fewer, the program has to end with the answer of an undisturbed run, or with
 status 6, `out of memory` on standard error (or a prefix of it) and a prefix of an output. Of `run` on threads the output may be
 that of any history: `check` has to say YES. Each row of the table is a session and a word: how many allocations, and how many
-of the refusals were told as out of memory. Without sessions it takes two of examples/ and two of its own, and a load.
+of the refusals were told as out of memory. Without sessions it takes two of examples/ and two of its own, a load, and the two halves of a
+kept day: `keep` in a new folder, and `restart` on what a whole run of the first half kept. After each of these `restart` with END alone has to
+find a whole journal that has all that was told.
 
 The last row is the program of host_trials, which plays a day at both desks and makes a call again that is refused: opening, each kind
 of command, and the entries that a pass asks for. It writes the same whichever allocation is refused, or ends with status 6.
@@ -17,6 +19,10 @@ import sys
 import tempfile
 
 HERE = os.path.dirname(os.path.abspath(__file__))
+sys.path.insert(0, os.path.join(HERE, "..", "tools"))
+sys.dont_write_bytecode = True
+from reading.journal import read_journal  # noqa: E402
+
 HEAD = b"FXBOOK 1\nBANK ALFA\nBANK BETA\nBANK GAMA\nPAIR EUR/USD 5 1000000 100\n"
 OWN = [
     (
@@ -80,20 +86,42 @@ int posix_memalign(void **into, size_t align, size_t size) {
 
 
 class Trial:
-    """A session under a word of the program, run as often as it allocates."""
+    """A session under a word of the program, run as often as it allocates, in a folder whose journal has these bytes at first."""
 
-    def __init__(self, program, shim, folder, text, words):
-        self.program, self.shim, self.folder, self.text, self.words = program, shim, folder, text, words
+    def __init__(self, program, shim, folder, text, words, journal=b""):
+        self.program, self.shim, self.folder, self.text, self.words = os.path.abspath(program), shim, folder, text, words
+        self.journal, self.first, self.keeps = os.path.join(folder, "fx.journal"), journal, words in (["keep"], ["restart"])
         self.plain = self.ran(0)
+        self.kept = self.read_journal()
 
     def ran(self, refused):
         made = os.path.join(self.folder, "made")
         with open(made, "wb") as file:
             file.write(bytes(8))
+        if self.keeps:
+            with open(self.journal, "wb") as file:
+                file.write(self.first)
         env = {"LD_PRELOAD": self.shim, "REFUSE": str(refused), "REFUSE_COUNT": made}
-        done = subprocess.run([self.program, *self.words], input=self.text, env=env, capture_output=True, timeout=120)
+        done = subprocess.run([self.program, *self.words], input=self.text, env=env, capture_output=True, timeout=120, cwd=self.folder)
         with open(made, "rb") as file:
             return done.returncode, done.stdout, done.stderr, int.from_bytes(file.read(), "little")
+
+    def read_journal(self):
+        if not self.keeps:
+            return b""
+        with open(self.journal, "rb") as file:
+            return file.read()
+
+    def is_kept(self, out):
+        """Whether the journal is a beginning of the undisturbed run's, block by block, `restart` finds it whole, and it has all that was told."""
+        file = self.read_journal()
+        blocks, every = read_journal(file), read_journal(self.kept)
+        told = out.partition(b"BOOKS\n")[0]
+        whole = self.plain[1].partition(b"BOOKS\n")[0]
+        is_beginning = blocks.places == every.places[: len(blocks.places)] and list(blocks.bodies()) == list(every.bodies())[: len(blocks.places)]
+        has_told = not told or len(blocks.places) == len(every.places) and whole.startswith(told)
+        again = subprocess.run([self.program, "restart"], input=b"END\n", capture_output=True, cwd=self.folder)
+        return is_beginning and has_told and again.returncode == (0 if blocks.places else 13)
 
     def is_output(self, text):
         if self.words[:1] != ["run"]:
@@ -114,6 +142,8 @@ class Trial:
             fault = None if b"out of memory\n".startswith(err) and self.is_prefix(out) else "out of memory told wrongly"
         else:
             fault = f"status {status}"
+        if not fault and self.keeps and not self.is_kept(out):
+            fault = "the journal is not what was told"
         return fault, status == 6, made
 
     def row(self):
@@ -162,6 +192,10 @@ def main():
             for command, given in rows:
                 bad += show(name, Trial(told.program, shim, folder, given, command))
         if not told.sessions:
+            halves = [read(os.path.join(HERE, "..", "examples", f"kept-{half}.fx"))[1] for half in ("first", "second")]
+            kept = Trial(told.program, shim, folder, halves[0], ["keep"])
+            bad += show("a kept day, first half", kept)
+            bad += show("a kept day, second half", Trial(told.program, shim, folder, halves[1], ["restart"], kept.kept))
             bad += show("a load", Trial(told.program, shim, folder, b"", ["load", "1", "2", "1", "2", "--workers", "1"]))
         bad += show("both desks", Trial(told.desks, shim, folder, b"", []))
     sys.exit(bad > 0)

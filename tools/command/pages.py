@@ -150,6 +150,7 @@ If a clone has no built program, or a source is newer than it,
 .B ./fx
 says on standard error:
 {roff(UNPROVED)}.
+For {roff(" and ".join(word.word for word in WORDS if word.journal))} it starts the built program alone.
 .SH COMMANDS
 {words}
 .SH OPTIONS

@@ -14,8 +14,8 @@ class Number(NamedTuple):
 
 class Word(NamedTuple):
     """A word of ./fx. `reads` is the text that it takes from standard input, `forms` are the words of which one stands behind it,
-    `threaded` says that `--workers N` may stand behind the numbers, `folder` that a folder may, `journal` that it has the journal file of its folder; `own` marks the words that ./fx
-    itself has, and the program has not."""
+    `threaded` says that `--workers N` may stand behind the numbers, `folder` that a folder may, `journal` that it has the journal file of the current
+    folder, so that ./fx starts the built program alone for it; `own` marks the words that ./fx itself has, and the program has not."""
 
     word: str
     summary: str
@@ -75,15 +75,15 @@ WORDS = (
     ),
     Word(
         "keep",
-        "runs a session and keeps it in the file fx.journal of this folder, round by round, so that a stop loses nothing that was printed",
-        "It prints the notices of each round once that is on the disk. It refuses a file that holds a session already.",
+        "runs a session on threads and keeps it in the file fx.journal; what a bank is told is on the disk by then",
+        "The file is in the current folder. Each round's notices are printed once it is kept, each behind its bank's name, and at the end the output from BOOKS on. It is refused where the file has a session already. docs/JOURNAL.md says what to do after each exit status.",
         reads="SESSION",
         journal=True,
     ),
     Word(
         "restart",
-        "goes on with the session that fx.journal holds",
-        "It reads command lines alone, up to END. With END alone it prints the books and the report of what is kept.",
+        "goes on with the session that fx.journal keeps, with command lines up to END",
+        "The numbers of commands and notices go on. With END alone it changes nothing, and prints the output from BOOKS on.",
         reads="LINES",
         journal=True,
     ),
@@ -109,6 +109,7 @@ BOUNDS = (
     ("a text line", "at most 256 bytes, not counting its end"),
     ("a session", "at most 2^26 bytes (64 MiB)"),
     ("an output that is read", "below 2^28 bytes (256 MiB)"),
+    ("a kept session", "restart goes on from at most 2^24 commands"),
     ("workers", f"{WORKERS.low} to {WORKERS.high}, and {DEFAULT_WORKERS} if none is given"),
     ("commands of load", "1 to 20,000"),
 )
@@ -125,7 +126,7 @@ STATUSES = {
     7: "the input is too long",
     8: "check or payments says NO",
     10: "restart: a block of the journal file is damaged; its number is printed",
-    11: "keep or restart: the disk failed",
+    11: "keep or restart: the disk failed, or another process has the journal file",
     12: "keep: the journal file holds a session already",
     13: "restart: the journal file holds no session",
     14: "restart: the journal file holds more than 2^24 commands",
@@ -134,7 +135,7 @@ REFUSED, NO_PACKAGE, GAVE_UP, STOPPED = 70, 73, 75, 130
 OWN_STATUSES = {
     REFUSED: "the toolchain refused the sources, or there is no toolchain",
     NO_PACKAGE: "no package was made",
-    GAVE_UP: "a run of the sources was given up; nothing was written",
+    GAVE_UP: "a run of the sources was given up, or keep or restart was called without the built program; nothing was written",
     STOPPED: "it was stopped by Ctrl-C",
 }
 
@@ -144,6 +145,9 @@ EXAMPLES = (
     ("./fx payments net < morning.out", "what the banks pay for that morning, netted over all of them"),
     ("./fx run --workers 8 < examples/morning.fx | ./fx check", "the same morning on eight threads, and checked"),
     ("./fx load 7 8 4 5000", "5,000 commands of 8 banks in 4 pairs, made from the number 7"),
+    ("mkdir day; cd day; ../fx keep < ../examples/kept-first.fx", "the first half of a day, which is kept in day/fx.journal"),
+    ("../fx restart < ../examples/kept-second.fx", "its second half, in the same folder"),
+    ("../tools/feed < lines | ../fx restart >> told.txt", "and commands that come one by one, each answered after a pause"),
     ("tools/explain day.fx", "which lines of a session the program will refuse, and why"),
 )
 

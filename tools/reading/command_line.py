@@ -2,6 +2,7 @@
 import argparse
 import hashlib
 import os
+import re
 import signal
 import sys
 from collections.abc import Callable, Iterator
@@ -83,6 +84,8 @@ def no_output(name: str, start: bytes, bad: BadLine) -> str:
     """Why a text with this beginning is not an output, in words."""
     if is_session(start):
         return f"{name} is a session, not an output: {bad}"
+    if re.match(rb"BOOKS\n|[A-Z][A-Z0-9]{2,7} [0-9]+ (?:REPLY|FILL) ", start):
+        return f"{name} is what keep or restart printed, not a whole output; tools/kept fx.journal | ./fx serial makes one"
     if start.partition(b"\n")[0].endswith(b"\r"):
         return f"{name} is not an output: its lines end with CR LF, and those of an output with LF alone"
     return f"{name} is not an output: {bad}"

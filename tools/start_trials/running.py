@@ -33,6 +33,16 @@ def wait_until(holds: Callable[[], object], what: str) -> None:
 
 
 class Running(CopyTrial):
+    def test_a_journal_wants_the_built_program(self) -> None:
+        """`keep` and `restart` are not run from the sources; the built program runs them in the current folder."""
+        self.put_toolchain("exit 0\n")
+        for word in ("keep", "restart"):
+            status, out, err = self.fx(word)
+            self.assertEqual((status, out, err.count("\n"), f"{word} is left to the proved program" in err), (75, b"", 1, True), err)
+        self.put_program(b"#!/bin/sh\npwd\n")
+        run = subprocess.run([sys.executable, f"{self.copy}/fx", "keep"], stdin=subprocess.DEVNULL, capture_output=True, cwd=self.folder)
+        self.assertEqual((run.returncode, run.stdout.decode()), (0, f"{os.path.realpath(self.folder)}\n"))
+
     def started(self, *words: str) -> subprocess.Popen:
         """Starts ./fx over a toolchain that does nothing for an hour."""
         self.put_toolchain(WAITS)

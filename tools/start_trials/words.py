@@ -28,6 +28,8 @@ WRONG = {
     ("payments", "gross"): "what follows payments is bilateral or net, not 'gross'",
     ("payments", "net", "day.out"): "comes from standard input, as in ./fx payments net < FILE",
     ("build", "now"): "unexpected argument 'now'",
+    ("keep", "day.fx"): "comes from standard input, as in ./fx keep < FILE",
+    ("restart", "--workers", "2"): "unexpected argument '--workers'",
     ("package", "here", "there"): "unexpected argument 'there'",
     ("run\n", "\udcff"): "unknown command",
 }
@@ -45,6 +47,7 @@ def word_lists() -> list[list[str]]:
     """Words in all forms of the program, right and wrong, and none that makes it work for long."""
     lists = [[], ["serial"], ["check"], ["run"], ["serial", ""], ["check", "x"], ["load"], ["RUN"], [" run"], ["run", "--workers=2"], ["run", "2"], ["run", "--"]]
     lists += [["payments", *rest] for rest in ([], ["net"], ["bilateral"], ["gross"], ["Net"], ["net", ""], ["net", "bilateral"], ["--workers", "2"])]
+    lists += [[word, *rest] for word in ("keep", "restart") for rest in ([], [""], ["now"], ["--workers", "2"], ["keep"])]
     lists += [["run", "--workers", number] for number in ("1", "64", "0", "65", "01", "+1", "", " 1", "4294967297", "1_0", "\u0661")]
     lists += [["run", "--workers", "2", "--workers", "2"], ["--workers", "2", "run"], ["load", "--workers", "2", *RIGHT_LOAD], ["load", *RIGHT_LOAD, "2"]]
     lists += [["load", *RIGHT_LOAD, "--workers", number] for number in ("1", "64", "65")] + [["load", *RIGHT_LOAD[:count]] for count in range(1, 5)]
@@ -96,7 +99,9 @@ class Help(CopyTrial):
         usage = subprocess.run([PROGRAM], stdin=subprocess.DEVNULL, capture_output=True).stderr
         if b"load SEED" not in usage:
             self.skipTest("the program at hand is another one, that has not the word load")
+        if b"restart" not in usage:
+            self.skipTest("the program at hand is another one, that has not the word restart")
         self.assertEqual(WORKERS.name, "N")
         for words in word_lists():
-            run = subprocess.run([PROGRAM, *words], stdin=subprocess.DEVNULL, capture_output=True, timeout=PATIENCE)
+            run = subprocess.run([PROGRAM, *words], stdin=subprocess.DEVNULL, capture_output=True, timeout=PATIENCE, cwd=self.folder)
             self.assertEqual(run.returncode == 1, bool(fault_of(words)), (words, run.stderr))

@@ -30,7 +30,7 @@ class Page(Trial):
     def test_statuses(self) -> None:
         """Each exit status that a tool's page of help tells stands in the page's table."""
         page = read(f"{HERE}/docs/TOOLS.md").decode()
-        for name in ("explain", "covers", "export", "compare", "feed", "fix"):
+        for name in ("explain", "covers", "export", "compare", "feed", "fix", "kept"):
             told = re.findall(r"^ +(\d+)  ?\S", ran(name, "--help")[1].partition("Exit statuses:\n")[2], re.M)
             row = re.search(rf"^\| `tools/{name}` \|(.*)$", page, re.M)
             self.assertTrue(told and row, name)
