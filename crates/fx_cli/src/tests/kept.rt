@@ -4,10 +4,11 @@ use crate::fx_top;
 use crate::status::Status;
 use crate::tests::{owned, samples};
 use fx_amounts::Memory;
-use fx_disk::{Disk, SteadyDisk};
+use fx_disk::{Disk, MemoryDisk, SteadyDisk};
 use fx_edges::{MemorySink, SteadySink, SteadySource};
 use fx_rules::OpenGate;
 use std::alloc::Global;
+use std::process::Abort;
 use std::sync::Wait;
 use std::test::Fail;
 use std::thread::Threads;
@@ -153,5 +154,65 @@ fn a_damaged_file_is_refused(rt: HostRuntime) -> Result<(), Fail> {
         assert!(rt; ended.out.is_empty() == told.is_empty(), "{at}");
         assert!(rt; ended.err.as_slice() == line, "{at}");
     }
+    Ok(())
+}
+
+/// Keeps the sell over a disk that fails at one call and an output that fails at another (0 for none), and then goes on with what
+/// the disk reads. Answers the status of the first call.
+fn fail_and_go_on<R: Abort + AllocGlobal + Threads + Wait + Sync>(
+    rt: &R,
+    disk_call: u64,
+    out_call: u64,
+) -> Result<u8, Fail> {
+    let alloc = rt.alloc();
+    let mut disk = MemoryDisk::new(Vec::new(alloc), [disk_call].to_vec(alloc)?);
+    let ended = call(
+        rt,
+        "keep",
+        &[HEADER, SELL, b"END\n"],
+        &[out_call],
+        &mut disk,
+    )?;
+    let left = disk.bytes().to_vec(alloc)?;
+    // A byte is told of the sell only where its block is kept.
+    let whole = file_of(alloc, &[HEADER, SELL])?;
+    assert!(rt;
+        ended.out.is_empty() || left == whole,
+        "{disk_call} {out_call}"
+    );
+    let mut after = SteadyDisk::new(left);
+    let gone_on = call(rt, "restart", &[b"END\n"], &[], &mut after)?;
+    let code = gone_on.status.code();
+    assert!(rt;
+        code == 0 || code == 13 && ended.out.is_empty(),
+        "{disk_call} {out_call}"
+    );
+    Ok(ended.status.code())
+}
+
+/// How many calls of the disk, or else of the output, a kept sell has: the call ends with this status where one of them fails, and with 0 where
+/// none does.
+fn calls_that_fail<R: Abort + AllocGlobal + Threads + Wait + Sync>(
+    rt: &R,
+    of_disk: bool,
+    code: u8,
+) -> Result<u64, Fail> {
+    let mut failed = 0;
+    for at in 1..100 {
+        let (disk_call, out_call) = if of_disk { (at, 0) } else { (0, at) };
+        let ended = fail_and_go_on(rt, disk_call, out_call)?;
+        if ended != code {
+            assert!(rt; ended == 0, "{at}");
+            break;
+        }
+        failed = at;
+    }
+    Ok(failed)
+}
+
+#[test]
+fn a_disk_or_an_output_fails_at_each_call(rt: HostRuntime) -> Result<(), Fail> {
+    assert!(rt; calls_that_fail(&rt, true, 11)? > 10);
+    assert!(rt; calls_that_fail(&rt, false, 5)? == 2);
     Ok(())
 }
