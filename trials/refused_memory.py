@@ -3,8 +3,8 @@
 
 A shim of the C library's allocator, made by `cc` in a new folder and put before it by LD_PRELOAD, answers the Nth growth of a
 run with nothing. For N from 1 until a run makes fewer, the program has to end with the answer of an undisturbed run, or with
-status 6, `out of memory` on standard error (or a prefix of it) and a prefix of an output. Of `run` on threads the output may be
-that of any history: `check` has to say YES. Each row of the table is a session and a word: how many allocations, and how many
+status 6, `out of memory` on standard error (or a prefix of it) and a prefix of an output. Of `run` and `watch`, on threads, the output may be
+that of any history: `check` has to say YES, and behind an output of `watch` there have to be as many lines as it says. Each row of the table is a session and a word: how many allocations, and how many
 of the refusals were told as out of memory. Without sessions it takes two of examples/ and two of its own, a load, and the two halves of a
 kept day: `keep` in a new folder, and `restart` on what a whole run of the first half kept. After each of these `restart` with END alone has to
 find a whole journal that has all that was told.
@@ -124,13 +124,17 @@ class Trial:
         return is_beginning and has_told and again.returncode == (0 if blocks.places else 13)
 
     def is_output(self, text):
-        if self.words[:1] != ["run"]:
+        if self.words[:1] not in (["run"], ["watch"]):
             return text == self.plain[1]
+        if self.words == ["watch"]:
+            text, mark, seen = text.partition(b"WATCHED ")
+            if not mark or seen.count(b"\n") != int(seen.split(b"\n")[0]) + 1:
+                return False
         return subprocess.run([self.program, "check"], input=text, capture_output=True).stdout == b"YES\n"
 
     def is_prefix(self, text):
         # the order of the history is free on threads: the part that is the same in every order has to agree
-        if self.words[:1] == ["run"]:
+        if self.words[:1] in (["run"], ["watch"]):
             return text[:64] == self.plain[1][: len(text[:64])]
         return self.plain[1].startswith(text)
 
@@ -187,7 +191,7 @@ def main():
         subprocess.run(["cc", "-O1", "-shared", "-fPIC", source, "-o", shim], check=True)
         for name, text in sessions:
             output = subprocess.run([told.program, "serial"], input=text, capture_output=True).stdout
-            rows = [(["serial"], text), (["run", "--workers", "1"], text), (["run", "--workers", "2"], text)]
+            rows = [(["serial"], text), (["run", "--workers", "1"], text), (["run", "--workers", "2"], text), (["watch"], text)]
             rows += [(asked, output) for asked in (["check"], ["payments", "bilateral"], ["payments", "net"])]
             for command, given in rows:
                 bad += show(name, Trial(told.program, shim, folder, given, command))

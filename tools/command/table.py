@@ -74,6 +74,12 @@ WORDS = (
         forms=("bilateral", "net"),
     ),
     Word(
+        "watch",
+        "runs a session as run does, and prints behind its output what a reader saw of the market meanwhile",
+        "The reader looks at local books after each round, and at all of them at the end.",
+        reads="SESSION",
+    ),
+    Word(
         "keep",
         "runs a session on threads and keeps it in the file fx.journal; what a bank is told is on the disk by then",
         "The file is in the current folder. Each round's notices are printed once it is kept, each behind its bank's name, and at the end the output from BOOKS on. It is refused where the file has a session already. docs/JOURNAL.md says what to do after each exit status.",

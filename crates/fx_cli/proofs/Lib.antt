@@ -1,5 +1,6 @@
 pub mod HeadlineLaws
 pub mod Served
+mod Watched
 pub mod TopCallLaws
 pub mod CheckLaws
 pub mod Answering

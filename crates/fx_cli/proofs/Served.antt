@@ -98,9 +98,23 @@ module _ (IsTextOf : KindOfText) {S K : Type 0} (left : S → Option (List ℕ))
   written_so (Err outs.Write) before now end input known is_output outputs wrote = inr (inl (refl, (wrote.text, outputs wrote.text wrote.is_text, wrote.fault), wrote.cause refl))
   written_so (Err (outs.Memory memory)) before now end input known is_output outputs wrote = inr (inr (refl, inr (wrote.text, outputs wrote.text wrote.is_text, wrote.fault)))
 
+  -- a text was served to its end, and written, whole or in part
+  pub ran-text : {T : Type 0} (result : Result T OutFault) (a b : S) (out out' : K) (reading : Reading) (h : Header) (sent : List Sent) (end : TextEnd) (status : Status) (is_output : List ℕ → Type 0) (has : HasRead left failed a b reading h sent) → reading.end ≡ Some end
+      → ((text : List ℕ) → is_output text → IsTextOf end has.input (left b) text) → WroteOutput written faults out out' is_output result → status ≡ written_status end result → Ran IsTextOf left failed written faults a b out out' status
+  ran-text result a b out out' reading h sent end status is_output has ended outputs wrote is = record {
+    input = has.input;
+    took = has.took;
+    within = has.within;
+    prompt = has.prompt;
+    read = Ok end;
+    came = ((h, has.says.session), subst (ProgressedBehind [] (left b) has.input) ended has.ended);
+    cause = λ fault. has.cause (ended ∙ read_status end fault);
+    followed = subst (RanText IsTextOf written faults out out' end has.input (left b)) (sym is) (written_so result out out' end has.input (left b) is_output outputs wrote);
+  }
+
 module _ (IsRight : Header → List Sent → List Entry → Type 0) {S K : Type 0} (left : S → Option (List ℕ)) (failed : S → ℕ) (written : K → Option (List ℕ)) (faults : K → ℕ) where
   -- the text was served to its end, and its output written
-  output_of : (a b : S) (reading : Reading) (h : Header) (sent : List Sent) (end : TextEnd) (history : List Entry) (text : List ℕ) (has : HasRead left failed a b reading h sent) → reading.end ≡ Some end
+  unfoldable pub output_of : (a b : S) (reading : Reading) (h : Header) (sent : List Sent) (end : TextEnd) (history : List Entry) (text : List ℕ) (has : HasRead left failed a b reading h sent) → reading.end ≡ Some end
       → IsRight h sent history → IsLegal h history → length history ≤ 2 ^ 26 → IsOutput h history (strays_at reading.intake.stage) (ending_of end) text → IsOutputOf IsRight end has.input (left b) text
   output_of a b reading h sent end history text has ended right legal few output = record {
     at_its_end = subst (ProgressedBehind [] (left b) has.input) ended has.ended;
@@ -115,18 +129,9 @@ module _ (IsRight : Header → List Sent → List Entry → Type 0) {S K : Type 
   pub ran-written : {T : Type 0} (result : Result T OutFault) (a b : S) (out out' : K) (reading : Reading) (h : Header) (sent : List Sent) (end : TextEnd) (history : List Entry) (strays : ℕ) (status : Status) → HasRead left failed a b reading h sent → reading.end ≡ Some end
       → strays ≡ strays_at reading.intake.stage → IsRight h sent history → IsLegal h history → length history ≤ 2 ^ 26 → WroteOutput written faults out out' (IsOutput h history strays (ending_of end)) result
       → status ≡ written_status end result → Ran (IsOutputOf IsRight) left failed written faults a b out out' status
-  ran-written result a b out out' reading h sent end history strays status has ended strays_is right legal few wrote is = record {
-    input = has.input;
-    took = has.took;
-    within = has.within;
-    prompt = has.prompt;
-    read = Ok end;
-    came = ((h, has.says.session), subst (ProgressedBehind [] (left b) has.input) ended has.ended);
-    cause = λ fault. has.cause (ended ∙ read_status end fault);
-    followed = subst (RanText (IsOutputOf IsRight) written faults out out' end has.input (left b)) (sym is)
-        (written_so (IsOutputOf IsRight) left failed written faults result out out' end has.input (left b) (IsOutput h history strays (ending_of end))
-        (λ text output. output_of a b reading h sent end history text has ended right legal few (subst (λ (n : ℕ). IsOutput h history n (ending_of end) text) strays_is output)) wrote);
-  }
+  ran-written result a b out out' reading h sent end history strays status has ended strays_is right legal few wrote is =
+      ran-text (IsOutputOf IsRight) left failed written faults result a b out out' reading h sent end status (IsOutput h history strays (ending_of end)) has ended
+      (λ text output. output_of a b reading h sent end history text has ended right legal few (subst (λ (n : ℕ). IsOutput h history n (ending_of end) text) strays_is output)) wrote is
 
 -- out of memory
 pub for_memory : {T : Type 0} (result : Result T AmountsMemory) (why : AmountsMemory → Type 0) (P : Result T AmountsMemory → Type 0) → IsErrAnd result why → ((memory : AmountsMemory) → P (Err memory)) → P result

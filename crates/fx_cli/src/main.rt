@@ -11,6 +11,7 @@ mod run;
 mod serial;
 mod status;
 mod top;
+mod watch;
 
 use fx_disk::FileDisk;
 use fx_edges::{StdSink, StdSource};

@@ -22,9 +22,10 @@ mod refused;
 mod rounds;
 mod samples;
 mod threads;
+mod watching;
 
 const USAGE: &[u8] =
-    b"usage: fx_cli run [--workers N] | serial | check | load SEED BANKS PAIRS COMMANDS [--workers N] | payments bilateral | payments net | keep | restart\n";
+    b"usage: fx_cli run [--workers N] | serial | check | load SEED BANKS PAIRS COMMANDS [--workers N] | payments bilateral | payments net | watch | keep | restart\n";
 
 // The calls of an end that fail, counted from 1.
 #[derive(Clone, Copy, Debug)]

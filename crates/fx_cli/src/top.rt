@@ -10,6 +10,7 @@ ghost use Rattle.fx_cli.specs.Payments.{IsPaymentsOf};
 ghost use Rattle.fx_cli.specs.KeptCall.{AnsweredTop};
 ghost use Rattle.fx_cli.specs.Run.{Ran};
 ghost use Rattle.fx_cli.specs.TopCall.{IsOutputOf, ToldErr};
+ghost use Rattle.fx_cli.specs.Watch.{IsWatchedOf};
 ghost use Rattle.fx_cli.specs.inside.TopCall.{Refused};
 
 use crate::check::check;
@@ -19,6 +20,7 @@ use crate::payments::payments;
 use crate::run::run;
 use crate::serial::serial;
 use crate::status::Status;
+use crate::watch::watch;
 use fx_disk::Disk;
 use fx_edges::{Sink, SinkFault, Source};
 use fx_rules::Gate;
@@ -39,11 +41,12 @@ use std::thread::Threads;
 ///   writes a summary. It reads nothing.
 /// - `payments bilateral`, `payments net`: reads an output as `check` does, and writes what the banks pay by its history; where
 ///   the bytes are no output, it writes what `check` does.
+/// - `watch`: runs a session as `run` does, and writes behind its output what a reader saw of it meanwhile.
 ///
 /// Refusals come in the order `Usage`; `Header`; the first of `ReadFault`, `Cut` and `TooMuch` that the reading meets. Where
-/// START was read by then, `run` and `serial` write the output of the whole lines so far, with a last line that names the
+/// START was read by then, `run`, `serial` and `watch` write the output of the whole lines so far, with a last line that names the
 /// refusal; else nothing. `WriteFault` takes the place of `Done`, `Differs` and of these three where it comes while the
-/// output is written, and `Memory` that of any. With `run` and `load` it may wait;
+/// output is written, and `Memory` that of any. With `run`, `load` and `watch` it may wait;
 /// `serial`, `check` and `payments` are handed nothing by which they could.
 pub fn fx_main<R: AllocGlobal + Threads + Wait + Sync, S: Source, K: Sink, E: Sink, G: Gate + Sync>(
     rt: &R,
@@ -109,6 +112,7 @@ fn follow<R: AllocGlobal + Threads + Wait + Sync, S: Source, K: Sink, G: Gate + 
     ensures check { asked words.now ≡ Some Task.Check → Checked SaysYes S.left S.faults K.written K.faults source.old source.new out.old out.new result }
     ensures load { (seed banks pairs commands workers : ℕ) → asked words.now ≡ Some (Task.Load seed banks pairs commands workers) → Loaded K.written K.faults out.old out.new seed banks pairs commands result }
     ensures payments { (form : Form) → asked words.now ≡ Some (Task.Payments form) → Checked (IsPaymentsOf form) S.left S.faults K.written K.faults source.old source.new out.old out.new result }
+    ensures watch { asked words.now ≡ Some Task.Watch → Ran IsWatchedOf S.left S.faults K.written K.faults source.old source.new out.old out.new result }
     ensures unread { (seed banks pairs commands workers : ℕ) → asked words.now ≡ Some (Task.Load seed banks pairs commands workers) → source.new ≡ source.old }
     ensures other { asked words.now ≡ None → Refused source.old source.new out.old out.new result }
     ensures usage { result ≡ Status.Usage → asked words.now ≡ None }
@@ -127,6 +131,7 @@ fn follow<R: AllocGlobal + Threads + Wait + Sync, S: Source, K: Sink, G: Gate + 
             },
         ) => load(rt, seed, banks, pairs, commands, workers, out, gate),
         Ok(Task::Payments { form }) => payments(rt.alloc(), form, source, out),
+        Ok(Task::Watch) => watch(rt, source, out, gate),
         Err(WordsFault::Usage) => Status::Usage,
         Err(WordsFault::Memory(memory)) => Status::Memory(memory),
     }

@@ -229,3 +229,7 @@ serial_alone = record { taken = refl; back = refl }
 pub check_alone : IsTaken (codes "check" ∷ [])
 unfolding clap_on_literals
 check_alone = record { taken = refl; back = refl }
+
+pub watch_alone : IsTaken (codes "watch" ∷ [])
+unfolding clap_on_literals
+watch_alone = record { taken = refl; back = refl }

@@ -10,4 +10,4 @@ mod task;
 
 pub use kept::{KeptTask, kept_task};
 pub use reading::{WordsFault, read_words};
-pub use task::Task;
+pub use task::{DEFAULT_WORKERS, Task};

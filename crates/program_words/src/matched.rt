@@ -28,6 +28,7 @@ pub(crate) enum Matched<'a> {
     Payments {
         form: &'a str,
     },
+    Watch,
 }
 
 impl<'a> Matched<'a> {
@@ -44,6 +45,7 @@ impl<'a> Matched<'a> {
             "check" => Some(Matched::Check),
             "load" => load_in(inner),
             "payments" => payments_in(inner),
+            "watch" => Some(Matched::Watch),
             _ => None,
         }
     }
@@ -78,6 +80,7 @@ impl<'a> Matched<'a> {
                 words.push("payments")?;
                 words.push(*form)?;
             }
+            Matched::Watch => words.push("watch")?,
         }
         Ok(words)
     }
@@ -108,6 +111,7 @@ impl<'a> Matched<'a> {
             Matched::Payments { form } => Some(Task::Payments {
                 form: form_from(form)?,
             }),
+            Matched::Watch => Some(Task::Watch),
         }
     }
 }

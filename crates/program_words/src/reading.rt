@@ -65,6 +65,7 @@ fn memory_told_by(kind: ErrorKind) -> Option<Memory>
 /// - `check`
 /// - `load SEED BANKS PAIRS COMMANDS`, also followed by `--workers N`
 /// - `payments bilateral` or `payments net`
+/// - `watch`
 ///
 /// A number is decimal digits, without a sign and without a leading zero other than in `0` itself: SEED is below 2^64,
 /// BANKS 2 to 64, PAIRS 1 to 32, COMMANDS 1 to 20000 and N 1 to 64. Where N is not given it is 4.

@@ -1,7 +1,7 @@
 use net_settle::Form;
 
 /// How many workers run a session where no number is said.
-pub(crate) const DEFAULT_WORKERS: u32 = 4;
+pub const DEFAULT_WORKERS: u32 = 4;
 
 /// What the program can be asked to do.
 #[derive(Clone, Copy, Debug, PartialEq, Eq)]
@@ -27,4 +27,6 @@ pub enum Task {
     Payments {
         form: Form,
     },
+    /// To run a session on threads while a reader watches it.
+    Watch,
 }

@@ -4,7 +4,7 @@ use Rattle.std.specs.Borrow.{Bor}
 use Rattle.clap.specs.Words.{Row, Text, first_of}
 use Rattle.program_words.specs.Forms.{◌>>=◌}
 use Rattle.program_words.specs.declared.matched.Matched.{Matched}
-use Rattle.program_words.specs.declared.matched.Matched.TheVariants.{Run, Serial, Check, Load, Payments}
+use Rattle.program_words.specs.declared.matched.Matched.TheVariants.{Run, Serial, Check, Load, Payments, Watch}
 
 -- an option, where it was given
 abbrev pub with_option : Option Text → List Text
@@ -20,6 +20,7 @@ matched_words Serial = codes "serial" ∷ []
 matched_words Check = codes "check" ∷ []
 matched_words (Load seed banks pairs commands workers) = codes "load" ∷ seed.now ∷ banks.now ∷ pairs.now ∷ commands.now ∷ option_words workers
 matched_words (Payments form) = codes "payments" ∷ form.now ∷ []
+matched_words Watch = codes "watch" ∷ []
 
 -- the same of a subcommand with what its rows have
 abbrev pub printed_load : List Row → Option (List Text)
@@ -42,6 +43,7 @@ printed_of name rows =
     else if bytes_eq name (codes "check") then Some (codes "check" ∷ [])
     else if bytes_eq name (codes "load") then printed_load rows
     else if bytes_eq name (codes "payments") then printed_payments rows
+    else if bytes_eq name (codes "watch") then Some (codes "watch" ∷ [])
     else None
 
 abbrev pub printed : Option (Text × List Row) → Option (List Text)
