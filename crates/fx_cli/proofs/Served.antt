@@ -37,7 +37,7 @@ use Rattle.reply_lines.specs.Day.{AreNoticesOf as tells, IsJournalOf}
 use Rattle.reply_lines.specs.declared.day_notices.DayNotices.{DayNotices}
 use Rattle.reply_lines.specs.declared.journal.JournalText.{JournalText}
 use Rattle.pair_host.specs.Standing.{HostState, stands}
-use Rattle.fx_chronicle.specs.Faces.{Witness, no_session}
+use Rattle.fx_chronicle.specs.Faces.{Witness}
 use Rattle.gateway_workers.specs.declared.lane.Lane.{Lane}
 use Rattle.threaded_run.specs.Lanes.{HaveServed, CanServe as CanServeLanes}
 use Rattle.fx_cli.specs.Headline.{IsHeadline, IsSerial}
@@ -219,15 +219,6 @@ serial_ran left failed written faults result a b out out' reading h session run 
 
 -- On threads
 
--- the session that a host of a text trades
-abbrev pub header_or_none : Option Header → Header
-header_or_none None = no_session
-header_or_none (Some h) = h
-
-pub header_same : (session : Option Header) (h : Header) → session ≡ Some h → h ≡ header_or_none session
-header_same None h is = absurd cc
-header_same (Some g) h is = let same : g ≡ h = cc in sym same
-
 pub can_serve_lanes : {S : Type 0} {left : S → Option (List ℕ)} {faults : S → ℕ} {a b : S} {reading : Reading} (h : Header) (served sent : List Sent) (lanes : List (Lane (Witness Entry))) → HasRead left faults a b reading h (served ++ sent_at reading.intake.stage) → HaveServed h served lanes
     → sent ≡ sent_at reading.intake.stage → CanServeLanes h lanes sent
 can_serve_lanes {reading = reading} h served sent lanes has are is = record {
@@ -236,11 +227,6 @@ can_serve_lanes {reading = reading} h served sent lanes has are is = record {
   valid = subst (Each (IsSentOf h)) (sym is) (round_valid h served (sent_at reading.intake.stage) has.says.valid);
   few = omega (arith, round_few served (sent_at reading.intake.stage) has, ap (λ (all : List Sent). length all) is);
 }
-
--- the text of a host that trades its session
-pub read_here : {S : Type 0} {left : S → Option (List ℕ)} {faults : S → ℕ} {a b : S} {reading : Reading} {h : Header} {all : List Sent} → HasRead left faults a b reading h all → HasRead left faults a b reading (header_or_none (session_at reading.intake.stage)) all
-read_here {left = left} {faults = faults} {a = a} {b = b} {reading = reading} {h = h} {all = all} has =
-    subst (λ (g : Header). HasRead left faults a b reading g all) (header_same (session_at reading.intake.stage) h has.session) has
 
 -- the history that threads made of the text, and its output was written
 pub history_stands : {S : Type 0} {left : S → Option (List ℕ)} {failed : S → ℕ} {a b : S} {reading : Reading} {h : Header} {end : TextEnd} {history : List Entry} {market : HostState} (session : Header) (entries : List Entry) → IsHistoryOfText left failed a b reading h end history market → session_at reading.intake.stage ≡ Some session → entries ≡ history

@@ -11,7 +11,7 @@ use Rattle.fx_rules.specs.declared.outcome.Entry.{Entry}
 use Rattle.fx_rules.specs.Session.{Header}
 use Rattle.fx_rules.specs.History.{IsLegal}
 use Rattle.fx_desk.specs.Streams.{HasStreams, stream_of}
-use Rattle.fx_chronicle.specs.Faces.{Witness, no_session}
+use Rattle.fx_chronicle.specs.Faces.{Witness}
 use Rattle.gateway_workers.specs.declared.lane.Lane.{Lane}
 use Rattle.keep_disk.specs.declared.rounds.Round.{Round}
 use Rattle.keep_disk.specs.declared.rounds.RunFault.{RunFault}
@@ -236,20 +236,6 @@ module _ {D K S : Type 0} (bytes : D → Option (List ℕ)) (may_leave : D → L
 -- the input of a reading
 abbrev pub promptly-taken : {front : List ℕ} {S : Type 0} {left : S → Option (List ℕ)} {failed : S → ℕ} {a b : S} {reading : Reading} {h : Header} {all : List Sent} → HasReadBehind front left failed a b reading h all → TookPromptlyBehind front left failed a b
 promptly-taken has = record { input = has.input; took = has.took; within = has.within; prompt = has.prompt }
-
--- the session that a host of a text trades
-abbrev pub header_or_none : Option Header → Header
-header_or_none None = no_session
-header_or_none (Some h) = h
-
-pub header_same : (session : Option Header) (h : Header) → session ≡ Some h → h ≡ header_or_none session
-header_same None h is = absurd cc
-header_same (Some g) h is = let same : g ≡ h = cc in sym same
-
--- the text of a host that trades its session
-pub read_here : {S : Type 0} {left : S → Option (List ℕ)} {failed : S → ℕ} {a b : S} {reading : Reading} {h : Header} {all : List Sent} → HasReadBehind [] left failed a b reading h all → HasReadBehind [] left failed a b reading (header_or_none (session_at reading.intake.stage)) all
-read_here {left = left} {failed = failed} {a = a} {b = b} {reading = reading} {h = h} {all = all} has =
-    subst (λ (g : Header). HasReadBehind [] left failed a b reading g all) (header_same (session_at reading.intake.stage) h has.session) has
 
 nil-back : {X : Type 0} (xs ys : List X) → [] ≡ xs ++ ys → ys ≡ []
 nil-back [] ys is = sym is

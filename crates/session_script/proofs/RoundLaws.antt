@@ -1,5 +1,5 @@
 -- What was read round by round: it can be served, and there is less to read each time.
-use Rattle.std.proofs.Common.{◌≡◌, ℕ, suc, ◌+◌, ◌-◌, ◌^◌, ◌<◌, ◌≤◌, List, [], ◌∷◌, ◌++◌, length, Option, Some, None, refl, sym, ◌∙◌, arith, length-append}
+use Rattle.std.proofs.Common.{◌≡◌, ℕ, suc, ◌+◌, ◌-◌, ◌^◌, ◌<◌, ◌≤◌, List, [], ◌∷◌, ◌++◌, length, Option, Some, None, refl, sym, ◌∙◌, subst, arith, length-append}
 use Rattle.fx_rules.specs.declared.command.Sent.{Sent}
 use Rattle.fx_rules.specs.Lists.{Each}
 use Rattle.fx_rules.specs.Session.{Header}
@@ -30,6 +30,21 @@ some_header g h same = cc
 -- the session of a reading
 pub same_session : {front : List ℕ} {S : Type 0} {left : S → Option (List ℕ)} {faults : S → ℕ} {a b : S} {reading : Reading} {h : Header} {all : List Sent} (g : Header) → HasReadBehind front left faults a b reading h all → session_at reading.intake.stage ≡ Some g → g ≡ h
 same_session {h = h} g has is = some_header g h (sym is ∙ has.session)
+
+-- the session of a reading, or one without banks where it has none yet
+abbrev pub header_or_none : Option Header → Header
+header_or_none None = record { banks = []; pairs = []; limits = [] }
+header_or_none (Some h) = h
+
+pub header_same : (session : Option Header) (h : Header) → session ≡ Some h → h ≡ header_or_none session
+header_same None h is = absurd cc
+header_same (Some g) h is = some_header h g (sym is)
+
+-- what was read, by the session that the reading has
+pub read_here : {front : List ℕ} {S : Type 0} {left : S → Option (List ℕ)} {faults : S → ℕ} {a b : S} {reading : Reading} {h : Header} {all : List Sent} → HasReadBehind front left faults a b reading h all
+    → HasReadBehind front left faults a b reading (header_or_none (session_at reading.intake.stage)) all
+read_here {front = front} {left = left} {faults = faults} {a = a} {b = b} {reading = reading} {h = h} {all = all} has =
+    subst (λ (g : Header). HasReadBehind front left faults a b reading g all) (header_same (session_at reading.intake.stage) h has.session) has
 
 -- how many rounds there may be still
 abbrev pub to_read : Option TextEnd → ℕ → ℕ

@@ -12,7 +12,7 @@ use Rattle.fx_rules.specs.Session.{Header, pair_count}
 use Rattle.fx_rules.specs.Sending.{IsSentOf}
 use Rattle.fx_rules.specs.State.{State, opening}
 use Rattle.fx_rules.specs.History.{IsLegal, Steps, after_entry}
-use Rattle.fx_chronicle.specs.Faces.{Witness, no_session}
+use Rattle.fx_chronicle.specs.Faces.{Witness}
 use Rattle.fx_chronicle.proofs.Prefixes.{prefix_trans, prefix_length}
 use Rattle.fx_desk.proofs.Streams.{streams-length}
 use Rattle.gateway_workers.specs.declared.lane.Lane.{Lane}
@@ -161,22 +161,6 @@ watching-opens h gathered lanes feed screen served none opens reader lines round
 }
 
 -- ---- reading
-
-abbrev pub header_or_none : Option Header → Header
-header_or_none None = no_session
-header_or_none (Some h) = h
-
-header_same : (session : Option Header) (h : Header) → session ≡ Some h → h ≡ header_or_none session
-header_same None h is = absurd cc
-header_same (Some g) h is = cc
-
--- the same, by the session that it has
-pub read_here : {S : Type 0} {left : S → Option (List ℕ)} {faults : S → ℕ} {a b : S} {reading : TextReading} {h : Header} {all : List Sent} → HasRead left faults a b reading h all → HasRead left faults a b reading (header_or_none (session_at reading.intake.stage)) all
-read_here {left = left} {faults = faults} {a = a} {b = b} {reading = reading} {h = h} {all = all} has =
-    subst (λ (g : Header). HasRead left faults a b reading g all) (header_same (session_at reading.intake.stage) h has.session) has
-
-pub header_is : {S : Type 0} {left : S → Option (List ℕ)} {faults : S → ℕ} {a b : S} {reading : TextReading} {h : Header} {all : List Sent} → HasRead left faults a b reading h all → header_or_none (session_at reading.intake.stage) ≡ h
-header_is {reading = reading} {h = h} has = sym (header_same (session_at reading.intake.stage) h has.session)
 
 -- a round's commands can be served, and are few
 pub can_serve : {S : Type 0} {left : S → Option (List ℕ)} {faults : S → ℕ} {a b : S} {reading : TextReading} (h : Header) (served sent : List Sent) (lanes : List (Lane (Witness Entry))) → HasRead left faults a b reading h (served ++ sent_at reading.intake.stage) → HaveServed h served lanes

@@ -3,8 +3,8 @@ use Rattle.std.proofs.Common.{refl}
 use Rattle.session_script.specs.Stage.{session_at}
 use Rattle.fx_cli.specs.Headline.{IsHeadline}
 use Rattle.fx_cli.specs.TopCall.{IsOutputOf}
-use Rattle.session_script.proofs.RoundLaws.{promptly}
-use Rattle.fx_cli.proofs.Served.{header_or_none, history_stands, ran-memory, read_here, threads_ran}
+use Rattle.session_script.proofs.RoundLaws.{header_or_none, promptly, read_here}
+use Rattle.fx_cli.proofs.Served.{history_stands, ran-memory, threads_ran}
 use Rattle.fx_cli.proofs.run.serve_text.Goals as goal
 
 pub returns-in-Err : goal.returns-in-Err

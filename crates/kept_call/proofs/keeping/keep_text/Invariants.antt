@@ -1,5 +1,5 @@
 use Rattle.session_script.specs.Stage.{session_at}
-use Rattle.kept_call.proofs.Serving.{header_or_none}
+use Rattle.session_script.proofs.RoundLaws.{header_or_none}
 use Rattle.kept_call.proofs.keeping.keep_text.Given as goal
 
 -- the host is of this blank, and trades the session of the text

@@ -1,5 +1,5 @@
 use Rattle.session_script.specs.Stage.{session_at}
-use Rattle.watched_run.proofs.Rounds.{header_or_none}
+use Rattle.session_script.proofs.RoundLaws.{header_or_none}
 use Rattle.watched_run.proofs.watching.watch_session.Given as goal
 
 -- the host is of this blank, and trades the session of the text
