@@ -1,9 +1,10 @@
-//! A window of levels that grows to either side, walked from its best rank on, and the least of the words of best orders.
+//! A window of levels that grows to either side and a ladder with levels far from its window, walked from the best rank on, and the least
+//! of the words of best orders.
 ghost use Rattle.std.specs.Prelude.{◌<◌, ◌^◌};
 
 use access_index::{Head, HeadWords};
 use fx_amounts::{BankId, Memory};
-use price_levels::Window;
+use price_levels::{Ladder, Window};
 use std::test::Fail;
 use trial_days::{bank, lots};
 
@@ -47,6 +48,57 @@ fn ranks_are_walked_from_the_best_one(rt: HostRuntime) -> Result<(), Fail> {
         from = rank.saturating_add(1);
     }
     assert!(rt; window.next(from).is_none() && window.first() == Some(60));
+    Ok(())
+}
+
+/// An order of ten lots comes to rest at a rank of a ladder. With a thousand lots there no more come.
+fn rest_on(ladder: &mut Ladder, rank: u32, place: u32) -> Result<Option<u32>, Memory>
+    requires rank { rank < 2 ^ 31 }
+{
+    ladder.reserve(rank)?;
+    if ladder.sum(rank) > 1_000 {
+        return Ok(None);
+    }
+    Ok(ladder.insert(rank, place, lots(10)))
+}
+
+/// Orders come to rest at two ranks behind 361 others and at one in front of them, all four too far for the window; once the others
+/// are there, it is wide enough for the nearest two.
+fn filled_ladder(ladder: &mut Ladder) -> Result<Option<u32>, Memory> {
+    for (place, rank) in [100_000, 104_500, 900_000_000, 60].iter().enumerate() {
+        rest_on(ladder, *rank, place as u32)?;
+    }
+    for place in 4..364 {
+        rest_on(ladder, 100_000 + place, place)?;
+    }
+    rest_on(ladder, 104_501, 364)?;
+    rest_on(ladder, 104_500, 365)
+}
+
+/// How many ranks have orders, with the sum of their lots and the last rank, as they are walked from the best one on.
+fn walked(ladder: &Ladder) -> (u64, u64, u32) {
+    let mut from = 0u32;
+    let mut count = 0u64;
+    let mut sum = 0u64;
+    for _ in 0..1_000 {
+        let Some(rank) = ladder.next(from) else {
+            break;
+        };
+        count = count.saturating_add(1);
+        sum = sum.saturating_add(ladder.sum(rank));
+        from = rank.saturating_add(1);
+    }
+    (count, sum, from)
+}
+
+#[test]
+fn far_levels_come_into_the_window(rt: HostRuntime) -> Result<(), Fail> {
+    let mut ladder = Ladder::new(rt.alloc());
+    let before = filled_ladder(&mut ladder)?;
+    assert!(rt; before == Some(1) && ladder.first() == Some(60));
+    let (count, sum, behind) = walked(&ladder);
+    assert!(rt; count == 365 && sum == 3_660 && behind == 900_000_001);
+    assert!(rt; ladder.next(100_364) == Some(104_500) && ladder.next(104_502) == Some(900_000_000));
     Ok(())
 }
 

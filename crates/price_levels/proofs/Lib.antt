@@ -7,3 +7,4 @@ mod Parting
 pub mod Crossing
 mod Laying
 mod Marking
+mod Apart

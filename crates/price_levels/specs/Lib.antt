@@ -1,3 +1,4 @@
 pub mod Ladder
+pub mod Rungs
 pub mod Ticks
 pub mod inside

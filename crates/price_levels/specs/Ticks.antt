@@ -1,6 +1,5 @@
--- The levels of one owner and side in a window of ranks, as contracts see them. The rank of a price tells how good it is for a taker:
--- the lower, the better.
-use Rattle.std.specs.Prelude.{ℕ, ◌≡◌, ◌≢◌, ◌+◌, ◌-◌, ◌≤◌, ◌<◌, ◌==◌, nat_le, if◌then◌else◌, List, length, Option, Some, None, slice_index_or, slice_set}
+-- The levels of one owner and side in a window of ranks, as contracts see them.
+use Rattle.std.specs.Prelude.{ℕ, ◌+◌, ◌-◌, ◌≤◌, ◌<◌, ◌==◌, nat_le, if◌then◌else◌, List, length, Option, Some, None, slice_index_or, slice_set}
 use Rattle.price_levels.specs.declared.level.Level.{Level}
 
 -- no orders
@@ -20,12 +19,6 @@ level_of ticks rank = if nat_le ticks.base rank then slice_index_or ticks.levels
 pub record Covers (ticks : Ticks) (rank : ℕ) : Type 0 where
   pub from_on : ticks.base ≤ rank
   pub within : rank < ticks.base + length ticks.levels
-
--- a rank has orders, and from another on none before it has
-pub record IsNextRank (ticks : Ticks) (from rank : ℕ) : Type 0 where
-  pub from_on : from ≤ rank
-  pub some : (level_of ticks rank).lots ≢ 0
-  pub first : (other : ℕ) → from ≤ other → other < rank → (level_of ticks other).lots ≡ 0
 
 -- the order that is first once one between two others is gone
 abbrev pub first_left : Level → Option ℕ → Option ℕ → ℕ

@@ -1,4 +1,5 @@
 pub mod Bits
+pub mod Far
 pub mod Held
 pub mod Layout
 pub mod Marked

@@ -5,7 +5,7 @@ use fx_amounts::Lots;
 
 /// The resting orders of one owner and side at one price: the lots that they have left, and the ends of the chain in which they are
 /// linked by arrival. It has 16 bytes.
-#[derive(Clone, Copy, Debug)]
+#[derive(Clone, Copy, Debug, PartialEq, Eq)]
 pub struct Level {
     /// The lots that its orders have left; 0 where there is none.
     pub lots: u64,

@@ -5,6 +5,8 @@ mod bit_row;
 mod chunk;
 mod chunks;
 mod cut;
+mod far_levels;
+mod ladder;
 mod level;
 mod levels;
 mod place;
@@ -12,6 +14,7 @@ mod spot;
 mod steps;
 mod window;
 
+pub use ladder::Ladder;
 pub use level::Level;
 pub use levels::Levels;
 pub use place::{Place, sorts_before};

@@ -1,5 +1,6 @@
-ghost use Rattle.std.specs.Prelude.{ℕ, ◌≡◌, ◌+◌, ◌-◌, ◌*◌, ◌^◌, ◌≤◌, ◌<◌, None, [], length, IfOk, IfSome, OnErr, OnOk};
-ghost use Rattle.price_levels.specs.Ticks.{Covers, IsNextRank, last_of_level, level_of, no_level, with_level, with_order, without_order};
+ghost use Rattle.std.specs.Prelude.{ℕ, ◌≡◌, ◌+◌, ◌-◌, ◌*◌, ◌/◌, ◌^◌, ◌≤◌, ◌<◌, None, [], length, IfOk, IfSome, OnErr, OnOk};
+ghost use Rattle.price_levels.specs.Rungs.{IsNextRank, covers};
+ghost use Rattle.price_levels.specs.Ticks.{Covers, last_of_level, level_of, no_level, with_level, with_order, without_order};
 ghost use Rattle.price_levels.specs.inside.Marked.{padded};
 
 use crate::bit_row::{WORD, first_mark, mark, unmark};
@@ -43,6 +44,32 @@ impl Window {
             levels: Vec::new(alloc),
             words: Vec::new(alloc),
         }
+    }
+
+    /// The first rank of the window.
+    pub(crate) fn base(&self) -> u32
+        ensures { result ≡ self.now.base }
+    {
+        self.base
+    }
+
+    /// Whether a rank is in the window.
+    pub(crate) fn covers(&self, rank: u32) -> bool
+        ensures { result ≡ covers self.now rank }
+    {
+        rank >= self.base && ((rank - self.base) as usize) < self.levels.len()
+    }
+
+    /// How many ranks the window has at most once it covers a rank too.
+    pub(crate) fn span(&self, rank: u32) -> usize {
+        let block = rank as usize / WORD;
+        let first = self.base as usize / WORD;
+        let count = self.words.len();
+        if count == 0 {
+            return WORD;
+        }
+        let blocks = (first + count).max(block + 1) - first.min(block);
+        (blocks + blocks / 4) * WORD
     }
 
     /// The level of a rank; one without orders where the rank is outside of the window.
@@ -101,7 +128,7 @@ impl Window {
     }
 
     /// Writes down the level of a rank of the window.
-    fn set(&mut self, rank: u32, level: Level)
+    pub(crate) fn set(&mut self, rank: u32, level: Level)
         requires covered { Covers self.old rank }
         ensures { self.new ≡ with_level self.old rank level }
     {
@@ -116,7 +143,7 @@ impl Window {
 
     /// The best rank with orders; `None` where there is none.
     pub fn first(&self) -> Option<u32>
-        ensures found { IfSome result (IsNextRank self.now 0) }
+        ensures found { IfSome result (IsNextRank (level_of self.now) 0) }
         ensures none { result ≡ None → (rank : ℕ) → (level_of self.now rank).lots ≡ 0 }
     {
         self.next(0)
@@ -124,7 +151,7 @@ impl Window {
 
     /// The first rank with orders from a rank on; `None` where there is none.
     pub fn next(&self, from: u32) -> Option<u32>
-        ensures found { IfSome result (IsNextRank self.now from) }
+        ensures found { IfSome result (IsNextRank (level_of self.now) from) }
         ensures none { result ≡ None → (rank : ℕ) → from ≤ rank → (level_of self.now rank).lots ≡ 0 }
     {
         let start = from.saturating_sub(self.base) as usize;

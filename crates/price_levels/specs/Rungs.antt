@@ -1,0 +1,43 @@
+-- The levels of one owner and side, as contracts see them. The rank of a price tells how good it is for a taker: the lower, the better.
+use Rattle.std.specs.Prelude.{ℕ, ◌≡◌, ◌≢◌, ◌+◌, ◌≤◌, ◌<◌, ◌==◌, ◌||◌, ◌&&◌, if◌then◌else◌, is_some, nat_le, nat_lt, Bool, List, length, Option, Some, None}
+use Rattle.std.specs.BTreeMap.{is_at}
+use Rattle.std.specs.Map.{lookup}
+use Rattle.std.specs.Ordering.{nat_cmp}
+use Rattle.price_levels.specs.declared.level.Level.{Level}
+use Rattle.price_levels.specs.Ticks.{Ticks, level_of, no_level}
+
+-- the levels in a window of ranks, and those that are kept one by one, each with its rank
+pub record Rungs : Type 0 where
+  pub near : Ticks
+  pub far : List (ℕ × Level)
+
+-- the level that is kept of a rank, if one is
+abbrev pub kept_at : List (ℕ × Level) → ℕ → Option Level
+kept_at far rank = lookup (is_at (nat_cmp rank)) far
+
+-- a level, or another one where there is none
+abbrev pub level_or : Option Level → Level → Level
+level_or None other = other
+level_or (Some level) other = level
+
+-- the level of a rank: the one that is kept, else that of the window, else one without orders
+abbrev pub level_at : Rungs → ℕ → Level
+level_at rungs rank = level_or (kept_at rungs.far rank) (level_of rungs.near rank)
+
+-- whether a rank is in the window
+abbrev pub covers : Ticks → ℕ → Bool
+covers near rank = nat_le near.base rank && nat_lt rank (near.base + length near.levels)
+
+-- whether an order can come to rest at a rank without taking memory
+abbrev pub holds : Rungs → ℕ → Bool
+holds rungs rank = covers rungs.near rank || is_some (kept_at rungs.far rank)
+
+-- the level of a rank, once one of them has another one
+abbrev pub with_level_at : (ℕ → Level) → ℕ → Level → ℕ → Level
+with_level_at levels rank level other = if other == rank then level else levels other
+
+-- a rank has orders, and from another on none before it has
+pub record IsNextRank (levels : ℕ → Level) (from rank : ℕ) : Type 0 where
+  pub from_on : from ≤ rank
+  pub some : (levels rank).lots ≢ 0
+  pub first : (other : ℕ) → from ≤ other → other < rank → (levels other).lots ≡ 0

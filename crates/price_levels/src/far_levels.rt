@@ -1,0 +1,121 @@
+ghost use Rattle.std.specs.Prelude.{ℕ, ◌≡◌, ◌≤◌, ◌<◌, ◌==◌, ◌^◌, None, Some, if◌then◌else◌, is_some, IfSome, IsSome, OnOk};
+ghost use Rattle.price_levels.specs.Rungs.{IsNextRank, kept_at};
+ghost use Rattle.price_levels.specs.inside.Far.{IsNextKept, far_level};
+
+use crate::level::Level;
+use fx_amounts::Memory;
+use std::alloc::Global;
+use std::collections::BTreeMap;
+use std::marker::Model;
+
+/// The levels at ranks far from the window of a ladder, by rank. One of them may be without orders: a rank that was made ready for an
+/// order, so that the order takes no memory when it comes to rest. All ranks are below 2^31.
+#[derive(Drop)]
+pub(crate) struct FarLevels {
+    levels: BTreeMap<u32, Level>,
+    /// The rank that was made ready last.
+    ready: Option<u32>,
+}
+
+impl Model for FarLevels {
+    ghost use Rattle.std.specs.Prelude.{ℕ, List};
+    ghost use Rattle.price_levels.specs.declared.level.Level.{Level};
+    ghost use Rattle.price_levels.specs.inside.Far.{AreLow};
+
+    ghost Value = { List (ℕ × Level) };
+
+    ghost view = { λ f. f.levels.entries };
+
+    ghost invariant = { λ f. AreLow f.levels.entries };
+}
+
+impl FarLevels {
+    /// No levels. It takes no memory.
+    pub(crate) fn new(alloc: Global) -> Self
+        ensures { (rank : ℕ) → kept_at result rank ≡ None }
+    {
+        FarLevels {
+            levels: BTreeMap::new(alloc),
+            ready: None,
+        }
+    }
+
+    /// The level of a rank; `None` where it is not kept here.
+    pub(crate) fn level(&self, rank: u32) -> Option<Level>
+        ensures { result ≡ kept_at self.now rank }
+    {
+        self.levels.get(&rank).copied()
+    }
+
+    /// Makes a rank ready for an order. The rank that was made ready before it, and has no orders yet, is kept no longer. At `Memory` each
+    /// level is as it was.
+    pub(crate) fn make_ready(&mut self, rank: u32) -> Result<(), Memory>
+        requires low { rank < 2 ^ 31 }
+        ensures ready { OnOk result (IsSome (kept_at self.new rank)) }
+        ensures levels { (other : ℕ) → far_level self.new other ≡ far_level self.old other }
+        ensures no_others { (other : ℕ) → kept_at self.old other ≡ None → (other ≡ rank → ⊥) → kept_at self.new other ≡ None }
+    {
+        if self.levels.contains_key(&rank) {
+            return Ok(());
+        }
+        self.drop_ready();
+        self.levels.insert(rank, Level::NONE)?;
+        self.ready = Some(rank);
+        Ok(())
+    }
+
+    /// Keeps the rank that was made ready no longer, if it has no orders.
+    fn drop_ready(&mut self)
+        ensures levels { (other : ℕ) → far_level self.new other ≡ far_level self.old other }
+        ensures no_others { (other : ℕ) → kept_at self.old other ≡ None → kept_at self.new other ≡ None }
+    {
+        let Some(rank) = self.ready else {
+            return;
+        };
+        self.ready = None;
+        if self.level(rank) == Some(Level::NONE) {
+            self.levels.remove(&rank);
+        }
+    }
+
+    /// Writes down the level of a rank that is kept here.
+    pub(crate) fn set(&mut self, rank: u32, level: Level)
+        requires kept { IsSome (kept_at self.old rank) }
+        ensures { (other : ℕ) → kept_at self.new other ≡ (if other == rank then Some level else kept_at self.old other) }
+    {
+        let kept = self.levels.get_mut(&rank).unwrap();
+        *kept = level;
+    }
+
+    /// Takes the level of a rank out.
+    pub(crate) fn take(&mut self, rank: u32) -> Option<Level>
+        ensures level { result ≡ kept_at self.old rank }
+        ensures levels { (other : ℕ) → kept_at self.new other ≡ (if other == rank then None else kept_at self.old other) }
+    {
+        self.levels.remove(&rank)
+    }
+
+    /// The first rank that is kept here from a rank on, with its level; `None` where there is none.
+    pub(crate) fn first_from(&self, from: u32) -> Option<(u32, Level)>
+        ensures found { IfSome result (λ entry. IsNextKept self.now from entry.0 entry.1) }
+        ensures none { result ≡ None → (rank : ℕ) → from ≤ rank → kept_at self.now rank ≡ None }
+    {
+        let (rank, level) = self.levels.range(from..).next()?;
+        Some((*rank, *level))
+    }
+
+    /// The first rank with orders from a rank on; `None` where there is none. It passes no more than one rank without orders.
+    pub(crate) fn next(&self, from: u32) -> Option<u32>
+        ensures found { IfSome result (IsNextRank (far_level self.now) from) }
+        ensures none { result ≡ None → (rank : ℕ) → from ≤ rank → (far_level self.now rank).lots ≡ 0 }
+    {
+        let mut start = from;
+        while let Some((rank, level)) = self.first_from(start) {
+            if level.lots != 0 {
+                return Some(rank);
+            }
+            start = rank + 1;
+        }
+        None
+    }
+}

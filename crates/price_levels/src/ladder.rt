@@ -1,0 +1,216 @@
+ghost use Rattle.std.specs.Prelude.{ℕ, ◌≡◌, ◌+◌, ◌-◌, ◌≤◌, ◌<◌, ◌^◌, None, true, IfSome, OnOk};
+ghost use Rattle.price_levels.specs.Rungs.{IsNextRank, covers, holds, level_at, with_level_at};
+ghost use Rattle.price_levels.specs.Ticks.{last_of_level, no_level, with_order, without_order};
+ghost use Rattle.price_levels.specs.inside.Far.{AreApart};
+
+use crate::far_levels::FarLevels;
+use crate::level::Level;
+use crate::window::Window;
+use fx_amounts::{Lots, Memory};
+use std::alloc::Global;
+use std::marker::Model;
+
+/// How many ranks a window may have in any case.
+const ALWAYS: usize = 4_096;
+
+/// How many ranks a window may have for each level in it with orders.
+const FOR_EACH: usize = 16;
+
+/// How many ranks a window may have at most, so that a search of its row of bits reads 1,024 words at most.
+const AT_MOST: usize = 65_536;
+
+/// The levels of one owner and side. Those near one another lie in a window of ranks, and those far from it in a sorted map. The lower a
+/// rank, the better its price, so the best level is the first one.
+///
+/// A pair's book is to stand on it. Nothing calls it yet.
+#[derive(Drop)]
+pub struct Ladder {
+    near: Window,
+    far: FarLevels,
+    /// How many levels of the window have orders: the more, the wider it may be.
+    count: usize,
+}
+
+impl Model for Ladder {
+    ghost use Rattle.price_levels.specs.Rungs.{Rungs};
+    ghost use Rattle.price_levels.specs.inside.Far.{AreApart};
+
+    ghost Value = { Rungs };
+
+    ghost view = { λ l. record { near = l.near; far = l.far } };
+
+    ghost invariant = { λ l. AreApart l.near l.far };
+}
+
+impl Ladder {
+    /// No levels. It takes no memory.
+    pub fn new(alloc: Global) -> Self
+        ensures { (rank : ℕ) → level_at result rank ≡ no_level }
+    {
+        Ladder {
+            near: Window::new(alloc),
+            far: FarLevels::new(alloc),
+            count: 0,
+        }
+    }
+
+    /// The level of a rank; one without orders where none has come to rest there.
+    pub fn level(&self, rank: u32) -> Level
+        ensures { result ≡ level_at self.now rank }
+    {
+        if self.near.covers(rank) {
+            return self.near.level(rank);
+        }
+        self.far.level(rank).unwrap_or(Level::NONE)
+    }
+
+    /// The lots that the orders of a rank have left.
+    pub fn sum(&self, rank: u32) -> u64
+        ensures { result ≡ (level_at self.now rank).lots }
+    {
+        self.level(rank).lots
+    }
+
+    /// Sees to it that an order can come to rest at a rank below 2^31 without taking memory. The window is widened to the rank where it then
+    /// has at most 4,096 ranks, or 16 for each of its levels with orders, and never more than 65,536; else the rank is kept by itself, and takes
+    /// the place of one that was made ready so before and got no orders. At `Memory` each level is as it was.
+    pub fn reserve(&mut self, rank: u32) -> Result<(), Memory>
+        requires rank { rank < 2 ^ 31 }
+        ensures holds { OnOk result (holds self.new rank ≡ true) }
+        ensures levels { (other : ℕ) → level_at self.new other ≡ level_at self.old other }
+    {
+        if self.near.covers(rank) {
+            return Ok(());
+        }
+        if self.near.span(rank) > self.most() {
+            return self.far.make_ready(rank);
+        }
+        self.near.reserve(rank)?;
+        let drawn = draw_near(&mut self.near, &mut self.far);
+        self.count = self.count.saturating_add(drawn);
+        Ok(())
+    }
+
+    /// How many ranks the window may have.
+    fn most(&self) -> usize {
+        self.count.saturating_mul(FOR_EACH).clamp(ALWAYS, AT_MOST)
+    }
+
+    /// An order of so many lots comes to rest at a rank that was made ready for it, behind all others there. It answers the place of the
+    /// last of these, where there is one.
+    pub fn insert(&mut self, rank: u32, place: u32, lots: Lots) -> Option<u32>
+        requires holds { holds self.old rank ≡ true }
+        requires fits { (level_at self.old rank).lots + lots < 2 ^ 64 }
+        ensures before { result ≡ last_of_level (level_at self.old rank) }
+        ensures levels { (other : ℕ) → level_at self.new other ≡ with_level_at (level_at self.old) rank (with_order (level_at self.old rank) place lots) other }
+        ensures holds { (other : ℕ) → holds self.new other ≡ holds self.old other }
+    {
+        let level = self.level(rank);
+        self.set(rank, level.with(place, lots));
+        if level.lots == 0 {
+            self.count_new(rank);
+            return None;
+        }
+        Some(level.last)
+    }
+
+    /// One of the orders of a rank has so many lots less, and some left.
+    pub fn lower(&mut self, rank: u32, lots: Lots)
+        requires above { lots < (level_at self.old rank).lots }
+        ensures levels { (other : ℕ) → level_at self.new other ≡ with_level_at (level_at self.old) rank (record (level_at self.old rank) { lots = (level_at self.old rank).lots - lots }) other }
+        ensures holds { (other : ℕ) → holds self.new other ≡ holds self.old other }
+    {
+        let level = self.level(rank);
+        self.set(rank, level.lowered(lots));
+    }
+
+    /// An order of a rank goes, which had so many lots left and stood between two others of the rank, where there are such. With the last of
+    /// them the rank may be no longer ready for an order.
+    pub fn remove(&mut self, rank: u32, lots: Lots, before: Option<u32>, behind: Option<u32>)
+        requires has { lots ≤ (level_at self.old rank).lots }
+        ensures levels { (other : ℕ) → level_at self.new other ≡ with_level_at (level_at self.old) rank (without_order (level_at self.old rank) lots before behind) other }
+        ensures holds { (other : ℕ) → (other ≡ rank → ⊥) → holds self.new other ≡ holds self.old other }
+    {
+        let level = self.level(rank).without(lots, before, behind);
+        if level.lots == 0 {
+            self.clear(rank);
+        } else {
+            self.set(rank, level);
+        }
+    }
+
+    /// Writes down the level of a rank at which an order can rest.
+    fn set(&mut self, rank: u32, level: Level)
+        requires holds { holds self.old rank ≡ true }
+        ensures levels { (other : ℕ) → level_at self.new other ≡ with_level_at (level_at self.old) rank level other }
+        ensures holds { (other : ℕ) → holds self.new other ≡ holds self.old other }
+    {
+        if self.near.covers(rank) {
+            self.near.set(rank, level);
+        } else {
+            self.far.set(rank, level);
+        }
+    }
+
+    /// Counts a rank that had no orders, if it is in the window.
+    fn count_new(&mut self, rank: u32)
+        ensures { self.new ≡ self.old }
+    {
+        if self.near.covers(rank) {
+            self.count = self.count.saturating_add(1);
+        }
+    }
+
+    /// A rank has no orders any longer.
+    fn clear(&mut self, rank: u32)
+        ensures levels { (other : ℕ) → level_at self.new other ≡ with_level_at (level_at self.old) rank no_level other }
+        ensures holds { (other : ℕ) → (other ≡ rank → ⊥) → holds self.new other ≡ holds self.old other }
+    {
+        if self.near.covers(rank) {
+            self.near.set(rank, Level::NONE);
+            self.count = self.count.saturating_sub(1);
+        } else {
+            self.far.take(rank);
+        }
+    }
+
+    /// The best rank with orders; `None` where there is none.
+    pub fn first(&self) -> Option<u32>
+        ensures found { IfSome result (IsNextRank (level_at self.now) 0) }
+        ensures none { result ≡ None → (rank : ℕ) → (level_at self.now rank).lots ≡ 0 }
+    {
+        self.next(0)
+    }
+
+    /// The first rank with orders from a rank on; `None` where there is none.
+    pub fn next(&self, from: u32) -> Option<u32>
+        ensures found { IfSome result (IsNextRank (level_at self.now) from) }
+        ensures none { result ≡ None → (rank : ℕ) → from ≤ rank → (level_at self.now rank).lots ≡ 0 }
+    {
+        match (self.near.next(from), self.far.next(from)) {
+            (Some(near), Some(far)) => Some(near.min(far)),
+            (Some(near), None) => Some(near),
+            (None, far) => far,
+        }
+    }
+}
+
+/// Moves the far levels at ranks of the window into it, and answers how many these are.
+fn draw_near(near: &mut Window, far: &mut FarLevels) -> usize
+    ensures levels { (rank : ℕ) → level_at (record { near = near.new; far = far.new }) rank ≡ level_at (record { near = near.old; far = far.old }) rank }
+    ensures covers { (rank : ℕ) → covers near.new rank ≡ covers near.old rank }
+    ensures apart { AreApart near.new far.new }
+{
+    let mut from = near.base();
+    let mut drawn = 0usize;
+    while let Some((rank, level)) = far.first_from(from) {
+        if !near.covers(rank) {
+            return drawn;
+        }
+        far.take(rank);
+        near.set(rank, level);
+        drawn = drawn.saturating_add(1);
+        from = rank + 1;
+    }
+    drawn
+}
