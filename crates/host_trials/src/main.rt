@@ -19,6 +19,8 @@ mod generated;
 #[cfg(test)]
 mod markets;
 #[cfg(test)]
+mod readers;
+#[cfg(test)]
 mod rounds;
 #[cfg(test)]
 mod threads;

@@ -1,5 +1,7 @@
 //! Sessions that a reader watches.
-use super::{Ending, Fails, MemorySink, MemorySource, NONE, done, expect, owned, refusal, samples};
+use super::{
+    Ending, Fails, MemorySink, MemorySource, NONE, done, expect, owned, refusal, samples, with_ending,
+};
 use crate::fx_main;
 use fx_rules::OpenGate;
 use std::alloc::{AllocGlobal, Global};
@@ -102,4 +104,26 @@ fn nothing_is_watched(rt: HostRuntime) -> Result<(), Fail> {
         ..refusal(5, b"write failed\n")
     };
     expect(&rt, &["watch"], sample.input, 64, &fails, &short)
+}
+
+// Where START ends in the session without commands.
+const STARTED: usize = 72;
+
+// Where the input ends behind START, or the third read fails there, what was seen follows the output too.
+#[test]
+fn a_session_that_ends_early_is_watched(rt: HostRuntime) -> Result<(), Fail> {
+    let sample = samples::NO_COMMANDS;
+    let started = &sample.input[..STARTED];
+    let cut = refusal(3, b"input ended before END\n");
+    let read_fault = refusal(4, b"read failed\n");
+    let cases: [(u64, Ending, &[u8]); 2] = [(9, cut, b"CUT\n"), (3, read_fault, b"READ\n")];
+    for (call, early, last) in cases {
+        let output = with_ending(rt.alloc(), sample.output, last)?;
+        let out = &behind(rt.alloc(), &output, NOTHING_SEEN)?;
+        let source = &[call];
+        let fails = Fails { source, ..NONE };
+        let ending = Ending { out, ..early };
+        expect(&rt, &["watch"], started, 64, &fails, &ending)?;
+    }
+    Ok(())
 }
