@@ -10,7 +10,7 @@ use Rattle.std.specs.Option.{is_some}
 use Rattle.std.specs.Result.{OnOk}
 use Rattle.fx_rules.specs.declared.orders.Resting.{Resting}
 use Rattle.order_store.specs.Orders.{Orders, room_for, KeepsRoom, TakesRoom}
-use Rattle.order_store.specs.inside.Rows.{Row, no_row, row_at, places_in, room_in}
+use Rattle.order_store.specs.inside.Rows.{Row, no_row, row_at, places_in, room_in, room_with}
 
 -- the row of one bank is written
 pub record Written (old new : List Row) (bank : ℕ) (row row' : Row) : Type 0 where
@@ -33,7 +33,7 @@ pub read_row : (rows read : List Row) (at bank : ℕ) (row : Row) → read ≡ r
 read_row rows read at bank row seen at_is within is =
     is ∙ get_or_default read at row no_row within ∙ ap (λ (rs : List Row). get_or rs at no_row) seen ∙ ap (row_at rows) at_is
 
--- The room of a bank is that of the slab and of its row.
+-- The room of a bank is that of the places and of its row.
 
 least_zero : (p : ℕ) → min p 0 ≡ 0
 least_zero p = omega arith
@@ -47,32 +47,32 @@ least_one p r one = (omega arith, omega arith)
 one_least : (p r : ℕ) → 1 ≤ p → 1 ≤ r → 1 ≤ min p r
 one_least p r places row = omega arith
 
-room_at : (orders : Slab Resting) (rows : List Row) (bank : ℕ) → get_or (map (room_in orders) rows) bank 0 ≡ min (places_in orders) (row_at rows bank).room
-room_at orders rows bank =
+room_at : (places : ℕ) (rows : List Row) (bank : ℕ) → get_or (map (room_with places) rows) bank 0 ≡ min places (row_at rows bank).room
+room_at places rows bank =
     elim (cases_lt bank (length rows)) [
-      | inl within ↦ get_or-map (room_in orders) rows bank no_row 0 within
-      | inr past ↦ get_or_past (map (room_in orders) rows) bank 0 (subst (λ n. n ≤ bank) (sym (length-map rows (room_in orders))) past)
-          ∙ sym (ap (λ (r : Row). min (places_in orders) r.room) (get_or_past rows bank no_row past) ∙ least_zero (places_in orders))
+      | inl within ↦ get_or-map (room_with places) rows bank no_row 0 within
+      | inr past ↦ get_or_past (map (room_with places) rows) bank 0 (subst (λ n. n ≤ bank) (sym (length-map rows (room_with places))) past)
+          ∙ sym (ap (λ (r : Row). min places r.room) (get_or_past rows bank no_row past) ∙ least_zero places)
     ]
 
 -- what callers see of it
-pub seen_room : (orders : Slab Resting) (rows : List Row) (seen : Orders) → map (room_in orders) rows ≡ seen.room → (bank : ℕ) → room_for seen bank ≡ min (places_in orders) (row_at rows bank).room
-seen_room orders rows seen is bank = ap (λ (r : List ℕ). get_or r bank 0) (sym is) ∙ room_at orders rows bank
+pub seen_room : (places : ℕ) (rows : List Row) (seen : Orders) → map (room_with places) rows ≡ seen.room → (bank : ℕ) → room_for seen bank ≡ min places (row_at rows bank).room
+seen_room places rows seen is bank = ap (λ (r : List ℕ). get_or r bank 0) (sym is) ∙ room_at places rows bank
 
-pub seen_banks : (orders : Slab Resting) (rows : List Row) (seen : Orders) → map (room_in orders) rows ≡ seen.room → length rows ≡ length seen.room
-seen_banks orders rows seen is = sym (length-map rows (room_in orders)) ∙ ap length is
+pub seen_banks : (places : ℕ) (rows : List Row) (seen : Orders) → map (room_with places) rows ≡ seen.room → length rows ≡ length seen.room
+seen_banks places rows seen is = sym (length-map rows (room_with places)) ∙ ap length is
 
--- room for an order of a bank is room in the slab and in its row
-pub record HasPlaces (orders : Slab Resting) (rows : List Row) (bank : ℕ) : Type 0 where
-  pub in_orders : 1 ≤ places_in orders
+-- room for an order of a bank is room among the places and in its row
+pub record HasPlaces (places : ℕ) (rows : List Row) (bank : ℕ) : Type 0 where
+  pub in_places : 1 ≤ places
   pub in_row : 1 ≤ (row_at rows bank).room
   pub within : bank < length rows
 
-pub has_places : (orders : Slab Resting) (rows : List Row) (seen : Orders) (bank : ℕ) → map (room_in orders) rows ≡ seen.room → 1 ≤ room_for seen bank → HasPlaces orders rows bank
-has_places orders rows seen bank is has =
-    let both = least_one (places_in orders) (row_at rows bank).room (subst (λ n. 1 ≤ n) (seen_room orders rows seen is bank) has) in
+pub has_places : (places : ℕ) (rows : List Row) (seen : Orders) (bank : ℕ) → map (room_with places) rows ≡ seen.room → 1 ≤ room_for seen bank → HasPlaces places rows bank
+has_places places rows seen bank is has =
+    let both = least_one places (row_at rows bank).room (subst (λ n. 1 ≤ n) (seen_room places rows seen is bank) has) in
     record {
-      in_orders = both.0;
+      in_places = both.0;
       in_row = both.1;
       within = elim (cases_lt bank (length rows)) [
         | inl below ↦ below
@@ -80,30 +80,30 @@ has_places orders rows seen bank is has =
       ];
     }
 
-pub gives_room : (orders : Slab Resting) (rows : List Row) (bank : ℕ) → 1 ≤ places_in orders → 1 ≤ (row_at rows bank).room → 1 ≤ get_or (map (room_in orders) rows) bank 0
-gives_room orders rows bank places row =
-    subst (λ n. 1 ≤ n) (sym (room_at orders rows bank)) (one_least (places_in orders) (row_at rows bank).room places row)
+pub gives_room : (places : ℕ) (rows : List Row) (bank : ℕ) → 1 ≤ places → 1 ≤ (row_at rows bank).room → 1 ≤ get_or (map (room_with places) rows) bank 0
+gives_room places rows bank some row =
+    subst (λ n. 1 ≤ n) (sym (room_at places rows bank)) (one_least places (row_at rows bank).room some row)
 
 -- rooms of which each loses at most so many places
-module _ (orders orders' : Slab Resting) (rows rows' : List Row) (old new : Orders) (was : map (room_in orders) rows ≡ old.room) (is : map (room_in orders') rows' ≡ new.room) where
-  room_most : (most : ℕ) → places_in orders ≤ places_in orders' + most → ((bank : ℕ) → (row_at rows bank).room ≤ (row_at rows' bank).room + most)
+module _ (places places' : ℕ) (rows rows' : List Row) (old new : Orders) (was : map (room_with places) rows ≡ old.room) (is : map (room_with places') rows' ≡ new.room) where
+  room_most : (most : ℕ) → places ≤ places' + most → ((bank : ℕ) → (row_at rows bank).room ≤ (row_at rows' bank).room + most)
       → (bank : ℕ) → room_for old bank ≤ room_for new bank + most
-  room_most most places row bank =
-      subst (λ n. n ≤ room_for new bank + most) (sym (seen_room orders rows old was bank))
-      (subst (λ n. min (places_in orders) (row_at rows bank).room ≤ n + most) (sym (seen_room orders' rows' new is bank))
-      (least_most (places_in orders) (places_in orders') (row_at rows bank).room (row_at rows' bank).room most places (row bank)))
+  room_most most upto row bank =
+      subst (λ n. n ≤ room_for new bank + most) (sym (seen_room places rows old was bank))
+      (subst (λ n. min places (row_at rows bank).room ≤ n + most) (sym (seen_room places' rows' new is bank))
+      (least_most places places' (row_at rows bank).room (row_at rows' bank).room most upto (row bank)))
 
   as_many : length rows' ≡ length rows → length new.room ≡ length old.room
-  as_many count = sym (seen_banks orders' rows' new is) ∙ count ∙ seen_banks orders rows old was
+  as_many count = sym (seen_banks places' rows' new is) ∙ count ∙ seen_banks places rows old was
 
-  pub keeps_room : length rows' ≡ length rows → places_in orders ≤ places_in orders' → ((bank : ℕ) → (row_at rows bank).room ≤ (row_at rows' bank).room) → KeepsRoom old new
-  keeps_room count places row = record {
+  pub keeps_room : length rows' ≡ length rows → places ≤ places' → ((bank : ℕ) → (row_at rows bank).room ≤ (row_at rows' bank).room) → KeepsRoom old new
+  keeps_room count upto row = record {
     banks = as_many count;
     room = λ bank. let it = room_most 0 (omega arith) (λ b. omega (arith, row b)) bank in omega arith;
   }
 
-  pub takes_room : length rows' ≡ length rows → places_in orders ≤ places_in orders' + 1 → ((bank : ℕ) → (row_at rows bank).room ≤ (row_at rows' bank).room + 1) → TakesRoom old new
-  takes_room count places row = record { banks = as_many count; room = room_most 1 places row }
+  pub takes_room : length rows' ≡ length rows → places ≤ places' + 1 → ((bank : ℕ) → (row_at rows bank).room ≤ (row_at rows' bank).room + 1) → TakesRoom old new
+  takes_room count upto row = record { banks = as_many count; room = room_most 1 upto row }
 
 -- where one row lost at most so many places
 pub written_most : (most : ℕ) (rows rows' : List Row) (bank : ℕ) (row row' : Row) → Written rows rows' bank row row' → row.room ≤ row'.room + most

@@ -71,6 +71,18 @@ impl NumberRow {
         }
     }
 
+    /// Makes room for one entry more, and keeps stale ones. A full row grows to twice its length. At `Memory` there may be none.
+    pub(crate) fn widen(&mut self) -> Result<(), Memory>
+        ensures room { OnOk result (1 ≤ self.new.room) }
+        ensures kept_room { self.old.room ≤ self.new.room }
+        ensures entries { self.new.entries ≡ self.old.entries }
+    {
+        if self.entries.len() == self.entries.capacity() {
+            self.entries.reserve_exact(self.entries.len().max(1))?;
+        }
+        Ok(())
+    }
+
     /// Makes room for one entry more of a bank whose orders these are. A full row lets its stale entries go, and grows to twice
     /// what is left where that is more than half of it, so that room costs few steps on the average. At `Memory` there may be
     /// none.

@@ -159,7 +159,7 @@ fn earlier(first: Option<Resting>, second: Resting) -> Resting
 }
 
 /// So many rows with no entries.
-fn bare_rows(alloc: Global, count: usize) -> Result<Vec<NumberRow>, Memory>
+pub(crate) fn bare_rows(alloc: Global, count: usize) -> Result<Vec<NumberRow>, Memory>
     ensures count { IfOk result (λ rows. length rows.items ≡ count) }
 {
     let mut rows = Vec::new(alloc);

@@ -66,6 +66,9 @@ is_live slots bank entry = is_under slots entry.key bank entry.number
 abbrev pub places_in : Slab Resting → ℕ
 places_in orders = orders.capacity - slab_len orders
 
--- how many orders more can be added that this row is for
+-- how many orders more can be added that a row is for, where there are so many places
+abbrev pub room_with : ℕ → Row → ℕ
+room_with places row = min places row.room
+
 abbrev pub room_in : Slab Resting → Row → ℕ
-room_in orders row = min (places_in orders) row.room
+room_in orders = room_with (places_in orders)

@@ -1,0 +1,176 @@
+ghost use Rattle.std.specs.Prelude.{ℕ, ◌≡◌, ◌+◌, ◌<◌, ◌≤◌, ◌∷◌, ◌++◌, [], Some, None, length, min, slice_set, IfOk, OnOk, IfSome, IsSome, IsSomeAnd};
+ghost use Rattle.order_store.specs.inside.Chains.{slots_of};
+ghost use Rattle.order_store.specs.inside.Rows.{is_under};
+ghost use Rattle.order_store.specs.Linked.{AreListed, IsFirstFrom, IsInLevel, IsLastBelow};
+ghost use Rattle.order_store.specs.Orders.{IsOf, KeepsRoom, Lacks, TakesRoom, kept, order_at, room_for};
+
+use crate::nodes::Nodes;
+use crate::row::NumberRow;
+use crate::store::bare_rows;
+use fx_amounts::{BankId, Lots, Memory};
+use fx_rules::Resting;
+use std::alloc::Global;
+use std::marker::Model;
+
+/// The orders that rest in a book, in a list by arrival, so that the lower of two places has the order that arrived first. Each one is
+/// linked with its neighbours in its level, which are the orders of its bank and side at its price. An order that is gone leaves its
+/// place empty.
+///
+/// A pair's book is to stand on it. Nothing calls it yet.
+#[derive(Drop)]
+pub struct OrderList {
+    nodes: Nodes,
+    /// For each bank the places of its orders, by number.
+    rows: Vec<NumberRow>,
+    /// How many orders there are.
+    count: usize,
+}
+
+impl Model for OrderList {
+    ghost use Rattle.std.specs.Prelude.{map};
+    ghost use Rattle.order_store.specs.Orders.{Orders};
+    ghost use Rattle.order_store.specs.inside.Chains.{IsKept, slots_of};
+    ghost use Rattle.order_store.specs.inside.Rows.{room_with};
+
+    ghost Value = { Orders };
+
+    ghost view = { λ l. record { slots = slots_of l.nodes.nodes; room = map (room_with l.nodes.room) l.rows.items } };
+
+    ghost invariant = { λ l. IsKept l.nodes.nodes l.count l.rows.items };
+}
+
+impl OrderList {
+    /// No orders of so many banks, 64 at most, and no room for any. `Memory` when out of memory.
+    pub fn new(alloc: Global, banks: usize) -> Result<OrderList, Memory>
+        ensures empty { IfOk result (λ list. list.slots ≡ []) }
+        ensures banks { IfOk result (λ list. length list.room ≡ min banks 64) }
+    {
+        let rows = bare_rows(alloc, banks.min(BankId::COUNT))?;
+        Ok(OrderList {
+            nodes: Nodes::new(alloc),
+            rows,
+            count: 0,
+        })
+    }
+
+    /// How many orders there are.
+    pub fn len(&self) -> usize
+        ensures count { result ≡ kept self.now }
+        ensures valid { AreListed self.now }
+    {
+        self.count
+    }
+
+    /// Makes room for one order more of a bank. At `Memory` there may be none.
+    pub fn reserve(&mut self, bank: BankId) -> Result<(), Memory>
+        requires bank { bank < length self.old.room }
+        ensures has_room { OnOk result (1 ≤ room_for self.new bank) }
+        ensures room { KeepsRoom self.old self.new }
+        ensures slots { self.new.slots ≡ self.old.slots }
+        ensures valid { AreListed self.new }
+    {
+        self.nodes.reserve()?;
+        let row = &mut self.rows[bank.index()];
+        row.widen()
+    }
+
+    /// An order comes behind all others, and `before` is the place of the last one of its level. It takes one of the places that there
+    /// is room for, moves no order and takes no memory.
+    pub fn push(&mut self, order: Resting, before: Option<u32>) -> u32
+        requires room { 1 ≤ room_for self.old order.bank }
+        requires absent { Lacks self.old order.bank order.number }
+        requires later { (place : ℕ) (other : _) → order_at self.old place ≡ Some other → other.arrival < order.arrival }
+        requires before { IsLastBelow (IsInLevel (order_at self.old) order) (length self.old.slots) before }
+        ensures place { result ≡ length self.old.slots }
+        ensures slots { self.new.slots ≡ self.old.slots ++ Some order ∷ [] }
+        ensures room { TakesRoom self.old self.new }
+        ensures valid { AreListed self.new }
+    {
+        let Resting { bank, number, .. } = order;
+        let place = self.nodes.len();
+        self.nodes.push(order, before);
+        self.nodes.set_behind(before, Some(place as u32));
+        self.count += 1;
+        let row = &mut self.rows[bank.index()];
+        row.add(number, place);
+        place as u32
+    }
+
+    /// The order at a place.
+    pub fn order(&self, place: u32) -> Resting
+        requires live { IsSome (order_at self.now place) }
+        ensures value { order_at self.now place ≡ Some result }
+        ensures valid { AreListed self.now }
+    {
+        self.nodes.order(place as usize).unwrap()
+    }
+
+    /// The place of the order before that at a place, in its level; `None` where it is the first.
+    pub fn before(&self, place: u32) -> Option<u32>
+        requires live { IsSome (order_at self.now place) }
+        ensures before { IfSome (order_at self.now place) (λ order. IsLastBelow (IsInLevel (order_at self.now) order) place result) }
+        ensures valid { AreListed self.now }
+    {
+        self.nodes.before(place as usize)
+    }
+
+    /// The place of the order behind that at a place, in its level; `None` where it is the last.
+    pub fn behind(&self, place: u32) -> Option<u32>
+        requires live { IsSome (order_at self.now place) }
+        ensures behind { IfSome (order_at self.now place) (λ order. IsFirstFrom (IsInLevel (order_at self.now) order) (place + 1) result) }
+        ensures valid { AreListed self.now }
+    {
+        self.nodes.behind(place as usize)
+    }
+
+    /// The order at a place has so many lots left from now on.
+    pub fn lower(&mut self, place: u32, left: Lots)
+        requires live { IsSome (order_at self.old place) }
+        ensures slots { IfSome (order_at self.old place) (λ order. self.new.slots ≡ slice_set self.old.slots place (Some (record order { left = left }))) }
+        ensures room { self.new.room ≡ self.old.room }
+        ensures valid { AreListed self.new }
+    {
+        self.nodes.lower(place as usize, left);
+    }
+
+    /// The order at a place goes; its neighbours are linked with each other.
+    pub fn remove(&mut self, place: u32)
+        requires live { IsSome (order_at self.old place) }
+        ensures slots { self.new.slots ≡ slice_set self.old.slots place None }
+        ensures room { self.new.room ≡ self.old.room }
+        ensures valid { AreListed self.new }
+    {
+        let place = place as usize;
+        let before = self.nodes.before(place);
+        let behind = self.nodes.behind(place);
+        self.nodes.set_behind(before, behind);
+        self.nodes.set_before(behind, before);
+        self.nodes.clear(place);
+        self.count -= 1;
+    }
+
+    /// The place of the order of this bank and number; `None` where none rests.
+    pub fn find(&self, bank: BankId, number: u32) -> Option<u32>
+        ensures found { IfSome result (λ place. IsSomeAnd (order_at self.now place) (IsOf bank number)) }
+        ensures none { result ≡ None → Lacks self.now bank number }
+        ensures valid { AreListed self.now }
+    {
+        let row = self.rows.get(bank.index())?;
+        let place = row.key_of(number)?;
+        if is_under(&self.nodes, place, bank, number) {
+            Some(place as u32)
+        } else {
+            None
+        }
+    }
+}
+
+/// Whether the order of this bank and number is at a place.
+fn is_under(nodes: &Nodes, place: usize, bank: BankId, number: u32) -> bool
+    ensures { result ≡ is_under (slots_of nodes.now.nodes) place bank number }
+{
+    match nodes.order(place) {
+        Some(order) => order.bank == bank && order.number == number,
+        None => false,
+    }
+}
