@@ -1,16 +1,15 @@
 -- What `keep` and `restart` did, by how far they came.
-use Rattle.std.proofs.Common.{ℕ, ◌≡◌, ◌⊎◌, ◌+◌, ◌<◌, ◌≤◌, ◌^◌, List, [], ◌∷◌, ◌++◌, length, map, Option, Some, None, Result, Ok, Err, refl, ap, sym, ◌∙◌, subst, arith, inl, inr}
+use Rattle.std.proofs.Common.{ℕ, ◌≡◌, ◌⊎◌, ◌<◌, ◌≤◌, List, [], ◌∷◌, ◌++◌, length, map, Option, Result, Ok, Err, refl, ap, sym, ◌∙◌, subst, arith, inl, inr}
 use Rattle.std.specs.Prelude.{is_some}
 use Rattle.std.proofs.lemmas.List.{length-map}
 use Rattle.fx_amounts.specs.OutOfMemory.{refused}
 use Rattle.fx_amounts.specs.declared.memory.Memory.{Memory as AmountsMemory}
-use Rattle.fx_edges.specs.Faults.{Rose}
 use Rattle.fx_edges.proofs.Reading.{Took-nil}
 use Rattle.fx_edges.proofs.Writing.{Appended-nil}
-use Rattle.fx_rules.specs.declared.command.Sent.{Sent}
 use Rattle.fx_rules.specs.declared.outcome.Entry.{Entry}
 use Rattle.fx_rules.specs.Lists.{Among}
 use Rattle.fx_rules.specs.Session.{Header as SessionHeader}
+use Rattle.fx_rules.specs.History.{IsLegal}
 use Rattle.fx_rules.specs.Sending.{sent_by}
 use Rattle.fx_disk.specs.Disk.{WhereTold, Only, LeavesOnly}
 use Rattle.keep_disk.specs.Blocks.{whole_blocks}
@@ -28,17 +27,20 @@ use Rattle.session_script.specs.declared.ends.TextEnd.TheVariants as ends
 use Rattle.session_script.specs.declared.ends.Stop.{Stop}
 use Rattle.session_script.specs.declared.ends.Stop.TheVariants as stops
 use Rattle.session_script.proofs.ScriptReading.{GoesOn-nil, prompt_here}
-use Rattle.session_script.specs.Reading.{TextEndedBehind}
+use Rattle.session_script.specs.Reading.{HasNoFault, TextEndedBehind}
 use Rattle.session_script.specs.Script.{HasSession}
+use Rattle.session_script.proofs.ScriptLaws.{HasSession-no_fault, HasFault-more}
 use Rattle.session_script.specs.declared.ends.EarlyEnd.{EarlyEnd}
-use Rattle.kept_call.specs.Call.{StopsANewSession, StopsARestart, ReadSo, KeptNew, DidKeep, DidRestart}
+use Rattle.kept_call.specs.Call.{StopsANewSession, StopsARestart, ReadSo, TookText, Completes, KeptSession, KeptNew, DidKeep, DidRestart}
 use Rattle.kept_call.specs.Fault.{of_keeper, of_stop, Exactly, HasCauses}
-use Rattle.kept_call.specs.Kept.{EveryMoment, AtReturn, StopsASession, AnsweredSo, EndedSo, KeptNothing, KeptBehind}
+use Rattle.kept_call.specs.Kept.{StopsASession, EndedSo, KeptNothing, KeptBehind}
 use Rattle.kept_call.specs.inside.Served.{Served, gone_on, IsRefusal}
 use Rattle.kept_call.specs.declared.fault.KeptFault.{KeptFault}
 use Rattle.kept_call.specs.declared.fault.KeptFault.TheVariants.{Header, Early, Kept, Empty, Damaged, Full, Disk, Write, Memory}
+use Rattle.kept_call.proofs.Exactly.{took-text, completes, completes-refused}
 use Rattle.kept_call.proofs.Faults.{causes-steady}
 use Rattle.kept_call.proofs.Opening.{opened-short, opened-kept, opened-moments, opened-at_return}
+use Rattle.kept_call.proofs.ReadingBack.{read_back-behind, read_back-new}
 
 abbrev Answer : Type 0
 Answer = Result TextEnd KeptFault
@@ -93,7 +95,7 @@ none_longer blocks none some = omega (arith, ap (λ (bs : List (List ℕ)). leng
 -- The faults of a file that could not be opened
 
 keeper_read : (fault : KeepFault) (known : Option (List ℕ)) → ReadSo [] known [] (Err (of_keeper fault))
-keeper_read keeps.Disk known = tt
+keeper_read keeps.Disk known = inl refl
 keeper_read (keeps.Memory memory) known = tt
 
 keeper_is_none : (fault : KeepFault) (other : KeptFault) → (Disk ≡ other → ⊥) → ((memory : AmountsMemory) → Memory memory ≡ other → ⊥) → of_keeper fault ≡ other → ⊥
@@ -129,11 +131,11 @@ module _ {K : Type 0} (written : K → Option (List ℕ)) (faults : K → ℕ) (
   read_served (Ok end) rounds count session told = ((h, session), told_ended end rounds count told)
   read_served (Err (Header line reason)) rounds count session told = absurd (told_stops (Err (Header line reason)) rounds count told)
   read_served (Err (Early end)) rounds count session told = absurd (told_stops (Err (Early end)) rounds count told)
-  read_served (Err Kept) rounds count session told = tt
-  read_served (Err Empty) rounds count session told = tt
-  read_served (Err (Damaged block)) rounds count session told = tt
-  read_served (Err Full) rounds count session told = tt
-  read_served (Err Disk) rounds count session told = tt
+  read_served (Err Kept) rounds count session told = absurd (told_stops (Err Kept) rounds count told)
+  read_served (Err Empty) rounds count session told = absurd (told_stops (Err Empty) rounds count told)
+  read_served (Err (Damaged block)) rounds count session told = absurd (told_stops (Err (Damaged block)) rounds count told)
+  read_served (Err Full) rounds count session told = absurd (told_stops (Err Full) rounds count told)
+  read_served (Err Disk) rounds count session told = inr (h, session)
   read_served (Err Write) rounds count session told = (h, session)
   read_served (Err (Memory memory)) rounds count session told = tt
 
@@ -194,6 +196,10 @@ whole_few bodies {h} {entries} whole commands full =
     let same : full.kept ≡ record { session = h; commands = map sent_by entries } = listed_to full.kept (record { session = h; commands = map sent_by entries }) (sym full.holds ∙ whole.holds) in
     omega (arith, full.many, full.told, whole.few, ap (λ (kept : Listed). length kept.commands) same, length-map entries sent_by)
 
+whole_same : (bodies : List (List ℕ)) {h g : SessionHeader} {entries others : List Entry} → IsWhole bodies h entries → IsWhole bodies g others → h ≡ g
+whole_same bodies {h} {g} {entries} {others} one other =
+    ap (λ (kept : Listed). kept.session) (listed_to (record { session = h; commands = map sent_by entries }) (record { session = g; commands = map sent_by others }) (sym one.holds ∙ other.holds))
+
 refused_empty : (bodies : List (List ℕ)) (fault : KeptFault) → IsRefusal bodies fault → Exactly (err_of fault) Empty (bodies ≡ [])
 refused_empty bodies Empty refusal = record { only = λ is. refusal; always = λ cause. inl refl }
 refused_empty bodies (Damaged block) refusal = record { only = λ is. absurd cc; always = λ none. absurd (none_longer bodies none refusal.0) }
@@ -233,6 +239,18 @@ refused_full bodies Kept refusal = absurd refusal
 refused_full bodies Disk refusal = absurd refusal
 refused_full bodies Write refusal = absurd refusal
 
+-- whole blocks are refused for want of memory alone
+refused_whole : (bodies : List (List ℕ)) (fault : KeptFault) {h : SessionHeader} {entries : List Entry} → IsRefusal bodies fault → IsWhole bodies h entries → Among (err_of fault) (Err Disk ∷ Err (Memory refused) ∷ [])
+refused_whole bodies Empty refusal whole = absurd (whole_some bodies whole refusal)
+refused_whole bodies (Damaged block) refusal whole = absurd (whole_undamaged bodies whole block refusal.1)
+refused_whole bodies Full refusal whole = absurd (whole_few bodies whole refusal.0 refusal.2)
+refused_whole bodies (Memory memory) refusal whole = inr (inl refl)
+refused_whole bodies (Header line reason) refusal whole = absurd refusal
+refused_whole bodies (Early end) refusal whole = absurd refusal
+refused_whole bodies Kept refusal whole = absurd refusal
+refused_whole bodies Disk refusal whole = absurd refusal
+refused_whole bodies Write refusal whole = absurd refusal
+
 refused_disk : (bodies : List (List ℕ)) (fault : KeptFault) → IsRefusal bodies fault → fault ≡ Disk → ⊥
 refused_disk bodies fault refusal is = subst (IsRefusal bodies) is refusal
 
@@ -264,27 +282,44 @@ module _ {D K S : Type 0} (bytes : D → Option (List ℕ)) (may_leave : D → L
   abbrev Causes : D → D → K → K → Answer → Type 0
   Causes d d' k k' result = HasCauses disk_faults faults d d' k k' result
 
+  abbrev Served-whole : D → D → K → K → S → S → Answer → List ℕ → Type 0
+  Served-whole d d' k k' s s' result front = Completes bytes may_leave moment left_since disk_faults written faults left failed d d' k k' s s' result front
+
+  -- what was taken of a new session's text
+  abbrev Took-new : S → S → Answer → Type 0
+  Took-new s s' result = TookText (Err Kept ∷ []) [] left failed s s' result
+
+  keep-complete : (d d' : D) (k k' : K) (s s' : S) (result : Answer) → Took-new s s' result → WhereTold (bytes d) (λ file. Exactly result Kept (0 < length (whole_blocks file))) → Causes d d' k k' result
+      → WhereTold (bytes d) (λ file. whole_blocks file ≡ [] → Served-whole d d' k k' s s' result [])
+  keep-complete d d' k k' s s' result took kept causes = λ file told fresh.
+      completes bytes may_leave moment left_since disk_faults written faults left failed d d' k k' s s' result (Err Kept ∷ []) [] took causes (λ is. none_longer (whole_blocks file) fresh ((kept file told).only is))
+
   -- the file could not be opened
   pub keep-unopened : (d0 d : D) (k : K) (s : S) (fault : KeepFault) → Opens d0 d → Causes d0 d k k (Err (of_keeper fault)) → Kept-did d0 d k k s s (Err (of_keeper fault))
   keep-unopened d0 d k s fault opens causes = record {
-    took = record {
-      input = [];
-      took = Took-nil left failed s;
-      within = omega arith;
-      prompt = prompt_here [] [] GoesOn-nil;
-      read = keeper_read fault (left s);
-      read_fault = λ is. absurd (no_read_fault is);
-    };
-    kept = λ file told. record { only = λ is. absurd (keeper_is_none fault Kept (λ e. cc) (λ m e. cc) (err_to (of_keeper fault) Kept is)); always = λ cause. keeper_among fault Kept };
+    took = taken;
+    kept = kept;
     unread = λ is. refl;
     causes = causes;
+    complete = keep-complete d0 d k k s s (Err (of_keeper fault)) taken kept causes;
     on_disk = record { rounds = []; count = 0; every_moment = opened-short bytes may_leave moment left_since d0 d [] opens; at_return = inl (record { fault = keeper_unopened fault; none = refl; unwritten = refl }) };
     told = inl (record { none = refl; unwritten = Appended-nil written faults k; fault = of_keeper fault; answers = refl; among = stops_new fault });
   }
     where
+      not_kept_fault : err_of (of_keeper fault) ≡ Err Kept → ⊥
+      not_kept_fault is = keeper_is_none fault Kept (λ e. cc) (λ m e. cc) (err_to (of_keeper fault) Kept is)
+
+      kept : WhereTold (bytes d0) (λ file. Exactly (err_of (of_keeper fault)) Kept (0 < length (whole_blocks file)))
+      kept = λ file told. record { only = λ is. absurd (not_kept_fault is); always = λ cause. keeper_among fault Kept }
+
       no_read_fault : (err_of (of_keeper fault) ≡ Ok (ends.Early ReadFault)) ⊎ (err_of (of_keeper fault) ≡ Err (Early ReadFault)) → ⊥
       no_read_fault (inl is) = cc
       no_read_fault (inr is) = keeper_is_none fault (Early ReadFault) (λ e. cc) (λ m e. cc) (err_to (of_keeper fault) (Early ReadFault) is)
+
+      taken : Took-new s s (Err (of_keeper fault))
+      taken =
+          took-text (Err Kept ∷ []) [] left failed s s (Err (of_keeper fault)) [] (Took-nil left failed s) (omega arith) (prompt_here [] [] GoesOn-nil) GoesOn-nil.0
+          (λ is. absurd (not_kept_fault is)) (keeper_read fault (left s)) (λ is. absurd (no_read_fault is))
 
       stops_new : (f : KeepFault) → StopsANewSession (of_keeper f)
       stops_new keeps.Disk = tt
@@ -294,10 +329,11 @@ module _ {D K S : Type 0} (bytes : D → Option (List ℕ)) (may_leave : D → L
   pub keep-kept : (d0 d : D) (k : K) (s : S) → Opens d0 d → WhereTold (bytes d0) (λ file. (image : List ℕ) → may_leave d image → whole_blocks image ≡ whole_blocks file) → WhereTold (bytes d0) (λ file. 0 < length (whole_blocks file))
       → disk_faults d ≡ disk_faults d0 → Kept-did d0 d k k s s (Err Kept)
   keep-kept d0 d k s opens same some steady = record {
-    took = record { input = []; took = Took-nil left failed s; within = omega arith; prompt = prompt_here [] [] GoesOn-nil; read = tt; read_fault = λ is. absurd (no_read_fault is) };
-    kept = λ file told. record { only = λ is. some file told; always = λ cause. inl refl };
+    took = taken;
+    kept = kept;
     unread = λ is. refl;
-    causes = causes-steady disk_faults faults d0 d k k (Err Kept) steady (omega arith) (λ is. cc) (λ is. cc);
+    causes = causes;
+    complete = keep-complete d0 d k k s s (Err Kept) taken kept causes;
     on_disk = record { rounds = []; count = 0; every_moment = opened-short bytes may_leave moment left_since d0 d [] opens; at_return = inr (opened-kept bytes may_leave moment left_since d0 d opens same []) };
     told = inl (record { none = refl; unwritten = Appended-nil written faults k; fault = Kept; answers = refl; among = tt });
   }
@@ -306,24 +342,25 @@ module _ {D K S : Type 0} (bytes : D → Option (List ℕ)) (may_leave : D → L
       no_read_fault (inl is) = cc
       no_read_fault (inr is) = cc
 
+      taken : Took-new s s (Err Kept)
+      taken =
+          took-text (Err Kept ∷ []) [] left failed s s (Err Kept) [] (Took-nil left failed s) (omega arith) (prompt_here [] [] GoesOn-nil) GoesOn-nil.0 (λ is. inl refl) refl (λ is. absurd (no_read_fault is))
+
+      kept : WhereTold (bytes d0) (λ file. Exactly (err_of Kept) Kept (0 < length (whole_blocks file)))
+      kept = λ file told. record { only = λ is. some file told; always = λ cause. inl refl }
+
+      causes : Causes d0 d k k (Err Kept)
+      causes = causes-steady disk_faults faults d0 d k k (Err Kept) steady (omega arith) (λ is. cc) (λ is. cc)
+
   -- the text stopped before START
   pub keep-stopped : (d0 d : D) (k : K) (s s' : S) (stop : Stop) → Opens d0 d → WhereTold (bytes d0) (λ file. (image : List ℕ) → may_leave d image → whole_blocks image ≡ whole_blocks file) → WhereTold (bytes d0) (λ file. whole_blocks file ≡ [])
       → disk_faults d ≡ disk_faults d0 → HasStopped left failed s s' stop → Kept-did d0 d k k s s' (Err (of_stop stop))
   keep-stopped d0 d k s s' stop opens same fresh steady has = record {
-    took = record {
-      input = has.input;
-      took = has.took;
-      within = has.within;
-      prompt = has.prompt;
-      read = stopped_read left failed s s' stop has;
-      read_fault = λ is. has.cause (read_fault is);
-    };
-    kept = λ file told. record {
-      only = λ is. absurd (stopped_is_none stop (err_to (of_stop stop) Kept is));
-      always = λ some. absurd (none_longer (whole_blocks file) (fresh file told) some);
-    };
-    unread = λ is. absurd (stopped_is_none stop (err_to (of_stop stop) Kept is));
-    causes = causes-steady disk_faults faults d0 d k k (Err (of_stop stop)) steady (omega arith) (λ is. no_disk stop (err_to (of_stop stop) Disk is)) (λ is. no_write stop (err_to (of_stop stop) Write is));
+    took = taken;
+    kept = kept;
+    unread = λ is. absurd (not_kept_stop is);
+    causes = causes;
+    complete = keep-complete d0 d k k s s' (Err (of_stop stop)) taken kept causes;
     on_disk = record { rounds = []; count = 0; every_moment = opened-short bytes may_leave moment left_since d0 d [] opens; at_return = inr (opened-kept bytes may_leave moment left_since d0 d opens same []) };
     told = inl (record { none = refl; unwritten = Appended-nil written faults k; fault = of_stop stop; answers = refl; among = stopped_among stop });
   }
@@ -342,27 +379,37 @@ module _ {D K S : Type 0} (bytes : D → Option (List ℕ)) (may_leave : D → L
       no_write (stops.Early end) is = cc
       no_write (stops.Memory memory) is = cc
 
+      not_kept_stop : err_of (of_stop stop) ≡ Err Kept → ⊥
+      not_kept_stop is = stopped_is_none stop (err_to (of_stop stop) Kept is)
+
+      taken : Took-new s s' (Err (of_stop stop))
+      taken =
+          took-text (Err Kept ∷ []) [] left failed s s' (Err (of_stop stop)) has.input has.took has.within has.prompt GoesOn-nil.0
+          (λ is. absurd (not_kept_stop is)) (stopped_read left failed s s' stop has) (λ is. has.cause (read_fault is))
+
+      kept : WhereTold (bytes d0) (λ file. Exactly (err_of (of_stop stop)) Kept (0 < length (whole_blocks file)))
+      kept = λ file told. record { only = λ is. absurd (not_kept_stop is); always = λ some. absurd (none_longer (whole_blocks file) (fresh file told) some) }
+
+      causes : Causes d0 d k k (Err (of_stop stop))
+      causes = causes-steady disk_faults faults d0 d k k (Err (of_stop stop)) steady (omega arith) (λ is. no_disk stop (err_to (of_stop stop) Disk is)) (λ is. no_write stop (err_to (of_stop stop) Write is))
+
   -- the session was served, from the disk on which the file is open
   module _ (reads : (disk : D) → WhereTold (bytes disk) (λ file. may_leave disk file)) (d0 d d' : D) (k k' : K) (s s' : S) (opens : Opens d0 d) (same : WhereTold (bytes d0) (λ file. (image : List ℕ) → may_leave d image → whole_blocks image ≡ whole_blocks file))
       (tells : is_some (bytes d) ≡ is_some (bytes d0)) (h : SessionHeader) (result : Answer) where
     pub keep-served : WhereTold (bytes d0) (λ file. whole_blocks file ≡ []) → Served bytes may_leave moment left_since written faults left failed [] s (new_session h d k) d' k' h s' result → Causes d0 d' k k' result → Kept-did d0 d' k k' s s' result
     keep-served fresh served causes =
         let stops : Stops result = told_stops written faults k k' h [] (head_text_of h ∷ []) [] served.took.input (left s') result served.rounds served.count served.told in
+        let kept : WhereTold (bytes d0) (λ file. Exactly result Kept (0 < length (whole_blocks file))) =
+        λ file told. record { only = λ is. absurd (never result Kept stops (λ no. no) is); always = λ some. absurd (none_longer (whole_blocks file) (fresh file told) some) } in
+        let took =
+        took-text (Err Kept ∷ []) [] left failed s s' result served.took.input served.took.took served.took.within served.took.prompt GoesOn-nil.0 (λ is. absurd (never result Kept stops (λ no. no) is))
+        (read_served written faults k k' h [] (head_text_of h ∷ []) [] served.took.input (left s') result served.rounds served.count served.session served.told) (either_fault result stops served.read_fault) in
         record {
-          took = record {
-            input = served.took.input;
-            took = served.took.took;
-            within = served.took.within;
-            prompt = served.took.prompt;
-            read = read_served written faults k k' h [] (head_text_of h ∷ []) [] served.took.input (left s') result served.rounds served.count served.session served.told;
-            read_fault = either_fault result stops served.read_fault;
-          };
-          kept = λ file told. record {
-            only = λ is. absurd (never result Kept stops (λ no. no) is);
-            always = λ some. absurd (none_longer (whole_blocks file) (fresh file told) some);
-          };
+          took = took;
+          kept = kept;
           unread = λ is. absurd (never result Kept stops (λ no. no) is);
           causes = causes;
+          complete = keep-complete d0 d' k k' s s' result took kept causes;
           on_disk = record {
             rounds = served.rounds;
             count = served.count;
@@ -375,38 +422,51 @@ module _ {D K S : Type 0} (bytes : D → Option (List ℕ)) (may_leave : D → L
         new_told : Told written faults k k' h [] (head_text_of h ∷ []) [] served.took.input (left s') result served.rounds served.count
             → KeptNothing written faults k k' StopsANewSession result served.rounds ⊎ KeptNew bytes may_leave moment left_since disk_faults written faults left failed d0 d' k k' s s' result served.took.input served.rounds served.count
         new_told (inl nothing) = inl (record { none = nothing.none; unwritten = nothing.unwritten; fault = nothing.fault; answers = nothing.answers; among = session_stops_new nothing.fault nothing.among })
-        new_told (inr behind) = inr (record { session = h; fresh = fresh; behind = behind })
+        new_told (inr behind) = inr (record {
+          session = h;
+          fresh = fresh;
+          kept = record {
+            behind = behind;
+            read_back = λ file told image first.
+                read_back-new h behind.parts served.rounds (whole_blocks file) (whole_blocks image) first.count (subst (IsLegal h) behind.joined behind.legal) behind.are_rounds (fresh file told) first.blocks;
+          };
+        })
 
     pub restart-served : (history : List Entry) → WhereTold (bytes d0) (λ file. IsWhole (whole_blocks file) h history) → Served bytes may_leave moment left_since written faults left failed (head_text_of h) s (gone_on history d k) d' k' h s' result → Causes d0 d' k k' result
         → Gone-did d0 d' k k' s s' result
     restart-served history whole served causes =
         let stops : Stops result = told_stops written faults k k' h history [] (head_text_of h) served.took.input (left s') result served.rounds served.count served.told in
+        let none : HasNoFault (head_text_of h) =
+        λ line reason fault. HasSession-no_fault (head_text_of h ++ served.took.input) h line reason served.session (HasFault-more (head_text_of h) served.took.input line reason fault) in
+        let took =
+        took-text [] (head_text_of h) left failed s s' result served.took.input served.took.took served.took.within served.took.prompt none (λ is. absurd (never result Kept stops (λ no. no) is))
+        (read_served written faults k k' h history [] (head_text_of h) served.took.input (left s') result served.rounds served.count served.session served.told) (either_fault result stops served.read_fault) in
         record {
           empty = λ file told. record { only = λ is. absurd (never result Empty stops (λ no. no) is); always = λ none. absurd (whole_some (whole_blocks file) (whole file told) none) };
           damaged = λ file told block. record { only = λ is. absurd (never result (Damaged block) stops (λ no. no) is); always = λ cause. absurd (whole_undamaged (whole_blocks file) (whole file told) block cause.1) };
           full = λ file told. record { only = λ is. absurd (never result Full stops (λ no. no) is); always = λ cause. absurd (whole_few (whole_blocks file) (whole file told) cause.0 cause.2) };
           causes = causes;
+          complete = λ file told other entries its.
+              subst (λ (g : SessionHeader). Served-whole d0 d' k k' s s' result (head_text_of g)) (whole_same (whole_blocks file) (whole file told) its)
+              (completes bytes may_leave moment left_since disk_faults written faults left failed d0 d' k k' s s' result [] (head_text_of h) took causes (never result Kept stops (λ no. no)));
           on_disk = record {
             rounds = served.rounds;
             count = served.count;
             every_moment = opened-moments bytes may_leave moment left_since d0 d opens same tells reads d' served.rounds served.moments;
             at_return = inr (opened-at_return bytes may_leave moment left_since d0 d opens same tells reads d' served.rounds served.count served.at_return);
           };
-          told = inr (record {
-            session = h;
-            history = history;
-            whole = whole;
-            took = record {
-              input = served.took.input;
-              took = served.took.took;
-              within = served.took.within;
-              prompt = served.took.prompt;
-              read = read_served written faults k k' h history [] (head_text_of h) served.took.input (left s') result served.rounds served.count served.session served.told;
-              read_fault = either_fault result stops served.read_fault;
-            };
-            told = served.told;
-          });
+          told = inr (record { session = h; history = history; whole = whole; took = took; told = went_told served.told });
         }
+      where
+        went_told : Told written faults k k' h history [] (head_text_of h) served.took.input (left s') result served.rounds served.count
+            → KeptNothing written faults k k' StopsASession result served.rounds ⊎ KeptSession bytes may_leave moment left_since disk_faults written faults left failed d0 d' k k' s s' result h history [] (head_text_of h) served.took.input served.rounds served.count
+        went_told (inl nothing) = inl nothing
+        went_told (inr behind) = inr (record {
+          behind = behind;
+          read_back = λ file told image first.
+              read_back-behind h history behind.parts served.rounds (whole_blocks file) (whole_blocks image) first.count
+              (subst (λ (es : List Entry). IsLegal h (history ++ es)) behind.joined behind.legal) behind.are_rounds (whole file told) first.blocks;
+        })
 
   -- out of memory once the history was read back
   pub restart-short : (d0 d : D) (k : K) (s : S) (memory : AmountsMemory) → Opens d0 d → WhereTold (bytes d0) (λ file. (image : List ℕ) → may_leave d image → whole_blocks image ≡ whole_blocks file) → disk_faults d ≡ disk_faults d0
@@ -415,10 +475,14 @@ module _ {D K S : Type 0} (bytes : D → Option (List ℕ)) (may_leave : D → L
     empty = λ file told. record { only = λ is. absurd cc; always = λ cause. inr (inr (inl refl)) };
     damaged = λ file told block. record { only = λ is. absurd cc; always = λ cause. inr (inr (inl refl)) };
     full = λ file told. record { only = λ is. absurd cc; always = λ cause. inr (inr (inl refl)) };
-    causes = causes-steady disk_faults faults d0 d k k (Err (Memory memory)) steady (omega arith) (λ is. cc) (λ is. cc);
+    causes = causes;
+    complete = λ file told h history whole. completes-refused bytes may_leave moment left_since disk_faults written faults left failed d0 d k k s s (Err (Memory memory)) (head_text_of h) causes (inr (inl refl));
     on_disk = record { rounds = []; count = 0; every_moment = opened-short bytes may_leave moment left_since d0 d [] opens; at_return = inr (opened-kept bytes may_leave moment left_since d0 d opens same []) };
     told = inl (record { none = refl; unwritten = Appended-nil written faults k; fault = Memory memory; answers = refl; among = tt }, refl);
   }
+    where
+      causes : Causes d0 d k k (Err (Memory memory))
+      causes = causes-steady disk_faults faults d0 d k k (Err (Memory memory)) steady (omega arith) (λ is. cc) (λ is. cc)
 
   -- the blocks are none to go on from
   pub restart-refused : (d0 d : D) (k : K) (s : S) (fault : KeptFault) → Opens d0 d → WhereTold (bytes d0) (λ file. (image : List ℕ) → may_leave d image → whole_blocks image ≡ whole_blocks file) → disk_faults d ≡ disk_faults d0
@@ -427,10 +491,16 @@ module _ {D K S : Type 0} (bytes : D → Option (List ℕ)) (may_leave : D → L
     empty = λ file told. subst (λ (bs : List (List ℕ)). Exactly (err_of fault) Empty (bs ≡ [])) (are file told) (refused_empty bodies fault refusal);
     damaged = λ file told block. subst (λ (bs : List (List ℕ)). Exactly (err_of fault) (Damaged block) ((0 < length bs) × (kept_in bs ≡ Err block))) (are file told) (refused_damaged bodies fault refusal block);
     full = λ file told. subst (λ (bs : List (List ℕ)). Exactly (err_of fault) Full ((commands : ℕ) × (0 < length bs) × IsFull bs commands)) (are file told) (refused_full bodies fault refusal);
-    causes = causes-steady disk_faults faults d0 d k k (Err fault) steady (omega arith) (λ is. refused_disk bodies fault refusal (err_to fault Disk is)) (λ is. refused_write bodies fault refusal (err_to fault Write is));
+    causes = causes;
+    complete = λ file told h history whole.
+        completes-refused bytes may_leave moment left_since disk_faults written faults left failed d0 d k k s s (Err fault) (head_text_of h) causes
+        (refused_whole bodies fault refusal (subst (λ (bs : List (List ℕ)). IsWhole bs h history) (sym (are file told)) whole));
     on_disk = record { rounds = []; count = 0; every_moment = opened-short bytes may_leave moment left_since d0 d [] opens; at_return = inr (opened-kept bytes may_leave moment left_since d0 d opens same []) };
     told = inl (record { none = refl; unwritten = Appended-nil written faults k; fault = fault; answers = refl; among = refused_among bodies fault refusal }, refl);
   }
+    where
+      causes : Causes d0 d k k (Err fault)
+      causes = causes-steady disk_faults faults d0 d k k (Err fault) steady (omega arith) (λ is. refused_disk bodies fault refusal (err_to fault Disk is)) (λ is. refused_write bodies fault refusal (err_to fault Write is))
 
   -- the file could not be opened
   pub restart-unopened : (d0 d : D) (k : K) (s : S) (fault : KeepFault) → Opens d0 d → Causes d0 d k k (Err (of_keeper fault)) → Gone-did d0 d k k s s (Err (of_keeper fault))
@@ -439,6 +509,7 @@ module _ {D K S : Type 0} (bytes : D → Option (List ℕ)) (may_leave : D → L
     damaged = λ file told block. record { only = λ is. absurd (keeper_is_none fault (Damaged block) (λ e. cc) (λ m e. cc) (err_to (of_keeper fault) (Damaged block) is)); always = λ cause. keeper_among fault (Damaged block) };
     full = λ file told. record { only = λ is. absurd (keeper_is_none fault Full (λ e. cc) (λ m e. cc) (err_to (of_keeper fault) Full is)); always = λ cause. keeper_among fault Full };
     causes = causes;
+    complete = λ file told h history whole. completes-refused bytes may_leave moment left_since disk_faults written faults left failed d0 d k k s s (Err (of_keeper fault)) (head_text_of h) causes (keeper_unopened fault);
     on_disk = record { rounds = []; count = 0; every_moment = opened-short bytes may_leave moment left_since d0 d [] opens; at_return = inl (record { fault = keeper_unopened fault; none = refl; unwritten = refl }) };
     told = inl (record { none = refl; unwritten = Appended-nil written faults k; fault = of_keeper fault; answers = refl; among = keeper_stops fault }, refl);
   }

@@ -1,6 +1,6 @@
 -- What an answer is by the fault of a call, and the causes of both.
-use Rattle.std.proofs.Common.{ℕ, ◌≡◌, ◌≤◌, List, Option, Result, Ok, Err, refl, sym, ◌∙◌, subst, ap, arith, inl, inr}
-use Rattle.std.specs.Prelude.{IsErrAnd, IsErrOf}
+use Rattle.std.proofs.Common.{ℕ, ◌≡◌, ◌≤◌, List, Option, Result, Ok, Err, refl, sym, ◌∙◌, subst, ap, arith}
+use Rattle.std.specs.Prelude.{IsErrAnd}
 use Rattle.fx_edges.specs.Faults.{Rose}
 use Rattle.fx_edges.proofs.FaultCounts.{Rose-from_later}
 use Rattle.fx_edges.specs.declared.sink.SinkFault.TheVariants as sinks
@@ -13,11 +13,10 @@ use Rattle.keep_disk.specs.declared.rounds.RunFault.TheVariants as runs
 use Rattle.reply_lines.specs.Faults.{WroteOutput}
 use Rattle.reply_lines.specs.declared.output.OutFault.{OutFault}
 use Rattle.reply_lines.specs.declared.output.OutFault.TheVariants as outs
-use Rattle.session_script.specs.declared.ends.TextEnd.{TextEnd}
 use Rattle.kept_call.specs.Fault.{of_keeper, of_run, of_out, HasCauses}
 use Rattle.kept_call.specs.Kept.{StopsASession}
 use Rattle.kept_call.specs.declared.fault.KeptFault.{KeptFault}
-use Rattle.kept_call.specs.declared.fault.KeptFault.TheVariants.{Disk, Write, Memory}
+use Rattle.kept_call.specs.declared.fault.KeptFault.TheVariants.{Disk, Write}
 
 -- an answer that is this fault
 pub for_err : {T E : Type 0} (result : Result T E) (e : E) (P : Result T E → Type 0) → IsErrAnd result (λ f. f ≡ e) → P (Err e) → P result

@@ -1,13 +1,13 @@
 -- A call, from the disk that it found on: what was said from the disk on which the file is open.
-use Rattle.std.proofs.Common.{ℕ, ◌≡◌, ◌≤◌, List, [], ◌∷◌, ◌++◌, length, Option, Some, Result, Ok, Err, refl, ap, sym, ◌∙◌, subst, arith, inl, inr, append-nil}
+use Rattle.std.proofs.Common.{ℕ, ◌≡◌, List, [], Option, Some, sym, ◌∙◌, subst, arith, append-nil}
 use Rattle.std.specs.Prelude.{is_some}
 use Rattle.fx_disk.specs.Disk.{WhereTold, Only, LeavesOnly}
-use Rattle.fx_disk.proofs.Leaving.{leaves_at_start, leaves_weaker, leaves_then}
+use Rattle.fx_disk.proofs.Leaving.{leaves_weaker, leaves_then}
 use Rattle.keep_disk.specs.Blocks.{whole_blocks}
 use Rattle.keep_disk.specs.Keeping.{AtRest}
 use Rattle.keep_disk.specs.declared.rounds.Round.{Round}
-use Rattle.keep_disk.specs.Rounds.{bodies_of, HasFirst, KeptSoFar, KeptUpTo}
-use Rattle.keep_disk.proofs.Telling.{told_now, kept_none, kept_stopped}
+use Rattle.keep_disk.specs.Rounds.{bodies_of, HasFirst, KeptSoFar}
+use Rattle.keep_disk.proofs.Telling.{told_now, kept_none}
 use Rattle.kept_call.specs.Kept.{EveryMoment, AtReturn}
 
 -- an image with the blocks from the start, and none of the call's

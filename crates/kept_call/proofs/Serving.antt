@@ -1,11 +1,9 @@
 -- A session that is kept and told from its start on: its end, and a fault.
-use Rattle.std.proofs.Common.{ℕ, ◌≡◌, ◌+◌, ◌<◌, ◌≤◌, ◌^◌, List, [], ◌∷◌, ◌++◌, length, map, take, Option, Some, None, Result, Ok, Err, refl, ap, sym, ◌∙◌, subst, arith, inl, inr, append-nil, take_all}
+use Rattle.std.proofs.Common.{ℕ, ◌≡◌, List, [], ◌∷◌, ◌++◌, length, take, Option, Some, None, Result, Ok, Err, refl, ap, sym, ◌∙◌, subst, arith, inl, inr, append-nil, take_all}
 use Rattle.std.specs.Io.KnownBytes.{append_known}
 use Rattle.std.proofs.lemmas.List.{length-map}
-use Rattle.fx_edges.specs.Faults.{Rose}
 use Rattle.fx_edges.specs.Writing.{Appended, AppendedPart}
-use Rattle.fx_edges.proofs.Writing.{IsPrefixOf-refl, Appended-nil, Appended-append, AppendedPart-cut, AppendedPart-whole}
-use Rattle.fx_disk.specs.Disk.{WhereTold, Only}
+use Rattle.fx_edges.proofs.Writing.{IsPrefixOf-refl, Appended-append, AppendedPart-cut, AppendedPart-whole}
 use Rattle.fx_rules.specs.declared.command.Sent.{Sent}
 use Rattle.fx_rules.specs.declared.outcome.Entry.{Entry}
 use Rattle.fx_rules.specs.Session.{Header}
@@ -15,7 +13,7 @@ use Rattle.fx_chronicle.specs.Faces.{Witness}
 use Rattle.gateway_workers.specs.declared.lane.Lane.{Lane}
 use Rattle.keep_disk.specs.declared.rounds.Round.{Round}
 use Rattle.keep_disk.specs.declared.rounds.RunFault.{RunFault}
-use Rattle.keep_disk.specs.Rounds.{bodies_of, text_of, KeptSoFar, KeptUpTo}
+use Rattle.keep_disk.specs.Rounds.{bodies_of, text_of, KeptUpTo}
 use Rattle.keep_disk.specs.Blocks.{whole_blocks}
 use Rattle.keep_disk.proofs.Telling.{kept_stopped, first_all}
 use Rattle.kept_run.specs.Running.{Start, new_session, AreBegunBy, HasNotBegun}
@@ -27,7 +25,7 @@ use Rattle.reply_lines.specs.declared.output.Ending.{Ending}
 use Rattle.reply_lines.specs.declared.output.OutFault.{OutFault}
 use Rattle.session_script.specs.Reading.{ProgressedBehind}
 use Rattle.session_script.specs.Rounds.{HasReadBehind, TookPromptlyBehind}
-use Rattle.session_script.specs.Script.{HasSession, sent_in, strays_of}
+use Rattle.session_script.specs.Script.{HasSession, sent_in}
 use Rattle.session_script.specs.Stage.{session_at, sent_at, strays_at}
 use Rattle.session_script.specs.declared.ends.EarlyEnd.TheVariants.{ReadFault}
 use Rattle.session_script.specs.declared.ends.TextEnd.{TextEnd}

@@ -1,5 +1,5 @@
 -- The commands of a legal history determine it.
-use Rattle.std.proofs.Common.{ℕ, ◌≡◌, ◌≤◌, ◌∙◌, List, [], ◌∷◌, length, map, Ok, refl, ap, sym, subst, arith}
+use Rattle.std.proofs.Common.{ℕ, ◌≡◌, ◌≤◌, ◌∙◌, List, length, map, Ok, ap, sym, subst, arith}
 use Rattle.std.proofs.lemmas.List.{length-map}
 use Rattle.fx_rules.specs.declared.outcome.Entry.{Entry}
 use Rattle.fx_rules.specs.declared.command.Sent.{Sent}

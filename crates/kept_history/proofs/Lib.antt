@@ -1,3 +1,4 @@
 pub mod LineLemmas
 pub mod BlockLemmas
 pub mod Histories
+pub mod Written

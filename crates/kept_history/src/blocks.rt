@@ -7,7 +7,7 @@ ghost use Rattle.kept_history.specs.inside.Stops.{AnswersKept, AnswersSent};
 use crate::lines::{read_commands, read_header};
 use crate::stop::Stop;
 use fx_rules::{Sent, Session};
-use keep_disk::Body;
+use fx_text::Bytes;
 use std::alloc::Global;
 
 /// What whole blocks hold.
@@ -19,7 +19,7 @@ pub(crate) struct Kept {
 }
 
 /// Reads the blocks: the first is a header, and the others are lines of commands.
-pub(crate) fn read_blocks(alloc: Global, bodies: &[Body]) -> Result<Kept, Stop>
+pub(crate) fn read_blocks(alloc: Global, bodies: &[Bytes]) -> Result<Kept, Stop>
     requires some { 0 < length bodies.now }
     ensures kept { AnswersKept result (kept_in bodies.now) }
     ensures valid { IfOk result (λ kept. Each (IsSentOf kept.session) kept.sent.items) }
@@ -32,7 +32,7 @@ pub(crate) fn read_blocks(alloc: Global, bodies: &[Body]) -> Result<Kept, Stop>
 }
 
 /// Reads the commands of the blocks behind the first.
-fn read_sent(alloc: Global, session: &Session, bodies: &[Body]) -> Result<Vec<Sent>, Stop>
+fn read_sent(alloc: Global, session: &Session, bodies: &[Bytes]) -> Result<Vec<Sent>, Stop>
     requires some { 0 < length bodies.now }
     ensures sent { AnswersSent result (commands_from session.now 1 (drop 1 bodies.now)) }
     ensures valid { IfOk result (λ sent. Each (IsSentOf session.now) sent.items) }

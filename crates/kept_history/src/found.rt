@@ -8,7 +8,7 @@ use crate::blocks::{Kept, read_blocks};
 use crate::stop::Stop;
 use fx_amounts::Memory;
 use fx_rules::{EntryList, Session};
-use keep_disk::Body;
+use fx_text::Bytes;
 use market_run::run_in_order;
 use pair_host::PairHost;
 use std::alloc::Global;
@@ -40,7 +40,7 @@ pub enum Found {
 /// The session and the only legal history whose commands the blocks of a journal hold, or why there is none to go on from. All
 /// blocks are read before a command is served, and none is served where one is damaged or there are too many commands. There
 /// has to be a block.
-pub fn history(alloc: Global, bodies: &[Body]) -> Result<Found, Memory>
+pub fn history(alloc: Global, bodies: &[Bytes]) -> Result<Found, Memory>
     requires some { 0 < length bodies.now }
     ensures found { IfOk result (IsFound bodies.now) }
 {

@@ -1,5 +1,5 @@
 -- How far a new session came.
-use Rattle.std.proofs.Common.{rules, ℕ, ◌≡◌, ◌<◌, ◌≤◌, List, [], ◌++◌, length, Result, Ok, Err, refl, sym, ◌∙◌, ap, subst, arith}
+use Rattle.std.proofs.Common.{rules, ℕ, ◌≡◌, ◌<◌, ◌≤◌, List, [], length, Result, Err, refl, sym, ◌∙◌, subst, arith}
 use Rattle.keep_disk.proofs.Moments.{not_err}
 use Rattle.session_script.specs.declared.ends.TextEnd.{TextEnd}
 use Rattle.kept_call.specs.Call.{DidKeep}

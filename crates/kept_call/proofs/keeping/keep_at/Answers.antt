@@ -1,8 +1,7 @@
 -- The header is kept, and then the text; or a fault comes before.
-use Rattle.std.proofs.Common.{ℕ, ◌≡◌, ◌≤◌, List, [], ◌++◌, Result, Ok, Err, refl, sym, ◌∙◌, subst, arith}
+use Rattle.std.proofs.Common.{[], Result, sym, subst, arith}
 use Rattle.fx_edges.proofs.Writing.{Appended-nil}
 use Rattle.keep_disk.specs.Keeping.{AtRest}
-use Rattle.keep_disk.proofs.Moments.{not_err}
 use Rattle.keep_disk.proofs.Telling.{kept_stopped}
 use Rattle.kept_run.specs.Running.{new_session}
 use Rattle.session_script.specs.declared.ends.TextEnd.{TextEnd}
@@ -11,7 +10,7 @@ use Rattle.kept_call.specs.Fault.{of_run}
 use Rattle.kept_call.specs.inside.Served.{Served}
 use Rattle.kept_call.specs.declared.fault.KeptFault.{KeptFault}
 use Rattle.kept_call.specs.declared.fault.KeptFault.TheVariants.{Memory}
-use Rattle.kept_call.proofs.Faults.{for_err, is_err, causes-of_run, causes-behind}
+use Rattle.kept_call.proofs.Faults.{for_err, is_err, causes-of_run}
 use Rattle.kept_call.proofs.Opening.{kept-at_rest}
 use Rattle.kept_call.proofs.Serving.{promptly-taken, served-unbegun, served-not_begun}
 use Rattle.kept_call.proofs.keeping.keep_at.Goals as goal

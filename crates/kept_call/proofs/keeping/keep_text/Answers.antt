@@ -1,5 +1,5 @@
 -- The session of the text is that of the host.
-use Rattle.std.proofs.Common.{ℕ, ◌≡◌, List, [], Some, Result, Ok, Err, refl, sym, ◌∙◌, ap, subst}
+use Rattle.std.proofs.Common.{[], Result, sym, subst}
 use Rattle.fx_edges.proofs.Writing.{Appended-nil}
 use Rattle.fx_rules.specs.Session.{Header}
 use Rattle.keep_disk.proofs.Telling.{kept_stopped}
@@ -11,7 +11,7 @@ use Rattle.kept_call.specs.declared.fault.KeptFault.{KeptFault}
 use Rattle.kept_call.specs.declared.fault.KeptFault.TheVariants.{Memory}
 use Rattle.kept_call.proofs.Faults.{for_err}
 use Rattle.kept_call.proofs.Opening.{kept-at_rest}
-use Rattle.session_script.proofs.RoundLaws.{header_or_none, header_same, read_here}
+use Rattle.session_script.proofs.RoundLaws.{header_same, read_here}
 use Rattle.kept_call.proofs.Serving.{promptly-taken, served-unbegun}
 use Rattle.kept_call.proofs.keeping.keep_text.Goals as goal
 

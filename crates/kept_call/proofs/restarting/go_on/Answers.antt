@@ -1,5 +1,5 @@
 -- The kept commands are submitted again, and then the text is served; or memory is refused before.
-use Rattle.std.proofs.Common.{ℕ, ◌≡◌, ◌≤◌, List, [], ◌++◌, map, Result, Ok, Err, refl, sym, ◌∙◌, ap, subst, arith}
+use Rattle.std.proofs.Common.{List, [], map, Result, sym, ◌∙◌, subst}
 use Rattle.fx_edges.proofs.Writing.{Appended-nil}
 use Rattle.fx_rules.specs.declared.outcome.Entry.{Entry}
 use Rattle.fx_rules.specs.Sending.{sent_by}

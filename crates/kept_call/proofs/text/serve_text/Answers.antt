@@ -1,5 +1,5 @@
 -- The text ended and the rest of its output was written, or a fault came.
-use Rattle.std.proofs.Common.{ℕ, ◌≡◌, ◌≤◌, ◌++◌, List, map, Some, Result, Ok, Err, refl, sym, ◌∙◌, ap, arith}
+use Rattle.std.proofs.Common.{◌++◌, map, Result}
 use Rattle.fx_rules.specs.Sending.{sent_by}
 use Rattle.keep_disk.proofs.Moments.{not_err}
 use Rattle.session_script.specs.declared.ends.TextEnd.{TextEnd}
