@@ -1,17 +1,14 @@
 -- The ranks of the heads' prices, by which the heads are kept: the lowest is that of the best price.
-use Rattle.std.proofs.Common.{ℕ, ◌≡◌, ◌≢◌, ◌++◌, ◌-◌, ◌/◌, ◌≤◌, ◌<◌, ◌^◌, min, true, false, leb, if◌then◌else◌, List, [], ◌∷◌, length, inl, inr, refl, ap, sym, subst, ◌∙◌, arith, Option, Some, None, IfSome, get_or-set_same, get_or-set_other, slice_index, take}
-use Rattle.std.proofs.Math.ListN.{set}
-use Rattle.std.proofs.lemmas.Bool.{cases_Bool, cases_eq, eq-eqb, ne_eqb, leb-false, lt-leb, ltb-true, ltb-false}
+use Rattle.std.proofs.Common.{ℕ, ◌≡◌, ◌++◌, ◌-◌, ◌/◌, ◌≤◌, ◌<◌, ◌^◌, min, true, false, if◌then◌else◌, List, [], ◌∷◌, inl, inr, refl, ap, sym, subst, ◌∙◌, arith, Option, Some, None, IfSome, slice_index, take}
+use Rattle.std.proofs.lemmas.Bool.{cases_Bool, lt-leb, ltb-true, ltb-false}
 use Rattle.std.specs.Option.{option_map}
 use Rattle.std.proofs.lemmas.List.{get_or-replicate}
 use Rattle.fx_amounts.specs.Quantity.{IsWeight}
 use Rattle.fx_amounts.specs.declared.side.Side.{Side}
 use Rattle.fx_amounts.specs.declared.side.Side.TheVariants.{Buy, Sell}
 use Rattle.fx_rules.specs.Sweep.{is_better}
-use Rattle.match_sweep.specs.declared.reached.BankLevel.{BankLevel}
-use Rattle.match_sweep.specs.declared.reached.HeadRow.{HeadRow}
 use Rattle.match_sweep.specs.declared.reached.LevelWalk.{LevelWalk}
-use Rattle.match_sweep.specs.inside.Reaches.{AreRanked, IsBareLevel, IsBestAmong, IsRank, Puts, as_head, better_price, head_in, head_of, price_at, price_in, price_of, rank_of, row_of}
+use Rattle.match_sweep.specs.inside.Reaches.{AreRanked, IsBareLevel, IsBestAmong, IsRank, as_head, better_price, head_of, price_at, price_in, price_of, rank_of, row_of}
 use Rattle.match_sweep.proofs.Reaching.{IsWorseHead, better-on, none_differs, price_there, some_equal, worse_head}
 use Rattle.match_sweep.proofs.Stepping.{paid_for}
 use Rattle.match_sweep.proofs.Tables.{replicate-at}
@@ -60,38 +57,6 @@ same_rank Sell (Some found) price rank other is there same =
 pub one_rank : (taker : Side) (found : Option ℕ) (price rank other : ℕ) → IsRank taker found rank → IsRank taker (Some price) other → found ≡ Some price → rank ≡ other
 one_rank taker found price rank other is there same = is.is ∙ ap (rank_of taker) same ∙ sym there.is
 
--- a rank's price is the one that it is the rank of
-pub rank_price : (taker : Side) (price : Option ℕ) (rank : ℕ) → IsRank taker price rank → price_at taker rank ≡ price
-rank_price Buy None rank is = ap (λ b. if b then None else Some rank) (eq-eqb rank (2 ^ 32 - 1) is.is)
-rank_price Sell None rank is = ap (λ b. if b then None else Some (2 ^ 32 - 1 - rank)) (eq-eqb rank (2 ^ 32 - 1) is.is)
-rank_price Buy (Some price) rank is =
-    ap (λ b. if b then None else Some rank) (ne_eqb rank (2 ^ 32 - 1) (λ same. omega (arith, same, is.is, is.valid.1))) ∙ ap Some is.is
-rank_price Sell (Some price) rank is =
-    ap (λ b. if b then None else Some (2 ^ 32 - 1 - rank)) (ne_eqb rank (2 ^ 32 - 1) (λ same. omega (arith, same, is.is, is.valid.0, is.valid.1)))
-    ∙ ap Some (let it : 2 ^ 32 - 1 - rank ≡ price = omega (arith, is.is, is.valid.1) in it)
-
--- Heads by their rows and ranks.
-
--- a row and a rank once they are written
-pub written_head : (taker : Side) (rows : List HeadRow) (ranks : List ℕ) (number rank : ℕ) (row : HeadRow) (price : Option ℕ) → number < length rows → number < length ranks → IsRank taker price rank
-    → head_in taker (row_of (set rows number row) number) (slice_index (set ranks number rank) number) ≡ option_map (as_head row) price
-written_head taker rows ranks number rank row price within within_ranks is =
-    ap (λ (r : HeadRow). head_in taker r (slice_index (set ranks number rank) number)) (get_or-set_same rows number row (record { at = 0; lots = 0 }) within)
-    ∙ ap (head_in taker row) (get_or-set_same ranks number rank 0 within_ranks)
-    ∙ ap (option_map (as_head row)) (rank_price taker price rank is)
-
--- a rank of no price once it is written
-pub no_head : (taker : Side) (row : HeadRow) (ranks : List ℕ) (number rank : ℕ) → number < length ranks → IsRank taker None rank → head_in taker row (slice_index (set ranks number rank) number) ≡ None
-no_head taker row ranks number rank within is =
-    ap (head_in taker row) (get_or-set_same ranks number rank 0 within) ∙ ap (option_map (as_head row)) (rank_price taker None rank is)
-
--- the others stay
-pub other_head : (taker : Side) (rows : List HeadRow) (ranks : List ℕ) (number rank other : ℕ) (row : HeadRow) → other ≢ number
-    → head_in taker (row_of (set rows number row) other) (slice_index (set ranks number rank) other) ≡ head_in taker (row_of rows other) (slice_index ranks other)
-other_head taker rows ranks number rank other row differ =
-    ap (λ (r : HeadRow). head_in taker r (slice_index (set ranks number rank) other)) (get_or-set_other rows number other row (record { at = 0; lots = 0 }) differ)
-    ∙ ap (head_in taker (row_of rows other)) (get_or-set_other ranks number other rank 0 differ)
-
 -- a head with a price is its row's
 pub head_at_price : (walk : LevelWalk) (bank price : ℕ) → price_in (head_of walk bank) ≡ Some price → head_of walk bank ≡ Some (as_head (row_of walk.heads bank) price)
 head_at_price walk bank price is =
@@ -112,37 +77,6 @@ bare-ranked walk some bare = λ bank below.
     = ap (λ b. if b then price_in (head_of walk bank) else None) (lt-leb walk.weight (slice_index walk.lines bank) (omega (arith, line, some))) in
     subst (λ (p : Option ℕ). IsRank walk.taker p (slice_index walk.ranks bank)) (sym none)
     (record { valid = tt; is = ap (λ (xs : List ℕ). slice_index xs bank) bare.ranks ∙ get_or-replicate 64 bank (2 ^ 32 - 1) 0 (omega arith) })
-
--- the price of a bank's head is what it is asked at, also where the line pays for no lot and there is no head
-asked_at : (weight line : ℕ) (head : Option BankLevel) → (line < weight → head ≡ None) → (if leb weight line then price_in head else None) ≡ price_in head
-asked_at weight line head none =
-    elim (cases_Bool (leb weight line)) [
-      | inl pays ↦ ap (λ b. if b then price_in head else None) pays
-      | inr short ↦ ap (λ b. if b then price_in head else None) short ∙ sym (ap price_in (none (leb-false weight line short)))
-    ]
-
--- once a bank's line, head and rank are written
-pub put-ranked : (old : LevelWalk) (number line rank : ℕ) (heads : List HeadRow) (head : Option BankLevel) → number < length old.lines → number < length old.ranks
-    → Puts old (record old { lines = set old.lines number line; heads = heads; ranks = set old.ranks number rank }) number line head → (line < old.weight → head ≡ None) → IsRank old.taker (price_in head) rank
-    → AreRanked old → AreRanked (record old { lines = set old.lines number line; heads = heads; ranks = set old.ranks number rank })
-put-ranked old number line rank heads head within within_ranks puts none is were = λ bank below.
-    let new : LevelWalk = record old { lines = set old.lines number line; heads = heads; ranks = set old.ranks number rank } in
-    elim (cases_eq bank number) [
-      | inl same ↦
-          let price : price_of new number ≡ price_in head
-          = ap (λ l. if leb old.weight l then price_in (head_of new number) else None) (get_or-set_same old.lines number line 0 within)
-          ∙ ap (λ (h : Option BankLevel). if leb old.weight line then price_in h else None) puts.here
-          ∙ asked_at old.weight line head none in
-          subst (λ (b : ℕ). IsRank old.taker (price_of new b) (slice_index new.ranks b)) (sym same)
-          (subst (IsRank old.taker (price_of new number)) (sym (get_or-set_same old.ranks number rank 0 within_ranks))
-          (subst (λ (p : Option ℕ). IsRank old.taker p rank) (sym price) is))
-      | inr differ ↦
-          let price : price_of new bank ≡ price_of old bank
-          = ap (λ l. if leb old.weight l then price_in (head_of new bank) else None) (get_or-set_other old.lines number bank line 0 differ)
-          ∙ ap (λ (h : Option BankLevel). if leb old.weight (slice_index old.lines bank) then price_in h else None) (puts.others bank differ) in
-          subst (IsRank old.taker (price_of new bank)) (sym (get_or-set_other old.ranks number bank rank 0 differ))
-          (subst (λ (p : Option ℕ). IsRank old.taker p (slice_index old.ranks bank)) (sym price) (were bank below))
-    ]
 
 -- The lowest rank.
 

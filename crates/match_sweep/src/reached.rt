@@ -67,7 +67,7 @@ pub(crate) struct LevelWalk {
     weight: u32,
     /// What is left of the lines with each bank that has an order, in credit units; nothing with the bank's own.
     lines: [u64; BankId::SENDERS],
-    /// Of each bank with which the line pays for a lot, its best level behind the last price, which `ranks` has.
+    /// Of each bank with which the line pays for a lot, its best level behind the last price. `ranks` has its price.
     heads: [HeadRow; BankId::SENDERS],
     /// The rank of each head's price for the taker; `NO_RANK` where there is no head, or the line with the bank pays for no lot.
     ranks: [u32; BankId::SENDERS],
@@ -87,7 +87,7 @@ struct BankLevel {
 
 /// What is kept of a head, a level of one bank, beside the rank of its price.
 #[derive(Clone, Copy)]
-pub(crate) struct HeadRow {
+struct HeadRow {
     /// Its index among the bank's levels, 0 for the best price.
     at: usize,
     /// All lots that the bank has at the price, as a `BankLevel` has them.

@@ -4,7 +4,7 @@ use Rattle.std.proofs.Math.ListN.{length-set, set}
 use Rattle.credit_lines.specs.Credit.{line_in}
 use Rattle.match_sweep.specs.declared.reached.BankLevel.{BankLevel}
 use Rattle.match_sweep.specs.declared.reached.LevelWalk.{LevelWalk}
-use Rattle.match_sweep.specs.inside.Reaches.{IsHead, OpensLevel, Puts, head_of}
+use Rattle.match_sweep.specs.inside.Reaches.{IsHead, Puts, head_of}
 use Rattle.match_sweep.proofs.Reaching.{first_head}
 use Rattle.match_sweep.proofs.reached.LevelWalk.open_bank.Goals as goal
 

@@ -5,7 +5,7 @@ use Rattle.global_book.specs.Book.{level_lots}
 use Rattle.match_sweep.specs.declared.reached.BankLevel.{BankLevel}
 use Rattle.match_sweep.specs.declared.reached.HeadRow.{HeadRow}
 use Rattle.match_sweep.specs.declared.reached.LevelWalk.{LevelWalk}
-use Rattle.match_sweep.specs.inside.Reaches.{AreRanked, IsHead, IsRank, Puts, TakesOf, as_head, bank_level, counted, head_of, price_in, price_of, row_of}
+use Rattle.match_sweep.specs.inside.Reaches.{AreRanked, IsHead, IsRank, Puts, as_head, bank_level, counted, head_of, price_in, price_of, row_of}
 use Rattle.match_sweep.proofs.Ranking.{head_at_price, one_rank, other_rank, same_rank}
 use Rattle.match_sweep.proofs.Reaching.{HasPrice, has_price, head_there, head_within, next_head, takes_none-head, takes_some}
 use Rattle.match_sweep.proofs.reached.LevelWalk.take_of.Goals as goal
