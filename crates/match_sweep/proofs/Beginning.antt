@@ -18,9 +18,8 @@ use Rattle.global_book.specs.Book.{AreOwners, Book, IsBook}
 use Rattle.credit_lines.specs.Credit.{Credit, line_in}
 use Rattle.match_sweep.specs.Sweeps.{IsSweep}
 use Rattle.match_sweep.specs.inside.Heads.{IsFound, IsOpenHead, IsOpening, IsShut, OpensAt, better_head, first_open, opening_of, to_come}
-use Rattle.match_sweep.specs.inside.Walks.{AgreeInBook, AgreeOn, AreOpened, Begins, IsBare, IsMarked, OpensBank, first_fill, head_of, reach_of}
+use Rattle.match_sweep.specs.inside.Walks.{WholeWalk, AgreeInBook, AgreeOn, AreOpened, Begins, IsBare, IsMarked, OpensBank, first_fill, head_of, reach_of}
 use Rattle.match_sweep.specs.declared.opening.Opening.{Opening}
-use Rattle.match_sweep.specs.declared.walk.Walk.{Walk}
 use Rattle.match_sweep.proofs.Picking.{none_among, open-to_come, among_to_come, to_come-open, not_before_first}
 use Rattle.match_sweep.proofs.Passed.{contains_or}
 use Rattle.match_sweep.proofs.Planning.{agrees-behind, planned-sweep}
@@ -176,7 +175,7 @@ module _ (book : Book) (credit : Credit) (weight : ℕ) (t : Taker) where
         )
 
     -- the same by a table of the lines with the banks of which something may be taken
-    module _ (old walk : Walk) (order_is : old.order ≡ t) (opened : AreOpened book credit owners_now opening old walk) where
+    module _ (old walk : WholeWalk) (order_is : old.order ≡ t) (opened : AreOpened book credit owners_now opening old walk) where
       line_here : (bank : ℕ) → IsMarked owners_now opening bank → slice_index walk.lines bank ≡ line_in credit t.bank bank
       line_here bank marked = opened.lines bank marked ∙ ap (λ (u : Taker). line_in credit u.bank bank) order_is
 
@@ -222,9 +221,9 @@ module _ (book : Book) (credit : Credit) (weight : ℕ) (t : Taker) where
       pub opened-begins : 1 ≤ weight → old.weight ≡ weight → IsBare old → Begins book credit weight t walk
       opened-begins some weighs bare = record {
         valid = is;
-        order = ap (λ (w : Walk). w.order) opened.keeps.same ∙ order_is;
-        weighs = ap (λ (w : Walk). w.weight) opened.keeps.same ∙ weighs;
-        last = ap (λ (w : Walk). w.last) opened.keeps.same ∙ bare.last;
+        order = ap (λ (w : WholeWalk). w.order) opened.keeps.same ∙ order_is;
+        weighs = ap (λ (w : WholeWalk). w.weight) opened.keeps.same ∙ weighs;
+        last = ap (λ (w : WholeWalk). w.last) opened.keeps.same ∙ bare.last;
         agrees = opened-agrees some;
         most = omega (arith, total-most walk.lines (10 ^ 15) opened.most, opened.keeps.long, ap length bare.lines);
       }
@@ -242,7 +241,7 @@ module _ (book : Book) (credit : Credit) (weight : ℕ) (t : Taker) where
       }
 
     -- the first is chosen by each table that agrees
-    module _ (walk : Walk) (begins : Begins book credit weight t walk) where
+    module _ (walk : WholeWalk) (begins : Begins book credit weight t walk) where
       line_first : slice_index walk.lines opening.first.bank ≡ line_in credit t.bank opening.first.bank
       line_first =
           let agree = begins.agrees opening.first first_there in
@@ -272,9 +271,9 @@ module _ (book : Book) (credit : Credit) (weight : ℕ) (t : Taker) where
 
 -- One more bank is opened, or not.
 
-module _ (book : Book) (credit : Credit) (banks more : List ℕ) (opening : Opening) (n : ℕ) (old now new : Walk) (is : more ≡ banks ++ n ∷ []) (was : AreOpened book credit banks opening old now) where
+module _ (book : Book) (credit : Credit) (banks more : List ℕ) (opening : Opening) (n : ℕ) (old now new : WholeWalk) (is : more ≡ banks ++ n ∷ []) (was : AreOpened book credit banks opening old now) where
   order_kept : now.order ≡ old.order
-  order_kept = ap (λ (w : Walk). w.order) was.keeps.same
+  order_kept = ap (λ (w : WholeWalk). w.order) was.keeps.same
 
   earlier : (bank : ℕ) → IsMarked banks opening bank → IsMarked more opening bank
   earlier bank marked = record { there = subst (λ (xs : List ℕ). Contains xs bank) (sym is) (Contains-append_left banks (n ∷ []) bank marked.there); opens = marked.opens }
@@ -293,7 +292,7 @@ module _ (book : Book) (credit : Credit) (banks more : List ℕ) (opening : Open
       let here : IsMarked more opening n = record { there = subst (λ (xs : List ℕ). Contains xs n) (sym is) (Contains-push banks n); opens = flag } in
       record {
         keeps = record {
-          same = it.keeps.same ∙ ap (λ (w : Walk). record w { lines = new.lines; heads = new.heads }) was.keeps.same;
+          same = it.keeps.same ∙ ap (λ (w : WholeWalk). record w { lines = new.lines; heads = new.heads }) was.keeps.same;
           long = it.keeps.long ∙ was.keeps.long;
         };
         most = λ bank. elim (cases_eq bank n) [

@@ -1,16 +1,15 @@
--- The ranks of the heads' prices: the lowest is that of the best price.
-use Rattle.std.proofs.Common.{ℕ, ◌≡◌, ◌++◌, ◌-◌, ◌/◌, ◌≤◌, ◌<◌, ◌^◌, min, true, false, leb, if◌then◌else◌, List, [], ◌∷◌, length, inl, inr, refl, ap, sym, subst, ◌∙◌, arith, Option, Some, None, IfSome, get_or-set_same, get_or-set_other, slice_index, take}
-use Rattle.std.proofs.Math.ListN.{set}
-use Rattle.std.proofs.lemmas.Bool.{cases_Bool, cases_eq, lt-leb, ltb-true, ltb-false}
+-- The ranks of the heads' prices, by which the heads are kept: the lowest is that of the best price.
+use Rattle.std.proofs.Common.{ℕ, ◌≡◌, ◌++◌, ◌-◌, ◌/◌, ◌≤◌, ◌<◌, ◌^◌, min, true, false, if◌then◌else◌, List, [], ◌∷◌, inl, inr, refl, ap, sym, subst, ◌∙◌, arith, Option, Some, None, IfSome, slice_index, take}
+use Rattle.std.proofs.lemmas.Bool.{cases_Bool, lt-leb, ltb-true, ltb-false}
+use Rattle.std.specs.Option.{option_map}
 use Rattle.std.proofs.lemmas.List.{get_or-replicate}
 use Rattle.fx_amounts.specs.Quantity.{IsWeight}
 use Rattle.fx_amounts.specs.declared.side.Side.{Side}
 use Rattle.fx_amounts.specs.declared.side.Side.TheVariants.{Buy, Sell}
 use Rattle.fx_rules.specs.Sweep.{is_better}
-use Rattle.match_sweep.specs.declared.reached.BankLevel.{BankLevel}
 use Rattle.match_sweep.specs.declared.reached.LevelWalk.{LevelWalk}
-use Rattle.match_sweep.specs.inside.Reaches.{AreRanked, IsBareLevel, IsBestAmong, IsRank, better_price, head_of, price_in, price_of, rank_of}
-use Rattle.match_sweep.proofs.Reaching.{IsWorseHead, better-on, price_there, worse_head}
+use Rattle.match_sweep.specs.inside.Reaches.{AreRanked, IsBareLevel, IsBestAmong, IsRank, as_head, better_price, head_of, price_at, price_in, price_of, rank_of, row_of}
+use Rattle.match_sweep.proofs.Reaching.{IsWorseHead, better-on, none_differs, price_there, some_equal, worse_head}
 use Rattle.match_sweep.proofs.Stepping.{paid_for}
 use Rattle.match_sweep.proofs.Tables.{replicate-at}
 
@@ -58,6 +57,16 @@ same_rank Sell (Some found) price rank other is there same =
 pub one_rank : (taker : Side) (found : Option ℕ) (price rank other : ℕ) → IsRank taker found rank → IsRank taker (Some price) other → found ≡ Some price → rank ≡ other
 one_rank taker found price rank other is there same = is.is ∙ ap (rank_of taker) same ∙ sym there.is
 
+-- a head with a price is its row's
+pub head_at_price : (walk : LevelWalk) (bank price : ℕ) → price_in (head_of walk bank) ≡ Some price → head_of walk bank ≡ Some (as_head (row_of walk.heads bank) price)
+head_at_price walk bank price is =
+    let answer : (found : Option ℕ) → price_in (option_map (as_head (row_of walk.heads bank)) found) ≡ Some price → option_map (as_head (row_of walk.heads bank)) found ≡ Some (as_head (row_of walk.heads bank) price)
+    = λ found. elim found as (λ (f : Option ℕ). price_in (option_map (as_head (row_of walk.heads bank)) f) ≡ Some price → option_map (as_head (row_of walk.heads bank)) f ≡ Some (as_head (row_of walk.heads bank) price)) [
+      | None ↦ λ none. none_differs price none
+      | Some there ↦ λ some. ap (λ (p : ℕ). Some (as_head (row_of walk.heads bank) p)) (some_equal there price some)
+    ] in
+    answer (price_at walk.taker (slice_index walk.ranks bank)) is
+
 -- The ranks of a walk.
 
 -- before any bank is opened
@@ -68,23 +77,6 @@ bare-ranked walk some bare = λ bank below.
     = ap (λ b. if b then price_in (head_of walk bank) else None) (lt-leb walk.weight (slice_index walk.lines bank) (omega (arith, line, some))) in
     subst (λ (p : Option ℕ). IsRank walk.taker p (slice_index walk.ranks bank)) (sym none)
     (record { valid = tt; is = ap (λ (xs : List ℕ). slice_index xs bank) bare.ranks ∙ get_or-replicate 64 bank (2 ^ 32 - 1) 0 (omega arith) })
-
--- once a bank's line, head and rank are written
-pub put-ranked : (old : LevelWalk) (number line rank : ℕ) (head : Option BankLevel) → number < length old.ranks
-    → IsRank old.taker (price_of (record old { lines = set old.lines number line; heads = set old.heads number head; ranks = set old.ranks number rank }) number) rank
-    → AreRanked old → AreRanked (record old { lines = set old.lines number line; heads = set old.heads number head; ranks = set old.ranks number rank })
-put-ranked old number line rank head within is were = λ bank below.
-    let new : LevelWalk = record old { lines = set old.lines number line; heads = set old.heads number head; ranks = set old.ranks number rank } in
-    elim (cases_eq bank number) [
-      | inl same ↦ subst (λ (b : ℕ). IsRank old.taker (price_of new b) (slice_index new.ranks b)) (sym same)
-          (subst (IsRank old.taker (price_of new number)) (sym (get_or-set_same old.ranks number rank 0 within)) is)
-      | inr differ ↦
-          let price : price_of new bank ≡ price_of old bank
-          = ap (λ l. if leb old.weight l then price_in (head_of new bank) else None) (get_or-set_other old.lines number bank line 0 differ)
-          ∙ ap (λ (h : Option BankLevel). if leb old.weight (slice_index old.lines bank) then price_in h else None) (get_or-set_other old.heads number bank head None differ) in
-          subst (IsRank old.taker (price_of new bank)) (sym (get_or-set_other old.ranks number bank rank 0 differ))
-          (subst (λ (p : Option ℕ). IsRank old.taker p (slice_index old.ranks bank)) (sym price) (were bank below))
-    ]
 
 -- The lowest rank.
 

@@ -1,9 +1,8 @@
 -- The walk from price to price: its best price, what it takes of a bank and of all, and the sweep that its levels are of.
-use Rattle.std.proofs.Common.{ℕ, ◌≡◌, ◌≢◌, ◌+◌, ◌++◌, ◌-◌, ◌*◌, ◌/◌, ◌≤◌, ◌<◌, min, Bool, true, false, not, ◌&&◌, if◌then◌else◌, leb, eqb, List, [], ◌∷◌, length, ◌⊎◌, inl, inr, refl, ap, sym, subst, ◌∙◌, arith, Option, Some, None, IfSome, get_or, get_or-set_same, get_or-set_other, slice_get, slice_index, take}
+use Rattle.std.proofs.Common.{ℕ, ◌≡◌, ◌≢◌, ◌+◌, ◌++◌, ◌-◌, ◌*◌, ◌/◌, ◌≤◌, ◌<◌, min, Bool, true, false, not, ◌&&◌, if◌then◌else◌, leb, eqb, List, [], ◌∷◌, length, ◌⊎◌, inl, inr, refl, ap, sym, subst, ◌∙◌, arith, Option, Some, None, IfSome, get_or-set_same, get_or-set_other, slice_get, slice_index, take}
 use Rattle.std.proofs.Math.ListN.{set, length-set}
 use Rattle.std.proofs.Math.Nat.{add-mul}
 use Rattle.std.proofs.lemmas.Bool.{cases_Bool, cases_eq, cases_lt, and_parts, and_from, both_ways, false_from_ne_true, eq-eqb, eqb-true, le-leb, lt-ltb, le-ltb, ltb-true, ltb-false, leb-true}
-use Rattle.std.proofs.lemmas.List.{get_or_default}
 use Rattle.std.proofs.lemmas.Option.{slice_get_within}
 use Rattle.std.proofs.lemmas.List.Elements.{Contains-append_left, Contains-push, Contains-push_cases}
 use Rattle.std.specs.List.{Contains, filter}
@@ -19,7 +18,7 @@ use Rattle.global_book.specs.Book.{AreOwners, Book, IsLevel, IsLevelOf, IsPriceO
 use Rattle.global_book.proofs.Levels.{first_level, next_level, price_of_level}
 use Rattle.match_sweep.specs.declared.reached.BankLevel.{BankLevel}
 use Rattle.match_sweep.specs.declared.reached.LevelWalk.{LevelWalk}
-use Rattle.match_sweep.specs.inside.Reaches.{AreTaken, counted, HaveLevels, IsBestAmong, IsBestPrice, IsHead, IsLeft, IsPaid, IsTakenOf, TakesOf, as_level, bank_level, better_price, head_of, line_behind, price_in, price_of}
+use Rattle.match_sweep.specs.inside.Reaches.{AreTaken, counted, HaveLevels, IsBestAmong, IsBestPrice, IsHead, IsLeft, IsPaid, IsTakenOf, Puts, TakesOf, as_level, bank_level, better_price, head_of, line_behind, price_in, price_of}
 use Rattle.match_sweep.proofs.Tables.{total-changed}
 use Rattle.match_sweep.proofs.Passed.{contains_or}
 use Rattle.match_sweep.proofs.Levelling.{level_parts}
@@ -279,33 +278,34 @@ worse_head walk bank price head weighs is differ best some =
     (elim (better-or_same walk.taker head price not_better) [ inl same ↦ absurd (differ same) | inr worse ↦ worse ])
 
 -- the lots at the price are taken
-pub takes_some : (book : Book) (walk : LevelWalk) (bank at price lots taken : ℕ) (next : Option BankLevel) (ranks : List ℕ) → IsWeight walk.weight → at ≡ bank → at < length walk.lines → at < length walk.heads
+pub takes_some : (book : Book) (walk new : LevelWalk) (bank at price lots taken : ℕ) (next : Option BankLevel) → IsWeight walk.weight → at ≡ bank → at < length walk.lines
     → walk.weight ≤ slice_index walk.lines bank → lots ≡ level_lots walk.taker bank price book.orders → taken ≡ min lots (slice_index walk.lines at / walk.weight)
     → (1 ≤ (slice_index walk.lines at - taken * walk.weight) / walk.weight → IsHead walk.taker bank (Some price) book.orders next)
-    → TakesOf book walk (record walk { lines = set walk.lines at (slice_index walk.lines at - taken * walk.weight); heads = set walk.heads at next; ranks = ranks }) bank price taken
-takes_some book walk bank at price lots taken next ranks weighs at_is within heads_within pays' lots_are taken_is level =
+    → Puts walk new at (slice_index walk.lines at - taken * walk.weight) next → TakesOf book walk new bank price taken
+takes_some book walk new bank at price lots taken next weighs at_is within pays' lots_are taken_is level puts =
     let line : ℕ = slice_index walk.lines at in
     let rest : ℕ = line - taken * walk.weight in
-    let new : LevelWalk = record walk { lines = set walk.lines at rest; heads = set walk.heads at next; ranks = ranks } in
+    let lines : new.lines ≡ set walk.lines at rest = ap (λ (w : LevelWalk). w.lines) puts.same in
+    let here : slice_index new.lines at ≡ rest = ap (λ (xs : List ℕ). slice_index xs at) lines ∙ get_or-set_same walk.lines at rest 0 within in
     let few : taken * walk.weight ≤ line = lots_cost taken line walk.weight (omega arith) in
     subst (λ (b : ℕ). TakesOf book walk new b price taken) at_is (record {
       taken = record {
-        line = get_or-set_same walk.lines at rest 0 within
+        line = here
             ∙ ap (λ n. line - n * walk.weight) (taken_is ∙ ap (λ n. min n (line / walk.weight)) (lots_are ∙ ap (λ b. level_lots walk.taker b price book.orders) (sym at_is)));
-        head = λ reach. subst (IsHead walk.taker at (Some price) book.orders) (sym (get_or-set_same walk.heads at next None heads_within))
+        head = λ reach. subst (IsHead walk.taker at (Some price) book.orders) (sym puts.here)
             (subst (λ (b : ℕ). IsHead walk.taker b (Some price) book.orders next) (sym at_is)
-            (level (subst (λ n. 1 ≤ n / walk.weight) (get_or-set_same walk.lines at rest 0 within) reach)));
+            (level (subst (λ n. 1 ≤ n / walk.weight) here reach)));
       };
       others = λ other differ. record {
-        line = get_or-set_other walk.lines at other rest 0 differ;
-        head = get_or-set_other walk.heads at other next None differ;
+        line = ap (λ (xs : List ℕ). slice_index xs other) lines ∙ get_or-set_other walk.lines at other rest 0 differ;
+        head = puts.others other differ;
       };
-      sum = record { same = refl; long = length-set walk.lines at rest; paid = let changed = total-changed walk.lines at rest within in omega (arith, changed, few) };
+      sum = record {
+        same = puts.same ∙ ap (λ (xs : List ℕ). record walk { lines = xs; heads = new.heads; ranks = new.ranks }) (sym lines);
+        long = ap length lines ∙ length-set walk.lines at rest;
+        paid = let changed = total-changed walk.lines at rest within in omega (arith, changed, few, ap (total (λ (n : ℕ). n)) lines);
+      };
     })
-
--- what was read of a table at a bank's number
-pub read_at : {X : Type 0} (table : List (Option X)) (at bank : ℕ) (d found : Option X) → at ≡ bank → at < length table → get_or table at d ≡ found → get_or table bank None ≡ found
-read_at table at bank d found at_is within read = ap (λ k. get_or table k None) (sym at_is) ∙ sym (get_or_default table at d None within) ∙ read
 
 pub not_equal : (a b : ℕ) → not (eqb a b) ≡ true → a ≢ b
 not_equal a b differ same = let it : false ≡ true = sym (ap not (eq-eqb a b same)) ∙ differ in cc

@@ -17,9 +17,8 @@ use Rattle.fx_rules.proofs.ListLemmas.{Each-among}
 use Rattle.fx_rules.proofs.Planning.{div_none}
 use Rattle.fx_rules.proofs.Preference.{preferred_self, preferred_trans}
 use Rattle.global_book.specs.Book.{AreOwners, Book, IsBook, IsHeld}
-use Rattle.match_sweep.specs.declared.walk.Walk.{Walk}
 use Rattle.match_sweep.specs.inside.Heads.{IsFound, to_come, AreHeads}
-use Rattle.match_sweep.specs.inside.Walks.{FromHere, LeadsOn, StepsOn, IsReady, IsRenewed, IsPicked, Takes, IsPickedAt, may_take, may_take_head, is_ahead, leads, head_of, reach_of, steps_behind}
+use Rattle.match_sweep.specs.inside.Walks.{WholeWalk, FromHere, LeadsOn, StepsOn, IsReady, IsRenewed, IsPicked, Takes, IsPickedAt, may_take, may_take_head, is_ahead, leads, head_of, reach_of, steps_behind}
 use Rattle.match_sweep.proofs.Tables.{none-kept}
 use Rattle.match_sweep.proofs.Planning.{walk-step, within_table}
 use Rattle.match_sweep.proofs.Picking.{picked-best, picked-none, heads-stay, among_to_come}
@@ -36,12 +35,12 @@ ahead_trans side None b c first second = absurd (cc)
 ahead_trans side (Some a) None c first second = absurd (cc)
 ahead_trans side (Some a) (Some b) None first second = absurd (cc)
 
-not_ahead_self : (walk : Walk) (n bank : ℕ) → bank ≡ n → is_ahead walk.order.side (head_of walk bank) (head_of walk n) ≡ false
+not_ahead_self : (walk : WholeWalk) (n bank : ℕ) → bank ≡ n → is_ahead walk.order.side (head_of walk bank) (head_of walk n) ≡ false
 not_ahead_self walk n bank same =
     subst (λ (b : ℕ). is_ahead walk.order.side (head_of walk b) (head_of walk n) ≡ false) (sym same) (ahead_self walk.order.side (head_of walk n))
 
 -- the next bank leads
-pub picked-lead : (walk : Walk) (banks : List ℕ) (n : ℕ) (best : Option ℕ) → n < 64 → IsPickedAt walk banks best → leads walk n best ≡ true → IsPickedAt walk (banks ++ n ∷ []) (Some n)
+pub picked-lead : (walk : WholeWalk) (banks : List ℕ) (n : ℕ) (best : Option ℕ) → n < 64 → IsPickedAt walk banks best → leads walk n best ≡ true → IsPickedAt walk (banks ++ n ∷ []) (Some n)
 picked-lead walk banks n None within picked lead = (
   Contains-push banks n,
   within,
@@ -66,7 +65,7 @@ picked-lead walk banks n (Some best) within picked lead =
     )
 
 -- it does not
-pub picked-stay : (walk : Walk) (banks : List ℕ) (n : ℕ) (best : Option ℕ) → IsPickedAt walk banks best → leads walk n best ≡ false → IsPickedAt walk (banks ++ n ∷ []) best
+pub picked-stay : (walk : WholeWalk) (banks : List ℕ) (n : ℕ) (best : Option ℕ) → IsPickedAt walk banks best → leads walk n best ≡ false → IsPickedAt walk (banks ++ n ∷ []) best
 picked-stay walk banks n None picked stay =
     λ bank below. elim (Contains-push_cases banks n bank below) [
       | inr same ↦ subst (λ (b : ℕ). may_take_head walk b (head_of walk b) ≡ false) same stay
@@ -89,17 +88,17 @@ picked-stay walk banks n (Some best) picked stay = (
 
 -- A walk with all its heads.
 
-pub record IsSet (book : Book) (walk : Walk) : Type 0 where
+pub record IsSet (book : Book) (walk : WholeWalk) : Type 0 where
   pub bank : walk.order.bank < book.banks
   pub weight : IsWeight walk.weight
   pub own : slice_index walk.lines walk.order.bank ≡ 0
   pub heads : AreHeads (reach_of walk) walk.order walk.last book.orders book.banks (head_of walk)
 
-pub renewed-set : (book : Book) (old new : Walk) → IsReady book old → IsRenewed book old new → IsSet book new
+pub renewed-set : (book : Book) (old new : WholeWalk) → IsReady book old → IsRenewed book old new → IsSet book new
 renewed-set book old new ready renewed = record {
-  bank = subst (λ (w : Walk). w.order.bank < book.banks) (sym renewed.same) ready.bank;
-  weight = subst (λ (w : Walk). IsWeight w.weight) (sym renewed.same) ready.weight;
-  own = subst (λ (w : Walk). slice_index w.lines w.order.bank ≡ 0) (sym renewed.same) ready.own;
+  bank = subst (λ (w : WholeWalk). w.order.bank < book.banks) (sym renewed.same) ready.bank;
+  weight = subst (λ (w : WholeWalk). IsWeight w.weight) (sym renewed.same) ready.weight;
+  own = subst (λ (w : WholeWalk). slice_index w.lines w.order.bank ≡ 0) (sym renewed.same) ready.own;
   heads = renewed.heads;
 }
 
@@ -113,7 +112,7 @@ pub owners : (book : Book) → IsBook book → (o : Resting) → Among o book.or
 owners book is o there = let held : IsHeld book.banks o = Each-among (IsHeld book.banks) book.orders o is.held there in held.bank
 
 -- an order is the best of those that are open to a walk
-pub record Chosen (book : Book) (walk : Walk) (found : Resting) : Type 0 where
+pub record Chosen (book : Book) (walk : WholeWalk) (found : Resting) : Type 0 where
   pub best : IsBest walk.order.side (open_behind (reach_of walk) walk.order walk.last book.orders) found
   pub line : walk.weight ≤ slice_index walk.lines found.bank
 
@@ -123,7 +122,7 @@ owner_within book owners_now bank is are there =
     let it = are.owns bank there in
     omega (arith, owners book is it.0 it.1, it.2)
 
-pub set-chosen : (book : Book) (walk : Walk) (owners_now : List ℕ) (found : Resting) → IsBook book → AreOwners book owners_now → IsSet book walk → IsPicked walk owners_now (Some found) → Chosen book walk found
+pub set-chosen : (book : Book) (walk : WholeWalk) (owners_now : List ℕ) (found : Resting) → IsBook book → AreOwners book owners_now → IsSet book walk → IsPicked walk owners_now (Some found) → Chosen book walk found
 set-chosen book walk owners_now found is are set_is picked =
     let at : ℕ = picked.0.at in
     let may = and_parts (leb walk.weight (slice_index walk.lines at)) (crosses walk.order.side walk.order.price found.price) picked.0.may in
@@ -150,7 +149,7 @@ set-chosen book walk owners_now found is are set_is picked =
     }
 
 -- where none is picked nothing is open
-pub set-none : (book : Book) (walk : Walk) (owners_now : List ℕ) → IsBook book → AreOwners book owners_now → IsSet book walk → IsPicked walk owners_now None → FromHere book walk [] walk.order.left
+pub set-none : (book : Book) (walk : WholeWalk) (owners_now : List ℕ) → IsBook book → AreOwners book owners_now → IsSet book walk → IsPicked walk owners_now None → FromHere book walk [] walk.order.left
 set-none book walk owners_now is are set_is picked = (
   refl,
   inr (picked-none owners_now (reach_of walk) walk.order walk.last book.orders book.banks (head_of walk) (owners book is) (λ o there. Each-among (λ (q : Resting). Contains owners_now q.bank) book.orders o are.all there) set_is.heads
@@ -162,13 +161,13 @@ set-none book walk owners_now is are set_is picked = (
 
 -- An order is taken.
 
-fill_is : (walk : Walk) (best : Resting) (fill : Fill) → fill ≡ fill_with walk.order best (amount walk.order best (reach_of walk best.bank)) → fill ≡ fill_with walk.order best fill.lots
+fill_is : (walk : WholeWalk) (best : Resting) (fill : Fill) → fill ≡ fill_with walk.order best (amount walk.order best (reach_of walk best.bank)) → fill ≡ fill_with walk.order best fill.lots
 fill_is walk best fill is = is ∙ ap (fill_with walk.order best) (sym (ap (λ (f : Fill). f.lots) is))
 
-pub taken-leads : (book : Book) (walk new : Walk) (found : Resting) (fill : Fill) → 1 ≤ walk.weight → 1 ≤ walk.order.left → Chosen book walk found → Takes walk new found fill → LeadsOn book walk new fill
+pub taken-leads : (book : Book) (walk new : WholeWalk) (found : Resting) (fill : Fill) → 1 ≤ walk.weight → 1 ≤ walk.order.left → Chosen book walk found → Takes walk new found fill → LeadsOn book walk new fill
 taken-leads book walk new found fill weight some chosen takes =
     let best : Resting = found in
-    let next : Walk = record walk {
+    let next : WholeWalk = record walk {
       order = less walk.order fill.lots;
       lines = set walk.lines best.bank (slice_index walk.lines best.bank - fill.lots * walk.weight);
       last = Some found;
@@ -176,21 +175,21 @@ taken-leads book walk new found fill weight some chosen takes =
     let within : best.bank < length walk.lines = within_table walk.lines best.bank (omega (arith, chosen.line, weight)) in
     record {
       goes_on = λ more left from.
-          let from_next : FromHere book next more left = subst (λ (w : Walk). FromHere book w more left) takes.now from in
+          let from_next : FromHere book next more left = subst (λ (w : WholeWalk). FromHere book w more left) takes.now from in
           subst (λ (f : Fill). FromHere book walk (f ∷ more) left) (sym (fill_is walk best fill takes.is))
           (walk-step walk.weight walk.lines book.orders walk.order walk.last best fill.lots more left some
           chosen.best
           (ap (λ (f : Fill). f.lots) takes.is) within from_next);
-      wants = omega (arith, ap (λ (w : Walk). w.order.left) takes.now, takes.some, some);
-      arrival = ap (λ (w : Walk). w.order.arrival) takes.now;
-      counted = ap (λ (w : Walk). steps_behind w.last) takes.now;
+      wants = omega (arith, ap (λ (w : WholeWalk). w.order.left) takes.now, takes.some, some);
+      arrival = ap (λ (w : WholeWalk). w.order.arrival) takes.now;
+      counted = ap (λ (w : WholeWalk). steps_behind w.last) takes.now;
     }
 
 least_reach : (a b r lots : ℕ) → lots ≡ min a (min b r) → lots ≤ r
 least_reach a b r lots is = omega arith
 
 -- A walk of which all heads are known but for that of a bank, from which it takes the best order.
-pub record IsNearSet (book : Book) (walk : Walk) (apart : ℕ) : Type 0 where
+pub record IsNearSet (book : Book) (walk : WholeWalk) (apart : ℕ) : Type 0 where
   pub valid : IsBook book
   pub bank : walk.order.bank < book.banks
   pub weight : IsWeight walk.weight
@@ -198,7 +197,7 @@ pub record IsNearSet (book : Book) (walk : Walk) (apart : ℕ) : Type 0 where
   pub heads : (bank : ℕ) → bank < book.banks → bank ≢ apart → 1 ≤ reach_of walk bank →
       IsFound walk.order (to_come walk.order bank walk.last book.orders) (head_of walk bank)
 
-pub set-near : (book : Book) (walk : Walk) (apart : ℕ) → IsBook book → IsSet book walk → IsNearSet book walk apart
+pub set-near : (book : Book) (walk : WholeWalk) (apart : ℕ) → IsBook book → IsSet book walk → IsNearSet book walk apart
 set-near book walk apart is set_is = record {
   valid = is;
   bank = set_is.bank;
@@ -207,7 +206,7 @@ set-near book walk apart is set_is = record {
   heads = λ bank below _ reach. set_is.heads bank below reach;
 }
 
-pub taken-ready : (book : Book) (walk new : Walk) (found : Resting) (fill : Fill) → IsNearSet book walk found.bank → Chosen book walk found → Takes walk new found fill → IsReady book new
+pub taken-ready : (book : Book) (walk new : WholeWalk) (found : Resting) (fill : Fill) → IsNearSet book walk found.bank → Chosen book walk found → Takes walk new found fill → IsReady book new
 taken-ready book walk new found fill near chosen takes =
     let best : Resting = found in
     let line : ℕ = slice_index walk.lines best.bank in
@@ -228,21 +227,21 @@ taken-ready book walk new found fill near chosen takes =
 
 -- A step from before the heads were found.
 
-pub renewed-leads : (book : Book) (old walk new : Walk) (fill : Fill) → IsRenewed book old walk → LeadsOn book walk new fill → LeadsOn book old new fill
+pub renewed-leads : (book : Book) (old walk new : WholeWalk) (fill : Fill) → IsRenewed book old walk → LeadsOn book walk new fill → LeadsOn book old new fill
 renewed-leads book old walk new fill renewed leads =
-    let from_old = subst (λ (w : Walk). LeadsOn book w new fill) renewed.same leads in
+    let from_old = subst (λ (w : WholeWalk). LeadsOn book w new fill) renewed.same leads in
     record { goes_on = from_old.goes_on; wants = from_old.wants; arrival = from_old.arrival; counted = from_old.counted }
 
-pub renewed-ends : (book : Book) (old walk : Walk) (step : Option Fill) → IsRenewed book old walk → FromHere book walk [] walk.order.left → step ≡ None → StepsOn book old walk step
+pub renewed-ends : (book : Book) (old walk : WholeWalk) (step : Option Fill) → IsRenewed book old walk → FromHere book walk [] walk.order.left → step ≡ None → StepsOn book old walk step
 renewed-ends book old walk step renewed from none =
     subst (StepsOn book old walk) (sym none)
-    (ap (λ (w : Walk). w.order) renewed.same, subst (λ (w : Walk). FromHere book w [] w.order.left) renewed.same from)
+    (ap (λ (w : WholeWalk). w.order) renewed.same, subst (λ (w : WholeWalk). FromHere book w [] w.order.left) renewed.same from)
 
-pub renewed-left : (book : Book) (old walk : Walk) → IsRenewed book old walk → walk.order.left ≡ old.order.left
-renewed-left book old walk renewed = ap (λ (w : Walk). w.order.left) renewed.same
+pub renewed-left : (book : Book) (old walk : WholeWalk) → IsRenewed book old walk → walk.order.left ≡ old.order.left
+renewed-left book old walk renewed = ap (λ (w : WholeWalk). w.order.left) renewed.same
 
 -- a walk whose heads are all found is one of which that of one bank may be out of date
-pub set-ready : (book : Book) (old walk : Walk) → IsReady book old → IsRenewed book old walk → IsReady book walk
+pub set-ready : (book : Book) (old walk : WholeWalk) → IsReady book old → IsRenewed book old walk → IsReady book walk
 set-ready book old walk ready renewed =
     let set_is = renewed-set book old walk ready renewed in
     record {

@@ -1,10 +1,10 @@
-ghost use Rattle.std.specs.Prelude.{ℕ, Option, ◌≡◌, ◌≢◌, ◌+◌, length, is_some, if◌then◌else◌, ◌≤◌, ◌<◌, ◌*◌, ◌/◌, ◌^◌, min, true, false, Some, None, slice_index, slice_index_or, IfOk, IfSome};
+ghost use Rattle.std.specs.Prelude.{ℕ, Option, ◌≡◌, ◌≢◌, ◌+◌, length, is_some, if◌then◌else◌, ◌≤◌, ◌<◌, ◌*◌, ◌/◌, ◌^◌, min, true, false, Some, None, slice_index, IfOk, IfSome};
 ghost use Rattle.fx_amounts.specs.Quantity.{IsWeight};
 ghost use Rattle.fx_rules.specs.Lists.{total};
 ghost use Rattle.fx_rules.specs.Sweep.{is_better};
 ghost use Rattle.global_book.specs.Book.{is_worse};
 ghost use Rattle.match_sweep.specs.Reaches.{IsReached};
-ghost use Rattle.match_sweep.specs.inside.Reaches.{AreRanked, AreTaken, BeginsAt, HaveLevels, IsBareLevel, IsBestAmong, IsBestPrice, IsHead, IsRank, OpensLevel, Puts, TakesLevel, TakesOf, bank_level, price_of};
+ghost use Rattle.match_sweep.specs.inside.Reaches.{AreRanked, AreTaken, BeginsAt, HaveLevels, IsBareLevel, IsBestAmong, IsBestPrice, IsHead, IsRank, OpensLevel, Puts, TakesLevel, TakesOf, bank_level, head_of, price_of};
 
 use credit_lines::CreditLines;
 use fx_amounts::{BankId, Memory, Price, Side};
@@ -38,7 +38,7 @@ pub fn levels_in_reach<L: Ledger>(
         taker: side,
         weight,
         lines: [0; BankId::SENDERS],
-        heads: [None; BankId::SENDERS],
+        heads: [HeadRow { at: 0, lots: 0 }; BankId::SENDERS],
         ranks: [NO_RANK; BankId::SENDERS],
         last: None,
     };
@@ -57,7 +57,8 @@ pub fn levels_in_reach<L: Ledger>(
 /// The rank of a bank of which nothing can be taken. All others are lower: the better a price, the lower its rank.
 const NO_RANK: u32 = u32::MAX;
 
-/// A walk from price to price over what a bank can reach. It changes no book. It is large, and stays where it was made.
+/// A walk from price to price over what a bank can reach. It changes no book. It is large, and stays where it was made; its tables
+/// have less than 2,048 bytes, up to which they are cleared fast.
 #[derive(Drop)]
 pub(crate) struct LevelWalk {
     /// The side of the orders that would take.
@@ -66,9 +67,9 @@ pub(crate) struct LevelWalk {
     weight: u32,
     /// What is left of the lines with each bank that has an order, in credit units; nothing with the bank's own.
     lines: [u64; BankId::SENDERS],
-    /// Of each bank with which the line pays for a lot, its best level behind the last price.
-    heads: [Option<BankLevel>; BankId::SENDERS],
-    /// The rank of each head's price for the taker, where the line with the bank pays for a lot; `NO_RANK` with the others.
+    /// Of each bank with which the line pays for a lot, its best level behind the last price. `ranks` has its price.
+    heads: [HeadRow; BankId::SENDERS],
+    /// The rank of each head's price for the taker; `NO_RANK` where there is no head, or the line with the bank pays for no lot.
     ranks: [u32; BankId::SENDERS],
     /// The price of the last level, where there is one.
     last: Option<Price>,
@@ -81,6 +82,15 @@ struct BankLevel {
     at: usize,
     price: Price,
     /// All lots that the bank has at this price, or the largest number of 64 bits where there are more: no line pays for these.
+    lots: u64,
+}
+
+/// What is kept of a head, a level of one bank, beside the rank of its price.
+#[derive(Clone, Copy)]
+struct HeadRow {
+    /// Its index among the bank's levels, 0 for the best price.
+    at: usize,
+    /// All lots that the bank has at the price, as a `BankLevel` has them.
     lots: u64,
 }
 
@@ -134,15 +144,23 @@ impl LevelWalk {
         self.put(other.index(), line, head);
     }
 
-    /// Writes down what is left of the line with the bank of this number, and its head, which is of use where the line pays for a lot.
+    /// Writes down what is left of the line with the bank of this number, and its head. Where the line pays for no lot there is none.
     fn put(&mut self, number: usize, line: u64, head: Option<BankLevel>)
-        requires { number < 64 }
+        requires number { number < 64 }
+        requires none { line < self.old.weight → head ≡ None }
         ensures puts { Puts self.old self.new number line head }
         ensures ranked { AreRanked self.old → AreRanked self.new }
     {
         self.lines[number] = line;
-        self.heads[number] = head;
-        self.ranks[number] = rank_of(self.taker, self.price_at(number));
+        let Some(head) = head else {
+            self.ranks[number] = NO_RANK;
+            return;
+        };
+        self.heads[number] = HeadRow {
+            at: head.at,
+            lots: head.lots,
+        };
+        self.ranks[number] = rank_of(self.taker, Some(head.price));
     }
 
     /// The next level; `None` where nothing more can be reached. One step for each bank at most, and none for no level.
@@ -159,18 +177,6 @@ impl LevelWalk {
         let lots = self.take_all(book, price, steps);
         self.last = Some(price);
         Some(Level { price, lots })
-    }
-
-    /// The price of the head of the bank of this number, where the line with it pays for a lot.
-    fn price_at(&self, number: usize) -> Option<Price>
-        requires { number < 64 }
-        ensures price { result ≡ price_of self.now number }
-    {
-        let head = self.heads[number]?;
-        if self.lines[number] < u64::from(self.weight) {
-            return None;
-        }
-        Some(head.price)
     }
 
     /// The best price of the heads of those of these banks with which the line pays for a lot.
@@ -213,7 +219,7 @@ impl LevelWalk {
         steps: &mut Steps<L>,
     ) -> u64
         requires weight { IsWeight self.old.weight }
-        requires head { 1 ≤ slice_index self.old.lines bank / self.old.weight → IsHead self.old.taker bank self.old.last book.now.orders (slice_index_or self.old.heads bank None) }
+        requires head { 1 ≤ slice_index self.old.lines bank / self.old.weight → IsHead self.old.taker bank self.old.last book.now.orders (head_of self.old bank) }
         requires worse { is_worse self.old.taker self.old.last price ≡ true }
         requires best { IfSome (price_of self.old bank) (λ other. is_better self.old.taker other price ≡ false) }
         requires ranked { AreRanked self.old }
@@ -225,9 +231,7 @@ impl LevelWalk {
         if self.ranks[at] != rank_of(self.taker, Some(price)) {
             return 0;
         }
-        let Some(head) = self.heads[at] else {
-            return 0;
-        };
+        let head = self.heads[at];
         let weight = u64::from(self.weight);
         let line = self.lines[at];
         let taken = lots_by_line(head.lots, line, weight);
@@ -296,6 +300,7 @@ fn level_at<L: Ledger>(
 ) -> Option<BankLevel>
     requires weight { IsWeight weight }
     ensures level { 1 ≤ line / weight → result ≡ bank_level taker bank book.now.orders at }
+    ensures none { line < weight → result ≡ None }
     ensures steps { steps.new ≤ steps.old + 1 }
 {
     if line < u64::from(weight) {

@@ -139,11 +139,11 @@ fn walk_on<L: Ledger>(
         order: *order,
         weight,
         lines: [0; BankId::SENDERS],
-        heads: [None; BankId::SENDERS],
         last: None,
     };
-    walk.take_first(book, owners, lines, opening, steps);
-    while let Some(fill) = walk.next_fill(book, steps) {
+    let mut heads = [None; BankId::SENDERS];
+    walk.take_first(&mut heads, book, owners, lines, opening, steps);
+    while let Some(fill) = walk.next_fill(&mut heads, book, steps) {
         fills.push(fill)?;
     }
     Ok(SweepPlan {

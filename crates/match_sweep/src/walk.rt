@@ -1,11 +1,11 @@
-ghost use Rattle.std.specs.Prelude.{ℕ, ◌≡◌, ◌≢◌, ◌≤◌, ◌<◌, ◌+◌, ◌*◌, ◌^◌, false, true, length, slice_index, slice_index_or, IfSome};
+ghost use Rattle.std.specs.Prelude.{ℕ, List, Option, ◌≡◌, ◌≢◌, ◌≤◌, ◌<◌, ◌+◌, ◌*◌, ◌^◌, false, true, length, slice_index, slice_index_or, IfSome};
 ghost use Rattle.std.specs.List.{Contains};
 ghost use Rattle.fx_amounts.specs.Quantity.{IsWeight};
-ghost use Rattle.fx_rules.specs.Lists.{total};
+ghost use Rattle.fx_rules.specs.declared.orders.Resting.{Resting};
 ghost use Rattle.credit_lines.specs.Credit.{line_in};
 ghost use Rattle.global_book.specs.Book.{AreOwners, IsBook};
 ghost use Rattle.match_sweep.specs.inside.Heads.{CameBefore, IsOpening};
-ghost use Rattle.match_sweep.specs.inside.Walks.{AreOpened, BeginsBehind, IsBare, IsPicked, IsReady, IsRenewed, OpensBank, StepsOn, Takes, first_fill, head_of, is_ahead, leads, may_take_head, steps_behind};
+ghost use Rattle.match_sweep.specs.inside.Walks.{AreOpened, BeginsBehind, IsBare, IsPicked, IsReady, IsRenewed, OpensBank, StepsOn, Takes, first_fill, head_of, is_ahead, leads, may_take_head, steps_behind, whole};
 
 use crate::heads::{head_behind, is_preferred};
 use crate::opening::Opening;
@@ -16,7 +16,12 @@ use global_book::PairBook;
 use price_levels::Steps;
 use std::sync::ledger::Ledger;
 
-/// A sweep as it goes from best order to best order. It changes no book. It is large, and stays where it was made.
+/// Of each bank of which a sweep may take something the best order that it may still come to, where it takes its price. That of
+/// the bank that was taken from last is out of date. The heads stand apart from their walk, since a table of more than 2,048 bytes
+/// is cleared slowly.
+pub(crate) type Heads = [Option<Resting>; BankId::SENDERS];
+
+/// A sweep as it goes from best order to best order, beside its `Heads`. It changes no book. It is large, and stays where it was made.
 #[derive(Drop)]
 pub(crate) struct Walk {
     /// The order, with the lots that it still wants.
@@ -25,9 +30,6 @@ pub(crate) struct Walk {
     pub(crate) weight: u32,
     /// What is left of the lines with the banks of which something may be taken, in credit units; nothing with others.
     pub(crate) lines: [u64; BankId::SENDERS],
-    /// Of each of these banks the best order that the sweep may still come to, where the order takes its price. That of the
-    /// bank that was taken from last is out of date.
-    pub(crate) heads: [Option<Resting>; BankId::SENDERS],
     /// The order that was taken last, if there is one.
     pub(crate) last: Option<Resting>,
 }
@@ -37,13 +39,14 @@ impl Walk {
     /// that have an order. The walk has found no line and no head so far.
     pub(crate) fn take_first<L: Ledger>(
         &mut self,
+        heads: &mut Heads,
         book: &PairBook,
         owners: &[BankId],
         lines: &CreditLines,
         opening: &Opening,
         steps: &mut Steps<L>,
     )
-        requires bare { IsBare self.old }
+        requires bare { IsBare (whole self.old heads.old) }
         requires owners { AreOwners book.now owners.now }
         requires valid { IsBook book.now }
         requires opening { IsOpening book.now lines.now self.old.weight self.old.order owners.now opening.now }
@@ -51,10 +54,10 @@ impl Walk {
         requires bank { self.old.order.bank < lines.now.banks }
         requires weight { IsWeight self.old.weight }
         requires left { 1 ≤ self.old.order.left }
-        ensures begins { BeginsBehind book.now lines.now self.old.weight self.old.order (first_fill lines.now self.old.weight self.old.order opening.now.first) self.new }
+        ensures begins { BeginsBehind book.now lines.now self.old.weight self.old.order (first_fill lines.now self.old.weight self.old.order opening.now.first) (whole self.new heads.new) }
         ensures steps { CameBefore book.now.orders self.old.order.arrival → steps.new + 1 ≤ steps.old + length owners.now }
     {
-        self.open_banks(book, owners, lines, opening, steps);
+        self.open_banks(heads, book, owners, lines, opening, steps);
         self.take(opening.first);
     }
 
@@ -62,23 +65,24 @@ impl Walk {
     /// first. The banks are those that have an order.
     fn open_banks<L: Ledger>(
         &mut self,
+        heads: &mut Heads,
         book: &PairBook,
         owners: &[BankId],
         lines: &CreditLines,
         opening: &Opening,
         steps: &mut Steps<L>,
     )
-        requires bare { IsBare self.old }
+        requires bare { IsBare (whole self.old heads.old) }
         requires within { (bank : ℕ) → Contains owners.now bank → bank < lines.now.banks }
         requires bank { self.old.order.bank < lines.now.banks }
         requires others { (bank : ℕ) → slice_index_or opening.now.opens bank false ≡ true → bank ≢ self.old.order.bank }
         requires first { Contains owners.now opening.now.first.bank }
-        ensures opened { AreOpened book.now lines.now owners.now opening.now self.old self.new }
+        ensures opened { AreOpened book.now lines.now owners.now opening.now (whole self.old heads.old) (whole self.new heads.new) }
         ensures steps { CameBefore book.now.orders self.old.order.arrival → steps.new + 1 ≤ steps.old + length owners.now }
     {
         for owner in owners {
             if opening.opens[owner.index()] {
-                self.open_bank(book, lines, *owner, opening.first.bank, steps);
+                self.open_bank(heads, book, lines, *owner, opening.first.bank, steps);
             }
         }
     }
@@ -86,6 +90,7 @@ impl Walk {
     /// Finds the line with a bank, and its head unless the sweep takes from it first.
     fn open_bank<L: Ledger>(
         &mut self,
+        heads: &mut Heads,
         book: &PairBook,
         lines: &CreditLines,
         bank: BankId,
@@ -95,46 +100,47 @@ impl Walk {
         requires own { self.old.order.bank < lines.now.banks }
         requires bank { bank < lines.now.banks }
         requires other { bank ≢ self.old.order.bank }
-        ensures opens { OpensBank book.now lines.now self.old self.new bank first }
+        ensures opens { OpensBank book.now lines.now (whole self.old heads.old) (whole self.new heads.new) bank first }
         ensures steps { CameBefore book.now.orders self.old.order.arrival → steps.new ≤ steps.old + 1 }
         ensures first { bank ≡ first → steps.new ≡ steps.old }
     {
         self.lines[bank.index()] = lines.eff(self.order.bank, bank).get();
         if bank != first {
-            self.heads[bank.index()] = head_behind(book, &self.order, bank, None, steps);
+            heads[bank.index()] = head_behind(book, &self.order, bank, None, steps);
         }
     }
 
     /// The next fill; `None` where the order wants no more or nothing more is open to it.
     pub(crate) fn next_fill<L: Ledger>(
         &mut self,
+        heads: &mut Heads,
         book: &PairBook,
         steps: &mut Steps<L>,
     ) -> Option<Fill>
-        requires ready { IsReady book.now self.old }
-        ensures steps { StepsOn book.now self.old self.new result }
-        ensures ready { IsReady book.now self.new }
+        requires ready { IsReady book.now (whole self.old heads.old) }
+        ensures steps { StepsOn book.now (whole self.old heads.old) (whole self.new heads.new) result }
+        ensures ready { IsReady book.now (whole self.new heads.new) }
         ensures counted { CameBefore book.now.orders self.old.order.arrival → steps.new ≤ steps.old + steps_behind self.old.last }
     {
         if self.order.left == 0 {
             return None;
         }
-        self.renew_head(book, steps);
-        let maker = self.best_head(book.owners())?;
+        self.renew_head(heads, book, steps);
+        let maker = self.best_head(heads, book.owners())?;
         Some(self.take(maker))
     }
 
     /// Finds the head anew of the bank that was taken from last.
-    fn renew_head<L: Ledger>(&mut self, book: &PairBook, steps: &mut Steps<L>)
-        requires ready { IsReady book.now self.old }
-        ensures renewed { IsRenewed book.now self.old self.new }
-        ensures steps { CameBefore book.now.orders self.old.order.arrival → steps.new ≤ steps.old + steps_behind self.old.last }
+    fn renew_head<L: Ledger>(&self, heads: &mut Heads, book: &PairBook, steps: &mut Steps<L>)
+        requires ready { IsReady book.now (whole self.now heads.old) }
+        ensures renewed { IsRenewed book.now (whole self.now heads.old) (whole self.now heads.new) }
+        ensures steps { CameBefore book.now.orders self.now.order.arrival → steps.new ≤ steps.old + steps_behind self.now.last }
     {
         let Some(last) = self.last else {
             return;
         };
         if self.lines[last.bank.index()] >= u64::from(self.weight) {
-            self.heads[last.bank.index()] = head_behind(
+            heads[last.bank.index()] = head_behind(
                 book,
                 &self.order,
                 last.bank,
@@ -145,11 +151,11 @@ impl Walk {
     }
 
     /// Whether the bank of this number has a head that may be taken: the line pays for a lot, and the order takes its price.
-    fn may_take(&self, number: usize) -> bool
+    fn may_take(&self, heads: &Heads, number: usize) -> bool
         requires { number < 64 }
-        ensures value { result ≡ may_take_head self.now number (head_of self.now number) }
+        ensures value { let walk = whole self.now heads.now in result ≡ may_take_head walk number (head_of walk number) }
     {
-        let Some(head) = self.heads[number] else {
+        let Some(head) = heads[number] else {
             return false;
         };
         self.lines[number] >= u64::from(self.weight)
@@ -157,41 +163,41 @@ impl Walk {
     }
 
     /// Whether the order prefers the head of the first bank to that of the second.
-    fn is_ahead(&self, number: usize, other: usize) -> bool
+    fn is_ahead(&self, heads: &Heads, number: usize, other: usize) -> bool
         requires first { number < 64 }
         requires second { other < 64 }
-        ensures value { result ≡ is_ahead self.now.order.side (head_of self.now number) (head_of self.now other) }
+        ensures value { let walk = whole self.now heads.now in result ≡ is_ahead self.now.order.side (head_of walk number) (head_of walk other) }
     {
-        let (Some(head), Some(other)) = (self.heads[number], self.heads[other]) else {
+        let (Some(head), Some(other)) = (heads[number], heads[other]) else {
             return false;
         };
         is_preferred(self.order.side, &head, &other)
     }
 
     /// Whether the head of the bank of this number may be taken, and is preferred to that of the best bank so far.
-    fn leads(&self, number: usize, best: Option<usize>) -> bool
+    fn leads(&self, heads: &Heads, number: usize, best: Option<usize>) -> bool
         requires number { number < 64 }
         requires best { IfSome best (λ at. at < 64) }
-        ensures value { result ≡ leads self.now number best }
+        ensures value { result ≡ leads (whole self.now heads.now) number best }
     {
         match best {
-            Some(best) => self.may_take(number) && self.is_ahead(number, best),
-            None => self.may_take(number),
+            Some(best) => self.may_take(heads, number) && self.is_ahead(heads, number, best),
+            None => self.may_take(heads, number),
         }
     }
 
     /// The best of the heads of these banks that may be taken.
-    fn best_head(&self, owners: &[BankId]) -> Option<Resting>
-        ensures picked { IsPicked self.now owners.now result }
+    fn best_head(&self, heads: &Heads, owners: &[BankId]) -> Option<Resting>
+        ensures picked { IsPicked (whole self.now heads.now) owners.now result }
     {
         let mut best = None;
         for owner in owners {
             let number = owner.index();
-            if self.leads(number, best) {
+            if self.leads(heads, number, best) {
                 best = Some(number);
             }
         }
-        self.heads[best?]
+        heads[best?]
     }
 
     /// Takes an order, with whose bank the line pays for a lot.
@@ -199,7 +205,7 @@ impl Walk {
         requires left { 1 ≤ self.old.order.left }
         requires weight { IsWeight self.old.weight }
         requires line { self.old.weight ≤ slice_index self.old.lines maker.bank }
-        ensures taken { Takes self.old self.new maker result }
+        ensures taken { (heads : List (Option Resting)) → Takes (whole self.old heads) (whole self.new heads) maker result }
     {
         let line = self.lines[maker.bank.index()];
         let lots = self.order.amount_by_line(&maker, line, self.weight);

@@ -1,5 +1,5 @@
 -- What private functions and proofs alone say of it, beside `specs/Reaches.antt`.
-use Rattle.std.specs.Prelude.{ℕ, ◌≡◌, ◌≢◌, ◌≤◌, ◌<◌, ◌+◌, ◌-◌, ◌*◌, ◌/◌, ◌^◌, min, false, nat_le, if◌then◌else◌, List, length, replicate, Option, Some, None, IfSome, slice_get, slice_index, slice_index_or, slice_set, option_map}
+use Rattle.std.specs.Prelude.{ℕ, ◌≡◌, ◌≢◌, ◌≤◌, ◌<◌, ◌+◌, ◌-◌, ◌*◌, ◌/◌, ◌^◌, min, false, nat_eq, nat_le, if◌then◌else◌, List, length, replicate, Option, Some, None, IfSome, slice_get, slice_index, slice_index_or, slice_set, option_map}
 use Rattle.std.specs.List.{Contains}
 use Rattle.fx_amounts.specs.Price.{IsPrice}
 use Rattle.fx_amounts.specs.declared.side.Side.{Side}
@@ -11,6 +11,7 @@ use Rattle.fx_rules.specs.Sweep.{is_better}
 use Rattle.global_book.specs.Book.{Book, IsBook, IsPriceOf, level_lots, levels_of}
 use Rattle.credit_lines.specs.Credit.{Credit, line_in}
 use Rattle.match_sweep.specs.declared.reached.BankLevel.{BankLevel}
+use Rattle.match_sweep.specs.declared.reached.HeadRow.{HeadRow}
 use Rattle.match_sweep.specs.declared.reached.LevelWalk.{LevelWalk}
 
 -- an order behind all others of a price
@@ -45,9 +46,24 @@ pub record IsHead (taker : Side) (bank : ℕ) (past : Option ℕ) (orders : List
   pub lots : IfSome head (λ level. level.lots ≡ counted (level_lots taker bank level.price orders))
   pub level : IfSome head (λ level. slice_get (levels_of taker bank orders) level.at ≡ Some (level.price, level_lots taker bank level.price orders))
 
+-- the price of a rank, for a taker of a side: the best price has the lowest rank, and the last rank is that of no price
+abbrev pub price_at : Side → ℕ → Option ℕ
+price_at Buy rank = if nat_eq rank (2 ^ 32 - 1) then None else Some rank
+price_at Sell rank = if nat_eq rank (2 ^ 32 - 1) then None else Some (2 ^ 32 - 1 - rank)
+
+-- the head of which this row and this rank are kept
+abbrev pub as_head : HeadRow → ℕ → BankLevel
+as_head row price = record { at = row.at; price = price; lots = row.lots }
+
+abbrev pub head_in : Side → HeadRow → ℕ → Option BankLevel
+head_in taker row rank = option_map (as_head row) (price_at taker rank)
+
+abbrev pub row_of : List HeadRow → ℕ → HeadRow
+row_of rows bank = slice_index_or rows bank (record { at = 0; lots = 0 })
+
 -- the head of a bank, and the price of one with which the line pays for a lot
 abbrev pub head_of : LevelWalk → ℕ → Option BankLevel
-head_of walk bank = slice_index_or walk.heads bank None
+head_of walk bank = head_in walk.taker (row_of walk.heads bank) (slice_index walk.ranks bank)
 
 abbrev pub price_of : LevelWalk → ℕ → Option ℕ
 price_of walk bank = if nat_le walk.weight (slice_index walk.lines bank) then price_in (head_of walk bank) else None
@@ -77,9 +93,11 @@ pub record IsRank (taker : Side) (price : Option ℕ) (rank : ℕ) : Type 0 wher
 abbrev pub AreRanked : LevelWalk → Type 0
 AreRanked walk = (bank : ℕ) → bank < 64 → IsRank walk.taker (price_of walk bank) (slice_index walk.ranks bank)
 
--- a bank's line and head are written down
-abbrev pub Puts : LevelWalk → LevelWalk → ℕ → ℕ → Option BankLevel → Type 0
-Puts old new bank line head = new ≡ record old { lines = slice_set old.lines bank line; heads = slice_set old.heads bank head; ranks = new.ranks }
+-- a bank's line and head are written down, and those of all others stay
+pub record Puts (old new : LevelWalk) (bank line : ℕ) (head : Option BankLevel) : Type 0 where
+  pub same : new ≡ record old { lines = slice_set old.lines bank line; heads = new.heads; ranks = new.ranks }
+  pub here : head_of new bank ≡ head
+  pub others : (other : ℕ) → other ≢ bank → head_of new other ≡ head_of old other
 
 -- the best price of the heads of so many banks, or there is none
 abbrev pub IsBestPrice : LevelWalk → ℕ → Option ℕ → Type 0

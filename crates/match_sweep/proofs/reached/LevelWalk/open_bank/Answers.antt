@@ -1,10 +1,10 @@
 -- The line and the level that was found are written down.
-use Rattle.std.proofs.Common.{ℕ, ◌≡◌, ◌≤◌, ◌/◌, Option, None, refl, sym, subst, ◌∙◌, arith, get_or, get_or-set_other, get_or-set_same, rules}
+use Rattle.std.proofs.Common.{ℕ, ◌≡◌, ◌≤◌, ◌/◌, List, Option, None, ap, length, sym, subst, ◌∙◌, arith, get_or, get_or-set_other, get_or-set_same, rules, slice_index}
 use Rattle.std.proofs.Math.ListN.{length-set, set}
 use Rattle.credit_lines.specs.Credit.{line_in}
 use Rattle.match_sweep.specs.declared.reached.BankLevel.{BankLevel}
 use Rattle.match_sweep.specs.declared.reached.LevelWalk.{LevelWalk}
-use Rattle.match_sweep.specs.inside.Reaches.{IsHead, OpensLevel}
+use Rattle.match_sweep.specs.inside.Reaches.{IsHead, Puts, head_of}
 use Rattle.match_sweep.proofs.Reaching.{first_head}
 use Rattle.match_sweep.proofs.reached.LevelWalk.open_bank.Goals as goal
 
@@ -16,16 +16,24 @@ returns-clause-opens g c =
     let at : ℕ = c.index.result in
     let line_is : line ≡ line_in c.args.lines.now c.args.bank c.args.other = c.get-line.ensures.value ∙ c.eff.ensures.value in
     let here : get_or (set old.lines at line) c.args.other 0 ≡ line = search (rules, get_or-set_same) in
-    let head : get_or (set old.heads at level) c.args.other None ≡ level = search (rules, get_or-set_same) in
-    subst (λ (new : LevelWalk). OpensLevel c.args.book.now c.args.lines.now old new c.args.bank c.args.other) (sym c.put.ensures.puts) (record {
-      keeps = record { same = refl; long = length-set old.lines at line };
-      line = here ∙ line_is;
+    let new : LevelWalk = c.put.new.self in
+    let puts : Puts old new at line level = c.put.ensures.puts in
+    let lines : new.lines ≡ set old.lines at line = ap (λ (w : LevelWalk). w.lines) puts.same in
+    let at_other : at ≡ c.args.other = c.index.ensures.value in
+    let there : slice_index new.lines c.args.other ≡ line = ap (λ (xs : List ℕ). slice_index xs c.args.other) lines ∙ here in
+    record {
+      keeps = record {
+        same = puts.same ∙ ap (λ (xs : List ℕ). record old { lines = xs; heads = new.heads; ranks = new.ranks }) (sym lines);
+        long = ap length lines ∙ length-set old.lines at line;
+      };
+      line = there ∙ line_is;
       most = omega (arith, line_is, c.get-line.ensures.most);
       head = λ reach.
-          subst (IsHead old.taker c.args.other None c.args.book.now.orders) (sym (head ∙ c.level_at-head.ensures.level (subst (λ (n : ℕ). 1 ≤ n / old.weight) here reach)))
+          subst (IsHead old.taker c.args.other None c.args.book.now.orders)
+          (sym (ap (head_of new) (sym at_other) ∙ puts.here ∙ c.level_at-head.ensures.level (subst (λ (n : ℕ). 1 ≤ n / old.weight) there reach)))
           (first_head old.taker c.args.other c.args.book.now.orders);
       others = λ third differ. (
-        get_or-set_other old.lines at third line 0 (λ same. differ (same ∙ c.index.ensures.value)),
-        get_or-set_other old.heads at third level None (λ same. differ (same ∙ c.index.ensures.value)),
+        ap (λ (xs : List ℕ). slice_index xs third) lines ∙ get_or-set_other old.lines at third line 0 (λ same. differ (same ∙ at_other)),
+        puts.others third (λ same. differ (same ∙ at_other)),
       );
-    })
+    }

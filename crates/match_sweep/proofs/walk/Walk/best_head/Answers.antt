@@ -1,7 +1,7 @@
 -- One more bank is looked at.
 use Rattle.std.proofs.Common.{ℕ, List, [], ◌∷◌, ◌++◌, ◌≡◌, take, ap, sym, subst, ◌∙◌, ◌+◌, arith}
 use Rattle.std.proofs.lemmas.List.{take_more}
-use Rattle.match_sweep.specs.inside.Walks.{IsPickedAt}
+use Rattle.match_sweep.specs.inside.Walks.{IsPickedAt, whole}
 use Rattle.match_sweep.proofs.Stepping.{picked-lead, picked-stay}
 use Rattle.match_sweep.proofs.walk.Walk.best_head.Goals as goal
 use Rattle.match_sweep.proofs.walk.Walk.best_head.Goals.{then-leads, else-leads}
@@ -16,12 +16,12 @@ loop-owner-preserved c =
     let n : ℕ = c.index-number.result in
     let more : take k banks ++ n ∷ [] ≡ take (k + 1) banks
     = ap (λ (bank : ℕ). take k banks ++ bank ∷ []) (c.index-number.ensures.value ∙ c.owner-item.is) ∙ sym (take_more banks k c.owner-item.result c.loop-owner-test.true) in
-    subst (λ (xs : List ℕ). IsPickedAt c.args.self.now xs c.if-leads.best) more
+    subst (λ (xs : List ℕ). IsPickedAt (whole c.args.self.now c.args.heads.now) xs c.if-leads.best) more
     (elim c.if-leads.branch [
       | then-leads w ↦
-          subst (IsPickedAt c.args.self.now (take k banks ++ n ∷ [])) (sym w.best-is)
-          (picked-lead c.args.self.now (take k banks) n c.loop-owner.best c.index-number.ensures.most c.loop-owner.invariant (sym c.leads.ensures.value ∙ w.if-leads.true))
+          subst (IsPickedAt (whole c.args.self.now c.args.heads.now) (take k banks ++ n ∷ [])) (sym w.best-is)
+          (picked-lead (whole c.args.self.now c.args.heads.now) (take k banks) n c.loop-owner.best c.index-number.ensures.most c.loop-owner.invariant (sym c.leads.ensures.value ∙ w.if-leads.true))
       | else-leads w ↦
-          subst (IsPickedAt c.args.self.now (take k banks ++ n ∷ [])) (sym w.best-is)
-          (picked-stay c.args.self.now (take k banks) n c.loop-owner.best c.loop-owner.invariant (sym c.leads.ensures.value ∙ w.if-leads.false))
+          subst (IsPickedAt (whole c.args.self.now c.args.heads.now) (take k banks ++ n ∷ [])) (sym w.best-is)
+          (picked-stay (whole c.args.self.now c.args.heads.now) (take k banks) n c.loop-owner.best c.loop-owner.invariant (sym c.leads.ensures.value ∙ w.if-leads.false))
     ])

@@ -2,8 +2,7 @@
 use Rattle.std.proofs.Common.{ap, subst, ◌∙◌, arith, refl}
 use Rattle.fx_rules.specs.Sweep.{Taker}
 use Rattle.global_book.specs.Book.{Book}
-use Rattle.match_sweep.specs.declared.walk.Walk.{Walk}
-use Rattle.match_sweep.specs.inside.Walks.{Begins, LeadsOn}
+use Rattle.match_sweep.specs.inside.Walks.{WholeWalk, whole, Begins, LeadsOn}
 use Rattle.match_sweep.proofs.Beginning.{first-chosen, first_listed, first_fill-is, opened-begins, opened-near}
 use Rattle.match_sweep.proofs.Stepping.{Chosen, owner_within, taken-leads, taken-ready}
 use Rattle.match_sweep.proofs.walk.Walk.take_first.Goals as goal
@@ -19,8 +18,8 @@ open_banks-requires g c = record {
 
 pub take-requires-clause-line : goal.take-requires-clause-line
 take-requires-clause-line g c =
-    let old : Walk = c.args.self.now in
-    let walk : Walk = c.open_banks.new.self in
+    let old : WholeWalk = whole c.args.self.now c.args.heads.now in
+    let walk : WholeWalk = whole c.open_banks.new.self c.open_banks.new.heads in
     (first-chosen c.args.book.now c.args.lines.now old.weight old.order c.args.owners.now c.args.opening.now c.requires.valid c.requires.owners c.requires.opening walk
     (opened-begins c.args.book.now c.args.lines.now old.weight old.order c.args.owners.now c.args.opening.now c.requires.valid c.requires.owners c.requires.opening old walk refl c.open_banks.ensures.opened
     (omega (arith, c.requires.weight.0)) refl c.requires.bare)
@@ -29,9 +28,9 @@ take-requires-clause-line g c =
 pub returns-clause-begins : goal.returns-clause-begins
 returns-clause-begins g c =
     let book : Book = c.args.book.now in
-    let old : Walk = c.args.self.now in
+    let old : WholeWalk = whole c.args.self.now c.args.heads.now in
     let t : Taker = old.order in
-    let walk : Walk = c.open_banks.new.self in
+    let walk : WholeWalk = whole c.open_banks.new.self c.open_banks.new.heads in
     let opened = c.open_banks.ensures.opened in
     let begins : Begins book c.args.lines.now old.weight t walk =
     opened-begins book c.args.lines.now old.weight t c.args.owners.now c.args.opening.now c.requires.valid c.requires.owners c.requires.opening old walk refl opened (omega (arith, c.requires.weight.0)) refl c.requires.bare in
@@ -40,12 +39,12 @@ returns-clause-begins g c =
     record {
       first = walk;
       begins = begins;
-      leads = subst (LeadsOn book walk c.take.new.self)
-          (c.take.ensures.taken.is
+      leads = subst (LeadsOn book walk (whole c.take.new.self c.open_banks.new.heads))
+          ((c.take.ensures.taken c.open_banks.new.heads).is
           ∙ first_fill-is book c.args.lines.now old.weight t c.args.owners.now c.args.opening.now c.requires.valid c.requires.owners c.requires.opening walk begins)
-          (taken-leads book walk c.take.new.self c.args.opening.now.first c.take.result (omega (arith, c.requires.weight.0, begins.weighs)) (omega (arith, c.requires.left, ap (λ (u : Taker). u.left) begins.order)) chosen c.take.ensures.taken);
-      ready = taken-ready book walk c.take.new.self c.args.opening.now.first c.take.result
+          (taken-leads book walk (whole c.take.new.self c.open_banks.new.heads) c.args.opening.now.first c.take.result (omega (arith, c.requires.weight.0, begins.weighs)) (omega (arith, c.requires.left, ap (λ (u : Taker). u.left) begins.order)) chosen (c.take.ensures.taken c.open_banks.new.heads));
+      ready = taken-ready book walk (whole c.take.new.self c.open_banks.new.heads) c.args.opening.now.first c.take.result
           (opened-near book c.args.lines.now old.weight t c.args.owners.now c.args.opening.now c.requires.valid c.requires.owners c.requires.opening old walk refl opened c.requires.weight
           (omega (arith, c.requires.bank, c.requires.banks)) begins)
-          chosen c.take.ensures.taken;
+          chosen (c.take.ensures.taken c.open_banks.new.heads);
     }
