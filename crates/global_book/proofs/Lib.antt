@@ -18,5 +18,5 @@ mod Banks
 mod Summing
 pub mod Lowered
 mod Moving
-mod Chaining
+mod Ending
 pub mod Cursor

@@ -2,4 +2,4 @@ pub mod Levels
 pub mod Moves
 pub mod Rows
 pub mod Search
-pub mod Chains
+pub mod Ends
