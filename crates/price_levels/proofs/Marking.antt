@@ -1,5 +1,5 @@
 -- Bits of a row as one of them is set or cleared, and as the first one is looked for.
-use Rattle.std.proofs.Common.{ℕ, ◌≡◌, ◌≢◌, ◌+◌, ◌-◌, ◌*◌, ◌/◌, ◌%◌, ◌≤◌, ◌<◌, ◌^◌, ◌++◌, Bool, if◌then◌else◌, [], List, length, length-append, replicate, get_or, Option, Some, None, w64, inl, inr, ap, ap₂, sym, ◌∙◌, arith}
+use Rattle.std.proofs.Common.{ℕ, zero, suc, ◌≡◌, ◌≢◌, ◌+◌, ◌-◌, ◌*◌, ◌/◌, ◌%◌, ◌≤◌, ◌<◌, ◌^◌, ◌==◌, ◌++◌, Bool, true, false, if◌then◌else◌, [], ◌∷◌, List, length, length-append, replicate, get_or, Option, Some, None, w64, inl, inr, refl, ap, ap₂, sym, ◌∙◌, arith}
 use Rattle.std.proofs.Math.ListN.{get_or-append, set}
 use Rattle.std.proofs.Math.Nat.{div-div-eq-div-mul, div-le_self}
 use Rattle.std.proofs.lemmas.Bool.{cases_eq, cases_lt, le-leb, lt-leb}
@@ -7,11 +7,13 @@ use Rattle.std.proofs.lemmas.Nat.{pow-add}
 use Rattle.std.proofs.lemmas.Nat.Bits.{bit_at-trailing_zeros, bit_at-zero, bit_at_above}
 use Rattle.std.proofs.lemmas.List.{get_or-append-add, get_or-replicate, get_or-set_same, get_or-set_other, get_or_past, length-replicate}
 use Rattle.std.specs.Int.{bit_at, trailing_zeros}
+use Rattle.std.proofs.lemmas.List.Sums.{sum_by-append, sum_by-cons}
+use Rattle.std.specs.List.{sum_by}
 use Rattle.std.specs.Prelude.{IfSome}
 use Rattle.price_levels.specs.declared.level.Level.{Level}
 use Rattle.price_levels.specs.inside.Bits.{IsFirstMark, bit_of}
-use Rattle.price_levels.specs.Ticks.{Ticks, level_of, no_level}
-use Rattle.price_levels.specs.inside.Marked.{AreMarked, mark_of, padded}
+use Rattle.price_levels.specs.Ticks.{Ticks, level_of, mark_of, no_level}
+use Rattle.price_levels.specs.inside.Marked.{AreMarked, padded}
 
 -- a word whose bit at a tick alone is another
 pub bit_here : (words : List ℕ) (at word bit : ℕ) → at / 64 < length words → bit_at word (at % 64) ≡ bit → bit_of (set words (at / 64) word) at ≡ bit
@@ -144,11 +146,37 @@ length-padded blank xs before after =
       length-replicate after blank,
     )
 
+-- how many levels of a list have orders
+none_used : (n : ℕ) → sum_by mark_of (replicate n no_level) ≡ 0
+none_used zero = refl
+none_used (suc n) = omega (arith, sum_by-cons mark_of no_level (replicate n no_level), none_used n)
+
+used_padded : (levels : List Level) (before after : ℕ) → sum_by mark_of (padded no_level levels before after) ≡ sum_by mark_of levels
+used_padded levels before after =
+    omega (
+      arith,
+      sum_by-append mark_of (replicate before no_level) (levels ++ replicate after no_level),
+      sum_by-append mark_of levels (replicate after no_level),
+      none_used before,
+      none_used after,
+    )
+
+pub mark_few : (level : Level) → mark_of level ≤ 1
+mark_few level = by_test (level.lots == 0)
+  where
+    by_test : (b : Bool) → (if b then 0 else 1) ≤ 1
+    by_test true = omega arith
+    by_test false = omega arith
+
+pub used_few : (levels : List Level) → sum_by mark_of levels ≤ length levels
+used_few [] = omega arith
+used_few (level ∷ levels) = omega (arith, sum_by-cons mark_of level levels, mark_few level, used_few levels)
+
 -- the levels and the words of a window, laid out anew
-pub marked_padded : (base base' : ℕ) (levels levels' : List Level) (words words' : List ℕ) (first before after : ℕ) → AreMarked base levels words
+pub marked_padded : (base base' : ℕ) (levels levels' : List Level) (words words' : List ℕ) (used first before after : ℕ) → AreMarked base levels words used
     → levels' ≡ padded no_level levels (64 * before) (64 * after) → words' ≡ padded 0 words before after → base' ≡ 64 * first
-    → 64 * (first + before + after) + length levels ≤ 2 ^ 32 → AreMarked base' levels' words'
-marked_padded base base' levels levels' words words' first before after are levels_are words_are base_is few =
+    → 64 * (first + before + after) + length levels ≤ 2 ^ 32 → AreMarked base' levels' words' used
+marked_padded base base' levels levels' words words' used first before after are levels_are words_are base_is few =
     let long : length levels' ≡ 64 * before + length levels + 64 * after = ap length levels_are ∙ length-padded no_level levels (64 * before) (64 * after) in
     let wide : length words' ≡ before + length words + after = ap length words_are ∙ length-padded 0 words before after in
     record {
@@ -158,6 +186,7 @@ marked_padded base base' levels levels' words words' first before after are leve
       marks = λ at within.
           ap (λ (ws : List ℕ). bit_of ws at) words_are ∙ padded_mark levels words before after at are.blocks are.marks
           ∙ ap (λ (ls : List Level). mark_of (get_or ls at no_level)) (sym levels_are);
+      counted = are.counted ∙ sym (ap (λ (ls : List Level). sum_by mark_of ls) levels_are ∙ used_padded levels (64 * before) (64 * after));
     }
   where
     padded_mark : (levels : List Level) (words : List ℕ) (before after at : ℕ) → length levels ≡ 64 * length words → ((k : ℕ) → k < length levels → bit_of words k ≡ mark_of (get_or levels k no_level))

@@ -1,10 +1,10 @@
 -- The levels of one owner and side, as contracts see them. The rank of a price tells how good it is for a taker: the lower, the better.
-use Rattle.std.specs.Prelude.{ℕ, ◌≡◌, ◌≢◌, ◌+◌, ◌≤◌, ◌<◌, ◌==◌, ◌||◌, ◌&&◌, if◌then◌else◌, is_some, nat_le, nat_lt, Bool, List, length, Option, Some, None}
+use Rattle.std.specs.Prelude.{ℕ, ◌≡◌, ◌≢◌, ◌+◌, ◌*◌, ◌≤◌, ◌<◌, ◌==◌, ◌||◌, ◌&&◌, if◌then◌else◌, is_some, max, min, nat_le, nat_lt, Bool, List, length, Option, Some, None}
 use Rattle.std.specs.BTreeMap.{is_at}
 use Rattle.std.specs.Map.{lookup}
 use Rattle.std.specs.Ordering.{nat_cmp}
 use Rattle.price_levels.specs.declared.level.Level.{Level}
-use Rattle.price_levels.specs.Ticks.{Ticks, level_of, no_level}
+use Rattle.price_levels.specs.Ticks.{Ticks, level_of, used_of}
 
 -- the levels in a window of ranks, and those that are kept one by one, each with its rank
 pub record Rungs : Type 0 where
@@ -31,6 +31,10 @@ covers near rank = nat_le near.base rank && nat_lt rank (near.base + length near
 -- whether an order can come to rest at a rank without taking memory
 abbrev pub holds : Rungs → ℕ → Bool
 holds rungs rank = covers rungs.near rank || is_some (kept_at rungs.far rank)
+
+-- how many ranks a window may be widened to: 4,096, or 16 for each of its ranks with orders, and 65,536 at most
+abbrev pub most_ranks : Ticks → ℕ
+most_ranks near = min (max (16 * used_of near) 4096) 65536
 
 -- the level of a rank, once one of them has another one
 abbrev pub with_level_at : (ℕ → Level) → ℕ → Level → ℕ → Level

@@ -1,5 +1,6 @@
 -- The levels of one owner and side in a window of ranks, as contracts see them.
-use Rattle.std.specs.Prelude.{ℕ, ◌+◌, ◌-◌, ◌≤◌, ◌<◌, ◌==◌, nat_le, if◌then◌else◌, List, length, Option, Some, None, slice_index_or, slice_set}
+use Rattle.std.specs.Prelude.{ℕ, ◌+◌, ◌-◌, ◌*◌, ◌/◌, ◌≤◌, ◌<◌, ◌==◌, max, min, nat_le, if◌then◌else◌, List, length, Option, Some, None, slice_index_or, slice_set}
+use Rattle.std.specs.List.{sum_by}
 use Rattle.price_levels.specs.declared.level.Level.{Level}
 
 -- no orders
@@ -19,6 +20,25 @@ level_of ticks rank = if nat_le ticks.base rank then slice_index_or ticks.levels
 pub record Covers (ticks : Ticks) (rank : ℕ) : Type 0 where
   pub from_on : ticks.base ≤ rank
   pub within : rank < ticks.base + length ticks.levels
+
+-- 1 for a level with orders, 0 for one without
+abbrev pub mark_of : Level → ℕ
+mark_of level = if level.lots == 0 then 0 else 1
+
+-- how many ranks of the window have orders
+abbrev pub used_of : Ticks → ℕ
+used_of ticks = sum_by mark_of ticks.levels
+
+-- so many blocks of 64 ranks, and a quarter more of them
+abbrev pub with_quarter : ℕ → ℕ
+with_quarter blocks = 64 * (blocks + blocks / 4)
+
+-- how many ranks a window may have once a rank is in it too: a block, where it had none, or the blocks from its first to its last with
+-- a quarter more
+abbrev pub span_of : Ticks → ℕ → ℕ
+span_of ticks rank =
+    if length ticks.levels == 0 then 64
+    else with_quarter (max ((ticks.base + length ticks.levels) / 64) (rank / 64 + 1) - min (ticks.base / 64) (rank / 64))
 
 -- the order that is first once one between two others is gone
 abbrev pub first_left : Level → Option ℕ → Option ℕ → ℕ

@@ -1,5 +1,5 @@
-ghost use Rattle.std.specs.Prelude.{ℕ, ◌≡◌, ◌+◌, ◌-◌, ◌≤◌, ◌<◌, ◌^◌, None, true, IfSome, OnOk};
-ghost use Rattle.price_levels.specs.Rungs.{IsNextRank, covers, holds, level_at, with_level_at};
+ghost use Rattle.std.specs.Prelude.{ℕ, ◌≡◌, ◌+◌, ◌-◌, ◌≤◌, ◌<◌, ◌^◌, None, true, length, max, IfSome, OnOk};
+ghost use Rattle.price_levels.specs.Rungs.{IsNextRank, covers, holds, level_at, most_ranks, with_level_at};
 ghost use Rattle.price_levels.specs.Ticks.{last_of_level, no_level, with_order, without_order};
 ghost use Rattle.price_levels.specs.inside.Far.{AreApart};
 
@@ -27,8 +27,6 @@ const AT_MOST: usize = 65_536;
 pub struct Ladder {
     near: Window,
     far: FarLevels,
-    /// How many levels of the window have orders: the more, the wider it may be.
-    count: usize,
 }
 
 impl Model for Ladder {
@@ -50,7 +48,6 @@ impl Ladder {
         Ladder {
             near: Window::new(alloc),
             far: FarLevels::new(alloc),
-            count: 0,
         }
     }
 
@@ -78,6 +75,7 @@ impl Ladder {
         requires rank { rank < 2 ^ 31 }
         ensures holds { OnOk result (holds self.new rank ≡ true) }
         ensures levels { (other : ℕ) → level_at self.new other ≡ level_at self.old other }
+        ensures size { length self.new.near.levels ≤ max (length self.old.near.levels) (most_ranks self.old.near) }
     {
         if self.near.covers(rank) {
             return Ok(());
@@ -86,14 +84,15 @@ impl Ladder {
             return self.far.make_ready(rank);
         }
         self.near.reserve(rank)?;
-        let drawn = draw_near(&mut self.near, &mut self.far);
-        self.count = self.count.saturating_add(drawn);
+        draw_near(&mut self.near, &mut self.far);
         Ok(())
     }
 
     /// How many ranks the window may have.
-    fn most(&self) -> usize {
-        self.count.saturating_mul(FOR_EACH).clamp(ALWAYS, AT_MOST)
+    fn most(&self) -> usize
+        ensures { result ≡ most_ranks self.now.near }
+    {
+        (self.near.used() * FOR_EACH).max(ALWAYS).min(AT_MOST)
     }
 
     /// An order of so many lots comes to rest at a rank that was made ready for it, behind all others there. It answers the place of the
@@ -108,7 +107,6 @@ impl Ladder {
         let level = self.level(rank);
         self.set(rank, level.with(place, lots));
         if level.lots == 0 {
-            self.count_new(rank);
             return None;
         }
         Some(level.last)
@@ -152,15 +150,6 @@ impl Ladder {
         }
     }
 
-    /// Counts a rank that had no orders, if it is in the window.
-    fn count_new(&mut self, rank: u32)
-        ensures { self.new ≡ self.old }
-    {
-        if self.near.covers(rank) {
-            self.count = self.count.saturating_add(1);
-        }
-    }
-
     /// A rank has no orders any longer.
     fn clear(&mut self, rank: u32)
         ensures levels { (other : ℕ) → level_at self.new other ≡ with_level_at (level_at self.old) rank no_level other }
@@ -168,7 +157,6 @@ impl Ladder {
     {
         if self.near.covers(rank) {
             self.near.set(rank, Level::NONE);
-            self.count = self.count.saturating_sub(1);
         } else {
             self.far.take(rank);
         }
@@ -195,22 +183,20 @@ impl Ladder {
     }
 }
 
-/// Moves the far levels at ranks of the window into it, and answers how many these are.
-fn draw_near(near: &mut Window, far: &mut FarLevels) -> usize
+/// Moves the far levels at ranks of the window into it.
+fn draw_near(near: &mut Window, far: &mut FarLevels)
     ensures levels { (rank : ℕ) → level_at (record { near = near.new; far = far.new }) rank ≡ level_at (record { near = near.old; far = far.old }) rank }
     ensures covers { (rank : ℕ) → covers near.new rank ≡ covers near.old rank }
+    ensures size { length near.new.levels ≡ length near.old.levels }
     ensures apart { AreApart near.new far.new }
 {
     let mut from = near.base();
-    let mut drawn = 0usize;
     while let Some((rank, level)) = far.first_from(from) {
         if !near.covers(rank) {
-            return drawn;
+            return;
         }
         far.take(rank);
         near.set(rank, level);
-        drawn = drawn.saturating_add(1);
         from = rank + 1;
     }
-    drawn
 }

@@ -1,5 +1,5 @@
 ghost use Rattle.std.specs.Prelude.{◌≡◌, ◌+◌, ◌-◌, ◌≤◌, ◌<◌, ◌^◌};
-ghost use Rattle.price_levels.specs.Ticks.{first_left, last_left, with_order, without_order};
+ghost use Rattle.price_levels.specs.Ticks.{first_left, last_left, mark_of, with_order, without_order};
 
 use fx_amounts::Lots;
 
@@ -22,6 +22,13 @@ impl Level {
         first: 0,
         last: 0,
     };
+
+    /// 1 where it has orders, else 0.
+    pub(crate) fn mark(self) -> usize
+        ensures { result ≡ mark_of self }
+    {
+        if self.lots == 0 { 0 } else { 1 }
+    }
 
     /// With one order more, behind all others.
     pub(crate) fn with(self, place: u32, lots: Lots) -> Level

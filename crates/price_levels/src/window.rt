@@ -1,6 +1,7 @@
-ghost use Rattle.std.specs.Prelude.{ℕ, ◌≡◌, ◌+◌, ◌-◌, ◌*◌, ◌/◌, ◌^◌, ◌≤◌, ◌<◌, None, [], length, IfOk, IfSome, OnErr, OnOk};
+ghost use Rattle.std.specs.Prelude.{ℕ, ◌≡◌, ◌+◌, ◌-◌, ◌*◌, ◌^◌, ◌≤◌, ◌<◌, None, [], length, max, slice_set, IfOk, IfSome, OnErr, OnOk};
+ghost use Rattle.std.specs.List.{sum_by};
 ghost use Rattle.price_levels.specs.Rungs.{IsNextRank, covers};
-ghost use Rattle.price_levels.specs.Ticks.{Covers, last_of_level, level_of, no_level, with_level, with_order, without_order};
+ghost use Rattle.price_levels.specs.Ticks.{Covers, last_of_level, level_of, mark_of, no_level, span_of, used_of, with_level, with_order, without_order};
 ghost use Rattle.price_levels.specs.inside.Marked.{padded};
 
 use crate::bit_row::{WORD, first_mark, mark, unmark};
@@ -12,8 +13,7 @@ use std::marker::Model;
 /// The levels of one owner and side in a window of ranks, one for each tick of the price, under a row of bits that tells which ranks
 /// have orders. The lower a rank, the better its price, so the best level is the first one.
 ///
-/// It is to be a part of an owner's ladder, with sorted places for prices far outside of the window, and a pair's book is to stand on it.
-/// Nothing calls it yet.
+/// It is a part of an owner's ladder.
 #[derive(Debug, Drop)]
 pub struct Window {
     /// The first rank.
@@ -21,6 +21,8 @@ pub struct Window {
     levels: Vec<Level>,
     /// A word for each 64 levels.
     words: Vec<u64>,
+    /// How many levels have orders.
+    used: usize,
 }
 
 impl Model for Window {
@@ -31,7 +33,7 @@ impl Model for Window {
 
     ghost view = { λ w. record { base = w.base; levels = w.levels.items } };
 
-    ghost invariant = { λ w. AreMarked w.base w.levels.items w.words.items };
+    ghost invariant = { λ w. AreMarked w.base w.levels.items w.words.items w.used };
 }
 
 impl Window {
@@ -43,6 +45,7 @@ impl Window {
             base: 0,
             levels: Vec::new(alloc),
             words: Vec::new(alloc),
+            used: 0,
         }
     }
 
@@ -60,8 +63,18 @@ impl Window {
         rank >= self.base && ((rank - self.base) as usize) < self.levels.len()
     }
 
+    /// How many ranks of the window have orders.
+    pub(crate) fn used(&self) -> usize
+        ensures used { result ≡ used_of self.now }
+        ensures few { result ≤ 2 ^ 32 }
+    {
+        self.used
+    }
+
     /// How many ranks the window has at most once it covers a rank too.
-    pub(crate) fn span(&self, rank: u32) -> usize {
+    pub(crate) fn span(&self, rank: u32) -> usize
+        ensures { result ≡ span_of self.now rank }
+    {
         let block = rank as usize / WORD;
         let first = self.base as usize / WORD;
         let count = self.words.len();
@@ -133,6 +146,7 @@ impl Window {
         ensures { self.new ≡ with_level self.old rank level }
     {
         let at = (rank - self.base) as usize;
+        self.used = used_after(&self.levels, self.used, at, level);
         self.levels[at] = level;
         if level.lots == 0 {
             unmark(&mut self.words, at);
@@ -165,6 +179,7 @@ impl Window {
         requires rank { rank < 2 ^ 31 }
         ensures covers { OnOk result (Covers self.new rank) }
         ensures levels { (other : ℕ) → level_of self.new other ≡ level_of self.old other }
+        ensures size { length self.new.levels ≤ max (length self.old.levels) (span_of self.old rank) }
         ensures memory { OnErr result (self.new ≡ self.old) }
     {
         let block = rank as usize / WORD;
@@ -202,6 +217,16 @@ impl Window {
         self.words = words;
         Ok(())
     }
+}
+
+/// How many levels have orders, of which so many have, once one of them is another.
+fn used_after(levels: &[Level], used: usize, at: usize, level: Level) -> usize
+    requires used { used ≡ sum_by mark_of levels.now }
+    requires few { length levels.now ≤ 2 ^ 32 }
+    requires within { at < length levels.now }
+    ensures { result ≡ sum_by mark_of (slice_set levels.now at level) }
+{
+    used + level.mark() - levels[at].mark()
 }
 
 /// The levels, behind so many without orders and in front of others.
