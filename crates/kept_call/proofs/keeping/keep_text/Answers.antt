@@ -11,7 +11,7 @@ use Rattle.kept_call.specs.declared.fault.KeptFault.{KeptFault}
 use Rattle.kept_call.specs.declared.fault.KeptFault.TheVariants.{Memory}
 use Rattle.kept_call.proofs.Faults.{for_err}
 use Rattle.kept_call.proofs.Opening.{kept-at_rest}
-use Rattle.session_script.proofs.RoundLaws.{header_or_none, header_same, read_here}
+use Rattle.session_script.proofs.RoundLaws.{header_same, read_here}
 use Rattle.kept_call.proofs.Serving.{promptly-taken, served-unbegun}
 use Rattle.kept_call.proofs.keeping.keep_text.Goals as goal
 
