@@ -1,6 +1,7 @@
 //! Sessions that a reader watches.
 use super::{
-    Ending, Fails, MemorySink, MemorySource, NONE, done, expect, owned, refusal, samples, with_ending,
+    Ending, Fails, MemorySink, MemorySource, NONE, done, expect, owned, refusal, samples,
+    with_ending,
 };
 use crate::fx_main;
 use fx_rules::OpenGate;
