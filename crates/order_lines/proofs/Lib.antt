@@ -1,4 +1,5 @@
 pub mod FieldTexts
+pub mod FrontNumbers
 pub mod Printed
 pub mod SaidCommands
 pub mod SaidFields

@@ -1,5 +1,5 @@
 -- What the fields of a command line say: the command, or the first fault from the left.
-use Rattle.std.specs.Prelude.{ℕ, ◌==◌, Option, Some, None, Result, Ok, Err, ok_or, List, [], length, slice_index_or, if◌then◌else◌}
+use Rattle.std.specs.Prelude.{ℕ, ◌==◌, Result, Ok, Err, ok_or, List, length, if◌then◌else◌}
 use Rattle.fx_amounts.specs.PriceText.{price_of}
 use Rattle.fx_amounts.specs.declared.price_text.PriceFault.{PriceFault}
 use Rattle.fx_amounts.specs.declared.price_text.PriceFault.TheVariants.{Form, Range}

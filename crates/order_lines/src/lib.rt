@@ -2,6 +2,7 @@
 //! spelling of every command.
 #![tactic(auto)]
 
+mod fronts;
 mod reading;
 mod spelled;
 mod spoken;

@@ -109,7 +109,7 @@ pub(crate) fn read_pair(session: &Session, text: &[u8]) -> Result<PairId, Reject
 }
 
 #[tactic(auto, unfolding(crate::specs::Reading::price_said))]
-pub(crate) fn read_price(session: &Session, pair: PairId, text: &[u8]) -> Result<Price, Reject>
+fn read_price(session: &Session, pair: PairId, text: &[u8]) -> Result<Price, Reject>
     requires { pair < pair_count session.now }
     ensures { result ≡ price_said session.now pair text.now }
 {
@@ -130,7 +130,7 @@ pub(crate) fn decimals(session: &Session, pair: PairId) -> u8
 }
 
 #[tactic(auto, unfolding(crate::specs::Reading::lots_said))]
-pub(crate) fn read_lots(text: &[u8]) -> Result<Lots, Reject>
+fn read_lots(text: &[u8]) -> Result<Lots, Reject>
     ensures { result ≡ lots_said text.now }
 {
     let count = number(text, u64::from(Lots::LEAST), u64::from(Lots::MOST)).ok_or(Reject::Lots)?;
@@ -138,14 +138,14 @@ pub(crate) fn read_lots(text: &[u8]) -> Result<Lots, Reject>
 }
 
 #[tactic(auto, unfolding(crate::specs::Reading::life_said))]
-pub(crate) fn read_life(text: &[u8]) -> Result<Life, Reject>
+fn read_life(text: &[u8]) -> Result<Life, Reject>
     ensures { result ≡ life_said text.now }
 {
     life_from(text).ok_or(Reject::Life)
 }
 
 #[tactic(auto, unfolding(crate::specs::Reading::number_said))]
-pub(crate) fn read_number(text: &[u8]) -> Result<u32, Reject>
+fn read_number(text: &[u8]) -> Result<u32, Reject>
     ensures { result ≡ number_said text.now }
 {
     let number = number(text, 1, u64::from(u32::MAX)).ok_or(Reject::Number)?;
@@ -164,7 +164,7 @@ pub(crate) fn read_other(session: &Session, sender: BankId, text: &[u8]) -> Resu
 }
 
 #[tactic(auto, unfolding(crate::specs::Reading::limit_said))]
-pub(crate) fn read_limit(text: &[u8]) -> Result<Units, Reject>
+fn read_limit(text: &[u8]) -> Result<Units, Reject>
     ensures { result ≡ limit_said text.now }
 {
     let units = number(text, 0, Units::MOST).ok_or(Reject::Limit)?;

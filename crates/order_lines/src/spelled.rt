@@ -1,8 +1,7 @@
-ghost use Rattle.std.specs.Prelude.{◌≡◌, ◌<◌, ◌++◌, ◌∷◌, length, slice_index, IfSome};
+ghost use Rattle.std.specs.Prelude.{◌≡◌, ◌<◌, ◌++◌, ◌∷◌, length, IfSome};
 ghost use Rattle.fx_text.specs.Lines.{IsFirstLine};
 ghost use Rattle.fx_text.specs.declared.line.Line.TheVariants.{Whole as WholeLine};
 ghost use Rattle.fx_rules.specs.Sending.{IsSentOf};
-ghost use Rattle.fx_rules.specs.Session.{pair_count};
 ghost use Rattle.order_lines.specs.Grammar.{command_line};
 ghost use Rattle.order_lines.specs.Spelling.{command_text_of};
 ghost use Rattle.order_lines.specs.Words.{side_word};
@@ -10,21 +9,14 @@ ghost use Rattle.order_lines.specs.inside.Spelled.{EndsWith};
 ghost use Rattle.order_lines.specs.declared.spoken.Spoken.TheVariants.{Of as OfBank};
 ghost use Rattle.order_lines.specs.declared.word.Word.TheVariants as word;
 
-use crate::reading::{
-    decimals, read_life, read_limit, read_lots, read_number, read_other, read_pair, read_price,
+use crate::fronts::{
+    LIMIT_DIGITS, LOTS_DIGITS, PAIR, SHORTEST, field_before, life_before, lots_of, number_before,
+    order_number_before, price_of, ticks_before,
 };
+use crate::reading::{decimals, read_other, read_pair};
 use crate::word::Word;
-use fx_amounts::{BankId, PairId, Side};
+use fx_amounts::{BankId, Side, Units};
 use fx_rules::{Command, Sent, Session};
-
-/// How far behind its least end a field in its one spelling may end: no field has more bytes than a limit, which has 1 to 16.
-const NEAR: usize = 16;
-
-/// The bytes of the shortest name and of the shortest word; each life has as many.
-const SHORTEST: usize = 3;
-
-/// The bytes of a pair, as `EUR/USD`.
-const PAIR: usize = 7;
 
 /// The command, with its sender, with whose line in its one spelling a text begins, and what stands behind that line's line feed.
 /// `None` where the text begins otherwise; its first line may be a command then too. The bytes are read from the first to the line
@@ -81,12 +73,12 @@ fn order_behind<'p>(
 {
     let (pair_text, fields) = field_before(text, PAIR, b' ')?;
     let pair = read_pair(session, pair_text).ok()?;
-    let (price_text, fields) = field_before(fields, shortest_price(session, pair), b' ')?;
-    let price = read_price(session, pair, price_text).ok()?;
-    let (lots_text, fields) = field_before(fields, 1, b' ')?;
-    let lots = read_lots(lots_text).ok()?;
-    let (life_text, behind) = field_before(fields, SHORTEST, b'\n')?;
-    let life = read_life(life_text).ok()?;
+    let places = usize::from(decimals(session, pair));
+    let (ticks, fields) = ticks_before(fields, places, b' ')?;
+    let price = price_of(ticks)?;
+    let (count, fields) = number_before(fields, LOTS_DIGITS, b' ')?;
+    let lots = lots_of(count)?;
+    let (life, behind) = life_before(fields)?;
     let order = Command::Order {
         side,
         pair,
@@ -106,8 +98,7 @@ fn cancel_behind<'p>(
 {
     let (pair_text, fields) = field_before(text, PAIR, b' ')?;
     let pair = read_pair(session, pair_text).ok()?;
-    let (number_text, behind) = field_before(fields, 1, b'\n')?;
-    let number = read_number(number_text).ok()?;
+    let (number, behind) = order_number_before(fields, b'\n')?;
     Some((Command::Cancel { pair, number }, behind))
 }
 
@@ -120,10 +111,9 @@ fn reduce_behind<'p>(
 {
     let (pair_text, fields) = field_before(text, PAIR, b' ')?;
     let pair = read_pair(session, pair_text).ok()?;
-    let (number_text, fields) = field_before(fields, 1, b' ')?;
-    let number = read_number(number_text).ok()?;
-    let (lots_text, behind) = field_before(fields, 1, b'\n')?;
-    let lots = read_lots(lots_text).ok()?;
+    let (number, fields) = order_number_before(fields, b' ')?;
+    let (count, behind) = number_before(fields, LOTS_DIGITS, b'\n')?;
+    let lots = lots_of(count)?;
     Some((Command::Reduce { pair, number, lots }, behind))
 }
 
@@ -132,8 +122,8 @@ fn line_behind<'p>(session: &Session, sender: BankId, text: &'p [u8]) -> Option<
 {
     let (name, fields) = field_before(text, SHORTEST, b' ')?;
     let bank = read_other(session, sender, name).ok()?;
-    let (limit_text, behind) = field_before(fields, 1, b'\n')?;
-    let limit = read_limit(limit_text).ok()?;
+    let (units, behind) = number_before(fields, LIMIT_DIGITS, b'\n')?;
+    let limit = Units::new(units)?;
     Some((Command::Line { bank, limit }, behind))
 }
 
@@ -159,39 +149,4 @@ fn book_behind<'p>(session: &Session, sender: BankId, text: &'p [u8]) -> Option<
     let (pair_text, behind) = field_before(text, PAIR, b'\n')?;
     let pair = read_pair(session, pair_text).ok()?;
     Some((Command::Book { pair }, behind))
-}
-
-// The bytes of a pair's shortest price: one digit before the point.
-fn shortest_price(session: &Session, pair: PairId) -> usize
-    requires { pair < pair_count session.now }
-{
-    match decimals(session, pair) {
-        0 => 1,
-        places => usize::from(places) + 2,
-    }
-}
-
-// The field that a text begins with, of that many bytes at least, and what stands behind the byte that ends it.
-fn field_before(text: &[u8], least: usize, end: u8) -> Option<(&[u8], &[u8])>
-    ensures { IfSome result (λ found. text.now ≡ found.0.now ++ end ∷ found.1.now) }
-{
-    let at = place_from(text, least, end)?;
-    let (field, rest) = text.split_at(at);
-    let (_, behind) = rest.split_at(1);
-    Some((field, behind))
-}
-
-// The first place, from that one on and near to it, where a byte stands. It is called so that each field is walked by one small
-// loop; made part of its callers it takes three times as long.
-#[inline(never)]
-fn place_from(text: &[u8], from: usize, byte: u8) -> Option<usize>
-    ensures { IfSome result (λ at. (at < length text.now) × (slice_index text.now at ≡ byte)) }
-{
-    let most = text.len().min(from.saturating_add(NEAR));
-    for at in from..most {
-        if text[at] == byte {
-            return Some(at);
-        }
-    }
-    None
 }

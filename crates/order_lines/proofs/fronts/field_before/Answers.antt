@@ -1,5 +1,5 @@
 use Rattle.order_lines.proofs.SpelledLines.{text_around}
-use Rattle.order_lines.proofs.spelled.field_before.Goals as goal
+use Rattle.order_lines.proofs.fronts.field_before.Goals as goal
 
 pub returns : goal.returns
 returns c = text_around c.args.text.now c.split_at.result.0.now c.split_at.result.1.now c.split_at-2.result.1.now c.in_ok-at.at c.args.end

@@ -1,0 +1,172 @@
+ghost use Rattle.std.specs.Prelude.{◌≡◌, ◌≢◌, ℕ, ◌+◌, ◌-◌, ◌<◌, ◌≤◌, ◌^◌, ◌∷◌, ◌++◌, true, length, take, slice_index, IfSome, IsTrue};
+ghost use Rattle.std.specs.Char.{is_ascii_digit};
+ghost use Rattle.std.specs.List.{list_all};
+ghost use Rattle.std.specs.Str.Parse.{digits_value_after};
+ghost use Rattle.fx_amounts.specs.Numeral.{numeral};
+ghost use Rattle.fx_amounts.specs.Price.{IsPrice};
+ghost use Rattle.fx_amounts.specs.PriceText.{price_text};
+ghost use Rattle.fx_amounts.specs.Quantity.{IsLots};
+ghost use Rattle.fx_rules.specs.Step.{IsNumber};
+ghost use Rattle.order_lines.specs.Words.{life_text};
+
+use fx_amounts::{Lots, Price};
+use fx_rules::Life;
+
+// These read a field that a text begins with, in its one spelling, up to the byte `end`, and answer what stands behind that byte too;
+// `None` where the text begins otherwise. Numbers are made as they are walked, in one pass.
+
+/// How far behind its least end a name may end: no name has more bytes than 16.
+const NEAR: usize = 16;
+
+/// The bytes of the shortest name and of the shortest word.
+pub(crate) const SHORTEST: usize = 3;
+
+/// The bytes of a pair, as `EUR/USD`.
+pub(crate) const PAIR: usize = 7;
+
+/// The most digits of a number of lots.
+pub(crate) const LOTS_DIGITS: usize = 7;
+
+/// The most digits of an order's number, and of the whole part of a price.
+const NUMBER_DIGITS: usize = 10;
+
+/// The most digits of a limit.
+pub(crate) const LIMIT_DIGITS: usize = 16;
+
+/// Reads a price with so many decimal places: its ticks, which may be out of range, and what stands behind the byte `end`.
+pub(crate) fn ticks_before(text: &[u8], places: usize, end: u8) -> Option<(u64, &[u8])>
+    requires { places ≤ 9 }
+    ensures { IfSome result (λ found. text.now ≡ price_text places found.0 ++ end ∷ found.1.now) }
+{
+    if places == 0 {
+        let (ticks, behind) = number_before(text, NUMBER_DIGITS, end)?;
+        return Some((ticks, behind));
+    }
+    let (whole, fraction) = number_before(text, NUMBER_DIGITS, b'.')?;
+    let (ticks, digits) = digits_from(whole, fraction, places);
+    if digits != places {
+        return None;
+    }
+    let behind = behind_byte(fraction, places, end)?;
+    Some((ticks, behind))
+}
+
+/// The price of so many ticks, where they are in range.
+pub(crate) fn price_of(ticks: u64) -> Option<Price>
+    ensures { IfSome result (λ price. IsPrice price × (price ≡ ticks)) }
+{
+    Price::new(u32::try_from(ticks).ok()?)
+}
+
+/// So many lots, where they are in range.
+pub(crate) fn lots_of(count: u64) -> Option<Lots>
+    ensures { IfSome result (λ lots. IsLots lots × (lots ≡ count)) }
+{
+    Lots::new(u32::try_from(count).ok()?)
+}
+
+/// Reads the number of an order, which is not 0, and answers what stands behind the byte `end` too.
+pub(crate) fn order_number_before(text: &[u8], end: u8) -> Option<(u32, &[u8])>
+    ensures { IfSome result (λ found. IsNumber found.0 × (text.now ≡ numeral found.0 ++ end ∷ found.1.now)) }
+{
+    let (value, behind) = number_before(text, NUMBER_DIGITS, end)?;
+    let number = u32::try_from(value).ok()?;
+    if number == 0 {
+        return None;
+    }
+    Some((number, behind))
+}
+
+/// Reads the life of an order and the line feed behind it, and answers what stands behind that too.
+pub(crate) fn life_before(text: &[u8]) -> Option<(Life, &[u8])>
+    ensures { IfSome result (λ found. text.now ≡ life_text found.0 ++ 10 ∷ found.1.now) }
+{
+    match text {
+        [b'D', b'A', b'Y', b'\n', behind @ ..] => Some((Life::Day, behind)),
+        [b'I', b'O', b'C', b'\n', behind @ ..] => Some((Life::Ioc, behind)),
+        [b'F', b'O', b'K', b'\n', behind @ ..] => Some((Life::Fok, behind)),
+        _ => None,
+    }
+}
+
+/// Reads a number of so many digits at most, and answers what stands behind the byte `end` too.
+pub(crate) fn number_before(text: &[u8], most: usize, end: u8) -> Option<(u64, &[u8])>
+    requires { most ≤ 19 }
+    ensures spelled { IfSome result (λ found. text.now ≡ numeral found.0 ++ end ∷ found.1.now) }
+    ensures below { IfSome result (λ found. found.0 < 10 ^ most) }
+{
+    let (value, digits) = digits_from(0, text, most);
+    if !is_number(text, digits) {
+        return None;
+    }
+    let behind = behind_byte(text, digits, end)?;
+    Some((value, behind))
+}
+
+/// Whether so many digits at a text's front are a number's one spelling: one at least, and no leading zero but in `0` itself.
+fn is_number(text: &[u8], digits: usize) -> bool
+    requires { digits ≤ length text.now }
+    ensures some { IsTrue result → 1 ≤ digits }
+    ensures leads { IsTrue result → 1 < digits → slice_index text.now 0 ≢ 48 }
+{
+    digits == 1 || (digits > 1 && text[0] != b'0')
+}
+
+/// The number that the digits at a text's front make behind those of `front`, `most` of them at most, and how many they are.
+fn digits_from(front: u64, text: &[u8], most: usize) -> (u64, usize)
+    requires most { most ≤ 19 }
+    requires fits { front < 10 ^ (19 - most) }
+    ensures few { result.1 ≤ most }
+    ensures within { result.1 ≤ length text.now }
+    ensures digits { list_all is_ascii_digit (take result.1 text.now) ≡ true }
+    ensures value { result.0 ≡ digits_value_after 10 front (take result.1 text.now) }
+    ensures below { (digits : ℕ) → front < 10 ^ digits → result.0 < 10 ^ (digits + result.1) }
+{
+    let mut value = front;
+    let end = text.len().min(most);
+    for at in 0..end {
+        let byte = text[at];
+        if !byte.is_ascii_digit() {
+            return (value, at);
+        }
+        value = value * 10 + u64::from(byte - b'0');
+    }
+    (value, end)
+}
+
+/// What stands behind the byte at a place of a text, where it is this byte.
+fn behind_byte(text: &[u8], at: usize, byte: u8) -> Option<&[u8]>
+    ensures { IfSome result (λ behind. text.now ≡ take at text.now ++ byte ∷ behind.now) }
+{
+    if at >= text.len() || text[at] != byte {
+        return None;
+    }
+    let (_, rest) = text.split_at(at);
+    let (_, behind) = rest.split_at(1);
+    Some(behind)
+}
+
+/// The field that a text begins with, of that many bytes at least, and what stands behind the byte `end`.
+pub(crate) fn field_before(text: &[u8], least: usize, end: u8) -> Option<(&[u8], &[u8])>
+    ensures { IfSome result (λ found. text.now ≡ found.0.now ++ end ∷ found.1.now) }
+{
+    let at = place_from(text, least, end)?;
+    let (field, rest) = text.split_at(at);
+    let (_, behind) = rest.split_at(1);
+    Some((field, behind))
+}
+
+/// The first place, from that one on and near to it, where a byte stands. It is called so that each field is walked by one small
+/// loop; made part of its callers it takes three times as long.
+#[inline(never)]
+fn place_from(text: &[u8], from: usize, byte: u8) -> Option<usize>
+    ensures { IfSome result (λ at. (at < length text.now) × (slice_index text.now at ≡ byte)) }
+{
+    let most = text.len().min(from.saturating_add(NEAR));
+    for at in from..most {
+        if text[at] == byte {
+            return Some(at);
+        }
+    }
+    None
+}
