@@ -20,7 +20,8 @@ use Rattle.fx_cli.specs.declared.check.Halt.{Halt}
 use Rattle.fx_cli.specs.declared.check.Halt.TheVariants as halts
 use Rattle.fx_cli.specs.declared.status.Status.{Status}
 use Rattle.fx_cli.specs.declared.status.Status.TheVariants.{Done, Usage, ReadFault, WriteFault, Memory, TooMuch, Differs}
-use Rattle.fx_cli.proofs.TopCallLaws.{Took-is, told_bytes}
+use Rattle.fx_cli.proofs.TopCallLaws.{Took-is}
+use Rattle.kept_call.proofs.Ends.{told_bytes}
 
 failed : Halt → Result (Vec ℕ Global) Halt
 failed halt = Err halt

@@ -28,23 +28,16 @@ use Rattle.fx_cli.specs.TopCall.{KindOfText, EndsExactly, GotWhole, GotPart, Got
 use Rattle.fx_cli.specs.declared.status.Status.{Status}
 use Rattle.fx_cli.specs.declared.status.Status.TheVariants.{Done, Usage, Header as HeadFault, Cut, ReadFault, WriteFault, Memory, TooMuch}
 use Rattle.session_script.proofs.ScriptReading.{GoesOn-nil, prompt_here}
-use Rattle.session_script.proofs.ScriptLaws.{HasSession-no_fault, HasFault-more}
+use Rattle.session_script.proofs.ScriptLaws.{HasSession-no_fault}
+use Rattle.kept_call.proofs.Ends.{some_list, told_bytes, early_faultless, cut_early, much_early, ended_cut, ended_much, served_early, served_faultless}
 
 -- Bytes taken
-
-some_list : (a b : List ℕ) → Some a ≡ Some b → a ≡ b
-some_list a b e = cc
 
 -- the bytes that a source gave are those that it told
 pub Took-is : {S : Type 0} (left : S → Option (List ℕ)) (faults : S → ℕ) (before now : S) (bytes taken rest : List ℕ) → Took left faults before now bytes → left before ≡ Some (taken ++ rest) → left now ≡ Some rest → bytes ≡ taken
 Took-is left faults before now bytes taken rest took had has =
     let known : Some (bytes ++ rest) ≡ Some (taken ++ rest) = ap (prepend_known bytes) (sym has) ∙ sym took.moved ∙ had in
     append_cancel_right bytes taken rest (some_list (bytes ++ rest) (taken ++ rest) known)
-
--- a source that told its bytes tells those that are left
-pub told_bytes : (input : List ℕ) (bytes : List ℕ) (now : Option (List ℕ)) → Some input ≡ prepend_known bytes now → (rest : List ℕ) × (now ≡ Some rest) × (input ≡ bytes ++ rest)
-told_bytes input bytes None moved = absurd (cc)
-told_bytes input bytes (Some rest) moved = (rest, refl, some_list input (bytes ++ rest) moved)
 
 -- Headers
 
@@ -163,92 +156,42 @@ among_stop result status other earlier (inr (inr none)) there = absurd none
 
 header_stop : (input rest : List ℕ) (line : ℕ) (reason : HeadReason) (stop : Stop) → Stopped (Some rest) input stop → HasFault input line reason → Among (status_of stop) (HeadFault line reason ∷ Memory refused ∷ [])
 header_stop input rest line reason (stops.Header other why) stopped fault = inl (faults_agree input line other reason why fault stopped)
-header_stop input rest line reason (stops.Early early.Cut) stopped fault = absurd (stopped.1.1 line reason fault)
-header_stop input rest line reason (stops.Early early.ReadFault) stopped fault = absurd (stopped.1.1 line reason fault)
-header_stop input rest line reason (stops.Early early.TooMuch) stopped fault = absurd (stopped.1.1 line reason fault)
+header_stop input rest line reason (stops.Early end) stopped fault = absurd (early_faultless [] input (Some rest) end stopped.1 line reason fault)
 header_stop input rest line reason (stops.Memory memory) stopped fault = inr (inl refl)
-
--- the status of an early end where another has its cause
-cut_early : (input rest : List ℕ) (end : EarlyEnd) → EndedEarly (Some rest) input end → EndedEarly (Some rest) input early.Cut → (end ≡ early.Cut) ⊎ (end ≡ early.ReadFault)
-cut_early input rest early.Cut ended cut = inl refl
-cut_early input rest early.ReadFault ended cut = inr refl
-cut_early input rest early.TooMuch ended cut = absurd (omega (arith, ended.0, cut.0.short))
-
-much_early : (input rest : List ℕ) (end : EarlyEnd) → EndedEarly (Some rest) input end → EndedEarly (Some rest) input early.TooMuch → end ≡ early.TooMuch
-much_early input rest early.Cut ended much = absurd (omega (arith, ended.0.short, much.0))
-much_early input rest early.ReadFault ended much = absurd (omega (arith, ended.0, much.0))
-much_early input rest early.TooMuch ended much = refl
-
--- an end with the END line is no early one
-ended_cut : (input rest : List ℕ) → TextEnded (Some rest) input EndLine → EndedEarly (Some rest) input early.Cut → ⊥
-ended_cut input rest (inl has) cut = cut.2 has
-ended_cut input rest (inr ends) cut = cut.3 ends.1
-
-ended_much : (input rest : List ℕ) → TextEnded (Some rest) input EndLine → EndedEarly (Some rest) input early.TooMuch → ⊥
-ended_much input rest (inl has) much = much.2 has
-ended_much input rest (inr ends) much = omega (arith, ends.0.short, much.0)
 
 cut_among : (end : EarlyEnd) → (end ≡ early.Cut) ⊎ (end ≡ early.ReadFault) → Among (status_at (Early end)) (Cut ∷ Memory refused ∷ ReadFault ∷ WriteFault ∷ [])
 cut_among end (inl cut) = inl (ap (λ (e : EarlyEnd). status_at (Early e)) cut)
 cut_among end (inr fault) = inr (inr (inl (ap (λ (e : EarlyEnd). status_at (Early e)) fault)))
 
 cut_text : (input rest : List ℕ) (end : TextEnd) → TextEnded (Some rest) input end → EndedEarly (Some rest) input early.Cut → Among (status_at end) (Cut ∷ Memory refused ∷ ReadFault ∷ WriteFault ∷ [])
-cut_text input rest EndLine ended cut = absurd (ended_cut input rest ended cut)
-cut_text input rest (Early end) ended cut = cut_among end (cut_early input rest end ended cut)
+cut_text input rest EndLine ended cut = absurd (ended_cut [] input rest ended cut)
+cut_text input rest (Early end) ended cut = cut_among end (cut_early [] input rest end ended cut)
 
 much_text : (input rest : List ℕ) (end : TextEnd) → TextEnded (Some rest) input end → EndedEarly (Some rest) input early.TooMuch → Among (status_at end) (TooMuch ∷ Memory refused ∷ WriteFault ∷ [])
-much_text input rest EndLine ended much = absurd (ended_much input rest ended much)
-much_text input rest (Early end) ended much = inl (ap (λ (e : EarlyEnd). status_at (Early e)) (much_early input rest end ended much))
+much_text input rest EndLine ended much = absurd (ended_much [] input rest ended much)
+much_text input rest (Early end) ended much = inl (ap (λ (e : EarlyEnd). status_at (Early e)) (much_early [] input rest end ended much))
 
 cut_stop : (input rest : List ℕ) (stop : Stop) → Stopped (Some rest) input stop → EndedEarly (Some rest) input early.Cut → Among (status_of stop) (Cut ∷ Memory refused ∷ ReadFault ∷ WriteFault ∷ [])
 cut_stop input rest (stops.Header other why) stopped cut = absurd (cut.1 other why stopped)
-cut_stop input rest (stops.Early end) stopped cut = cut_among end (cut_early input rest end stopped.1 cut)
+cut_stop input rest (stops.Early end) stopped cut = cut_among end (cut_early [] input rest end stopped.1 cut)
 cut_stop input rest (stops.Memory memory) stopped cut = inr (inl refl)
 
 much_stop : (input rest : List ℕ) (stop : Stop) → Stopped (Some rest) input stop → EndedEarly (Some rest) input early.TooMuch → Among (status_of stop) (TooMuch ∷ Memory refused ∷ WriteFault ∷ [])
 much_stop input rest (stops.Header other why) stopped much = absurd (much.1 other why stopped)
-much_stop input rest (stops.Early end) stopped much = inl (ap (λ (e : EarlyEnd). status_at (Early e)) (much_early input rest end stopped.1 much))
+much_stop input rest (stops.Early end) stopped much = inl (ap (λ (e : EarlyEnd). status_at (Early e)) (much_early [] input rest end stopped.1 much))
 much_stop input rest (stops.Memory memory) stopped much = inr (inl refl)
 
--- Whole texts
-
-at_end : (text rest : List ℕ) → rest ≡ [] → text ++ rest ≡ text
-at_end text rest none = ap (λ (xs : List ℕ). text ++ xs) none ∙ append-nil text
-
--- a text has its END line in the bytes that are taken, where they are taken to its end or to the limit
-line_taken : (input rest : List ℕ) → HasEnd (take input_limit (input ++ rest)) → length input ≤ input_limit → ((rest ≡ []) ⊎ (length input ≡ input_limit)) → HasEnd input
-line_taken input rest has within (inl none) =
-    subst (λ (text : List ℕ). HasEnd text) (ap (take input_limit) (at_end input rest none) ∙ take_all input_limit input within) has
-line_taken input rest has within (inr full) =
-    subst (λ (text : List ℕ). HasEnd text) (take-append-le input_limit input rest (omega (arith, full)) ∙ take_all input_limit input within) has
-
-text_short : (input rest : List ℕ) → length (input ++ rest) < input_limit → length input ≡ input_limit → ⊥
-text_short input rest short full = omega (arith, length-append input rest)
-
--- the reading of a whole text stops for no other reason
-served_cut : (input rest : List ℕ) → EndedEarly (Some rest) input early.Cut → length input ≤ input_limit → HasEnd (take input_limit (input ++ rest)) ⊎ ((length (input ++ rest) < input_limit) × EndsWithEnd (input ++ rest)) → ⊥
-served_cut input rest cut within (inl has) = cut.2 (line_taken input rest has within (inl cut.0.met))
-served_cut input rest cut within (inr ends) = cut.3 (subst (λ (text : List ℕ). EndsWithEnd text) (at_end input rest cut.0.met) ends.1)
-
-served_much : (input rest : List ℕ) → EndedEarly (Some rest) input early.TooMuch → length input ≤ input_limit → HasEnd (take input_limit (input ++ rest)) ⊎ ((length (input ++ rest) < input_limit) × EndsWithEnd (input ++ rest)) → ⊥
-served_much input rest much within (inl has) = much.2 (line_taken input rest has within (inr much.0))
-served_much input rest much within (inr ends) = text_short input rest ends.0 much.0
-
--- an early end of it is a read fault
-served_early : (end : EarlyEnd) (input rest : List ℕ) → EndedEarly (Some rest) input end → length input ≤ input_limit → IsSessionText (input ++ rest) → end ≡ early.ReadFault
-served_early early.Cut input rest cut within is = absurd (served_cut input rest cut within is.ended)
-served_early early.ReadFault input rest fault within is = refl
-served_early early.TooMuch input rest much within is = absurd (served_much input rest much within is.ended)
+-- The reading of a whole text stops for no other reason
 
 served_stop : (stop : Stop) (input rest : List ℕ) → Stopped (Some rest) input stop → length input ≤ input_limit → IsSessionText (input ++ rest) → (status_of stop ≡ ReadFault → ⊥) → status_of stop ≡ Memory refused
 served_stop (stops.Header line reason) input rest fault within is reads =
-    absurd (HasSession-no_fault (input ++ rest) is.session line reason is.header (HasFault-more input rest line reason fault))
-served_stop (stops.Early end) input rest stopped within is reads = absurd (reads (ap (λ (e : EarlyEnd). status_at (Early e)) (served_early end input rest stopped.1 within is)))
+    absurd (served_faultless [] input rest is line reason fault)
+served_stop (stops.Early end) input rest stopped within is reads = absurd (reads (ap (λ (e : EarlyEnd). status_at (Early e)) (served_early [] input rest end stopped.1 within is)))
 served_stop (stops.Memory memory) input rest stopped within is reads = refl
 
 served_end : (end : TextEnd) (input rest : List ℕ) → TextEnded (Some rest) input end → length input ≤ input_limit → IsSessionText (input ++ rest) → (status_at end ≡ ReadFault → ⊥) → status_at end ≡ Done
 served_end EndLine input rest ended within is reads = refl
-served_end (Early end) input rest ended within is reads = absurd (reads (ap (λ (e : EarlyEnd). status_at (Early e)) (served_early end input rest ended within is)))
+served_end (Early end) input rest ended within is reads = absurd (reads (ap (λ (e : EarlyEnd). status_at (Early e)) (served_early [] input rest end ended within is)))
 
 memory_alone : (result : Status) (stop : Stop) → Among result (status_of stop ∷ Memory refused ∷ []) → status_of stop ≡ Memory refused → Among result (Done ∷ Memory refused ∷ [])
 memory_alone result stop (inl one) is = inr (inl (one ∙ is))

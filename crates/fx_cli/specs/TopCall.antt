@@ -1,5 +1,5 @@
 -- What the top call says of its status and of what the streams got.
-use Rattle.std.specs.Prelude.{◌≡◌, ◌<◌, ℕ, List, [], ◌∷◌, length, map, take, Option, Ok, ◌⊎◌}
+use Rattle.std.specs.Prelude.{◌≡◌, ℕ, List, [], ◌∷◌, map, Option, Ok, ◌⊎◌}
 use Rattle.fx_amounts.specs.OutOfMemory.{refused}
 use Rattle.fx_edges.specs.Faults.{Rose}
 use Rattle.fx_edges.specs.Writing.{Appended, AppendedPart, CutShort}
@@ -10,13 +10,13 @@ use Rattle.fx_rules.specs.Sending.{sent_by}
 use Rattle.fx_rules.specs.Session.{Header}
 use Rattle.reply_lines.specs.Output.{IsOutput}
 use Rattle.journal_check.specs.Listed.{listed}
-use Rattle.session_script.specs.Input.{input_limit}
 use Rattle.session_script.specs.Reading.{HasStarted, HasNotStarted, TextEnded}
-use Rattle.session_script.specs.Script.{HasSession, HasEnd, EndsWithEnd, sent_in, strays_of}
+use Rattle.session_script.specs.Script.{HasSession, sent_in, strays_of}
 use Rattle.session_script.specs.declared.ends.EarlyEnd.{EarlyEnd}
 use Rattle.session_script.specs.declared.ends.TextEnd.{TextEnd}
 use Rattle.session_script.specs.declared.ends.TextEnd.TheVariants.{Early}
 use Rattle.kept_call.specs.Ending.{ending_of}
+use Rattle.kept_call.specs.Text.{IsSessionTextBehind}
 use Rattle.fx_cli.specs.Status.{err_text}
 use Rattle.fx_cli.specs.declared.status.Status.{Status}
 use Rattle.fx_cli.specs.declared.status.Status.TheVariants.{Done, Differs, WriteFault, Memory, DiskFault}
@@ -73,12 +73,9 @@ WritesNothing (Memory memory) = ⊥
 WritesNothing DiskFault = ⊥
 WritesNothing _ = Unit {0}
 
--- The text of a session: it has a whole header, and an END line among the bytes that are taken at most; or fewer bytes than
--- that end with the END line.
-pub record IsSessionText (bytes : List ℕ) : Type 0 where
-  pub session : Header
-  pub header : HasSession bytes session
-  pub ended : HasEnd (take input_limit bytes) ⊎ ((length bytes < input_limit) × EndsWithEnd bytes)
+-- the text of a session, with nothing in front of it
+abbrev pub IsSessionText : List ℕ → Type 0
+IsSessionText bytes = IsSessionTextBehind [] bytes
 
 -- Standard error got the text of the status, or where its count of faults rose a prefix of it. Out of memory, it got the text that
 -- says so, or the beginning of some status' text and not all of it: the one that was being written.
