@@ -1,0 +1,9 @@
+pub mod Draws
+pub mod Owners
+pub mod Reading
+pub mod Naming
+pub mod Settling
+pub mod Lots
+pub mod Within
+pub mod Sides
+pub mod Examples

@@ -1,0 +1,8 @@
+use Rattle.client_desk.proofs.Naming.{client-within}
+use Rattle.client_desk.proofs.line.client_line.Goals as goal
+
+pub returns-in-Some-client_named-clause-range : goal.returns-in-Some-client_named-clause-range
+returns-in-Some-client_named-clause-range c = record {
+  sends = client-within c.args.session.now c.args.clients.now c.in-Some-client_named.client c.requires.clients.banks c.in-Some-client_named.ensures.within;
+  values = tt;
+}

@@ -1,0 +1,146 @@
+ghost use Rattle.std.specs.Prelude.{◌≡◌, ◌<◌, ◌==◌, ◌&&◌, [], ◌∷◌, ◌++◌, IfSome, length, position, bytes_eq};
+ghost use Rattle.fx_rules.specs.Session.{bank_count};
+ghost use Rattle.fx_rules.specs.Step.{IsCommand};
+ghost use Rattle.order_lines.specs.Grammar.{IfSent};
+ghost use Rattle.order_lines.specs.declared.spoken.Spoken.TheVariants.{Stray};
+ghost use Rattle.client_desk.specs.Clients.{AreClients, bank_of_client};
+ghost use Rattle.client_desk.specs.Lines.{IfDeclares, IfOf, IfPlain, client_line_of, client_named, client_said, declared, is_new};
+
+use crate::client::{Client, ClientId};
+use fx_amounts::{BankId, Units};
+use fx_rules::{Command, Name, Reject, Session};
+use fx_text::{Fields, Line, fields, number};
+use order_lines::{Spoken, command_by, command_from};
+
+/// What a line after `START` says of clients.
+#[derive(Clone, Copy, Debug, PartialEq, Eq)]
+pub enum ClientLine {
+    /// It declares a client.
+    Declares(Client),
+    /// A command of a declared client, which may be bad.
+    Of(ClientId, Command),
+    /// It is no line of a client: what it is without clients.
+    Plain(Spoken),
+}
+
+/// What a line after `START` says where these clients were declared. A line whose first field is `CLIENT:` declares a client by
+/// its bank's name, its own name and its limit; where that is wrong, repeated or surplus it is a stray. A line whose first field
+/// is a bank's name, a colon and a declared client's name is that client's command, and its other fields are read as a bank's.
+/// Any other is what `command_from` says. Whether a command came before a declaration is not known here. Takes no memory.
+#[tactic(auto, unfolding(crate::specs::Lines::client_line_of))]
+pub fn client_line(session: &Session, clients: &[Client], line: &Line) -> ClientLine
+    requires clients { AreClients session.now clients.now }
+    ensures reads { result ≡ client_line_of session.now clients.now line.now }
+
+    // A client that is declared can stand behind the others.
+    ensures declares { IfDeclares result (λ client. AreClients session.now (clients.now ++ client ∷ [])) }
+
+    // What a client or a bank asks for is in range.
+    ensures client { IfOf result (λ client command. client < length clients.now) }
+    ensures range { IfOf result (λ client command. IsCommand session.now (bank_of_client clients.now client) command) }
+    ensures plain { IfPlain result (λ spoken. IfSent spoken (IsCommand session.now)) }
+{
+    match line {
+        Line::Whole(text) => {
+            let fields = fields(text.as_slice());
+            if fields.first() == CLIENT {
+                return declaration(session, clients, &fields);
+            }
+            match client_named(session, clients, fields.first()) {
+                Some(client) => {
+                    let bank = clients[client.index()].bank;
+                    ClientLine::Of(client, command_by(session, bank, &fields))
+                }
+                None => ClientLine::Plain(command_from(session, line)),
+            }
+        }
+        Line::Long(first) => {
+            if first.as_slice() == CLIENT {
+                return ClientLine::Plain(Spoken::Stray);
+            }
+            match client_named(session, clients, first.as_slice()) {
+                Some(client) => ClientLine::Of(
+                    client,
+                    Command::Bad {
+                        reason: Reject::Long,
+                    },
+                ),
+                None => ClientLine::Plain(command_from(session, line)),
+            }
+        }
+    }
+}
+
+/// The first field of a declaration.
+const CLIENT: &[u8] = b"CLIENT:";
+
+/// What a declaration says.
+fn declaration(session: &Session, clients: &[Client], fields: &Fields<'_>) -> ClientLine
+    requires clients { AreClients session.now clients.now }
+    ensures declares { IfDeclares result (λ client. AreClients session.now (clients.now ++ client ∷ [])) }
+    ensures none { IfOf result (λ _ _. ⊥) }
+    ensures stray { IfPlain result (λ spoken. spoken ≡ Stray) }
+    ensures value { result ≡ declared clients.now (client_said session.now fields.now) }
+{
+    match declared_client(session, fields) {
+        Some(client) if is_new(clients, &client) => ClientLine::Declares(client),
+        _ => ClientLine::Plain(Spoken::Stray),
+    }
+}
+
+/// The client that the fields of a declaration say; `None` where one of them is wrong.
+fn declared_client(session: &Session, fields: &Fields<'_>) -> Option<Client>
+    ensures value { result ≡ client_said session.now fields.now }
+    ensures bank { IfSome result (λ client. client.bank < bank_count session.now) }
+{
+    if fields.count() != 4 {
+        return None;
+    }
+    let bank = session.bank_named(fields.field(1))?;
+    let limit = number(fields.field(3), 0, Units::MOST)?;
+    let name = Name::from_bytes(fields.field(2))?;
+    Some(Client {
+        bank,
+        name,
+        limit: Units::new(limit).unwrap(),
+    })
+}
+
+/// Whether there is room for a client more, and it is not among them.
+fn is_new(clients: &[Client], client: &Client) -> bool
+    ensures value { result ≡ is_new clients.now client.now }
+{
+    clients.len() < ClientId::COUNT
+        && place_of(clients, client.bank, client.name.as_bytes()).is_none()
+}
+
+/// The client that a field `bank:name` names. Takes no memory.
+fn client_named(session: &Session, clients: &[Client], field: &[u8]) -> Option<ClientId>
+    requires clients { AreClients session.now clients.now }
+    ensures value { result ≡ client_named session.now clients.now field.now }
+    ensures within { IfSome result (λ client. client < length clients.now) }
+{
+    // That a bank's name has no colon rests on a valid session, as each is.
+    let _banks = session.banks();
+    let at = place_of_colon(field)?;
+    let (front, _) = field.split_at(at);
+    let (_, name) = field.split_at(at + 1);
+    let bank = session.bank_named(front)?;
+    let place = place_of(clients, bank, name)?;
+    Some(ClientId::at(place))
+}
+
+/// The place of the first colon of a text.
+fn place_of_colon(text: &[u8]) -> Option<usize>
+    ensures value { result ≡ position (λ byte. byte == 58) text.now }
+    ensures within { IfSome result (λ at. at < length text.now) }
+{
+    text.iter().position(|byte| *byte == b':')
+}
+
+/// The place of the first client of a bank and a name.
+fn place_of(clients: &[Client], bank: BankId, name: &[u8]) -> Option<usize>
+    ensures value { result ≡ position (λ client. (client.bank == bank) && bytes_eq client.name name.now) clients.now }
+{
+    clients.iter().position(|client| client.bank == bank && client.name.as_bytes() == name)
+}
