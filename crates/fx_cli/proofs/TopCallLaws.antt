@@ -1,8 +1,8 @@
 -- What a run that ended with a status says of that status, of the bytes taken and of the bytes written.
-use Rattle.std.proofs.Common.{◌≡◌, ℕ, ◌≤◌, ◌<◌, List, [], ◌∷◌, ◌++◌, length, take, Option, Some, None, Result, Ok, Err, refl, sym, ap, ◌∙◌, subst, arith, ◌⊎◌, inl, inr}
+use Rattle.std.proofs.Common.{◌≡◌, ℕ, ◌≤◌, List, [], ◌∷◌, ◌++◌, length, Option, Some, None, Result, Ok, Err, refl, sym, ap, ◌∙◌, subst, arith, ◌⊎◌, inl, inr}
 use Rattle.std.specs.Prelude.{IfSome}
 use Rattle.std.specs.Io.KnownBytes.{prepend_known}
-use Rattle.std.proofs.lemmas.List.{append_cancel_right, append-nil, length-append, take_all, take-append-le}
+use Rattle.std.proofs.lemmas.List.{append_cancel_right}
 use Rattle.fx_amounts.specs.OutOfMemory.{refused}
 use Rattle.fx_rules.specs.Lists.{Among}
 use Rattle.fx_edges.specs.Faults.{Rose}
@@ -14,7 +14,7 @@ use Rattle.session_head.specs.Head as heads
 use Rattle.session_head.specs.declared.reason.HeadReason.{HeadReason}
 use Rattle.session_script.specs.Input.{input_limit}
 use Rattle.session_script.specs.Reading.{HasNoFault, IsPrompt, EndedEarly, TextEnded, Stopped}
-use Rattle.session_script.specs.Script.{HasFault, HasEnd, EndsWithEnd}
+use Rattle.session_script.specs.Script.{HasFault, HasEnd}
 use Rattle.session_script.specs.declared.ends.EarlyEnd.{EarlyEnd}
 use Rattle.session_script.specs.declared.ends.EarlyEnd.TheVariants as early
 use Rattle.session_script.specs.declared.ends.TextEnd.{TextEnd}

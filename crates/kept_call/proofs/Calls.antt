@@ -1,6 +1,6 @@
 -- What `keep` and `restart` did, by how far they came.
 use Rattle.std.proofs.Common.{ℕ, ◌≡◌, ◌⊎◌, ◌<◌, ◌≤◌, List, [], ◌∷◌, ◌++◌, length, map, Option, Result, Ok, Err, refl, ap, sym, ◌∙◌, subst, arith, inl, inr}
-use Rattle.std.specs.Prelude.{is_some}
+use Rattle.std.specs.Prelude.{is_some, IsErrAnd}
 use Rattle.std.proofs.lemmas.List.{length-map}
 use Rattle.fx_amounts.specs.OutOfMemory.{refused}
 use Rattle.fx_amounts.specs.declared.memory.Memory.{Memory as AmountsMemory}
@@ -13,6 +13,7 @@ use Rattle.fx_rules.specs.History.{IsLegal}
 use Rattle.fx_rules.specs.Sending.{sent_by}
 use Rattle.fx_disk.specs.Disk.{WhereTold, Only, LeavesOnly}
 use Rattle.keep_disk.specs.Blocks.{whole_blocks}
+use Rattle.keep_disk.specs.Keeping.{HasCause}
 use Rattle.keep_disk.specs.declared.rounds.Round.{Round}
 use Rattle.keep_disk.specs.declared.write.KeepFault.{KeepFault}
 use Rattle.keep_disk.specs.declared.write.KeepFault.TheVariants as keeps
@@ -38,7 +39,7 @@ use Rattle.kept_call.specs.inside.Served.{Served, gone_on, IsRefusal}
 use Rattle.kept_call.specs.declared.fault.KeptFault.{KeptFault}
 use Rattle.kept_call.specs.declared.fault.KeptFault.TheVariants.{Header, Early, Kept, Empty, Damaged, Full, Disk, Write, Memory}
 use Rattle.kept_call.proofs.Exactly.{took-text, completes, completes-refused}
-use Rattle.kept_call.proofs.Faults.{causes-steady}
+use Rattle.kept_call.proofs.Faults.{for_err, causes-steady, causes-of_keeper}
 use Rattle.kept_call.proofs.Opening.{opened-short, opened-kept, opened-moments, opened-at_return}
 use Rattle.kept_call.proofs.ReadingBack.{read_back-behind, read_back-new}
 
@@ -295,8 +296,8 @@ module _ {D K S : Type 0} (bytes : D → Option (List ℕ)) (may_leave : D → L
       completes bytes may_leave moment left_since disk_faults written faults left failed d d' k k' s s' result (Err Kept ∷ []) [] took causes (λ is. none_longer (whole_blocks file) fresh ((kept file told).only is))
 
   -- the file could not be opened
-  pub keep-unopened : (d0 d : D) (k : K) (s : S) (fault : KeepFault) → Opens d0 d → Causes d0 d k k (Err (of_keeper fault)) → Kept-did d0 d k k s s (Err (of_keeper fault))
-  keep-unopened d0 d k s fault opens causes = record {
+  unopened-new : (d0 d : D) (k : K) (s : S) (fault : KeepFault) → Opens d0 d → Causes d0 d k k (Err (of_keeper fault)) → Kept-did d0 d k k s s (Err (of_keeper fault))
+  unopened-new d0 d k s fault opens causes = record {
     took = taken;
     kept = kept;
     unread = λ is. refl;
@@ -324,6 +325,13 @@ module _ {D K S : Type 0} (bytes : D → Option (List ℕ)) (may_leave : D → L
       stops_new : (f : KeepFault) → StopsANewSession (of_keeper f)
       stops_new keeps.Disk = tt
       stops_new (keeps.Memory memory) = tt
+
+  -- and answered that
+  pub keep-unopened : {T : Type 0} (d0 d : D) (k : K) (s : S) (fault : KeepFault) (opened : Result T KeepFault) → opened ≡ Err fault → HasCause disk_faults d0 d opened → Opens d0 d → (result : Answer) → IsErrAnd result (λ (f : KeptFault). f ≡ of_keeper fault)
+      → Kept-did d0 d k k s s result
+  keep-unopened d0 d k s fault opened was cause opens result is =
+      for_err result (of_keeper fault) (λ (r : Answer). Kept-did d0 d k k s s r) is
+      (unopened-new d0 d k s fault opens (causes-of_keeper disk_faults faults d0 d k fault opened (Err (of_keeper fault)) was refl cause))
 
   -- it has a whole block already
   pub keep-kept : (d0 d : D) (k : K) (s : S) → Opens d0 d → WhereTold (bytes d0) (λ file. (image : List ℕ) → may_leave d image → whole_blocks image ≡ whole_blocks file) → WhereTold (bytes d0) (λ file. 0 < length (whole_blocks file))
@@ -353,9 +361,9 @@ module _ {D K S : Type 0} (bytes : D → Option (List ℕ)) (may_leave : D → L
       causes = causes-steady disk_faults faults d0 d k k (Err Kept) steady (omega arith) (λ is. cc) (λ is. cc)
 
   -- the text stopped before START
-  pub keep-stopped : (d0 d : D) (k : K) (s s' : S) (stop : Stop) → Opens d0 d → WhereTold (bytes d0) (λ file. (image : List ℕ) → may_leave d image → whole_blocks image ≡ whole_blocks file) → WhereTold (bytes d0) (λ file. whole_blocks file ≡ [])
+  stopped-new : (d0 d : D) (k : K) (s s' : S) (stop : Stop) → Opens d0 d → WhereTold (bytes d0) (λ file. (image : List ℕ) → may_leave d image → whole_blocks image ≡ whole_blocks file) → WhereTold (bytes d0) (λ file. whole_blocks file ≡ [])
       → disk_faults d ≡ disk_faults d0 → HasStopped left failed s s' stop → Kept-did d0 d k k s s' (Err (of_stop stop))
-  keep-stopped d0 d k s s' stop opens same fresh steady has = record {
+  stopped-new d0 d k s s' stop opens same fresh steady has = record {
     took = taken;
     kept = kept;
     unread = λ is. absurd (not_kept_stop is);
@@ -392,6 +400,11 @@ module _ {D K S : Type 0} (bytes : D → Option (List ℕ)) (may_leave : D → L
 
       causes : Causes d0 d k k (Err (of_stop stop))
       causes = causes-steady disk_faults faults d0 d k k (Err (of_stop stop)) steady (omega arith) (λ is. no_disk stop (err_to (of_stop stop) Disk is)) (λ is. no_write stop (err_to (of_stop stop) Write is))
+
+  pub keep-stopped : (d0 d : D) (k : K) (s s' : S) (stop : Stop) → Opens d0 d → WhereTold (bytes d0) (λ file. (image : List ℕ) → may_leave d image → whole_blocks image ≡ whole_blocks file) → WhereTold (bytes d0) (λ file. whole_blocks file ≡ [])
+      → disk_faults d ≡ disk_faults d0 → HasStopped left failed s s' stop → (result : Answer) → IsErrAnd result (λ (f : KeptFault). f ≡ of_stop stop) → Kept-did d0 d k k s s' result
+  keep-stopped d0 d k s s' stop opens same fresh steady has result is =
+      for_err result (of_stop stop) (λ (r : Answer). Kept-did d0 d k k s s' r) is (stopped-new d0 d k s s' stop opens same fresh steady has)
 
   -- the session was served, from the disk on which the file is open
   module _ (reads : (disk : D) → WhereTold (bytes disk) (λ file. may_leave disk file)) (d0 d d' : D) (k k' : K) (s s' : S) (opens : Opens d0 d) (same : WhereTold (bytes d0) (λ file. (image : List ℕ) → may_leave d image → whole_blocks image ≡ whole_blocks file))
@@ -469,9 +482,9 @@ module _ {D K S : Type 0} (bytes : D → Option (List ℕ)) (may_leave : D → L
         })
 
   -- out of memory once the history was read back
-  pub restart-short : (d0 d : D) (k : K) (s : S) (memory : AmountsMemory) → Opens d0 d → WhereTold (bytes d0) (λ file. (image : List ℕ) → may_leave d image → whole_blocks image ≡ whole_blocks file) → disk_faults d ≡ disk_faults d0
+  short-again : (d0 d : D) (k : K) (s : S) (memory : AmountsMemory) → Opens d0 d → WhereTold (bytes d0) (λ file. (image : List ℕ) → may_leave d image → whole_blocks image ≡ whole_blocks file) → disk_faults d ≡ disk_faults d0
       → Gone-did d0 d k k s s (Err (Memory memory))
-  restart-short d0 d k s memory opens same steady = record {
+  short-again d0 d k s memory opens same steady = record {
     empty = λ file told. record { only = λ is. absurd cc; always = λ cause. inr (inr (inl refl)) };
     damaged = λ file told block. record { only = λ is. absurd cc; always = λ cause. inr (inr (inl refl)) };
     full = λ file told. record { only = λ is. absurd cc; always = λ cause. inr (inr (inl refl)) };
@@ -484,10 +497,15 @@ module _ {D K S : Type 0} (bytes : D → Option (List ℕ)) (may_leave : D → L
       causes : Causes d0 d k k (Err (Memory memory))
       causes = causes-steady disk_faults faults d0 d k k (Err (Memory memory)) steady (omega arith) (λ is. cc) (λ is. cc)
 
+  pub restart-short : (d0 d : D) (k : K) (s : S) (memory : AmountsMemory) → Opens d0 d → WhereTold (bytes d0) (λ file. (image : List ℕ) → may_leave d image → whole_blocks image ≡ whole_blocks file) → disk_faults d ≡ disk_faults d0
+      → (result : Answer) → IsErrAnd result (λ (f : KeptFault). f ≡ Memory memory) → Gone-did d0 d k k s s result
+  restart-short d0 d k s memory opens same steady result is =
+      for_err result (Memory memory) (λ (r : Answer). Gone-did d0 d k k s s r) is (short-again d0 d k s memory opens same steady)
+
   -- the blocks are none to go on from
-  pub restart-refused : (d0 d : D) (k : K) (s : S) (fault : KeptFault) → Opens d0 d → WhereTold (bytes d0) (λ file. (image : List ℕ) → may_leave d image → whole_blocks image ≡ whole_blocks file) → disk_faults d ≡ disk_faults d0
+  refused-again : (d0 d : D) (k : K) (s : S) (fault : KeptFault) → Opens d0 d → WhereTold (bytes d0) (λ file. (image : List ℕ) → may_leave d image → whole_blocks image ≡ whole_blocks file) → disk_faults d ≡ disk_faults d0
       → (bodies : List (List ℕ)) → WhereTold (bytes d0) (λ file. bodies ≡ whole_blocks file) → IsRefusal bodies fault → Gone-did d0 d k k s s (Err fault)
-  restart-refused d0 d k s fault opens same steady bodies are refusal = record {
+  refused-again d0 d k s fault opens same steady bodies are refusal = record {
     empty = λ file told. subst (λ (bs : List (List ℕ)). Exactly (err_of fault) Empty (bs ≡ [])) (are file told) (refused_empty bodies fault refusal);
     damaged = λ file told block. subst (λ (bs : List (List ℕ)). Exactly (err_of fault) (Damaged block) ((0 < length bs) × (kept_in bs ≡ Err block))) (are file told) (refused_damaged bodies fault refusal block);
     full = λ file told. subst (λ (bs : List (List ℕ)). Exactly (err_of fault) Full ((commands : ℕ) × (0 < length bs) × IsFull bs commands)) (are file told) (refused_full bodies fault refusal);
@@ -502,9 +520,14 @@ module _ {D K S : Type 0} (bytes : D → Option (List ℕ)) (may_leave : D → L
       causes : Causes d0 d k k (Err fault)
       causes = causes-steady disk_faults faults d0 d k k (Err fault) steady (omega arith) (λ is. refused_disk bodies fault refusal (err_to fault Disk is)) (λ is. refused_write bodies fault refusal (err_to fault Write is))
 
+  pub restart-refused : (d0 d : D) (k : K) (s : S) (fault : KeptFault) → Opens d0 d → WhereTold (bytes d0) (λ file. (image : List ℕ) → may_leave d image → whole_blocks image ≡ whole_blocks file) → disk_faults d ≡ disk_faults d0
+      → (bodies : List (List ℕ)) → WhereTold (bytes d0) (λ file. bodies ≡ whole_blocks file) → IsRefusal bodies fault → (result : Answer) → IsErrAnd result (λ (f : KeptFault). f ≡ fault) → Gone-did d0 d k k s s result
+  restart-refused d0 d k s fault opens same steady bodies are refusal result is =
+      for_err result fault (λ (r : Answer). Gone-did d0 d k k s s r) is (refused-again d0 d k s fault opens same steady bodies are refusal)
+
   -- the file could not be opened
-  pub restart-unopened : (d0 d : D) (k : K) (s : S) (fault : KeepFault) → Opens d0 d → Causes d0 d k k (Err (of_keeper fault)) → Gone-did d0 d k k s s (Err (of_keeper fault))
-  restart-unopened d0 d k s fault opens causes = record {
+  unopened-again : (d0 d : D) (k : K) (s : S) (fault : KeepFault) → Opens d0 d → Causes d0 d k k (Err (of_keeper fault)) → Gone-did d0 d k k s s (Err (of_keeper fault))
+  unopened-again d0 d k s fault opens causes = record {
     empty = λ file told. record { only = λ is. absurd (keeper_is_none fault Empty (λ e. cc) (λ m e. cc) (err_to (of_keeper fault) Empty is)); always = λ cause. keeper_among fault Empty };
     damaged = λ file told block. record { only = λ is. absurd (keeper_is_none fault (Damaged block) (λ e. cc) (λ m e. cc) (err_to (of_keeper fault) (Damaged block) is)); always = λ cause. keeper_among fault (Damaged block) };
     full = λ file told. record { only = λ is. absurd (keeper_is_none fault Full (λ e. cc) (λ m e. cc) (err_to (of_keeper fault) Full is)); always = λ cause. keeper_among fault Full };
@@ -517,3 +540,9 @@ module _ {D K S : Type 0} (bytes : D → Option (List ℕ)) (may_leave : D → L
       keeper_stops : (f : KeepFault) → StopsARestart (of_keeper f)
       keeper_stops keeps.Disk = tt
       keeper_stops (keeps.Memory memory) = tt
+
+  pub restart-unopened : {T : Type 0} (d0 d : D) (k : K) (s : S) (fault : KeepFault) (opened : Result T KeepFault) → opened ≡ Err fault → HasCause disk_faults d0 d opened → Opens d0 d → (result : Answer) → IsErrAnd result (λ (f : KeptFault). f ≡ of_keeper fault)
+      → Gone-did d0 d k k s s result
+  restart-unopened d0 d k s fault opened was cause opens result is =
+      for_err result (of_keeper fault) (λ (r : Answer). Gone-did d0 d k k s s r) is
+      (unopened-again d0 d k s fault opens (causes-of_keeper disk_faults faults d0 d k fault opened (Err (of_keeper fault)) was refl cause))

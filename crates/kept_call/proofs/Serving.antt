@@ -1,11 +1,14 @@
 -- A session that is kept and told from its start on: its end, and a fault.
-use Rattle.std.proofs.Common.{ℕ, ◌≡◌, List, [], ◌∷◌, ◌++◌, length, take, Option, Some, None, Result, Ok, Err, refl, ap, sym, ◌∙◌, subst, arith, inl, inr, append-nil, take_all}
+use Rattle.std.proofs.Common.{ℕ, ◌≡◌, List, [], ◌∷◌, ◌++◌, length, take, Option, Some, None, Result, Ok, Err, refl, ap, sym, ◌∙◌, subst, arith, inl, inr, append-nil, take_all, ◌≤◌, ◌^◌, map}
+use Rattle.std.specs.Prelude.{IsErrAnd}
 use Rattle.std.specs.Io.KnownBytes.{append_known}
 use Rattle.std.proofs.lemmas.List.{length-map}
+use Rattle.fx_amounts.specs.declared.memory.Memory.{Memory as AmountsMemory}
 use Rattle.fx_edges.specs.Writing.{Appended, AppendedPart}
-use Rattle.fx_edges.proofs.Writing.{IsPrefixOf-refl, Appended-append, AppendedPart-cut, AppendedPart-whole}
+use Rattle.fx_edges.proofs.Writing.{IsPrefixOf-refl, Appended-nil, Appended-append, AppendedPart-cut, AppendedPart-whole}
 use Rattle.fx_rules.specs.declared.command.Sent.{Sent}
 use Rattle.fx_rules.specs.declared.outcome.Entry.{Entry}
+use Rattle.fx_rules.specs.Sending.{sent_by}
 use Rattle.fx_rules.specs.Session.{Header}
 use Rattle.fx_rules.specs.History.{IsLegal}
 use Rattle.fx_desk.specs.Streams.{HasStreams, stream_of}
@@ -15,14 +18,17 @@ use Rattle.keep_disk.specs.declared.rounds.Round.{Round}
 use Rattle.keep_disk.specs.declared.rounds.RunFault.{RunFault}
 use Rattle.keep_disk.specs.Rounds.{bodies_of, text_of, KeptUpTo}
 use Rattle.keep_disk.specs.Blocks.{whole_blocks}
+use Rattle.keep_disk.specs.Keeping.{AtRest}
 use Rattle.keep_disk.proofs.Telling.{kept_stopped, first_all}
-use Rattle.kept_run.specs.Running.{Start, new_session, AreBegunBy, HasNotBegun}
-use Rattle.kept_run.specs.Text.{HasKeptText, HasStoppedText}
+use Rattle.kept_run.specs.Running.{Start, StandsBehind, new_session, AreBegunBy, HasNotBegun}
+use Rattle.kept_run.specs.Text.{IsKeeping, HasKeptText, HasStoppedText}
+use Rattle.kept_run.proofs.Keeping.{keeps-from}
 use Rattle.kept_run.proofs.Streams.{streams-behind, begun-by}
 use Rattle.reply_lines.specs.Output.{IsRestOfOutput}
 use Rattle.reply_lines.specs.Faults.{WroteOutput}
 use Rattle.reply_lines.specs.declared.output.Ending.{Ending}
 use Rattle.reply_lines.specs.declared.output.OutFault.{OutFault}
+use Rattle.session_head.specs.HeadText.{head_text_of}
 use Rattle.session_script.specs.Reading.{ProgressedBehind}
 use Rattle.session_script.specs.Rounds.{HasReadBehind, TookPromptlyBehind}
 use Rattle.session_script.specs.Script.{HasSession, sent_in}
@@ -34,9 +40,11 @@ use Rattle.session_script.specs.declared.reading.Reading.{Reading}
 use Rattle.kept_call.specs.Ending.{ending_of}
 use Rattle.kept_call.specs.Fault.{of_run, of_out}
 use Rattle.kept_call.specs.Kept.{AtReturn, AnsweredSo, StopsASession}
-use Rattle.kept_call.specs.inside.Served.{Served}
+use Rattle.kept_call.specs.inside.Served.{Served, gone_on}
 use Rattle.kept_call.specs.declared.fault.KeptFault.{KeptFault}
-use Rattle.kept_call.proofs.Faults.{run_stops, out_stops}
+use Rattle.kept_call.specs.declared.fault.KeptFault.TheVariants.{Memory}
+use Rattle.kept_call.proofs.Faults.{for_err, run_stops, out_stops}
+use Rattle.kept_call.proofs.Opening.{kept-at_rest}
 
 module _ {D K S : Type 0} (bytes : D → Option (List ℕ)) (may_leave : D → List ℕ → Type 0) (moment : D → ℕ) (left_since : D → ℕ → List ℕ → Type 0)
     (written : K → Option (List ℕ)) (faults : K → ℕ) (left : S → Option (List ℕ)) (failed : S → ℕ) (front : List ℕ) (before : S) (start : Start D K) (h : Header) where
@@ -243,3 +251,32 @@ nil-back (x ∷ xs) ys is = absurd cc
 pub resumed-here : {front : List ℕ} {S : Type 0} {left : S → Option (List ℕ)} {failed : S → ℕ} {a b : S} {reading : Reading} {h : Header} → HasReadBehind front left failed a b reading h [] → HasReadBehind front left failed a b reading h (sent_at reading.intake.stage)
 resumed-here {front = front} {left = left} {failed = failed} {a = a} {b = b} {reading = reading} {h = h} has =
     subst (λ (ss : List Sent). HasReadBehind front left failed a b reading h ss) (sym (nil-back has.former (sent_at reading.intake.stage) has.all_is)) has
+
+-- behind the header of a known session
+pub resumed : {S : Type 0} (left : S → Option (List ℕ)) (failed : S → ℕ) {source : S} {reading : Reading} {session h : Header} → session ≡ h → HasReadBehind (head_text_of session) left failed source source reading session []
+    → HasReadBehind (head_text_of h) left failed source source reading h []
+resumed left failed {source = source} {reading = reading} same has = subst (λ (x : Header). HasReadBehind (head_text_of x) left failed source source reading x []) same has
+
+-- out of memory, where nothing was done since the file was opened
+module _ {D K S : Type 0} (bytes : D → Option (List ℕ)) (may_leave : D → List ℕ → Type 0) (moment : D → ℕ) (left_since : D → ℕ → List ℕ → Type 0)
+    (written : K → Option (List ℕ)) (faults : K → ℕ) (left : S → Option (List ℕ)) (failed : S → ℕ) (only_now : (disk : D) (image : List ℕ) → left_since disk (moment disk) image → may_leave disk image) where
+  pub served-short : (front : List ℕ) (before : S) (kept : List Entry) (head : List (List ℕ)) (h : Header) (d : D) (k : K) (place : ℕ) (source : S) → AtRest bytes may_leave d place → (took : TookPromptlyBehind front left failed before source) → HasSession (front ++ took.input) h
+      → (memory : AmountsMemory) (result : Result TextEnd KeptFault) → IsErrAnd result (λ fault. fault ≡ Memory memory)
+      → Served bytes may_leave moment left_since written faults left failed front before (record { disk = d; out = k; kept = kept; front = head }) d k h source result
+  served-short front before kept head h d k place source at_rest took session memory result is =
+      for_err result (Memory memory) (λ (r : Result TextEnd KeptFault). Served bytes may_leave moment left_since written faults left failed front before (record { disk = d; out = k; kept = kept; front = head }) d k h source r) is
+      (served-unbegun bytes may_leave moment left_since written faults left failed front before (record { disk = d; out = k; kept = kept; front = head }) h d k source took session (Memory memory) tt
+      (kept_stopped bytes may_leave moment left_since written faults d d k k [] (kept-at_rest bytes may_leave moment left_since written faults d k place (only_now d) at_rest)) (Appended-nil written faults k))
+
+  -- a kept history was replayed, and its text is read behind the header
+  pub keeps-resumed : (kept items : List Entry) (h : Header) (d : D) (k : K) (opened place gathered : ℕ) (lanes : List (Lane (Witness Entry))) (counts : List ℕ) (source : S) (reading : Reading) → length kept ≤ 2 ^ 24 → HasReadBehind (head_text_of h) left failed source source reading h []
+      → items ≡ kept → StandsBehind h (map sent_by items) items gathered lanes counts → place ≡ opened → AtRest bytes may_leave d opened
+      → IsKeeping bytes may_leave moment left_since written faults left failed (head_text_of h) source (gone_on kept d k) d k h source reading place gathered lanes counts
+  keeps-resumed kept items h d k opened place gathered lanes counts source reading few has are stands placed at_rest = record {
+    few = few;
+    sent = [];
+    has_read = resumed-here has;
+    keeps = keeps-from bytes may_leave moment left_since written faults d d k k h kept place gathered lanes counts
+        (subst (λ (es : List Entry). StandsBehind h (map sent_by es) es gathered lanes counts) are stands)
+        (kept-at_rest bytes may_leave moment left_since written faults d k opened (only_now d) at_rest) (subst (AtRest bytes may_leave d) (sym placed) at_rest);
+  }

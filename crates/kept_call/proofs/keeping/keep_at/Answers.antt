@@ -1,30 +1,22 @@
 -- The header is kept, and then the text; or a fault comes before.
-use Rattle.std.proofs.Common.{[], Result, sym, subst, arith}
-use Rattle.fx_edges.proofs.Writing.{Appended-nil}
+use Rattle.std.proofs.Common.{[], ◌∷◌, Result, sym, subst, arith}
 use Rattle.keep_disk.specs.Keeping.{AtRest}
-use Rattle.keep_disk.proofs.Telling.{kept_stopped}
 use Rattle.kept_run.specs.Running.{new_session}
+use Rattle.session_head.specs.HeadText.{head_text_of}
 use Rattle.session_script.specs.declared.ends.TextEnd.{TextEnd}
 use Rattle.session_script.specs.Stage.{sent_at}
 use Rattle.kept_call.specs.Fault.{of_run}
 use Rattle.kept_call.specs.inside.Served.{Served}
 use Rattle.kept_call.specs.declared.fault.KeptFault.{KeptFault}
-use Rattle.kept_call.specs.declared.fault.KeptFault.TheVariants.{Memory}
 use Rattle.kept_call.proofs.Faults.{for_err, is_err, causes-of_run}
 use Rattle.kept_call.proofs.Opening.{kept-at_rest}
-use Rattle.kept_call.proofs.Serving.{promptly-taken, served-unbegun, served-not_begun}
+use Rattle.kept_call.proofs.Serving.{promptly-taken, served-short, served-not_begun}
 use Rattle.kept_call.proofs.keeping.keep_at.Goals as goal
 
 pub returns-in_err-run-clause-served : goal.returns-in_err-run-clause-served
 returns-in_err-run-clause-served g c = λ before has.
-    let d = c.args.disk.now in
-    let k = c.args.out.now in
-    let so_far = kept-at_rest g.D.Disk.bytes g.D.Disk.may_leave g.D.Disk.moment g.D.Disk.left_since g.K.Sink.written g.K.Sink.faults d k c.args.keeper.place (g.met.D.Disk.only_now d) c.requires.at_rest in
-    for_err c.from_residual.result (Memory c.in_err-run.field-0.0)
-    (λ (r : Result TextEnd KeptFault). Served g.D.Disk.bytes g.D.Disk.may_leave g.D.Disk.moment g.D.Disk.left_since g.K.Sink.written g.K.Sink.faults g.S.Source.left g.S.Source.faults [] before (new_session g.N.Naming.session d k) d k g.N.Naming.session c.args.source.now r)
-    c.from_residual.ensures.1
-    (served-unbegun g.D.Disk.bytes g.D.Disk.may_leave g.D.Disk.moment g.D.Disk.left_since g.K.Sink.written g.K.Sink.faults g.S.Source.left g.S.Source.faults [] before (new_session g.N.Naming.session d k) g.N.Naming.session d k c.args.source.now (promptly-taken has) has.says.session (Memory c.in_err-run.field-0.0) tt
-    (kept_stopped g.D.Disk.bytes g.D.Disk.may_leave g.D.Disk.moment g.D.Disk.left_since g.K.Sink.written g.K.Sink.faults d d k k [] so_far) (Appended-nil g.K.Sink.written g.K.Sink.faults k))
+    served-short g.D.Disk.bytes g.D.Disk.may_leave g.D.Disk.moment g.D.Disk.left_since g.K.Sink.written g.K.Sink.faults g.S.Source.left g.S.Source.faults g.met.D.Disk.only_now [] before [] (head_text_of g.N.Naming.session ∷ []) g.N.Naming.session
+    c.args.disk.now c.args.out.now c.args.keeper.place c.args.source.now c.requires.at_rest (promptly-taken has) has.says.session c.in_err-run.field-0.0 c.from_residual.result c.from_residual.ensures.1
 
 pub begin-requires-clause-at_rest : goal.begin-requires-clause-at_rest
 begin-requires-clause-at_rest g c κs within = subst (AtRest g.D.Disk.bytes g.D.Disk.may_leave c.args.disk.now) (sym c.in_ok-run.ensures.place) c.requires.at_rest
