@@ -25,7 +25,7 @@ pub if_some_order : (found : Option Resting) (P : Resting → Type 0) → ((orde
 if_some_order None P holds = tt
 if_some_order (Some order) P holds = holds order refl
 
-slots-length : (nodes : List Linked) → length (slots_of nodes) ≡ length nodes
+pub slots-length : (nodes : List Linked) → length (slots_of nodes) ≡ length nodes
 slots-length nodes = length-map nodes (λ node. node.order)
 
 -- What callers see.
