@@ -1,7 +1,7 @@
 -- Orders in a list by arrival, each linked with its neighbours in its level, as contracts see them.
 use Rattle.std.specs.Prelude.{ℕ, ◌≡◌, ◌≤◌, ◌<◌, ◌^◌, length, Option, Some, None}
 use Rattle.fx_rules.specs.declared.orders.Resting.{Resting}
-use Rattle.order_store.specs.Orders.{AreOrders, Orders, order_at}
+use Rattle.order_store.specs.Orders.{AreOrders, IsFrom, Orders, order_at}
 
 -- two orders are of one level: of one bank, side and price
 pub record IsAlike (order other : Resting) : Type 0 where
@@ -14,6 +14,12 @@ pub record IsInLevel (there : ℕ → Option Resting) (like : Resting) (place : 
   pub order : Resting
   pub is : there place ≡ Some order
   pub alike : IsAlike like order
+
+-- an order of this bank that arrived at or after this is at a place
+pub record HasFrom (there : ℕ → Option Resting) (owner after place : ℕ) : Type 0 where
+  pub order : Resting
+  pub is : there place ≡ Some order
+  pub from : IsFrom owner after order
 
 -- the first place with P from another one on
 pub record IsFirst (P : ℕ → Type 0) (from place : ℕ) : Type 0 where

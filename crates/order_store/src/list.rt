@@ -1,8 +1,8 @@
-ghost use Rattle.std.specs.Prelude.{ℕ, ◌≡◌, ◌+◌, ◌<◌, ◌≤◌, ◌∷◌, ◌++◌, [], Some, None, filter, is_some, length, min, slice_set, IfOk, OnOk, IfSome, IsSome, IsSomeAnd};
+ghost use Rattle.std.specs.Prelude.{ℕ, ◌≡◌, ◌↔◌, ◌+◌, ◌<◌, ◌≤◌, ◌∷◌, ◌++◌, [], Some, None, true, filter, is_some, length, min, slice_set, IfOk, OnOk, IfSome, IsSome, IsSomeAnd};
 ghost use Rattle.order_store.specs.inside.Chains.{slots_of};
 ghost use Rattle.order_store.specs.inside.Packed.{IsPacked, moved};
 ghost use Rattle.order_store.specs.inside.Rows.{is_under};
-ghost use Rattle.order_store.specs.Linked.{AreListed, IsFirstFrom, IsInLevel, IsLastBelow};
+ghost use Rattle.order_store.specs.Linked.{AreListed, HasFrom, IsFirstFrom, IsInLevel, IsLastBelow};
 ghost use Rattle.order_store.specs.Orders.{IsOf, KeepsRoom, Lacks, TakesRoom, kept, order_at, room_for};
 
 use crate::nodes::Nodes;
@@ -170,6 +170,28 @@ impl OrderList {
             Some(place as u32)
         } else {
             None
+        }
+    }
+
+    /// The place of the first of a bank's orders that arrived at or after this; `None` where there is none. It looks at one place after the other.
+    pub fn next_of(&self, bank: BankId, after: u64) -> Option<u32>
+        ensures { IsFirstFrom (HasFrom (order_at self.now) bank after) 0 result }
+    {
+        for place in 0..self.nodes.len() {
+            if self.is_from(place, bank, after) {
+                return Some(place as u32);
+            }
+        }
+        None
+    }
+
+    /// Whether an order of a bank that arrived at or after this is at a place.
+    fn is_from(&self, place: usize, bank: BankId, after: u64) -> bool
+        ensures { (result ≡ true) ↔ HasFrom (order_at self.now) bank after place }
+    {
+        match self.nodes.order(place) {
+            Some(order) => order.bank == bank && after <= order.arrival,
+            None => false,
         }
     }
 
