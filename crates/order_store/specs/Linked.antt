@@ -1,5 +1,6 @@
 -- Orders in a list by arrival, each linked with its neighbours in its level, as contracts see them.
 use Rattle.std.specs.Prelude.{ℕ, ◌≡◌, ◌≤◌, ◌<◌, ◌^◌, length, Option, Some, None}
+use Rattle.fx_amounts.specs.Quantity.{IsLots}
 use Rattle.fx_rules.specs.declared.orders.Resting.{Resting}
 use Rattle.order_store.specs.Orders.{AreOrders, IsFrom, Orders, order_at}
 
@@ -47,8 +48,13 @@ IsLastBelow P end (Some place) = IsLast P end place
 abbrev pub AreRising : (ℕ → Option Resting) → Type 0
 AreRising there = (place other : ℕ) (order later : Resting) → there place ≡ Some order → there other ≡ Some later → place < other → order.arrival < later.arrival
 
--- orders of a list: no two are of one bank and number, they stand by arrival, and there are not more places than a word of a best order has bits for
+-- each order has a number of lots left that an order can have
+abbrev pub HaveLots : (ℕ → Option Resting) → Type 0
+HaveLots there = (place : ℕ) (order : Resting) → there place ≡ Some order → IsLots order.left
+
+-- orders of a list: no two are of one bank and number, they stand by arrival, each has lots left, and there are not more places than a word of a best order has bits for
 pub record AreListed (orders : Orders) : Type 0 where
   pub valid : AreOrders orders
   pub rising : AreRising (order_at orders)
+  pub lots : HaveLots (order_at orders)
   pub few : length orders.slots ≤ 2 ^ 28

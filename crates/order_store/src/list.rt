@@ -96,6 +96,7 @@ impl OrderList {
         ensures valid { AreListed self.new }
     {
         let Resting { bank, number, .. } = order;
+        prove!(order.left.count() >= Lots::LEAST);
         let place = self.nodes.len();
         self.nodes.push(order, before);
         self.nodes.set_behind(before, Some(place as u32));
@@ -139,6 +140,7 @@ impl OrderList {
         ensures room { self.new.room ≡ self.old.room }
         ensures valid { AreListed self.new }
     {
+        prove!(left.count() >= Lots::LEAST);
         self.nodes.lower(place as usize, left);
     }
 
