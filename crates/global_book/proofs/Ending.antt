@@ -11,11 +11,11 @@ use Rattle.fx_rules.specs.declared.orders.Resting.{Resting}
 use Rattle.fx_rules.specs.Lists.{total}
 use Rattle.fx_rules.specs.Sweep.{is_opposite}
 use Rattle.fx_rules.proofs.ListLemmas.{filter_cons_false, filter_cons_true}
-use Rattle.order_store.specs.Linked.{IsFirst, IsFirstFrom, IsInLevel, IsLast, IsLastBelow}
+use Rattle.order_store.specs.Linked.{HaveLots, IsFirst, IsFirstFrom, IsInLevel, IsLast, IsLastBelow}
 use Rattle.price_levels.specs.Ticks.{first_left, last_left, last_of_level, no_level, with_order, without_order}
 use Rattle.price_levels.specs.declared.level.Level.{Level}
 use Rattle.global_book.specs.Book.{is_level, level_lots}
-use Rattle.global_book.specs.inside.Ends.{HaveLots, IsOfLevel, TellsOrders, first_of_level, orders_of, slot_lots}
+use Rattle.global_book.specs.inside.Ends.{IsOfLevel, TellsOrders, first_of_level, orders_of, slot_lots}
 
 -- The first and the last order of a level, with one more or one less.
 module _ (P P' : ℕ → Type 0) where
@@ -89,10 +89,10 @@ module _ (bank : ℕ) (side : Side) (price : ℕ) where
       omega (arith, counts, held)
 
   -- with no lots there is no order, and with some there is one
-  none_without : (slots : List (Option Resting)) → HaveLots slots → sum_by (slot_lots bank side price) slots ≡ 0 → (place : ℕ) → IsOfLevel slots bank side price place → ⊥
+  none_without : (slots : List (Option Resting)) → HaveLots (λ at. get_or slots at None) → sum_by (slot_lots bank side price) slots ≡ 0 → (place : ℕ) → IsOfLevel slots bank side price place → ⊥
   none_without slots have none place in' =
       let part = part_of_sum slots place in'.order in'.is in'.at in
-      let some : 0 < in'.order.left = have place in'.order in'.is in
+      let some : 0 < in'.order.left = omega (arith, (have place in'.order in'.is).0) in
       omega (arith, part, some, none)
 
   some_with : (slots : List (Option Resting)) → sum_by (slot_lots bank side price) slots ≢ 0 → (place : ℕ) × IsOfLevel slots bank side price place
@@ -114,7 +114,7 @@ module _ (bank : ℕ) (side : Side) (price : ℕ) where
           ]
 
   -- An order of the level comes.
-  pub level-pushed : (slots : List (Option Resting)) (order : Resting) (level : Level) → HaveLots slots → TellsOrders slots bank side price level → is_level (opposite side) bank price order ≡ true → 0 < order.left
+  pub level-pushed : (slots : List (Option Resting)) (order : Resting) (level : Level) → HaveLots (λ at. get_or slots at None) → TellsOrders slots bank side price level → is_level (opposite side) bank price order ≡ true → 0 < order.left
       → TellsOrders (slots ++ Some order ∷ []) bank side price (with_order level (length slots) order.left)
   level-pushed slots order level have is at some =
       let P : ℕ → Type 0 = IsOfLevel slots bank side price in
@@ -256,13 +256,13 @@ module _ (bank : ℕ) (side : Side) (price : ℕ) where
       last = λ place above below in'. last.last place above (let was' = left_was place in' in order_within slots place was'.order was'.is) (left_was place in');
     }
 
-    pub level-removed : (level : Level) (before behind : Option ℕ) → HaveLots slots → TellsOrders slots bank side price level → is_level (opposite side) bank price order ≡ true
+    pub level-removed : (level : Level) (before behind : Option ℕ) → HaveLots (λ at. get_or slots at None) → TellsOrders slots bank side price level → is_level (opposite side) bank price order ≡ true
         → IsLastBelow (IsOfLevel slots bank side price) gone before → IsFirstFrom (IsOfLevel slots bank side price) (gone + 1) behind
         → TellsOrders (set slots gone None) bank side price (without_order level order.left before behind)
     level-removed level before behind have is at prev next =
         let part = part_of_sum slots gone order was at in
         let own : IsOfLevel slots bank side price gone = record { order = order; is = was; at = at } in
-        let some : 0 < order.left = have gone order was in
+        let some : 0 < order.left = omega (arith, (have gone order was).0) in
         let more : level.lots ≢ 0 = λ none. omega (arith, none, part, some, is.lots) in
         let left : Level = record { lots = level.lots - order.left; first = first_left level before behind; last = last_left level before behind } in
         let rest : sum_by (slot_lots bank side price) (set slots gone None) ≡ level.lots - order.left = omega (arith, part, is.lots) in
@@ -285,7 +285,7 @@ module _ (bank : ℕ) (side : Side) (price : ℕ) where
               })
         ]
       where
-        have_left : HaveLots (set slots gone None)
+        have_left : HaveLots (λ at. get_or (set slots gone None) at None)
         have_left place o is = elim (cases_eq place gone) [
           | inl same ↦ let it : None ≡ Some o = sym (ap (λ p. get_or (set slots gone None) p None) same ∙ get_or-set_same slots gone None None (order_within slots gone order was)) ∙ is in cc
           | inr differ ↦ have place o (sym (get_or-set_other slots gone place None None differ) ∙ is)

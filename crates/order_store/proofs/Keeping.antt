@@ -3,6 +3,7 @@ use Rattle.std.proofs.Common.{ℕ, ◌≡◌, ◌+◌, ◌-◌, ◌≤◌, ◌<�
 use Rattle.std.proofs.Math.ListN.{set, length-set}
 use Rattle.std.proofs.lemmas.List.{length-map}
 use Rattle.std.specs.Option.{IfSome, IsSome}
+use Rattle.fx_amounts.specs.Quantity.{IsLots}
 use Rattle.fx_rules.specs.declared.orders.Resting.{Resting}
 use Rattle.order_store.specs.Linked.{AreListed, IsFirstFrom, IsInLevel, IsLastBelow}
 use Rattle.order_store.specs.Orders.{Lacks, Orders, order_at}
@@ -25,7 +26,7 @@ pub if_some_order : (found : Option Resting) (P : Resting → Type 0) → ((orde
 if_some_order None P holds = tt
 if_some_order (Some order) P holds = holds order refl
 
-slots-length : (nodes : List Linked) → length (slots_of nodes) ≡ length nodes
+pub slots-length : (nodes : List Linked) → length (slots_of nodes) ≡ length nodes
 slots-length nodes = length-map nodes (λ node. node.order)
 
 -- What callers see.
@@ -35,6 +36,7 @@ kept-listed nodes count rows room orders seen kept =
     subst AreListed seen (record {
       valid = seen_orders (slots_of nodes) room rows here refl kept.named;
       rising = kept.are.rising;
+      lots = kept.are.lots;
       few = subst (λ n. n ≤ 2 ^ 28) (sym (slots-length nodes)) kept.few;
     })
 
@@ -66,14 +68,14 @@ pub kept-pushed : (nodes nodes' : List Linked) (count : ℕ) (rows rows' : List 
     → record { slots = slots_of nodes; room = room } ≡ orders → IsKept nodes count rows → nodes' ≡ pushed nodes order before → place ≡ length nodes → length nodes < 2 ^ 28
     → Lacks orders order.bank order.number → ((at : ℕ) (other : Resting) → order_at orders at ≡ Some other → other.arrival < order.arrival)
     → IsLastBelow (IsInLevel (order_at orders) order) (length orders.slots) before
-    → Written rows rows' order.bank row row' → row'.entries ≡ with_key order.number place row.entries → order.bank < 64 → order.number < 2 ^ 32
+    → Written rows rows' order.bank row row' → row'.entries ≡ with_key order.number place row.entries → order.bank < 64 → order.number < 2 ^ 32 → IsLots order.left
     → IsKept nodes' (count + 1) rows'
-kept-pushed nodes nodes' count rows rows' room orders order before place row row' seen kept is place_is few lacks later last written with bank number =
+kept-pushed nodes nodes' count rows rows' room orders order before place row row' seen kept is place_is few lacks later last written with bank number own =
     subst (λ (ns : List Linked). IsKept ns (count + 1) rows') (sym is) (record {
       are = pushed-nodes nodes order before count kept.are
           (subst (λ n. IsLastBelow (IsInLevel (in_node nodes) order) n before) (slots-length nodes)
           (subst (λ (o : Orders). IsLastBelow (IsInLevel (order_at o) order) (length o.slots) before) (sym seen) last))
-          (subst (λ (o : Orders). (at : ℕ) (other : Resting) → order_at o at ≡ Some other → other.arrival < order.arrival) (sym seen) later);
+          (subst (λ (o : Orders). (at : ℕ) (other : Resting) → order_at o at ≡ Some other → other.arrival < order.arrival) (sym seen) later) own;
       named = named_added (slots_of nodes) (slots_of (pushed nodes order before)) rows rows' orders place order row row' kept.named (ap (λ (o : Orders). o.slots) seen) lacks
           (in_node-past nodes place (omega (arith, place_is)))
           (ap (in_node (pushed nodes order before)) place_is ∙ pushed-new nodes order before)
@@ -100,11 +102,11 @@ kept-removed nodes nodes' count rows place order kept is was =
 
 -- An order is lowered.
 pub kept-lowered : (nodes nodes' : List Linked) (count : ℕ) (rows : List Row) (place left : ℕ) (order : Resting) → IsKept nodes count rows
-    → nodes' ≡ lowered nodes place (record order { left = left }) → in_node nodes place ≡ Some order → IsKept nodes' count rows
-kept-lowered nodes nodes' count rows place left order kept is was =
+    → nodes' ≡ lowered nodes place (record order { left = left }) → in_node nodes place ≡ Some order → IsLots left → IsKept nodes' count rows
+kept-lowered nodes nodes' count rows place left order kept is was own =
     let lower : Resting = record order { left = left } in
     subst (λ (ns : List Linked). IsKept ns count rows) (sym is) (record {
-      are = lowered-nodes nodes place order lower count kept.are was (record { bank = refl; side = refl; price = refl }) refl;
+      are = lowered-nodes nodes place order lower count kept.are was (record { bank = refl; side = refl; price = refl }) refl own;
       named = subst (λ (ss : List (Option Resting)). AreNamed ss rows) (sym (lowered-slots nodes place lower)) (named_lowered (slots_of nodes) rows place left order kept.named was);
       few = subst (λ n. n ≤ 2 ^ 28) (sym (length-set nodes place (record (node_at nodes place) { order = Some lower }))) kept.few;
     })

@@ -4,5 +4,6 @@ mod Keeping
 mod Listing
 mod Naming
 mod Numbering
+mod Packing
 mod Rooms
 mod Writing

@@ -2,11 +2,12 @@
 use Rattle.std.proofs.Common.{ℕ, zero, suc, ◌≡◌, ◌≢◌, ◌+◌, ◌-◌, ◌≤◌, ◌<◌, cond, List, [], ◌∷◌, ◌++◌, Option, Some, None, length, map, get_or, inl, inr, refl, ap, sym, subst, ◌∙◌, arith}
 use Rattle.std.proofs.Math.ListN.{set, length-set}
 use Rattle.std.proofs.Math.Seq.{map-set_same}
-use Rattle.std.proofs.lemmas.Bool.{cases_lt}
+use Rattle.std.proofs.lemmas.Bool.{cases_eq, cases_lt}
 use Rattle.std.proofs.lemmas.List.Sums.{sum_by-append, sum_by-set}
 use Rattle.std.proofs.lemmas.List.{get_or-set_same, get_or-set_other, get_or_past, length-map, map-append, map-set}
 use Rattle.std.specs.List.{count_by}
 use Rattle.std.specs.Option.{is_some}
+use Rattle.fx_amounts.specs.Quantity.{IsLots}
 use Rattle.fx_rules.specs.declared.orders.Resting.{Resting}
 use Rattle.order_store.specs.Linked.{IsAlike, IsFirstFrom, IsInLevel, IsLastBelow}
 use Rattle.order_store.specs.inside.Chains.{AreNodes, Linked, in_node, no_node, node_at, slots_of, with_before, with_behind}
@@ -140,9 +141,9 @@ last_at P end None place is same = let it : None ≡ Some place = same in cc
 last_at P end (Some at) place is same = let it : place ≡ at = same_in at place same in omega (arith, is.below, it)
 
 pub pushed-nodes : (nodes : List Linked) (order : Resting) (before : Option ℕ) (count : ℕ) → AreNodes nodes count
-    → IsLastBelow (IsInLevel (in_node nodes) order) (length nodes) before → ((place : ℕ) (other : Resting) → in_node nodes place ≡ Some other → other.arrival < order.arrival)
+    → IsLastBelow (IsInLevel (in_node nodes) order) (length nodes) before → ((place : ℕ) (other : Resting) → in_node nodes place ≡ Some other → other.arrival < order.arrival) → IsLots order.left
     → AreNodes (pushed nodes order before) (count + 1)
-pushed-nodes nodes order before count are last later =
+pushed-nodes nodes order before count are last later own =
     let new : Linked = record { order = Some order; before = before; behind = None } in
     let all : List Linked = nodes ++ new ∷ [] in
     let end : ℕ = length nodes in
@@ -159,6 +160,10 @@ pushed-nodes nodes order before count are last later =
           (λ place differ apart. ap (λ (node : Linked). node.behind) (behind-apart all before end' place apart ∙ end-others nodes new place differ));
       rising = rising-pushed (in_node nodes) (in_node (pushed nodes order before)) (λ p. (node_at nodes p).before) (λ p. (node_at (pushed nodes order before) p).before)
           (λ p. (node_at nodes p).behind) (λ p. (node_at (pushed nodes order before) p).behind) end order (in_node-past nodes) is_new others are.rising later;
+      lots = λ place o is. elim (cases_eq place end) [
+        | inl same ↦ let it : Some order ≡ Some o = sym is_new ∙ ap (in_node (pushed nodes order before)) (sym same) ∙ is in subst (λ (r : Resting). IsLots r.left) (let one : order ≡ o = cc in one) own
+        | inr differ ↦ are.lots place o (sym (others place differ) ∙ is)
+      ];
       count_is = ap (λ n. n + 1) are.count_is ∙ sym (one_more (slots_of nodes) order) ∙ ap (count_by is_some) (sym (pushed-slots nodes order before));
     }
   where
@@ -217,6 +222,7 @@ removed-nodes nodes gone order count are was =
           ∙ behind-before nodes before behind place);
       rising = rising-removed (in_node nodes) (in_node (removed nodes gone)) (λ p. (node_at nodes p).before) (λ p. (node_at (removed nodes gone) p).before)
           (λ p. (node_at nodes p).behind) (λ p. (node_at (removed nodes gone) p).behind) gone order was is_gone others are.rising;
+      lots = λ place o is. are.lots place o (sym (others place (λ same. let it : None ≡ Some o = sym (ap (in_node (removed nodes gone)) same ∙ is_gone) ∙ is in cc)) ∙ is);
       count_is = one_less (slots_of nodes) (slots_of (removed nodes gone)) slots was (removed-slots nodes gone) are.count_is;
     }
   where
@@ -239,9 +245,9 @@ lowered nodes at order = set nodes at (record (node_at nodes at) { order = Some 
 pub lowered-slots : (nodes : List Linked) (at : ℕ) (order : Resting) → slots_of (lowered nodes at order) ≡ set (slots_of nodes) at (Some order)
 lowered-slots nodes at order = map-set (λ node. node.order) nodes at (record (node_at nodes at) { order = Some order })
 
-pub lowered-nodes : (nodes : List Linked) (at : ℕ) (order lower : Resting) (count : ℕ) → AreNodes nodes count → in_node nodes at ≡ Some order → IsAlike order lower → order.arrival ≡ lower.arrival
+pub lowered-nodes : (nodes : List Linked) (at : ℕ) (order lower : Resting) (count : ℕ) → AreNodes nodes count → in_node nodes at ≡ Some order → IsAlike order lower → order.arrival ≡ lower.arrival → IsLots lower.left
     → AreNodes (lowered nodes at lower) count
-lowered-nodes nodes at order lower count are was alike same =
+lowered-nodes nodes at order lower count are was alike same left =
     let slots : at < length (slots_of nodes) = subst (λ n. at < n) (sym (length-map nodes (λ node. node.order))) (in_node-within nodes at order was) in
     let is : in_node (lowered nodes at lower) at ≡ Some lower =
     ap (λ (ss : List (Option Resting)). get_or ss at None) (lowered-slots nodes at lower) ∙ get_or-set_same (slots_of nodes) at (Some lower) None slots in
@@ -254,6 +260,10 @@ lowered-nodes nodes at order lower count are was alike same =
           (λ place. field-same (λ node. node.behind) nodes (lowered nodes at lower) place (map-set_same (λ node. node.behind) nodes at (record (node_at nodes at) { order = Some lower }) no_node refl));
       rising = rising-lowered (in_node nodes) (in_node (lowered nodes at lower)) (λ p. (node_at nodes p).before) (λ p. (node_at (lowered nodes at lower) p).before)
           (λ p. (node_at nodes p).behind) (λ p. (node_at (lowered nodes at lower) p).behind) at order lower was is alike others same are.rising;
+      lots = λ place o there. elim (cases_eq place at) [
+        | inl here ↦ let it : Some lower ≡ Some o = sym is ∙ ap (in_node (lowered nodes at lower)) (sym here) ∙ there in subst (λ (r : Resting). IsLots r.left) (let one : lower ≡ o = cc in one) left
+        | inr differ ↦ are.lots place o (sym (others place differ) ∙ there)
+      ];
       count_is = same_count (slots_of nodes) (slots_of (lowered nodes at lower)) slots was (lowered-slots nodes at lower) are.count_is;
     }
   where

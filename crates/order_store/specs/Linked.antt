@@ -1,7 +1,8 @@
 -- Orders in a list by arrival, each linked with its neighbours in its level, as contracts see them.
 use Rattle.std.specs.Prelude.{ℕ, ◌≡◌, ◌≤◌, ◌<◌, ◌^◌, length, Option, Some, None}
+use Rattle.fx_amounts.specs.Quantity.{IsLots}
 use Rattle.fx_rules.specs.declared.orders.Resting.{Resting}
-use Rattle.order_store.specs.Orders.{AreOrders, Orders, order_at}
+use Rattle.order_store.specs.Orders.{AreOrders, IsFrom, Orders, order_at}
 
 -- two orders are of one level: of one bank, side and price
 pub record IsAlike (order other : Resting) : Type 0 where
@@ -14,6 +15,12 @@ pub record IsInLevel (there : ℕ → Option Resting) (like : Resting) (place : 
   pub order : Resting
   pub is : there place ≡ Some order
   pub alike : IsAlike like order
+
+-- an order of this bank that arrived at or after this is at a place
+pub record HasFrom (there : ℕ → Option Resting) (owner after place : ℕ) : Type 0 where
+  pub order : Resting
+  pub is : there place ≡ Some order
+  pub from : IsFrom owner after order
 
 -- the first place with P from another one on
 pub record IsFirst (P : ℕ → Type 0) (from place : ℕ) : Type 0 where
@@ -41,8 +48,13 @@ IsLastBelow P end (Some place) = IsLast P end place
 abbrev pub AreRising : (ℕ → Option Resting) → Type 0
 AreRising there = (place other : ℕ) (order later : Resting) → there place ≡ Some order → there other ≡ Some later → place < other → order.arrival < later.arrival
 
--- orders of a list: no two are of one bank and number, they stand by arrival, and there are not more places than a word of a best order has bits for
+-- each order has a number of lots left that an order can have
+abbrev pub HaveLots : (ℕ → Option Resting) → Type 0
+HaveLots there = (place : ℕ) (order : Resting) → there place ≡ Some order → IsLots order.left
+
+-- orders of a list: no two are of one bank and number, they stand by arrival, each has lots left, and there are not more places than a word of a best order has bits for
 pub record AreListed (orders : Orders) : Type 0 where
   pub valid : AreOrders orders
   pub rising : AreRising (order_at orders)
+  pub lots : HaveLots (order_at orders)
   pub few : length orders.slots ≤ 2 ^ 28

@@ -1,4 +1,5 @@
 pub mod Chains
 pub mod Earliest
 pub mod Orders
+pub mod Packed
 pub mod Rows

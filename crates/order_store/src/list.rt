@@ -1,7 +1,8 @@
-ghost use Rattle.std.specs.Prelude.{ℕ, ◌≡◌, ◌+◌, ◌<◌, ◌≤◌, ◌∷◌, ◌++◌, [], Some, None, length, min, slice_set, IfOk, OnOk, IfSome, IsSome, IsSomeAnd};
+ghost use Rattle.std.specs.Prelude.{ℕ, ◌≡◌, ◌↔◌, ◌+◌, ◌<◌, ◌≤◌, ◌∷◌, ◌++◌, [], Some, None, true, filter, is_some, length, min, slice_set, IfOk, OnOk, IfSome, IsSome, IsSomeAnd};
 ghost use Rattle.order_store.specs.inside.Chains.{slots_of};
+ghost use Rattle.order_store.specs.inside.Packed.{IsPacked, moved};
 ghost use Rattle.order_store.specs.inside.Rows.{is_under};
-ghost use Rattle.order_store.specs.Linked.{AreListed, IsFirstFrom, IsInLevel, IsLastBelow};
+ghost use Rattle.order_store.specs.Linked.{AreListed, HasFrom, IsFirstFrom, IsInLevel, IsLastBelow};
 ghost use Rattle.order_store.specs.Orders.{IsOf, KeepsRoom, Lacks, TakesRoom, kept, order_at, room_for};
 
 use crate::nodes::Nodes;
@@ -61,6 +62,14 @@ impl OrderList {
         self.count
     }
 
+    /// How many places there are, with those that are empty.
+    pub fn places(&self) -> usize
+        ensures count { result ≡ length self.now.slots }
+        ensures valid { AreListed self.now }
+    {
+        self.nodes.len()
+    }
+
     /// Makes room for one order more of a bank. At `Memory` there may be none.
     pub fn reserve(&mut self, bank: BankId) -> Result<(), Memory>
         requires bank { bank < length self.old.room }
@@ -87,6 +96,7 @@ impl OrderList {
         ensures valid { AreListed self.new }
     {
         let Resting { bank, number, .. } = order;
+        prove!(order.left.count() >= Lots::LEAST);
         let place = self.nodes.len();
         self.nodes.push(order, before);
         self.nodes.set_behind(before, Some(place as u32));
@@ -130,6 +140,7 @@ impl OrderList {
         ensures room { self.new.room ≡ self.old.room }
         ensures valid { AreListed self.new }
     {
+        prove!(left.count() >= Lots::LEAST);
         self.nodes.lower(place as usize, left);
     }
 
@@ -162,6 +173,72 @@ impl OrderList {
         } else {
             None
         }
+    }
+
+    /// The place of the first of a bank's orders that arrived at or after this; `None` where there is none. It looks at one place after the other.
+    pub fn next_of(&self, bank: BankId, after: u64) -> Option<u32>
+        ensures { IsFirstFrom (HasFrom (order_at self.now) bank after) 0 result }
+    {
+        for place in 0..self.nodes.len() {
+            if self.is_from(place, bank, after) {
+                return Some(place as u32);
+            }
+        }
+        None
+    }
+
+    /// Whether an order of a bank that arrived at or after this is at a place.
+    fn is_from(&self, place: usize, bank: BankId, after: u64) -> bool
+        ensures { (result ≡ true) ↔ HasFrom (order_at self.now) bank after place }
+    {
+        match self.nodes.order(place) {
+            Some(order) => order.bank == bank && after <= order.arrival,
+            None => false,
+        }
+    }
+
+    /// The same orders in a new list that has no empty place, each at as many places less as there were empty ones before it. This list
+    /// stays as it is. `Memory` when out of memory.
+    pub fn packed(&self) -> Result<OrderList, Memory>
+        ensures slots { IfOk result (λ list. list.slots ≡ filter is_some self.now.slots) }
+        ensures banks { IfOk result (λ list. length list.room ≡ min (length self.now.room) 64) }
+    {
+        let alloc = *self.rows.allocator();
+        let mut list = OrderList::new(alloc, self.rows.len())?;
+        let mut places = Vec::new(alloc);
+        for place in 0..self.nodes.len() {
+            let moved = self.carry_over(place, &places, &mut list)?;
+            places.push(moved)?;
+        }
+        Ok(list)
+    }
+
+    /// Lets the order at a place come to a new list, where there is one, and answers its place there. `places` tells where the orders before
+    /// it have gone.
+    fn carry_over(&self, place: usize, places: &[u32], list: &mut OrderList) -> Result<u32, Memory>
+        requires within { place < length self.now.slots }
+        requires packed { IsPacked self.now.slots place places.now list.old (length self.now.room) }
+        ensures packed { IfOk result (λ moved. IsPacked self.now.slots (place + 1) (places.now ++ moved ∷ []) list.new (length self.now.room)) }
+    {
+        match self.nodes.order(place) {
+            Some(order) => {
+                let before = moved(self.before(place as u32), places);
+                list.reserve(order.bank)?;
+                Ok(list.push(order, before))
+            }
+            None => Ok(0),
+        }
+    }
+}
+
+/// Where the order of a link has gone.
+fn moved(link: Option<u32>, places: &[u32]) -> Option<u32>
+    requires within { IfSome link (λ place. place < length places.now) }
+    ensures { result ≡ moved places.now link }
+{
+    match link {
+        Some(place) => Some(places[place as usize]),
+        None => None,
     }
 }
 

@@ -1,6 +1,6 @@
 -- A level against the orders of a list: it has the places of the first and the last order of its bank, side and price, and the lots that they
 -- have left. No book keeps such levels yet.
-use Rattle.std.specs.Prelude.{ℕ, ◌≡◌, ◌<◌, ◌==◌, true, if◌then◌else◌, List, [], ◌∷◌, length, Option, Some, None, slice_index_or, sum_by}
+use Rattle.std.specs.Prelude.{ℕ, ◌≡◌, ◌==◌, true, if◌then◌else◌, List, [], ◌∷◌, length, Option, Some, None, slice_index_or, sum_by}
 use Rattle.fx_amounts.specs.Side.{opposite}
 use Rattle.fx_amounts.specs.declared.side.Side.{Side}
 use Rattle.fx_rules.specs.declared.orders.Resting.{Resting}
@@ -29,10 +29,6 @@ pub record TellsOrders (slots : List (Option Resting)) (bank : ℕ) (side : Side
   pub first : IsFirstFrom (IsOfLevel slots bank side price) 0 (first_of_level level)
   pub last : IsLastBelow (IsOfLevel slots bank side price) (length slots) (last_of_level level)
   pub lots : level.lots ≡ sum_by (slot_lots bank side price) slots
-
--- each order has a lot left
-abbrev pub HaveLots : List (Option Resting) → Type 0
-HaveLots slots = (place : ℕ) (order : Resting) → slice_index_or slots place None ≡ Some order → 0 < order.left
 
 -- the orders of a list, by arrival
 abbrev pub orders_of : List (Option Resting) → List Resting

@@ -1,7 +1,7 @@
 -- The links of orders in a list: the place of the order before each one in its level, and of that behind it.
 use Rattle.std.specs.Prelude.{ℕ, ◌≡◌, ◌+◌, ◌≤◌, ◌^◌, ◌==◌, nat_lt, if◌then◌else◌, List, length, map, Option, Some, None, slice_index_or, slice_set, count_by, is_some}
 use Rattle.fx_rules.specs.declared.orders.Resting.{Resting}
-use Rattle.order_store.specs.Linked.{AreRising, IsFirstFrom, IsInLevel, IsLastBelow}
+use Rattle.order_store.specs.Linked.{AreRising, HaveLots, IsFirstFrom, IsInLevel, IsLastBelow}
 use Rattle.order_store.specs.declared.nodes.Node.{Node}
 use Rattle.order_store.specs.inside.Orders.{AreNamed}
 use Rattle.order_store.specs.inside.Rows.{Row}
@@ -66,6 +66,7 @@ in_node nodes place = slice_index_or (slots_of nodes) place None
 pub record AreNodes (nodes : List Linked) (count : ℕ) : Type 0 where
   pub chained : AreChained (in_node nodes) (λ place. (node_at nodes place).before) (λ place. (node_at nodes place).behind)
   pub rising : AreRising (in_node nodes)
+  pub lots : HaveLots (in_node nodes)
   pub count_is : count ≡ count_by is_some (slots_of nodes)
 
 -- all that a list keeps: its nodes, and the places of each bank's orders by number

@@ -18,6 +18,7 @@ invariant_of-self c =
     c.len-place.ensures.count c.push.ensures.few c.requires.absent c.requires.later c.requires.before
     (written-at c.self.inside.rows.items c.index.result c.args.order.bank c.index_mut-row.result.now c.add.new.self c.index.ensures.value (omega (arith, places.within, c.index.ensures.value)) c.index_mut-row.ensures.value)
     c.add.ensures.entries (omega (arith, c.index.ensures.value, c.index.ensures.most)) (omega arith)
+    (omega (arith, c.count.ensures.least, c.count.ensures.value), omega (arith, c.count.ensures.most, c.count.ensures.value))
 
 pub returns-clause-slots : goal.returns-clause-slots
 returns-clause-slots c =
