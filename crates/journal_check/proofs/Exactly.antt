@@ -19,7 +19,7 @@ use Rattle.session_head.specs.Head.{Begun}
 use Rattle.session_head.specs.HeadText.{head_text_of}
 use Rattle.order_lines.specs.Grammar.{journal_line}
 use Rattle.reply_lines.specs.inside.Journals.{count_line}
-use Rattle.reply_lines.specs.Output.{entry_line, journal_text, day_text, last_text, IsDayText, IsOutput}
+use Rattle.reply_lines.specs.Output.{entry_line, journal_text, day_text, last_text, IsDayText}
 use Rattle.reply_lines.specs.declared.output.Ending.{Ending}
 use Rattle.journal_check.specs.Lines.{LineAt, behind, is_long, lines_from}
 use Rattle.journal_check.specs.Listed.{Listed, header_among, count_told, count_among, commands_among, listed, most_entries}

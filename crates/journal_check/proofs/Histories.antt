@@ -1,5 +1,5 @@
 -- What a legal history determines: what was sent, and the text of its day.
-use Rattle.std.proofs.Common.{ℕ, ◌≡◌, ◌+◌, ◌<◌, List, [], ◌∷◌, ◌++◌, map, refl, ap, sym, subst, ◌∙◌}
+use Rattle.std.proofs.Common.{ℕ, ◌≡◌, List, [], ◌∷◌, ◌++◌}
 use Rattle.fx_rules.specs.declared.outcome.Entry.{Entry}
 use Rattle.fx_rules.specs.Session.{Header}
 use Rattle.fx_rules.specs.State.{State}
@@ -8,7 +8,6 @@ use Rattle.reply_lines.specs.Books.{books_text}
 use Rattle.reply_lines.specs.Report.{report_text}
 use Rattle.reply_lines.specs.Output.{journal_text, desks_text, day_text, IsDayText}
 use Rattle.session_head.specs.HeadText.{head_text_of}
-use Rattle.fx_rules.specs.declared.command.Sent.{Sent}
 use Rattle.fx_rules.specs.Sending.{IsSentOf, sent_by}
 
 -- each entry's command is one that its sender may send

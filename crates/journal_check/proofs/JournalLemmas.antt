@@ -1,24 +1,28 @@
 -- A journal that is read line by line.
-use Rattle.std.proofs.Common.{◌≡◌, ℕ, zero, suc, ◌+◌, ◌<◌, Bool, true, false, List, [], ◌∷◌, ◌++◌, length, map, Option, Some, None, option_map, ok_or, Result, Ok, Err, refl, sym, ap, ◌∙◌, arith}
+use Rattle.std.proofs.Common.{◌≡◌, ℕ, zero, suc, ◌+◌, ◌-◌, ◌<◌, ◌≤◌, Bool, true, false, List, [], ◌∷◌, ◌++◌, length, map, take, drop, Option, Some, None, option_map, ok_or, Result, Ok, Err, refl, sym, ap, ap₂, ◌∙◌, arith, append-nil, length-drop, length-take-le}
 use Rattle.std.proofs.lemmas.Bool.{cond-true, cond-false, lt-ltb, le-ltb}
 use Rattle.fx_text.specs.Faults.{◌>>=◌}
 use Rattle.fx_text.specs.Lines.{line_of, line_seen}
 use Rattle.std.proofs.lemmas.List.{length_push, map-append}
+use Rattle.std.proofs.lemmas.List.Concat.{flat_map-append}
 use Rattle.fx_rules.specs.Session.{Header}
 use Rattle.fx_rules.specs.declared.outcome.Entry.{Entry}
 use Rattle.fx_rules.specs.Sending.{sent_by, sent_of}
 use Rattle.pair_host.specs.Standing.{HostState, stands}
 use Rattle.market_run.specs.Ran.{Ran}
 use Rattle.market_run.specs.Running.{HasServed, GoesOnBy}
-use Rattle.reply_lines.specs.Day.{IsTextOf}
-use Rattle.reply_lines.specs.declared.day.DayText.{DayText}
+use Rattle.reply_lines.specs.Day.{AreNoticesOf, IsJournalOf}
+use Rattle.reply_lines.specs.Output.{entry_line}
+use Rattle.reply_lines.specs.declared.day_notices.DayNotices.{DayNotices}
+use Rattle.reply_lines.specs.declared.journal.JournalText.{JournalText}
 use Rattle.order_lines.specs.Grammar.{journal_line}
 use Rattle.journal_check.specs.Lines.{LineAt, behind, is_long, lines_from}
 use Rattle.fx_rules.specs.declared.command.Command.{Command}
 use Rattle.fx_rules.specs.declared.command.Sent.{Sent}
 use Rattle.journal_check.specs.Listed.{count_told, count_among, commands_among}
-use Rattle.journal_check.specs.inside.Stops.{IsReadAt, IsStopAt, Missing, TooLong, ReadsLine, Answers, IsKept, ReadsEntries}
+use Rattle.journal_check.specs.inside.Stops.{IsReadAt, IsStopAt, Missing, TooLong, ReadsLine, Answers, IsKept, ReadsEntries, ReadsSent, SaysAt, next_of, sent_line}
 use Rattle.journal_check.specs.declared.journal.Counted.{Counted}
+use Rattle.journal_check.specs.declared.journal.ReadSent.{ReadSent}
 use Rattle.journal_check.specs.declared.kept.Kept.{Kept}
 use Rattle.journal_check.specs.declared.line.ReadLine.{ReadLine}
 use Rattle.journal_check.specs.declared.stop.Stop.{Stop}
@@ -113,17 +117,9 @@ pub commands_wrong : (h : Header) (text : List ℕ) (at : ℕ) (before : List Se
 commands_wrong h text at before zero read some is then = absurd (omega arith)
 commands_wrong h text at before (suc count) read some is then = commands_read h text at before count read None is then
 
-more_sent : (h : Header) (text : List ℕ) (at : ℕ) (before : List Sent) (count : ℕ) (read : ReadLine) (sent : ℕ × Command) → IsReadAt text at read → Some sent ≡ journal_line h (line_seen read.line)
+pub more_sent : (h : Header) (text : List ℕ) (at : ℕ) (before : List Sent) (count : ℕ) (read : ReadLine) (sent : ℕ × Command) → IsReadAt text at read → Some sent ≡ journal_line h (line_seen read.line)
     → commands_among h (length text) before (suc count) (lines_from text at) ≡ commands_among h (length text) (before ++ sent_of sent ∷ []) count (lines_from text read.next)
 more_sent h text at before count read sent is then = commands_read h text at before count read (Some sent) is then
-
-pub commands_more : (h : Header) (text : List ℕ) (at : ℕ) (before after : List Sent) (count left : ℕ) (read : ReadLine) (sent : ℕ × Command) → IsReadAt text at read → Some sent ≡ journal_line h (line_seen read.line) → count ≡ left + 1 → after ≡ before ++ sent_of sent ∷ []
-    → commands_among h (length text) before count (lines_from text at) ≡ commands_among h (length text) after left (lines_from text read.next)
-commands_more h text at before after count left read sent is then one after_is =
-    let up : count ≡ suc left = omega arith in
-    ap (λ (n : ℕ). commands_among h (length text) before n (lines_from text at)) up
-    ∙ more_sent h text at before left read sent is then
-    ∙ ap (λ (b : List Sent). commands_among h (length text) b left (lines_from text read.next)) (sym after_is)
 
 -- No line can be read
 
@@ -131,33 +127,72 @@ pub count_stopped : (text : List ℕ) (at : ℕ) (stop : Stop) → ReadsLine tex
 count_stopped text at (Wrong offset) stops = count_stops text at offset stops
 count_stopped text at (Memory memory) stops = absurd stops
 
-pub commands_stopped : (h : Header) (whole : Bool) (kept : Kept) (text : List ℕ) (at : ℕ) (before : List Sent) (count : ℕ) (stop : Stop) (there : Result (List Sent) ℕ) → 0 < count → ReadsLine text at (Err stop)
+-- so no command can be read
+pub sent_stopped : (h : Header) (text : List ℕ) (at : ℕ) (stop : Stop) → ReadsLine text at (Err stop) → ReadsSent h text at (Err stop)
+sent_stopped h text at (Wrong offset) stops = λ before count. commands_stop h text at offset before (suc count) (omega arith) stops
+sent_stopped h text at (Memory memory) stops = absurd stops
+
+pub commands_stopped : (h : Header) (whole : Bool) (kept : Kept) (text : List ℕ) (at : ℕ) (before : List Sent) (count left : ℕ) (stop : Stop) (there : Result (List Sent) ℕ) → count ≡ left + 1 → ReadsSent h text at (Err stop)
     → there ≡ commands_among h (length text) before count (lines_from text at) → ReadsEntries h whole kept (Err stop) there
-commands_stopped h whole kept text at before count (Wrong offset) there some stops is = is ∙ commands_stop h text at offset before count some stops
-commands_stopped h whole kept text at before count (Memory memory) there some stops is = absurd stops
+commands_stopped h whole kept text at before count left (Wrong offset) there one stops is =
+    let up : count ≡ suc left = omega (arith, one) in
+    is ∙ ap (λ (n : ℕ). commands_among h (length text) before n (lines_from text at)) up ∙ stops before left
+commands_stopped h whole kept text at before count left (Memory memory) there one stops is = absurd stops
 
 -- Entries that are served as they are read
 
 -- so many were read up to an offset, and so many are left
-pub record HasReadSome (h : Header) (text : List ℕ) (there : Result (List Sent) ℕ) (whole : Bool) (kept : Kept) (run : Ran HostState DayText) (count left at : ℕ) : Type 0 where
+pub record HasReadSome (h : Header) (text : List ℕ) (there : Result (List Sent) ℕ) (whole : Bool) (kept : Kept) (run : Ran HostState DayNotices) (journal : JournalText) (count left at : ℕ) : Type 0 where
   pub entries : List Entry
-  pub has_served : HasServed stands IsTextOf h entries run
+  pub has_served : HasServed stands AreNoticesOf h entries run
+  pub journal_is : IsJournalOf h entries journal
   pub size : length entries ≡ count
   pub reads : there ≡ commands_among h (length text) (map sent_by entries) left (lines_from text at)
   pub is_kept : IsKept whole entries kept
 
+-- a journal with the line of one entry more
+line_more : (h : Header) (entries : List Entry) (e : Entry) (sent : Sent) (was now : JournalText) → IsJournalOf h entries was → sent_by e ≡ sent → now.count ≡ was.count + 1 → now.lines.items ≡ was.lines.items ++ sent_line h sent
+    → IsJournalOf h (entries ++ e ∷ []) now
+line_more h entries e sent was now is sent_is count lines = record {
+  count = count ∙ ap (λ (n : ℕ). n + 1) is.count ∙ sym (length_push entries e);
+  lines = lines
+      ∙ ap₂ (λ (front last : List ℕ). front ++ last) is.lines (ap (sent_line h) (sym sent_is) ∙ sym (append-nil (entry_line h e)))
+      ∙ sym (flat_map-append (entry_line h) entries (e ∷ []));
+}
+
 -- one more was read
-pub entry_read : (h : Header) (text : List ℕ) (there : Result (List Sent) ℕ) (whole : Bool) (kept kept' : Kept) (was now : Ran HostState DayText) (count left left' at : ℕ) (read : ReadLine) (said : ℕ × Command) (e : Entry)
-    → HasReadSome h text there whole kept was count left at → IsReadAt text at read → Some said ≡ journal_line h (line_seen read.line) → left ≡ left' + 1
-    → sent_by e ≡ sent_of said → GoesOnBy stands IsTextOf h was now e → ((entries : List Entry) → IsKept whole entries kept → IsKept whole (entries ++ e ∷ []) kept')
-    → HasReadSome h text there whole kept' now (count + 1) left' read.next
-entry_read h text there whole kept kept' was now count left left' at read said e has is then one sent_is on keeps =
-    let sent : map sent_by (has.entries ++ e ∷ []) ≡ map sent_by has.entries ++ sent_of said ∷ [] =
+pub entry_read : (h : Header) (text : List ℕ) (there : Result (List Sent) ℕ) (whole : Bool) (kept kept' : Kept) (was now : Ran HostState DayNotices) (journal journal' : JournalText) (count left left' at : ℕ) (read : ReadSent) (e : Entry)
+    → HasReadSome h text there whole kept was journal count left at → SaysAt h text at read → left ≡ left' + 1
+    → sent_by e ≡ read.sent → GoesOnBy stands AreNoticesOf h was now e → journal'.count ≡ journal.count + 1 → journal'.lines.items ≡ journal.lines.items ++ sent_line h read.sent
+    → ((entries : List Entry) → IsKept whole entries kept → IsKept whole (entries ++ e ∷ []) kept')
+    → HasReadSome h text there whole kept' now journal' (count + 1) left' (next_of at read)
+entry_read h text there whole kept kept' was now journal journal' count left left' at read e has says one sent_is on counts lines keeps =
+    let sent : map sent_by (has.entries ++ e ∷ []) ≡ map sent_by has.entries ++ read.sent ∷ [] =
     map-append sent_by has.entries (e ∷ []) ∙ ap (λ (s : Sent). map sent_by has.entries ++ s ∷ []) sent_is in
+    let up : left ≡ suc left' = omega (arith, one) in
     record {
       entries = has.entries ++ e ∷ [];
       has_served = on has.entries has.has_served;
+      journal_is = line_more h has.entries e read.sent journal journal' has.journal_is sent_is counts lines;
       size = length_push has.entries e ∙ ap (λ (n : ℕ). n + 1) has.size;
-      reads = has.reads ∙ commands_more h text at (map sent_by has.entries) (map sent_by (has.entries ++ e ∷ [])) left left' read said is then one sent;
+      reads = has.reads ∙ ap (λ (n : ℕ). commands_among h (length text) (map sent_by has.entries) n (lines_from text at)) up
+          ∙ says.goes_on (map sent_by has.entries) left'
+          ∙ ap (λ (b : List Sent). commands_among h (length text) b left' (lines_from text (next_of at read))) (sym sent);
       is_kept = keeps has.entries has.is_kept;
+    }
+
+-- a line that was read field by field
+pub fields_say : (h : Header) (text rest : List ℕ) (at size : ℕ) (line : ReadLine) (said : ℕ × Command) (read : ReadSent) → at ≤ length text → IsReadAt text at line → Some said ≡ journal_line h (line_seen line.line) → rest ≡ drop at text → size ≡ line.next - at
+    → read.line.now ≡ take size rest → read.sent ≡ sent_of said → read.spelled ≡ false → SaysAt h text at read
+fields_say h text rest at size line said read inside is then rest_is size_is line_is sent_is spelled_not =
+    let long : length rest ≡ length text - at = ap length rest_is ∙ length-drop at text in
+    let there = is.there.within in
+    let len : length read.line.now ≡ size = ap length line_is ∙ length-take-le size rest (omega (arith, long, size_is, is.next_is, there)) in
+    let next : line.next ≡ next_of at read = omega (arith, len, size_is, is.next_is) in
+    record {
+      within = omega (arith, next, is.next_is, there);
+      goes_on = λ before count. more_sent h text at before count line said is then
+          ∙ ap (λ (n : ℕ). commands_among h (length text) (before ++ sent_of said ∷ []) count (lines_from text n)) next
+          ∙ ap (λ (s : Sent). commands_among h (length text) (before ++ s ∷ []) count (lines_from text (next_of at read))) (sym sent_is);
+      spelled = λ yes. let no' : false ≡ true = sym spelled_not ∙ yes in absurd (cc);
     }

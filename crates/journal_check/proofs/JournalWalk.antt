@@ -1,5 +1,5 @@
 -- The journal of a history is read as its commands.
-use Rattle.std.proofs.Common.{◌≡◌, ℕ, suc, ◌+◌, ◌^◌, ◌<◌, ◌≤◌, ◌==◌, ◌&&◌, if◌then◌else◌, bytes_eq, true, List, [], ◌∷◌, ◌++◌, length, map, take, drop, codes, Some, None, Option, Ok, refl, sym, ap, ◌∙◌, subst, arith, append_assoc, append-nil, leb, inl, inr}
+use Rattle.std.proofs.Common.{◌≡◌, ℕ, suc, ◌+◌, ◌-◌, ◌^◌, ◌<◌, ◌≤◌, ◌==◌, ◌&&◌, if◌then◌else◌, bytes_eq, true, List, [], ◌∷◌, ◌++◌, length, map, take, drop, codes, Some, None, Option, Ok, refl, sym, ap, ap₂, ◌∙◌, subst, arith, length-append, length-drop, append_assoc, append-nil, leb, inl, inr}
 use Rattle.std.specs.Str.Lines.{strip_carriage_return}
 use Rattle.std.proofs.lemmas.Bool.{cases_Bool, leb-true, cond-true, cond-false}
 use Rattle.fx_amounts.specs.Numeral.{numeral}
@@ -16,14 +16,17 @@ use Rattle.fx_text.proofs.FieldTexts.{IsField-tested, IsField-numeral}
 use Rattle.fx_text.proofs.JoinedFields.{fields_of-join, join-visible, length-join, IsField}
 use Rattle.order_lines.proofs.WrittenCommands.{IsWritten-command}
 use Rattle.reply_lines.specs.inside.Journals.{count_line}
-use Rattle.reply_lines.specs.Output.{entry_line, journal_text}
+use Rattle.reply_lines.specs.Output.{entry_line}
 use Rattle.std.specs.List.{flat_map, join_with_byte, AllByRecursion}
 use Rattle.fx_rules.proofs.Senders.{suits-sender}
 use Rattle.journal_check.specs.Lines.{LineAt, lines_from}
 use Rattle.fx_rules.specs.declared.command.Command.{Command}
 use Rattle.fx_rules.specs.declared.command.Sent.{Sent}
 use Rattle.journal_check.specs.Listed.{most_entries, count_told, count_among, commands_among}
-use Rattle.fx_rules.specs.Sending.{sent_by}
+use Rattle.fx_rules.specs.Sending.{IsSentOf, sent_by}
+use Rattle.journal_check.specs.declared.journal.ReadSent.{ReadSent}
+use Rattle.journal_check.specs.inside.Stops.{SaysAt, next_of}
+use Rattle.std.proofs.lemmas.List.{take_at}
 use Rattle.journal_check.proofs.JournalLemmas.{counted, followed, count_among-short, commands_among-short, commands_among-all}
 use Rattle.journal_check.proofs.Walking.{IsPlain, IsAt-plain, short_line, line_of-plain, ended}
 use Rattle.journal_check.proofs.Histories.{AreSentOf}
@@ -101,18 +104,43 @@ whole_short part whole = elim (cases_Bool (leb (length (strip_carriage_return pa
   | inr long ↦ let same : Long (first_field (take 256 (strip_carriage_return part))) ≡ Whole part = sym (cond-false _ _ _ long) ∙ whole in absurd cc
 ]
 
+-- a text that goes on from an offset with the line of a command in its one spelling
+pub sent_at_line : (h : Header) (end : ℕ) (text rest : List ℕ) (at : ℕ) (before : List Sent) (count : ℕ) (sent : Sent) → IsSession h → IsSentOf h sent → drop at text ≡ command_text_of h sent.bank sent.command ++ 10 ∷ rest
+    → commands_among h end before (suc count) (lines_from text at) ≡ commands_among h end (before ++ sent ∷ []) count (lines_from text (at + length (command_text_of h sent.bank sent.command) + 1))
+sent_at_line h end text rest at before count sent session valid here =
+    let part : List ℕ = command_text_of h sent.bank sent.command in
+    let written = IsWritten-command h sent.bank sent.command session (suits-sender h sent.bank sent.command valid.command.sends) valid.command in
+    let on = IsAt-plain text at part rest here written.visible in
+    let line : LineAt = record { at = at; part = part } in
+    ap (commands_among h end before (suc count)) on.line
+    ∙ commands_among-short h end before count line (lines_from text (at + length part + 1)) (short_line at part (whole_short part written.whole))
+    ∙ ap (λ (said : Option (ℕ × Command)). followed line said (λ one. commands_among h end (before ++ one ∷ []) count (lines_from text (at + length part + 1)))) written.read_back
+
 pub entries_at : (h : Header) (end : ℕ) (text more : List ℕ) (entries : List Entry) (at : ℕ) (before : List Sent) → IsSession h → AreSentOf h entries → drop at text ≡ flat_map (entry_line h) entries ++ more
     → commands_among h end before (length entries) (lines_from text at) ≡ Ok (before ++ map sent_by entries)
 entries_at h end text more [] at before session are there = commands_among-all h end before 0 (lines_from text at) refl ∙ ap (λ (s : List Sent). Ok s) (sym (append-nil before))
 entries_at h end text more (e ∷ es) at before session are there =
     let part : List ℕ = command_text_of h e.bank e.command in
     let rest : List ℕ = flat_map (entry_line h) es ++ more in
-    let written = IsWritten-command h e.bank e.command session (suits-sender h e.bank e.command are.0.command.sends) are.0.command in
     let here : drop at text ≡ part ++ 10 ∷ rest = there ∙ append_assoc (part ++ 10 ∷ []) (flat_map (entry_line h) es) more ∙ ended part rest in
-    let on = IsAt-plain text at part rest here written.visible in
-    let line : LineAt = record { at = at; part = part } in
-    ap (commands_among h end before (suc (length es))) on.line
-    ∙ commands_among-short h end before (length es) line (lines_from text (at + length part + 1)) (short_line at part (whole_short part written.whole))
-    ∙ ap (λ (said : Option (ℕ × Command)). followed line said (λ one. commands_among h end (before ++ one ∷ []) (length es) (lines_from text (at + length part + 1)))) written.read_back
-    ∙ entries_at h end text more es (at + length part + 1) (before ++ sent_by e ∷ []) session are.1 on.rest
+    let written = IsWritten-command h e.bank e.command session (suits-sender h e.bank e.command are.0.command.sends) are.0.command in
+    sent_at_line h end text rest at before (length es) (sent_by e) session are.0 here
+    ∙ entries_at h end text more es (at + length part + 1) (before ++ sent_by e ∷ []) session are.1 (IsAt-plain text at part rest here written.visible).rest
     ∙ ap (λ (s : List Sent). Ok s) (append_assoc before (sent_by e ∷ []) (map sent_by es))
+
+-- what was read in its one spelling says its command
+pub spelled_says : (h : Header) (text rest behind : List ℕ) (at size : ℕ) (read : ReadSent) → IsSession h → IsSentOf h read.sent → at ≤ length text → rest ≡ drop at text
+    → rest ≡ command_text_of h read.sent.bank read.sent.command ++ 10 ∷ behind → size ≡ length rest - length behind → read.line.now ≡ take size rest → SaysAt h text at read
+spelled_says h text rest behind at size read session valid within rest_is is size_is line_is =
+    let part : List ℕ = command_text_of h read.sent.bank read.sent.command in
+    let whole : rest ≡ (part ++ 10 ∷ []) ++ behind = is ∙ sym (append_assoc part (10 ∷ []) behind) in
+    let long : length rest ≡ length part + suc (length behind) = ap length is ∙ length-append part (10 ∷ behind) in
+    let front : read.line.now ≡ part ++ 10 ∷ [] = line_is ∙ ap₂ (λ (n : ℕ) (xs : List ℕ). take n xs) (let it : size ≡ length part + 1 = omega (arith, size_is, long) in it) whole
+    ∙ take_at (part ++ 10 ∷ []) behind (length part + 1) (length-append part (10 ∷ [])) in
+    let next_is : next_of at read ≡ at + length part + 1 = omega (arith, ap length front, length-append part (10 ∷ [])) in
+    record {
+      within = omega (arith, next_is, long, ap length rest_is, length-drop at text, within);
+      goes_on = λ before count. sent_at_line h (length text) text behind at before count read.sent session valid (sym rest_is ∙ is)
+          ∙ ap (λ (n : ℕ). commands_among h (length text) (before ++ read.sent ∷ []) count (lines_from text n)) (sym next_is);
+      spelled = λ _. front;
+    }

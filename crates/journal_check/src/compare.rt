@@ -1,16 +1,13 @@
 ghost use Rattle.std.specs.Prelude.{◌≡◌, ◌≢◌, ◌≤◌, ◌<◌, List, length, take, slice_get, Some, None, IfOk};
 ghost use Rattle.fx_rules.specs.declared.outcome.Entry.{Entry};
 ghost use Rattle.journal_check.specs.inside.Comparing.{told};
-ghost use Rattle.journal_check.specs.inside.Stops.{IsComparedWith, end_of};
-ghost use Rattle.market_run.specs.Running.{HasServed};
-ghost use Rattle.pair_host.specs.Standing.{stands};
-ghost use Rattle.reply_lines.specs.Day.{IsTextOf};
+ghost use Rattle.journal_check.specs.inside.Stops.{HasServedJournal, IsComparedWith, end_of};
 
+use crate::journal::ServedJournal;
 use crate::stop::Stop;
 use fx_edges::{Sink, SinkFault};
 use fx_rules::Session;
-use pair_host::PairHost;
-use reply_lines::{DayRun, OutFault};
+use reply_lines::{DayText, OutFault};
 use std::alloc::Global;
 use std::marker::Model;
 
@@ -113,20 +110,22 @@ fn agreeing_by_bytes(text: &[u8], piece: &[u8]) -> usize
     piece.len()
 }
 
-/// Compares a text with the output of the history that a run has served, up to its last lines: where that ends in the text, or
+/// Compares a text with the output of the history whose commands were served, up to its last lines: where that ends in the text, or
 /// the first place where the text has another byte or has ended.
 pub(crate) fn compare_day(
     alloc: Global,
     text: &[u8],
     session: &Session,
-    run: DayRun<PairHost>,
+    served: ServedJournal,
 ) -> Result<usize, Stop>
-    requires served { (entries : List Entry) × HasServed stands IsTextOf session.now entries run }
-    ensures compared { (entries : List Entry) → HasServed stands IsTextOf session.now entries run → IsComparedWith session.now entries text.now result }
+    requires served { (entries : List Entry) × HasServedJournal session.now entries served }
+    ensures compared { (entries : List Entry) → HasServedJournal session.now entries served → IsComparedWith session.now entries text.now result }
     ensures within { IfOk result (λ end. end ≤ length text.now) }
 {
     let mut comparison = Comparison::new(text);
-    let (host, day) = run.into_parts();
+    let ServedJournal { run, journal } = served;
+    let (host, notices) = run.into_parts();
+    let day = DayText::of(journal, notices);
     match day.write_day(alloc, session, &host, &mut comparison) {
         Ok(()) => comparison.end(),
         // The text differed, and nothing more was written.

@@ -1,18 +1,20 @@
-ghost use Rattle.std.specs.Prelude.{◌≡◌, ◌≤◌, ◌^◌, length, [], IfOk, IfSome};
+ghost use Rattle.std.specs.Prelude.{◌≡◌, ◌≤◌, ◌<◌, ◌+◌, ◌^◌, ◌++◌, length, [], IfOk, IfSome, OnOk};
+ghost use Rattle.fx_rules.specs.Sending.{IsSentOf};
 ghost use Rattle.fx_text.specs.Lines.{line_seen};
 ghost use Rattle.journal_check.specs.Lines.{lines_from};
 ghost use Rattle.journal_check.specs.Listed.{count_among, count_told, commands_among, most_entries};
-ghost use Rattle.journal_check.specs.inside.Stops.{Answers, IsKept, ReadsEntries};
+ghost use Rattle.journal_check.specs.inside.Stops.{Answers, IsKept, IsSpelling, ReadsEntries, ReadsSent, sent_line};
 
 use crate::kept::Kept;
 use crate::line::read_line;
 use crate::stop::Stop;
+use fx_amounts::Memory;
 use fx_rules::{Sent, Session};
-use fx_text::{LineView, fields, number};
+use fx_text::{LineText, LineView, fields, number};
 use market_run::Run;
-use order_lines::journal_in;
+use order_lines::{journal_in, make_command, spelled_command};
 use pair_host::PairHost;
-use reply_lines::{DayRun, DayText};
+use reply_lines::{DayNotices, JournalText};
 use std::alloc::Global;
 
 /// The most entries of a history whose output can be checked.
@@ -62,6 +64,92 @@ fn count_told(line: &LineView<'_>) -> Option<u64>
     number(fields.field(1), 0, MOST_ENTRIES)
 }
 
+/// A command of a journal's line with its sender, and the line.
+#[derive(Clone, Copy)]
+pub(crate) struct ReadSent<'a> {
+    pub(crate) sent: Sent,
+    /// The bytes of the line with its line feed.
+    pub(crate) line: &'a [u8],
+    /// Whether they were read as the one spelling of the command.
+    spelled: bool,
+}
+
+/// Reads the command of the journal's line at an offset. Most lines are in their one spelling, and are read from the first byte to
+/// the line feed; any other is looked for and read field by field.
+pub(crate) fn read_sent<'a>(
+    session: &Session,
+    text: &'a [u8],
+    at: usize,
+) -> Result<ReadSent<'a>, Stop>
+    requires { at ≤ length text.now }
+    ensures reads { ReadsSent session.now text.now at result }
+    ensures valid { IfOk result (λ read. IsSentOf session.now read.sent) }
+{
+    // The clauses on a spelling rest on a valid session, as each is.
+    let _banks = session.banks();
+    let (_, rest) = text.split_at(at);
+    let Some((sent, behind)) = spelled_command(session, rest) else {
+        return read_fields(session, text, at);
+    };
+    let (line, _) = rest.split_at(rest.len() - behind.len());
+    Ok(ReadSent {
+        sent,
+        line,
+        spelled: true,
+    })
+}
+
+/// Reads the command of the journal's line at an offset field by field.
+fn read_fields<'a>(session: &Session, text: &'a [u8], at: usize) -> Result<ReadSent<'a>, Stop>
+    requires { at ≤ length text.now }
+    ensures reads { ReadsSent session.now text.now at result }
+    ensures valid { IfOk result (λ read. IsSentOf session.now read.sent) }
+{
+    let read = match read_line(text, at) {
+        Ok(read) => read,
+        Err(stop) => return Err(stop),
+    };
+    let Some((bank, command)) = journal_in(session, &read.line) else {
+        return Err(Stop::Wrong { offset: at as u64 });
+    };
+    let (_, rest) = text.split_at(at);
+    let (line, _) = rest.split_at(read.next - at);
+    Ok(ReadSent {
+        sent: Sent { bank, command },
+        line,
+        spelled: false,
+    })
+}
+
+/// Adds the line of a command to a journal: its bytes, where it was read in its one spelling; any other is made in the line.
+fn add_line(
+    session: &Session,
+    read: &ReadSent<'_>,
+    line: &mut LineText,
+    journal: &mut JournalText,
+) -> Result<(), Memory>
+    requires sent { IsSentOf session.now read.now.sent }
+    requires spelled { IsSpelling session.now read.now }
+    requires few { journal.old.count + 1 < 2 ^ 64 }
+    ensures count { OnOk result (journal.new.count ≡ journal.old.count + 1) }
+    ensures lines { OnOk result (journal.new.lines.items ≡ journal.old.lines.items ++ sent_line session.now read.now.sent) }
+{
+    // The clauses on the line rest on a valid session, as each is.
+    let _banks = session.banks();
+    if read.spelled {
+        return journal.add_lines(1, read.line);
+    }
+    make_command(session, read.sent.bank, &read.sent.command, line);
+    journal.add_lines(1, line.as_slice())
+}
+
+/// The commands of a journal, served, and the journal's text.
+#[derive(Drop)]
+pub(crate) struct ServedJournal {
+    pub(crate) run: Run<PairHost, DayNotices>,
+    pub(crate) journal: JournalText,
+}
+
 /// Reads the entries of a journal and carries out their commands in order: the run of the only legal history that has them. Its
 /// entries are kept, where they are to be.
 pub(crate) fn read_entries(
@@ -70,7 +158,7 @@ pub(crate) fn read_entries(
     text: &[u8],
     counted: &Counted,
     kept: &mut Kept,
-) -> Result<DayRun<PairHost>, Stop>
+) -> Result<ServedJournal, Stop>
     requires within { counted.now.next ≤ length text.now }
     requires few { counted.now.entries ≤ 2 ^ 28 }
     requires none { IsKept kept.old.whole [] kept.old }
@@ -78,19 +166,19 @@ pub(crate) fn read_entries(
         (commands_among session.now (length text.now) [] counted.now.entries (lines_from text.now counted.now.next)) }
 {
     let host = PairHost::open(alloc, session)?;
-    let mut run = Run::open(session, host, DayText::open(alloc, session)?);
+    let mut run = Run::open(session, host, DayNotices::open(alloc, session)?);
+    let mut journal = JournalText::new(alloc);
+    let mut line = LineText::new();
     let mut at = counted.next;
     for _entry in 0..counted.entries {
-        let read = match read_line(text, at) {
+        let read = match read_sent(session, text, at) {
             Ok(read) => read,
             Err(stop) => return Err(stop),
         };
-        let Some((bank, command)) = journal_in(session, &read.line) else {
-            return Err(Stop::Wrong { offset: at as u64 });
-        };
-        let served = run.serve_entry(session, Sent { bank, command })?;
+        add_line(session, &read, &mut line, &mut journal)?;
+        let served = run.serve_entry(session, read.sent)?;
         kept.keep(served)?;
-        at = read.next;
+        at += read.line.len();
     }
-    Ok(run)
+    Ok(ServedJournal { run, journal })
 }

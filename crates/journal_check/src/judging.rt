@@ -26,8 +26,8 @@ pub(crate) fn judge(alloc: Global, text: &[u8], whole: bool) -> Result<Judged, S
     let headed = read_header(alloc, text)?;
     let counted = read_count(text, headed.next)?;
     let mut kept = Kept::new(alloc, whole);
-    let run = read_entries(alloc, &headed.session, text, &counted, &mut kept)?;
-    let end = compare_day(alloc, text, &headed.session, run)?;
+    let served = read_entries(alloc, &headed.session, text, &counted, &mut kept)?;
+    let end = compare_day(alloc, text, &headed.session, served)?;
     Ok(Judged {
         verdict: last_lines(text, end),
         session: headed.session,

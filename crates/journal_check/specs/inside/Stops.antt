@@ -1,15 +1,14 @@
 -- What a reading of a text answers.
-use Rattle.std.specs.Prelude.{ℕ, ◌≡◌, ◌≤◌, ◌<◌, ◌+◌, Bool, true, if◌then◌else◌, List, [], ◌∷◌, length, map, Option, Some, None, Result, Ok, Err}
+use Rattle.std.specs.Prelude.{ℕ, suc, ◌≡◌, ◌≤◌, ◌<◌, ◌+◌, Bool, true, if◌then◌else◌, List, [], ◌∷◌, ◌++◌, length, map, Option, Some, None, Result, Ok, Err}
 use Rattle.fx_text.specs.Lines.{line_of, line_seen}
 use Rattle.fx_rules.specs.Session.{Header}
 use Rattle.fx_rules.specs.declared.command.Sent.{Sent}
 use Rattle.fx_rules.specs.declared.outcome.Entry.{Entry}
 use Rattle.fx_rules.specs.Sending.{sent_by}
-use Rattle.pair_host.specs.Standing.{HostState, stands}
-use Rattle.market_run.specs.Ran.{Ran}
+use Rattle.order_lines.specs.Spelling.{command_text_of}
+use Rattle.pair_host.specs.Standing.{stands}
 use Rattle.market_run.specs.Running.{HasServed}
-use Rattle.reply_lines.specs.Day.{IsTextOf}
-use Rattle.reply_lines.specs.declared.day.DayText.{DayText}
+use Rattle.reply_lines.specs.Day.{AreNoticesOf, IsJournalOf}
 use Rattle.reply_lines.specs.Output.{IsDayText}
 use Rattle.journal_check.specs.Lines.{lines_from}
 use Rattle.journal_check.specs.Compared.{beginning}
@@ -17,6 +16,9 @@ use Rattle.journal_check.specs.Verdict.{yes, IsVerdict}
 use Rattle.journal_check.specs.Reading.{IsReadOf}
 use Rattle.journal_check.specs.declared.judging.Judged.{Judged}
 use Rattle.journal_check.specs.declared.kept.Kept.{Kept}
+use Rattle.journal_check.specs.declared.journal.ReadSent.{ReadSent}
+use Rattle.journal_check.specs.declared.journal.ServedJournal.{ServedJournal}
+use Rattle.journal_check.specs.Listed.{commands_among}
 use Rattle.journal_check.specs.declared.check.Verdict.TheVariants.{No}
 use Rattle.journal_check.specs.declared.line.ReadLine.{ReadLine}
 use Rattle.journal_check.specs.declared.stop.Stop.{Stop}
@@ -57,16 +59,46 @@ pub record IsKept (whole : Bool) (entries : List Entry) (kept : Kept) : Type 0 w
   pub same : kept.whole ≡ whole
   pub items : kept.entries.items ≡ (if whole then entries else [])
 
--- a run served a history of these commands, whose entries are kept, all or none
-pub record IsRunOf (h : Header) (there : Result (List Sent) ℕ) (whole : Bool) (kept : Kept) (run : Ran HostState DayText) : Type 0 where
+-- the line of a command, with its line feed, in its one spelling
+abbrev pub sent_line : Header → Sent → List ℕ
+sent_line h sent = command_text_of h sent.bank sent.command ++ 10 ∷ []
+
+-- where a line was read as the one spelling of its command, it is that
+abbrev pub IsSpelling : Header → ReadSent → Type 0
+IsSpelling h read = read.spelled ≡ true → read.line.now ≡ sent_line h read.sent
+
+-- where the line behind begins
+abbrev pub next_of : ℕ → ReadSent → ℕ
+next_of at read = at + length read.line.now
+
+-- the line of a journal at an offset says this command, and the lines behind it follow
+pub record SaysAt (h : Header) (text : List ℕ) (at : ℕ) (read : ReadSent) : Type 0 where
+  pub within : next_of at read ≤ length text
+  pub goes_on : (before : List Sent) (count : ℕ) → commands_among h (length text) before (suc count) (lines_from text at)
+      ≡ commands_among h (length text) (before ++ read.sent ∷ []) count (lines_from text (next_of at read))
+  pub spelled : IsSpelling h read
+
+-- the answer of a reading of one command, which takes no memory
+abbrev pub ReadsSent : Header → List ℕ → ℕ → Result ReadSent Stop → Type 0
+ReadsSent h text at (Ok read) = SaysAt h text at read
+ReadsSent h text at (Err (Wrong offset)) = (before : List Sent) (count : ℕ) → commands_among h (length text) before (suc count) (lines_from text at) ≡ Err offset
+ReadsSent h text at (Err (Memory memory)) = ⊥
+
+-- the commands of a history were served, and the journal is that of its entries
+pub record HasServedJournal (h : Header) (entries : List Entry) (served : ServedJournal) : Type 0 where
+  pub run : HasServed stands AreNoticesOf h entries served.run
+  pub journal : IsJournalOf h entries served.journal
+
+-- a history of these commands was served, whose entries are kept, all or none
+pub record IsRunOf (h : Header) (there : Result (List Sent) ℕ) (whole : Bool) (kept : Kept) (served : ServedJournal) : Type 0 where
   pub entries : List Entry
-  pub has_served : HasServed stands IsTextOf h entries run
+  pub has_served : HasServedJournal h entries served
   pub in_order : there ≡ Ok (map sent_by entries)
   pub is_kept : IsKept whole entries kept
 
 -- the answer of a reading of commands that serves them
-abbrev pub ReadsEntries : Header → Bool → Kept → Result (Ran HostState DayText) Stop → Result (List Sent) ℕ → Type 0
-ReadsEntries h whole kept (Ok run) there = IsRunOf h there whole kept run
+abbrev pub ReadsEntries : Header → Bool → Kept → Result ServedJournal Stop → Result (List Sent) ℕ → Type 0
+ReadsEntries h whole kept (Ok served) there = IsRunOf h there whole kept served
 ReadsEntries h whole kept (Err (Wrong offset)) there = there ≡ Err offset
 ReadsEntries h whole kept (Err (Memory memory)) there = Unit {0}
 

@@ -7,6 +7,6 @@ use Rattle.journal_check.proofs.journal.read_entries.Given as goal
 abbrev pub invariant-loop-entry : goal.invariant-loop-entry
 invariant-loop-entry l = record {
   within : l.at ≤ length l.text;
-  read : HasReadSome l.session l.text (commands_among l.session (length l.text) [] l._entry-end (lines_from l.text l.initial.at)) l.initial.kept.whole l.kept l.run l._entry (l._entry-end - l._entry) l.at;
+  read : HasReadSome l.session l.text (commands_among l.session (length l.text) [] l._entry-end (lines_from l.text l.initial.at)) l.initial.kept.whole l.kept l.run l.journal l._entry (l._entry-end - l._entry) l.at;
   same : l.kept.whole ≡ l.initial.kept.whole;
 }
