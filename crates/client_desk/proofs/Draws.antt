@@ -1,5 +1,5 @@
 -- The fills of a sweep and of a credit change draw on orders that rest.
-use Rattle.std.proofs.Common.{ℕ, zero, suc, ◌≡◌, ◌≢◌, ◌+◌, ◌-◌, ◌≤◌, ◌<◌, min, true, false, ltb, cond, List, [], ◌∷◌, ◌++◌, ◌⊎◌, inl, inr, refl, ap, sym, subst, ◌∙◌, arith, get_or, append-nil}
+use Rattle.std.proofs.Common.{ℕ, zero, suc, ◌≡◌, ◌≢◌, ◌+◌, ◌-◌, ◌≤◌, ◌<◌, min, true, false, ltb, cond, List, [], ◌∷◌, ◌++◌, ◌⊎◌, inl, inr, refl, ap, sym, subst, ◌∙◌, arith, get_or, length, take, append-nil}
 use Rattle.std.proofs.lemmas.Bool.{cases_Bool, cond_both, both_ways, ltb-true, ltb-false, cond-true, cond-false, lt-ltb, le-ltb, false_from_ne_true}
 use Rattle.fx_rules.specs.declared.orders.ActiveOrder.{ActiveOrder}
 use Rattle.fx_rules.specs.declared.orders.Resting.{Resting}
@@ -25,7 +25,7 @@ use Rattle.fx_rules.proofs.Lowering.{is_order-says, is_order-from, Each-lowered}
 use Rattle.fx_rules.proofs.SweepSound.{filled-sound, weight_of-least}
 use Rattle.fx_rules.proofs.RaiseSound.{turns-walk, turned-sound, limited-sound, turn-sender}
 use Rattle.fx_rules.proofs.Falling.{cancel_fills, reduce_fills}
-use Rattle.client_desk.specs.Draws.{Offers, drawn, drawn_all, AreDrawn, coming_in, FillsAreDrawn}
+use Rattle.client_desk.specs.Draws.{Offers, drawn, drawn_all, IsDrawn, AreDrawn, coming_in, FillsAreDrawn}
 
 -- ---- offers, head by head
 
@@ -392,3 +392,14 @@ outcome-drawn h S bank (Bad reason) outcome session sound command is = nothing-d
 
 pub fills-drawn : FillsAreDrawn
 fills-drawn h S e session sound step = outcome-drawn h S e.bank e.command e.outcome session sound step.command step.outcome
+
+-- ---- fills, one by one
+
+pub drawn_all-push : (orders : List ActiveOrder) (fills : List Fill) (f : Fill) → drawn_all orders (fills ++ f ∷ []) ≡ drawn (drawn_all orders fills) f
+drawn_all-push orders [] f = refl
+drawn_all-push orders (x ∷ fills) f = drawn_all-push (drawn orders x) fills f
+
+pub drawn-at : (orders : List ActiveOrder) (fills : List Fill) (k : ℕ) (f : Fill) → AreDrawn orders fills → k < length fills → f ≡ get_or fills k f → IsDrawn (drawn_all orders (take k fills)) f
+drawn-at orders [] k f are within is = absurd (omega arith)
+drawn-at orders (x ∷ fills) zero f are within is = subst (IsDrawn orders) (sym is) are.0
+drawn-at orders (x ∷ fills) (suc k) f are within is = drawn-at (drawn orders x) fills k f are.1 (omega arith) is

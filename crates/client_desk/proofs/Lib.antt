@@ -7,3 +7,9 @@ pub mod Lots
 pub mod Within
 pub mod Sides
 pub mod Examples
+pub mod Holding
+pub mod Entering
+pub mod UnderWay
+pub mod Ways
+pub mod Pulling
+pub mod Recording

@@ -4,20 +4,15 @@ use Rattle.std.proofs.Math.ListN.{set}
 use Rattle.std.proofs.lemmas.Bool.{cases_Bool, cond-true, cond-false, and_parts, and_from, eqb-true, eq-eqb, false_from_ne_true}
 use Rattle.fx_rules.specs.declared.outcome.Entry.{Entry}
 use Rattle.fx_rules.specs.Lists.{Each}
-use Rattle.fx_rules.specs.Session.{Header, IsSession, sender_places}
+use Rattle.fx_rules.specs.Session.{Header, IsSession}
 use Rattle.fx_rules.specs.State.{State, count_of, opening}
 use Rattle.fx_rules.specs.History.{IsStep, Steps, IsLegal, after_entry, after_all, state}
 use Rattle.fx_rules.specs.Sound.{IsSound}
 use Rattle.fx_rules.proofs.Staying.{changed-counts}
 use Rattle.fx_rules.proofs.Senders.{command-place}
 use Rattle.fx_rules.proofs.Soundness.{after-sound, opening-sound, after_all-push}
+pub use Rattle.client_desk.specs.inside.Numbers.{IsKnown}
 use Rattle.client_desk.specs.Clients.{Tagged, entries_of, owner_in, state_of}
-
--- a number that was given by then
-pub record IsKnown (h : Header) (counts : List ℕ) (bank number : ℕ) : Type 0 where
-  pub sender : bank < sender_places h
-  pub least : 1 ≤ number
-  pub most : number ≤ get_or counts bank 0
 
 set_more : (counts : List ℕ) (i j : ℕ) → get_or counts j 0 ≤ get_or (set counts i (get_or counts i 0 + 1)) j 0
 set_more [] i j = omega arith

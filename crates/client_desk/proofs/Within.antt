@@ -100,7 +100,7 @@ pub record SidesKnown (h : Header) (counts : List ℕ) (f : Fill) : Type 0 where
   pub maker : IsKnown h counts f.maker f.maker_number
   pub taker : IsKnown h counts f.taker f.taker_number
 
-known_more : (h : Header) (S : State) (e : Entry) (bank number : ℕ) → IsKnown h S.counts bank number → IsKnown h (after_entry S e).counts bank number
+pub known_more : (h : Header) (S : State) (e : Entry) (bank number : ℕ) → IsKnown h S.counts bank number → IsKnown h (after_entry S e).counts bank number
 known_more h S e bank number known = record { sender = known.sender; least = known.least; most = omega (arith, known.most, step-more S e bank) }
 
 offers-known : (h : Header) (counts : List ℕ) (orders : List ActiveOrder) (pair bank number lots : ℕ) → Each (λ (a : ActiveOrder). IsKnown h counts a.order.bank a.order.number) orders → Offers orders pair bank number lots → IsKnown h counts bank number
@@ -192,7 +192,7 @@ filter-least g keep (a ∷ orders) =
     (λ _. omega arith) (λ _. omega arith)
 
 -- two orders of one bank and number are one, so a reduction lowers one order
-none-later : (bank number : ℕ) (a : ActiveOrder) (orders : List ActiveOrder) → Each (Rises a) orders → is_order bank number a.order ≡ true → NoneIs bank number orders
+pub none-later : (bank number : ℕ) (a : ActiveOrder) (orders : List ActiveOrder) → Each (Rises a) orders → is_order bank number a.order ≡ true → NoneIs bank number orders
 none-later bank number a orders rising is =
     Each-weaker (Rises a) (λ (b : ActiveOrder). is_order bank number b.order ≡ false)
     (λ b before. false_from_ne_true (is_order bank number b.order)
@@ -200,6 +200,16 @@ none-later bank number a orders rising is =
     let one = is_order-says bank number a.order is in
     let other = is_order-says bank number b.order also in
     before.number (one.0 ∙ sym other.0) (one.1 ∙ sym other.1))) orders rising
+
+-- the first of two is not of the second's number
+pub not-first : (bank number : ℕ) (b a : ActiveOrder) (orders : List ActiveOrder) → Each (Rises b) orders → Among a orders → is_order bank number a.order ≡ true → is_order bank number b.order ≡ false
+not-first bank number b a orders rising there is =
+    false_from_ne_true (is_order bank number b.order)
+    (λ also.
+    let before : Rises b a = Each-among (Rises b) orders a rising there in
+    let one = is_order-says bank number b.order also in
+    let other = is_order-says bank number a.order is in
+    before.number (one.0 ∙ sym other.0) (one.1 ∙ sym other.1))
 
 reduced-none : (bank number left : ℕ) (orders : List ActiveOrder) → NoneIs bank number orders → reduced bank number left orders ≡ orders
 reduced-none bank number left [] none = refl
@@ -288,7 +298,7 @@ reduced-least h S own c pair bank number left sound some found =
     subst (λ (os : List ActiveOrder). reserved_of h own c os ≤ reserved_of h own c S.orders) (sym same)
     (by-worth h own c (lowered bank number (found.active.order.left - left) S.orders) S.orders (omega arith))
 
-reduced-some : (h : Header) (S : State) (bank pair number lots left : ℕ) → IsCommand h bank (Reduce pair number lots) → Reduced left ≡ reduce_answer lots (order_of S pair bank number) → 1 ≤ left
+pub reduced-some : (h : Header) (S : State) (bank pair number lots left : ℕ) → IsCommand h bank (Reduce pair number lots) → Reduced left ≡ reduce_answer lots (order_of S pair bank number) → 1 ≤ left
 reduced-some h S bank pair number lots left command is =
     let same : left ≡ lots = reduced_to lots left (order_of S pair bank number) is in omega (arith, command.values.2.0)
 
@@ -308,7 +318,7 @@ settled-least h S own c bank number command outcome sound valid is = omega arith
 -- ---- owners, one entry later
 
 -- an order other than the entry's has the owner that it had
-own-same : (ts : List Tagged) (t : Tagged) (bank number : ℕ) → (t.entry.bank ≡ bank → t.entry.number ≡ number → ⊥) → owner_in (ts ++ t ∷ []) bank number ≡ owner_in ts bank number
+pub own-same : (ts : List Tagged) (t : Tagged) (bank number : ℕ) → (t.entry.bank ≡ bank → t.entry.number ≡ number → ⊥) → owner_in (ts ++ t ∷ []) bank number ≡ owner_in ts bank number
 own-same ts t bank number differ =
     owner-push-other ts t bank number (false_from_ne_true (eqb t.entry.bank bank && eqb t.entry.number number)
     (λ is.
@@ -347,11 +357,11 @@ filled-same h ts t c next known =
 
 -- ---- the limit
 
-is_client-says : (who : Option ℕ) (c : ℕ) → is_client who c ≡ true → who ≡ Some c
+pub is_client-says : (who : Option ℕ) (c : ℕ) → is_client who c ≡ true → who ≡ Some c
 is_client-says None c is = cc
 is_client-says (Some who) c is = ap Some (eqb-true who c is)
 
-short-not : (free units : ℕ) → cond (ltb free units) (Short free) Pass ≡ Pass → units ≤ free
+pub short-not : (free units : ℕ) → cond (ltb free units) (Short free) Pass ≡ Pass → units ≤ free
 short-not free units is =
     elim (cases_Bool (ltb free units)) [
       | inl less ↦ let no : Short free ≡ Pass = sym (cond-true (ltb free units) (Short free) Pass less) ∙ is in cc

@@ -40,6 +40,9 @@ pub record Tagged : Type 0 where
   pub who : Option ℕ
   pub entry : Entry
 
+abbrev pub tag : Option ℕ → Entry → Tagged
+tag client of = record { who = client; entry = of }
+
 abbrev pub entries_of : List Tagged → List Entry
 entries_of tagged = map (λ t. t.entry) tagged
 

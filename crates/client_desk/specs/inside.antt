@@ -1,1 +1,4 @@
 pub mod Books
+pub mod Changes
+pub mod Numbers
+pub mod UnderWay

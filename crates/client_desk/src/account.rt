@@ -1,5 +1,6 @@
-ghost use Rattle.std.specs.Prelude.{◌≡◌, ◌-◌, ◌≤◌, ◌+◌};
+ghost use Rattle.std.specs.Prelude.{◌≡◌, ◌-◌, ◌≤◌, ◌+◌, ◌^◌};
 ghost use Rattle.client_desk.specs.Standing.{no_sums};
+ghost use Rattle.client_desk.specs.inside.Changes.{filled_sums, released_sums, reserved_sums};
 
 use fx_amounts::Units;
 use std::marker::Model;
@@ -58,5 +59,30 @@ impl Account {
             .saturating_sub(self.filled)
             .saturating_sub(self.reserved);
         Units::new(free).unwrap()
+    }
+
+    /// Reserves credit units.
+    pub(crate) fn reserve(&mut self, units: u64)
+        requires room { self.old.filled + self.old.reserved + units ≤ 10 ^ 15 }
+        ensures value { self.new ≡ reserved_sums self.old units }
+    {
+        self.reserved += units;
+    }
+
+    /// Reserves so many credit units less.
+    pub(crate) fn release(&mut self, units: u64)
+        requires most { units ≤ self.old.reserved }
+        ensures value { self.new ≡ released_sums self.old units }
+    {
+        self.reserved -= units;
+    }
+
+    /// So many credit units that were reserved are filled.
+    pub(crate) fn fill(&mut self, units: u64)
+        requires most { units ≤ self.old.reserved }
+        ensures value { self.new ≡ filled_sums self.old units }
+    {
+        self.reserved -= units;
+        self.filled += units;
     }
 }

@@ -18,13 +18,13 @@ use std::marker::Model;
 /// owners, the sums and the resting orders that it keeps.
 #[derive(Debug, Drop)]
 pub struct ClientBook {
-    clients: Vec<Client>,
+    pub(crate) clients: Vec<Client>,
     /// Credit units a lot, by pair.
-    weights: Vec<u32>,
+    pub(crate) weights: Vec<u32>,
     /// By client.
-    accounts: Vec<Account>,
+    pub(crate) accounts: Vec<Account>,
     /// By sender.
-    rows: Vec<SlotRow>,
+    pub(crate) rows: Vec<SlotRow>,
 }
 
 impl Model for ClientBook {

@@ -12,6 +12,7 @@ mod book;
 mod client;
 mod laws;
 mod line;
+mod record;
 mod rows;
 
 pub use ask::Ask;
