@@ -1,6 +1,7 @@
 pub mod FieldTexts
 pub mod Printed
 pub mod SaidCommands
+pub mod SaidFaults
 pub mod SaidFields
 pub mod SaidLines
 pub mod SpelledFields
