@@ -85,7 +85,7 @@ fn told_to_a_reader<R: AllocGlobal + Wait>(
     Ok(text)
 }
 
-/// The same of a day of one command.
+/// What the looks of ALFA find beside a feed to which the entry of a day of one command is appended.
 fn told_of_a_day<R: AllocGlobal + Wait>(rt: &R, day: &[u8]) -> Result<Vec<u8>, Fail> {
     let alloc = rt.alloc();
     let (session, sent) = day_of(alloc, day)?;
