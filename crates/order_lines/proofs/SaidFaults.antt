@@ -106,5 +106,5 @@ command_said-fault h sender fields fault read = subst (λ (said : Result Command
 -- and of a journal's
 pub fault_of-plain : (number : ℕ) (fault : Reject) → fault_of number ≡ Some fault → IsPlainCommand (command.Bad fault)
 fault_of-plain number fault found =
-    Each-among (λ (one : Reject). IsPlainCommand (command.Bad one)) faults fault (tt, tt, tt, tt, tt, tt, tt, tt, tt, tt, tt, tt)
+    Each-among (λ (one : Reject). IsPlainCommand (command.Bad one)) faults fault (tt, (tt, (tt, (tt, (tt, (tt, (tt, (tt, (tt, (tt, (tt, tt)))))))))))
     (find-says (λ (one : Reject). eqb (code_of one) number) faults fault found).0
