@@ -108,7 +108,7 @@ module _ (banks : ℕ) (numbers : List (Option ℕ)) (entries : Entries) (spare 
     pub rows_within : (rows : OwnRows) → slice_get (values_of entries) number ≡ Some rows → bank < length (rows_of entries banks)
     rows_within rows value = omega (arith, number_below rows value, length-rows_of entries banks)
 
-  pub none_reads : bank < 64 → get_or numbers bank None ≡ None → get_or (rows_of entries banks) bank no_rows ≡ no_rows
+  pub none_reads : bank < 65 → get_or numbers bank None ≡ None → get_or (rows_of entries banks) bank no_rows ≡ no_rows
   none_reads small none =
       elim (cases_lt bank banks) [
         | inl below ↦ read_bank entries banks bank no_rows below ∙ ap (λ (o : Option OwnRows). unwrap_or o no_rows) (are.unnamed bank small none)
@@ -256,14 +256,14 @@ module _ {S : Type 0} (banks : ℕ) (numbers : List (Option ℕ)) (map : IndexMa
     rows_are = rows_written banks numbers map are number rows' bank rows key value;
   }
 
-  pub writes : (found : ℕ) → bank < 64 → get_or numbers bank None ≡ Some found → number ≡ found → slice_get (values_of map.entries) number ≡ Some rows → Writes banks numbers map (with_value_at map number rows') bank rows rows'
+  pub writes : (found : ℕ) → bank < 65 → get_or numbers bank None ≡ Some found → number ≡ found → slice_get (values_of map.entries) number ≡ Some rows → Writes banks numbers map (with_value_at map number rows') bank rows rows'
   writes found small has number_is value = writes_key (ap (slice_get (keys_of map.entries)) number_is ∙ are.named bank found small has) value
 
-  pub key_within : (found : ℕ) → bank < 64 → get_or numbers bank None ≡ Some found → number ≡ found → number < length map.entries
+  pub key_within : (found : ℕ) → bank < 65 → get_or numbers bank None ≡ Some found → number ≡ found → number < length map.entries
   key_within found small has number_is = omega (arith, number_is, number_within banks numbers map.entries (spare map) are bank found (are.named bank found small has))
 
 -- a bank with a place, or with room for one, has a number
-pub has_number : (banks : ℕ) (numbers : List (Option ℕ)) (entries : Entries) (spare bank at : ℕ) → AreNumbered banks numbers entries spare → at ≡ bank → at < 64 → ((get_or (rows_of entries banks) bank no_rows ≡ no_rows) → ⊥) → is_some (get_or numbers at None) ≡ true
+pub has_number : (banks : ℕ) (numbers : List (Option ℕ)) (entries : Entries) (spare bank at : ℕ) → AreNumbered banks numbers entries spare → at ≡ bank → at < 65 → ((get_or (rows_of entries banks) bank no_rows ≡ no_rows) → ⊥) → is_some (get_or numbers at None) ≡ true
 has_number banks numbers entries spare bank at are same small some = by (get_or numbers at None) refl
   where
     by : (o : Option ℕ) → get_or numbers at None ≡ o → is_some o ≡ true
@@ -341,19 +341,19 @@ module _ (owners new : List OwnRows) (bank : ℕ) (within : bank < length owners
       })
 
 -- No owner has come.
-none_at : (bank : ℕ) → get_or (replicate 64 None) bank (let none : Option ℕ = None in none) ≡ None
+none_at : (bank : ℕ) → get_or (replicate 65 None) bank (let none : Option ℕ = None in none) ≡ None
 none_at bank =
-    elim (cases_lt bank 64) [
-      | inl below ↦ get_or-replicate 64 bank None None below
-      | inr past ↦ get_or_past (replicate 64 None) bank None (omega (arith, past, length-replicate {A = Option ℕ} 64 None))
+    elim (cases_lt bank 65) [
+      | inl below ↦ get_or-replicate 65 bank None None below
+      | inr past ↦ get_or_past (replicate 65 None) bank None (omega (arith, past, length-replicate {A = Option ℕ} 65 None))
     ]
 
-pub numbered_none : (banks : ℕ) (numbers : List (Option ℕ)) (entries : Entries) (spare : ℕ) → banks ≤ 64 → numbers ≡ replicate 64 None → entries ≡ [] → IsDistinct nat_eq (keys_of entries) → banks ≤ spare → AreNumbered banks numbers entries spare
+pub numbered_none : (banks : ℕ) (numbers : List (Option ℕ)) (entries : Entries) (spare : ℕ) → banks ≤ 65 → numbers ≡ replicate 65 None → entries ≡ [] → IsDistinct nat_eq (keys_of entries) → banks ≤ spare → AreNumbered banks numbers entries spare
 numbered_none banks numbers entries spare few numbers_are none apart room =
     let lacks : (bank : ℕ) → get_or numbers bank None ≡ None = λ bank. ap (λ (ns : List (Option ℕ)). get_or ns bank None) numbers_are ∙ none_at bank in
     record {
       few = few;
-      size = ap (λ (ns : List (Option ℕ)). length ns) numbers_are ∙ length-replicate {A = Option ℕ} 64 None;
+      size = ap (λ (ns : List (Option ℕ)). length ns) numbers_are ∙ length-replicate {A = Option ℕ} 65 None;
       named = λ bank number small has. absurd (true≢false (ap is_some (sym has ∙ lacks bank)));
       unnamed = λ bank small has. ap (lookup (nat_eq bank)) none;
       apart = apart;

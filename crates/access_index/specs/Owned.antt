@@ -17,9 +17,9 @@ no_rows = record { bids = record { side = Buy; places = []; room = 0 }; asks = r
 abbrev pub row_at : List OwnRows → ℕ → Side → Ladder
 row_at owners bank side = row_of (slice_index_or owners bank no_rows) side
 
--- the rows are those of their sides, of 64 banks at most, each with its places in order
+-- the rows are those of their sides, of 65 owners at most, each with its places in order
 pub record AreOwned (owners : List OwnRows) : Type 0 where
-  pub few : length owners ≤ 64
+  pub few : length owners ≤ 65
   pub sides : (bank : ℕ) (side : Side) → (row_at owners bank side).side ≡ side
   pub sorted : (bank : ℕ) (side : Side) → IsSorted side (row_at owners bank side).places
 

@@ -25,12 +25,12 @@ use std::sync::ledger::Ledger;
 /// For each bank the places of its orders in one pair.
 #[derive(Debug, Drop)]
 pub struct Owners {
-    /// How many banks there can be, 64 at most.
+    /// How many owners there can be, 65 at most.
     banks: usize,
     /// The places of each owner, numbered in the order in which the owners came. There is room for all banks, and none is taken out.
     rows: IndexMap<BankId, Sides>,
     /// The number of each bank that has one, so that none of them is looked for by its hash.
-    numbers: [Option<u8>; BankId::COUNT],
+    numbers: [Option<u8>; BankId::SENDERS],
     /// The banks that have a place, from the lowest number on. There is room for all.
     listed: Vec<BankId>,
     fronts: Fronts,
@@ -50,13 +50,13 @@ impl Model for Owners {
 }
 
 impl Owners {
-    /// No places, for so many banks, 64 at most. `Memory` when out of memory.
+    /// No places, for so many owners, 65 at most. `Memory` when out of memory.
     pub fn new(alloc: Global, banks: usize) -> Result<Owners, Memory>
-        ensures count { IfOk result (λ owners. length owners ≡ min banks 64) }
+        ensures count { IfOk result (λ owners. length owners ≡ min banks 65) }
         ensures empty { IfOk result (λ owners. (bank : ℕ) (side : OneSide) → (row_at owners bank side).places ≡ []) }
         ensures valid { IfOk result AreOwned }
     {
-        let banks = banks.min(BankId::COUNT);
+        let banks = banks.min(BankId::SENDERS);
         let rows = IndexMap::with_capacity(alloc, banks)?;
         let fronts = Fronts::none(alloc, banks)?;
         let mut listed = Vec::new(alloc);
@@ -64,7 +64,7 @@ impl Owners {
         Ok(Owners {
             banks,
             rows,
-            numbers: [None; BankId::COUNT],
+            numbers: [None; BankId::SENDERS],
             listed,
             fronts,
         })
@@ -216,7 +216,7 @@ impl Owners {
 /// The number of a bank, which it is given where it has none. There is room for each of so many banks, so that it takes no memory.
 fn number_of(
     banks: usize,
-    numbers: &mut [Option<u8>; BankId::COUNT],
+    numbers: &mut [Option<u8>; BankId::SENDERS],
     rows: &mut IndexMap<BankId, Sides>,
     bank: BankId,
 ) -> usize

@@ -50,6 +50,7 @@ impl HeadWords {
 
     /// Writes down the best order of a bank.
     pub fn set(&mut self, bank: BankId, head: Option<Head>)
+        requires bank { bank < 64 }
         requires head { IfSome head IsHead }
         ensures { self.new ≡ slice_set self.old bank head }
     {
@@ -80,6 +81,7 @@ impl HeadWords {
 
 /// The word of the best order of a bank.
 fn word_of(head: Head, bank: BankId) -> u64
+    requires bank { bank < 64 }
     requires head { IsHead head }
     ensures word { result ≡ word_of head bank }
     ensures some { result < 2 ^ 64 - 1 }

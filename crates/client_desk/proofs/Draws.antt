@@ -5,17 +5,17 @@ use Rattle.fx_rules.specs.declared.orders.ActiveOrder.{ActiveOrder}
 use Rattle.fx_rules.specs.declared.orders.Resting.{Resting}
 use Rattle.fx_rules.specs.declared.orders.Fill.{Fill}
 use Rattle.fx_rules.specs.declared.command.Command.{Command}
-use Rattle.fx_rules.specs.declared.command.Command.TheVariants.{Order, Cancel, Reduce, Pull, Line, Show, Book, Bad}
+use Rattle.fx_rules.specs.declared.command.Command.TheVariants.{Order, Cancel, Reduce, Pull, Line, Total, Settle, Show, Book, Bad}
 use Rattle.fx_amounts.specs.declared.side.Side.{Side}
 use Rattle.fx_rules.specs.declared.command.Life.{Life}
 use Rattle.fx_rules.specs.declared.command.Life.TheVariants.{Day, Ioc, Fok}
 use Rattle.fx_rules.specs.declared.outcome.Outcome.{Outcome}
-use Rattle.fx_rules.specs.declared.outcome.Outcome.TheVariants.{Ordered, Killed, LineSet, Depth}
+use Rattle.fx_rules.specs.declared.outcome.Outcome.TheVariants.{Ordered, Killed, LineSet, TotalSet, Settled, Depth}
 use Rattle.fx_rules.specs.Lists.{Among, Each, EachPair}
 use Rattle.fx_rules.specs.Session.{Header, IsSession, bank_count, pair_count, weight_of}
 use Rattle.fx_rules.specs.State.{State, reach, orders_in, count_of}
 use Rattle.fx_rules.specs.Sweep.{Taker, Swept, is_order, lowered, with_left, amount, fill_with, less, filled, filled_all, at_rest, taker_of}
-use Rattle.fx_rules.specs.Raise.{limited, order_of, taker_of_resting, Turned, PairsTurned}
+use Rattle.fx_rules.specs.Raise.{limited, totalled, settled, order_of, taker_of_resting, Turned, PairsTurned}
 use Rattle.fx_rules.specs.Step.{IsCommand, IsOrdered, IsOutcome, fills_of}
 use Rattle.fx_rules.specs.Sound.{IsSound, IsKept, Rises}
 use Rattle.fx_rules.proofs.ListLemmas.{Each-among, Each-weaker}
@@ -23,7 +23,7 @@ use Rattle.fx_rules.proofs.Credit.{IsAllowed}
 use Rattle.fx_rules.proofs.Opens.{IsMaker, maker_of, allowed-open}
 use Rattle.fx_rules.proofs.Lowering.{is_order-says, is_order-from, Each-lowered}
 use Rattle.fx_rules.proofs.SweepSound.{filled-sound, weight_of-least}
-use Rattle.fx_rules.proofs.RaiseSound.{turns-walk, turned-sound, limited-sound, turn-sender}
+use Rattle.fx_rules.proofs.RaiseSound.{turns-walk, turned-sound, limited-sound, totalled-sound, settled-sound, turn-sender}
 use Rattle.fx_rules.proofs.Falling.{cancel_fills, reduce_fills}
 use Rattle.client_desk.specs.Draws.{Offers, drawn, drawn_all, IsDrawn, AreDrawn, coming_in, FillsAreDrawn}
 
@@ -371,6 +371,17 @@ line-drawn h S bank other asked (LineSet limit fills) session sound command is =
     (limited-sound h S bank other asked limit sound command.sends command.values.0 command.values.1 command.values.2 is.0) is.1
 line-drawn h S bank other asked outcome session sound command is = absurd is
 
+total-drawn : (h : Header) (S : State) (bank asked : ℕ) (outcome : Outcome) → IsSession h → IsSound h S → IsCommand h bank (Total asked) → IsOutcome h S bank (Total asked) outcome → AreDrawn S.orders (fills_of outcome)
+total-drawn h S bank asked (TotalSet most fills) session sound command is =
+    pairs-drawn h (pair_count h) 0 (totalled bank most S) fills session (omega arith)
+    (totalled-sound h S bank asked most session sound command.sends.0 command.sends.1 command.values is.0) is.1
+total-drawn h S bank asked outcome session sound command is = absurd is
+
+settle-drawn : (h : Header) (S : State) (sender a b asked : ℕ) (outcome : Outcome) → IsSession h → IsSound h S → IsCommand h sender (Settle a b asked) → IsOutcome h S sender (Settle a b asked) outcome → AreDrawn S.orders (fills_of outcome)
+settle-drawn h S sender a b asked (Settled given fills) session sound command is =
+    pairs-drawn h (pair_count h) 0 (settled a b given S) fills session (omega arith) (settled-sound h S a b asked given sound command.sends.0 is.0) is.1
+settle-drawn h S sender a b asked outcome session sound command is = absurd is
+
 book-drawn : (h : Header) (S : State) (bank pair : ℕ) (outcome : Outcome) → IsOutcome h S bank (Book pair) outcome → AreDrawn S.orders (fills_of outcome)
 book-drawn h S bank pair (Depth bids asks) is = tt
 book-drawn h S bank pair outcome is = absurd is
@@ -386,6 +397,8 @@ outcome-drawn h S bank (Reduce pair number lots) outcome session sound command i
     nothing-drawn (S.orders ++ []) outcome (ap fills_of is ∙ reduce_fills lots (order_of S pair bank number))
 outcome-drawn h S bank (Pull pair) outcome session sound command is = nothing-drawn (S.orders ++ []) outcome (ap fills_of is)
 outcome-drawn h S bank (Line other asked) outcome session sound command is = plain S (fills_of outcome) (line-drawn h S bank other asked outcome session sound command is)
+outcome-drawn h S bank (Total asked) outcome session sound command is = plain S (fills_of outcome) (total-drawn h S bank asked outcome session sound command is)
+outcome-drawn h S bank (Settle a b asked) outcome session sound command is = plain S (fills_of outcome) (settle-drawn h S bank a b asked outcome session sound command is)
 outcome-drawn h S bank (Show other) outcome session sound command is = nothing-drawn (S.orders ++ []) outcome (ap fills_of is)
 outcome-drawn h S bank (Book pair) outcome session sound command is = plain S (fills_of outcome) (book-drawn h S bank pair outcome is)
 outcome-drawn h S bank (Bad reason) outcome session sound command is = nothing-drawn (S.orders ++ []) outcome (ap fills_of is)

@@ -5,7 +5,7 @@ use Rattle.fx_amounts.specs.declared.side.Side.{Side}
 use Rattle.fx_amounts.specs.declared.side.Side.TheVariants.{Buy, Sell}
 use Rattle.fx_rules.specs.declared.orders.Fill.{Fill}
 use Rattle.fx_rules.specs.declared.command.Command.{Command}
-use Rattle.fx_rules.specs.declared.command.Command.TheVariants.{Order, Cancel, Reduce, Pull, Line, Show, Book, Bad}
+use Rattle.fx_rules.specs.declared.command.Command.TheVariants.{Order, Cancel, Reduce, Pull, Line, Total, Settle, Show, Book, Bad}
 use Rattle.fx_rules.specs.declared.command.Reject.TheVariants as reject
 use Rattle.fx_rules.specs.declared.command.Life.TheVariants.{Day, Ioc}
 use Rattle.fx_rules.specs.declared.outcome.Outcome.{Outcome}
@@ -20,7 +20,7 @@ abbrev pair : PairRule
 pair = record { base = []; quote = []; decimals = 5; lot = 1000000; weight = 100 }
 
 abbrev header : Header
-header = record { banks = [] ∷ [] ∷ []; pairs = pair ∷ []; limits = 0 ∷ 200 ∷ 200 ∷ 0 ∷ [] }
+header = record { version = 1; banks = [] ∷ [] ∷ []; pairs = pair ∷ []; limits = 0 ∷ 200 ∷ 200 ∷ 0 ∷ []; totals = [] }
 
 abbrev client : ℕ → ℕ → Client
 client bank limit = record { bank = bank; name = []; limit = limit }
@@ -82,6 +82,9 @@ no_order = refl
 
 barred : (ask_of header clients morning 0 (Pull 0) ≡ Barred) × (ask_of header clients morning 0 (Line 1 5) ≡ Barred) × (ask_of header clients morning 0 (Show 1) ≡ Barred)
 barred = (refl, refl, refl)
+
+barred_later : (ask_of header clients morning 0 (Total 5) ≡ Barred) × (ask_of header clients morning 0 (Settle 0 1 5) ≡ Barred)
+barred_later = (refl, refl)
 
 passes : (ask_of header clients morning 0 (Book 0) ≡ Pass) × (ask_of header clients morning 0 (Bad reject.Word) ≡ Pass)
 passes = (refl, refl)

@@ -5,16 +5,17 @@ use Rattle.fx_amounts.specs.declared.side.Side.{Side}
 use Rattle.fx_rules.specs.declared.orders.ActiveOrder.{ActiveOrder}
 use Rattle.fx_rules.specs.declared.orders.Resting.{Resting}
 use Rattle.fx_rules.specs.declared.command.Command.{Command}
-use Rattle.fx_rules.specs.declared.command.Command.TheVariants.{Order, Cancel, Reduce, Pull, Line, Show, Book, Bad}
+use Rattle.fx_rules.specs.declared.command.Command.TheVariants.{Order, Cancel, Reduce, Pull, Line, Total, Settle, Show, Book, Bad}
 use Rattle.fx_rules.specs.declared.command.Life.{Life}
 use Rattle.fx_rules.specs.declared.command.Life.TheVariants.{Day, Ioc, Fok}
 use Rattle.fx_rules.specs.declared.outcome.Outcome.{Outcome}
-use Rattle.fx_rules.specs.declared.outcome.Outcome.TheVariants.{Ordered, Killed, Cancelled, Reduced, Pulled, LineSet, Depth}
+use Rattle.fx_rules.specs.declared.outcome.Outcome.TheVariants.{Ordered, Killed, Cancelled, Reduced, Pulled, LineSet, TotalSet, Settled, Depth}
 use Rattle.fx_rules.specs.Lists.{Among, EachPair}
 use Rattle.fx_rules.specs.Session.{Header, IsSession}
 use Rattle.fx_rules.specs.State.{State, orders_in, count_of}
 use Rattle.fx_rules.specs.Sweep.{Taker, is_order, filled_all, at_rest, taker_of}
-use Rattle.fx_rules.specs.Raise.{limited, order_of}
+use Rattle.fx_rules.specs.Raise.{limited, totalled, order_of}
+use Rattle.fx_rules.specs.Raise as raise
 use Rattle.fx_rules.specs.Step.{IsCommand, IsOrdered, IsOutcome, fills_of, rested, changed, cancel_answer, without_order, reduced, without_orders}
 use Rattle.fx_rules.specs.Sound.{IsSound, Rises}
 use Rattle.fx_rules.proofs.ListLemmas.{Each-among, filter_agree_on, filter_cons_true, filter_cons_false}
@@ -145,6 +146,12 @@ outcome-settles h S bank (Pull pair) outcome session sound command is = nothing-
 outcome-settles h S bank (Line other asked) (LineSet limit fills) session sound command is =
     filled_all-drawn (limited bank other limit S) fills ∙ ap (λ (os : List ActiveOrder). drawn_all os fills) (sym (append-nil S.orders))
 outcome-settles h S bank (Line other asked) outcome session sound command is = absurd is
+outcome-settles h S bank (Total asked) (TotalSet most fills) session sound command is =
+    filled_all-drawn (totalled bank most S) fills ∙ ap (λ (os : List ActiveOrder). drawn_all os fills) (sym (append-nil S.orders))
+outcome-settles h S bank (Total asked) outcome session sound command is = absurd is
+outcome-settles h S bank (Settle a b asked) (Settled given fills) session sound command is =
+    filled_all-drawn (raise.settled a b given S) fills ∙ ap (λ (os : List ActiveOrder). drawn_all os fills) (sym (append-nil S.orders))
+outcome-settles h S bank (Settle a b asked) outcome session sound command is = absurd is
 outcome-settles h S bank (Show other) outcome session sound command is = nothing-made S outcome (ap fills_of is)
 outcome-settles h S bank (Book pair) (Depth bids asks) session sound command is = sym (append-nil S.orders)
 outcome-settles h S bank (Book pair) outcome session sound command is = absurd is

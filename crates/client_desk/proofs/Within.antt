@@ -45,6 +45,11 @@ passed-last h clients before (x ∷ ts) t passed =
     let rest = passed-last h clients (before ++ x ∷ []) ts t passed.1 in
     ((passed.0, rest.0), subst (λ (bs : List Tagged). HasPassed h clients bs t) (append_assoc before (x ∷ []) ts) rest.1)
 
+passed-push : (h : Header) (clients : List Client) (before ts : List Tagged) (t : Tagged) → PassedAfter h clients before ts → HasPassed h clients (before ++ ts) t → PassedAfter h clients before (ts ++ t ∷ [])
+passed-push h clients before [] t passed last = (subst (λ (bs : List Tagged). HasPassed h clients bs t) (append-nil before) last, tt)
+passed-push h clients before (x ∷ ts) t passed last =
+    (passed.0, passed-push h clients (before ++ x ∷ []) ts t passed.1 (subst (λ (bs : List Tagged). HasPassed h clients bs t) (sym (append_assoc before (x ∷ []) ts)) last))
+
 passed-first : (h : Header) (clients : List Client) (before ts us : List Tagged) → PassedAfter h clients before (ts ++ us) → PassedAfter h clients before ts
 passed-first h clients before [] us passed = tt
 passed-first h clients before (x ∷ ts) us passed = (passed.0, passed-first h clients (before ++ x ∷ []) ts us passed.1)
@@ -61,6 +66,14 @@ tagged-first h clients ts us tagged = record {
   };
   tags = Each-first (IsTagOf clients) ts us tagged.tags;
   passed = passed-first h clients [] ts us tagged.passed;
+}
+
+-- a tagged history goes on by an entry that is legal next, of a client whose command passed or of none
+pub tagged-push : (h : Header) (clients : List Client) (ts : List Tagged) (t : Tagged) → IsTagged h clients ts → IsLegal h (entries_of (ts ++ t ∷ [])) → IsTagOf clients t → HasPassed h clients ts t → IsTagged h clients (ts ++ t ∷ [])
+tagged-push h clients ts t tagged legal tag passed = record {
+  legal = legal;
+  tags = Each-append (IsTagOf clients) ts (t ∷ []) tagged.tags (tag, tt);
+  passed = passed-push h clients [] ts t tagged.passed passed;
 }
 
 -- the last entry of a tagged history

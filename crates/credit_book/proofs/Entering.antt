@@ -2,12 +2,12 @@
 use Rattle.std.proofs.Common.{ℕ, ◌≡◌, ◌+◌, ◌<◌, ◌^◌, true, false, List, [], ◌∷◌, ◌++◌, length, get_or, refl, ap, sym, subst, ◌∙◌, arith}
 use mathlib.Core.List.{IsPrefix}
 use Rattle.fx_rules.specs.declared.command.Command.{Command}
-use Rattle.fx_rules.specs.declared.command.Command.TheVariants.{Order, Cancel, Reduce, Pull, Line, Show, Book, Bad}
+use Rattle.fx_rules.specs.declared.command.Command.TheVariants.{Order, Cancel, Reduce, Pull, Line, Total, Settle, Show, Book, Bad}
 use Rattle.fx_rules.specs.declared.outcome.Outcome.{Outcome}
 use Rattle.fx_rules.specs.declared.outcome.Entry.{Entry}
-use Rattle.fx_rules.specs.Session.{Header, sender_places}
+use Rattle.fx_rules.specs.Session.{Header}
 use Rattle.fx_rules.specs.State.{count_of}
-use Rattle.fx_rules.specs.Step.{IsCommand, AreValues, IsOutcome}
+use Rattle.fx_rules.specs.Step.{IsCommand, IsOutcome}
 use Rattle.fx_rules.specs.History.{IsLegal, state, own}
 use Rattle.fx_rules.specs.Keyed.{is_about, touches_key}
 use Rattle.fx_rules.proofs.Soundness.{legal-sound, legal-push, after_all-push}
@@ -20,7 +20,6 @@ use Rattle.fx_chronicle.specs.Touching.{touched, pends, without}
 use Rattle.fx_chronicle.specs.Faces.{Chronicle, Witness, witness}
 use Rattle.fx_chronicle.proofs.Pending.{pends-touched, signed_by_one}
 use Rattle.fx_desk.specs.Submitting.{next_own}
-use Rattle.fx_desk.proofs.Sending.{pass-command}
 use Rattle.fx_rules.specs.declared.sender.Sender.{Sender}
 use Rattle.fx_rules.specs.Sending.{IsNextIn, entry_of}
 use Rattle.credit_table.specs.Table.{Table, IsNextOf, FollowsOn, AnswersEach, is_of_no_pair}
@@ -76,6 +75,8 @@ about_no_pair (Cancel pair number) key is = cc
 about_no_pair (Reduce pair number lots) key is = cc
 about_no_pair (Pull pair) key is = cc
 about_no_pair (Line bank limit) key is = cc
+about_no_pair (Total limit) key is = cc
+about_no_pair (Settle a b units) key is = cc
 about_no_pair (Book pair) key is = cc
 
 -- and nobody else, where its command is about no pair
@@ -87,16 +88,12 @@ signed_alone book new entry key new_is bank_is no_pair =
 
 -- ---- a command served
 
--- the pass's bank may send it
-pub sends : (h : Header) (sender : Sender) (key : ℕ) (command : Command) → sender.bank ≡ key → sender.bank < sender_places h → AreValues h key command → IsCommand h sender.bank command
-sends h sender key command bank_is place values = pass-command h sender.bank command place (subst (λ b. AreValues h b command) (sym bank_is) values)
-
 -- the entry of a bank's next command with the market's outcome goes on the history
-pub goes_on : (h : Header) (entries : List Entry) (sender : Sender) (key : ℕ) (command : Command) (outcome copy : Outcome) → IsLegal h entries → IsNextIn (state h entries) sender → sender.bank ≡ key → sender.bank < sender_places h → sender.number < 2 ^ 32 → AreValues h key command
+pub goes_on : (h : Header) (entries : List Entry) (sender : Sender) (key : ℕ) (command : Command) (outcome copy : Outcome) → IsLegal h entries → IsNextIn (state h entries) sender → sender.bank ≡ key → sender.number < 2 ^ 32 → IsCommand h key command
     → IsOutcome h (state h entries) sender.bank command outcome → copy ≡ outcome → IsLegal h (entries ++ entry_of sender command copy ∷ [])
-goes_on h entries sender key command outcome copy legal next bank_is place most values is copied =
+goes_on h entries sender key command outcome copy legal next bank_is most valid is copied =
     legal-push h entries (entry_of sender command copy) legal (record {
-      command = sends h sender key command bank_is place values;
+      command = subst (λ b. IsCommand h b command) (sym bank_is) valid;
       number = next.number;
       number_most = most;
       outcome = subst (IsOutcome h (state h entries) sender.bank command) (sym copied) is;
@@ -110,10 +107,10 @@ pub legal_after : (h : Header) (was now : Recorded) (entry : Entry) → now.hist
 legal_after h was now entry same legal = subst (λ (es : List Entry). IsLegal h (es ++ entry ∷ [])) (sym same) legal
 
 -- the table's answer to a command
-pub answered : (h : Header) (was book : Recorded) (sender : Sender) (key : ℕ) (command : Command) (outcome copy : Outcome) → book ≡ was → IsCreditBook h book → IsNextIn (state h was.history.entries) sender → sender.bank ≡ key → sender.bank < sender_places h → sender.number < 2 ^ 32 → AreValues h key command
+pub answered : (h : Header) (was book : Recorded) (sender : Sender) (key : ℕ) (command : Command) (outcome copy : Outcome) → book ≡ was → IsCreditBook h book → IsNextIn (state h was.history.entries) sender → sender.bank ≡ key → sender.number < 2 ^ 32 → IsCommand h key command
     → AnswersEach book.table sender.bank command outcome → copy ≡ outcome → IsLegal h (was.history.entries ++ entry_of sender command copy ∷ [])
-answered h was book sender key command outcome copy same kept next bank_is place most values answers copied =
-    goes_on h was.history.entries sender key command outcome copy (subst (λ (b : Recorded). IsLegal h b.history.entries) same kept.legal) next bank_is place most values
+answered h was book sender key command outcome copy same kept next bank_is most valid answers copied =
+    goes_on h was.history.entries sender key command outcome copy (subst (λ (b : Recorded). IsLegal h b.history.entries) same kept.legal) next bank_is most valid
     (subst (λ (b : Recorded). IsOutcome h (state h b.history.entries) sender.bank command outcome) same (answers h (state h book.history.entries) kept.stands)) copied
 
 -- `start` and `mid` are history and pass as the entry is made, `before` and `pass` as the call began

@@ -4,7 +4,7 @@ ghost use Rattle.fx_amounts.specs.Quantity.{IsWeight};
 ghost use Rattle.fx_rules.specs.Session.{pair_count, sender_places, weight_of};
 ghost use Rattle.fx_rules.specs.State.{count_of};
 ghost use Rattle.fx_rules.specs.Keyed.{touches_key};
-ghost use Rattle.fx_rules.specs.Step.{AreValues};
+ghost use Rattle.fx_rules.specs.Step.{IsCommand};
 ghost use Rattle.fx_rules.specs.History.{IsLegal, own, state};
 ghost use Rattle.fx_chronicle.specs.Touching.{Untouched, but_last, pends};
 ghost use Rattle.fx_chronicle.specs.Faces.{witness};
@@ -208,7 +208,7 @@ impl<N: Naming> CreditBook<N> {
     /// before anything changes; after `Memory` all is as it was.
     pub fn serve(&mut self, pass: &mut Pass<N>, command: &Command) -> Result<Outcome, Memory>
         requires signed { self.old.history.pending ≡ [] }
-        requires values { AreValues N.session pass.old.key command.now }
+        requires command { IsCommand N.session pass.old.key command.now }
         requires no_pair { is_of_no_pair command.now ≡ true }
         requires few { length (own pass.old.key pass.old.met) < 2 ^ 32 - 1 }
         ensures served { IfOk result (IsServed N.session self.old.history.entries pass.old command.now self.new.history.entries pass.new) }

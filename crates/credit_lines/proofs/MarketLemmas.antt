@@ -1,15 +1,20 @@
--- Credit and states of the market: that the credit of a state stays that of the next one.
-use Rattle.std.proofs.Common.{ℕ, ◌≡◌, ◌≢◌, ◌+◌, ◌*◌, ◌/◌, ◌<◌, true, ◌&&◌, cond, eqb, List, length, [], ◌∷◌, inl, inr, refl, ap, sym, subst, ◌∙◌, arith}
+-- Credit and states of the market: that the credit of a state stays that of the next one. The opening's has no totals for as long as
+-- there is one version.
+use Rattle.std.proofs.Common.{ℕ, ◌≡◌, ◌≢◌, ◌+◌, ◌-◌, ◌*◌, ◌/◌, ◌<◌, Some, None, true, ◌&&◌, cond, eqb, List, length, [], ◌∷◌, inl, inr, refl, ap, sym, subst, ◌∙◌, arith}
 use Rattle.std.proofs.lemmas.Bool.{cases_Bool, and_parts, eqb-true, false≢true}
 use Rattle.std.proofs.lemmas.Bool.Decides.{nat_tests}
 use Rattle.std.specs.Prelude.{slice_set}
 use Rattle.fx_rules.specs.declared.orders.Fill.{Fill}
 use Rattle.std.proofs.lemmas.List.{length-set}
 use Rattle.fx_rules.specs.Lists.{Each}
-use Rattle.fx_rules.specs.Session.{Header, bank_count, weight_of}
-use Rattle.fx_rules.specs.State.{State, opening, is_between, cost, cost_between, used, line, reach, Within}
+use Rattle.fx_rules.specs.Session.{Header, IsSession, bank_count, weight_of}
+use Rattle.fx_rules.specs.State.{State, Settlement, opening, is_between, cost, cost_between, settled_between, used, left_of_limits, line, reach, Within}
+use Rattle.fx_rules.specs.Sound.{IsPlain}
 use Rattle.fx_rules.specs.Sweep.{filled, filled_all}
 use Rattle.fx_rules.specs.Raise as raise
+use Rattle.fx_rules.proofs.Falling.{Terms, terms}
+use Rattle.fx_rules.proofs.Plain.{only_one, plain-covered, plain-filled, plain-line}
+use Rattle.fx_rules.proofs.Soundness.{opening-sound}
 use Rattle.fx_rules.proofs.Credit.{used-filled, cost_between-one, cost_between-other, between_cases, is_between-swap}
 use Rattle.credit_lines.specs.Credit.{Credit, shared_place, limit_in, used_in, line_in, reach_in, opened, taken, limited, IsCredit}
 use Rattle.credit_lines.specs.Market.{StandsFor, taken_by, taken_by_all}
@@ -17,15 +22,33 @@ use Rattle.credit_lines.specs.inside.Market.{IsBetweenBanks}
 use Rattle.credit_lines.proofs.CreditLemmas.{same_two, same_banks, shared_place-swap, used_in-swap, used_in-taken_same, used_in-taken_back, used_in-taken_other, limit_in-limited_same, limit_in-limited_other}
 use Rattle.credit_lines.proofs.OpeningLemmas.{used_in-opened}
 
-pub StandsFor-opened : (h : Header) → StandsFor h (opening h) (opened h)
-StandsFor-opened h = record { banks = refl; limits = λ i j p q differ. refl; uses = λ i j p q differ. used_in-opened h i j p q }
+pub StandsFor-opened : (h : Header) → IsSession h → StandsFor h (opening h) (opened h)
+StandsFor-opened h session = record {
+  banks = refl;
+  limits = λ i j p q differ. refl;
+  uses = λ i j p q differ. used_in-opened h i j p q;
+  plain = (opening-sound h session).plain (only_one h session);
+}
+
+-- use is of fills and settlements alone, and a state has no totals and settlements where another with the same terms has none
+used_same : (h : Header) (S T : State) (i j : ℕ) → terms T ≡ terms S → T.fills ≡ S.fills → used h S i j ≡ used h T i j
+used_same h S T i j same fills =
+    ap (λ (fs : List Fill). cost_between h i j fs - settled_between i j S.settlements) (sym fills)
+    ∙ ap (λ (t : Terms). cost_between h i j T.fills - settled_between i j t.2) (sym same)
+
+plain_same : (S T : State) → terms T ≡ terms S → IsPlain S → IsPlain T
+plain_same S T same plain = record {
+  totals = λ i. ap (λ (t : Terms). t.1 i) same ∙ plain.totals i;
+  settlements = ap (λ (t : Terms). t.2) same ∙ plain.settlements;
+}
 
 -- orders and counts have nothing to do with credit
-pub StandsFor-same : (h : Header) (S T : State) (c : Credit) → ((i j : ℕ) → T.limits i j ≡ S.limits i j) → T.fills ≡ S.fills → StandsFor h S c → StandsFor h T c
-StandsFor-same h S T c limits fills stands = record {
+pub StandsFor-same : (h : Header) (S T : State) (c : Credit) → terms T ≡ terms S → T.fills ≡ S.fills → StandsFor h S c → StandsFor h T c
+StandsFor-same h S T c same fills stands = record {
   banks = stands.banks;
-  limits = λ i j p q differ. stands.limits i j p q differ ∙ sym (limits i j);
-  uses = λ i j p q differ. stands.uses i j p q differ ∙ ap (cost_between h i j) (sym fills);
+  limits = λ i j p q differ. stands.limits i j p q differ ∙ sym (ap (λ (t : Terms). t.0 i j) same);
+  uses = λ i j p q differ. stands.uses i j p q differ ∙ used_same h S T i j same fills;
+  plain = plain_same S T same stands.plain;
 }
 
 -- the reading calls give the market's line and reach
@@ -34,10 +57,14 @@ line_in-line h S c i j stands p q differ =
     let here : limit_in c i j ≡ S.limits i j = stands.limits i j p q differ in
     let there : limit_in c j i ≡ S.limits j i = stands.limits j i q p (λ same. differ (sym same)) in
     let both : used_in c i j ≡ used h S i j = stands.uses i j p q differ in
-    omega arith
+    let left : line_in c i j ≡ left_of_limits h S i j = omega arith in
+    left ∙ sym (plain-line h S i j stands.plain)
 
 pub reach_in-reach : (h : Header) (S : State) (c : Credit) (i j pair : ℕ) → StandsFor h S c → i < bank_count h → j < bank_count h → i ≢ j → reach_in c i j (weight_of h pair) ≡ reach h S i j pair
 reach_in-reach h S c i j pair stands p q differ = ap (λ l. l / weight_of h pair) (line_in-line h S c i j stands p q differ)
+
+no_total_set : {most : ℕ} {P : Type 0} → None ≡ Some most → P
+no_total_set same = cc
 
 -- no line is exceeded in the state
 pub Within-of : (h : Header) (S : State) (c : Credit) → IsCredit c → StandsFor h S c → Within h S
@@ -48,6 +75,7 @@ Within-of h S c valid stands = record {
       let limit : limit_in c i j ≡ S.limits i j = stands.limits i j p q differ in
       let both : used_in c i j ≡ used h S i j = stands.uses i j p q differ in
       omega (arith, valid.within i j first second);
+  totals = λ i most i_in has. no_total_set (sym (stands.plain.totals i) ∙ has);
 }
 
 is_between_banks : (i j : ℕ) (f : Fill) → f.taker ≡ i → f.maker ≡ j → is_between i j f ≡ true
@@ -88,7 +116,8 @@ StandsFor-taken_by h S c f full between stands = record {
   limits = stands.limits;
   uses = λ i j p q differ.
       used_in-taken_by h c f i j full stands.banks between p q
-      ∙ ap (λ u. u + cost_between h i j (f ∷ [])) (stands.uses i j p q differ) ∙ sym (used-filled h S f i j);
+      ∙ ap (λ u. u + cost_between h i j (f ∷ [])) (stands.uses i j p q differ) ∙ sym (used-filled h S f i j (plain-covered h S stands.plain));
+  plain = plain-filled S f stands.plain;
 }
 
 -- Fills in order.
@@ -131,8 +160,9 @@ limit_set-other S i j limit a b differ =
 
 -- A new limit: the credit of the state, with this limit set, is that of a state which differs in it alone.
 pub StandsFor-limited_as : (h : Header) (S T : State) (c : Credit) (i j limit : ℕ) → IsCredit c → StandsFor h S c → i < bank_count h → j < bank_count h
-    → T.limits i j ≡ limit → ((a b : ℕ) → (a ≡ i → b ≡ j → ⊥) → T.limits a b ≡ S.limits a b) → T.fills ≡ S.fills → StandsFor h T (limited c i j limit)
-StandsFor-limited_as h S T c i j limit valid stands first second here others fills =
+    → T.limits i j ≡ limit → ((a b : ℕ) → (a ≡ i → b ≡ j → ⊥) → T.limits a b ≡ S.limits a b)
+    → ((a b : ℕ) → used h S a b ≡ used h T a b) → IsPlain T → StandsFor h T (limited c i j limit)
+StandsFor-limited_as h S T c i j limit valid stands first second here others uses plain =
     let setter : i < c.banks = omega (arith, stands.banks) in
     let other : j < c.banks = omega (arith, stands.banks) in
     record {
@@ -145,9 +175,11 @@ StandsFor-limited_as h S T c i j limit valid stands first second here others fil
                 subst (λ x. P x b) (sym same.0) (subst (P i) (sym same.1) set)
             | inr apart ↦ limit_in-limited_other c i j limit a b other (omega (arith, stands.banks)) apart ∙ stands.limits a b p q differ ∙ sym (others a b apart)
           ];
-      uses = λ a b p q differ. stands.uses a b p q differ ∙ ap (cost_between h a b) (sym fills);
+      uses = λ a b p q differ. stands.uses a b p q differ ∙ uses a b;
+      plain = plain;
     }
 
 pub StandsFor-limited : (h : Header) (S : State) (c : Credit) (i j limit : ℕ) → IsCredit c → StandsFor h S c → i < bank_count h → j < bank_count h → StandsFor h (raise.limited i j limit S) (limited c i j limit)
 StandsFor-limited h S c i j limit valid stands first second =
-    StandsFor-limited_as h S (raise.limited i j limit S) c i j limit valid stands first second (limit_set-same S i j limit) (limit_set-other S i j limit) refl
+    StandsFor-limited_as h S (raise.limited i j limit S) c i j limit valid stands first second (limit_set-same S i j limit) (limit_set-other S i j limit)
+    (λ a b. refl) (record { totals = stands.plain.totals; settlements = stands.plain.settlements })

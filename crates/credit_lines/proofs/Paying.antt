@@ -2,7 +2,7 @@
 use Rattle.std.proofs.Common.{ℕ, ◌≡◌, ◌+◌, ◌*◌, ◌≤◌, ◌<◌, max, List, [], ◌∷◌, ◌++◌, refl, ap, sym, subst, ◌∙◌, length}
 use Rattle.std.proofs.lemmas.List.{length-set}
 use Rattle.fx_rules.specs.declared.command.Command.{Command}
-use Rattle.fx_rules.specs.declared.command.Command.TheVariants.{Order, Cancel, Reduce, Pull, Line, Show, Book, Bad}
+use Rattle.fx_rules.specs.declared.command.Command.TheVariants.{Order, Cancel, Reduce, Pull, Line, Total, Settle, Show, Book, Bad}
 use Rattle.fx_rules.specs.declared.orders.Fill.{Fill}
 use Rattle.fx_rules.specs.declared.outcome.Outcome.{Outcome}
 use Rattle.fx_rules.specs.declared.outcome.Outcome.TheVariants.{LineSet}
@@ -11,13 +11,13 @@ use Rattle.fx_rules.specs.Session.{Header, bank_count}
 use Rattle.fx_rules.specs.State.{State, cost, used, line}
 use Rattle.fx_rules.specs.Sweep.{filled, filled_all}
 use Rattle.fx_rules.specs.Raise as raise
-use Rattle.fx_rules.specs.Step.{IsCommand, IsOutcome, with_limit_set, fills_of}
+use Rattle.fx_rules.specs.Step.{IsCommand, IsOutcome, credit_changed, fills_of}
 use Rattle.fx_rules.specs.History.{IsLegal, after_entry, state}
 use Rattle.fx_rules.proofs.Continuing.{legal-last}
-use Rattle.fx_rules.proofs.Falling.{changed-fills, fills-filled_all, changed-limits, fills-with_limit_set}
+use Rattle.fx_rules.proofs.Falling.{terms, changed-terms, terms-filled_all, changed-fills, fills-filled_all, fills-credit_changed}
+use Rattle.fx_rules.proofs.Plain.{only_one, no_total, no_settlement}
 use Rattle.fx_rules.proofs.Made.{AreMade, swept-made, turned-made, outcome-made}
 use Rattle.fx_rules.proofs.Soundness.{legal-sound}
-use Rattle.fx_rules.proofs.SweepSound.{limits-filled_all}
 use Rattle.credit_lines.specs.Credit.{Credit, line_in, used_in, shared_place, limited, IsCredit}
 use Rattle.credit_lines.specs.Market.{StandsFor, taken_by, taken_by_all, ArePaid, line_set, followed, IsNextOf, FollowsOn}
 use Rattle.credit_lines.specs.inside.Market.{IsBetweenBanks}
@@ -58,7 +58,7 @@ turns_paid h pair S credit orders fills sound valid stands some turned =
 -- The credit with the limit set is that of the state in which a command's fills are made.
 
 line-stands : (h : Header) (S : State) (bank other asked : ℕ) (outcome : Outcome) (credit : Credit) → IsCommand h bank (Line other asked) → IsOutcome h S bank (Line other asked) outcome → IsCredit credit → StandsFor h S credit
-    → StandsFor h (with_limit_set S bank (Line other asked) outcome) (line_set credit bank (Line other asked))
+    → StandsFor h (credit_changed S bank (Line other asked) outcome) (line_set credit bank (Line other asked))
 line-stands h S bank other asked (LineSet limit fills) credit valid is credit_is stands =
     let used_is : used_in credit bank other ≡ used h S bank other = stands.uses bank other valid.sends valid.values.0 (λ same. valid.values.1 (sym same)) in
     let limit_is : limit ≡ max asked (used_in credit bank other) = is.0 ∙ ap (max asked) (sym used_is) in
@@ -66,16 +66,18 @@ line-stands h S bank other asked (LineSet limit fills) credit valid is credit_is
     (StandsFor-limited h S credit bank other limit credit_is stands valid.sends valid.values.0)
 line-stands h S bank other asked outcome credit valid is credit_is stands = absurd is
 
-set-stands : (h : Header) (S : State) (bank : ℕ) (command : Command) (outcome : Outcome) (credit : Credit) → IsCommand h bank command → IsOutcome h S bank command outcome → IsCredit credit → StandsFor h S credit
-    → StandsFor h (with_limit_set S bank command outcome) (line_set credit bank command)
-set-stands h S bank (Order side pair price lots life) outcome credit valid is credit_is stands = stands
-set-stands h S bank (Cancel pair number) outcome credit valid is credit_is stands = stands
-set-stands h S bank (Reduce pair number lots) outcome credit valid is credit_is stands = stands
-set-stands h S bank (Pull pair) outcome credit valid is credit_is stands = stands
-set-stands h S bank (Line other asked) outcome credit valid is credit_is stands = line-stands h S bank other asked outcome credit valid is credit_is stands
-set-stands h S bank (Show other) outcome credit valid is credit_is stands = stands
-set-stands h S bank (Book pair) outcome credit valid is credit_is stands = stands
-set-stands h S bank (Bad reason) outcome credit valid is credit_is stands = stands
+set-stands : (h : Header) (S : State) (bank : ℕ) (command : Command) (outcome : Outcome) (credit : Credit) → h.version ≡ 1 → IsCommand h bank command → IsOutcome h S bank command outcome → IsCredit credit → StandsFor h S credit
+    → StandsFor h (credit_changed S bank command outcome) (line_set credit bank command)
+set-stands h S bank (Order side pair price lots life) outcome credit first valid is credit_is stands = stands
+set-stands h S bank (Cancel pair number) outcome credit first valid is credit_is stands = stands
+set-stands h S bank (Reduce pair number lots) outcome credit first valid is credit_is stands = stands
+set-stands h S bank (Pull pair) outcome credit first valid is credit_is stands = stands
+set-stands h S bank (Line other asked) outcome credit first valid is credit_is stands = line-stands h S bank other asked outcome credit valid is credit_is stands
+set-stands h S bank (Total asked) outcome credit first valid is credit_is stands = absurd (no_total h bank asked first valid)
+set-stands h S bank (Settle a b asked) outcome credit first valid is credit_is stands = absurd (no_settlement h bank a b asked first valid)
+set-stands h S bank (Show other) outcome credit first valid is credit_is stands = stands
+set-stands h S bank (Book pair) outcome credit first valid is credit_is stands = stands
+set-stands h S bank (Bad reason) outcome credit first valid is credit_is stands = stands
 
 -- setting a limit leaves what is used, and the banks
 uses-line_set : (credit : Credit) (bank : ℕ) (command : Command) → (line_set credit bank command).uses ≡ credit.uses
@@ -89,21 +91,21 @@ banks-line_set credit bank command = refl
 pub steps_paid : StepsArePaid
 steps_paid h S credit e session sound valid stands step =
     let set : Credit = line_set credit e.bank e.command in
-    let T : State = with_limit_set S e.bank e.command e.outcome in
+    let T : State = credit_changed S e.bank e.command e.outcome in
     let fills : List Fill = fills_of e.outcome in
     let banks : set.banks ≡ credit.banks = banks-line_set credit e.bank e.command in
     let full : length set.uses ≡ set.banks * set.banks =
     ap length (uses-line_set credit e.bank e.command) ∙ valid.uses_full ∙ ap (λ n. n * n) (sym banks) in
     let paid = made-paid h T set fills full
-    (set-stands h S e.bank e.command e.outcome credit step.command step.outcome valid stands)
+    (set-stands h S e.bank e.command e.outcome credit (only_one h session) step.command step.outcome valid stands)
     (outcome-made h S e.bank e.command e.outcome session sound step.command step.outcome) in
-    let limits : (after_entry S e).limits ≡ (filled_all T fills).limits =
-    changed-limits S e.bank e.command e.outcome ∙ sym (limits-filled_all T fills) in
+    let same : terms (after_entry S e) ≡ terms (filled_all T fills) =
+    changed-terms S e.bank e.command e.outcome ∙ sym (terms-filled_all T fills) in
     let made : (after_entry S e).fills ≡ (filled_all T fills).fills =
     changed-fills h S e.bank e.command e.outcome step.outcome
-    ∙ ap (λ fs. fs ++ fills) (sym (fills-with_limit_set S e.bank e.command e.outcome)) ∙ sym (fills-filled_all T fills) in (
+    ∙ ap (λ fs. fs ++ fills) (sym (fills-credit_changed S e.bank e.command e.outcome)) ∙ sym (fills-filled_all T fills) in (
       paid.0,
-      StandsFor-same h (filled_all T fills) (after_entry S e) (followed h credit e) (λ i j. ap (λ (l : ℕ → ℕ → ℕ). l i j) limits) made paid.1,
+      StandsFor-same h (filled_all T fills) (after_entry S e) (followed h credit e) same made paid.1,
     )
 
 -- One step followed: the limit set, and then the fills taken.

@@ -8,14 +8,16 @@ use Rattle.fx_rules.specs.Session.{Header, IsSession, bank_count, pair_count}
 use Rattle.fx_rules.specs.State.{State, cost, used}
 use Rattle.fx_rules.specs.Step.{fills_of}
 use Rattle.fx_rules.specs.History.{IsStep, after_entry}
-use Rattle.fx_rules.specs.Sound.{IsSound}
+use Rattle.fx_rules.specs.Sound.{IsSound, IsPlain}
 use Rattle.credit_lines.specs.Credit.{Credit, limit_in, used_in, line_in, taken, limited}
 
--- The credit is that of a state: of each two different banks it has the limits and what they have used.
+-- The credit is that of a state: of each two different banks it has the limits and what they have used. It has no totals and no
+-- settlements, and so stands for states without them.
 pub record StandsFor (h : Header) (S : State) (credit : Credit) : Type 0 where
   pub banks : credit.banks ≡ bank_count h
   pub limits : (i j : ℕ) → i < bank_count h → j < bank_count h → i ≢ j → limit_in credit i j ≡ S.limits i j
   pub uses : (i j : ℕ) → i < bank_count h → j < bank_count h → i ≢ j → used_in credit i j ≡ used h S i j
+  pub plain : IsPlain S
 
 -- the credit that a fill leaves: its cost is used between its two banks
 abbrev pub taken_by : Header → Credit → Fill → Credit

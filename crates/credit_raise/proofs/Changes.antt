@@ -1,7 +1,7 @@
 -- Which commands are credit changes, and what one leaves.
 use Rattle.std.proofs.Common.{ℕ, ◌≡◌, ◌<◌, true, ap, sym, ◌∙◌, arith}
 use Rattle.fx_rules.specs.declared.command.Command.{Command}
-use Rattle.fx_rules.specs.declared.command.Command.TheVariants.{Order, Cancel, Reduce, Pull, Line, Show, Book, Bad}
+use Rattle.fx_rules.specs.declared.command.Command.TheVariants.{Order, Cancel, Reduce, Pull, Line, Total, Settle, Show, Book, Bad}
 use Rattle.fx_rules.specs.Session.{Header, bank_count}
 use Rattle.fx_rules.specs.State.{State}
 use Rattle.fx_rules.specs.Step.{AreValues, after}
@@ -15,6 +15,8 @@ values-change h banks bank (Order side pair price lots life) is same within valu
 values-change h banks bank (Cancel pair number) is same within values = cc
 values-change h banks bank (Reduce pair number lots) is same within values = cc
 values-change h banks bank (Pull pair) is same within values = cc
+values-change h banks bank (Total asked) is same within values = cc
+values-change h banks bank (Settle a b asked) is same within values = cc
 values-change h banks bank (Show other) is same within values = cc
 values-change h banks bank (Book pair) is same within values = cc
 values-change h banks bank (Bad reason) is same within values = cc

@@ -7,12 +7,14 @@ use Rattle.fx_rules.specs.declared.orders.Fill.{Fill}
 use Rattle.fx_rules.specs.declared.outcome.Entry.{Entry}
 use Rattle.fx_rules.specs.Lists.{Each}
 use Rattle.fx_rules.specs.Session.{Header, bank_count, weight_of}
-use Rattle.fx_rules.specs.State.{State, orders_in, line, used, reach}
+use Rattle.fx_rules.specs.State.{State, orders_in, headroom, at_most, line, used, reach}
 use Rattle.fx_rules.specs.Sweep.{filled, filled_all}
 use Rattle.fx_rules.specs.Raise.{limit_set, limited, Turned}
 use Rattle.fx_rules.specs.History.{IsLegal, state}
 use Rattle.fx_rules.specs.NoCross.{NoCross}
+use Rattle.fx_rules.specs.Sound.{IsPlain}
 use Rattle.fx_rules.proofs.Following.{filled_all-follows}
+use Rattle.fx_rules.proofs.Plain.{only_one-sound, plain-filled}
 use Rattle.fx_rules.proofs.Staying.{turned-stays}
 use Rattle.fx_rules.proofs.RaiseSound.{turned-sound, limited-sound}
 use Rattle.fx_rules.proofs.Soundness.{legal-sound}
@@ -38,8 +40,9 @@ reach-limited h S i j limit a b pair not_two =
     (or_left (eqb a i && eqb b j) (eqb a j && eqb b i) (and_from (eqb a i) (eqb b j) (eq-eqb a i is) (eq-eqb b j also))) in
     let two : b ≡ i → a ≡ j → ⊥ = λ is also. both_ways (are_the_two i j a b) not_two
     (or_right (eqb a i && eqb b j) (eqb a j && eqb b i) (and_from (eqb a j) (eqb b i) (eq-eqb a j also) (eq-eqb b i is))) in
-    ap (λ m. (min m ((limited i j limit S).limits b a) - used h S a b) / weight_of h pair) (limit_other S i j limit a b one)
-    ∙ ap (λ m. (min (S.limits a b) m - used h S a b) / weight_of h pair) (limit_other S i j limit b a two)
+    let reached : ℕ → ℕ = λ left. at_most (headroom h S a) (at_most (headroom h S b) left) / weight_of h pair in
+    ap (λ m. reached (min m ((limited i j limit S).limits b a) - used h S a b)) (limit_other S i j limit a b one)
+    ∙ ap (λ m. reached (min (S.limits a b) m - used h S a b)) (limit_other S i j limit b a two)
 
 -- Where nothing rested crossed before a limit was set, nothing rests crossed behind it but between the two banks.
 pub limited-apart : (h : Header) (S : State) (pair i j limit : ℕ) → NoCross h S → NoCrossBut h (limited i j limit S) pair i j
@@ -50,11 +53,11 @@ limited-apart h S pair i j limit uncrossed buy sell b_rests s_rests buys sells o
 -- ---- the line
 
 -- what the fills between two banks leave of their line
-pub line-fills : (h : Header) (S : State) (pair weight i j : ℕ) (fills : List Fill) → weight_of h pair ≡ weight → Each (IsFillOf pair i j) fills → line h (filled_all S fills) i j ≡ line h S i j - lots_of fills * weight
-line-fills h S pair weight i j [] weight_is all = omega arith
-line-fills h S pair weight i j (f ∷ fills) weight_is all =
-    let first : line h (filled S f) i j ≡ line h S i j - f.lots * weight = line-filled h S f pair weight i j (line h S i j) weight_is refl all.0.pair_is all.0.between in
-    let rest : line h (filled_all (filled S f) fills) i j ≡ line h (filled S f) i j - lots_of fills * weight = line-fills h (filled S f) pair weight i j fills weight_is all.1 in
+pub line-fills : (h : Header) (S : State) (pair weight i j : ℕ) (fills : List Fill) → weight_of h pair ≡ weight → Each (IsFillOf pair i j) fills → IsPlain S → line h (filled_all S fills) i j ≡ line h S i j - lots_of fills * weight
+line-fills h S pair weight i j [] weight_is all plain = omega arith
+line-fills h S pair weight i j (f ∷ fills) weight_is all plain =
+    let first : line h (filled S f) i j ≡ line h S i j - f.lots * weight = line-filled h S f pair weight i j (line h S i j) weight_is refl all.0.pair_is all.0.between plain in
+    let rest : line h (filled_all (filled S f) fills) i j ≡ line h (filled S f) i j - lots_of fills * weight = line-fills h (filled S f) pair weight i j fills weight_is all.1 (plain-filled S f plain) in
     omega (arith, first, rest, add-mul f.lots (lots_of fills) weight)
 
 -- ---- the first pair
@@ -87,6 +90,6 @@ raised-next h S book next weight next_weight i j eff fills differ some next_some
       sound = turned-sound h book.pair S book.orders fills heavy raised.sound turned;
       orders = turned-stays h book.pair S book.orders fills next.pair differ heavy raised.sound turned ∙ next_orders;
       weight_is = next_weight_is;
-      line_is = line-fills h S book.pair weight i j fills raised.weight_is parties ∙ ap (λ n. n - lots_of fills * weight) raised.line_is;
+      line_is = line-fills h S book.pair weight i j fills raised.weight_is parties (raised.sound.plain (only_one-sound h S raised.sound)) ∙ ap (λ n. n - lots_of fills * weight) raised.line_is;
       apart = apart-follows h S (filled_all S fills) next.pair i j (omega (arith, next_some, next_weight_is)) (filled_all-follows h S fills) apart;
     }

@@ -1,5 +1,5 @@
 -- Two banks' orders, played out by themselves, make the fills that the whole market makes.
-use Rattle.std.proofs.Common.{ℕ, ◌≡◌, ◌≢◌, ◌+◌, ◌-◌, ◌*◌, ◌/◌, ◌≤◌, ◌<◌, min, Bool, true, false, ◌&&◌, ◌||◌, cond, eqb, ltb, List, [], ◌∷◌, ◌++◌, Option, Some, None, ◌⊎◌, inl, inr, refl, ap, sym, subst, ◌∙◌, arith, append_assoc, append-nil, find}
+use Rattle.std.proofs.Common.{ℕ, ◌≡◌, ◌≢◌, ◌+◌, ◌-◌, ◌*◌, ◌/◌, ◌≤◌, ◌<◌, Bool, true, false, ◌&&◌, ◌||◌, cond, eqb, ltb, List, [], ◌∷◌, ◌++◌, Option, Some, None, ◌⊎◌, inl, inr, refl, ap, sym, subst, ◌∙◌, arith, append_assoc, append-nil, find}
 use Rattle.std.proofs.lemmas.Bool.{cases_Bool, cases_eq, cases_lt, cond_both, cond-true, cond-false, eq-eqb, ne_eqb, lt-ltb, le-ltb, le-leb, and_from, or_left, or_right, false_from_ne_true}
 use Rattle.std.proofs.lemmas.List.Elements.{filter-append}
 use Rattle.std.specs.List.{filter}
@@ -8,14 +8,15 @@ use Rattle.fx_rules.specs.declared.orders.Resting.{Resting}
 use Rattle.fx_rules.specs.declared.orders.Fill.{Fill}
 use Rattle.fx_rules.specs.Lists.{Among, Each, EachPair}
 use Rattle.fx_rules.specs.Session.{Header, bank_count, weight_of}
-use Rattle.fx_rules.specs.State.{State, orders_in, line, used, reach, cost_between, is_between}
+use Rattle.fx_rules.specs.State.{State, orders_in, line, reach, cost_between, is_between}
 use Rattle.fx_rules.specs.Sweep.{Taker, Swept, is_open, open_in, open_orders, IsBest, amount, fill_with, is_order, lowered, filled, filled_all, less}
 use Rattle.fx_rules.specs.Raise.{order_of, taker_of_resting, Turned}
-use Rattle.fx_rules.specs.Sound.{IsSound, IsKept, ArrivesBefore}
+use Rattle.fx_rules.specs.Sound.{IsSound, IsPlain, IsKept, ArrivesBefore}
 use Rattle.fx_rules.proofs.ListLemmas.{Each-among, Each-of, Each-weaker, Among-filter, among_filter, filter_agree_on, filter_filter, filter_cons_true, filter_cons_false, EachPair-filter}
 use Rattle.fx_rules.proofs.Lowering.{Each-lowered, is_order-says}
-use Rattle.fx_rules.proofs.Credit.{IsAllowed, used-filled, cost_between-one}
+use Rattle.fx_rules.proofs.Credit.{IsAllowed, cost_between-one}
 use Rattle.fx_rules.proofs.Opens.{is_open-says, orders_in-among, allowed-open}
+use Rattle.fx_rules.proofs.Plain.{only_one-sound, plain-line_filled}
 use Rattle.fx_rules.proofs.Planning.{orders_in-rising, open_none}
 use Rattle.fx_rules.proofs.Staying.{active_same, and_where}
 use Rattle.fx_rules.proofs.SweepSound.{filled-sound, swept-sound}
@@ -225,15 +226,12 @@ fill-between i j bank f (inr is) differ taker maker =
     (and_from (eqb f.taker j) (eqb f.maker i) (eq-eqb f.taker j (taker ∙ is))
     (eq-eqb f.maker i (maker ∙ cond-false (eqb bank i) j i (ne_eqb bank i (λ same. differ (sym same ∙ is))))))
 
-line_numbers : (a b u c d l w : ℕ) → min a b - u ≡ l → c ≡ d * w → min a b - (u + c) ≡ l - d * w
-line_numbers a b u c d l w is cost_is = omega (arith, is, cost_is)
-
 -- the line between the two falls by what a fill between them costs
-pub line-filled : (h : Header) (X : State) (f : Fill) (pair weight i j credit : ℕ) → weight_of h pair ≡ weight → line h X i j ≡ credit → f.pair ≡ pair → is_between i j f ≡ true → line h (filled X f) i j ≡ credit - f.lots * weight
-line-filled h X f pair weight i j credit weight_is line_is pair_is between =
-    ap (λ n. min (X.limits i j) (X.limits j i) - n) (used-filled h X f i j)
-    ∙ line_numbers (X.limits i j) (X.limits j i) (used h X i j) (cost_between h i j (f ∷ [])) f.lots credit weight line_is
-    (cost_between-one h i j f between ∙ ap (λ n. f.lots * n) (ap (weight_of h) pair_is ∙ weight_is))
+pub line-filled : (h : Header) (X : State) (f : Fill) (pair weight i j credit : ℕ) → weight_of h pair ≡ weight → line h X i j ≡ credit → f.pair ≡ pair → is_between i j f ≡ true → IsPlain X → line h (filled X f) i j ≡ credit - f.lots * weight
+line-filled h X f pair weight i j credit weight_is line_is pair_is between plain =
+    plain-line_filled h X f i j plain
+    ∙ ap (λ n. n - cost_between h i j (f ∷ [])) line_is
+    ∙ ap (λ n. credit - n) (cost_between-one h i j f between ∙ ap (λ n. f.lots * n) (ap (weight_of h) pair_is ∙ weight_is))
 
 -- the orders of the two banks after a fill of an order with one that waits
 orders-filled : (h : Header) (X : State) (pair weight i j credit : ℕ) (waiting rest : List Resting) (order best : Resting) (left lots : ℕ) → i ≢ j
@@ -325,7 +323,8 @@ swept-among h X pair weight i j credit waiting rest order left (f ∷ fills) end
     let next : Meets h (filled X g) pair weight i j (credit - lots * weight) (lessened best.bank best.number lots waiting) (entry order (left - lots) rest) = record {
       sound = filled-sound h X g here.sound allowed;
       weight_is = here.weight_is;
-      line_is = line-filled h X g pair weight i j credit here.weight_is here.line_is refl (fill-between i j order.bank g owner differ refl maker_is);
+      line_is = line-filled h X g pair weight i j credit here.weight_is here.line_is refl (fill-between i j order.bank g owner differ refl maker_is)
+          (here.sound.plain (only_one-sound h X here.sound));
       apart = apart-follows h X (filled X g) pair i j heavy (filled-follows h X g) here.apart;
       orders = orders-filled h X pair weight i j credit waiting rest order best left lots differ here maker.waits;
     } in

@@ -14,6 +14,8 @@ use Rattle.fx_rules.specs.Sweep.{filled_all}
 use Rattle.fx_rules.specs.Raise.{limit_set, limited, Turned, PairsTurned}
 use Rattle.fx_rules.specs.Step.{IsOutcome}
 use Rattle.fx_rules.specs.History.{IsLegal, state}
+use Rattle.fx_rules.specs.Sound.{IsPlain}
+use Rattle.fx_rules.proofs.Plain.{plain-line}
 use Rattle.fx_rules.proofs.SweepSound.{filled_all-append}
 use Rattle.global_book.specs.Book.{Book}
 use Rattle.credit_lines.specs.Credit.{Credit, limit_in, used_in}
@@ -147,9 +149,10 @@ own_limit S i j limit = cond-true (eqb i i && eqb j j) limit (S.limits i j) (and
 back_limit : (S : State) (i j limit : ℕ) → i ≢ j → (limited i j limit S).limits j i ≡ S.limits j i
 back_limit S i j limit differ = cond-false (eqb j i && eqb i j) limit (S.limits j i) (and_left (eqb j i) (eqb i j) (ne_eqb j i (λ same. differ (sym same))))
 
-opened_line : (h : Header) (S : State) (credit : Credit) (i j limit : ℕ) → i ≢ j → limit_in credit j i ≡ S.limits j i → used_in credit i j ≡ used h S i j → line h (limited i j limit S) i j ≡ min limit (limit_in credit j i) - used_in credit i j
-opened_line h S credit i j limit differ back spent =
-    ap (λ n. min n ((limited i j limit S).limits j i) - used h S i j) (own_limit S i j limit)
+opened_line : (h : Header) (S : State) (credit : Credit) (i j limit : ℕ) → IsPlain S → i ≢ j → limit_in credit j i ≡ S.limits j i → used_in credit i j ≡ used h S i j → line h (limited i j limit S) i j ≡ min limit (limit_in credit j i) - used_in credit i j
+opened_line h S credit i j limit plain differ back spent =
+    plain-line h (limited i j limit S) i j (record { totals = plain.totals; settlements = plain.settlements })
+    ∙ ap (λ n. min n ((limited i j limit S).limits j i) - used h S i j) (own_limit S i j limit)
     ∙ ap (λ n. min limit n - used h S i j) (back_limit S i j limit differ ∙ sym back)
     ∙ ap (λ n. min limit (limit_in credit j i) - n) (sym spent)
 
@@ -171,7 +174,7 @@ begins h entries credit bank other asked legal stands bank_in other_in differ un
       waits = λ book weight past some of.
           subst (λ n. IsRaised h (limited bank other n S) book weight bank other change.course.line) (sym limit_is)
           (raised-first h entries book weight bank other asked change.course.line legal bank' other' differ' units (sym of.orders) (sym of.weighs)
-          (ap (λ n. line h (limited bank other n S) bank other) (sym limit_is) ∙ opened_line h S credit bank other change.course.limit differ back spent));
+          (ap (λ n. line h (limited bank other n S) bank other) (sym limit_is) ∙ opened_line h S credit bank other change.course.limit stands.plain differ back spent));
       goes_on = λ pairs fills rest. let count : pairs ≡ 0 + pairs = omega arith in subst (λ n. PairsTurned h n 0 (begun change S) fills) count rest;
       makes = tt;
     }

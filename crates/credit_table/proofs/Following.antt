@@ -1,13 +1,16 @@
 -- What an entry does to the table.
-use Rattle.std.proofs.Common.{ℕ, zero, suc, ◌≡◌, ◌+◌, ◌-◌, ◌*◌, ◌<◌, ◌≤◌, ◌^◌, List, [], ◌∷◌, length, get_or, set, replicate, refl, ap, sym, subst, ◌∙◌, arith}
+use Rattle.std.proofs.Common.{ℕ, zero, suc, ◌≡◌, ◌+◌, ◌-◌, ◌*◌, ◌<◌, ◌≤◌, ◌^◌, List, [], ◌∷◌, length, get_or, set, replicate, Option, refl, ap, sym, subst, ◌∙◌, arith}
 use Rattle.std.proofs.lemmas.List.{length-set, length-replicate}
 use Rattle.fx_rules.specs.declared.outcome.Entry.{Entry}
 use Rattle.fx_rules.specs.Lists.{Each, total}
 use Rattle.fx_rules.specs.Session.{Header, IsSession, bank_count}
 use Rattle.fx_rules.specs.History.{after_entry}
+use Rattle.fx_rules.specs.State.{opening}
+use Rattle.fx_rules.proofs.Plain.{only_one, first-places, first-totals}
 use Rattle.fx_rules.proofs.Staying.{changed-counts}
 use Rattle.credit_lines.specs.Credit.{Credit, opened}
 use Rattle.credit_lines.specs.Market as lines
+use Rattle.credit_lines.proofs.MarketLemmas.{StandsFor-opened}
 use Rattle.credit_table.specs.Table.{Table, Stands, IsNextOf, FollowsOn}
 use Rattle.credit_table.specs.inside.Table.{IsTable}
 
@@ -52,7 +55,15 @@ counted-table table bank is few = record {
   counts = each-set table.counts bank (get_or table.counts bank 0 + 1) (omega (arith, few)) is.counts;
 }
 
--- ---- the table as a day opens
+-- ---- the table as a day opens, in a session of version 1
+
+-- a header with the banks, the pairs and the limits of another is the other
+pub first_header : (h copy : Header) → IsSession h → copy ≡ record { version = 1; banks = h.banks; pairs = h.pairs; limits = h.limits; totals = [] } → copy ≡ h
+first_header h copy session is =
+    let first : h.version ≡ 1 = only_one h session in
+    is
+    ∙ ap (λ (version : ℕ). record h { version = version; totals = [] }) (sym first)
+    ∙ ap (λ (totals : List (Option ℕ)). record h { totals = totals }) (sym (first-totals h session first))
 
 total-none : (n : ℕ) → total (λ count. count) (replicate n 0) ≡ 0
 total-none zero = refl
@@ -67,9 +78,16 @@ opens h session credit counts banks valid session_is credit_is counts_are banks_
     subst (λ (k : Header). IsTable (record { session = k; lines = credit; counts = counts })) (sym session_is) (record {
       session = valid;
       banks = ap (λ (c : Credit). c.banks) credit_is;
-      senders = ap length counts_are ∙ length-replicate banks 0 ∙ banks_are;
+      senders = ap length counts_are ∙ length-replicate banks 0 ∙ banks_are ∙ sym (first-places h (only_one h valid));
       counts = subst (Each (λ count. count < 2 ^ 32)) (sym counts_are) (each-none banks);
     })
 
 pub none_sent : (counts : List ℕ) (banks : ℕ) → counts ≡ replicate banks 0 → 0 ≡ total (λ count. count) counts
 none_sent counts banks counts_are = sym (ap (total (λ count. count)) counts_are ∙ total-none banks)
+
+pub opening_stands : (h : Header) (table : Table) (banks : ℕ) → IsSession h → table.session ≡ h → table.lines ≡ opened h → table.counts ≡ replicate banks 0 → banks ≡ bank_count h → Stands h (opening h) table
+opening_stands h table banks valid session_is lines_are counts_are banks_are = record {
+  session = session_is;
+  lines = subst (lines.StandsFor h (opening h)) (sym lines_are) (StandsFor-opened h valid);
+  counts = counts_are ∙ ap (λ n. replicate n 0) (banks_are ∙ sym (first-places h (only_one h valid)));
+}

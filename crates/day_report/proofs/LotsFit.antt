@@ -1,14 +1,16 @@
--- The lots of a legal history fit: between each two banks no more is used than either's limit.
+-- The lots of a legal history fit: between each two banks no more is used than either's limit, and nothing is given back for as long as
+-- there is one version.
 use Rattle.std.proofs.Common.{ℕ, ◌≡◌, ◌*◌, ◌≤◌, ◌<◌, true, ◌&&◌, ◌||◌, eqb, List, [], ◌∷◌, inl, inr, refl, ap, sym, subst, ◌∙◌, arith}
 use Rattle.std.proofs.lemmas.Bool.{cases_Bool, cases_eq, and_parts, eqb-true}
 use Rattle.std.proofs.Math.Nat.{mul-le-mul_left}
 use Rattle.fx_rules.specs.declared.orders.Fill.{Fill}
 use Rattle.fx_rules.specs.Lists.{Each, total}
 use Rattle.fx_rules.specs.Session.{Header, IsSession, bank_count, weight_of}
-use Rattle.fx_rules.specs.State.{State, is_between, cost, cost_between}
+use Rattle.fx_rules.specs.State.{State, is_between, cost, cost_between, used}
 use Rattle.fx_rules.specs.Sound.{IsSound}
 use Rattle.fx_rules.specs.Lists.{below}
 use Rattle.fx_rules.proofs.ListLemmas.{Each-weaker}
+use Rattle.fx_rules.proofs.Plain.{only_one-sound, plain-used}
 use Rattle.fx_rules.proofs.SweepSound.{weight_of-least}
 use Rattle.fx_rules.specs.inside.Trade.{IsTrade}
 use Rattle.day_report.specs.Trades.{lots_in}
@@ -109,7 +111,9 @@ part-most h S i j sound trades p q =
           let own : part h S.fills i i ≤ 0 = part-own h S.fills i trades in
           let here : part h S.fills i j ≤ 0 = subst (λ k. part h S.fills i k ≤ 0) same own in
           omega arith
-      | inr differ ↦ omega (arith, part-used h S.fills i j, sound.within.lines i j p q differ, sound.limits i j p q differ)
+      | inr differ ↦
+          let used_is : used h S i j ≡ cost_between h i j S.fills = plain-used h S i j (sound.plain (only_one-sound h S sound)) in
+          omega (arith, part-used h S.fills i j, used_is, sound.within.lines i j p q differ, sound.limits i j p q differ)
     ]
 
 rows_most : (n total : ℕ) → n ≤ 64 → total ≤ n * (n * 1000000000000000) → total ≤ 4096000000000000000

@@ -31,6 +31,8 @@ impl DaySums {
     pub fn open(alloc: Global, session: &Session) -> Result<DaySums, Memory>
         ensures sums { IfOk result (AreSumsOf session.now (opening session.now)) }
     {
+        // The credit is that of the opening state of a valid session, as each is.
+        let _banks = session.banks();
         Ok(DaySums {
             lines: CreditLines::open(alloc, session)?,
             volumes: no_volumes(alloc, session)?,

@@ -10,16 +10,16 @@ use Rattle.flat_host.specs.Parts.{use_added, uses_after}
 pub use_place-swap : (i j : ℕ) → use_place i j ≡ use_place j i
 use_place-swap i j = omega arith
 
-other_way : (i j a b : ℕ) → i < 64 → j < 64 → a < 64 → b < 64 → use_place i j ≡ use_place a b → (i ≡ a → ⊥) → i ≡ b
+other_way : (i j a b : ℕ) → i < 65 → j < 65 → a < 65 → b < 65 → use_place i j ≡ use_place a b → (i ≡ a → ⊥) → i ≡ b
 other_way i j a b i_in j_in a_in b_in same is_not = omega arith
 
-other_way' : (i j a b : ℕ) → i < 64 → j < 64 → a < 64 → b < 64 → use_place i j ≡ use_place a b → (i ≡ a → ⊥) → j ≡ a
+other_way' : (i j a b : ℕ) → i < 65 → j < 65 → a < 65 → b < 65 → use_place i j ≡ use_place a b → (i ≡ a → ⊥) → j ≡ a
 other_way' i j a b i_in j_in a_in b_in same is_not = omega arith
 
 pub places_same : (i j a b : ℕ) → i ≡ a → j ≡ b → use_place i j ≡ use_place a b
 places_same i j a b p q = omega arith
 
-pub use_place-same : (i j a b : ℕ) → i < 64 → j < 64 → a < 64 → b < 64 → use_place i j ≡ use_place a b → ((i ≡ a) × (j ≡ b)) ⊎ ((i ≡ b) × (j ≡ a))
+pub use_place-same : (i j a b : ℕ) → i < 65 → j < 65 → a < 65 → b < 65 → use_place i j ≡ use_place a b → ((i ≡ a) × (j ≡ b)) ⊎ ((i ≡ b) × (j ≡ a))
 use_place-same i j a b i_in j_in a_in b_in same =
     elim (cases_eq i a) [
       | inl is ↦ inl (is, omega arith)
@@ -31,7 +31,7 @@ abbrev pub raised : List ℕ → ℕ → ℕ → ℕ → List ℕ
 raised uses a b units = set uses (use_place a b) (use_in uses a b + units)
 
 -- the use of two banks after one was raised
-pub raised_here : (uses : List ℕ) (i j a b units : ℕ) → length uses ≡ 4096 → a < 64 → b < 64 → use_place i j ≡ use_place a b → use_in (raised uses a b units) i j ≡ use_in uses i j + units
+pub raised_here : (uses : List ℕ) (i j a b units : ℕ) → length uses ≡ 4225 → a < 65 → b < 65 → use_place i j ≡ use_place a b → use_in (raised uses a b units) i j ≡ use_in uses i j + units
 raised_here uses i j a b units full a_in b_in same =
     ap (λ p. get_or (raised uses a b units) p 0) same
     ∙ get_or-set_same uses (use_place a b) (use_in uses a b + units) 0 (omega arith)
@@ -52,7 +52,7 @@ differ_too i j a b differ (inl is) = λ same. differ (is.0 ∙ same ∙ sym is.1
 differ_too i j a b differ (inr is) = λ same. differ (is.0 ∙ sym same ∙ sym is.1)
 
 -- what the line pays for keeps every use within its limits
-pub raised_within : (limits uses : List ℕ) (a b units : ℕ) → length uses ≡ 4096 → a < 64 → b < 64 → IsWithin limits uses → units ≤ line_in limits uses a b → IsWithin limits (raised uses a b units)
+pub raised_within : (limits uses : List ℕ) (a b units : ℕ) → length uses ≡ 4225 → a < 65 → b < 65 → IsWithin limits uses → units ≤ line_in limits uses a b → IsWithin limits (raised uses a b units)
 raised_within limits uses a b units full a_in b_in within fits i j i_in j_in i_j =
     elim (cases_eq (use_place i j) (use_place a b)) [
       | inl same ↦
@@ -76,7 +76,7 @@ raised_within limits uses a b units full a_in b_in within fits i j i_in j_in i_j
     ]
 
 -- units added where the line pays for them
-pub added_within : (limits uses : List ℕ) (a b units : ℕ) → length uses ≡ 4096 → a < 64 → b < 64 → IsWithin limits uses → IsWithin limits (cond (leb units (line_in limits uses a b)) (raised uses a b units) uses)
+pub added_within : (limits uses : List ℕ) (a b units : ℕ) → length uses ≡ 4225 → a < 65 → b < 65 → IsWithin limits uses → IsWithin limits (cond (leb units (line_in limits uses a b)) (raised uses a b units) uses)
 added_within limits uses a b units full a_in b_in within =
     cond_both (leb units (line_in limits uses a b)) (raised uses a b units) uses (IsWithin limits)
     (λ fits. raised_within limits uses a b units full a_in b_in within (leb-true units (line_in limits uses a b) fits))

@@ -9,7 +9,7 @@ use Rattle.fx_rules.specs.State.{State, opening}
 use Rattle.fx_rules.specs.History.{IsStep, Steps, IsLegal, after_entry, after_all, state}
 use Rattle.fx_rules.specs.Sound.{IsSound}
 use Rattle.fx_rules.specs.Market.{InSome, InEach, MaySend, MayAsk, HasSent, IsDepthOf, GoesOn, next_entry}
-use Rattle.fx_rules.proofs.Senders.{suits-sender}
+use Rattle.fx_rules.proofs.Plain.{only_one, first-command}
 use Rattle.fx_rules.proofs.Soundness.{legal-sound, legal-push, after_all-push}
 use Rattle.fx_rules.proofs.Uncrossed.{legal-uncrossed}
 use Rattle.flat_host.proofs.Sendable.{sendable, sendable-of, pairs_of}
@@ -73,9 +73,9 @@ due l e next =
     let step : IsStep h S e = last h H e next.2 in
     let same : get_or l.counts e.bank 0 ≡ get_or S.counts e.bank 0 = ap (λ (cs : List ℕ). get_or cs e.bank 0) stands.counts in
     record {
-      sender = omega (arith, stands.banks, suits-sender h e.bank e.command step.command.sends);
+      sender = omega (arith, stands.banks, first-command h e.bank e.command (only_one h next.2.session) step.command);
       count = omega (arith, same, step.number, step.number_most);
-      command = sendable-of h S l e.bank e.command stands step.command;
+      command = sendable-of h S l e.bank e.command next.2.session stands step.command;
       number = omega (arith, same, step.number);
     }
 
@@ -110,9 +110,9 @@ may-apply l bank command some =
     let stood : StandsFor h S l = some.3 in
     let may : MaySend bank command h S = some.4 in
     record {
-      sender = omega (arith, stood.banks, suits-sender h bank command may.allowed.sends);
+      sender = omega (arith, stood.banks, first-command h bank command (only_one h some.2.session) may.allowed);
       count = omega (arith, ap (λ (cs : List ℕ). get_or cs bank 0) stood.counts, may.number);
-      of = sendable-of h S l bank command stood may.allowed;
+      of = sendable-of h S l bank command some.2.session stood may.allowed;
     }
 
 pub may-ask : (l : FlatState) (bank pair : ℕ) → InSome (stands l) (MayAsk bank pair) → (bank < l.banks) × (pair < length l.weights)

@@ -15,4 +15,5 @@ pub mod Pulling
 pub mod Sendable
 pub mod Stepping
 pub mod GoingOn
+pub mod Unsent
 pub mod Viewing

@@ -12,6 +12,7 @@ use Rattle.fx_rules.specs.Raise.{order_of, taker_of_resting, Turned, PairsTurned
 use Rattle.fx_rules.specs.Sound.{IsSound, IsKept}
 use Rattle.fx_rules.specs.Plan.{Planned, is_behind, open_behind}
 use Rattle.fx_rules.proofs.ListLemmas.{Each-among, filter_agree_on}
+use Rattle.fx_rules.proofs.Plain.{plain-room}
 use Rattle.fx_rules.proofs.Opens.{orders_in-among}
 use Rattle.fx_rules.proofs.SweepSound.{swept-sound, weight_of-least}
 use Rattle.fx_rules.proofs.RaiseSound.{match_cases, turn_of, turn-sender, turned-sound}
@@ -46,23 +47,27 @@ opens_first h S t lines sound agrees =
       | inr other ↦ ap (λ n. is_open t (n / weight_of h t.pair) o) (agrees o.bank (owners_in h S t.pair sound o there) other)
     ])
 
+both_ways_sum : (m n : ℕ) → m + n ≡ n + m
+both_ways_sum m n = omega arith
+
 -- a sweep planned over a state's orders and tables is the state's sweep
 pub swept-planned : (h : Header) (S : State) (weights limits uses : List ℕ) (t : Taker) (fills : List Fill) (left : ℕ) → IsSession h → IsSound h S → TablesFor h S weights limits uses → t.bank < bank_count h → t.pair < pair_count h → PlannedOver weights limits uses (orders_in t.pair S.orders) t fills left → Swept h S t fills left
 swept-planned h S weights limits uses t fills left session sound tables bank pair planned =
     let agrees : (b : ℕ) → b < bank_count h → b ≢ t.bank → planned.lines b ≡ line h S t.bank b = λ b b_in differ.
     planned.lines_are b (omega (arith, session.banks_most, b_in)) ∙ line-same h S weights limits uses t.bank b tables bank b_in (λ e. differ (sym e)) in
     let weight : get_or weights t.pair 0 ≡ weight_of h t.pair = ap (λ (ws : List ℕ). get_or ws t.pair 0) tables.weighs in
-    planned-swept h S t planned.lines (orders_in t.pair S.orders) None fills left
+    planned-swept h S t planned.lines None (orders_in t.pair S.orders) None fills left left
     (record {
       sound = sound;
       bank = bank;
       weight = weight_of-least h t.pair session pair;
+      purse_is = sym (plain-room h S t.bank tables.plain);
       agrees = agrees;
       rising = orders_in-rising t.pair S.orders sound.rising;
       owners = owners_in h S t.pair sound;
       opens = λ _. opens_first h S t planned.lines sound agrees;
     })
-    (subst (λ w. Planned w planned.lines (orders_in t.pair S.orders) t None fills left) weight planned.planned)
+    (both_ways_sum left t.left) (subst (λ w. Planned w planned.lines (orders_in t.pair S.orders) t None fills left) weight planned.planned)
 
 pub match_none : {X : Type 0} (o : Option X) (P : Type 0) (Q : X → Type 0) → o ≡ None → P → MatchOption o P Q
 match_none o P Q is holds = subst (λ o. MatchOption o P Q) (sym is) holds
@@ -71,7 +76,7 @@ pub match_some : {X : Type 0} (o : Option X) (x : X) (P : Type 0) (Q : X → Typ
 match_some o x P Q is holds = subst (λ o. MatchOption o P Q) (sym is) holds
 
 -- turns over a pair's book are the market's
-pub turned-market : (h : Header) (pair : ℕ) (S : State) (weights limits uses : List ℕ) (book : List ActiveOrder) (turns : List Resting) (fills : List Fill) → IsSession h → pair < pair_count h → IsSound h S → length uses ≡ 4096 → TablesFor h S weights limits uses → book ≡ in_pair pair S.orders → TurnedIn weights limits pair book uses turns fills → Turned h pair S turns fills
+pub turned-market : (h : Header) (pair : ℕ) (S : State) (weights limits uses : List ℕ) (book : List ActiveOrder) (turns : List Resting) (fills : List Fill) → IsSession h → pair < pair_count h → IsSound h S → length uses ≡ 4225 → TablesFor h S weights limits uses → book ≡ in_pair pair S.orders → TurnedIn weights limits pair book uses turns fills → Turned h pair S turns fills
 turned-market h pair S weights limits uses book [] fills session pair_in sound full tables is turned = turned
 turned-market h pair S weights limits uses book (order ∷ turns) fills session pair_in sound full tables is turned =
     let same : orders_in pair book ≡ orders_in pair S.orders = ap (orders_in pair) is ∙ orders_in-in_pair pair S.orders in
@@ -113,7 +118,7 @@ turned-market h pair S weights limits uses book (order ∷ turns) fills session 
     ]
 
 -- and so is all that a credit change makes
-pub raised-market : (h : Header) (pairs pair : ℕ) (orders : List ActiveOrder) (S : State) (weights limits uses : List ℕ) (fills : List Fill) → IsSession h → pair + pairs ≤ pair_count h → IsSound h S → length uses ≡ 4096 → TablesFor h S weights limits uses → ((other : ℕ) → pair ≤ other → in_pair other S.orders ≡ in_pair other orders) → RaisedIn weights limits orders pairs pair uses fills → PairsTurned h pairs pair S fills
+pub raised-market : (h : Header) (pairs pair : ℕ) (orders : List ActiveOrder) (S : State) (weights limits uses : List ℕ) (fills : List Fill) → IsSession h → pair + pairs ≤ pair_count h → IsSound h S → length uses ≡ 4225 → TablesFor h S weights limits uses → ((other : ℕ) → pair ≤ other → in_pair other S.orders ≡ in_pair other orders) → RaisedIn weights limits orders pairs pair uses fills → PairsTurned h pairs pair S fills
 raised-market h zero pair orders S weights limits uses fills session within sound full tables rest raised = raised
 raised-market h (suc pairs) pair orders S weights limits uses fills session within sound full tables rest raised =
     let own : List Fill = raised.0 in

@@ -21,13 +21,15 @@ use Rattle.fx_rules.specs.declared.outcome.Outcome.TheVariants.{Ordered, Killed,
 use Rattle.fx_rules.specs.declared.session.PairRule.{PairRule}
 use Rattle.fx_rules.specs.Lists.{total}
 use Rattle.fx_rules.specs.Session.{Header, IsSession, bank_count, pair_count}
-use Rattle.fx_rules.specs.State.{State, orders_in, line, used, cost_between}
+use Rattle.fx_rules.specs.State.{State, orders_in, line, used, cost_between, settled_between}
 use Rattle.fx_rules.specs.Sweep.{Taker, Swept, is_order, at_rest, filled, filled_all, taker_of}
 use Rattle.fx_rules.specs.Raise.{limit_set, limited, order_of}
 use Rattle.fx_rules.specs.Step.{IsCommand, IsOrdered, IsOutcome, cancel_answer, reduce_answer, rested, changed, after, fills_of, without_order, without_orders, reduced}
 use Rattle.fx_rules.specs.Sound.{IsSound}
 use Rattle.fx_rules.proofs.SweepSound.{weight_of-least, counts-filled_all}
 use Rattle.fx_rules.proofs.RaiseSound.{limited-sound}
+use Rattle.fx_rules.proofs.Falling.{Terms, terms}
+use Rattle.fx_rules.proofs.Plain.{plain-line}
 use Rattle.flat_host.specs.FlatState.{FlatState, IsWithin, StandsFor, limit_place, limit_in, use_in, line_in}
 use Rattle.flat_host.specs.inside.FlatState.{IsFlatState, TablesFor}
 use Rattle.flat_host.specs.Parts.{PlannedOver, both_lowered, uses_after, rests_of, is_done}
@@ -69,14 +71,14 @@ rested-orders t rests S =
 
 -- and what it leaves
 record SameBut (S T : State) : Type 0 where
-  pub limits : T.limits ≡ S.limits
+  pub terms : terms T ≡ terms S
   pub fills : T.fills ≡ S.fills
   pub counts : T.counts ≡ S.counts
 
 rested-same : (t : Taker) (rests : ℕ) (S : State) → SameBut S (rested t rests S)
 rested-same t rests S =
     cond_both (ltb 0 rests) (record S { orders = S.orders ++ at_rest t rests ∷ [] }) S (SameBut S)
-    (λ _. record { limits = refl; fills = refl; counts = refl }) (λ _. record { limits = refl; fills = refl; counts = refl })
+    (λ _. record { terms = refl; fills = refl; counts = refl }) (λ _. record { terms = refl; fills = refl; counts = refl })
 
 -- the taker as the flat state and as the state tell it
 taker-same : (S : State) (l : FlatState) (bank : ℕ) (side : Side) (pair price lots : ℕ) → l.counts ≡ S.counts → taker_from l bank side pair price lots ≡ taker_of S bank side pair price lots
@@ -93,7 +95,7 @@ taker-same S l bank side pair price lots same =
     ap made same
 
 -- a sweep carried out stands for the state with its fills and its rest
-stands-ordered : (h : Header) (S : State) (old : FlatState) (t : Taker) (rests : ℕ) (fills : List Fill) (left : ℕ) → IsSession h → IsSound h S → StandsFor h S old → length old.uses ≡ 4096 → t.bank < bank_count h → t.pair < pair_count h → Swept h S t fills left → StandsFor h (rested t rests (filled_all S fills)) (order_carried old t rests fills)
+stands-ordered : (h : Header) (S : State) (old : FlatState) (t : Taker) (rests : ℕ) (fills : List Fill) (left : ℕ) → IsSession h → IsSound h S → StandsFor h S old → length old.uses ≡ 4225 → t.bank < bank_count h → t.pair < pair_count h → Swept h S t fills left → StandsFor h (rested t rests (filled_all S fills)) (order_carried old t rests fills)
 stands-ordered h S old t rests fills left session sound stands full bank pair swept =
     let T : State = filled_all S fills in
     let rest : SameBut T (rested t rests T) = rested-same t rests T in
@@ -107,8 +109,14 @@ stands-ordered h S old t rests fills left session sound stands full bank pair sw
           ∙ sym (rested-orders t rests T);
       counts = stands.counts ∙ sym (counts-filled_all S fills) ∙ sym rest.counts;
       weights = stands.weights;
-      limits = λ i j i_in j_in differ. tables.limit i j i_in j_in differ ∙ ap (λ (ls : ℕ → ℕ → ℕ). ls i j) (sym rest.limits);
-      uses = λ i j i_in j_in differ. tables.spent i j i_in j_in differ ∙ ap (λ (past : List Fill). cost_between h i j past) (sym rest.fills);
+      limits = λ i j i_in j_in differ. tables.limit i j i_in j_in differ ∙ ap (λ (set : Terms). set.0 i j) (sym rest.terms);
+      uses = λ i j i_in j_in differ. tables.spent i j i_in j_in differ
+          ∙ ap (λ (past : List Fill). cost_between h i j past - settled_between i j T.settlements) (sym rest.fills)
+          ∙ ap (λ (set : Terms). cost_between h i j (rested t rests T).fills - settled_between i j set.2) (sym rest.terms);
+      plain = record {
+        totals = λ i. ap (λ (set : Terms). set.1 i) rest.terms ∙ tables.plain.totals i;
+        settlements = ap (λ (set : Terms). set.2) rest.terms ∙ tables.plain.settlements;
+      };
     }
 
 planned-market : (h : Header) (S : State) (l : FlatState) (t : Taker) (fills : List Fill) (left : ℕ) → IsSession h → IsSound h S → StandsFor h S l → t.bank < bank_count h → t.pair < pair_count h → PlannedIn l t fills left → Swept h S t fills left
@@ -135,7 +143,7 @@ order-answers l bank side pair price lots life command t outcome command_is take
     (bank_within h S l bank stands sender) asked.values.0
     (subst (λ (u : Taker). OrderedIn l u life outcome) (taker_is ∙ taker-same S l bank side pair price lots stands.counts) is))
 
-order-changed : (h : Header) (S : State) (old : FlatState) (bank : ℕ) (side : Side) (pair price lots : ℕ) (life : Life) (outcome : Outcome) → IsSession h → IsSound h S → StandsFor h S old → length old.uses ≡ 4096 → bank < bank_count h → pair < pair_count h → lots ≤ 10 ^ 6 → IsOrdered h S (taker_of S bank side pair price lots) life outcome → (rests_of outcome ≤ 10 ^ 6) × StandsFor h (changed S bank (Order side pair price lots life) outcome) (order_carried old (taker_of S bank side pair price lots) (rests_of outcome) (fills_of outcome))
+order-changed : (h : Header) (S : State) (old : FlatState) (bank : ℕ) (side : Side) (pair price lots : ℕ) (life : Life) (outcome : Outcome) → IsSession h → IsSound h S → StandsFor h S old → length old.uses ≡ 4225 → bank < bank_count h → pair < pair_count h → lots ≤ 10 ^ 6 → IsOrdered h S (taker_of S bank side pair price lots) life outcome → (rests_of outcome ≤ 10 ^ 6) × StandsFor h (changed S bank (Order side pair price lots life) outcome) (order_carried old (taker_of S bank side pair price lots) (rests_of outcome) (fills_of outcome))
 order-changed h S old bank side pair price lots Day (Ordered done rests fills) session sound stands full bank_in pair_in most is =
     (omega (arith, is.2), stands-ordered h S old (taker_of S bank side pair price lots) rests fills rests session sound stands full bank_in pair_in is.0)
 order-changed h S old bank side pair price lots Ioc (Ordered done rests fills) session sound stands full bank_in pair_in most is =
@@ -145,7 +153,7 @@ order-changed h S old bank side pair price lots Fok (Ordered done rests fills) s
 order-changed h S old bank side pair price lots Fok Killed session sound stands full bank_in pair_in most is = (omega arith, stands)
 order-changed h S old bank side pair price lots life outcome session sound stands full bank_in pair_in most is = absurd is
 
-pub order-changes : (old new : FlatState) (bank : ℕ) (side : Side) (pair price lots : ℕ) (life : Life) (command : Command) (t : Taker) (outcome : Outcome) → length old.uses ≡ 4096 → command ≡ Order side pair price lots life → t ≡ taker_from old bank side pair price lots → bank < old.banks → IsCommandOf old bank command → (rests_of outcome ≤ 10 ^ 6 → new ≡ order_carried old t (rests_of outcome) (fills_of outcome)) → ChangesEach old new bank command outcome
+pub order-changes : (old new : FlatState) (bank : ℕ) (side : Side) (pair price lots : ℕ) (life : Life) (command : Command) (t : Taker) (outcome : Outcome) → length old.uses ≡ 4225 → command ≡ Order side pair price lots life → t ≡ taker_from old bank side pair price lots → bank < old.banks → IsCommandOf old bank command → (rests_of outcome ≤ 10 ^ 6 → new ≡ order_carried old t (rests_of outcome) (fills_of outcome)) → ChangesEach old new bank command outcome
 order-changes old new bank side pair price lots life command t outcome full command_is taker_is sender valid made h S session sound stands is =
     let asked : IsCommand h bank (Order side pair price lots life) = subst (IsCommand h bank) command_is (sendable h S old bank command stands valid) in
     let T : Taker = taker_of S bank side pair price lots in
@@ -167,6 +175,7 @@ stands-orders h S l f stands = record {
   weights = stands.weights;
   limits = stands.limits;
   uses = stands.uses;
+  plain = record { totals = stands.plain.totals; settlements = stands.plain.settlements };
 }
 
 pub cancel-answers : (l : FlatState) (bank pair number : ℕ) (command : Command) (outcome : Outcome) → command ≡ Cancel pair number → outcome ≡ cancel_answer (find (λ o. is_order bank number o) (orders_in pair l.orders)) → AnswersEach l bank command outcome
@@ -228,10 +237,10 @@ pull-changes old new bank pair command outcome command_is made h S session sound
 
 -- Credit changes.
 
-not_both : (i j bank other : ℕ) → i < 64 → j < 64 → bank < 64 → other < 64 → limit_place i j ≡ limit_place bank other → (i ≡ bank) × (j ≡ other)
+not_both : (i j bank other : ℕ) → i < 65 → j < 65 → bank < 65 → other < 65 → limit_place i j ≡ limit_place bank other → (i ≡ bank) × (j ≡ other)
 not_both i j bank other i_in j_in bank_in other_in same = (omega arith, omega arith)
 
-limits-set : (limits : List ℕ) (i j bank other limit : ℕ) → length limits ≡ 4096 → i < 64 → j < 64 → bank < 64 → other < 64 → limit_in (limits_with limits bank other limit) i j ≡ cond (eqb i bank && eqb j other) limit (limit_in limits i j)
+limits-set : (limits : List ℕ) (i j bank other limit : ℕ) → length limits ≡ 4225 → i < 65 → j < 65 → bank < 65 → other < 65 → limit_in (limits_with limits bank other limit) i j ≡ cond (eqb i bank && eqb j other) limit (limit_in limits i j)
 limits-set limits i j bank other limit full i_in j_in bank_in other_in =
     elim (cases_Bool (eqb i bank && eqb j other)) [
       | inl is ↦
@@ -248,16 +257,17 @@ limits-set limits i j bank other limit full i_in j_in bank_in other_in =
     ]
 
 -- the tables with the limit are those of the state with it
-tables-limited : (h : Header) (S : State) (weights limits uses : List ℕ) (bank other limit : ℕ) → bank_count h ≤ 64 → length limits ≡ 4096 → bank < bank_count h → other < bank_count h → TablesFor h S weights limits uses → TablesFor h (limited bank other limit S) weights (limits_with limits bank other limit) uses
+tables-limited : (h : Header) (S : State) (weights limits uses : List ℕ) (bank other limit : ℕ) → bank_count h ≤ 64 → length limits ≡ 4225 → bank < bank_count h → other < bank_count h → TablesFor h S weights limits uses → TablesFor h (limited bank other limit S) weights (limits_with limits bank other limit) uses
 tables-limited h S weights limits uses bank other limit banks full bank_in other_in tables = record {
   weighs = tables.weighs;
   limit = λ i j i_in j_in differ.
       limits-set limits i j bank other limit full (omega arith) (omega arith) (omega arith) (omega arith)
       ∙ ap (cond (eqb i bank && eqb j other) limit) (tables.limit i j i_in j_in differ);
   spent = tables.spent;
+  plain = record { totals = tables.plain.totals; settlements = tables.plain.settlements };
 }
 
-line-answered : (h : Header) (S : State) (l : FlatState) (bank other asked : ℕ) (outcome : Outcome) → IsSession h → IsSound h S → StandsFor h S l → length l.limits ≡ 4096 → length l.uses ≡ 4096 → bank < bank_count h → IsCommand h bank (Line other asked) → LineSetIn l bank other asked outcome → IsOutcome h S bank (Line other asked) outcome
+line-answered : (h : Header) (S : State) (l : FlatState) (bank other asked : ℕ) (outcome : Outcome) → IsSession h → IsSound h S → StandsFor h S l → length l.limits ≡ 4225 → length l.uses ≡ 4225 → bank < bank_count h → IsCommand h bank (Line other asked) → LineSetIn l bank other asked outcome → IsOutcome h S bank (Line other asked) outcome
 line-answered h S l bank other asked (LineSet limit fills) session sound stands limits_full uses_full bank_in valid is =
     let limit_is : limit ≡ limit_set h S bank other asked = is.0 ∙ ap (max asked) (stands.uses bank other bank_in valid.values.0 (λ same. valid.values.1 (sym same))) in
     let T : State = limited bank other limit S in
@@ -277,7 +287,7 @@ line-answers l bank other asked command outcome state_ok command_is sender valid
     (line-answered h S l bank other asked outcome session sound stands state_ok.limits_full state_ok.uses_full (bank_within h S l bank stands sender)
     (subst (IsCommand h bank) command_is (sendable h S l bank command stands valid)) is)
 
-line-changed : (h : Header) (S : State) (old : FlatState) (bank other asked : ℕ) (outcome : Outcome) → IsSession h → IsSound h S → StandsFor h S old → length old.limits ≡ 4096 → length old.uses ≡ 4096 → bank < bank_count h → IsCommand h bank (Line other asked) → IsOutcome h S bank (Line other asked) outcome → StandsFor h (changed S bank (Line other asked) outcome) (raised_in old bank other asked (fills_of outcome))
+line-changed : (h : Header) (S : State) (old : FlatState) (bank other asked : ℕ) (outcome : Outcome) → IsSession h → IsSound h S → StandsFor h S old → length old.limits ≡ 4225 → length old.uses ≡ 4225 → bank < bank_count h → IsCommand h bank (Line other asked) → IsOutcome h S bank (Line other asked) outcome → StandsFor h (changed S bank (Line other asked) outcome) (raised_in old bank other asked (fills_of outcome))
 line-changed h S old bank other asked (LineSet limit fills) session sound stands limits_full uses_full bank_in valid is =
     let T : State = limited bank other limit S in
     let U : State = filled_all T fills in
@@ -296,6 +306,7 @@ line-changed h S old bank other asked (LineSet limit fills) session sound stands
       weights = stands.weights;
       limits = tables.limit;
       uses = tables.spent;
+      plain = tables.plain;
     } in
     subst (λ (ls : List ℕ). StandsFor h U (record old { orders = both_lowered old.orders fills; limits = ls; uses = uses_after old.weights ls old.uses fills })) (sym same) at_limit
 line-changed h S old bank other asked outcome session sound stands limits_full uses_full bank_in valid is = absurd is
@@ -368,6 +379,7 @@ follows-counted old mid new bank command outcome changes counted_is h S session 
       weights = made.weights;
       limits = made.limits;
       uses = made.uses;
+      plain = record { totals = made.plain.totals; settlements = made.plain.settlements };
     })
 
 pub steps-each : (old new : FlatState) (bank : ℕ) (command : Command) (outcome : Outcome) → AnswersEach old bank command outcome → FollowsEach old new bank command outcome → StepsEach old new bank command outcome
@@ -376,7 +388,7 @@ steps-each old new bank command outcome answers follows h S session sound stands
     (is, follows h S session sound stands is)
 
 -- a limit that is set keeps the uses within the limits, where it is at least what is used
-pub limits-within : (limits uses : List ℕ) (bank other limit : ℕ) → length limits ≡ 4096 → bank < 64 → other < 64 → use_in uses bank other ≤ limit → IsWithin limits uses → IsWithin (limits_with limits bank other limit) uses
+pub limits-within : (limits uses : List ℕ) (bank other limit : ℕ) → length limits ≡ 4225 → bank < 65 → other < 65 → use_in uses bank other ≤ limit → IsWithin limits uses → IsWithin (limits_with limits bank other limit) uses
 limits-within limits uses bank other limit full bank_in other_in fits within i j i_in j_in differ =
     subst (λ n. use_in uses i j ≤ n) (sym (limits-set limits i j bank other limit full i_in j_in bank_in other_in))
     (cond_both (eqb i bank && eqb j other) limit (limit_in limits i j) (λ n. use_in uses i j ≤ n)

@@ -9,6 +9,7 @@ use Rattle.fx_rules.specs.Sweep.{Taker, Swept, less, filled, filled_all}
 use Rattle.fx_rules.specs.Raise.{order_of, taker_of_resting, Turned, PairsTurned}
 use Rattle.fx_rules.specs.Sound.{IsSound}
 use Rattle.fx_rules.proofs.Credit.{IsAllowed, used-filled, cost_between-one, cost_between-other, between_cases}
+use Rattle.fx_rules.proofs.Plain.{plain-covered, plain-filled, plain-line}
 use Rattle.fx_rules.proofs.Opens.{allowed-open}
 use Rattle.fx_rules.proofs.SweepSound.{filled-sound, swept-sound, filled_all-append, weight_of-least}
 use Rattle.fx_rules.proofs.RaiseSound.{match_cases, turn_of, turn-sender, turned-sound}
@@ -18,7 +19,7 @@ use Rattle.flat_host.specs.Parts.{use_added, uses_after}
 use Rattle.flat_host.proofs.Carrying.{use_place-swap, places_same, use_place-same, raised, raised_here, raised_there, length-added, length-uses_after, uses_after-append}
 
 pub tables_of : (h : Header) (S : State) (l : FlatState) → StandsFor h S l → TablesFor h S l.weights l.limits l.uses
-tables_of h S l stands = record { weighs = stands.weights; limit = stands.limits; spent = stands.uses }
+tables_of h S l stands = record { weighs = stands.weights; limit = stands.limits; spent = stands.uses; plain = stands.plain }
 
 lines_of_two : (a b u a' b' u' : ℕ) → a ≡ a' → b ≡ b' → u ≡ u' → min a b - u ≡ min a' b' - u'
 lines_of_two a b u a' b' u' p q r = cc
@@ -28,6 +29,7 @@ pub line-same : (h : Header) (S : State) (weights limits uses : List ℕ) (i j :
 line-same h S weights limits uses i j tables i_in j_in differ =
     lines_of_two (limit_in limits i j) (limit_in limits j i) (use_in uses i j) (S.limits i j) (S.limits j i) (used h S i j)
     (tables.limit i j i_in j_in differ) (tables.limit j i j_in i_in (λ e. differ (sym e))) (tables.spent i j i_in j_in differ)
+    ∙ sym (plain-line h S i j tables.plain)
 
 -- a fill is between two banks exactly where it stands at their place
 between_place : (i j : ℕ) (fill : Fill) → is_between i j fill ≡ true → use_place i j ≡ use_place fill.taker fill.maker
@@ -37,7 +39,7 @@ between_place i j fill is =
       | inr same ↦ use_place-swap i j ∙ places_same j i fill.taker fill.maker (sym same.0) (sym same.1)
     ]
 
-place_between : (i j : ℕ) (fill : Fill) → i < 64 → j < 64 → fill.taker < 64 → fill.maker < 64 → use_place i j ≡ use_place fill.taker fill.maker → is_between i j fill ≡ true
+place_between : (i j : ℕ) (fill : Fill) → i < 65 → j < 65 → fill.taker < 65 → fill.maker < 65 → use_place i j ≡ use_place fill.taker fill.maker → is_between i j fill ≡ true
 place_between i j fill i_in j_in t_in m_in same =
     elim (use_place-same i j fill.taker fill.maker i_in j_in t_in m_in same) [
       | inl is ↦ or_left (eqb fill.taker i && eqb fill.maker j) (eqb fill.taker j && eqb fill.maker i)
@@ -47,7 +49,7 @@ place_between i j fill i_in j_in t_in m_in same =
     ]
 
 -- the use of each two banks after a fill
-use_raised : (h : Header) (uses : List ℕ) (i j : ℕ) (f : Fill) → length uses ≡ 4096 → i < 64 → j < 64 → f.taker < 64 → f.maker < 64 → use_in (raised uses f.taker f.maker (cost h f)) i j ≡ use_in uses i j + cost_between h i j (f ∷ [])
+use_raised : (h : Header) (uses : List ℕ) (i j : ℕ) (f : Fill) → length uses ≡ 4225 → i < 65 → j < 65 → f.taker < 65 → f.maker < 65 → use_in (raised uses f.taker f.maker (cost h f)) i j ≡ use_in uses i j + cost_between h i j (f ∷ [])
 use_raised h uses i j f full i_in j_in t_in m_in =
     elim (cases_Bool (is_between i j f)) [
       | inl is ↦
@@ -76,7 +78,7 @@ added_is h S weights limits uses f tables allowed =
     (le-leb (f.lots * get_or weights f.pair 0) (line_in limits uses f.taker f.maker) fits)
     ∙ ap (raised uses f.taker f.maker) costs
 
-pub tables-filled : (h : Header) (S : State) (weights limits uses : List ℕ) (f : Fill) → bank_count h ≤ 64 → length uses ≡ 4096 → TablesFor h S weights limits uses → IsAllowed h S f → TablesFor h (filled S f) weights limits (use_added weights limits uses f)
+pub tables-filled : (h : Header) (S : State) (weights limits uses : List ℕ) (f : Fill) → bank_count h ≤ 64 → length uses ≡ 4225 → TablesFor h S weights limits uses → IsAllowed h S f → TablesFor h (filled S f) weights limits (use_added weights limits uses f)
 tables-filled h S weights limits uses f banks full tables allowed = record {
   weighs = tables.weighs;
   limit = tables.limit;
@@ -84,10 +86,11 @@ tables-filled h S weights limits uses f banks full tables allowed = record {
       ap (λ (us : List ℕ). use_in us i j) (added_is h S weights limits uses f tables allowed)
       ∙ use_raised h uses i j f full (omega arith) (omega arith) (omega (arith, allowed.taker)) (omega (arith, allowed.maker))
       ∙ ap (λ n. n + cost_between h i j (f ∷ [])) (tables.spent i j i_in j_in differ)
-      ∙ sym (used-filled h S f i j);
+      ∙ sym (used-filled h S f i j (plain-covered h S tables.plain));
+  plain = plain-filled S f tables.plain;
 }
 
-pub tables-swept : (h : Header) (S : State) (weights limits uses : List ℕ) (t : Taker) (fills : List Fill) (left : ℕ) → bank_count h ≤ 64 → length uses ≡ 4096 → IsSound h S → t.bank < bank_count h → 0 < weight_of h t.pair → TablesFor h S weights limits uses → Swept h S t fills left → TablesFor h (filled_all S fills) weights limits (uses_after weights limits uses fills)
+pub tables-swept : (h : Header) (S : State) (weights limits uses : List ℕ) (t : Taker) (fills : List Fill) (left : ℕ) → bank_count h ≤ 64 → length uses ≡ 4225 → IsSound h S → t.bank < bank_count h → 0 < weight_of h t.pair → TablesFor h S weights limits uses → Swept h S t fills left → TablesFor h (filled_all S fills) weights limits (uses_after weights limits uses fills)
 tables-swept h S weights limits uses t [] left banks full sound bank some tables swept = tables
 tables-swept h S weights limits uses t (f ∷ fills) left banks full sound bank some tables swept =
     let best : Resting = swept.0 in
@@ -96,7 +99,7 @@ tables-swept h S weights limits uses t (f ∷ fills) left banks full sound bank 
     (length-added weights limits uses f ∙ full) (filled-sound h S f sound allowed) bank some
     (tables-filled h S weights limits uses f banks full tables allowed) swept.4
 
-pub tables-turned : (h : Header) (pair : ℕ) (S : State) (weights limits uses : List ℕ) (orders : List Resting) (fills : List Fill) → bank_count h ≤ 64 → length uses ≡ 4096 → IsSound h S → 0 < weight_of h pair → TablesFor h S weights limits uses → Turned h pair S orders fills → TablesFor h (filled_all S fills) weights limits (uses_after weights limits uses fills)
+pub tables-turned : (h : Header) (pair : ℕ) (S : State) (weights limits uses : List ℕ) (orders : List Resting) (fills : List Fill) → bank_count h ≤ 64 → length uses ≡ 4225 → IsSound h S → 0 < weight_of h pair → TablesFor h S weights limits uses → Turned h pair S orders fills → TablesFor h (filled_all S fills) weights limits (uses_after weights limits uses fills)
 tables-turned h pair S weights limits uses [] fills banks full sound some tables turned =
     subst (λ (fs : List Fill). TablesFor h (filled_all S fs) weights limits (uses_after weights limits uses fs)) (sym turned) tables
 tables-turned h pair S weights limits uses (order ∷ orders) fills banks full sound some tables turned =
@@ -118,7 +121,7 @@ tables-turned h pair S weights limits uses (order ∷ orders) fills banks full s
           (length-uses_after weights limits uses own ∙ full) next some first here.2.5)))
     ]
 
-pub tables-pairs : (h : Header) (pairs pair : ℕ) (S : State) (weights limits uses : List ℕ) (fills : List Fill) → IsSession h → pair + pairs ≤ pair_count h → length uses ≡ 4096 → IsSound h S → TablesFor h S weights limits uses → PairsTurned h pairs pair S fills → TablesFor h (filled_all S fills) weights limits (uses_after weights limits uses fills)
+pub tables-pairs : (h : Header) (pairs pair : ℕ) (S : State) (weights limits uses : List ℕ) (fills : List Fill) → IsSession h → pair + pairs ≤ pair_count h → length uses ≡ 4225 → IsSound h S → TablesFor h S weights limits uses → PairsTurned h pairs pair S fills → TablesFor h (filled_all S fills) weights limits (uses_after weights limits uses fills)
 tables-pairs h zero pair S weights limits uses fills session within full sound tables turned =
     subst (λ (fs : List Fill). TablesFor h (filled_all S fs) weights limits (uses_after weights limits uses fs)) (sym turned) tables
 tables-pairs h (suc pairs) pair S weights limits uses fills session within full sound tables turned =

@@ -12,9 +12,9 @@ use Rattle.flat_host.specs.Steps.{IsCommandOf, AnswersEach, ShowsEach}
 use Rattle.flat_host.proofs.Sendable.{sendable, pairs_of}
 use Rattle.flat_host.specs.Views.{TellsByView, FillsByView, ShowsByView, ShowsTruly}
 
-pub tells-by_view : (l : FlatState) (bank : ℕ) (command : Command) (outcome : Outcome) → IsCommandOf l bank command → AnswersEach l bank command outcome → TellsByView l bank command outcome
-tells-by_view l bank command outcome valid answers h S T other session sound sound' stands alike is =
-    views-told h S T bank command outcome other session sound sound'
+pub tells-by_view : (l : FlatState) (bank : ℕ) (command : Command) (outcome : Outcome) → bank < l.banks → IsCommandOf l bank command → AnswersEach l bank command outcome → TellsByView l bank command outcome
+tells-by_view l bank command outcome sender valid answers h S T other session sound sound' stands alike is =
+    views-told h S T bank command outcome other session sound sound' (omega (arith, sender, stands.banks))
     (sendable h S l bank command stands valid) alike (answers h S session sound stands) is
 
 pub fills-by_view : (l : FlatState) (bank : ℕ) (command : Command) (outcome : Outcome) → IsCommandOf l bank command → AnswersEach l bank command outcome → FillsByView l bank command outcome

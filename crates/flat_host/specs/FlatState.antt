@@ -4,6 +4,7 @@ use Rattle.fx_rules.specs.declared.orders.ActiveOrder.{ActiveOrder}
 use Rattle.fx_rules.specs.Lists.{Each}
 use Rattle.fx_rules.specs.Session.{Header, bank_count}
 use Rattle.fx_rules.specs.State.{State, used}
+use Rattle.fx_rules.specs.Sound.{IsPlain}
 
 -- how many banks there are; the orders that rest, in arrival order; two tables of credit by two banks; the number of
 -- commands of each sender; the weight of each pair
@@ -15,12 +16,12 @@ pub record FlatState : Type 0 where
   pub counts : List ℕ
   pub weights : List ℕ
 
--- the places of a limit and of a use in their tables, which have a row of 64 for each bank
+-- the places of a limit and of a use in their tables, which have a row of 65 for each bank
 abbrev pub limit_place : ℕ → ℕ → ℕ
-limit_place i j = 64 * i + j
+limit_place i j = 65 * i + j
 
 abbrev pub use_place : ℕ → ℕ → ℕ
-use_place i j = 64 * min i j + max i j
+use_place i j = 65 * min i j + max i j
 
 -- the limit that the first bank sets on the second
 abbrev pub limit_in : List ℕ → ℕ → ℕ → ℕ
@@ -36,14 +37,14 @@ line_in limits uses i j = min (limit_in limits i j) (limit_in limits j i) - use_
 
 -- no two different banks have used more than either's limit on the other
 abbrev pub IsWithin : List ℕ → List ℕ → Type 0
-IsWithin limits uses = (i j : ℕ) → i < 64 → j < 64 → i ≢ j → use_in uses i j ≤ limit_in limits i j
+IsWithin limits uses = (i j : ℕ) → i < 65 → j < 65 → i ≢ j → use_in uses i j ≤ limit_in limits i j
 
 -- numbers that weights can be
 abbrev pub AreWeights : List ℕ → Type 0
 AreWeights weights = Each (λ weight. (1 ≤ weight) × (weight ≤ 10 ^ 6)) weights
 
 -- the flat state stands for a state: it has its orders and counts, the weights of its session, and the limit and the use of
--- each two different banks
+-- each two different banks. It has no totals and no settlements, and so stands for states without them.
 pub record StandsFor (h : Header) (S : State) (l : FlatState) : Type 0 where
   pub banks : l.banks ≡ bank_count h
   pub orders : l.orders ≡ S.orders
@@ -51,3 +52,4 @@ pub record StandsFor (h : Header) (S : State) (l : FlatState) : Type 0 where
   pub weights : l.weights ≡ map (λ rule. rule.weight) h.pairs
   pub limits : (i j : ℕ) → i < bank_count h → j < bank_count h → i ≢ j → limit_in l.limits i j ≡ S.limits i j
   pub uses : (i j : ℕ) → i < bank_count h → j < bank_count h → i ≢ j → use_in l.uses i j ≡ used h S i j
+  pub plain : IsPlain S

@@ -30,7 +30,7 @@ uses_after weights limits uses (fill ∷ fills) = uses_after weights limits (use
 -- a sweep planned over a book, with the lines that tables of limits and uses leave
 pub record PlannedOver (weights limits uses : List ℕ) (book : List Resting) (t : Taker) (fills : List Fill) (left : ℕ) : Type 0 where
   pub lines : ℕ → ℕ
-  pub lines_are : (bank : ℕ) → bank < 64 → lines bank ≡ line_in limits uses t.bank bank
+  pub lines_are : (bank : ℕ) → bank < 65 → lines bank ≡ line_in limits uses t.bank bank
   pub planned : Planned (slice_index weights t.pair) lines book t None fills left
 
 -- the lots of an order that rest by its outcome

@@ -14,11 +14,12 @@ use Rattle.fx_rules.specs.Sound.{IsSound}
 use Rattle.fx_rules.specs.Market.{next_entry}
 use Rattle.flat_host.specs.FlatState.{FlatState, StandsFor}
 
--- the command is one that a bank may send in a session of the host's banks and weights
+-- the command is one that a bank may send in a valid session of the host's banks and weights
 pub record IsCommandOf (l : FlatState) (bank : ℕ) (command : Command) : Type 0 where
   pub session : Header
   pub banks : l.banks ≡ bank_count session
   pub weights : l.weights ≡ map (λ rule. rule.weight) session.pairs
+  pub valid : IsSession session
   pub may_send : IsCommand session bank command
 
 -- the outcome is one of each sound state that the host stands for

@@ -12,24 +12,24 @@ use fx_rules::{ActiveOrder, Fill, Resting};
 /// The place of the limit that bank `i` sets on bank `j`.
 pub fn limit_place(i: BankId, j: BankId) -> usize
     ensures value { result ≡ limit_place i j }
-    ensures most { result < 4096 }
-    ensures banks { (i < 64) × (j < 64) }
+    ensures most { result < 4225 }
+    ensures banks { (i < 65) × (j < 65) }
 {
-    64 * i.index() + j.index()
+    65 * i.index() + j.index()
 }
 
 /// The place of what two banks have used, in either order.
 pub fn use_place(i: BankId, j: BankId) -> usize
     ensures value { result ≡ use_place i j }
-    ensures most { result < 4096 }
+    ensures most { result < 4225 }
 {
-    64 * i.index().min(j.index()) + i.index().max(j.index())
+    65 * i.index().min(j.index()) + i.index().max(j.index())
 }
 
 /// The line between two banks, in credit units.
 pub fn line(limits: &[Units], uses: &[Units], i: BankId, j: BankId) -> u64
-    requires limits { length limits.now ≡ 4096 }
-    requires uses { length uses.now ≡ 4096 }
+    requires limits { length limits.now ≡ 4225 }
+    requires uses { length uses.now ≡ 4225 }
     ensures value { result ≡ line_in limits.now uses.now i j }
     ensures most { result + use_in uses.now i j ≤ 10 ^ 15 }
 {
@@ -40,13 +40,13 @@ pub fn line(limits: &[Units], uses: &[Units], i: BankId, j: BankId) -> u64
 
 /// The lines of a bank with each bank, in credit units.
 pub fn lines_of(limits: &[Units], uses: &[Units], bank: BankId) -> [u64; BankId::SENDERS]
-    requires limits { length limits.now ≡ 4096 }
-    requires uses { length uses.now ≡ 4096 }
-    ensures lines { (other : ℕ) → other < 64 → slice_index result other ≡ line_in limits.now uses.now bank other }
-    ensures most { total (λ line. line) result ≤ 64 * 10 ^ 15 }
+    requires limits { length limits.now ≡ 4225 }
+    requires uses { length uses.now ≡ 4225 }
+    ensures lines { (other : ℕ) → other < 65 → slice_index result other ≡ line_in limits.now uses.now bank other }
+    ensures most { total (λ line. line) result ≤ 65 * 10 ^ 15 }
 {
     let mut lines = [0; BankId::SENDERS];
-    for place in 0..64u8 {
+    for place in 0..65u8 {
         if let Some(other) = BankId::new(place) {
             lines[place as usize] = line(limits, uses, bank, other);
         }
@@ -101,8 +101,8 @@ pub fn weight_of(weights: &[u32], pair: PairId) -> u32
 
 /// Adds to what two banks have used, where their line pays for it.
 fn raise_use(limits: &[Units], uses: &mut [Units], i: BankId, j: BankId, units: u64)
-    requires limits { length limits.now ≡ 4096 }
-    requires uses { length uses.old ≡ 4096 }
+    requires limits { length limits.now ≡ 4225 }
+    requires uses { length uses.old ≡ 4225 }
     ensures uses { uses.new ≡ (if nat_le units (line_in limits.now uses.old i j) then slice_set uses.old (use_place i j) (use_in uses.old i j + units) else uses.old) }
     ensures within { IsWithin limits.now uses.old → IsWithin limits.now uses.new }
 {
@@ -122,8 +122,8 @@ pub fn make_fills(
     weights: &[u32],
     fills: &[Fill],
 )
-    requires limits { length limits.now ≡ 4096 }
-    requires uses { length uses.old ≡ 4096 }
+    requires limits { length limits.now ≡ 4225 }
+    requires uses { length uses.old ≡ 4225 }
     ensures orders { orders.new.items ≡ both_lowered orders.old.items fills.now }
     ensures len { vec_len orders.new ≤ vec_len orders.old }
     ensures room { vec_capacity orders.new ≡ vec_capacity orders.old }

@@ -38,9 +38,9 @@ pub struct FlatHost {
     banks: usize,
     /// In arrival order.
     orders: Vec<ActiveOrder>,
-    /// By two banks, in rows of 64.
+    /// By two banks, in rows of 65.
     limits: Vec<Units>,
-    /// By two banks, the lesser number first, in rows of 64.
+    /// By two banks, the lesser number first, in rows of 65.
     uses: Vec<Units>,
     /// The commands of each sender.
     counts: Vec<u32>,
@@ -62,13 +62,13 @@ impl Model for FlatHost {
     ghost invariant = { IsHost };
 }
 
-/// The limits that the banks open with, in rows of 64.
+/// The limits that the banks open with, in rows of 65.
 fn opening_limits(alloc: Global, session: &Session) -> Result<Vec<Units>, Memory>
-    ensures full { IfOk result (λ limits. vec_len limits ≡ 4096) }
+    ensures full { IfOk result (λ limits. vec_len limits ≡ 4225) }
     ensures limits { IfOk result (λ limits. OpensWith session.now limits.items) }
 {
     let mut limits = Vec::new(alloc);
-    for place in 0..4096u32 {
+    for place in 0..4225u32 {
         limits.push(opening_limit_at(session, place))?;
     }
     Ok(limits)
@@ -76,11 +76,11 @@ fn opening_limits(alloc: Global, session: &Session) -> Result<Vec<Units>, Memory
 
 /// A table in which nothing is used.
 fn no_uses(alloc: Global) -> Result<Vec<Units>, Memory>
-    ensures full { IfOk result (λ uses. vec_len uses ≡ 4096) }
+    ensures full { IfOk result (λ uses. vec_len uses ≡ 4225) }
     ensures uses { IfOk result (λ uses. (place : ℕ) → slice_index uses.items place ≡ 0) }
 {
     let mut uses = Vec::new(alloc);
-    for _place in 0..4096u32 {
+    for _place in 0..4225u32 {
         uses.push(Units::new(0).unwrap())?;
     }
     Ok(uses)
@@ -88,12 +88,12 @@ fn no_uses(alloc: Global) -> Result<Vec<Units>, Memory>
 
 /// The limit that stands at a place of the table; 0 where no two banks of the session have it.
 fn opening_limit_at(session: &Session, place: u32) -> Units
-    requires { place < 4096 }
+    requires { place < 4225 }
     ensures value { result ≡ limit_at session.now place }
 {
     let banks = session.banks().len();
-    let i = BankId::at((place / 64) as usize);
-    let j = BankId::at((place % 64) as usize);
+    let i = BankId::at((place / 65) as usize);
+    let j = BankId::at((place % 65) as usize);
     if i.index() < banks && j.index() < banks {
         session.limit(i, j)
     } else {
@@ -202,6 +202,7 @@ impl FlatHost {
                 count: count_of(&self.orders, pair, bank),
             }),
             Command::Line { bank: other, limit } => self.line_set(bank, other, limit),
+            Command::Total { .. } | Command::Settle { .. } => unreachable!(),
             Command::Show { bank: other } => Ok(self.shown(bank, other)),
             Command::Book { pair } => self.depth(bank, pair),
             Command::Bad { reason } => Ok(Outcome::Rejected { reason }),
@@ -309,7 +310,7 @@ impl FlatHost {
     fn sweep(&self, incoming: &SweptOrder) -> Result<Sweep, Memory>
         requires pair { incoming.now.pair < length self.now.weights }
         ensures planned { IfOk result (λ sweep. PlannedIn self.now incoming.now sweep.fills sweep.left) }
-        ensures lots { IfOk result (λ sweep. total (λ fill. fill.lots) sweep.fills ≤ 64 * 10 ^ 15) }
+        ensures lots { IfOk result (λ sweep. total (λ fill. fill.lots) sweep.fills ≤ 65 * 10 ^ 15) }
         ensures left { IfOk result (λ sweep. sweep.left ≤ incoming.now.left) }
     {
         let weight = self.weights[incoming.pair.index()];
@@ -332,8 +333,8 @@ impl FlatHost {
 
     /// What a bank's asking for a limit answers.
     fn line_set(&self, bank: BankId, other: BankId, asked: Units) -> Result<Outcome, Memory>
-        requires bank { bank < 64 }
-        requires other { other < 64 }
+        requires bank { bank < 65 }
+        requires other { other < 65 }
         ensures set { IfOk result (LineSetIn self.now bank other asked) }
     {
         let alloc = *self.orders.allocator();
@@ -442,6 +443,7 @@ impl FlatHost {
             Command::Line { bank: other, limit } => {
                 self.raise(bank, other, limit, outcome.fills())
             }
+            Command::Total { .. } | Command::Settle { .. } => unreachable!(),
             Command::Show { .. } | Command::Book { .. } | Command::Bad { .. } => {}
         }
         Ok(())

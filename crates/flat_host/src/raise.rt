@@ -31,8 +31,8 @@ pub fn raised_fills(
     terms: Terms,
     uses: &[Units],
 ) -> Result<FillList, Memory>
-    requires limits { length terms.limits.now ≡ 4096 }
-    requires uses { length uses.now ≡ 4096 }
+    requires limits { length terms.limits.now ≡ 4225 }
+    requires uses { length uses.now ≡ 4225 }
     requires pairs { length terms.weights.now ≤ 32 }
     requires weights { AreWeights terms.weights.now }
     ensures raised { IfOk result (λ fills. RaisedIn terms.entry.weights.now terms.entry.limits.now orders.now (length terms.entry.weights.now) 0 uses.now fills) }
@@ -55,8 +55,8 @@ fn pair_turns(
     uses: &mut [Units],
     pair: PairId,
 ) -> Result<Vec<Fill>, Memory>
-    requires limits { length terms.limits.now ≡ 4096 }
-    requires uses { length uses.old ≡ 4096 }
+    requires limits { length terms.limits.now ≡ 4225 }
+    requires uses { length uses.old ≡ 4225 }
     requires pair { pair < length terms.weights.now }
     requires weights { AreWeights terms.weights.now }
     ensures turned { IfOk result (λ fills. TurnedIn terms.entry.weights.now terms.entry.limits.now pair (in_pair pair orders.now) uses.old (orders_in pair orders.now) fills.items) }
@@ -96,8 +96,8 @@ fn turn(
     pair: PairId,
     order: &Resting,
 ) -> Result<FillList, Memory>
-    requires limits { length terms.limits.now ≡ 4096 }
-    requires uses { length uses.old ≡ 4096 }
+    requires limits { length terms.limits.now ≡ 4225 }
+    requires uses { length uses.old ≡ 4225 }
     requires pair { pair < length terms.weights.now }
     requires weights { AreWeights terms.weights.now }
     ensures turn { IfOk result (TurnOf terms.entry.weights.now terms.entry.limits.now pair book.old.items uses.old order.now) }

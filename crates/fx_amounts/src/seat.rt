@@ -3,7 +3,7 @@ ghost use Rattle.fx_amounts.specs.Seat.{IsBank, IsPair};
 
 use std::marker::Model;
 
-/// The number of a bank, in the order of the session's header: 0 to 63.
+/// The number of a sender: a bank's is its place in the session's header, 0 to 63, and the operator's is 64.
 #[derive(Clone, Copy, Debug, PartialEq, Eq, PartialOrd, Ord, Hash)]
 pub struct BankId(u8);
 
@@ -24,22 +24,25 @@ impl BankId {
     /// How many banks a session can have.
     pub const COUNT: usize = 64;
 
-    /// The places of an array that a bare number of a sender indexes: as many as there can be senders. The senders are the banks.
-    pub const SENDERS: usize = 64;
+    /// The places of an array that a bare number of a sender indexes: as many as there can be senders.
+    pub const SENDERS: usize = 65;
 
-    /// The bank of this number; `None` where it is out of range.
+    /// The operator, who is no bank: it has no line, no orders and no local book.
+    pub const HOST: BankId = BankId(64);
+
+    /// The sender of this number; `None` where it is out of range.
     pub fn new(number: u8) -> Option<BankId>
         ensures valid { IsSome result ↔ IsBank number }
         ensures value { IfSome result (λ bank. bank ≡ number) }
     {
-        if usize::from(number) < Self::COUNT {
+        if usize::from(number) < Self::SENDERS {
             Some(BankId(number))
         } else {
             None
         }
     }
 
-    /// The bank at a place of a table of banks.
+    /// The sender at a place of a table of senders.
     pub fn at(index: usize) -> BankId
         requires within { IsBank index }
         ensures value { result ≡ index }
@@ -47,10 +50,10 @@ impl BankId {
         BankId(index as u8)
     }
 
-    /// The bank's place in a table of banks.
+    /// The sender's place in a table of senders.
     pub fn index(self) -> usize
         ensures value { result ≡ self }
-        ensures most { result < 64 }
+        ensures most { result < 65 }
     {
         usize::from(self.0)
     }

@@ -38,4 +38,4 @@ abbrev pub no_table : TableId
 no_table = record { words = 0; slots = 0; views_name = 0; atom = 0; block = 0; offset = 0; slot_names = [] }
 
 abbrev pub no_session : Header
-no_session = record { banks = []; pairs = []; limits = [] }
+no_session = record { version = 1; banks = []; pairs = []; limits = []; totals = [] }

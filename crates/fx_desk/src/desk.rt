@@ -2,7 +2,7 @@ ghost use Rattle.std.specs.Prelude.{ℕ, ◌≡◌, ◌<◌, ◌-◌, ◌^◌, L
 ghost use mathlib.Core.List.{IsPrefix};
 ghost use Rattle.fx_rules.specs.declared.outcome.Entry.{Entry};
 ghost use Rattle.fx_rules.specs.Session.{Header};
-ghost use Rattle.fx_rules.specs.Step.{AreValues};
+ghost use Rattle.fx_rules.specs.Step.{IsCommand};
 ghost use Rattle.fx_rules.specs.History.{IsLegal};
 ghost use Rattle.fx_chronicle.specs.Faces.{longer};
 ghost use Rattle.fx_desk.specs.Submitting.{Submitted, Refused};
@@ -33,9 +33,10 @@ pub trait Desk {
     /// What a note tells.
     ghost known: { Self.Note → List Entry };
 
-    /// Carries out the bank's next command, with fewer than 2^32 - 1 before it. The command's pair and its other bank are the
-    /// session's, the other bank is not the sender, and the number that it names is at least 1. The pass has then seen one legal
-    /// history that begins with all that it had seen and ends with this command and its outcome. It may wait.
+    /// Carries out the bank's next command, one that the bank may send, with fewer than 2^32 - 1 before it. The command's pair and
+    /// its other bank are the session's, the other bank is not the sender, and the number that it names is at least 1. The pass
+    /// has then seen one legal history that begins with all that it had seen and ends with this command and its outcome. It may
+    /// wait.
     /// After `Memory` the history has nothing of this call, the pass is as it was, and the call may be made again.
     fn submit<R: Wait, G: Gate>(
         &self,
@@ -44,7 +45,7 @@ pub trait Desk {
         pass: &mut Self::Pass,
         command: &Command,
     ) -> Result<Outcome, Memory>
-        requires values { AreValues session (bank pass.old) command.now }
+        requires command { IsCommand session (bank pass.old) command.now }
         requires few { length (mine pass.old) < 2 ^ 32 - 1 }
         ensures bank { bank pass.new ≡ bank pass.old }
         ensures submitted { IfOk result (Submitted session (bank pass.old) (seen pass.old) (mine pass.old) command.now (seen pass.new) (mine pass.new)) }

@@ -4,9 +4,9 @@ use mathlib.Core.List.{IsPrefix}
 use Rattle.fx_rules.specs.declared.command.Command.{Command}
 use Rattle.fx_rules.specs.declared.outcome.Outcome.{Outcome}
 use Rattle.fx_rules.specs.declared.outcome.Entry.{Entry}
-use Rattle.fx_rules.specs.Session.{Header, pair_count, sender_places}
+use Rattle.fx_rules.specs.Session.{Header, pair_count}
 use Rattle.fx_rules.specs.State.{State, count_of}
-use Rattle.fx_rules.specs.Step.{AreValues, IsOutcome}
+use Rattle.fx_rules.specs.Step.{IsCommand, IsOutcome}
 use Rattle.fx_rules.specs.History.{IsLegal, state, own}
 use Rattle.fx_rules.specs.Keyed.{pair_key}
 use Rattle.fx_rules.proofs.Counting.{counts-own}
@@ -33,14 +33,14 @@ answered : (h : Header) (S : State) (bank : ℕ) (command : Command) (change : C
 answered h S bank command change answer under_way all command_is bank_is answers =
     subst (λ b. IsOutcome h S b command answer) bank_is (subst (λ (c : Command). IsOutcome h S change.bank c answer) command_is (answers h S under_way all))
 
-pub planned : (h : Header) (first : Recorded) (sender : Sender) (command : Command) (change : Change) (answer copy : Outcome) → IsCreditBook h first → IsNextIn (state h first.history.entries) sender → sender.bank < sender_places h → sender.number < 2 ^ 32 → AreValues h sender.bank command → is_change command ≡ true
+pub planned : (h : Header) (first : Recorded) (sender : Sender) (command : Command) (change : Change) (answer copy : Outcome) → IsCreditBook h first → IsNextIn (state h first.history.entries) sender → sender.number < 2 ^ 32 → IsCommand h sender.bank command → is_change command ≡ true
     → IsUnderWay h (state h first.history.entries) change → length change.plans ≡ pair_count h → change.command ≡ command → change.bank ≡ sender.bank → answer ≡ outcome_of change
     → ((g : Header) (T : State) → IsUnderWay g T change → length change.plans ≡ pair_count g → IsOutcome g T change.bank change.command answer) → copy ≡ answer
     → IsPlanned h first.history.entries sender.bank command change (entry_of sender command copy) answer
-planned h first sender command change answer copy kept next place most values changes under_way all command_is bank_is value answers copied =
+planned h first sender command change answer copy kept next most valid changes under_way all command_is bank_is value answers copied =
     let before : List Entry = first.history.entries in
     record {
-      legal = goes_on h before sender sender.bank command answer copy kept.legal next refl place most values
+      legal = goes_on h before sender sender.bank command answer copy kept.legal next refl most valid
           (answered h (state h before) sender.bank command change answer under_way all command_is bank_is answers) copied;
       sender = refl;
       asks = refl;

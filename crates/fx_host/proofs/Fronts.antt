@@ -1,17 +1,10 @@
--- The fronts of a blank with a key for each pair: those of the banks' keys, and those of the pairs.
-use Rattle.std.proofs.Common.{ℕ, zero, suc, ◌≡◌, ◌+◌, ◌≤◌, ◌<◌, List, [], ◌∷◌, length, take, drop, Option, Some, slice_get, refl, ap, ◌∙◌, arith}
-use Rattle.std.proofs.lemmas.List.{length-take-le, length-drop}
+-- The fronts of a blank with a key for each pair: those behind the banks' keys are the pairs'.
+use Rattle.std.proofs.Common.{ℕ, zero, suc, ◌≡◌, ◌+◌, ◌<◌, List, [], ◌∷◌, length, drop, Option, Some, slice_get, refl, ap, ◌∙◌, arith}
+use Rattle.std.proofs.lemmas.List.{length-drop}
 use Rattle.fx_rules.specs.declared.outcome.Entry.{Entry}
 use Rattle.fx_rules.specs.Keyed.{pair_key}
 use Rattle.fx_chronicle.specs.Faces.{Witness, witness, AreNew}
 use Rattle.fx_host.specs.inside.Opening.{ArePairFronts}
-
-get-take : {X : Type 0} (xs : List X) (n k : ℕ) → k < n → slice_get (take n xs) k ≡ slice_get xs k
-get-take [] zero k below = refl
-get-take [] (suc n) k below = refl
-get-take (x ∷ xs) zero k below = absurd (omega (arith, below))
-get-take (x ∷ xs) (suc n) zero below = refl
-get-take (x ∷ xs) (suc n) (suc k) below = get-take xs n k (omega (arith, below))
 
 get-drop : {X : Type 0} (xs : List X) (n k : ℕ) → slice_get (drop n xs) k ≡ slice_get xs (n + k)
 get-drop xs zero k = ap (slice_get xs) (omega arith)
@@ -30,10 +23,6 @@ in_order : (pair : ℕ) (fronts : List (Witness Entry)) → ((place : ℕ) → p
 in_order pair [] each = tt
 in_order pair (front ∷ fronts) each =
     (same_front front pair (each zero (omega arith) ∙ ap front_of (omega arith)), in_order (pair + 1) fronts (λ place below. each (suc place) (omega (arith, below)) ∙ ap front_of (omega arith)))
-
-pub bank-fronts : (keys : ℕ) (fronts : List (Witness Entry)) → AreNew keys fronts → 65 ≤ keys → AreNew 65 (take 65 fronts)
-bank-fronts keys fronts new least =
-    (length-take-le 65 fronts (omega (arith, new.0, least)), λ key below. get-take fronts 65 key below ∙ new.1 key (omega (arith, below, least)))
 
 pub pair-fronts : (keys : ℕ) (fronts : List (Witness Entry)) → AreNew keys fronts → ArePairFronts 0 (drop 65 fronts)
 unfolding front_of

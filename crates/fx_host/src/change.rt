@@ -1,8 +1,8 @@
 //! A credit change over all pairs, while no other command of a pair is served.
 ghost use Rattle.std.specs.Prelude.{◌≡◌, ◌<◌, ◌-◌, ◌+◌, ◌^◌, [], true, length, IfOk, OnOk, OnErr};
-ghost use Rattle.fx_rules.specs.Session.{IsSession, pair_count, sender_places};
+ghost use Rattle.fx_rules.specs.Session.{IsSession, pair_count};
 ghost use Rattle.fx_rules.specs.Keyed.{pair_key};
-ghost use Rattle.fx_rules.specs.Step.{AreValues};
+ghost use Rattle.fx_rules.specs.Step.{IsCommand};
 ghost use Rattle.fx_rules.specs.History.{state, own};
 ghost use Rattle.fx_rules.specs.Sending.{IsNextIn};
 ghost use Rattle.fx_chronicle.specs.Touching.{pends};
@@ -42,7 +42,7 @@ pub(crate) fn change_all<R: Wait, N: Naming>(
     pass: &mut Pass<N>,
     command: &Command,
 ) -> Result<Outcome, Memory>
-    requires values { AreValues N.session pass.old.key command.now }
+    requires command { IsCommand N.session pass.old.key command.now }
     requires change { is_change command.now ≡ true }
     requires few { length (own pass.old.key pass.old.met) < 2 ^ 32 - 1 }
     ensures bank { pass.new.key ≡ pass.old.key }
@@ -64,7 +64,7 @@ fn change_credit<R: Wait, N: Naming>(
     command: &Command,
 ) -> Result<Outcome, Memory>
     requires signed { credit.old.history.pending ≡ [] }
-    requires values { AreValues N.session pass.old.key command.now }
+    requires command { IsCommand N.session pass.old.key command.now }
     requires change { is_change command.now ≡ true }
     requires few { length (own pass.old.key pass.old.met) < 2 ^ 32 - 1 }
     ensures served { IfOk result (IsServed N.session credit.old.history.entries pass.old command.now credit.new.history.entries pass.new) }
@@ -96,9 +96,8 @@ fn plan_change<R: Wait, N: Naming>(
 ) -> Result<Planned, Memory>
     requires signed { credit.old.history.pending ≡ [] }
     requires next { IsNextIn (state N.session credit.old.history.entries) sender }
-    requires place { sender.bank < sender_places N.session }
     requires number { sender.number < 2 ^ 32 }
-    requires values { AreValues N.session sender.bank command.now }
+    requires command { IsCommand N.session sender.bank command.now }
     requires change { is_change command.now ≡ true }
     ensures planned { IfOk result (λ planned. IsPlanned N.session credit.old.history.entries sender.bank command.now planned.change planned.entry planned.answer) }
     ensures same { credit.new ≡ credit.old }

@@ -1,6 +1,6 @@
 //! The lock of the credit book, and who may have it.
 ghost use Rattle.std.specs.Prelude.{◌≡◌, ◌<◌, ◌-◌, ◌^◌, [], true, drop, length, IfOk, OnOk, OnErr};
-ghost use Rattle.fx_rules.specs.Step.{AreValues};
+ghost use Rattle.fx_rules.specs.Step.{IsCommand};
 ghost use Rattle.fx_rules.specs.History.{own};
 ghost use Rattle.fx_desk.specs.Submitting.{Submitted};
 ghost use Rattle.credit_table.specs.Table.{is_of_no_pair};
@@ -68,7 +68,7 @@ impl<N: Naming> CreditLock<N> {
         pass: &mut Pass<N>,
         command: &Command,
     ) -> Result<Outcome, Memory>
-        requires values { AreValues N.session pass.old.key command.now }
+        requires command { IsCommand N.session pass.old.key command.now }
         requires no_pair { is_of_no_pair command.now ≡ true }
         requires few { length (own pass.old.key pass.old.met) < 2 ^ 32 - 1 }
         ensures bank { pass.new.key ≡ pass.old.key }

@@ -1,7 +1,8 @@
 ghost use Rattle.std.specs.Prelude.{◌≡◌, ◌≤◌, ◌<◌, ◌-◌, ◌^◌, Some, true, drop, length, IfOk, OnOk, OnErr, vec_len, vec_capacity};
+ghost use Rattle.std.proofs.Props.{props};
 ghost use mathlib.Core.List.{IsPrefix};
 ghost use Rattle.fx_rules.specs.Session.{IsSession, pair_count};
-ghost use Rattle.fx_rules.specs.Step.{AreValues};
+ghost use Rattle.fx_rules.specs.Step.{IsCommand};
 ghost use Rattle.fx_rules.specs.History.{IsLegal, own};
 ghost use Rattle.fx_desk.specs.Submitting.{Submitted};
 ghost use Rattle.fx_rules.specs.Sending.{pair_of};
@@ -32,7 +33,7 @@ pub struct Host<N: Naming> {
     /// For the shards at the close.
     pub(crate) closed: Mutex<ShardRoom<N>>,
 
-    ghost session: { IsSession N.session },
+    ghost session: { IsSession N.session } by { Prim.hlevel props },
 }
 
 /// Room for the shards of all pairs, with none in it yet. It lies behind a lock only so that threads may share the host: a front is
@@ -56,7 +57,7 @@ impl<N: Naming> Host<N> {
         pass: &mut Pass<N>,
         command: &Command,
     ) -> Result<Outcome, Memory>
-        requires values { AreValues N.session pass.old.key command.now }
+        requires command { IsCommand N.session pass.old.key command.now }
         requires pair { pair_of command.now ≡ Some pair }
         requires few { length (own pass.old.key pass.old.met) < 2 ^ 32 - 1 }
         ensures bank { pass.new.key ≡ pass.old.key }

@@ -3,19 +3,19 @@ use Rattle.std.proofs.Common.{ℕ, zero, suc, ◌≡◌, ◌+◌, ◌-◌, ◌�
 use Rattle.fx_rules.specs.declared.orders.Resting.{Resting}
 use Rattle.fx_rules.specs.declared.orders.Fill.{Fill}
 use Rattle.fx_rules.specs.declared.command.Command.{Command}
-use Rattle.fx_rules.specs.declared.command.Command.TheVariants.{Order, Line, Book}
+use Rattle.fx_rules.specs.declared.command.Command.TheVariants.{Order, Line, Total, Settle, Book}
 use Rattle.fx_amounts.specs.declared.side.Side.{Side}
 use Rattle.fx_amounts.specs.declared.side.Side.TheVariants.{Buy, Sell}
 use Rattle.fx_rules.specs.declared.orders.Level.{Level}
 use Rattle.fx_rules.specs.declared.command.Life.{Life}
 use Rattle.fx_rules.specs.declared.command.Life.TheVariants.{Day, Ioc, Fok}
 use Rattle.fx_rules.specs.declared.outcome.Outcome.{Outcome}
-use Rattle.fx_rules.specs.declared.outcome.Outcome.TheVariants.{Ordered, Killed, LineSet, Depth}
+use Rattle.fx_rules.specs.declared.outcome.Outcome.TheVariants.{Ordered, Killed, LineSet, TotalSet, Settled, Depth}
 use Rattle.fx_rules.specs.Lists.{Among}
 use Rattle.fx_rules.specs.Session.{Header, IsSession, bank_count, pair_count, weight_of}
 use Rattle.fx_rules.specs.State.{State, orders_in, reach}
 use Rattle.fx_rules.specs.Sweep.{Taker, Swept, is_open, open_orders, IsBest, amount, fill_with, filled, filled_all, less, taker_of}
-use Rattle.fx_rules.specs.Raise.{limited, order_of, taker_of_resting, Turned, PairsTurned, Raised}
+use Rattle.fx_rules.specs.Raise.{limited, totalled, settled, order_of, taker_of_resting, Turned, PairsTurned, Raised}
 use Rattle.fx_rules.specs.Depth.{unlimited, levels_of, Shows}
 use Rattle.fx_rules.specs.Step.{IsCommand, IsOrdered, IsOutcome}
 use Rattle.fx_rules.specs.Sound.{IsSound}
@@ -23,7 +23,7 @@ use Rattle.fx_rules.proofs.ListLemmas.{Among-filter}
 use Rattle.fx_rules.proofs.Opens.{allowed-open}
 use Rattle.fx_rules.proofs.Credit.{IsAllowed}
 use Rattle.fx_rules.proofs.SweepSound.{filled-sound, swept-sound, weight_of-least}
-use Rattle.fx_rules.proofs.RaiseSound.{turn_of, turn-sender, turned-sound, limited-sound}
+use Rattle.fx_rules.proofs.RaiseSound.{turn_of, turn-sender, turned-sound, limited-sound, totalled-sound, settled-sound}
 use Rattle.fx_rules.proofs.Preference.{best_same}
 use Rattle.fx_rules.proofs.Planning.{orders_in-rising}
 
@@ -152,6 +152,32 @@ line_same h S bank other asked (LineSet limit fs) (LineSet limit' gs) session so
 line_same h S bank other asked (LineSet limit fs) two session sound valid a b = absurd b
 line_same h S bank other asked one two session sound valid a b = absurd a
 
+-- with one total set
+total_raised_same : (h : Header) (S : State) (bank most most' : ℕ) (fs gs : List Fill) → IsSession h → IsSound h (totalled bank most S) → most ≡ most' → Raised h (totalled bank most S) fs → Raised h (totalled bank most' S) gs → TotalSet most fs ≡ TotalSet most' gs
+total_raised_same h S bank most most' fs gs session sound same one two =
+    let fills : fs ≡ gs = pairs_turned-same h (pair_count h) 0 (totalled bank most S) fs gs session (omega arith) sound one
+    (subst (λ m. Raised h (totalled bank m S) gs) (sym same) two) in cc
+
+total_same : (h : Header) (S : State) (bank asked : ℕ) (one two : Outcome) → IsSession h → IsSound h S → IsCommand h bank (Total asked) → IsOutcome h S bank (Total asked) one → IsOutcome h S bank (Total asked) two → one ≡ two
+total_same h S bank asked (TotalSet most fs) (TotalSet most' gs) session sound valid a b =
+    total_raised_same h S bank most most' fs gs session
+    (totalled-sound h S bank asked most session sound valid.sends.0 valid.sends.1 valid.values a.0) (a.0 ∙ sym b.0) a.1 b.1
+total_same h S bank asked (TotalSet most fs) two session sound valid a b = absurd b
+total_same h S bank asked one two session sound valid a b = absurd a
+
+-- with as much given back
+settle_raised_same : (h : Header) (S : State) (a b given given' : ℕ) (fs gs : List Fill) → IsSession h → IsSound h (settled a b given S) → given ≡ given' → Raised h (settled a b given S) fs → Raised h (settled a b given' S) gs → Settled given fs ≡ Settled given' gs
+settle_raised_same h S a b given given' fs gs session sound same one two =
+    let fills : fs ≡ gs = pairs_turned-same h (pair_count h) 0 (settled a b given S) fs gs session (omega arith) sound one
+    (subst (λ units. Raised h (settled a b units S) gs) (sym same) two) in cc
+
+settle_same : (h : Header) (S : State) (sender a b asked : ℕ) (one two : Outcome) → IsSession h → IsSound h S → IsCommand h sender (Settle a b asked) → IsOutcome h S sender (Settle a b asked) one → IsOutcome h S sender (Settle a b asked) two → one ≡ two
+settle_same h S sender a b asked (Settled given fs) (Settled given' gs) session sound valid x y =
+    settle_raised_same h S a b given given' fs gs session
+    (settled-sound h S a b asked given sound valid.sends.0 x.0) (x.0 ∙ sym y.0) x.1 y.1
+settle_same h S sender a b asked (Settled given fs) two session sound valid x y = absurd y
+settle_same h S sender a b asked one two session sound valid x y = absurd x
+
 -- state, bank and pair determine a side of a local book
 pub shows-same : (h : Header) (S : State) (bank pair : ℕ) (side : Side) (levels levels' : List Level) → IsSound h S → bank < bank_count h → 0 < weight_of h pair → Shows h S bank pair side levels → Shows h S bank pair side levels' → levels ≡ levels'
 shows-same h S bank pair side levels levels' sound sender some one other =
@@ -174,5 +200,7 @@ pub outcome-same : (h : Header) (S : State) (bank : ℕ) (command : Command) (on
 outcome-same h S bank (Order side pair price lots life) one other session sound valid a b =
     ordered-same h S (taker_of S bank side pair price lots) life one other sound valid.sends (weight_of-least h pair session valid.values.0) a b
 outcome-same h S bank (Line to asked) one other session sound valid a b = line_same h S bank to asked one other session sound valid a b
+outcome-same h S bank (Total asked) one other session sound valid a b = total_same h S bank asked one other session sound valid a b
+outcome-same h S bank (Settle first second asked) one other session sound valid a b = settle_same h S bank first second asked one other session sound valid a b
 outcome-same h S bank (Book pair) one other session sound valid a b = book_same h S bank pair one other sound valid.sends (weight_of-least h pair session valid.values) a b
 outcome-same h S bank command one other session sound valid a b = a ∙ sym b

@@ -1,5 +1,5 @@
 -- The definitions tried on a small market, worked by hand.
-use Rattle.std.proofs.Common.{ℕ, ◌≡◌, List, [], ◌∷◌, inl, inr, refl, ap, sym, subst, ◌∙◌, length, arith, false}
+use Rattle.std.proofs.Common.{ℕ, ◌≡◌, List, [], ◌∷◌, inl, inr, refl, ap, sym, subst, ◌∙◌, length, arith, false, None}
 use Rattle.std.proofs.lemmas.Bool.{true≢false}
 use Rattle.fx_amounts.specs.declared.side.Side.TheVariants.{Buy, Sell}
 use Rattle.fx_rules.specs.declared.orders.ActiveOrder.{ActiveOrder}
@@ -25,7 +25,13 @@ abbrev pub pair : PairRule
 pair = record { base = 69 ∷ 85 ∷ 82 ∷ []; quote = 85 ∷ 83 ∷ 68 ∷ []; decimals = 5; lot = 1000000; weight = 100 }
 
 abbrev pub header : Header
-header = record { banks = [] ∷ [] ∷ [] ∷ []; pairs = pair ∷ []; limits = 0 ∷ 250 ∷ 100 ∷ 250 ∷ 0 ∷ 0 ∷ 100 ∷ 0 ∷ 0 ∷ [] }
+header = record {
+  version = 1;
+  banks = [] ∷ [] ∷ [] ∷ [];
+  pairs = pair ∷ [];
+  limits = 0 ∷ 250 ∷ 100 ∷ 250 ∷ 0 ∷ 0 ∷ 100 ∷ 0 ∷ 0 ∷ [];
+  totals = [];
+}
 
 abbrev pub sell : ℕ → ℕ → ℕ → ℕ → ℕ → ActiveOrder
 sell bank number price left arrival = record { pair = 0; order = record { bank = bank; number = number; side = Sell; price = price; left = left; arrival = arrival } }
@@ -35,7 +41,9 @@ abbrev pub market : State
 market = record {
   orders = sell 1 1 20 3 0 ∷ sell 2 1 10 2 1 ∷ sell 0 1 5 1 2 ∷ [];
   limits = opening_limit header;
+  totals = λ _. None;
   fills = [];
+  settlements = [];
   counts = 1 ∷ 1 ∷ 1 ∷ [];
 }
 

@@ -13,7 +13,8 @@ use Rattle.fx_rules.specs.Sweep.{Taker, Swept, filled, filled_all, lowered, is_o
 use Rattle.fx_rules.specs.Step.{reduced}
 use Rattle.fx_rules.specs.Sound.{IsSound, IsKept}
 use Rattle.fx_rules.proofs.ListLemmas.{Each-among, Among-filter, Among-map, among_filter}
-use Rattle.fx_rules.proofs.Credit.{line-falls, cost_between-swap}
+pub use Rattle.fx_rules.proofs.Credit.{line_swap}
+use Rattle.fx_rules.proofs.Credit.{line-falls}
 use Rattle.fx_rules.proofs.Planning.{div_mono, open_parts}
 use Rattle.fx_rules.proofs.SweepSound.{weight_of-least}
 
@@ -117,9 +118,6 @@ swept_end h S t [] left swept = elim swept.1 [
   | inr none_open ↦ inr none_open
 ]
 swept_end h S t (f ∷ fills) left swept = swept_end h (filled S f) (less t f.lots) fills left swept.4
-
-pub line_swap : (h : Header) (S : State) (i j : ℕ) → line h S i j ≡ line h S j i
-line_swap h S i j = omega (arith, cost_between-swap h i j S.fills)
 
 pub reach_swap : (h : Header) (S : State) (i j pair : ℕ) → reach h S i j pair ≡ reach h S j i pair
 reach_swap h S i j pair = ap (λ l. l / weight_of h pair) (line_swap h S i j)

@@ -1,7 +1,7 @@
 -- Which keys an entry touches.
 use Rattle.std.proofs.Common.{ℕ, ◌≡◌, ◌≢◌, ◌<◌, ◌==◌, ◌||◌, Bool, true, false, refl, ap, ◌∙◌, arith, eq-eqb, ne_eqb}
 use Rattle.fx_rules.specs.declared.command.Command.{Command}
-use Rattle.fx_rules.specs.declared.command.Command.TheVariants.{Order, Cancel, Reduce, Pull, Line, Show, Book, Bad}
+use Rattle.fx_rules.specs.declared.command.Command.TheVariants.{Order, Cancel, Reduce, Pull, Line, Total, Settle, Show, Book, Bad}
 use Rattle.fx_rules.specs.declared.outcome.Entry.{Entry}
 use Rattle.fx_rules.specs.Keyed.{pair_key, is_about, touches_key}
 use borrow.Author.Tests.{lt-leb}
@@ -25,13 +25,15 @@ touches-other e key apart about = ap (λ b. b || is_about e.command key) (ne_eqb
 apart_pair : (key pair : ℕ) → key < 65 → (key == pair_key pair) ≡ false
 apart_pair key pair lt = ne_eqb key (pair_key pair) (λ e. omega arith)
 
--- no command is about a bank
+-- no command is about a bank or the operator
 pub about-bank : (command : Command) (key : ℕ) → key < 65 → is_about command key ≡ false
 about-bank (Order side pair price lots life) key lt = apart_pair key pair lt
 about-bank (Cancel pair number) key lt = apart_pair key pair lt
 about-bank (Reduce pair number lots) key lt = apart_pair key pair lt
 about-bank (Pull pair) key lt = apart_pair key pair lt
 about-bank (Line bank limit) key lt = lt-leb 65 key lt
+about-bank (Total limit) key lt = lt-leb 65 key lt
+about-bank (Settle a b units) key lt = lt-leb 65 key lt
 about-bank (Show bank) key lt = refl
 about-bank (Book pair) key lt = apart_pair key pair lt
 about-bank (Bad reason) key lt = refl

@@ -2,7 +2,9 @@ pub mod ListLemmas
 pub mod Below
 pub mod Senders
 pub mod Lowering
+pub mod Totals
 pub mod Credit
+pub mod Plain
 pub mod Opens
 pub mod SweepSound
 pub mod RaiseSound
@@ -11,6 +13,7 @@ pub mod Soundness
 pub mod Preference
 pub mod Planning
 pub mod Existing
+pub mod Capped
 pub mod PlanSwept
 pub mod Determined
 pub mod NamesLemmas
@@ -23,6 +26,7 @@ pub mod Made
 pub mod Staying
 mod Examples
 mod RaiseExamples
+mod TotalExamples
 pub mod Following
 pub mod Settling
 pub mod Uncrossed

@@ -4,23 +4,23 @@ use Rattle.std.proofs.Common.{ℕ, zero, suc, ◌<◌, ◌≤◌, ◌+◌, ◌-�
 use Rattle.std.proofs.lemmas.List.{length-map}
 use Rattle.fx_rules.specs.declared.session.PairRule.{PairRule}
 use Rattle.fx_rules.specs.declared.command.Command.{Command}
-use Rattle.fx_rules.specs.declared.command.Command.TheVariants.{Order, Cancel, Reduce, Pull, Line, Show, Book, Bad}
+use Rattle.fx_rules.specs.declared.command.Command.TheVariants.{Order, Cancel, Reduce, Pull, Line, Total, Settle, Show, Book, Bad}
 use Rattle.fx_rules.specs.declared.command.Life.{Life}
 use Rattle.fx_rules.specs.declared.command.Life.TheVariants.{Day, Ioc, Fok}
 use Rattle.fx_rules.specs.declared.outcome.Outcome.{Outcome}
-use Rattle.fx_rules.specs.declared.outcome.Outcome.TheVariants.{Ordered, Killed, LineSet, Depth}
+use Rattle.fx_rules.specs.declared.outcome.Outcome.TheVariants.{Ordered, Killed, LineSet, TotalSet, Settled, Depth}
 use Rattle.fx_rules.specs.declared.orders.Fill.{Fill}
 use Rattle.fx_rules.specs.declared.orders.Resting.{Resting}
 use Rattle.fx_rules.specs.Session.{Header, IsSession, bank_count, pair_count, weight_of}
 use Rattle.fx_rules.specs.State.{State, reach}
 use Rattle.fx_rules.specs.Sweep.{Taker, Swept, filled, filled_all, less, fill_with, amount, taker_of}
-use Rattle.fx_rules.specs.Raise.{order_of, limited, Turned, PairsTurned}
-use Rattle.fx_rules.specs.Step.{IsCommand, IsOrdered, IsOutcome, fills_of, cancel_answer, reduce_answer, with_limit_set}
+use Rattle.fx_rules.specs.Raise.{order_of, limited, totalled, settled, Turned, PairsTurned}
+use Rattle.fx_rules.specs.Step.{IsCommand, IsOrdered, IsOutcome, fills_of, cancel_answer, reduce_answer, credit_changed}
 use Rattle.fx_rules.specs.Sound.{IsSound}
 use Rattle.fx_rules.proofs.Credit.{IsAllowed}
 use Rattle.fx_rules.proofs.Opens.{IsMaker, maker_of, allowed-open}
 use Rattle.fx_rules.proofs.SweepSound.{filled-sound, weight_of-least}
-use Rattle.fx_rules.proofs.RaiseSound.{turned-walk, pairs-walk, limited-sound}
+use Rattle.fx_rules.proofs.RaiseSound.{turned-walk, pairs-walk, limited-sound, totalled-sound, settled-sound}
 use Rattle.fx_rules.proofs.Falling.{cancel_fills, reduce_fills}
 
 pub record IsMade (h : Header) (S : State) (f : Fill) : Type 0 where
@@ -88,17 +88,27 @@ ordered-made h S t Fok (Ordered done rests fills) sound bank some is = swept-mad
 ordered-made h S t Fok Killed sound bank some is = tt
 ordered-made h S t life outcome sound bank some is = absurd is
 
-raised-made : (h : Header) (S : State) (bank other asked : ℕ) (outcome : Outcome) → IsSession h → IsSound h S → IsCommand h bank (Line other asked) → IsOutcome h S bank (Line other asked) outcome → AreMade h (with_limit_set S bank (Line other asked) outcome) (fills_of outcome)
+raised-made : (h : Header) (S : State) (bank other asked : ℕ) (outcome : Outcome) → IsSession h → IsSound h S → IsCommand h bank (Line other asked) → IsOutcome h S bank (Line other asked) outcome → AreMade h (credit_changed S bank (Line other asked) outcome) (fills_of outcome)
 raised-made h S bank other asked (LineSet limit fills) session sound valid is =
     pairs-made h (pair_count h) 0 (limited bank other limit S) fills session (omega arith) (limited-sound h S bank other asked limit sound valid.sends valid.values.0 valid.values.1 valid.values.2 is.0) is.1
 raised-made h S bank other asked outcome session sound valid is = absurd is
+
+total-made : (h : Header) (S : State) (bank asked : ℕ) (outcome : Outcome) → IsSession h → IsSound h S → IsCommand h bank (Total asked) → IsOutcome h S bank (Total asked) outcome → AreMade h (credit_changed S bank (Total asked) outcome) (fills_of outcome)
+total-made h S bank asked (TotalSet most fills) session sound valid is =
+    pairs-made h (pair_count h) 0 (totalled bank most S) fills session (omega arith) (totalled-sound h S bank asked most session sound valid.sends.0 valid.sends.1 valid.values is.0) is.1
+total-made h S bank asked outcome session sound valid is = absurd is
+
+settle-made : (h : Header) (S : State) (sender a b asked : ℕ) (outcome : Outcome) → IsSession h → IsSound h S → IsCommand h sender (Settle a b asked) → IsOutcome h S sender (Settle a b asked) outcome → AreMade h (credit_changed S sender (Settle a b asked) outcome) (fills_of outcome)
+settle-made h S sender a b asked (Settled given fills) session sound valid is =
+    pairs-made h (pair_count h) 0 (settled a b given S) fills session (omega arith) (settled-sound h S a b asked given sound valid.sends.0 is.0) is.1
+settle-made h S sender a b asked outcome session sound valid is = absurd is
 
 book_made : (h : Header) (S : State) (bank pair : ℕ) (outcome : Outcome) → IsOutcome h S bank (Book pair) outcome → AreMade h S (fills_of outcome)
 book_made h S bank pair (Depth bids asks) is = tt
 book_made h S bank pair outcome is = absurd is
 
 -- the fills of a command's outcome
-pub outcome-made : (h : Header) (S : State) (bank : ℕ) (command : Command) (outcome : Outcome) → IsSession h → IsSound h S → IsCommand h bank command → IsOutcome h S bank command outcome → AreMade h (with_limit_set S bank command outcome) (fills_of outcome)
+pub outcome-made : (h : Header) (S : State) (bank : ℕ) (command : Command) (outcome : Outcome) → IsSession h → IsSound h S → IsCommand h bank command → IsOutcome h S bank command outcome → AreMade h (credit_changed S bank command outcome) (fills_of outcome)
 outcome-made h S bank (Order side pair price lots life) outcome session sound valid is =
     ordered-made h S (taker_of S bank side pair price lots) life outcome sound valid.sends (weight_of-least h pair session valid.values.0) is
 outcome-made h S bank (Cancel pair number) outcome session sound valid is =
@@ -107,6 +117,8 @@ outcome-made h S bank (Reduce pair number lots) outcome session sound valid is =
     none_made h S outcome (reduce_answer lots (order_of S pair bank number)) is (reduce_fills lots (order_of S pair bank number))
 outcome-made h S bank (Pull pair) outcome session sound valid is = none_made h S outcome _ is refl
 outcome-made h S bank (Line other asked) outcome session sound valid is = raised-made h S bank other asked outcome session sound valid is
+outcome-made h S bank (Total asked) outcome session sound valid is = total-made h S bank asked outcome session sound valid is
+outcome-made h S bank (Settle a b asked) outcome session sound valid is = settle-made h S bank a b asked outcome session sound valid is
 outcome-made h S bank (Show other) outcome session sound valid is = none_made h S outcome _ is refl
 outcome-made h S bank (Book pair) outcome session sound valid is = book_made h S bank pair outcome is
 outcome-made h S bank (Bad reason) outcome session sound valid is = none_made h S outcome _ is refl

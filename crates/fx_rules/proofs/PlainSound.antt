@@ -22,8 +22,13 @@ fewer-sound h S stays sound = record {
   counts = sound.counts;
   kept = Each-filter (IsKept h S.counts) stays S.orders sound.kept;
   rising = EachPair-filter Rises stays S.orders sound.rising;
-  within = record { lines = sound.within.lines };
+  within = record { lines = sound.within.lines; totals = sound.within.totals };
   limits = sound.limits;
+  totals = sound.totals;
+  covered = sound.covered;
+  version_least = sound.version_least;
+  version_most = sound.version_most;
+  plain = λ first. let plain = sound.plain first in record { totals = plain.totals; settlements = plain.settlements };
 }
 
 -- what is true of each order, whatever it has left, stays true of each
@@ -65,6 +70,11 @@ reduced-sound h S bank number left sound lots = record {
     arrival = kept.arrival;
   }) S.orders sound.kept;
   rising = rising-reduced bank number left S.orders sound.rising;
-  within = record { lines = sound.within.lines };
+  within = record { lines = sound.within.lines; totals = sound.within.totals };
   limits = sound.limits;
+  totals = sound.totals;
+  covered = sound.covered;
+  version_least = sound.version_least;
+  version_most = sound.version_most;
+  plain = λ first. let plain = sound.plain first in record { totals = plain.totals; settlements = plain.settlements };
 }

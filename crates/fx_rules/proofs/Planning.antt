@@ -1,7 +1,7 @@
--- A sweep planned over an unchanged book is the sweep.
-use Rattle.std.proofs.Common.{ℕ, ◌≡◌, ◌≢◌, ◌+◌, ◌-◌, ◌*◌, ◌/◌, ◌≤◌, ◌<◌, min, Bool, true, false, not, cond, ◌&&◌, ◌||◌, eqb, leb, ltb, List, [], ◌∷◌, ◌⊎◌, inl, inr, refl, ap, sym, subst, ◌∙◌, arith, map}
+-- What is open to a taker before and after a fill, and how a fill lowers its lines.
+use Rattle.std.proofs.Common.{ℕ, ◌≡◌, ◌≢◌, ◌-◌, ◌*◌, ◌/◌, ◌≤◌, ◌<◌, Bool, true, false, not, cond, ◌&&◌, eqb, leb, ltb, List, [], ◌∷◌, ◌⊎◌, inl, inr, refl, ap, sym, subst, ◌∙◌, arith, map, Option}
 use Rattle.std.proofs.Math.Nat.{mul-le-mul_left}
-use Rattle.std.proofs.lemmas.Bool.{cases_Bool, cond_both, cond-true, cond-false, and_parts, and_from, and_left, and_right, or_left, or_from, eqb-true, eqb-false, eq-eqb, ne_eqb, ltb-true, le-leb, lt-ltb, not_from_false, not_from_true, false_from_ne_true, cases_lt}
+use Rattle.std.proofs.lemmas.Bool.{cases_Bool, cond_both, cond-true, cond-false, and_parts, and_from, and_right, or_left, eqb-true, eqb-false, eq-eqb, ne_eqb, ltb-true, le-leb, lt-ltb, not_from_false, not_from_true, false_from_ne_true, cases_lt}
 use Rattle.std.specs.List.{filter}
 use Rattle.fx_amounts.specs.Price.{crosses}
 use Rattle.fx_rules.specs.declared.orders.ActiveOrder.{ActiveOrder}
@@ -9,12 +9,12 @@ use Rattle.fx_rules.specs.declared.orders.Resting.{Resting}
 use Rattle.fx_rules.specs.declared.orders.Fill.{Fill}
 use Rattle.fx_rules.specs.Lists.{Among, Each, EachPair}
 use Rattle.fx_rules.specs.Session.{Header, bank_count, weight_of}
-use Rattle.fx_rules.specs.State.{State, orders_in, line, used, is_between, cost, cost_between}
+use Rattle.fx_rules.specs.State.{State, orders_in, line, left_of_limits, headroom, at_most, is_between}
 use Rattle.fx_rules.specs.Sweep.{Taker, is_open, is_opposite, is_order, fill_with, filled, lowered, with_left}
-use Rattle.fx_rules.specs.Sound.{ArrivesBefore, Rises}
+use Rattle.fx_rules.specs.Sound.{ArrivesBefore, IsCovered, Rises}
 use Rattle.fx_rules.specs.Plan.{spend}
 use Rattle.fx_rules.proofs.ListLemmas.{Each-among, filter_agree_on, filter_cons_true, filter_cons_false, EachPair-filter, EachPair-map}
-use Rattle.fx_rules.proofs.Credit.{used-filled, cost_between-one, cost_between-other}
+use Rattle.fx_rules.proofs.Credit.{room_less, most_pays, most_same, line-pays, line-other}
 use Rattle.fx_rules.proofs.Opens.{IsOpen, is_open-says, orders_in-among}
 
 -- the orders of a pair arrive one after another
@@ -152,58 +152,36 @@ div_none a w small =
 pub reach_used : (line w : ℕ) → 0 < w → (line - line / w * w) / w ≡ 0
 reach_used line w some = div_none (line - line / w * w) w (omega arith)
 
-less_used : (limit new old added cost : ℕ) → new ≡ old + added → added ≡ cost → limit - new ≡ limit - old - cost
-less_used limit new old added cost sum one = omega arith
-
-minus_none : (n : ℕ) → n - 0 ≡ n
-minus_none n = omega arith
-
-or_from_false : (a b : Bool) → a ≡ false → b ≡ false → (a || b) ≡ false
-or_from_false a b none nor = or_from a b none nor
-
 -- a taker's fill is between its bank and the maker's
 pub between_taker : (t : Taker) (o : Resting) (lots : ℕ) → is_between t.bank o.bank (fill_with t o lots) ≡ true
 between_taker t o lots =
     or_left (eqb t.bank t.bank && eqb o.bank o.bank) (eqb t.bank o.bank && eqb o.bank t.bank)
     (and_from (eqb t.bank t.bank) (eqb o.bank o.bank) (eq-eqb t.bank t.bank refl) (eq-eqb o.bank o.bank refl))
 
--- a fill lowers the line of its two banks by its cost
-pub line-filled_maker : (h : Header) (S : State) (t : Taker) (o : Resting) (lots : ℕ) → o.bank ≢ t.bank → line h (filled S (fill_with t o lots)) t.bank o.bank ≡ line h S t.bank o.bank - lots * weight_of h t.pair
-line-filled_maker h S t o lots differ =
+-- `lines` tells, with what the total of the taker's bank leaves, its line with each other bank
+abbrev pub Agrees : Header → State → ℕ → Option ℕ → (ℕ → ℕ) → Type 0
+Agrees h S bank purse lines = (other : ℕ) → other < bank_count h → other ≢ bank → at_most purse (lines other) ≡ line h S bank other
+
+pub agrees-filled : (h : Header) (S : State) (t : Taker) (o : Resting) (lots : ℕ) (purse : Option ℕ) (lines : ℕ → ℕ) → IsCovered h S → t.bank < bank_count h → o.bank < bank_count h → o.bank ≢ t.bank → purse ≡ headroom h S t.bank → Agrees h S t.bank purse lines → Agrees h (filled S (fill_with t o lots)) t.bank (room_less purse (lots * weight_of h t.pair)) (spend lines o.bank (lots * weight_of h t.pair))
+agrees-filled h S t o lots purse lines covered sender within differ purse_is agrees other other_in not_own =
     let f : Fill = fill_with t o lots in
+    let units : ℕ = lots * weight_of h t.pair in
     let both : is_between t.bank o.bank f ≡ true = between_taker t o lots in
-    let sum : used h (filled S f) t.bank o.bank ≡ used h S t.bank o.bank + cost_between h t.bank o.bank (f ∷ []) = used-filled h S f t.bank o.bank in
-    let one : cost_between h t.bank o.bank (f ∷ []) ≡ lots * weight_of h t.pair = cost_between-one h t.bank o.bank f both in
-    less_used (min (S.limits t.bank o.bank) (S.limits o.bank t.bank)) (used h (filled S f) t.bank o.bank) (used h S t.bank o.bank) (cost_between h t.bank o.bank (f ∷ [])) (lots * weight_of h t.pair) sum one
-
--- and no other line of the taker's bank
-pub line-filled_other : (h : Header) (S : State) (t : Taker) (o : Resting) (lots bank : ℕ) → bank ≢ o.bank → bank ≢ t.bank → line h (filled S (fill_with t o lots)) t.bank bank ≡ line h S t.bank bank
-line-filled_other h S t o lots bank not_maker not_own =
-    let f : Fill = fill_with t o lots in
-    let none : is_between t.bank bank f ≡ false =
-    or_from_false (eqb t.bank t.bank && eqb o.bank bank) (eqb t.bank bank && eqb o.bank t.bank)
-    (and_right (eqb t.bank t.bank) (eqb o.bank bank) (ne_eqb o.bank bank (λ e. not_maker (sym e))))
-    (and_left (eqb t.bank bank) (eqb o.bank t.bank) (ne_eqb t.bank bank (λ e. not_own (sym e)))) in
-    let sum : used h (filled S f) t.bank bank ≡ used h S t.bank bank + cost_between h t.bank bank (f ∷ []) = used-filled h S f t.bank bank in
-    let zero' : cost_between h t.bank bank (f ∷ []) ≡ 0 = cost_between-other h t.bank bank f none in
-    less_used (min (S.limits t.bank bank) (S.limits bank t.bank)) (used h (filled S f) t.bank bank) (used h S t.bank bank) (cost_between h t.bank bank (f ∷ [])) 0 sum zero'
-    ∙ minus_none (line h S t.bank bank)
-
--- `lines` tells the line of the taker's bank with each other bank
-abbrev pub Agrees : Header → State → ℕ → (ℕ → ℕ) → Type 0
-Agrees h S bank lines = (other : ℕ) → other < bank_count h → other ≢ bank → lines other ≡ line h S bank other
-
-pub agrees-filled : (h : Header) (S : State) (t : Taker) (o : Resting) (lots : ℕ) (lines : ℕ → ℕ) → o.bank < bank_count h → o.bank ≢ t.bank → Agrees h S t.bank lines → Agrees h (filled S (fill_with t o lots)) t.bank (spend lines o.bank (lots * weight_of h t.pair))
-agrees-filled h S t o lots lines within differ agrees other other_in not_own =
+    let apart : t.bank ≢ o.bank = λ same. differ (sym same) in
     elim (cases_Bool (eqb other o.bank)) [
       | inl is ↦
           let same : other ≡ o.bank = eqb-true other o.bank is in
-          cond-true (eqb other o.bank) (lines other - lots * weight_of h t.pair) (lines other) is
-          ∙ ap (λ n. n - lots * weight_of h t.pair) (agrees other other_in not_own)
-          ∙ subst (λ b. line h S t.bank b - lots * weight_of h t.pair ≡ line h (filled S (fill_with t o lots)) t.bank b) (sym same)
-          (sym (line-filled_maker h S t o lots differ))
+          ap (at_most (room_less purse units)) (cond-true (eqb other o.bank) (lines other - units) (lines other) is)
+          ∙ most_pays purse (lines other) (lines other - units) units refl
+          ∙ ap (λ n. n - units) (agrees other other_in not_own)
+          ∙ subst (λ b. line h S t.bank b - units ≡ line h (filled S f) t.bank b) (sym same)
+          (sym (line-pays h S f t.bank o.bank covered sender within apart both))
       | inr is_not ↦
-          cond-false (eqb other o.bank) (lines other - lots * weight_of h t.pair) (lines other) is_not
-          ∙ agrees other other_in not_own
-          ∙ sym (line-filled_other h S t o lots other (eqb-false other o.bank is_not) not_own)
+          let rest : ℕ = at_most (headroom h S other) (left_of_limits h S t.bank other) in
+          let same : at_most purse (lines other) ≡ at_most purse rest =
+          agrees other other_in not_own ∙ ap (λ p. at_most p rest) (sym purse_is) in
+          ap (at_most (room_less purse units)) (cond-false (eqb other o.bank) (lines other - units) (lines other) is_not)
+          ∙ most_same purse (lines other) rest units same
+          ∙ ap (λ p. at_most (room_less p units) rest) purse_is
+          ∙ sym (line-other h S f t.bank o.bank other covered within apart both not_own (eqb-false other o.bank is_not))
     ]

@@ -1,5 +1,5 @@
 -- Credit changes, reductions and local books tried on small markets, worked by hand.
-use Rattle.std.proofs.Common.{ℕ, ◌≡◌, ◌+◌, List, [], ◌∷◌, inl, inr, refl, arith, map, take}
+use Rattle.std.proofs.Common.{ℕ, ◌≡◌, ◌+◌, List, [], ◌∷◌, inl, inr, refl, arith, map, take, None}
 use Rattle.fx_amounts.specs.declared.side.Side.TheVariants.{Buy, Sell}
 use Rattle.fx_rules.specs.declared.orders.ActiveOrder.{ActiveOrder}
 use Rattle.fx_rules.specs.declared.orders.Resting.{Resting}
@@ -19,7 +19,9 @@ abbrev spent : State
 spent = record {
   orders = sell 1 1 20 1 0 ∷ buy 0 1 20 1 1 ∷ [];
   limits = λ i j. 250;
+  totals = λ _. None;
   fills = fill 1 20 2 ∷ [];
+  settlements = [];
   counts = 1 ∷ 1 ∷ 0 ∷ [];
 }
 
@@ -86,7 +88,9 @@ abbrev apart : State
 apart = record {
   orders = sell 1 1 30 1 0 ∷ buy 0 1 50 2 1 ∷ sell 1 2 10 1 2 ∷ [];
   limits = λ i j. 1000;
+  totals = λ _. None;
   fills = [];
+  settlements = [];
   counts = 1 ∷ 2 ∷ 0 ∷ [];
 }
 

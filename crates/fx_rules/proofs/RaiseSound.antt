@@ -1,17 +1,20 @@
--- A credit change keeps a state sound: a limit falls to no less than what is used, and each turn is a sweep.
-use Rattle.std.proofs.Common.{ℕ, zero, suc, ◌≡◌, ◌≢◌, ◌+◌, ◌≤◌, ◌<◌, Bool, true, ◌&&◌, eqb, List, [], ◌∷◌, ◌++◌, ◌⊎◌, inl, inr, refl, ap, sym, subst, ◌∙◌, arith, Option, Some, None, MatchOption, find}
-use Rattle.std.proofs.lemmas.Bool.{cond_both, and_parts, eqb-true}
+-- A credit change keeps a state sound: a limit falls to no less than what is used, a total to no less than what is spent, no more
+-- than what is used is given back, and each turn is a sweep.
+use Rattle.std.proofs.Common.{ℕ, zero, suc, ◌≡◌, ◌≢◌, ◌+◌, ◌*◌, ◌^◌, ◌≤◌, ◌<◌, Bool, true, ◌&&◌, eqb, List, [], ◌∷◌, ◌++◌, ◌⊎◌, inl, inr, refl, ap, sym, subst, ◌∙◌, arith, Option, Some, None, MatchOption, find}
+use Rattle.std.proofs.lemmas.Bool.{cases_Bool, cases_eq, cond_both, cond-true, cond-false, and_parts, eqb-true, eq-eqb, ne_eqb}
 use Rattle.fx_amounts.specs.Quantity.{IsUnits}
 use Rattle.fx_rules.specs.declared.orders.ActiveOrder.{ActiveOrder}
 use Rattle.fx_rules.specs.declared.orders.Resting.{Resting}
 use Rattle.fx_rules.specs.declared.orders.Fill.{Fill}
 use Rattle.fx_rules.specs.Lists.{Among}
 use Rattle.fx_rules.specs.Session.{Header, IsSession, bank_count, pair_count, weight_of}
-use Rattle.fx_rules.specs.State.{State, used, orders_in}
+use Rattle.fx_rules.specs.State.{State, Settlement, used, spent, others, settles, settled_between, orders_in}
 use Rattle.fx_rules.specs.Sweep.{Taker, Swept, is_order, filled_all}
-use Rattle.fx_rules.specs.Raise.{limit_set, limited, order_of, taker_of_resting, Turned, PairsTurned, Raised}
+use Rattle.fx_rules.specs.Raise.{limit_set, limited, total_set, totalled, given_back, settled, order_of, taker_of_resting, Turned, PairsTurned, Raised}
 use Rattle.fx_rules.specs.Sound.{IsSound, IsKept}
 use Rattle.fx_rules.proofs.ListLemmas.{Each-among}
+use Rattle.fx_rules.proofs.Totals.{total_rises, total_others-most}
+use Rattle.fx_rules.proofs.Credit.{used-swap, settled_between-append, settled_between-one, settled_between-other, settles_cases}
 use Rattle.fx_rules.proofs.Opens.{orders_in-among}
 use Rattle.fx_rules.proofs.SweepSound.{swept-sound, filled_all-append, weight_of-least}
 
@@ -137,9 +140,101 @@ limited-sound h S bank other asked limit sound sender other_in differ most is_li
   within = record {
     lines = λ i j i_in j_in apart. limit_cases h S bank other limit i j (λ a b l. used h S a b ≤ l)
         (omega (arith, is_limit)) (sound.within.lines i j i_in j_in apart);
+    totals = sound.within.totals;
   };
   limits = λ i j i_in j_in apart. limit_cases h S bank other limit i j (λ _ _ l. IsUnits l)
       (omega (arith, is_limit, most, used_most h S bank other sound sender other_in (λ same. differ (sym same)))) (sound.limits i j i_in j_in apart);
+  totals = sound.totals;
+  covered = sound.covered;
+  version_least = sound.version_least;
+  version_most = sound.version_most;
+  plain = λ first. let plain = sound.plain first in record { totals = plain.totals; settlements = plain.settlements };
+}
+
+-- what a bank has spent is at most the sum of its largest limits
+spent_most : (h : Header) (S : State) (i : ℕ) → IsSession h → IsSound h S → i < bank_count h → spent h S i ≤ 64 * 10 ^ 15
+spent_most h S i session sound i_in =
+    omega (
+      arith,
+      session.banks_most,
+      total_others-most h i 1000000000000000 (used h S i)
+          (λ k k_in differ. used_most h S i k sound i_in k_in (λ same. differ (sym same))),
+    )
+
+some_same : (a b : ℕ) → Some a ≡ Some b → a ≡ b
+some_same a b same = cc
+
+-- the totals of a state in which a bank set one
+total_cases : (S : State) (bank most i total : ℕ) (P : ℕ → ℕ → Type 0) → P bank most → (S.totals i ≡ Some total → P i total) → (totalled bank most S).totals i ≡ Some total → P i total
+total_cases S bank most i total P here there has =
+    elim (cases_eq i bank) [
+      | inl own ↦
+          let same : most ≡ total = some_same most total (sym (cond-true (eqb i bank) (Some most) (S.totals i) (eq-eqb i bank own)) ∙ has) in
+          subst (λ k. P k total) (sym own) (subst (P bank) same here)
+      | inr other ↦ there (sym (cond-false (eqb i bank) (Some most) (S.totals i) (ne_eqb i bank other)) ∙ has)
+    ]
+
+-- A total may be set to what is asked or what is spent, whichever is more.
+pub totalled-sound : (h : Header) (S : State) (bank asked most : ℕ) → IsSession h → IsSound h S → h.version ≡ 2 → bank < bank_count h → IsUnits asked → most ≡ total_set h S bank asked → IsSound h (totalled bank most S)
+totalled-sound h S bank asked most session sound second sender units is_total = record {
+  counts = sound.counts;
+  kept = sound.kept;
+  rising = sound.rising;
+  within = record {
+    lines = sound.within.lines;
+    totals = λ i total i_in has. total_cases S bank most i total (λ k m. spent h S k ≤ m)
+        (omega (arith, is_total)) (sound.within.totals i total i_in) has;
+  };
+  limits = sound.limits;
+  totals = λ i total i_in has. total_cases S bank most i total (λ _ m. m ≤ 64 * 10 ^ 15)
+      (omega (arith, is_total, units, spent_most h S bank session sound sender)) (sound.totals i total i_in) has;
+  covered = sound.covered;
+  version_least = sound.version_least;
+  version_most = sound.version_most;
+  plain = λ first. absurd (omega (arith, first, second));
+}
+
+-- more that is given back leaves less used
+settled_more : (S : State) (a b units i j : ℕ) → settled_between i j (settled a b units S).settlements ≡ settled_between i j S.settlements + settled_between i j (record { a = a; b = b; units = units } ∷ [])
+settled_more S a b units i j = settled_between-append i j S.settlements (record { a = a; b = b; units = units } ∷ [])
+
+settled_less : (h : Header) (S : State) (a b units i j : ℕ) → used h (settled a b units S) i j ≤ used h S i j
+settled_less h S a b units i j = omega (arith, settled_more S a b units i j)
+
+-- what is given back between two banks is at most what they have used
+pub given_within : (h : Header) (S : State) (a b units i j : ℕ) → units ≤ used h S a b → settled_between i j (record { a = a; b = b; units = units } ∷ []) ≤ used h S i j
+given_within h S a b units i j within =
+    let s : Settlement = record { a = a; b = b; units = units } in
+    elim (cases_Bool (settles i j s)) [
+      | inl is ↦
+          let has : units ≤ used h S i j = elim (settles_cases i j s is) [
+            | inl same ↦ subst (λ k. units ≤ used h S k j) same.0 (subst (λ k. units ≤ used h S a k) same.1 within)
+            | inr same ↦ omega (arith, used-swap h S j i, subst (λ k. units ≤ used h S k i) same.0 (subst (λ k. units ≤ used h S a k) same.1 within))
+          ] in
+          omega (arith, has, settled_between-one i j s is)
+      | inr isnt ↦ omega (arith, settled_between-other i j s isnt)
+    ]
+
+-- No more may be given back between two banks than they have used.
+pub settled-sound : (h : Header) (S : State) (a b asked given : ℕ) → IsSound h S → h.version ≡ 2 → given ≡ given_back h S a b asked → IsSound h (settled a b given S)
+settled-sound h S a b asked given sound second is_given = record {
+  counts = sound.counts;
+  kept = sound.kept;
+  rising = sound.rising;
+  within = record {
+    lines = λ i j i_in j_in apart. omega (arith, settled_less h S a b given i j, sound.within.lines i j i_in j_in apart);
+    totals = λ i most i_in has. omega (
+      arith,
+      total_rises (used h (settled a b given S) i) (used h S i) (others h i) (settled_less h S a b given i),
+      sound.within.totals i most i_in has,
+    );
+  };
+  limits = sound.limits;
+  totals = sound.totals;
+  covered = λ i j. omega (arith, settled_more S a b given i j, given_within h S a b given i j (omega (arith, is_given)), sound.covered i j);
+  version_least = sound.version_least;
+  version_most = sound.version_most;
+  plain = λ first. absurd (omega (arith, first, second));
 }
 
 pub raised-sound : (h : Header) (S : State) (fills : List Fill) → IsSession h → IsSound h S → Raised h S fills → IsSound h (filled_all S fills)

@@ -1,7 +1,8 @@
 -- Every state of a legal history is sound.
-use Rattle.std.proofs.Common.{get_or-set_same as get_or_set_here, ℕ, zero, suc, ◌≡◌, ◌+◌, ◌-◌, ◌*◌, ◌≤◌, ◌<◌, ltb, List, [], ◌∷◌, ◌++◌, not, ◌&&◌, eqb, refl, ap, sym, subst, ◌∙◌, arith, length, get_or}
+use Rattle.std.proofs.Common.{get_or-set_same as get_or_set_here, ℕ, zero, suc, ◌≡◌, ◌+◌, ◌-◌, ◌*◌, ◌≤◌, ◌<◌, ltb, List, [], ◌∷◌, ◌++◌, not, ◌&&◌, eqb, cond, inl, inr, refl, ap, sym, subst, ◌∙◌, arith, length, get_or, Option, Some, None}
 use Rattle.std.proofs.Math.ListN.{set, length-set}
-use Rattle.std.proofs.lemmas.Bool.{cond_both, ltb-true}
+use Rattle.std.specs.Prelude.{All, IfSome}
+use Rattle.std.proofs.lemmas.Bool.{cases_lt, cond_both, ltb-true}
 use Rattle.std.proofs.lemmas.List.{length-replicate}
 use Rattle.std.proofs.Math.Nat.{mul-le-mul_left}
 use Rattle.fx_amounts.specs.declared.side.Side.{Side}
@@ -10,25 +11,26 @@ use Rattle.fx_amounts.specs.Quantity.{IsLots, IsUnits}
 use Rattle.fx_rules.specs.declared.orders.ActiveOrder.{ActiveOrder}
 use Rattle.fx_rules.specs.declared.orders.Fill.{Fill}
 use Rattle.fx_rules.specs.declared.command.Command.{Command}
-use Rattle.fx_rules.specs.declared.command.Command.TheVariants.{Order, Cancel, Reduce, Pull, Line, Show, Book, Bad}
+use Rattle.fx_rules.specs.declared.command.Command.TheVariants.{Order, Cancel, Reduce, Pull, Line, Total, Settle, Show, Book, Bad}
 use Rattle.fx_rules.specs.declared.command.Life.{Life}
 use Rattle.fx_rules.specs.declared.command.Life.TheVariants.{Day, Ioc, Fok}
 use Rattle.fx_rules.specs.declared.outcome.Outcome.{Outcome}
-use Rattle.fx_rules.specs.declared.outcome.Outcome.TheVariants.{Ordered, Killed, Cancelled, Reduced, Pulled, LineSet}
+use Rattle.fx_rules.specs.declared.outcome.Outcome.TheVariants.{Ordered, Killed, Cancelled, Reduced, Pulled, LineSet, TotalSet, Settled}
 use Rattle.fx_rules.specs.declared.outcome.Entry.{Entry}
 use Rattle.fx_rules.specs.Lists.{total}
-use Rattle.fx_rules.specs.Session.{Header, IsSession, bank_count, pair_count, sender_places, weight_of, opening_limit}
-use Rattle.fx_rules.specs.State.{State, opening, arrivals, count_of}
+use Rattle.fx_rules.specs.Session.{Header, IsSession, bank_count, pair_count, sender_places, weight_of, opening_limit, opening_total}
+use Rattle.fx_rules.specs.State.{State, opening, arrivals, count_of, used}
 use Rattle.fx_rules.specs.Sweep.{Taker, Swept, filled_all, is_order, taker_of}
-use Rattle.fx_rules.specs.Raise.{limited, order_of}
+use Rattle.fx_rules.specs.Raise.{limited, totalled, settled, order_of}
 use Rattle.fx_rules.specs.Step.{IsCommand, IsOrdered, IsOutcome, rested, counted, changed, after}
 use Rattle.fx_rules.specs.History.{IsStep, Steps, IsLegal, after_entry, after_all, state}
 use Rattle.fx_rules.specs.Sound.{IsSound, IsKept, Rises}
 use Rattle.fx_rules.proofs.ListLemmas.{Each-append, Each-weaker, EachPair-push, total-set}
 use Rattle.fx_rules.proofs.Senders.{command-place}
-use Rattle.fx_rules.proofs.RaiseSound.{limited-sound, raised-sound}
+use Rattle.fx_rules.proofs.RaiseSound.{limited-sound, totalled-sound, settled-sound, raised-sound}
+use Rattle.fx_rules.proofs.Totals.{total_others-none}
 use Rattle.fx_rules.proofs.PlainSound.{fewer-sound, reduced-sound, reduced_to}
-pub use Rattle.fx_rules.proofs.SweepSound.{filled-sound, swept-sound, counts-filled_all, limits-filled_all, filled_all-append, weight_of-least}
+pub use Rattle.fx_rules.proofs.SweepSound.{filled-sound, swept-sound, counts-filled_all, limits-filled_all, totals-filled_all, settlements-filled_all, filled_all-append, weight_of-least}
 
 -- a count that is raised lets no count fall
 set_more : (counts : List ℕ) (i j : ℕ) → get_or counts j 0 ≤ get_or (set counts i (get_or counts i 0 + 1)) j 0
@@ -55,8 +57,13 @@ counted-sound h S sender sound within = record {
   kept = Each-weaker (IsKept h S.counts) (IsKept h (set S.counts sender (count_of S sender + 1)))
       (kept_counted h S.counts sender (omega (arith, sound.counts))) S.orders sound.kept;
   rising = sound.rising;
-  within = record { lines = sound.within.lines };
+  within = record { lines = sound.within.lines; totals = sound.within.totals };
   limits = sound.limits;
+  totals = sound.totals;
+  covered = sound.covered;
+  version_least = sound.version_least;
+  version_most = sound.version_most;
+  plain = λ first. let plain = sound.plain first in record { totals = plain.totals; settlements = plain.settlements };
 }
 
 -- an order as it comes to rest
@@ -105,8 +112,13 @@ pushed-sound h S t rests sound next some most =
       );
       rising = EachPair-push Rises S.orders (resting_of t rests) sound.rising
           (Each-weaker (IsKept h S.counts) (λ a. Rises a (resting_of t rests)) (before_next h S t rests next) S.orders sound.kept);
-      within = record { lines = sound.within.lines };
+      within = record { lines = sound.within.lines; totals = sound.within.totals };
       limits = sound.limits;
+      totals = sound.totals;
+      covered = sound.covered;
+      version_least = sound.version_least;
+      version_most = sound.version_most;
+      plain = λ first. let plain = sound.plain first in record { totals = plain.totals; settlements = plain.settlements };
     }
 
 pub next_same : (h : Header) (S S' : State) (t : Taker) → S'.counts ≡ S.counts → IsNext h S t → IsNext h S' t
@@ -165,6 +177,18 @@ line-sound h S bank other asked (LineSet limit fills) session sound command is =
     (limited-sound h S bank other asked limit sound command.sends command.values.0 command.values.1 command.values.2 is.0) is.1
 line-sound h S bank other asked outcome session sound command is = absurd is
 
+total-sound : (h : Header) (S : State) (bank asked : ℕ) (outcome : Outcome) → IsSession h → IsSound h S → IsCommand h bank (Total asked) → IsOutcome h S bank (Total asked) outcome → IsSound h (changed S bank (Total asked) outcome)
+total-sound h S bank asked (TotalSet most fills) session sound command is =
+    raised-sound h (totalled bank most S) fills session
+    (totalled-sound h S bank asked most session sound command.sends.0 command.sends.1 command.values is.0) is.1
+total-sound h S bank asked outcome session sound command is = absurd is
+
+settle-sound : (h : Header) (S : State) (sender a b asked : ℕ) (outcome : Outcome) → IsSession h → IsSound h S → IsCommand h sender (Settle a b asked) → IsOutcome h S sender (Settle a b asked) outcome → IsSound h (changed S sender (Settle a b asked) outcome)
+settle-sound h S sender a b asked (Settled given fills) session sound command is =
+    raised-sound h (settled a b given S) fills session
+    (settled-sound h S a b asked given sound command.sends.0 is.0) is.1
+settle-sound h S sender a b asked outcome session sound command is = absurd is
+
 cancel-sound : (h : Header) (S : State) (bank pair number : ℕ) (outcome : Outcome) → IsSound h S → IsSound h (changed S bank (Cancel pair number) outcome)
 cancel-sound h S bank pair number (Cancelled left) sound = fewer-sound h S (λ active. not (is_order bank number active.order)) sound
 cancel-sound h S bank pair number outcome sound = sound
@@ -190,6 +214,10 @@ after-sound h S bank (Pull pair) outcome session sound valid is =
     counted-sound h (changed S bank (Pull pair) outcome) bank (pull-sound h S bank pair outcome sound) (command-place h bank (Pull pair) session valid)
 after-sound h S bank (Line other asked) outcome session sound valid is =
     counted-sound h (changed S bank (Line other asked) outcome) bank (line-sound h S bank other asked outcome session sound valid is) (command-place h bank (Line other asked) session valid)
+after-sound h S bank (Total asked) outcome session sound valid is =
+    counted-sound h (changed S bank (Total asked) outcome) bank (total-sound h S bank asked outcome session sound valid is) (command-place h bank (Total asked) session valid)
+after-sound h S bank (Settle a b asked) outcome session sound valid is =
+    counted-sound h (changed S bank (Settle a b asked) outcome) bank (settle-sound h S bank a b asked outcome session sound valid is) (command-place h bank (Settle a b asked) session valid)
 after-sound h S bank (Show other) outcome session sound valid is = counted-sound h S bank sound (command-place h bank (Show other) session valid)
 after-sound h S bank (Book pair) outcome session sound valid is = counted-sound h S bank sound (command-place h bank (Book pair) session valid)
 after-sound h S bank (Bad reason) outcome session sound valid is = counted-sound h S bank sound (command-place h bank (Bad reason) session valid)
@@ -201,13 +229,46 @@ limit_most : (h : Header) → IsSession h → (i j : ℕ) → i < bank_count h �
 limit_most h session i j i_in j_in =
     session.limits_most (i * bank_count h + j) 0 (omega (arith, limit_place (bank_count h) i j i_in j_in, session.limits_full))
 
+none_beyond : (totals : List (Option ℕ)) (i most : ℕ) → length totals ≤ i → get_or totals i None ≡ Some most → most ≤ 1000000000000000
+none_beyond [] i most beyond has = cc
+none_beyond (t ∷ totals) zero most beyond has = absurd (omega (arith, beyond))
+none_beyond (t ∷ totals) (suc i) most beyond has = none_beyond totals i most (omega (arith, beyond)) has
+
+none_in : (totals : List (Option ℕ)) (i : ℕ) → length totals ≡ 0 → get_or totals i None ≡ None
+none_in [] i none = refl
+none_in (t ∷ totals) i none = absurd (omega (arith, none))
+
+-- the total that a bank opens with is one of the header's
+total_place : (totals : List (Option ℕ)) (i most : ℕ) → All (λ total. IfSome total (λ units. units ≤ 1000000000000000)) totals → get_or totals i None ≡ Some most → most ≤ 1000000000000000
+total_place totals i most each has =
+    elim (cases_lt i (length totals)) [
+      | inl within ↦
+          let fits : IfSome (get_or totals i None) (λ units. units ≤ 1000000000000000) = each i None within in
+          subst (λ (total : Option ℕ). IfSome total (λ units. units ≤ 1000000000000000)) has fits
+      | inr beyond ↦ none_beyond totals i most beyond has
+    ]
+
+total_most : (h : Header) → IsSession h → (i most : ℕ) → opening_total h i ≡ Some most → most ≤ 1000000000000000
+total_most h session i most has = total_place h.totals i most session.totals_most has
+
+none_first : (h : Header) → IsSession h → h.version ≡ 1 → (i : ℕ) → opening_total h i ≡ None
+none_first h session first i = none_in h.totals i (session.totals_full ∙ ap (λ v. cond (eqb v 2) (bank_count h) 0) first)
+
 pub opening-sound : (h : Header) → IsSession h → IsSound h (opening h)
 opening-sound h session = record {
   counts = length-replicate (sender_places h) 0;
   kept = tt;
   rising = tt;
-  within = record { lines = λ i j _ _ _. omega arith };
+  within = record {
+    lines = λ i j _ _ _. omega arith;
+    totals = λ i most _ _. omega (arith, total_others-none h i (used h (opening h) i) (λ k. omega arith));
+  };
   limits = λ i j i_in j_in _. limit_most h session i j i_in j_in;
+  totals = λ i most _ has. omega (arith, total_most h session i most has);
+  covered = λ i j. omega arith;
+  version_least = session.version_least;
+  version_most = session.version_most;
+  plain = λ first. record { totals = none_first h session first; settlements = refl };
 }
 
 pub steps-sound : (h : Header) (S : State) (entries : List Entry) → IsSession h → IsSound h S → Steps h S entries → IsSound h (after_all S entries)

@@ -9,17 +9,17 @@ use Rattle.fx_rules.specs.declared.orders.ActiveOrder.{ActiveOrder}
 use Rattle.fx_rules.specs.declared.orders.Resting.{Resting}
 use Rattle.fx_rules.specs.declared.orders.Fill.{Fill}
 use Rattle.fx_rules.specs.declared.command.Command.{Command}
-use Rattle.fx_rules.specs.declared.command.Command.TheVariants.{Order, Cancel, Reduce, Pull, Line, Show, Book, Bad}
+use Rattle.fx_rules.specs.declared.command.Command.TheVariants.{Order, Cancel, Reduce, Pull, Line, Total, Settle, Show, Book, Bad}
 use Rattle.fx_rules.specs.declared.command.Life.{Life}
 use Rattle.fx_rules.specs.declared.command.Life.TheVariants.{Day, Ioc, Fok}
 use Rattle.fx_rules.specs.declared.outcome.Outcome.{Outcome}
-use Rattle.fx_rules.specs.declared.outcome.Outcome.TheVariants.{Ordered, Killed, Cancelled, Reduced, Pulled, LineSet}
+use Rattle.fx_rules.specs.declared.outcome.Outcome.TheVariants.{Ordered, Killed, Cancelled, Reduced, Pulled, LineSet, TotalSet, Settled}
 use Rattle.fx_rules.specs.declared.outcome.Entry.{Entry}
 use Rattle.fx_rules.specs.Lists.{Among, EachPair}
 use Rattle.fx_rules.specs.Session.{Header, IsSession, bank_count, pair_count, weight_of}
 use Rattle.fx_rules.specs.State.{State, orders_in, count_of}
 use Rattle.fx_rules.specs.Sweep.{Taker, Swept, filled, filled_all, lowered, less, is_order, with_left, taker_of}
-use Rattle.fx_rules.specs.Raise.{limited, order_of, taker_of_resting, Turned}
+use Rattle.fx_rules.specs.Raise.{limited, totalled, settled, order_of, taker_of_resting, Turned}
 use Rattle.fx_rules.specs.Step.{IsCommand, IsOrdered, IsOutcome, cancel_answer, reduce_answer, rested, reduced, changed, may_change}
 use Rattle.fx_rules.specs.History.{IsStep, after_entry}
 use Rattle.fx_rules.specs.Sound.{IsSound, IsKept, Rises}
@@ -43,6 +43,8 @@ pub changed-counts : (S : State) (bank : ℕ) (command : Command) (outcome : Out
 changed-counts S bank (Order side pair price lots life) (Ordered done rests fills) =
     counts-rested (taker_of S bank side pair price lots) rests (filled_all S fills) ∙ counts-filled_all S fills
 changed-counts S bank (Line other asked) (LineSet limit fills) = counts-filled_all (limited bank other limit S) fills
+changed-counts S bank (Total asked) (TotalSet most fills) = counts-filled_all (totalled bank most S) fills
+changed-counts S bank (Settle a b asked) (Settled given fills) = counts-filled_all (settled a b given S) fills
 changed-counts S bank (Cancel pair number) (Cancelled left) = refl
 changed-counts S bank (Reduce pair number lots) (Reduced left) = refl
 changed-counts S bank (Pull pair) (Pulled count) = refl
@@ -270,6 +272,8 @@ other_stays h S bank (Reduce its_pair number lots) outcome pair session sound va
 other_stays h S bank (Pull its_pair) outcome pair session sound valid is other =
     pull-stays S bank its_pair outcome pair (eqb-false its_pair pair other)
 other_stays h S bank (Line to asked) outcome pair session sound valid is other = cc
+other_stays h S bank (Total asked) outcome pair session sound valid is other = cc
+other_stays h S bank (Settle a b asked) outcome pair session sound valid is other = cc
 other_stays h S bank (Show to) outcome pair session sound valid is other = refl
 other_stays h S bank (Book its_pair) outcome pair session sound valid is other = refl
 other_stays h S bank (Bad reason) outcome pair session sound valid is other = refl

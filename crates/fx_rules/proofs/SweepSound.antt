@@ -11,7 +11,7 @@ use Rattle.fx_rules.specs.State.{State, reach}
 use Rattle.fx_rules.specs.Sweep.{Taker, Swept, filled, filled_all, less, lowered, with_left, fill_with, amount}
 use Rattle.fx_rules.specs.Sound.{IsSound, IsKept}
 use Rattle.fx_rules.proofs.Lowering.{Each-lowered, rising-lowered}
-use Rattle.fx_rules.proofs.Credit.{IsAllowed, Within-filled}
+use Rattle.fx_rules.proofs.Credit.{IsAllowed, Within-filled, covered-filled}
 use Rattle.fx_rules.proofs.Opens.{allowed-open}
 
 kept_less : (h : Header) (counts : List ℕ) (a : ActiveOrder) (left : ℕ) → IsKept h counts a → 1 ≤ left → left ≤ a.order.left → IsKept h counts (with_left a left)
@@ -32,8 +32,13 @@ filled-sound h S f sound allowed = record {
       (Each-lowered (IsKept h S.counts) (kept_less h S.counts) f.maker f.maker_number f.lots S.orders sound.kept);
   rising = rising-lowered f.taker f.taker_number f.lots (lowered f.maker f.maker_number f.lots S.orders)
       (rising-lowered f.maker f.maker_number f.lots S.orders sound.rising);
-  within = Within-filled h S f sound.within allowed;
+  within = Within-filled h S f sound.covered sound.within allowed;
   limits = sound.limits;
+  totals = sound.totals;
+  covered = covered-filled h S f sound.covered;
+  version_least = sound.version_least;
+  version_most = sound.version_most;
+  plain = λ first. let plain = sound.plain first in record { totals = plain.totals; settlements = plain.settlements };
 }
 
 -- a sweep keeps a state sound, and takes no more than the taker has
@@ -54,6 +59,14 @@ counts-filled_all S (f ∷ fills) = counts-filled_all (filled S f) fills
 pub limits-filled_all : (S : State) (fills : List Fill) → (filled_all S fills).limits ≡ S.limits
 limits-filled_all S [] = refl
 limits-filled_all S (f ∷ fills) = limits-filled_all (filled S f) fills
+
+pub totals-filled_all : (S : State) (fills : List Fill) → (filled_all S fills).totals ≡ S.totals
+totals-filled_all S [] = refl
+totals-filled_all S (f ∷ fills) = totals-filled_all (filled S f) fills
+
+pub settlements-filled_all : (S : State) (fills : List Fill) → (filled_all S fills).settlements ≡ S.settlements
+settlements-filled_all S [] = refl
+settlements-filled_all S (f ∷ fills) = settlements-filled_all (filled S f) fills
 
 pub filled_all-append : (S : State) (xs ys : List Fill) → filled_all S (xs ++ ys) ≡ filled_all (filled_all S xs) ys
 filled_all-append S [] ys = refl

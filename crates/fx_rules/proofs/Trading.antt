@@ -7,7 +7,7 @@ use Rattle.fx_rules.specs.Lists.{Each}
 use Rattle.fx_rules.specs.Session.{Header, IsSession}
 use Rattle.fx_rules.specs.State.{State, opening}
 use Rattle.fx_rules.specs.Sweep.{filled}
-use Rattle.fx_rules.specs.Step.{fills_of, with_limit_set}
+use Rattle.fx_rules.specs.Step.{fills_of, credit_changed}
 use Rattle.fx_rules.specs.History.{IsStep, Steps, IsLegal, after_entry, after_all, state}
 use Rattle.fx_rules.specs.Sound.{IsSound}
 use Rattle.fx_rules.specs.inside.Trade.{IsTrade}
@@ -46,7 +46,7 @@ Each-legal h P has entries legal = Each-steps h P has (opening h) entries legal.
 
 pub step-trades : (h : Header) (S : State) (e : Entry) → IsSession h → IsSound h S → IsStep h S e → Each (IsTrade h) (fills_of e.outcome)
 step-trades h S e session sound step =
-    trades-made h (with_limit_set S e.bank e.command e.outcome) (fills_of e.outcome)
+    trades-made h (credit_changed S e.bank e.command e.outcome) (fills_of e.outcome)
     (outcome-made h S e.bank e.command e.outcome session sound step.command step.outcome)
 
 -- the fills after a step are those before and the outcome's

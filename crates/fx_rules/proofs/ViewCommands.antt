@@ -9,11 +9,11 @@ use Rattle.fx_rules.specs.declared.orders.Resting.{Resting}
 use Rattle.fx_rules.specs.declared.orders.Fill.{Fill}
 use Rattle.fx_rules.specs.declared.orders.Level.{Level}
 use Rattle.fx_rules.specs.declared.command.Command.{Command}
-use Rattle.fx_rules.specs.declared.command.Command.TheVariants.{Order, Cancel, Reduce, Pull, Line, Show, Book, Bad}
+use Rattle.fx_rules.specs.declared.command.Command.TheVariants.{Order, Cancel, Reduce, Pull, Line, Total, Settle, Show, Book, Bad}
 use Rattle.fx_rules.specs.declared.command.Life.{Life}
 use Rattle.fx_rules.specs.declared.command.Life.TheVariants.{Day, Ioc, Fok}
 use Rattle.fx_rules.specs.declared.outcome.Outcome.{Outcome}
-use Rattle.fx_rules.specs.declared.outcome.Outcome.TheVariants.{Ordered, Killed, Cancelled, Reduced, NotLess, Nothing, Pulled, LineSet, Shown, Depth}
+use Rattle.fx_rules.specs.declared.outcome.Outcome.TheVariants.{Ordered, Killed, Cancelled, Reduced, NotLess, Nothing, Pulled, LineSet, TotalSet, Shown, Depth}
 use Rattle.fx_rules.specs.Session.{Header, IsSession, bank_count, pair_count}
 use Rattle.fx_rules.specs.State.{State, orders_in, reach}
 use Rattle.fx_rules.specs.Sweep.{is_order, taker_of}
@@ -30,7 +30,7 @@ use Rattle.fx_rules.proofs.ViewLists.{Paired, together-like, find-together, find
 use Rattle.fx_rules.proofs.ViewOpen.{shown, visible, FillsAlike, like_bank}
 use Rattle.fx_rules.proofs.ViewFill.{like_number}
 use Rattle.fx_rules.proofs.ViewSweep.{ends-alike}
-use Rattle.fx_rules.proofs.ViewTold.{credit_same, views-alike, next-told, ordered_told}
+use Rattle.fx_rules.proofs.ViewTold.{credit_same, spent_same, views-alike, next-told, ordered_told}
 
 -- ---- orders
 
@@ -207,23 +207,32 @@ line-told h S T b k asked (LineSet limit fs) (LineSet limit' gs) same within dif
 line-told h S T b k asked (LineSet limit fs) other same within differ a c = absurd c
 line-told h S T b k asked one other same within differ a c = absurd a
 
+total-told : (h : Header) (S T : State) (b asked : ℕ) (one other : Outcome) → view h S b ≡ view h T b → IsOutcome h S b (Total asked) one → IsOutcome h T b (Total asked) other → told one ≡ told other
+total-told h S T b asked (TotalSet most fs) (TotalSet most' gs) same a c =
+    ap (λ m. TotalSet m []) (a.0 ∙ ap (max asked) (spent_same h S T b same) ∙ sym c.0)
+total-told h S T b asked (TotalSet most fs) other same a c = absurd c
+total-told h S T b asked one other same a c = absurd a
+
 -- ---- all commands
 
-pub views-told : (h : Header) (S T : State) (b : ℕ) (command : Command) (one other : Outcome) → IsSession h → IsSound h S → IsSound h T → IsCommand h b command → view h S b ≡ view h T b → IsOutcome h S b command one → IsOutcome h T b command other → told one ≡ told other
-views-told h S T b (Order side pair price lots life) one other session sound sound_other valid same a c =
+pub views-told : (h : Header) (S T : State) (b : ℕ) (command : Command) (one other : Outcome) → IsSession h → IsSound h S → IsSound h T → b < bank_count h → IsCommand h b command → view h S b ≡ view h T b → IsOutcome h S b command one → IsOutcome h T b command other → told one ≡ told other
+views-told h S T b (Order side pair price lots life) one other session sound sound_other bank_in valid same a c =
     order-told h S T b side pair price lots life one other session sound sound_other valid.sends valid.values.0 same a c
-views-told h S T b (Cancel pair number) one other session sound sound_other valid same a c =
+views-told h S T b (Cancel pair number) one other session sound sound_other bank_in valid same a c =
     ap told a ∙ cancel_by_left (order_of S pair b number) ∙ ap cancel_left (own-left h S T b pair number sound sound_other valid.values.0 same)
     ∙ sym (cancel_by_left (order_of T pair b number)) ∙ sym (ap told c)
-views-told h S T b (Reduce pair number lots) one other session sound sound_other valid same a c =
+views-told h S T b (Reduce pair number lots) one other session sound sound_other bank_in valid same a c =
     ap told a ∙ reduce_by_left lots (order_of S pair b number) ∙ ap (reduce_left lots) (own-left h S T b pair number sound sound_other valid.values.0 same)
     ∙ sym (reduce_by_left lots (order_of T pair b number)) ∙ sym (ap told c)
-views-told h S T b (Pull pair) one other session sound sound_other valid same a c =
+views-told h S T b (Pull pair) one other session sound sound_other bank_in valid same a c =
     ap told a ∙ ap Pulled (pulled-same h S T b pair sound sound_other valid.values same) ∙ sym (ap told c)
-views-told h S T b (Line k asked) one other session sound sound_other valid same a c =
+views-told h S T b (Line k asked) one other session sound sound_other bank_in valid same a c =
     line-told h S T b k asked one other same valid.values.0 valid.values.1 a c
-views-told h S T b (Show k) one other session sound sound_other valid same a c =
+views-told h S T b (Total asked) one other session sound sound_other bank_in valid same a c = total-told h S T b asked one other same a c
+views-told h S T b (Settle i j asked) one other session sound sound_other bank_in valid same a c =
+    absurd (omega (arith, bank_in, session.banks_most, valid.sends.1))
+views-told h S T b (Show k) one other session sound sound_other bank_in valid same a c =
     ap told a ∙ ap (λ (s : CreditSeen). Shown s.limit s.used s.line) (credit_same h S T b k same valid.values.0 valid.values.1) ∙ sym (ap told c)
-views-told h S T b (Book pair) one other session sound sound_other valid same a c =
+views-told h S T b (Book pair) one other session sound sound_other bank_in valid same a c =
     book-told h S T b pair one other session sound sound_other valid.sends valid.values same a c
-views-told h S T b (Bad reason) one other session sound sound_other valid same a c = ap told (a ∙ sym c)
+views-told h S T b (Bad reason) one other session sound sound_other bank_in valid same a c = ap told (a ∙ sym c)

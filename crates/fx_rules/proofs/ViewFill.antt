@@ -1,17 +1,17 @@
 -- Two fills that look the same to a bank lead from states that look alike to it to states that do.
-use Rattle.std.proofs.Common.{ℕ, ◌≡◌, ◌≢◌, ◌+◌, ◌-◌, ◌*◌, ◌<◌, min, Bool, true, ◌&&◌, ◌||◌, eqb, List, [], ◌∷◌, map, inl, inr, refl, ap, sym, subst, ◌∙◌, arith}
+use Rattle.std.proofs.Common.{ℕ, ◌≡◌, ◌≢◌, ◌-◌, ◌*◌, ◌<◌, Bool, true, ◌&&◌, ◌||◌, eqb, List, [], ◌∷◌, map, ◌⊎◌, inl, inr, refl, ap, sym, subst, ◌∙◌}
 use Rattle.std.specs.List.{filter}
 use Rattle.std.proofs.lemmas.Bool.{cases_Bool, cond-true, cases_eq, eq-eqb}
 use Rattle.fx_rules.specs.declared.orders.ActiveOrder.{ActiveOrder}
 use Rattle.fx_rules.specs.declared.orders.Resting.{Resting}
 use Rattle.fx_rules.specs.declared.orders.Fill.{Fill}
 use Rattle.fx_rules.specs.Lists.{Among, EachPair}
-use Rattle.fx_rules.specs.Session.{Header, pair_count, weight_of}
-use Rattle.fx_rules.specs.State.{State, orders_in, line, used, is_between, cost, cost_between}
+use Rattle.fx_rules.specs.Session.{Header, bank_count, pair_count, weight_of}
+use Rattle.fx_rules.specs.State.{State, orders_in, headroom, at_most, left_of_limits, line, is_between, cost, cost_between}
 use Rattle.fx_rules.specs.Sweep.{Taker, open_orders, is_order, fill_with, filled, lowered}
-use Rattle.fx_rules.specs.Sound.{IsSound, Rises}
+use Rattle.fx_rules.specs.Sound.{IsSound, IsCovered, Rises}
 use Rattle.fx_rules.specs.View.{seen_as}
-use Rattle.fx_rules.proofs.Credit.{used-filled, cost_between-one, cost_between-other}
+use Rattle.fx_rules.proofs.Credit.{IsAllowed, is_between-swap, between-own, cost_between-one, cost_between-other, room_less, headroom-by, spent-between, most_same, line-pays, line-other}
 use Rattle.fx_rules.proofs.Opens.{IsMaker, maker_of}
 use Rattle.fx_rules.proofs.Following.{lowered_from}
 use Rattle.fx_rules.proofs.Staying.{Elsewhere, active_same, filled_elsewhere}
@@ -95,24 +95,99 @@ same_fill b t number left arrival a c lots lots' like commands same = record {
 between_banks : ℕ → ℕ → ℕ → ℕ → Bool
 between_banks i k taker maker = (eqb taker i && eqb maker k) || (eqb taker k && eqb maker i)
 
+-- fills that look the same are of the same two banks
+between_same : (b i k : ℕ) (f g : Fill) → SameFill b f g → is_between i k f ≡ is_between i k g
+unfolding between_banks
+between_same b i k f g same = ap (λ n. between_banks i k n f.maker) same.taker ∙ ap (between_banks i k g.taker) same.maker
+
 -- fills that look the same use the same
 pub cost_same : (h : Header) (b i k : ℕ) (f g : Fill) → SameFill b f g → cost_between h i k (f ∷ []) ≡ cost_between h i k (g ∷ [])
-unfolding between_banks
 cost_same h b i k f g same =
-    let between : is_between i k f ≡ is_between i k g =
-    ap (λ n. between_banks i k n f.maker) same.taker ∙ ap (between_banks i k g.taker) same.maker in
+    let between : is_between i k f ≡ is_between i k g = between_same b i k f g same in
     let costs : cost h f ≡ cost h g = ap (λ n. n * weight_of h f.pair) same.lots ∙ ap (λ p. g.lots * weight_of h p) same.pair in
     elim (cases_Bool (is_between i k f)) [
       | inl is ↦ cost_between-one h i k f is ∙ costs ∙ sym (cost_between-one h i k g (sym between ∙ is))
       | inr isnt ↦ cost_between-other h i k f isnt ∙ sym (cost_between-other h i k g (sym between ∙ isnt))
     ]
 
-falls_by : (least used more now : ℕ) → now ≡ used + more → least - now ≡ (least - used) - more
-falls_by least used more now is = omega arith
+-- Two fills that look the same, each of which its state's credit allows, and of which one bank is b.
+pub record FillsMatch (h : Header) (b : ℕ) (X Y : State) (f g : Fill) : Type 0 where
+  pub covered : IsCovered h X
+  pub covered_other : IsCovered h Y
+  pub same : SameFill b f g
+  pub allowed : IsAllowed h X f
+  pub own : (f.taker ≡ b) ⊎ (f.maker ≡ b)
 
-pub line-filled : (h : Header) (X : State) (f : Fill) (i k : ℕ) → line h (filled X f) i k ≡ line h X i k - cost_between h i k (f ∷ [])
-line-filled h X f i k =
-    falls_by (min (X.limits i k) (X.limits k i)) (used h X i k) (cost_between h i k (f ∷ [])) (used h (filled X f) i k) (used-filled h X f i k)
+-- the bank that b has a fill with
+pub record IsPartner (h : Header) (b partner : ℕ) (f g : Fill) : Type 0 where
+  pub within : partner < bank_count h
+  pub differ : b ≢ partner
+  pub between : is_between b partner f ≡ true
+  pub between_other : is_between b partner g ≡ true
+
+module _ (h : Header) (b : ℕ) (X Y : State) (f g : Fill) (match : FillsMatch h b X Y f g) where
+  partner_of : (partner : ℕ) × IsPartner h b partner f g
+  partner_of = elim match.own [
+    | inl taker ↦
+        let is : is_between b f.maker f ≡ true = subst (λ n. is_between n f.maker f ≡ true) taker (between-own f) in (
+          f.maker,
+          record {
+            within = match.allowed.maker;
+            differ = λ same. match.allowed.differ (taker ∙ same);
+            between = is;
+            between_other = sym (between_same b b f.maker f g match.same) ∙ is;
+          },
+        )
+    | inr maker ↦
+        let is : is_between b f.taker f ≡ true =
+        subst (λ n. is_between n f.taker f ≡ true) maker (sym (is_between-swap f.taker f.maker f) ∙ between-own f) in (
+          f.taker,
+          record {
+            within = match.allowed.taker;
+            differ = λ same. match.allowed.differ (sym same ∙ sym maker);
+            between = is;
+            between_other = sym (between_same b b f.taker f g match.same) ∙ is;
+          },
+        )
+  ]
+
+  costs : cost h f ≡ cost h g
+  costs = ap (λ n. n * weight_of h f.pair) match.same.lots ∙ ap (λ p. g.lots * weight_of h p) match.same.pair
+
+  room_filled : (Z : State) (k : Fill) (partner : ℕ) → IsCovered h Z → partner < bank_count h → b ≢ partner → is_between b partner k ≡ true → headroom h (filled Z k) b ≡ room_less (headroom h Z b) (cost h k)
+  room_filled Z k partner covered within differ between =
+      headroom-by h Z k b (cost h k) (spent-between h Z k b partner covered within differ between)
+
+  -- what the total of b leaves stays the same
+  pub room-filled : headroom h X b ≡ headroom h Y b → headroom h (filled X f) b ≡ headroom h (filled Y g) b
+  room-filled same =
+      let found = partner_of in
+      let p : IsPartner h b found.0 f g = found.1 in
+      room_filled X f found.0 match.covered p.within p.differ p.between
+      ∙ ap (λ o. room_less o (cost h f)) same ∙ ap (room_less (headroom h Y b)) costs
+      ∙ sym (room_filled Y g found.0 match.covered_other p.within p.differ p.between_other)
+
+  -- and so does each line of b
+  pub lines-filled : headroom h X b ≡ headroom h Y b → b < bank_count h → (bank : ℕ) → bank < bank_count h → bank ≢ b → line h X b bank ≡ line h Y b bank → line h (filled X f) b bank ≡ line h (filled Y g) b bank
+  lines-filled room b_in bank bank_in other same =
+      let found = partner_of in
+      let p : IsPartner h b found.0 f g = found.1 in
+      elim (cases_eq bank found.0) [
+        | inl is ↦
+            let between : is_between b bank f ≡ true = subst (λ n. is_between b n f ≡ true) (sym is) p.between in
+            let between_other : is_between b bank g ≡ true = subst (λ n. is_between b n g ≡ true) (sym is) p.between_other in
+            let apart : b ≢ bank = λ e. other (sym e) in
+            line-pays h X f b bank match.covered b_in bank_in apart between
+            ∙ ap (λ l. l - cost h f) same ∙ ap (λ n. line h Y b bank - n) costs
+            ∙ sym (line-pays h Y g b bank match.covered_other b_in bank_in apart between_other)
+        | inr third ↦
+            let rest : State → ℕ = λ Z. at_most (headroom h Z bank) (left_of_limits h Z b bank) in
+            let bounded : at_most (headroom h X b) (rest X) ≡ at_most (headroom h X b) (rest Y) = same ∙ ap (λ o. at_most o (rest Y)) (sym room) in
+            line-other h X f b found.0 bank match.covered p.within p.differ p.between other third
+            ∙ most_same (headroom h X b) (rest X) (rest Y) (cost h f) bounded
+            ∙ ap (λ o. at_most (room_less o (cost h f)) (rest Y)) room ∙ ap (λ n. at_most (room_less (headroom h Y b) n) (rest Y)) costs
+            ∙ sym (line-other h Y g b found.0 bank match.covered_other p.within p.differ p.between_other other third)
+      ]
 
 -- what two fills that look the same leave looks the same
 matched_lowered : (b i m j l bank number bank' number' lots : ℕ) (xs ys : List Resting) → Paired b xs ys → AreMatched bank number bank' number' xs ys → AreMatched i m j l xs ys → AreMatched i m j l (lower_order bank number lots xs) (lower_order bank' number' lots ys)
@@ -136,6 +211,7 @@ pub record FillTogether (h : Header) (b : ℕ) (L M X Y : State) (t : Taker) (nu
   pub alike : AreAlike h b L M X Y
   pub takers : TakersAlike h b L X Y t number left arrival
   pub together : Together a c (visible h b L X t.pair) (visible h b L Y t.pair)
+  pub one : (t.bank ≡ b) ⊎ (a.bank ≡ b)
   pub taken : IsTaken h b L X t a
   pub taken_other : IsTaken h b L Y (twin t number left arrival) c
 

@@ -1,6 +1,7 @@
 -- In a credit change of a bank the turns of orders that are hidden from it make no fills.
 use Rattle.std.proofs.Common.{ℕ, ◌≡◌, ◌≢◌, ◌-◌, ◌/◌, ◌≤◌, ◌<◌, min, Bool, true, false, ◌&&◌, eqb, leb, List, [], ◌∷◌, ◌++◌, inl, inr, refl, ap, sym, subst, ◌∙◌, arith, Option, Some, None, MatchOption}
 use Rattle.std.specs.List.{filter}
+use Rattle.std.specs.Option.{option_map}
 use Rattle.std.proofs.lemmas.Bool.{cases_Bool, cases_eq, cond-false, or_left, and_left, eq-eqb, ne_eqb, lt-leb, both_ways}
 use Rattle.fx_amounts.specs.Price.{crosses}
 use Rattle.fx_amounts.specs.declared.side.Side.{Side}
@@ -9,9 +10,9 @@ use Rattle.fx_rules.specs.declared.orders.Resting.{Resting}
 use Rattle.fx_rules.specs.declared.orders.Fill.{Fill}
 use Rattle.fx_rules.specs.Lists.{Among}
 use Rattle.fx_rules.specs.Session.{Header, IsSession, bank_count, pair_count, weight_of}
-use Rattle.fx_rules.specs.State.{State, orders_in, used, reach}
+use Rattle.fx_rules.specs.State.{State, orders_in, used, spent, headroom, at_most, left_of_limits, line, reach}
 use Rattle.fx_rules.specs.Sweep.{Swept, is_open, is_opposite, open_orders, filled_all}
-use Rattle.fx_rules.specs.Raise.{limited, order_of, taker_of_resting, Turned}
+use Rattle.fx_rules.specs.Raise.{limited, totalled, order_of, taker_of_resting, Turned}
 use Rattle.fx_rules.specs.NoCross.{NoCross}
 use Rattle.fx_rules.specs.Sound.{IsSound}
 use Rattle.fx_rules.proofs.ListLemmas.{Among-filter, filter_cons_true, filter_cons_false}
@@ -37,21 +38,44 @@ apart_sides Sell Buy price other_price opposite buys sells = lt-leb price other_
 apart_sides Buy Buy price other_price opposite buys sells = cc
 apart_sides Sell Sell price other_price opposite buys sells = cc
 
+-- a change of credit that leaves the orders, and the lines between others
+abbrev pub IsOwnChange : Header → ℕ → State → State → Type 0
+IsOwnChange h b S N = (N.orders ≡ S.orders) × ((i j : ℕ) → i ≢ b → j ≢ b → line h N i j ≡ line h S i j)
+
+-- it lets no orders of others cross
+pub apart-own : (h : Header) (b : ℕ) (S N : State) → IsOwnChange h b S N → NoCross h S → AreApart h b N
+apart-own h b S N own uncrossed pair o q o_rests q_rests o_other q_other differ opposite reached =
+    let rests : (r : Resting) → Among r (orders_in pair N.orders) → Among r (orders_in pair S.orders) = λ r there.
+    subst (λ orders. Among r (orders_in pair orders)) own.0 there in
+    let reached_was : 1 ≤ reach h S o.bank q.bank pair =
+    omega (arith, reached, ap (λ l. l / weight_of h pair) (own.1 o.bank q.bank o_other q_other)) in
+    apart_sides o.side q.side o.price q.price opposite
+    (λ buys sells. uncrossed pair o q (rests o o_rests) (rests q q_rests) buys sells (λ same. differ (sym same)) reached_was)
+    (λ sells buys. uncrossed pair q o (rests q q_rests) (rests o o_rests) buys sells differ (omega (arith, reached_was, reach_swap h S o.bank q.bank pair)))
+
 limits_others : (S : State) (b k limit i j : ℕ) → i ≢ b → (limited b k limit S).limits i j ≡ S.limits i j
 limits_others S b k limit i j differ = cond-false (eqb i b && eqb j k) limit (S.limits i j) (and_left (eqb i b) (eqb j k) (ne_eqb i b differ))
 
-pub reach_others : (h : Header) (S : State) (b k limit i j pair : ℕ) → i ≢ b → j ≢ b → reach h (limited b k limit S) i j pair ≡ reach h S i j pair
-reach_others h S b k limit i j pair i_other j_other =
-    ap (λ m. (min m ((limited b k limit S).limits j i) - used h S i j) / weight_of h pair) (limits_others S b k limit i j i_other)
-    ∙ ap (λ m. (min (S.limits i j) m - used h S i j) / weight_of h pair) (limits_others S b k limit j i j_other)
-
 -- a limit of b changes nothing between others
-pub apart-limited : (h : Header) (S : State) (b k limit : ℕ) → NoCross h S → AreApart h b (limited b k limit S)
-apart-limited h S b k limit uncrossed pair o q o_rests q_rests o_other q_other differ opposite reached =
-    let reached_was : 1 ≤ reach h S o.bank q.bank pair = omega (arith, reached, reach_others h S b k limit o.bank q.bank pair o_other q_other) in
-    apart_sides o.side q.side o.price q.price opposite
-    (λ buys sells. uncrossed pair o q o_rests q_rests buys sells (λ same. differ (sym same)) reached_was)
-    (λ sells buys. uncrossed pair q o q_rests o_rests buys sells differ (omega (arith, reached_was, reach_swap h S o.bank q.bank pair)))
+pub own-limited : (h : Header) (S : State) (b k limit : ℕ) → IsOwnChange h b S (limited b k limit S)
+own-limited h S b k limit = (
+  refl,
+  λ i j i_other j_other.
+      ap (λ m. at_most (headroom h S i) (at_most (headroom h S j) (min m ((limited b k limit S).limits j i) - used h S i j))) (limits_others S b k limit i j i_other)
+      ∙ ap (λ m. at_most (headroom h S i) (at_most (headroom h S j) (min (S.limits i j) m - used h S i j))) (limits_others S b k limit j i j_other),
+)
+
+totals_others : (S : State) (b most i : ℕ) → i ≢ b → (totalled b most S).totals i ≡ S.totals i
+totals_others S b most i differ = cond-false (eqb i b) (Some most) (S.totals i) (ne_eqb i b differ)
+
+-- and so does its total
+pub own-totalled : (h : Header) (S : State) (b most : ℕ) → IsOwnChange h b S (totalled b most S)
+own-totalled h S b most = (
+  refl,
+  λ i j i_other j_other.
+      ap (λ o. at_most (option_map (λ m. m - spent h S i) o) (at_most (headroom h (totalled b most S) j) (left_of_limits h S i j))) (totals_others S b most i i_other)
+      ∙ ap (λ o. at_most (headroom h S i) (at_most (option_map (λ m. m - spent h S j) o) (left_of_limits h S i j))) (totals_others S b most j j_other),
+)
 
 -- ---- who meets whom
 

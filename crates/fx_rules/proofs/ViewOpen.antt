@@ -7,7 +7,7 @@ use Rattle.fx_rules.specs.declared.orders.Resting.{Resting}
 use Rattle.fx_rules.specs.declared.orders.Fill.{Fill}
 use Rattle.fx_rules.specs.Lists.{Among, EachPair}
 use Rattle.fx_rules.specs.Session.{Header, bank_count, pair_count, weight_of}
-use Rattle.fx_rules.specs.State.{State, orders_in, line, reach}
+use Rattle.fx_rules.specs.State.{State, orders_in, headroom, line, reach}
 use Rattle.fx_rules.specs.Sweep.{Taker, is_open, is_opposite, open_orders, is_preferred, is_better, IsBest}
 use Rattle.fx_rules.specs.Depth.{lots_against}
 use Rattle.fx_rules.specs.Sound.{IsSound, ArrivesBefore}
@@ -27,12 +27,14 @@ shown h b L pair bank = eqb bank b || leb 1 (reach h L b bank pair)
 abbrev pub visible : Header → ℕ → State → State → ℕ → List Resting
 visible h b L X pair = filter (λ o. shown h b L pair o.bank) (orders_in pair X.orders)
 
--- Two states look alike to b that came of L and M: it has the same lines, and the orders shown to it look the same.
+-- Two states look alike to b that came of L and M: its total leaves the same, it has the same lines, and the orders shown to it look
+-- the same.
 pub record AreAlike (h : Header) (b : ℕ) (L M X Y : State) : Type 0 where
   pub sound : IsSound h X
   pub sound_other : IsSound h Y
   pub from : Follows h L X
   pub from_other : Follows h M Y
+  pub room : headroom h X b ≡ headroom h Y b
   pub lines : (bank : ℕ) → bank < bank_count h → bank ≢ b → line h X b bank ≡ line h Y b bank
   pub orders : (pair : ℕ) → pair < pair_count h → Paired b (visible h b L X pair) (visible h b L Y pair)
 

@@ -4,13 +4,13 @@ use Rattle.std.proofs.lemmas.Bool.{cases_eq, cond-true, cond-false, or_right, eq
 use Rattle.fx_amounts.specs.declared.side.Side.{Side}
 use Rattle.fx_rules.specs.declared.orders.Resting.{Resting}
 use Rattle.fx_rules.specs.declared.orders.Fill.{Fill}
-use Rattle.fx_rules.specs.declared.command.Command.TheVariants.{Line}
-use Rattle.fx_rules.specs.declared.outcome.Outcome.TheVariants.{LineSet}
+use Rattle.fx_rules.specs.declared.command.Command.TheVariants.{Line, Total}
+use Rattle.fx_rules.specs.declared.outcome.Outcome.TheVariants.{LineSet, TotalSet}
 use Rattle.fx_rules.specs.Lists.{Among, Each}
 use Rattle.fx_rules.specs.Session.{Header, IsSession, pair_count}
 use Rattle.fx_rules.specs.State.{State, orders_in, reach}
 use Rattle.fx_rules.specs.Sweep.{Taker, Swept, is_order, open_orders, filled_all}
-use Rattle.fx_rules.specs.Raise.{limited, order_of, taker_of_resting, Turned, PairsTurned, Raised}
+use Rattle.fx_rules.specs.Raise.{limited, totalled, order_of, taker_of_resting, Turned, PairsTurned, Raised}
 use Rattle.fx_rules.specs.Step.{IsCommand, IsOutcome}
 use Rattle.fx_rules.specs.NoCross.{NoCross}
 use Rattle.fx_rules.specs.Sound.{IsSound}
@@ -18,14 +18,14 @@ use Rattle.fx_rules.specs.View.{seen_as, view, fill_seen}
 use Rattle.fx_rules.proofs.ListLemmas.{Each-of, Among-filter}
 use Rattle.fx_rules.proofs.Opens.{orders_in-among}
 use Rattle.fx_rules.proofs.SweepSound.{filled_all-append, weight_of-least}
-use Rattle.fx_rules.proofs.RaiseSound.{limited-sound}
+use Rattle.fx_rules.proofs.RaiseSound.{limited-sound, totalled-sound}
 use Rattle.fx_rules.proofs.Lowering.{is_order-says}
 use Rattle.fx_rules.proofs.ViewLists.{Paired, Together, together-like, together-first, together-second, together-earlier, together-order, AreOf, find-together, find-filter}
 use Rattle.fx_rules.proofs.ViewOpen.{shown, visible, AreAlike, IsMet, twin, TakersAlike, SameFill, FillsAlike, like_bank, shown_rests, visible-rising}
 use Rattle.fx_rules.proofs.ViewFill.{are_of_one, like_number}
 use Rattle.fx_rules.proofs.ViewSweep.{SweptAlike, swept-alike}
 use Rattle.fx_rules.proofs.ViewTold.{views-alike, reaches_same, owner_in, made, made_same, cons_told}
-use Rattle.fx_rules.proofs.ViewHidden.{AreApart, ShowsReached, TurnOf, apart-limited, met_of, none_matched, some_matched, shown_turns}
+use Rattle.fx_rules.proofs.ViewHidden.{AreApart, ShowsReached, TurnOf, IsOwnChange, apart-own, own-limited, own-totalled, met_of, none_matched, some_matched, shown_turns}
 
 taker_made : ℕ → ℕ → ℕ → Side → ℕ → ℕ → ℕ → Taker
 taker_made bank number pair side price left arrival = record {
@@ -214,22 +214,28 @@ fills-seen b (f ∷ fs) (g ∷ gs) alike =
 
 -- ---- a credit change
 
-pub raises-alike : (h : Header) (S T : State) (b k limit : ℕ) (fs gs : List Fill) → IsSession h → IsSound h (limited b k limit S) → IsSound h (limited b k limit T) → NoCross h S → NoCross h T → view h (limited b k limit S) b ≡ view h (limited b k limit T) b → Raised h (limited b k limit S) fs → Raised h (limited b k limit T) gs → map (fill_seen b) fs ≡ map (fill_seen b) gs
-raises-alike h S T b k limit fs gs session sound sound_other uncrossed uncrossed_other same one two =
-    let L : State = limited b k limit S in
-    let M : State = limited b k limit T in
+-- Two changes of b's own credit after which it sees alike make fills that it sees alike.
+pub raises-alike : (h : Header) (S T L M : State) (b : ℕ) (fs gs : List Fill) → IsSession h → IsSound h L → IsSound h M → IsOwnChange h b S L → IsOwnChange h b T M → NoCross h S → NoCross h T → view h L b ≡ view h M b → Raised h L fs → Raised h M gs → map (fill_seen b) fs ≡ map (fill_seen b) gs
+raises-alike h S T L M b fs gs session sound sound_other own own_other uncrossed uncrossed_other same one two =
     let turns : TurnsAlike h b L M L M fs gs =
     pairs-alike h b L M session
     (λ pair bank _ _ _ reached. or_right (eqb bank b) (leb 1 (reach h L b bank pair)) (le-leb 1 (reach h L b bank pair) reached))
     (λ pair bank _ bank_in differ reached. or_right (eqb bank b) (leb 1 (reach h L b bank pair))
     (le-leb 1 (reach h L b bank pair) (omega (arith, reached, reaches_same h L M b bank pair same bank_in differ))))
-    (apart-limited h S b k limit uncrossed) (apart-limited h T b k limit uncrossed_other)
+    (apart-own h b S L own uncrossed) (apart-own h b T M own_other uncrossed_other)
     (pair_count h) 0 L M fs gs (omega arith) (views-alike h L M b sound sound_other same) one two in
     fills-seen b fs gs turns.fills
 
 pub views-fill : (h : Header) (S T : State) (b k asked limit : ℕ) (fs gs : List Fill) → IsSession h → IsSound h S → IsSound h T → NoCross h S → NoCross h T → IsCommand h b (Line k asked) → view h (limited b k limit S) b ≡ view h (limited b k limit T) b → IsOutcome h S b (Line k asked) (LineSet limit fs) → IsOutcome h T b (Line k asked) (LineSet limit gs) → map (fill_seen b) fs ≡ map (fill_seen b) gs
 views-fill h S T b k asked limit fs gs session sound sound_other uncrossed uncrossed_other valid same one two =
-    raises-alike h S T b k limit fs gs session
+    raises-alike h S T (limited b k limit S) (limited b k limit T) b fs gs session
     (limited-sound h S b k asked limit sound valid.sends valid.values.0 valid.values.1 valid.values.2 one.0)
     (limited-sound h T b k asked limit sound_other valid.sends valid.values.0 valid.values.1 valid.values.2 two.0)
-    uncrossed uncrossed_other same one.1 two.1
+    (own-limited h S b k limit) (own-limited h T b k limit) uncrossed uncrossed_other same one.1 two.1
+
+pub views-fill-total : (h : Header) (S T : State) (b asked most : ℕ) (fs gs : List Fill) → IsSession h → IsSound h S → IsSound h T → NoCross h S → NoCross h T → IsCommand h b (Total asked) → view h (totalled b most S) b ≡ view h (totalled b most T) b → IsOutcome h S b (Total asked) (TotalSet most fs) → IsOutcome h T b (Total asked) (TotalSet most gs) → map (fill_seen b) fs ≡ map (fill_seen b) gs
+views-fill-total h S T b asked most fs gs session sound sound_other uncrossed uncrossed_other valid same one two =
+    raises-alike h S T (totalled b most S) (totalled b most T) b fs gs session
+    (totalled-sound h S b asked most session sound valid.sends.0 valid.sends.1 valid.values one.0)
+    (totalled-sound h T b asked most session sound_other valid.sends.0 valid.sends.1 valid.values two.0)
+    (own-totalled h S b most) (own-totalled h T b most) uncrossed uncrossed_other same one.1 two.1

@@ -8,7 +8,7 @@ use Rattle.fx_rules.specs.declared.orders.Resting.{Resting}
 use Rattle.fx_rules.specs.declared.orders.Fill.{Fill}
 use Rattle.fx_rules.specs.Lists.{Among, EachPair, total}
 use Rattle.fx_rules.specs.Session.{Header, bank_count, weight_of}
-use Rattle.fx_rules.specs.State.{State, orders_in, line, reach, cost_between}
+use Rattle.fx_rules.specs.State.{State, orders_in, reach}
 use Rattle.fx_rules.specs.Sweep.{Taker, Swept, is_open, is_opposite, open_orders, is_order, IsBest, amount, fill_with, filled, filled_all, less}
 use Rattle.fx_rules.specs.Depth.{lots_against}
 use Rattle.fx_rules.specs.Sound.{IsSound, ArrivesBefore}
@@ -24,8 +24,8 @@ use Rattle.fx_rules.proofs.Levels.{lots_of}
 use Rattle.fx_rules.proofs.Truth.{open-was, swept-lots}
 use Rattle.fx_rules.proofs.Lowering.{is_order-says, is_order-from}
 use Rattle.fx_rules.proofs.ViewLists.{Together, together-like, partner, partner_other, StoodTogether, lower_order}
-use Rattle.fx_rules.proofs.ViewOpen.{visible, AreAlike, IsMet, twin, TakersAlike, SameFill, FillsAlike, like_bank, reach_same, open_shown, open_across, open_back, best_together}
-use Rattle.fx_rules.proofs.ViewFill.{are_of_filled, taken_of, IsTaken, same_fill, cost_same, line-filled, stood_before, FillTogether, stood_filled, paired_everywhere, orders_filled}
+use Rattle.fx_rules.proofs.ViewOpen.{visible, AreAlike, IsMet, twin, TakersAlike, FillsAlike, like_bank, reach_same, open_shown, open_across, open_back, best_together}
+use Rattle.fx_rules.proofs.ViewFill.{are_of_filled, taken_of, IsTaken, same_fill, FillsMatch, room-filled, lines-filled, stood_before, FillTogether, stood_filled, paired_everywhere, orders_filled}
 
 -- ---- the lots of the other side
 
@@ -125,15 +125,24 @@ module _ (h : Header) (b : ℕ) (L M X Y : State) (t : Taker) (number left arriv
   alike-filled allowed allowed_other =
       let f : Fill = fill_with t a lots in
       let g : Fill = fill_with (twin t number left arrival) c lots in
-      let same : SameFill b f g = same_fill b t number left arrival a c lots lots like_makers fill.takers.commands refl in
+      let match : FillsMatch h b X Y f g = record {
+        covered = fill.alike.sound.covered;
+        covered_other = fill.alike.sound_other.covered;
+        same = same_fill b t number left arrival a c lots lots like_makers fill.takers.commands refl;
+        allowed = allowed;
+        own = fill.one;
+      } in
+      let b_in : b < bank_count h = elim fill.one [
+        | inl taker ↦ subst (λ n. n < bank_count h) taker allowed.taker
+        | inr maker ↦ subst (λ n. n < bank_count h) maker allowed.maker
+      ] in
       record {
         sound = filled-sound h X f fill.alike.sound allowed;
         sound_other = filled-sound h Y g fill.alike.sound_other allowed_other;
         from = follows-then h L X (filled X f) fill.alike.from (filled-follows h X f);
         from_other = follows-then h M Y (filled Y g) fill.alike.from_other (filled-follows h Y g);
-        lines = λ bank bank_in other.
-            line-filled h X f b bank ∙ ap (λ l. l - cost_between h b bank (f ∷ [])) (fill.alike.lines bank bank_in other)
-            ∙ ap (λ n. line h Y b bank - n) (cost_same h b b bank f g same) ∙ sym (line-filled h Y g b bank);
+        room = room-filled h b X Y f g match fill.alike.room;
+        lines = λ bank bank_in other. lines-filled h b X Y f g match fill.alike.room b_in bank bank_in other (fill.alike.lines bank bank_in other);
         orders = paired_everywhere h b L M X Y t number left arrival a c lots fill;
       }
 
@@ -291,6 +300,7 @@ module _ (h : Header) (b : ℕ) (L M : State) where
         alike = alike;
         takers = takers;
         together = best_together h b L M X Y t number left arrival a c alike takers best_a best_c;
+        one = (takers.makers a best_a.there).one;
         taken = taken_of h b L X t a alike.sound takers.home takers.is_shown (takers.makers a best_a.there) best_a.there;
         taken_other = taken_of h b L Y u c alike.sound_other takers.home_other takers.is_shown (takers.makers_other c best_c.there) best_c.there;
       }

@@ -1,19 +1,20 @@
 -- States that a bank sees alike tell it the same of each command.
-use Rattle.std.proofs.Common.{ℕ, ◌≡◌, ◌≢◌, ◌+◌, ◌/◌, ◌≤◌, ◌<◌, true, false, not, ◌||◌, eqb, leb, ltb, List, [], ◌∷◌, map, ◌⊎◌, inl, inr, refl, ap, sym, subst, ◌∙◌, arith}
-use Rattle.std.specs.List.{filter}
+use Rattle.std.proofs.Common.{ℕ, ◌≡◌, ◌≢◌, ◌+◌, ◌-◌, ◌/◌, ◌≤◌, ◌<◌, true, false, not, ◌||◌, eqb, leb, ltb, List, [], ◌∷◌, map, ◌⊎◌, inl, inr, refl, ap, sym, subst, ◌∙◌, arith}
 use Rattle.std.proofs.lemmas.Bool.{cases_eq, or_left, or_right, eq-eqb, ne_eqb, le-leb, lt-ltb, not_from_false, false_from_ne_true}
 use Rattle.fx_amounts.specs.declared.side.Side.{Side}
 use Rattle.fx_rules.specs.declared.orders.Resting.{Resting}
 use Rattle.fx_rules.specs.declared.orders.Fill.{Fill}
 use Rattle.fx_rules.specs.declared.outcome.Outcome.TheVariants.{Ordered}
-use Rattle.fx_rules.specs.Lists.{Among, Each, below}
+use Rattle.std.specs.Option.{option_map}
+use Rattle.fx_rules.specs.Lists.{Among, Each, below, total}
 use Rattle.fx_rules.specs.Session.{Header, IsSession, bank_count, pair_count, weight_of}
-use Rattle.fx_rules.specs.State.{State, orders_in, count_of, arrivals, line, reach}
+use Rattle.fx_rules.specs.State.{State, orders_in, count_of, arrivals, others, spent, headroom, line, reach}
 use Rattle.fx_rules.specs.Sweep.{Taker, Swept, is_order, less, filled}
 use Rattle.fx_rules.specs.Depth.{lots_against}
 use Rattle.fx_rules.specs.Sound.{IsSound, IsKept}
 use Rattle.fx_rules.specs.View.{sees, seen_as, orders_seen, CreditSeen, credit_seen, View, view, told_fill, told}
 use Rattle.fx_rules.proofs.ListLemmas.{Each-among, among_filter, filter_agree_on}
+use Rattle.fx_rules.proofs.Totals.{total_map}
 use Rattle.fx_rules.proofs.Opens.{orders_in-among, IsMaker, maker_of}
 use Rattle.fx_rules.proofs.SweepSound.{weight_of-least}
 use Rattle.fx_rules.proofs.Following.{follows-self}
@@ -26,8 +27,20 @@ use Rattle.fx_rules.proofs.ViewSweep.{SweptAlike, swept-alike}
 
 pub credit_same : (h : Header) (S T : State) (b k : ℕ) → view h S b ≡ view h T b → k < bank_count h → k ≢ b → credit_seen h S b k ≡ credit_seen h T b k
 credit_same h S T b k same within differ =
-    map_same_at (credit_seen h S b) (credit_seen h T b) (filter (λ other. not (eqb other b)) (below (bank_count h))) k (ap (λ (v : View). v.credit) same)
+    map_same_at (credit_seen h S b) (credit_seen h T b) (others h b) k (ap (λ (v : View). v.credit) same)
     (among_filter (λ other. not (eqb other b)) (below (bank_count h)) k (among_below (bank_count h) k within) (not_from_false (eqb k b) (ne_eqb k b differ)))
+
+-- what the bank has spent is in its view, use by use
+pub spent_same : (h : Header) (S T : State) (b : ℕ) → view h S b ≡ view h T b → spent h S b ≡ spent h T b
+spent_same h S T b same =
+    sym (total_map (λ (c : CreditSeen). c.used) (credit_seen h S b) (others h b))
+    ∙ ap (λ (v : View). total (λ (c : CreditSeen). c.used) v.credit) same
+    ∙ total_map (λ (c : CreditSeen). c.used) (credit_seen h T b) (others h b)
+
+pub rooms_same : (h : Header) (S T : State) (b : ℕ) → view h S b ≡ view h T b → headroom h S b ≡ headroom h T b
+rooms_same h S T b same =
+    ap (λ n. option_map (λ most. most - n) (S.totals b)) (spent_same h S T b same)
+    ∙ ap (λ (v : View). option_map (λ most. most - spent h T b) v.own_total) same
 
 pub lines_same : (h : Header) (S T : State) (b k : ℕ) → view h S b ≡ view h T b → k < bank_count h → k ≢ b → line h S b k ≡ line h T b k
 lines_same h S T b k same within differ = ap (λ (c : CreditSeen). c.line) (credit_same h S T b k same within differ)
@@ -57,6 +70,7 @@ views-alike h S T b sound sound_other same = record {
   sound_other = sound_other;
   from = follows-self h S;
   from_other = follows-self h T;
+  room = rooms_same h S T b same;
   lines = λ k within differ. lines_same h S T b k same within differ;
   orders = λ pair within.
       let seen : orders_seen h S b pair ≡ orders_seen h T b pair =

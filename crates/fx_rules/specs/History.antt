@@ -1,9 +1,14 @@
 -- Histories: the entries of a day in order, and which of them are legal.
-use Rattle.std.specs.Prelude.{ℕ, ◌≡◌, ◌≢◌, ◌<◌, ◌+◌, ◌^◌, ◌==◌, List, [], ◌∷◌, filter}
+use Rattle.std.specs.Prelude.{ℕ, ◌≡◌, ◌≢◌, ◌<◌, ◌+◌, ◌-◌, ◌^◌, ◌==◌, min, Some, List, [], ◌∷◌, filter}
+use Rattle.fx_rules.specs.declared.command.Command.{Command}
+use Rattle.fx_rules.specs.declared.command.Command.TheVariants.{Settle}
+use Rattle.fx_rules.specs.declared.outcome.Outcome.{Outcome}
+use Rattle.fx_rules.specs.declared.outcome.Outcome.TheVariants.{Settled}
 use Rattle.fx_rules.specs.declared.outcome.Entry.{Entry}
+use Rattle.fx_rules.specs.Lists.{total}
 use Rattle.fx_rules.specs.Session.{Header, IsSession, bank_count}
-use Rattle.fx_rules.specs.State.{State, opening, count_of, cost_between, left_of_limits}
-use Rattle.fx_rules.specs.Step.{IsCommand, IsOutcome, after, with_limit_set, fills_of}
+use Rattle.fx_rules.specs.State.{State, opening, count_of, cost_between, settled_between, used, others, spent, left_of_limits}
+use Rattle.fx_rules.specs.Step.{IsCommand, IsOutcome, after, credit_changed, fills_of}
 
 -- the state after an entry
 abbrev pub after_entry : State → Entry → State
@@ -36,16 +41,31 @@ pub record IsLegal (h : Header) (entries : List Entry) : Type 0 where
   pub session : IsSession h
   pub steps : Steps h (opening h) entries
 
--- the entries of one bank
+-- the entries of one sender
 abbrev pub own : ℕ → List Entry → List Entry
 own bank entries = filter (λ e. e.bank == bank) entries
 
--- the state in which an entry's fills are made: with its limit set where the entry is a credit change, else the state as it was
+-- the state in which an entry's fills are made: with its limit or its total set or its units given back where the entry is a
+-- credit change, else the state as it was
 abbrev pub before_fills : State → Entry → State
-before_fills S e = with_limit_set S e.bank e.command e.outcome
+before_fills S e = credit_changed S e.bank e.command e.outcome
 
--- By an entry what the limits of two banks leave falls by the cost of the entry's fills between them, and by nothing else. It
--- falls from what they leave where the fills begin: as it was before the entry, but where a credit change has set a limit first.
+-- the units that a command and its outcome give back between two banks
+abbrev pub given_by : Command → Outcome → ℕ → ℕ → ℕ
+given_by (Settle a b asked) (Settled given fills) i j = settled_between i j (record { a = a; b = b; units = given } ∷ [])
+given_by _ _ i j = 0
+
+-- those that an entry gives back
+abbrev pub given_between : Entry → ℕ → ℕ → ℕ
+given_between e = given_by e.command e.outcome
+
+-- By an entry what the limits of two banks leave falls by the cost of the entry's fills between them and rises by what the entry
+-- gives back between them; and what a bank's total leaves falls by the cost of the entry's fills of that bank and rises by what
+-- the entry gives back to it. By nothing else: where a credit change sets a limit or a total, it falls from what this one leaves.
 pub record Falls (h : Header) (S : State) (e : Entry) : Type 0 where
   pub lines : (i j : ℕ) → i < bank_count h → j < bank_count h → i ≢ j →
-      left_of_limits h (after_entry S e) i j + cost_between h i j (fills_of e.outcome) ≡ left_of_limits h (before_fills S e) i j
+      left_of_limits h (after_entry S e) i j + cost_between h i j (fills_of e.outcome)
+      ≡ (min ((before_fills S e).limits i j) ((before_fills S e).limits j i) - used h S i j) + given_between e i j
+  pub totals : (i most : ℕ) → i < bank_count h → (before_fills S e).totals i ≡ Some most →
+      (most - spent h (after_entry S e) i) + total (λ j. cost_between h i j (fills_of e.outcome)) (others h i)
+      ≡ (most - spent h S i) + total (given_between e i) (others h i)

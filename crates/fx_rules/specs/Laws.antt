@@ -2,16 +2,16 @@
 use Rattle.std.specs.Prelude.{ℕ, ◌≡◌, ◌≢◌, ◌<◌, ◌^◌, false, List, [], ◌∷◌, ◌++◌, map, length, take}
 use Rattle.fx_rules.specs.declared.command.Command.{Command}
 use Rattle.fx_amounts.specs.declared.side.Side.TheVariants.{Buy, Sell}
-use Rattle.fx_rules.specs.declared.command.Command.TheVariants.{Line}
-use Rattle.fx_rules.specs.declared.outcome.Outcome.TheVariants.{LineSet}
+use Rattle.fx_rules.specs.declared.command.Command.TheVariants.{Line, Total}
+use Rattle.fx_rules.specs.declared.outcome.Outcome.TheVariants.{LineSet, TotalSet}
 use Rattle.fx_rules.specs.declared.orders.Fill.{Fill}
 use Rattle.fx_rules.specs.declared.orders.Level.{Level}
 use Rattle.fx_rules.specs.declared.outcome.Outcome.{Outcome}
 use Rattle.fx_rules.specs.declared.outcome.Entry.{Entry}
 use Rattle.fx_rules.specs.Session.{Header, IsSession, bank_count, pair_count}
-use Rattle.fx_rules.specs.State.{State, Within, orders_in, count_of, arrivals}
+use Rattle.fx_rules.specs.State.{State, Within, orders_in, count_of, arrivals, left_of_limits, line}
 use Rattle.fx_rules.specs.Sweep.{Taker, Swept}
-use Rattle.fx_rules.specs.Raise.{limited}
+use Rattle.fx_rules.specs.Raise.{limited, totalled}
 use Rattle.fx_rules.specs.Depth.{IsDepth, levels_of}
 use Rattle.fx_rules.specs.Step.{IsCommand, IsOutcome, may_change}
 use Rattle.fx_rules.specs.History.{IsStep, IsLegal, after_entry, state, own, Falls}
@@ -56,8 +56,9 @@ LegalGoesOn =
 abbrev pub LegalIsUncrossed : Type 0
 LegalIsUncrossed = (h : Header) (entries : List Entry) → IsLegal h entries → NoCross h (state h entries)
 
--- A step of a sound state lets what the limits of two banks leave fall by the cost of its fills between them, and by nothing
--- else, from the state in which the fills are made.
+-- A step of a sound state lets what the limits of two banks leave fall by the cost of its fills between them and rise by what it gives
+-- back between them, and what a total leaves fall by the cost of all fills of its bank and rise by what is given back to the bank; and
+-- by nothing else, from the limits and totals in which the fills are made.
 abbrev pub LinesFall : Type 0
 LinesFall = (h : Header) (S : State) (e : Entry) → IsSession h → IsSound h S → IsStep h S e → Falls h S e
 
@@ -91,11 +92,16 @@ abbrev pub FullBooksStay : Type 0
 FullBooksStay =
     (fills more : List Fill) → 10 < length (levels_of fills) → take 10 (levels_of (fills ++ more)) ≡ take 10 (levels_of fills)
 
+-- In a session of version 1 a line is what its two limits leave.
+abbrev pub LinesArePlain : Type 0
+LinesArePlain =
+    (h : Header) (S : State) (i j : ℕ) → h.version ≡ 1 → IsSound h S → line h S i j ≡ left_of_limits h S i j
+
 -- Two sound states that a bank sees alike tell it the same of each of its commands.
 abbrev pub ViewsTellAll : Type 0
 ViewsTellAll =
     (h : Header) (S T : State) (bank : ℕ) (command : Command) (one other : Outcome) → IsSession h → IsSound h S → IsSound h T →
-    IsCommand h bank command → view h S bank ≡ view h T bank →
+    bank < bank_count h → IsCommand h bank command → view h S bank ≡ view h T bank →
     IsOutcome h S bank command one → IsOutcome h T bank command other → told one ≡ told other
 
 -- Two sound states that a bank sees alike have the same local books of it.
@@ -113,4 +119,13 @@ ViewsFillAll =
     NoCross h S → NoCross h T → IsCommand h bank (Line other asked) →
     view h (limited bank other limit S) bank ≡ view h (limited bank other limit T) bank →
     IsOutcome h S bank (Line other asked) (LineSet limit fills) → IsOutcome h T bank (Line other asked) (LineSet limit others) →
+    map (fill_seen bank) fills ≡ map (fill_seen bank) others
+
+-- And likewise once it has set a total.
+abbrev pub ViewsFillTotals : Type 0
+ViewsFillTotals =
+    (h : Header) (S T : State) (bank asked most : ℕ) (fills others : List Fill) → IsSession h → IsSound h S → IsSound h T →
+    NoCross h S → NoCross h T → IsCommand h bank (Total asked) →
+    view h (totalled bank most S) bank ≡ view h (totalled bank most T) bank →
+    IsOutcome h S bank (Total asked) (TotalSet most fills) → IsOutcome h T bank (Total asked) (TotalSet most others) →
     map (fill_seen bank) fills ≡ map (fill_seen bank) others

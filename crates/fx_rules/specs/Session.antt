@@ -1,6 +1,6 @@
--- What a session is: its banks and pairs in the order of its header, and the limits that the banks open with.
+-- What a session is: its banks and pairs in the order of its header, and the limits and totals that the banks open with.
 -- Banks and pairs are named by their places, from 0. A name or a code is its text, a list of bytes.
-use Rattle.std.specs.Prelude.{ℕ, ◌≡◌, ◌≢◌, ◌≤◌, ◌+◌, ◌*◌, ◌^◌, ◌%◌, ◌<◌, ◌++◌, ◌∷◌, Option, List, [], length, map, position, bytes_eq, IsTrue, All, AllPairs, slice_index, slice_index_or}
+use Rattle.std.specs.Prelude.{ℕ, ◌≡◌, ◌≢◌, ◌≤◌, ◌+◌, ◌*◌, ◌^◌, ◌%◌, ◌<◌, ◌==◌, if◌then◌else◌, ◌++◌, ◌∷◌, ◌⊎◌, Option, None, List, [], length, map, position, bytes_eq, IsTrue, IfSome, All, AllPairs, slice_index, slice_index_or}
 use Rattle.std.specs.Str.{byte}
 use Rattle.fx_rules.specs.Lists.{below}
 use Rattle.fx_rules.specs.Names.{is_name, is_code}
@@ -23,11 +23,14 @@ pub record IsPairRule (rule : PairRule) : Type 0 where
 abbrev pub AreSamePair : PairRule → PairRule → Type 0
 AreSamePair a b = (a.base ≡ b.base) × (a.quote ≡ b.quote)
 
--- banks, pairs, and the opening limits row by row: the one that bank i sets on bank j stands at i * banks + j
+-- the version of its text; banks, pairs, and the opening limits row by row: the one that bank i sets on bank j stands at
+-- i * banks + j; and in version 2 alone the total that each bank opens with, or that it has none
 pub record Header : Type 0 where
+  pub version : ℕ
   pub banks : List (List ℕ)
   pub pairs : List PairRule
   pub limits : List ℕ
+  pub totals : List (Option ℕ)
 
 abbrev pub bank_count : Header → ℕ
 bank_count h = length h.banks
@@ -35,21 +38,29 @@ bank_count h = length h.banks
 abbrev pub pair_count : Header → ℕ
 pair_count h = length h.pairs
 
--- who sends commands, in the order of their desks: the banks, in header order
+-- the operator's number among the senders
+abbrev pub host : ℕ
+host = 64
+
+-- who sends commands, in the order of their desks: the banks in header order, and in version 2 then the operator
 abbrev pub senders : Header → List ℕ
-senders h = below (bank_count h)
+senders h = below (bank_count h) ++ (if h.version == 2 then host ∷ [] else [])
 
 -- one of them; each has a number, a stream and a count of its own
 abbrev pub IsSender : Header → ℕ → Type 0
-IsSender h sender = sender < bank_count h
+IsSender h sender = (sender < bank_count h) ⊎ ((h.version ≡ 2) × (sender ≡ host))
 
--- how many places a list has that a sender's number indexes
+-- how many places a list has that a sender's number indexes; in version 2 those between the banks and the operator are unused
 abbrev pub sender_places : Header → ℕ
-sender_places h = bank_count h
+sender_places h = if h.version == 2 then host + 1 else bank_count h
 
 -- the limit that bank i opens with on bank j
 abbrev pub opening_limit : Header → ℕ → ℕ → ℕ
 opening_limit h i j = slice_index h.limits (i * bank_count h + j)
+
+-- the total that a bank opens with, where it has one
+abbrev pub opening_total : Header → ℕ → Option ℕ
+opening_total h bank = slice_index_or h.totals bank None
 
 -- credit units per lot of a pair
 abbrev pub weight_of : Header → ℕ → ℕ
@@ -81,8 +92,12 @@ pair_name h pair = slice_index_or (map pair_text h.pairs) pair []
 abbrev pub pair_named : Header → List ℕ → Option ℕ
 pair_named h text = position (λ rule. bytes_eq (pair_text rule) text) h.pairs
 
--- a valid session: 2 to 64 banks of different names, 1 to 32 pairs, no two the same, and a limit of 0 to 10^15 that
--- each bank sets on each bank, 0 on itself
+-- the newest version that a session can have
+unfoldable pub newest : ℕ
+newest = 1
+
+-- a valid session: of a version that there is, with 2 to 64 banks of different names, 1 to 32 pairs, no two the same, and a limit
+-- of 0 to 10^15 that each bank sets on each bank, 0 on itself; in version 2 with a total of 0 to 10^15 or none for each bank
 pub record IsSession (h : Header) : Type 0 where
   pub banks_least : 2 ≤ bank_count h
   pub banks_most : bank_count h ≤ 64
@@ -95,3 +110,7 @@ pub record IsSession (h : Header) : Type 0 where
   pub limits_full : length h.limits ≡ bank_count h * bank_count h
   pub limits_most : All (λ limit. limit ≤ 1000000000000000) h.limits
   pub own_limits : (i : ℕ) → i < bank_count h → opening_limit h i i ≡ 0
+  pub version_least : 1 ≤ h.version
+  pub version_most : h.version ≤ newest
+  pub totals_full : length h.totals ≡ (if h.version == 2 then bank_count h else 0)
+  pub totals_most : All (λ most. IfSome most (λ units. units ≤ 1000000000000000)) h.totals

@@ -1,12 +1,12 @@
 -- What a bank sees of the market, and what it is told of an outcome.
-use Rattle.std.specs.Prelude.{ℕ, Bool, not, ◌||◌, ◌==◌, nat_le, if◌then◌else◌, List, [], map, filter}
+use Rattle.std.specs.Prelude.{ℕ, Bool, ◌||◌, ◌==◌, nat_le, if◌then◌else◌, List, [], map, filter, Option}
 use Rattle.fx_rules.specs.declared.orders.Resting.{Resting}
 use Rattle.fx_rules.specs.declared.orders.Fill.{Fill}
 use Rattle.fx_rules.specs.declared.outcome.Outcome.{Outcome}
-use Rattle.fx_rules.specs.declared.outcome.Outcome.TheVariants.{Ordered, LineSet}
+use Rattle.fx_rules.specs.declared.outcome.Outcome.TheVariants.{Ordered, LineSet, TotalSet, Settled}
 use Rattle.fx_rules.specs.Lists.{below}
-use Rattle.fx_rules.specs.Session.{Header, bank_count, pair_count}
-use Rattle.fx_rules.specs.State.{State, orders_in, count_of, used, line, reach}
+use Rattle.fx_rules.specs.Session.{Header, pair_count}
+use Rattle.fx_rules.specs.State.{State, others, orders_in, count_of, used, line, reach}
 
 -- a bank sees an order of a pair that is its own, or whose owner it can reach there for a lot at least
 abbrev pub sees : Header → State → ℕ → ℕ → Resting → Bool
@@ -30,16 +30,19 @@ pub record CreditSeen : Type 0 where
 abbrev pub credit_seen : Header → State → ℕ → ℕ → CreditSeen
 credit_seen h S bank other = record { other = other; limit = S.limits bank other; used = used h S bank other; line = line h S bank other }
 
--- a bank's view: the orders that it sees, pair by pair; its credit with each other bank; the number of its commands
+-- a bank's view: the orders that it sees, pair by pair; its credit with each other bank; its total, where it has one; the number
+-- of its commands
 pub record View : Type 0 where
   pub orders : List (List Resting)
   pub credit : List CreditSeen
+  pub own_total : Option ℕ
   pub count : ℕ
 
 abbrev pub view : Header → State → ℕ → View
 view h S bank = record {
   orders = map (orders_seen h S bank) (below (pair_count h));
-  credit = map (credit_seen h S bank) (filter (λ other. not (other == bank)) (below (bank_count h)));
+  credit = map (credit_seen h S bank) (others h bank);
+  own_total = S.totals bank;
   count = count_of S bank;
 }
 
@@ -47,10 +50,13 @@ view h S bank = record {
 abbrev pub told_fill : Fill → Fill
 told_fill fill = record fill { maker_number = 0 }
 
--- an outcome as the sender is told of it: fills without their makers' numbers, and of a credit change the limit alone
+-- an outcome as the sender is told of it: fills without their makers' numbers, and of a credit change what was set or given back
+-- alone
 abbrev pub told : Outcome → Outcome
 told (Ordered done rests fills) = Ordered done rests (map told_fill fills)
 told (LineSet limit fills) = LineSet limit []
+told (TotalSet most fills) = TotalSet most []
+told (Settled given fills) = Settled given []
 told outcome = outcome
 
 -- a fill as one of its banks sees it: without the number of the other's order

@@ -1,7 +1,7 @@
 ghost use Rattle.std.specs.Prelude.{◌≡◌, ◌↔◌, IsTrue};
 ghost use Rattle.fx_rules.specs.Reject.{code_of};
 ghost use Rattle.fx_rules.specs.Sending.{pair_of};
-ghost use Rattle.fx_rules.specs.Step.{IsCommand};
+ghost use Rattle.fx_rules.specs.Step.{AreValues, IsCommand, Suits};
 ghost use Rattle.fx_rules.specs.inside.Command.{ValuesFit};
 
 use crate::session::Session;
@@ -43,10 +43,12 @@ pub enum Reject {
     Life = 10,
     /// A line of more than 256 bytes.
     Long = 11,
+    /// Not a number from 1 to 10^15. A fault of the operator's lines alone.
+    Units = 12,
 }
 
 impl Reject {
-    /// The number that is printed for it, 1 to 11.
+    /// The number that is printed for it, 1 to 12.
     pub fn code(self) -> u8
         ensures value { result ≡ code_of self }
     {
@@ -54,9 +56,9 @@ impl Reject {
     }
 }
 
-/// What a bank asks of the host. A bank and a pair are places in the session's header, a price is in ticks (1 to 10^9),
-/// a quantity in lots (1 to 10^6), a limit in credit units (0 to 10^15), and `number` is that of a command of the
-/// sender, from 1.
+/// What a bank or the operator asks of the host. A bank and a pair are places in the session's header, a price is in ticks
+/// (1 to 10^9), a quantity in lots (1 to 10^6), a limit in credit units (0 to 10^15), and `number` is that of a command of
+/// the sender, from 1.
 #[derive(Clone, Copy, Debug, PartialEq, Eq)]
 pub enum Command {
     /// Buys or sells at a price or better.
@@ -87,6 +89,16 @@ pub enum Command {
         bank: BankId,
         limit: Units,
     },
+    /// Sets the sender's limit on all other banks together. In version 2 alone.
+    Total {
+        limit: Units,
+    },
+    /// Gives back so many credit units, at least 1, of what two banks have used. The operator sends it, in version 2 alone.
+    Settle {
+        a: BankId,
+        b: BankId,
+        units: Units,
+    },
     /// Asks for the line with another bank.
     Show {
         bank: BankId,
@@ -113,22 +125,49 @@ impl Command {
             Command::Reduce { pair, .. } => Some(pair),
             Command::Pull { pair } => Some(pair),
             Command::Book { pair } => Some(pair),
-            Command::Line { .. } | Command::Show { .. } | Command::Bad { .. } => None,
+            Command::Line { .. }
+            | Command::Total { .. }
+            | Command::Settle { .. }
+            | Command::Show { .. }
+            | Command::Bad { .. } => None,
         }
     }
 }
 
-/// Whether a bank may send a command in a session: it is one of the session's banks, the command's pair and its other bank are
-/// the session's too, the other bank is not the sender, and the number that it names is at least 1. It takes no memory.
+/// Whether a sender may send a command in a session: a settlement is the operator's, all else but a line that could not be read
+/// is a bank's, and both they and a total come in version 2 alone. The command's pair and its other banks are the session's, the
+/// other bank is not the sender, the two banks of a settlement differ, and the number or the units that it names are at least 1.
+/// It takes no memory.
 pub fn is_command(session: &Session, sender: BankId, command: &Command) -> bool
     ensures value { IsTrue result ↔ IsCommand session.now sender command.now }
+{
+    suits(session, sender, command) && are_values(session, sender, command)
+}
+
+/// Whether it is for this sender to send such a command.
+fn suits(session: &Session, sender: BankId, command: &Command) -> bool
+    ensures value { IsTrue result ↔ Suits session.now sender command.now }
+{
+    let is_bank = sender.index() < session.banks().len();
+    let is_operator = session.version() == 2 && sender == BankId::HOST;
+    match *command {
+        Command::Settle { .. }
+        | Command::Bad {
+            reason: Reject::Units,
+        } => is_operator,
+        Command::Bad { .. } => is_bank || is_operator,
+        Command::Total { .. } => is_bank && session.version() == 2,
+        _ => is_bank,
+    }
+}
+
+/// Whether what a command names and tells is the session's and in range.
+fn are_values(session: &Session, sender: BankId, command: &Command) -> bool
+    ensures value { IsTrue result ↔ AreValues session.now sender command.now }
 {
     values_fit(command);
     let banks = session.banks().len();
     let pairs = session.pairs().len();
-    if sender.index() >= banks {
-        return false;
-    }
     match *command {
         Command::Order { pair, .. } | Command::Pull { pair } | Command::Book { pair } =>
             pair.index() < pairs,
@@ -136,11 +175,15 @@ pub fn is_command(session: &Session, sender: BankId, command: &Command) -> bool
         Command::Reduce { pair, number, .. } => pair.index() < pairs && number >= 1,
         Command::Line { bank, .. } | Command::Show { bank } => bank.index() < banks
             && bank != sender,
-        Command::Bad { .. } => true,
+        Command::Settle { a, b, units } => a.index() < banks
+            && b.index() < banks
+            && a != b
+            && units.get() >= 1,
+        Command::Total { .. } | Command::Bad { .. } => true,
     }
 }
 
-/// A command's price, lots and limit are in their ranges, as their types keep them. It does nothing: it tells a proof.
+/// A command's price, lots, limit and units are in their ranges, as their types keep them. It does nothing: it tells a proof.
 fn values_fit(command: &Command)
     ensures fit { ValuesFit command.now }
 {
@@ -151,8 +194,11 @@ fn values_fit(command: &Command)
         Command::Reduce { lots, .. } => {
             let _ = lots.count();
         }
-        Command::Line { limit, .. } => {
+        Command::Line { limit, .. } | Command::Total { limit } => {
             let _ = limit.get();
+        }
+        Command::Settle { units, .. } => {
+            let _ = units.get();
         }
         _ => {}
     }

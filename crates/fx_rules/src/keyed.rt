@@ -14,7 +14,7 @@ pub trait Keyed {
         ensures value { result ≡ touches self.now key };
 }
 
-/// A key below 64 is the bank of that number, 64 is kept for an operator, and 65 and above are the pairs in the session's
+/// A key below 64 is the bank of that number, 64 is the operator, and 65 and above are the pairs in the session's
 /// order. An entry touches its sender and the pair of its command; a credit change touches every pair, a show command and a
 /// line that could not be read touch none.
 impl Keyed for Entry {
@@ -51,7 +51,8 @@ fn is_about(command: &Command, key: u32) -> bool
         | Command::Reduce { pair, .. }
         | Command::Pull { pair }
         | Command::Book { pair } => key == pair_key(*pair),
-        Command::Line { .. } => FIRST_PAIR_KEY <= key,
+        Command::Line { .. } | Command::Total { .. } | Command::Settle { .. } => FIRST_PAIR_KEY
+            <= key,
         Command::Show { .. } | Command::Bad { .. } => false,
     }
 }

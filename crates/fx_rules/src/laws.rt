@@ -1,4 +1,4 @@
-ghost use Rattle.fx_rules.specs.Laws.{SweepsAgree, OutcomesAgree, NextEntriesAgree, LegalIsSound, LegalIsUncrossed, LegalGoesOn, LinesFall, OtherPairsStay, OtherCountsStay, CountsAreOwn, ArrivalsFit, LocalBooksAreTruthful, FullBooksStay, ViewsTellAll, ViewsShowAll, ViewsFillAll};
+ghost use Rattle.fx_rules.specs.Laws.{SweepsAgree, OutcomesAgree, NextEntriesAgree, LegalIsSound, LegalIsUncrossed, LegalGoesOn, LinesFall, LinesArePlain, OtherPairsStay, OtherCountsStay, CountsAreOwn, ArrivalsFit, LocalBooksAreTruthful, FullBooksStay, ViewsTellAll, ViewsShowAll, ViewsFillAll, ViewsFillTotals};
 
 /// State and taker determine a sweep: two sweeps of one taker in one sound state have the same fills in the same order,
 /// and leave the taker the same lots.
@@ -17,7 +17,8 @@ pub fn next_entries_agree()
 {}
 
 /// The state of every legal history is sound: orders of the session's banks and pairs in arrival order, numbers in
-/// their ranges, and between no two banks more used than either's limit.
+/// their ranges, between no two banks more used than either's limit or given back than was used, and no bank that has spent
+/// more than its total.
 pub fn legal_is_sound()
     ensures sound { LegalIsSound }
 {}
@@ -33,11 +34,17 @@ pub fn legal_goes_on()
     ensures legal { LegalGoesOn }
 {}
 
-/// Each step from a sound state lets what the limits of two banks leave fall by the cost of its fills between them, and by
-/// nothing else. It falls from what they leave where the fills begin: as before the step, but for a limit that a credit change
-/// has set first.
+/// Each step from a sound state lets what the limits of two banks leave fall by the cost of its fills between them and rise by
+/// what it gives back between them. What a bank's total leaves falls by the cost of all its fills and rises by what is given
+/// back to it. Nothing else changes them. They fall from what the limits and totals leave where the fills begin: as before the
+/// step, but for a limit or a total that a credit change has set first.
 pub fn lines_fall()
     ensures fall { LinesFall }
+{}
+
+/// In a session of version 1 the line between two banks is what the lesser of their limits on each other leaves.
+pub fn lines_are_plain()
+    ensures plain { LinesArePlain }
 {}
 
 /// A step from a sound state leaves the orders of every pair but the one that its command names, and a show, a local
@@ -75,7 +82,7 @@ pub fn full_books_stay()
 {}
 
 /// What a bank is told of a command depends on what it sees alone: two sound states with one view of a bank tell it the
-/// same of each of its commands.
+/// same of each of its commands. (The operator has no view.)
 pub fn views_tell_all()
     ensures tell { ViewsTellAll }
 {}
@@ -86,8 +93,13 @@ pub fn views_show_all()
     ensures show { ViewsShowAll }
 {}
 
-/// The fills of a bank's credit change depend on what it sees alone: where two sound states without crossed orders have
+/// The fills of a limit that a bank sets depend on what it sees alone: where two sound states without crossed orders have
 /// one view of the bank once its limit is set, they make the same fills, but for the numbers of the other bank's orders.
 pub fn views_fill_all()
     ensures fill { ViewsFillAll }
+{}
+
+/// And likewise once its total is set: the fills are the same, but for the numbers of the other banks' orders.
+pub fn views_fill_totals()
+    ensures fill { ViewsFillTotals }
 {}

@@ -6,7 +6,7 @@ use crate::lists::ListOf;
 use crate::orders::{Fill, FillList, LevelList};
 use fx_amounts::{BankId, Memory, Units};
 
-/// What came of a command. What is filled, rests or is left is in lots, a limit, a use and a line in credit units.
+/// What came of a command. What is filled, rests or is left is in lots, a limit, a total, a use and a line in credit units.
 #[derive(Debug, Drop)]
 pub enum Outcome {
     /// An order was swept: the lots filled, the lots that rest, and the fills in order.
@@ -40,6 +40,16 @@ pub enum Outcome {
         limit: Units,
         fills: FillList,
     },
+    /// The total that was set, at most 63 * 10^15, and the fills that it made possible, in order.
+    TotalSet {
+        limit: u64,
+        fills: FillList,
+    },
+    /// The units that were given back, and the fills that this made possible, in order.
+    Settled {
+        given: Units,
+        fills: FillList,
+    },
     /// The sender's limit on the other bank, what the two have used, and the line between them.
     Shown {
         limit: Units,
@@ -58,13 +68,15 @@ pub enum Outcome {
 }
 
 impl Outcome {
-    /// The fills that it tells, in order; none but of an order that was swept and of a line that was set. It takes no memory.
+    /// The fills that it tells, in order; none but of an order that was swept and of a credit change. It takes no memory.
     pub fn fills(&self) -> &[Fill]
         ensures fills { result.now ≡ fills_of self.now }
     {
         match self {
             Outcome::Ordered { fills, .. } => fills.as_slice(),
-            Outcome::LineSet { fills, .. } => fills.as_slice(),
+            Outcome::LineSet { fills, .. }
+            | Outcome::TotalSet { fills, .. }
+            | Outcome::Settled { fills, .. } => fills.as_slice(),
             _ => &[],
         }
     }
@@ -93,6 +105,14 @@ impl Outcome {
             Outcome::Pulled { count } => Outcome::Pulled { count: *count },
             Outcome::LineSet { limit, fills } => Outcome::LineSet {
                 limit: *limit,
+                fills: fills.copy()?,
+            },
+            Outcome::TotalSet { limit, fills } => Outcome::TotalSet {
+                limit: *limit,
+                fills: fills.copy()?,
+            },
+            Outcome::Settled { given, fills } => Outcome::Settled {
+                given: *given,
                 fills: fills.copy()?,
             },
             Outcome::Shown { limit, used, eff } => Outcome::Shown {

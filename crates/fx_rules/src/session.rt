@@ -1,6 +1,6 @@
-ghost use Rattle.std.specs.Prelude.{◌≡◌, ◌≢◌, ◌↔◌, ◌≤◌, ◌<◌, ◌+◌, ◌*◌, ◌&&◌, ℕ, IsTrue, SomeIff, All, AllPairs, length, position, slice_index, slice_get, bytes_eq, Contains, IfSome, IfNone, option_map};
+ghost use Rattle.std.specs.Prelude.{[], ◌≡◌, ◌≢◌, ◌↔◌, ◌≤◌, ◌<◌, ◌+◌, ◌*◌, ◌&&◌, ℕ, IsTrue, SomeIff, All, AllPairs, length, position, slice_index, slice_get, bytes_eq, Contains, IfSome, IfNone, option_map};
 ghost use Rattle.fx_rules.specs.Names.{is_name};
-ghost use Rattle.fx_rules.specs.Session.{Header, IsSession, IsPairRule, AreSamePair, bank_count, pair_count, opening_limit, weight_of, decimals_of, lot_of, bank_name, bank_named, pair_named, pair_text, pair_name};
+ghost use Rattle.fx_rules.specs.Session.{Header, IsSession, IsPairRule, AreSamePair, bank_count, pair_count, newest, opening_limit, opening_total, weight_of, decimals_of, lot_of, bank_name, bank_named, pair_named, pair_text, pair_name};
 
 use crate::guesses::Guesses;
 use crate::names::{Code, Name, SoughtName};
@@ -35,13 +35,17 @@ impl PairRule {
     }
 }
 
-/// A day's banks, pairs and opening limits. Each value is a valid session. Contracts see it as its header.
+/// A day's version, banks, pairs, opening limits and opening totals. Each value is a valid session. Contracts see it as its header.
 #[derive(Debug, Drop)]
 pub struct Session {
+    /// 1, or 2 with totals and with an operator.
+    version: u8,
     banks: Vec<Name>,
     pairs: Vec<PairRule>,
     /// Row by row: the limit that bank i sets on bank j stands at `i * banks + j`.
     limits: Vec<Units>,
+    /// In version 1 none; in version 2 each bank's total, or that it has none.
+    totals: Vec<Option<Units>>,
     /// Where a bank of a name is looked for first.
     bank_guesses: Guesses,
     /// Where a pair that is written so is looked for first.
@@ -53,34 +57,79 @@ impl Model for Session {
 
     ghost Value = { Header };
 
-    ghost view = { λ s. record { banks = s.banks.items; pairs = s.pairs.items; limits = s.limits.items } };
+    ghost view = { λ s. record { version = s.version; banks = s.banks.items; pairs = s.pairs.items; limits = s.limits.items; totals = s.totals.items } };
 
-    ghost invariant = { λ s. IsSession (record { banks = s.banks.items; pairs = s.pairs.items; limits = s.limits.items }) };
+    ghost invariant = { λ s. IsSession (record { version = s.version; banks = s.banks.items; pairs = s.pairs.items; limits = s.limits.items; totals = s.totals.items }) };
 }
 
 impl Session {
-    /// The session of these banks and pairs, where `limits` holds, row by row, the limit that each bank sets on each
-    /// bank. `None` exactly where they are no valid session; then they are dropped. It takes no memory.
+    /// The newest version that a session can have.
+    const NEWEST: u8 = 1;
+
+    /// The session of version 1 of these banks and pairs, where `limits` holds, row by row, the limit that each bank sets on
+    /// each bank. `None` exactly where they are no valid session; then they are dropped. It takes no memory.
     pub fn build(banks: Vec<Name>, pairs: Vec<PairRule>, limits: Vec<Units>) -> Option<Self>
-        ensures value { let header : Header = record { banks = banks.items; pairs = pairs.items; limits = limits.items } in
+        ensures value { let header : Header = record { version = 1; banks = banks.items; pairs = pairs.items; limits = limits.items; totals = [] } in
             SomeIff result (IsSession header) header }
     {
-        if are_valid_banks(&banks)
+        let totals = Vec::new(*limits.allocator());
+        Self::build_of(1, banks, pairs, limits, totals)
+    }
+
+    /// The session of version 2 of these banks and pairs, with the limits as for version 1 and for each bank its total, or that it
+    /// has none. `None` exactly where they are no valid session; then they are dropped. It takes no memory.
+    pub fn build_two(
+        banks: Vec<Name>,
+        pairs: Vec<PairRule>,
+        limits: Vec<Units>,
+        totals: Vec<Option<Units>>,
+    ) -> Option<Self>
+        ensures value { let header : Header = record { version = 2; banks = banks.items; pairs = pairs.items; limits = limits.items; totals = totals.items } in
+            SomeIff result (IsSession header) header }
+    {
+        Self::build_of(2, banks, pairs, limits, totals)
+    }
+
+    /// The session of these parts, where they are one.
+    fn build_of(
+        version: u8,
+        banks: Vec<Name>,
+        pairs: Vec<PairRule>,
+        limits: Vec<Units>,
+        totals: Vec<Option<Units>>,
+    ) -> Option<Self>
+        ensures value { let header : Header = record { version = version; banks = banks.items; pairs = pairs.items; limits = limits.items; totals = totals.items } in
+            SomeIff result (IsSession header) header }
+    {
+        let total_places = if version == 2 { banks.len() } else { 0 };
+        if is_version(version)
+            && are_valid_banks(&banks)
             && are_valid_pairs(&pairs)
             && are_valid_limits(banks.len(), &limits)
+            && are_valid_totals(total_places, &totals)
         {
             let bank_guesses = guesses_of_banks(&banks);
             let pair_guesses = guesses_of_pairs(&pairs);
             Some(Session {
+                version,
                 banks,
                 pairs,
                 limits,
+                totals,
                 bank_guesses,
                 pair_guesses,
             })
         } else {
             None
         }
+    }
+
+    /// The version of the session's text: 1, or 2 with totals and with an operator. It takes no memory.
+    pub fn version(&self) -> u8
+        ensures value { result ≡ self.now.version }
+        ensures valid { IsSession self.now }
+    {
+        self.version
     }
 
     /// The banks' names, in header order. It takes no memory.
@@ -117,6 +166,17 @@ impl Session {
         ensures valid { IsSession self.now }
     {
         self.limits[i.index() * self.banks.len() + j.index()]
+    }
+
+    /// The total that a bank opens with, in credit units; `None` exactly where it has none. It takes no memory.
+    pub fn total(&self, bank: BankId) -> Option<Units>
+        ensures value { result ≡ opening_total self.now bank }
+        ensures valid { IsSession self.now }
+    {
+        match self.totals.get(bank.index()) {
+            Some(total) => *total,
+            None => None,
+        }
     }
 
     /// Credit units per lot of a pair, 1 to 10^6. It takes no memory.
@@ -163,6 +223,33 @@ impl Session {
     {
         let place = place_of_pair_text(&self.pairs, &self.pair_guesses, text)?;
         Some(PairId::at(place))
+    }
+}
+
+/// Whether there is such a version.
+fn is_version(version: u8) -> bool
+    ensures valid { IsTrue result ↔ ((1 ≤ version) × (version ≤ newest)) }
+{
+    1 <= version && version <= Session::NEWEST
+}
+
+/// Whether there is a total, or that there is none, for each of so many banks.
+fn are_valid_totals(places: usize, totals: &[Option<Units>]) -> bool
+    ensures valid { IsTrue result ↔ (length totals.now ≡ places) }
+    ensures most { All (λ most. IfSome most (λ units. units ≤ 1000000000000000)) totals.now }
+{
+    for total in totals {
+        total_fits(total);
+    }
+    totals.len() == places
+}
+
+/// A total is in its range, as its type keeps it. It does nothing: it tells a proof.
+fn total_fits(total: &Option<Units>)
+    ensures fit { IfSome total.now (λ units. units ≤ 1000000000000000) }
+{
+    if let Some(units) = total {
+        let _ = units.get();
     }
 }
 

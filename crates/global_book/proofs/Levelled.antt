@@ -157,7 +157,7 @@ widen_self levels = record { count = refl; rows = λ bank side. record { side = 
 none_here : (key : ℕ) (order : Resting) → get_or [] key None ≡ Some order → ⊥
 none_here key order is = cc
 
-pub levelled_none : (banks : ℕ) (orders : Orders) (levels : List LevelSides) → orders.slots ≡ [] → length levels ≡ min banks 64 → ((bank : ℕ) (side : Side) → (levels_at levels bank side).levels ≡ [])
+pub levelled_none : (banks : ℕ) (orders : Orders) (levels : List LevelSides) → orders.slots ≡ [] → length levels ≡ min banks 65 → ((bank : ℕ) (side : Side) → (levels_at levels bank side).levels ≡ [])
     → AreLevelled banks orders levels
 levelled_none banks orders levels empty count none = record {
   count = count;

@@ -29,12 +29,12 @@ impl Model for BankLevels {
 }
 
 impl BankLevels {
-    /// No levels, for so many banks, 64 at most. `Memory` when out of memory.
+    /// No levels, for so many senders, 65 at most. `Memory` when out of memory.
     pub(crate) fn new(alloc: Global, banks: usize) -> Result<BankLevels, Memory>
-        ensures count { IfOk result (λ levels. length levels ≡ min banks 64) }
+        ensures count { IfOk result (λ levels. length levels ≡ min banks 65) }
         ensures empty { IfOk result (λ levels. (bank : ℕ) (side : OneSide) → (levels_at levels bank side).levels ≡ []) }
     {
-        let banks = bare_banks(alloc, banks.min(BankId::COUNT))?;
+        let banks = bare_banks(alloc, banks.min(BankId::SENDERS))?;
         Ok(BankLevels { banks })
     }
 

@@ -110,7 +110,7 @@ impl PairBook {
         ensures orders { self.new.orders ≡ self.old.orders }
         ensures valid { IsBook self.new }
     {
-        prove!(bank.index() < BankId::COUNT);
+        prove!(bank.index() < BankId::SENDERS);
         self.orders.reserve(bank)?;
         self.rows.reserve(bank, side)?;
         self.levels.reserve(bank, side)

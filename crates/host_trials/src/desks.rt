@@ -4,8 +4,8 @@ ghost use Rattle.credit_book.specs.Recorded.{key_count};
 ghost use Rattle.fx_desk.specs.Submitting.{Submitted};
 ghost use Rattle.fx_rules.specs.Lists.{Each};
 ghost use Rattle.fx_rules.specs.Sending.{IsSentOf};
-ghost use Rattle.fx_rules.specs.Session.{sender_places};
-ghost use Rattle.fx_rules.specs.Step.{AreValues};
+ghost use Rattle.fx_rules.specs.Session.{IsSession, sender_places};
+ghost use Rattle.fx_rules.specs.Step.{IsCommand};
 ghost use Rattle.host_trials.specs.inside.Passes.{AreOfBanks};
 
 use fx_amounts::Memory;
@@ -96,6 +96,8 @@ fn day_at_one_lock<N: Naming + Send, R: AllocGlobal + Wait>(
     requires valid { Each (IsSentOf session.now) sent.now }
     requires few { length sent.now ≤ 100000 }
 {
+    // That each sender has a pass rests on a valid session, as each is.
+    let _banks = session.banks();
     let mut told = room(rt, sent)?;
     let Ok((host, mut passes)) = open_one::<N>(rt.alloc(), blank, session) else {
         return Err(Refused::Opening);
@@ -123,6 +125,8 @@ fn day_at_pair_locks<N: Naming + Send, R: AllocGlobal + Wait>(
     requires valid { Each (IsSentOf session.now) sent.now }
     requires few { length sent.now ≤ 100000 }
 {
+    // That each sender has a pass rests on a valid session, as each is.
+    let _banks = session.banks();
     let mut told = room(rt, sent)?;
     let Ok((host, mut passes)) = open_host::<N>(rt.alloc(), blank, session) else {
         return Err(Refused::Opening);
@@ -162,6 +166,7 @@ fn submit_all<D: Desk, R: Wait>(
     sent: &[Sent],
     told: &mut Vec<Outcome>,
 ) -> Result<(), Refused>
+    requires session { IsSession D.session }
     requires count { length passes.old ≡ sender_places D.session }
     requires passes { AreOfBanks D.bank D.mine 0 passes.old }
     requires valid { Each (IsSentOf D.session) sent.now }
@@ -187,7 +192,7 @@ fn submit_told<D: Desk, R: Wait>(
     command: &Command,
     told: &mut Vec<Outcome>,
 ) -> Result<(), Refused>
-    requires values { AreValues D.session (D.bank pass.old) command.now }
+    requires command { IsCommand D.session (D.bank pass.old) command.now }
     requires few { length (D.mine pass.old) < 2 ^ 32 - 1 }
     ensures bank { D.bank pass.new ≡ D.bank pass.old }
     ensures one_more { OnOk result (length (D.mine pass.new) ≡ length (D.mine pass.old) + 1) }
@@ -206,7 +211,7 @@ fn submit_again<D: Desk, R: Wait>(
     pass: &mut D::Pass,
     command: &Command,
 ) -> Result<Outcome, Refused>
-    requires values { AreValues D.session (D.bank pass.old) command.now }
+    requires command { IsCommand D.session (D.bank pass.old) command.now }
     requires few { length (D.mine pass.old) < 2 ^ 32 - 1 }
     ensures bank { D.bank pass.new ≡ D.bank pass.old }
     ensures submitted { IfOk result (Submitted D.session (D.bank pass.old) (D.seen pass.old) (D.mine pass.old) command.now (D.seen pass.new) (D.mine pass.new)) }

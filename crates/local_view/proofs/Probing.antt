@@ -15,10 +15,11 @@ use Rattle.fx_rules.specs.Session.{Header, bank_count, weight_of}
 use Rattle.fx_rules.specs.State.{State, orders_in, count_of, arrivals, line, reach, cost_between}
 use Rattle.fx_rules.specs.Sweep.{Taker, Swept, is_opposite, is_open, open_orders, is_order, IsBest, amount, fill_with, lowered, with_left, filled, less}
 use Rattle.fx_rules.specs.Depth.{any_price, lots_against, with_fill, levels_of}
-use Rattle.fx_rules.specs.Sound.{IsSound, IsKept}
+use Rattle.fx_rules.specs.Sound.{IsSound, IsKept, IsPlain}
 use Rattle.fx_rules.proofs.ListLemmas.{Each-of, Each-among, Each-weaker, filter_agree_on}
 use Rattle.fx_rules.proofs.Credit.{IsAllowed}
 use Rattle.fx_rules.proofs.Opens.{orders_in-among, IsMaker, maker_of, allowed-open}
+use Rattle.fx_rules.proofs.Plain.{plain-filled, plain-line_filled}
 use Rattle.fx_rules.proofs.Planning.{orders_in-rising}
 use Rattle.fx_rules.proofs.SweepSound.{filled-sound}
 use Rattle.fx_rules.proofs.Lowering.{Each-lowered, is_order-says}
@@ -27,7 +28,7 @@ use Rattle.fx_rules.proofs.Levels.{lots_of}
 use Rattle.fx_rules.proofs.Truth.{swept-lots}
 use Rattle.fx_rules.proofs.ViewLists.{lower_order, orders_in-lowered}
 use Rattle.fx_rules.proofs.ViewOpen.{twin, SameFill}
-use Rattle.fx_rules.proofs.ViewFill.{are_of_one, cost_same, line-filled}
+use Rattle.fx_rules.proofs.ViewFill.{are_of_one, cost_same}
 use Rattle.fx_rules.proofs.ViewSweep.{lots_on, among_lots, lots_on-taken}
 use Rattle.global_book.specs.Book.{Book}
 use Rattle.credit_lines.specs.Credit.{Credit}
@@ -74,10 +75,11 @@ maker_alone h S f sound fresh =
 abbrev renumbered : ℕ → Fill → Fill
 renumbered number fill = record fill { taker_number = number }
 
--- the same orders rest, the same was sent, and the lines are the same
+-- the same orders rest, the same was sent, and the lines are the same; there are no totals and no settlements
 record IsLike (h : Header) (S T : State) : Type 0 where
   pub orders : S.orders ≡ T.orders
   pub lines : (i k : ℕ) → line h S i k ≡ line h T i k
+  pub plain : IsPlain S × IsPlain T
 
 -- to a bank that is not its taker it looks the same
 renumbered_same : (number : ℕ) (f : Fill) → SameFill (f.taker + 1) f (renumbered number f)
@@ -98,8 +100,9 @@ like_filled h S T f number sound like fresh other =
     record {
       orders = maker_alone h S f sound fresh ∙ sym (maker_alone h S g sound other)
           ∙ ap (λ os. lowered f.taker number f.lots (lowered f.maker f.maker_number f.lots os)) like.orders;
-      lines = λ i k. line-filled h S f i k ∙ ap (λ l. l - cost_between h i k (f ∷ [])) (like.lines i k)
-          ∙ ap (λ n. line h T i k - n) (cost_same h (f.taker + 1) i k f g (renumbered_same number f)) ∙ sym (line-filled h T g i k);
+      lines = λ i k. plain-line_filled h S f i k like.plain.0 ∙ ap (λ l. l - cost_between h i k (f ∷ [])) (like.lines i k)
+          ∙ ap (λ n. line h T i k - n) (cost_same h (f.taker + 1) i k f g (renumbered_same number f)) ∙ sym (plain-line_filled h T g i k like.plain.1);
+      plain = (plain-filled S f like.plain.0, plain-filled T g like.plain.1);
     }
 
 -- ---- the order with another number, as many lots as there are, and another arrival
@@ -232,7 +235,7 @@ levels_of-renumbered number (f ∷ fills) =
 
 -- ---- the local book
 
-still_wants : (lots left : ℕ) → lots + left ≡ 2 ^ 64 - 1 → lots ≤ 64 * 10 ^ 15 → 1 ≤ left
+still_wants : (lots left : ℕ) → lots + left ≡ 2 ^ 64 - 1 → lots ≤ 65 * 10 ^ 15 → 1 ≤ left
 still_wants lots left sum most = omega arith
 
 -- An order of a bank in a pair that takes any price, wants more than its lines allow, and comes after all others.
@@ -276,7 +279,7 @@ shown-levelled book credit weight bank side levels bank_in some levelled h S sou
     let swept : Swept h S t fills levelled.left = levelled.sweep h S sound fits in
     let instead : Instead h S S t number n (arrivals S) = record {
       sound = sound;
-      like = record { orders = refl; lines = λ i k. refl };
+      like = record { orders = refl; lines = λ i k. refl; plain = (fits.lines.plain, fits.lines.plain) };
       sender = omega (arith, bank_in, fits.lines.banks);
       weight = omega (arith, some, fits.weighs);
       fresh = inl refl;

@@ -14,7 +14,7 @@ use Rattle.fx_rules.specs.Lists.{Each}
 use Rattle.fx_rules.specs.Sending.{IsSentOf}
 use Rattle.fx_rules.specs.Session.{Header, bank_count, pair_count}
 use Rattle.fx_rules.specs.Step.{AreValues}
-use Rattle.fx_rules.proofs.Senders.{bank-suits}
+use Rattle.fx_rules.proofs.Senders.{IsPlainCommand, bank-suits}
 use Rattle.fx_rules.proofs.Below.{length-map_below}
 use Rattle.made_session.specs.Session.{made_bank, made_pair, made_header}
 use Rattle.made_session.specs.Draws.{after_draws, draw}
@@ -86,13 +86,21 @@ command_values h banks pairs sender kind x counts of =
     (line_values h banks pairs sender x counts of)
     (let pair = draw_below 1 pairs x counts.one in omega (arith, pair, counts.pairs_are))
 
+-- none of them is of version 2 alone
+command_plain : (banks pairs sender kind x : ℕ) → IsPlainCommand (drawn_command banks pairs sender kind x)
+command_plain banks pairs sender kind x =
+    picked IsPlainCommand (nat_lt kind 12) (kind == 12) (kind == 13) (kind == 14)
+    (drawn_order pairs (if kind % 2 == 0 then Buy else Sell) Day x) (drawn_order pairs Buy Ioc x) (drawn_order pairs Sell Fok x)
+    (drawn_line banks sender x) (Book (draw 1 pairs x)) tt tt tt tt tt
+
 sent_is : (h : Header) (banks pairs x : ℕ) → Counts h banks pairs → IsSentOf h (drawn_sent banks pairs x)
 sent_is h banks pairs x counts =
     let two = counts.two in
     let sender : draw 1 banks x < banks = draw_below 1 banks x (omega arith) in
     record {
       command = record {
-        sends = bank-suits h (draw 1 banks x) (drawn_command banks pairs (draw 1 banks x) (draw 2 16 x) (after_draws 2 x)) (omega (arith, sender, counts.banks_are));
+        sends = bank-suits h (draw 1 banks x) (drawn_command banks pairs (draw 1 banks x) (draw 2 16 x) (after_draws 2 x))
+            (command_plain banks pairs (draw 1 banks x) (draw 2 16 x) (after_draws 2 x)) (omega (arith, sender, counts.banks_are));
         values = command_values h banks pairs (draw 1 banks x) (draw 2 16 x) (after_draws 2 x) counts sender;
       };
     }

@@ -12,6 +12,9 @@ use Rattle.fx_rules.specs.declared.session.PairRule.{PairRule}
 use Rattle.credit_lines.proofs.CreditLemmas.{place_below}
 use Rattle.made_session.specs.Draws.{seeded, draw}
 use Rattle.made_session.specs.Session.{made_bank, made_base, made_pair, drawn_limit, after_limit, made_limit, made_limits, is_own_place, before_limit, made_header}
+use Rattle.std.specs.Prelude.{IfSome}
+use Rattle.std.proofs.lemmas.List.Elements.{All-nil}
+use Rattle.fx_rules.proofs.Plain.{first-known}
 use Rattle.fx_rules.proofs.Below.{length-map_below, get_or_below, all-below}
 
 -- digits and letters
@@ -130,6 +133,10 @@ is_session seed banks pairs two few one most =
           ap (λ n. slice_index limits (i * n + i)) bank_total
           ∙ get_or_below (made_limit banks (seeded seed)) (banks * banks) (i * banks + i) 0 (place_below banks i i bank bank)
           ∙ own_limit banks (seeded seed) i bank;
+      version_least = omega arith;
+      version_most = first-known;
+      totals_full = refl;
+      totals_most = All-nil (λ most. IfSome most (λ units. units ≤ 1000000000000000));
     }
 
 -- the same of the parts as they were made

@@ -48,9 +48,11 @@ made_limits banks x = map (made_limit banks x) (below (banks * banks))
 -- the session
 abbrev pub made_header : ℕ → ℕ → ℕ → Header
 made_header seed banks pairs = record {
+  version = 1;
   banks = map made_bank (below banks);
   pairs = map made_pair (below pairs);
   limits = made_limits banks (seeded seed);
+  totals = [];
 }
 
 -- the state once all limits are drawn

@@ -80,7 +80,7 @@ module _ (book : Book) (credit : Credit) (weight : ℕ) (t : Taker) where
         | inr differ ↦ apart bank (sym (get_or-set_other marks n bank true false differ) ∙ flag)
       ]
 
-  pub opened_with : (banks : List ℕ) (n : ℕ) (head : Resting) (first : Option Resting) (marks : List Bool) → IsBook book → n < 64 → length marks ≡ 64 → NotOwn marks → IsOpenHead book credit weight t n head
+  pub opened_with : (banks : List ℕ) (n : ℕ) (head : Resting) (first : Option Resting) (marks : List Bool) → IsBook book → n < 65 → length marks ≡ 65 → NotOwn marks → IsOpenHead book credit weight t n head
       → OpensAt book credit weight t banks (opening_of first marks)
       → IsOpening book credit weight t (banks ++ n ∷ []) (record { first = better_head t.side first head; opens = set marks n true })
   opened_with banks n head None marks is below long apart opens was = record {
@@ -287,7 +287,7 @@ module _ (book : Book) (credit : Credit) (banks more : List ℕ) (opening : Open
     opens = marked.opens;
   }
 
-  pub opened-more : get_or opening.opens n false ≡ true → length now.lines ≡ 64 → OpensBank book credit now new n opening.first.bank → AreOpened book credit more opening old new
+  pub opened-more : get_or opening.opens n false ≡ true → length now.lines ≡ 65 → OpensBank book credit now new n opening.first.bank → AreOpened book credit more opening old new
   opened-more flag long it =
       let here : IsMarked more opening n = record { there = subst (λ (xs : List ℕ). Contains xs n) (sym is) (Contains-push banks n); opens = flag } in
       record {

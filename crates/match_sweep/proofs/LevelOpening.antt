@@ -17,7 +17,7 @@ use Rattle.match_sweep.proofs.Tables.{replicate-at, total-most}
 -- no bank is passed
 pub none-opened : (book : Book) (credit : Credit) (bank : ℕ) (walk : LevelWalk) → 1 ≤ walk.weight → IsBareLevel walk → HaveOpened book credit [] bank walk walk
 none-opened book credit bank walk some bare =
-    let none : (other : ℕ) → slice_index walk.lines other ≡ 0 = λ other. ap (λ (xs : List ℕ). slice_index xs other) bare.lines ∙ replicate-at {X = ℕ} 0 64 other in
+    let none : (other : ℕ) → slice_index walk.lines other ≡ 0 = λ other. ap (λ (xs : List ℕ). slice_index xs other) bare.lines ∙ replicate-at {X = ℕ} 0 65 other in
     record {
       keeps = record { same = refl; long = refl };
       most = λ other. omega (arith, none other);
@@ -47,7 +47,7 @@ module _ (book : Book) (credit : Credit) (banks more : List ℕ) (bank n : ℕ) 
   }
 
   -- another is opened
-  pub opened-level : (new : LevelWalk) → n ≢ bank → n < 64 → OpensLevel book credit now new bank n → HaveOpened book credit more bank old new
+  pub opened-level : (new : LevelWalk) → n ≢ bank → n < 65 → OpensLevel book credit now new bank n → HaveOpened book credit more bank old new
   opened-level new differ below it =
       let weight_same : now.weight ≡ old.weight = ap (λ (w : LevelWalk). w.weight) was.keeps.same in
       let taker_same : now.taker ≡ old.taker = ap (λ (w : LevelWalk). w.taker) was.keeps.same in
@@ -78,18 +78,18 @@ module _ (book : Book) (credit : Credit) (banks more : List ℕ) (bank n : ℕ) 
         ];
       }
 
--- all banks that have an order are opened, and the bank is one below 64
-pub opened-begins-at : (book : Book) (credit : Credit) (owners : List ℕ) (bank : ℕ) (old walk : LevelWalk) → IsBook book → AreOwners book owners → bank < 64 → IsBareLevel old → HaveOpened book credit owners bank old walk
+-- all banks that have an order are opened, and the bank is one below 65
+pub opened-begins-at : (book : Book) (credit : Credit) (owners : List ℕ) (bank : ℕ) (old walk : LevelWalk) → IsBook book → AreOwners book owners → bank < 65 → IsBareLevel old → HaveOpened book credit owners bank old walk
     → BeginsAt book credit old.weight bank old.taker walk
 opened-begins-at book credit owners bank old walk valid are below bare opened =
-    let long : length walk.lines ≡ 64 = opened.keeps.long ∙ ap length bare.lines in
+    let long : length walk.lines ≡ 65 = opened.keeps.long ∙ ap length bare.lines in
     let weight_same : walk.weight ≡ old.weight = ap (λ (w : LevelWalk). w.weight) opened.keeps.same in
     let taker_same : walk.taker ≡ old.taker = ap (λ (w : LevelWalk). w.taker) opened.keeps.same in
     let last_none : walk.last ≡ None = ap (λ (w : LevelWalk). w.last) opened.keeps.same ∙ bare.last in
     let owned : (o : Resting) → Among o book.orders → Contains owners o.bank = λ o there. Each-among (λ (q : Resting). Contains owners q.bank) book.orders o are.all there in
     record {
       valid = valid;
-      few = Each-of (λ (o : Resting). o.bank < 64) book.orders (λ o there. elim (cases_eq o.bank bank) [
+      few = Each-of (λ (o : Resting). o.bank < 65) book.orders (λ o there. elim (cases_eq o.bank bank) [
         | inl same ↦ omega (arith, same, below)
         | inr differ ↦ opened.few o.bank (owned o there) differ
       ]);

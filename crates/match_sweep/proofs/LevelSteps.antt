@@ -150,9 +150,9 @@ module _ (book : Book) (valid : IsBook book) where
     pub is : price_of walk order.bank ≡ Some head
     pub first : is_better walk.taker order.price head ≡ false
 
-  has_head : (walk : LevelWalk) (t : Taker) (order : Resting) → IsWeight walk.weight → Each (λ (q : Resting). q.bank < 64) book.orders → t.side ≡ walk.taker → HaveLevels book walk → OpenHere t walk.lines walk.weight walk.last order → HasHead walk order
+  has_head : (walk : LevelWalk) (t : Taker) (order : Resting) → IsWeight walk.weight → Each (λ (q : Resting). q.bank < 65) book.orders → t.side ≡ walk.taker → HaveLevels book walk → OpenHere t walk.lines walk.weight walk.last order → HasHead walk order
   has_head walk t order weighs few side have here =
-      let level : IsPriceOf walk.taker order.bank walk.last book.orders (price_in (head_of walk order.bank)) = (have order.bank (Each-among (λ (q : Resting). q.bank < 64) book.orders order few here.there) here.is_open.reach).best in
+      let level : IsPriceOf walk.taker order.bank walk.last book.orders (price_in (head_of walk order.bank)) = (have order.bank (Each-among (λ (q : Resting). q.bank < 65) book.orders order few here.there) here.is_open.reach).best in
       let passes : is_worse_of walk.taker order.bank walk.last order ≡ true = subst (λ (s : Side). is_worse_of s order.bank walk.last order ≡ true) side here.passes in
       let pay : walk.weight ≤ slice_index walk.lines order.bank = paid_for (slice_index walk.lines order.bank) walk.weight weighs here.is_open.reach in
       let answer : (found : Option ℕ) → price_in (head_of walk order.bank) ≡ found → IsPriceOf walk.taker order.bank walk.last book.orders found → HasHead walk order = λ found.
@@ -169,17 +169,17 @@ module _ (book : Book) (valid : IsBook book) where
   some_none : (n : ℕ) → None ≡ Some n → ⊥
   some_none n same = cc
 
-  none_left : (walk : LevelWalk) (t : Taker) → IsWeight walk.weight → Each (λ (q : Resting). q.bank < 64) book.orders → t.side ≡ walk.taker → HaveLevels book walk → IsBestPrice walk 64 None
+  none_left : (walk : LevelWalk) (t : Taker) → IsWeight walk.weight → Each (λ (q : Resting). q.bank < 65) book.orders → t.side ≡ walk.taker → HaveLevels book walk → IsBestPrice walk 65 None
       → open_behind (λ bank. get_or walk.lines bank 0 / walk.weight) t (past_order walk.last) book.orders ≡ []
   none_left walk t weighs few side have best =
       none_among (open_behind (λ bank. get_or walk.lines bank 0 / walk.weight) t (past_order walk.last) book.orders) (λ order there.
       let here = open_here t walk.lines walk.weight walk.last order there in
       let head = has_head walk t order weighs few side have here in
-      let no' : None ≡ Some head.head = sym (best order.bank (Each-among (λ (q : Resting). q.bank < 64) book.orders order few here.there)) ∙ head.is in
+      let no' : None ≡ Some head.head = sym (best order.bank (Each-among (λ (q : Resting). q.bank < 65) book.orders order few here.there)) ∙ head.is in
       some_none head.head no')
 
   -- A taker comes to the orders of the best price.
-  going_to : (walk : LevelWalk) (t : Taker) (price : ℕ) (weighs : IsWeight walk.weight) → Each (λ (q : Resting). q.bank < 64) book.orders → t.side ≡ walk.taker → HaveLevels book walk → IsBestPrice walk 64 (Some price) → IsEager t book.orders
+  going_to : (walk : LevelWalk) (t : Taker) (price : ℕ) (weighs : IsWeight walk.weight) → Each (λ (q : Resting). q.bank < 65) book.orders → t.side ≡ walk.taker → HaveLevels book walk → IsBestPrice walk 65 (Some price) → IsEager t book.orders
       → slice_index walk.lines t.bank ≡ 0 → total (λ (n : ℕ). n) walk.lines < t.left → Going walk.weight book.orders price weighs.0 book.orders t walk.lines (past_order walk.last)
   going_to walk t price weighs few side have best eager own enough =
       let worse : is_worse t.side walk.last price ≡ true = subst (λ (s : Side). is_worse s walk.last price ≡ true) (sym side) (best_worse book walk price weighs have best) in
@@ -195,7 +195,7 @@ module _ (book : Book) (valid : IsBook book) where
         opens = λ order there.
             let here = open_here t walk.lines walk.weight walk.last order there in
             let head = has_head walk t order weighs few side have here in
-            let no_better : is_better walk.taker head.head price ≡ false = best.1 order.bank head.head (Each-among (λ (q : Resting). q.bank < 64) book.orders order few here.there) head.is in
+            let no_better : is_better walk.taker head.head price ≡ false = best.1 order.bank head.head (Each-among (λ (q : Resting). q.bank < 65) book.orders order few here.there) head.is in
             let below : is_better t.side order.price price ≡ false
             = subst (λ (s : Side). is_better s order.price price ≡ false) (sym side)
             (elim (better-or_same walk.taker order.price head.head head.first) [
@@ -218,13 +218,13 @@ module _ (book : Book) (valid : IsBook book) where
     pub goes_on : (more : List Fill) (left : ℕ) → Planned walk.weight (slice_index taken.lines) book.orders (less t lots) (Some (at_end price)) more left
         → Planned walk.weight (slice_index walk.lines) book.orders t (past_order walk.last) (fills ++ more) left
 
-  pub level_step : (walk taken : LevelWalk) (t : Taker) (price lots : ℕ) → IsWeight walk.weight → Each (λ (q : Resting). q.bank < 64) book.orders → t.side ≡ walk.taker → HaveLevels book walk → IsBestPrice walk 64 (Some price) → IsEager t book.orders
-      → slice_index walk.lines t.bank ≡ 0 → total (λ (n : ℕ). n) walk.lines < t.left → length walk.lines ≡ 64 → length taken.lines ≡ 64 → AreTaken book walk taken price lots → LevelStep walk taken t price lots
+  pub level_step : (walk taken : LevelWalk) (t : Taker) (price lots : ℕ) → IsWeight walk.weight → Each (λ (q : Resting). q.bank < 65) book.orders → t.side ≡ walk.taker → HaveLevels book walk → IsBestPrice walk 65 (Some price) → IsEager t book.orders
+      → slice_index walk.lines t.bank ≡ 0 → total (λ (n : ℕ). n) walk.lines < t.left → length walk.lines ≡ 65 → length taken.lines ≡ 65 → AreTaken book walk taken price lots → LevelStep walk taken t price lots
   level_step walk taken t price lots weighs few side have best eager own enough long long' all =
       let going = going_to walk t price weighs few side have best eager own enough in
       let taking : Taken walk.weight book.orders price weighs.0 book.orders t walk.lines (past_order walk.last) = takes walk.weight book.orders price weighs.0 book.orders t walk.lines (past_order walk.last) going in
       let same : taking.table ≡ taken.lines = same_table taking.table taken.lines (taking.long ∙ long ∙ sym long') (λ bank.
-      elim (cases_lt bank 64) [
+      elim (cases_lt bank 65) [
         | inl below ↦
             taking.lines_are bank ∙ ap (λ (s : Side). line_behind walk.weight s price book.orders bank (get_or walk.lines bank 0)) side ∙ sym (all.taken bank below).line
         | inr past ↦ get_or_past taking.table bank 0 (omega (arith, taking.long, long)) ∙ sym (get_or_past taken.lines bank 0 (omega (arith, long')))
@@ -282,14 +282,14 @@ module _ (book : Book) (valid : IsBook book) where
     pub weighs : IsWeight first.weight
     pub weight : now.weight ≡ first.weight
     pub taker : now.taker ≡ first.taker
-    pub long : length now.lines ≡ 64
+    pub long : length now.lines ≡ 65
     pub have : HaveLevels book now
     pub own : slice_index now.lines bank ≡ 0
     pub most : total (λ (n : ℕ). n) now.lines ≤ total (λ (n : ℕ). n) first.lines
     pub few : length levels ≤ 10
     pub went : (t : Taker) → t.bank ≡ bank → t.side ≡ first.taker → IsEager t book.orders → total (λ (n : ℕ). n) first.lines < t.left → WentLevels first now t levels
 
-  pub way_begins : (walk : LevelWalk) (bank : ℕ) (levels : List Level) → IsWeight walk.weight → walk.last ≡ None → length walk.lines ≡ 64 → HaveLevels book walk → slice_index walk.lines bank ≡ 0 → levels ≡ []
+  pub way_begins : (walk : LevelWalk) (bank : ℕ) (levels : List Level) → IsWeight walk.weight → walk.last ≡ None → length walk.lines ≡ 65 → HaveLevels book walk → slice_index walk.lines bank ≡ 0 → levels ≡ []
       → OnTheWay walk walk bank levels
   way_begins walk bank levels weighs last long have own none =
       subst (OnTheWay walk walk bank) (sym none) (record {
@@ -350,7 +350,7 @@ module _ (book : Book) (valid : IsBook book) where
             ∙ sym (append_assoc levels (level_is price lots ∷ []) (levels_of more));
       }
 
-  pub way_on : (first now new : LevelWalk) (bank : ℕ) (levels : List Level) (level : Level) → Each (λ (q : Resting). q.bank < 64) book.orders → OnTheWay first now bank levels → length levels < 10 → TakesLevel book now new (Some level)
+  pub way_on : (first now new : LevelWalk) (bank : ℕ) (levels : List Level) (level : Level) → Each (λ (q : Resting). q.bank < 65) book.orders → OnTheWay first now bank levels → length levels < 10 → TakesLevel book now new (Some level)
       → OnTheWay first new bank (levels ++ level ∷ [])
   unfolding level_is
   way_on first now new bank levels level few way short takes' =
@@ -359,7 +359,7 @@ module _ (book : Book) (valid : IsBook book) where
       let all = takes'.1.1 in
       let is = takes'.1.2 in
       let weighs : IsWeight now.weight = subst IsWeight (sym way.weight) way.weighs in
-      let long : length taken.lines ≡ 64 = all.sum.long ∙ way.long in
+      let long : length taken.lines ≡ 65 = all.sum.long ∙ way.long in
       record {
         weighs = way.weighs;
         weight = ap (λ (w : LevelWalk). w.weight) is ∙ weight_same now taken level.lots all.sum ∙ way.weight;
@@ -367,7 +367,7 @@ module _ (book : Book) (valid : IsBook book) where
         long = ap (λ (w : LevelWalk). length w.lines) is ∙ long;
         have = levels_behind book now taken new level.price level.lots all is;
         own = ap (λ (w : LevelWalk). slice_index w.lines bank) is
-            ∙ elim (cases_lt bank 64) [
+            ∙ elim (cases_lt bank 65) [
               | inl below ↦ (all.taken bank below).line ∙ (let it : line_behind now.weight now.taker level.price book.orders bank (slice_index now.lines bank) ≡ 0 = omega (arith, way.own) in it)
               | inr past ↦ get_or_past taken.lines bank 0 (omega (arith, long))
             ];
@@ -418,7 +418,7 @@ module _ (book : Book) (credit : Credit) (weight bank : ℕ) (side : Side) (firs
       way.went t mine (side_is ∙ sym first_taker) (record { crosses = unlimited.crosses; came = unlimited.came }) (omega (arith, begins.most, unlimited.wants))
 
   -- nothing more can be reached
-  pub reached-whole : (levels : List Level) → OnTheWay book begins.valid first now bank levels → IsBestPrice now 64 None → IsReached book credit weight bank side levels
+  pub reached-whole : (levels : List Level) → OnTheWay book begins.valid first now bank levels → IsBestPrice now 65 None → IsReached book credit weight bank side levels
   reached-whole levels way best t mine pair side_is unlimited =
       let w = went_of t levels way mine side_is unlimited in
       let u : Taker = less t (lots_of w.fills) in

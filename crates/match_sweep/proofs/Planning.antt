@@ -15,6 +15,7 @@ use Rattle.fx_rules.specs.Sweep.{Taker, is_open, open_orders, IsBest, amount, fi
 use Rattle.fx_rules.specs.Plan.{Planned, is_behind, open_behind, spend}
 use Rattle.fx_rules.proofs.ListLemmas.{Each-among, Among-filter, filter_agree_on}
 use Rattle.fx_rules.proofs.Opens.{is_open-says}
+use Rattle.fx_rules.proofs.Plain.{plain-room}
 use Rattle.fx_rules.proofs.Planning.{open_own, Agrees}
 use Rattle.fx_rules.proofs.PlanSwept.{planned-swept}
 use Rattle.global_book.specs.Book.{Book, IsBook, IsHeld}
@@ -170,7 +171,7 @@ and_true_right true = refl
 and_true_right false = refl
 
 -- as the sweep begins, the orders behind none are the open ones
-opens_first : (h : Header) (S : State) (t : Taker) (lines : ℕ → ℕ) (book : List Resting) → book ≡ orders_in t.pair S.orders → ((o : Resting) → Among o book → o.bank < bank_count h) → Agrees h S t.bank lines → open_behind (λ bank. lines bank / weight_of h t.pair) t None book ≡ open_orders h S t
+opens_first : (h : Header) (S : State) (t : Taker) (lines : ℕ → ℕ) (book : List Resting) → book ≡ orders_in t.pair S.orders → ((o : Resting) → Among o book → o.bank < bank_count h) → Agrees h S t.bank None lines → open_behind (λ bank. lines bank / weight_of h t.pair) t None book ≡ open_orders h S t
 opens_first h S t lines book is owners agrees =
     filter_agree_on (λ o. is_open t (lines o.bank / weight_of h t.pair) o && is_behind t.side None o) (λ o. is_open t (reach h S t.bank o.bank t.pair) o) book
     (λ o there. and_true_right (is_open t (lines o.bank / weight_of h t.pair) o)
@@ -180,11 +181,14 @@ opens_first h S t lines book is owners agrees =
     ])
     ∙ ap (filter (λ o. is_open t (reach h S t.bank o.bank t.pair) o)) is
 
+sum_swap : (m n : ℕ) → m + n ≡ n + m
+sum_swap m n = omega arith
+
 -- a sweep planned over a book and lines is the sweep of each state that they are of
 pub planned-sweep : (book : Book) (credit : Credit) (weight : ℕ) (t : Taker) (lines : ℕ → ℕ) (fills : List Fill) (left : ℕ) → IsBook book → book.banks ≡ credit.banks → t.bank < credit.banks → t.pair ≡ book.pair → 0 < weight → ((other : ℕ) → other < book.banks → other ≢ t.bank → lines other ≡ line_in credit t.bank other) → Planned weight lines book.orders t None fills left → IsSweep book credit weight t fills left
 planned-sweep book credit weight t lines fills left is banks bank pair some lines_are planned h S sound fits =
     let same : credit.banks ≡ bank_count h = fits.lines.banks in
-    let agrees : Agrees h S t.bank lines = λ other other_in not_own.
+    let agrees : Agrees h S t.bank None lines = λ other other_in not_own.
     let within : other < credit.banks = omega (arith, same, other_in) in
     lines_are other (omega (arith, within, banks)) not_own
     ∙ line_in-line h S credit t.bank other fits.lines (omega (arith, same, bank)) other_in (λ e. not_own (sym e)) in
@@ -192,14 +196,15 @@ planned-sweep book credit weight t lines fills left is banks bank pair some line
     let held : IsHeld book.banks o = Each-among (IsHeld book.banks) book.orders o is.held there in
     omega (arith, held.bank, banks, same) in
     let weighs : weight ≡ weight_of h t.pair = fits.weighs ∙ ap (weight_of h) (sym pair) in
-    planned-swept h S t lines book.orders None fills left
+    planned-swept h S t lines None book.orders None fills left left
     (record {
       sound = sound;
       bank = omega (arith, same, bank);
       weight = omega (arith, weighs, some);
+      purse_is = sym (plain-room h S t.bank fits.lines.plain);
       agrees = agrees;
       rising = is.rising;
       owners = owners;
       opens = λ _. opens_first h S t lines book.orders (fits.orders ∙ ap (λ p. orders_in p S.orders) (sym pair)) owners agrees;
     })
-    (subst (λ w. Planned w lines book.orders t None fills left) weighs planned)
+    (sum_swap left t.left) (subst (λ w. Planned w lines book.orders t None fills left) weighs planned)

@@ -72,11 +72,11 @@ head_at_price walk bank price is =
 -- before any bank is opened
 pub bare-ranked : (walk : LevelWalk) → 1 ≤ walk.weight → IsBareLevel walk → AreRanked walk
 bare-ranked walk some bare = λ bank below.
-    let line : slice_index walk.lines bank ≡ 0 = ap (λ (xs : List ℕ). slice_index xs bank) bare.lines ∙ replicate-at {X = ℕ} 0 64 bank in
+    let line : slice_index walk.lines bank ≡ 0 = ap (λ (xs : List ℕ). slice_index xs bank) bare.lines ∙ replicate-at {X = ℕ} 0 65 bank in
     let none : price_of walk bank ≡ None
     = ap (λ b. if b then price_in (head_of walk bank) else None) (lt-leb walk.weight (slice_index walk.lines bank) (omega (arith, line, some))) in
     subst (λ (p : Option ℕ). IsRank walk.taker p (slice_index walk.ranks bank)) (sym none)
-    (record { valid = tt; is = ap (λ (xs : List ℕ). slice_index xs bank) bare.ranks ∙ get_or-replicate 64 bank (2 ^ 32 - 1) 0 (omega arith) })
+    (record { valid = tt; is = ap (λ (xs : List ℕ). slice_index xs bank) bare.ranks ∙ get_or-replicate 65 bank (2 ^ 32 - 1) 0 (omega arith) })
 
 -- The lowest rank.
 
@@ -89,7 +89,7 @@ pub record IsLowest (walk : LevelWalk) (banks : List ℕ) (lowest : ℕ) : Type 
 pub lowest-begins : (walk : LevelWalk) (banks : List ℕ) → IsLowest walk (take 0 banks) (2 ^ 32 - 1)
 lowest-begins walk banks = record { price = None; rank = record { valid = tt; is = refl }; best = λ bank there. absurd (omega (arith, there.1)) }
 
-pub lowest-on : (walk : LevelWalk) (banks : List ℕ) (n lowest : ℕ) → n < 64 → AreRanked walk → IsLowest walk banks lowest → IsLowest walk (banks ++ n ∷ []) (min lowest (slice_index walk.ranks n))
+pub lowest-on : (walk : LevelWalk) (banks : List ℕ) (n lowest : ℕ) → n < 65 → AreRanked walk → IsLowest walk banks lowest → IsLowest walk (banks ++ n ∷ []) (min lowest (slice_index walk.ranks n))
 lowest-on walk banks n lowest below ranked so_far = record {
   price = better_price walk.taker so_far.price (price_of walk n);
   rank = lower walk.taker so_far.price (price_of walk n) lowest (slice_index walk.ranks n) so_far.rank (ranked n below);

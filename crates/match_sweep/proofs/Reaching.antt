@@ -385,8 +385,8 @@ taken-on book old now new price number lots more banks fresh so_far takes = reco
   sum = paid_both old now new lots more so_far.sum takes.sum;
 }
 
--- a bank with which the line pays is one of 64
-within_lines : (walk : LevelWalk) (bank : ℕ) → IsWeight walk.weight → length walk.lines ≡ 64 → walk.weight ≤ slice_index walk.lines bank → bank < 64
+-- a bank with which the line pays is one of 65
+within_lines : (walk : LevelWalk) (bank : ℕ) → IsWeight walk.weight → length walk.lines ≡ 65 → walk.weight ≤ slice_index walk.lines bank → bank < 65
 within_lines walk bank weighs long pays' = omega (arith, within_table walk.lines bank (omega (arith, pays', weighs.0)), long)
 
 -- the head with a bank's price
@@ -405,7 +405,7 @@ has_price walk bank price at =
     ]
 
 -- what the next bank is asked with
-pub head_left : (book : Book) (old now : LevelWalk) (price number lots : ℕ) (banks : List ℕ) → IsWeight old.weight → length old.lines ≡ 64 → (Contains banks number → ⊥) → TakenSoFar book old now price banks lots → HaveLevels book old
+pub head_left : (book : Book) (old now : LevelWalk) (price number lots : ℕ) (banks : List ℕ) → IsWeight old.weight → length old.lines ≡ 65 → (Contains banks number → ⊥) → TakenSoFar book old now price banks lots → HaveLevels book old
     → 1 ≤ slice_index now.lines number / now.weight → IsHead now.taker number now.last book.orders (head_of now number)
 head_left book old now price number lots banks weighs long fresh so_far have reach =
     let left = so_far.left number fresh in
@@ -425,7 +425,7 @@ if_some : (found : Option ℕ) (P : ℕ → Type 0) → ((other : ℕ) → found
 if_some None P holds = tt
 if_some (Some other) P holds = holds other refl
 
-pub best_left : (book : Book) (old now : LevelWalk) (price number lots : ℕ) (banks : List ℕ) → IsWeight old.weight → length old.lines ≡ 64 → (Contains banks number → ⊥) → TakenSoFar book old now price banks lots → IsBestPrice old 64 (Some price)
+pub best_left : (book : Book) (old now : LevelWalk) (price number lots : ℕ) (banks : List ℕ) → IsWeight old.weight → length old.lines ≡ 65 → (Contains banks number → ⊥) → TakenSoFar book old now price banks lots → IsBestPrice old 65 (Some price)
     → IfSome (price_of now number) (λ other. is_better now.taker other price ≡ false)
 best_left book old now price number lots banks weighs long fresh so_far best =
     if_some (price_of now number) (λ other. is_better now.taker other price ≡ false) (λ other is.
@@ -442,7 +442,7 @@ pub record HasLevel (book : Book) (walk : LevelWalk) (price : ℕ) : Type 0 wher
   pub lots : ℕ
   pub level : IsLevel walk.taker bank walk.last book.orders (price, lots)
 
-pub best_level : (book : Book) (walk : LevelWalk) (price : ℕ) → IsWeight walk.weight → HaveLevels book walk → IsBestPrice walk 64 (Some price) → HasLevel book walk price
+pub best_level : (book : Book) (walk : LevelWalk) (price : ℕ) → IsWeight walk.weight → HaveLevels book walk → IsBestPrice walk 65 (Some price) → HasLevel book walk price
 best_level book walk price weighs have best =
     let bank : ℕ = best.0.0 in
     let has = has_price walk bank price best.0.2 in
@@ -454,7 +454,7 @@ best_level book walk price weighs have best =
       level = subst (IsPriceOf walk.taker bank walk.last book.orders) has.is (have bank best.0.1 reach).best;
     }
 
-pub best_worse : (book : Book) (walk : LevelWalk) (price : ℕ) → IsWeight walk.weight → HaveLevels book walk → IsBestPrice walk 64 (Some price) → is_worse walk.taker walk.last price ≡ true
+pub best_worse : (book : Book) (walk : LevelWalk) (price : ℕ) → IsWeight walk.weight → HaveLevels book walk → IsBestPrice walk 65 (Some price) → is_worse walk.taker walk.last price ≡ true
 best_worse book walk price weighs have best =
     let has = best_level book walk price weighs have best in
     let order : Resting = has.level.order in
@@ -483,7 +483,7 @@ not_owned : (book : Book) (owners : List ℕ) (taker : Side) (bank price : ℕ) 
 not_owned book owners taker bank price past None are apart is = tt
 not_owned book owners taker bank price past (Some head) are apart is = absurd (apart (level_owned book owners taker bank past (level_at taker bank book.orders head) are is))
 
-price_owned : (book : Book) (owners : List ℕ) (walk : LevelWalk) (bank price : ℕ) → AreOwners book owners → IsWeight walk.weight → HaveLevels book walk → bank < 64 → price_of walk bank ≡ Some price → Contains owners bank
+price_owned : (book : Book) (owners : List ℕ) (walk : LevelWalk) (bank price : ℕ) → AreOwners book owners → IsWeight walk.weight → HaveLevels book walk → bank < 65 → price_of walk bank ≡ Some price → Contains owners bank
 price_owned book owners walk bank price are weighs have below at =
     let has = has_price walk bank price at in
     let level = have bank below (pays (slice_index walk.lines bank) walk.weight weighs has.pays) in
@@ -494,7 +494,7 @@ none_from None holds = refl
 none_from (Some price) holds = holds price refl
 
 -- so the best price of theirs is that of all
-pub best_of_all : (book : Book) (owners : List ℕ) (walk : LevelWalk) (best : Option ℕ) → AreOwners book owners → IsWeight walk.weight → length walk.lines ≡ 64 → HaveLevels book walk → IsBestAmong walk owners best → IsBestPrice walk 64 best
+pub best_of_all : (book : Book) (owners : List ℕ) (walk : LevelWalk) (best : Option ℕ) → AreOwners book owners → IsWeight walk.weight → length walk.lines ≡ 65 → HaveLevels book walk → IsBestAmong walk owners best → IsBestPrice walk 65 best
 best_of_all book owners walk None are weighs long have best = λ bank below.
     none_from (price_of walk bank) (λ price at. best bank (price_owned book owners walk bank price are weighs have below at))
 best_of_all book owners walk (Some price) are weighs long have best =
@@ -505,7 +505,7 @@ best_of_all book owners walk (Some price) are weighs long have best =
     )
 
 -- and once what is taken of them is taken, that of all is
-pub taken-whole : (book : Book) (owners : List ℕ) (old now : LevelWalk) (price lots : ℕ) → AreOwners book owners → IsWeight old.weight → HaveLevels book old → IsBestPrice old 64 (Some price) → TakenSoFar book old now price owners lots
+pub taken-whole : (book : Book) (owners : List ℕ) (old now : LevelWalk) (price lots : ℕ) → AreOwners book owners → IsWeight old.weight → HaveLevels book old → IsBestPrice old 65 (Some price) → TakenSoFar book old now price owners lots
     → AreTaken book old now price lots
 taken-whole book owners old now price lots are weighs have best so_far = record {
   taken = λ bank below. elim (contains_or owners bank) [

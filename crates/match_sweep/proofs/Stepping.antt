@@ -40,7 +40,7 @@ not_ahead_self walk n bank same =
     subst (λ (b : ℕ). is_ahead walk.order.side (head_of walk b) (head_of walk n) ≡ false) (sym same) (ahead_self walk.order.side (head_of walk n))
 
 -- the next bank leads
-pub picked-lead : (walk : WholeWalk) (banks : List ℕ) (n : ℕ) (best : Option ℕ) → n < 64 → IsPickedAt walk banks best → leads walk n best ≡ true → IsPickedAt walk (banks ++ n ∷ []) (Some n)
+pub picked-lead : (walk : WholeWalk) (banks : List ℕ) (n : ℕ) (best : Option ℕ) → n < 65 → IsPickedAt walk banks best → leads walk n best ≡ true → IsPickedAt walk (banks ++ n ∷ []) (Some n)
 picked-lead walk banks n None within picked lead = (
   Contains-push banks n,
   within,

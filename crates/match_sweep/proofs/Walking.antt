@@ -75,7 +75,7 @@ pub begun-sum : (book : Book) (credit : Credit) (weight : ℕ) (t : Taker) (walk
 begun-sum book credit weight t walk fills left begins from =
     planned-sum weight (slice_index walk.lines) book.orders t None fills left (begun book credit weight t walk fills left begins from)
 
-pub begun-lots : (book : Book) (credit : Credit) (weight : ℕ) (t : Taker) (walk : WholeWalk) (fills : List Fill) (left : ℕ) → 1 ≤ weight → Begins book credit weight t walk → FromHere book walk fills left → total (λ (f : Fill). f.lots) fills ≤ 64 * 10 ^ 15
+pub begun-lots : (book : Book) (credit : Credit) (weight : ℕ) (t : Taker) (walk : WholeWalk) (fills : List Fill) (left : ℕ) → 1 ≤ weight → Begins book credit weight t walk → FromHere book walk fills left → total (λ (f : Fill). f.lots) fills ≤ 65 * 10 ^ 15
 begun-lots book credit weight t walk fills left some begins from =
     omega (arith, planned-paid weight walk.lines book.orders t None fills left some (begun book credit weight t walk fills left begins from), begins.most)
 

@@ -10,11 +10,11 @@ use Rattle.credit_lines.specs.Credit.{Credit}
 use Rattle.match_sweep.specs.Sweeps.{IsLevelled}
 
 -- An order takes all that its lines allow: it takes each price of the book, came after all of its orders, and wants more lots
--- than 64 lines can allow.
+-- than 65 lines can allow.
 pub record IsUnlimited (book : Book) (order : Taker) : Type 0 where
   pub crosses : Each (λ other. crosses order.side order.price other.price ≡ true) book.orders
   pub came : Each (λ other. other.arrival < order.arrival) book.orders
-  pub wants : 64 * 10 ^ 15 < order.left
+  pub wants : 65 * 10 ^ 15 < order.left
 
 -- levels are those of each such order of a bank and a side in the book's pair
 abbrev pub IsReached : Book → Credit → ℕ → ℕ → Side → List Level → Type 0

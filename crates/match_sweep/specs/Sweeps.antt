@@ -24,10 +24,10 @@ abbrev pub IsSweep : Book → Credit → ℕ → Taker → List Fill → ℕ →
 IsSweep book credit weight order fills left =
     (h : Header) (S : State) → IsSound h S → Fits h S book credit weight → Swept h S order fills left
 
--- Levels are the first ten of the sweep of an order. Its fills have at most as many lots as 64 lines can allow.
+-- Levels are the first ten of the sweep of an order. Its fills have at most as many lots as 65 lines can allow.
 pub record IsLevelled (book : Book) (credit : Credit) (weight : ℕ) (order : Taker) (levels : List Level) : Type 0 where
   pub fills : List Fill
   pub left : ℕ
   pub sweep : IsSweep book credit weight order fills left
-  pub lots : total (λ fill. fill.lots) fills ≤ 64 * 10 ^ 15
+  pub lots : total (λ fill. fill.lots) fills ≤ 65 * 10 ^ 15
   pub first : levels ≡ take 10 (levels_of fills)

@@ -112,7 +112,7 @@ impl LevelWalk {
         ensures ranked { AreRanked self.new }
         ensures steps { steps.new ≤ steps.old + book.now.banks }
     {
-        prove!(bank.index() < BankId::COUNT);
+        prove!(bank.index() < BankId::SENDERS);
         let owners = book.owners();
         for owner in owners {
             if *owner != bank {
@@ -135,7 +135,7 @@ impl LevelWalk {
         requires differ { bank ≢ other }
         requires weight { IsWeight self.old.weight }
         ensures opens { OpensLevel book.now lines.now self.old self.new bank other }
-        ensures number { other < 64 }
+        ensures number { other < 65 }
         ensures ranked { AreRanked self.old → AreRanked self.new }
         ensures steps { steps.new ≤ steps.old + 1 }
     {
@@ -146,7 +146,7 @@ impl LevelWalk {
 
     /// Writes down what is left of the line with the bank of this number, and its head. Where the line pays for no lot there is none.
     fn put(&mut self, number: usize, line: u64, head: Option<BankLevel>)
-        requires number { number < 64 }
+        requires number { number < 65 }
         requires none { line < self.old.weight → head ≡ None }
         ensures puts { Puts self.old self.new number line head }
         ensures ranked { AreRanked self.old → AreRanked self.new }
@@ -166,7 +166,7 @@ impl LevelWalk {
     /// The next level; `None` where nothing more can be reached. One step for each bank at most, and none for no level.
     fn next_level<L: Ledger>(&mut self, book: &PairBook, steps: &mut Steps<L>) -> Option<Level>
         requires weight { IsWeight self.old.weight }
-        requires most { total (λ line. line) self.old.lines ≤ 64 * 10 ^ 15 }
+        requires most { total (λ line. line) self.old.lines ≤ 65 * 10 ^ 15 }
         requires heads { HaveLevels book.now self.old }
         requires ranked { AreRanked self.old }
         ensures level { TakesLevel book.now self.old self.new result }
@@ -194,9 +194,9 @@ impl LevelWalk {
     /// Takes of each bank what the line with it pays for of its lots at the best price; how many they are in all.
     fn take_all<L: Ledger>(&mut self, book: &PairBook, price: Price, steps: &mut Steps<L>) -> u64
         requires weight { IsWeight self.old.weight }
-        requires most { total (λ line. line) self.old.lines ≤ 64 * 10 ^ 15 }
+        requires most { total (λ line. line) self.old.lines ≤ 65 * 10 ^ 15 }
         requires heads { HaveLevels book.now self.old }
-        requires best { IsBestPrice self.old 64 (Some price) }
+        requires best { IsBestPrice self.old 65 (Some price) }
         requires ranked { AreRanked self.old }
         ensures taken { AreTaken book.now self.old self.new price result }
         ensures ranked { AreRanked self.new }

@@ -84,7 +84,7 @@ pub fn sweep<L: Ledger>(
     requires weight { IsWeight weight }
     ensures sweep { IfOk result (λ sweep. IsSweep book.now lines.now weight order.now sweep.fills sweep.left) }
     ensures sum { IfOk result (λ sweep. total (λ fill. fill.lots) sweep.fills + sweep.left ≡ order.now.left) }
-    ensures lots { IfOk result (λ sweep. total (λ fill. fill.lots) sweep.fills ≤ 64 * 10 ^ 15) }
+    ensures lots { IfOk result (λ sweep. total (λ fill. fill.lots) sweep.fills ≤ 65 * 10 ^ 15) }
     ensures steps { Each (λ other. other.arrival < order.now.arrival) book.now.orders → IfOk result (λ sweep. steps.new ≤ steps.old + (length sweep.fills + 1) * book.now.banks) }
     ensures valid { IsBook book.now }
 {
@@ -131,7 +131,7 @@ fn walk_on<L: Ledger>(
     requires first { fills.items ≡ first_fill lines.now weight order.now opening.now.first ∷ [] }
     ensures sweep { IfOk result (λ sweep. IsSweep book.now lines.now weight order.now sweep.fills sweep.left) }
     ensures sum { IfOk result (λ sweep. total (λ fill. fill.lots) sweep.fills + sweep.left ≡ order.now.left) }
-    ensures lots { IfOk result (λ sweep. total (λ fill. fill.lots) sweep.fills ≤ 64 * 10 ^ 15) }
+    ensures lots { IfOk result (λ sweep. total (λ fill. fill.lots) sweep.fills ≤ 65 * 10 ^ 15) }
     ensures steps { CameBefore book.now.orders order.now.arrival → IfOk result (λ sweep. steps.new + 1 ≤ steps.old + length owners.now + length sweep.fills) }
     ensures some { IfOk result (λ sweep. 1 ≤ length sweep.fills) }
 {

@@ -152,7 +152,7 @@ impl Walk {
 
     /// Whether the bank of this number has a head that may be taken: the line pays for a lot, and the order takes its price.
     fn may_take(&self, heads: &Heads, number: usize) -> bool
-        requires { number < 64 }
+        requires { number < 65 }
         ensures value { let walk = whole self.now heads.now in result ≡ may_take_head walk number (head_of walk number) }
     {
         let Some(head) = heads[number] else {
@@ -164,8 +164,8 @@ impl Walk {
 
     /// Whether the order prefers the head of the first bank to that of the second.
     fn is_ahead(&self, heads: &Heads, number: usize, other: usize) -> bool
-        requires first { number < 64 }
-        requires second { other < 64 }
+        requires first { number < 65 }
+        requires second { other < 65 }
         ensures value { let walk = whole self.now heads.now in result ≡ is_ahead self.now.order.side (head_of walk number) (head_of walk other) }
     {
         let (Some(head), Some(other)) = (heads[number], heads[other]) else {
@@ -176,8 +176,8 @@ impl Walk {
 
     /// Whether the head of the bank of this number may be taken, and is preferred to that of the best bank so far.
     fn leads(&self, heads: &Heads, number: usize, best: Option<usize>) -> bool
-        requires number { number < 64 }
-        requires best { IfSome best (λ at. at < 64) }
+        requires number { number < 65 }
+        requires best { IfSome best (λ at. at < 65) }
         ensures value { result ≡ leads (whole self.now heads.now) number best }
     {
         match best {

@@ -6,7 +6,7 @@ use Rattle.fx_rules.specs.declared.command.Command.{Command}
 use Rattle.fx_rules.specs.declared.outcome.Outcome.{Outcome}
 use Rattle.fx_rules.specs.declared.outcome.Entry.{Entry}
 use Rattle.fx_rules.specs.Session.{Header, sender_places}
-use Rattle.fx_rules.specs.Step.{AreValues, IsOutcome}
+use Rattle.fx_rules.specs.Step.{IsCommand, IsOutcome}
 use Rattle.fx_rules.specs.History.{IsLegal, state, own}
 use Rattle.fx_rules.specs.Keyed.{touches_key}
 use Rattle.fx_rules.proofs.Soundness.{legal-sound, legal-push}
@@ -22,7 +22,6 @@ use Rattle.flat_host.specs.FlatState.{FlatState, StandsFor}
 use Rattle.flat_host.specs.Steps.{AnswersEach}
 use Rattle.fx_desk.specs.Submitting.{next_own, Submitted}
 use Rattle.fx_desk.proofs.Owning.{own-append}
-use Rattle.fx_desk.proofs.Sending.{pass-command}
 use Rattle.fx_desk.proofs.Submits.{submits}
 use Rattle.one_lock_host.specs.inside.Floor.{IsFloor}
 
@@ -37,10 +36,10 @@ abbrev pub made : ℕ → ℕ → Command → Outcome → Entry
 made bank number command outcome = record { bank = bank; number = number; command = command; outcome = outcome }
 
 -- it goes on the history
-pub goes_on : (h : Header) (host : FlatState) (writer : Chronicle Entry) (bank key count : ℕ) (command : Command) (outcome copy : Outcome) → IsFloor h host writer → bank ≡ key → bank < sender_places h → AreValues h key command → count ≡ slice_index host.counts bank → count < 4294967296 → count ≢ 4294967295 → AnswersEach host bank command outcome → copy ≡ outcome → IsLegal h (writer.entries ++ record { bank = bank; number = count + 1; command = command; outcome = copy } ∷ [])
-goes_on h host writer bank key count command outcome copy floor bank_is sender values is most not_last answers copied =
+pub goes_on : (h : Header) (host : FlatState) (writer : Chronicle Entry) (bank key count : ℕ) (command : Command) (outcome copy : Outcome) → IsFloor h host writer → bank ≡ key → IsCommand h key command → count ≡ slice_index host.counts bank → count < 4294967296 → count ≢ 4294967295 → AnswersEach host bank command outcome → copy ≡ outcome → IsLegal h (writer.entries ++ record { bank = bank; number = count + 1; command = command; outcome = copy } ∷ [])
+goes_on h host writer bank key count command outcome copy floor bank_is valid is most not_last answers copied =
     legal-push h writer.entries (record { bank = bank; number = count + 1; command = command; outcome = copy }) floor.legal record {
-      command = pass-command h bank command sender (subst (λ b. AreValues h b command) (sym bank_is) values);
+      command = subst (λ b. IsCommand h b command) (sym bank_is) valid;
       number = ap (λ n. n + 1) (is ∙ ap (λ (counts : List ℕ). slice_index counts bank) floor.stands.counts);
       number_most = below count most not_last;
       outcome = subst (IsOutcome h (state h writer.entries) bank command) (sym copied) (answers h (state h writer.entries) floor.legal.session (legal-sound h writer.entries floor.legal) floor.stands);

@@ -3,7 +3,7 @@ ghost use mathlib.Core.List.{IsPrefix};
 ghost use Rattle.fx_rules.specs.declared.outcome.Entry.{Entry};
 ghost use Rattle.fx_rules.specs.Session.{IsSession};
 ghost use Rattle.fx_rules.specs.State.{opening};
-ghost use Rattle.fx_rules.specs.Step.{AreValues};
+ghost use Rattle.fx_rules.specs.Step.{IsCommand};
 ghost use Rattle.fx_rules.specs.History.{IsLegal, own};
 ghost use Rattle.fx_rules.specs.Lists.{Among};
 ghost use Rattle.fx_chronicle.specs.Faces.{Witness, witness};
@@ -52,7 +52,7 @@ impl<N: Naming> Floor<N> {
 
     /// Carries out the next command of the pass's bank. All its memory is taken before anything changes.
     pub(crate) fn serve(&mut self, pass: &mut Pass<N>, command: &Command) -> Result<Outcome, Memory>
-        requires values { AreValues N.session pass.old.key command.now }
+        requires command { IsCommand N.session pass.old.key command.now }
         requires few { length (own pass.old.key pass.old.met) < 2 ^ 32 - 1 }
         ensures entries { IfOk result (λ outcome. self.new ≡ self.old ++ next_own pass.old.key (own pass.old.key pass.old.met) command.now outcome ∷ []) }
         ensures pass { OnOk result (pass.new ≡ witness pass.old.key self.new) }

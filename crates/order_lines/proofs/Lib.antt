@@ -2,6 +2,7 @@ pub mod FieldTexts
 pub mod FrontNumbers
 pub mod Printed
 pub mod SaidCommands
+pub mod SaidFaults
 pub mod SaidFields
 pub mod SaidLines
 pub mod SpelledFields

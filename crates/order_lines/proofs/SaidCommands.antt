@@ -10,6 +10,7 @@ use Rattle.fx_rules.specs.declared.command.Command.TheVariants as command
 use Rattle.fx_rules.specs.declared.command.Life.{Life}
 use Rattle.fx_rules.specs.declared.command.Reject.{Reject}
 use Rattle.fx_rules.specs.declared.command.Reject.TheVariants as reject
+use Rattle.fx_rules.proofs.Senders.{IsPlainCommand}
 use Rattle.order_lines.specs.Grammar.{is_bad}
 use Rattle.fx_text.specs.Fields.{field_at}
 use Rattle.fx_text.specs.Faults.{◌>>=◌}
@@ -48,6 +49,7 @@ fields_6 (x ∷ fields) a b c d e f count is_a is_b is_c is_d is_e is_f = ap (λ
 pub record SaysCommand (h : Header) (bank : ℕ) (fields : List (List ℕ)) (command : Command) : Type 0 where
   pub in_range : AreValues h bank command
   pub good : is_bad command ≡ false
+  pub plain : IsPlainCommand command
   pub spelled : fields ≡ command_fields h bank command
 
 -- the fields before the word's own: the sender's name and the word, and there are as many as the word asks for
@@ -70,6 +72,7 @@ order-ok h bank side fields said count begins is =
     subst (SaysCommand h bank fields) same (record {
       in_range = (named.0, priced.0, sized.0);
       good = refl;
+      plain = tt;
       spelled = fields_6 fields _ _ _ _ _ _ count begins.name begins.is_word named.1 priced.1 sized.1 (life_said-ok (field_at fields 5) life life_is);
     })
 
@@ -84,6 +87,7 @@ cancel-ok h bank fields said begins is =
     subst (SaysCommand h bank fields) same (record {
       in_range = (named.0, numbered.0);
       good = refl;
+      plain = tt;
       spelled = fields_4 fields _ _ _ _ begins.count begins.name begins.is_word named.1 numbered.1;
     })
 
@@ -100,6 +104,7 @@ reduce-ok h bank fields said begins is =
     subst (SaysCommand h bank fields) same (record {
       in_range = (named.0, numbered.0, sized.0);
       good = refl;
+      plain = tt;
       spelled = fields_5 fields _ _ _ _ _ begins.count begins.name begins.is_word named.1 numbered.1 sized.1;
     })
 
@@ -114,7 +119,7 @@ pair-ok h bank fields said made is says =
 
 pull-ok : (h : Header) (bank : ℕ) (fields : List (List ℕ)) (said : Command) → Begins h bank Pull fields → said_after h bank Pull fields ≡ Ok said → SaysCommand h bank fields said
 pull-ok h bank fields said begins is =
-    pair-ok h bank fields said command.Pull is (λ pair within name. record { in_range = within; good = refl; spelled = fields_3 fields _ _ _ begins.count begins.name begins.is_word name })
+    pair-ok h bank fields said command.Pull is (λ pair within name. record { in_range = within; good = refl; plain = tt; spelled = fields_3 fields _ _ _ begins.count begins.name begins.is_word name })
 
 line-ok : (h : Header) (bank : ℕ) (fields : List (List ℕ)) (said : Command) → Begins h bank Line fields → line_said h bank fields ≡ Ok said → SaysCommand h bank fields said
 unfolding line_said
@@ -127,6 +132,7 @@ line-ok h bank fields said begins is =
     subst (SaysCommand h bank fields) same (record {
       in_range = (named.0, named.1, limited.0);
       good = refl;
+      plain = tt;
       spelled = fields_4 fields _ _ _ _ begins.count begins.name begins.is_word named.2 limited.1;
     })
 
@@ -138,12 +144,13 @@ show-ok h bank fields said begins is =
     subst (SaysCommand h bank fields) same (record {
       in_range = (named.0, named.1);
       good = refl;
+      plain = tt;
       spelled = fields_3 fields _ _ _ begins.count begins.name begins.is_word named.2;
     })
 
 book-ok : (h : Header) (bank : ℕ) (fields : List (List ℕ)) (said : Command) → Begins h bank Book fields → said_after h bank Book fields ≡ Ok said → SaysCommand h bank fields said
 book-ok h bank fields said begins is =
-    pair-ok h bank fields said command.Book is (λ pair within name. record { in_range = within; good = refl; spelled = fields_3 fields _ _ _ begins.count begins.name begins.is_word name })
+    pair-ok h bank fields said command.Book is (λ pair within name. record { in_range = within; good = refl; plain = tt; spelled = fields_3 fields _ _ _ begins.count begins.name begins.is_word name })
 
 said_after-ok : (h : Header) (bank : ℕ) (word : Word) (fields : List (List ℕ)) (said : Command) → Begins h bank word fields → said_after h bank word fields ≡ Ok said → SaysCommand h bank fields said
 said_after-ok h bank Buy fields said begins is = order-ok h bank side.Buy fields said begins.count begins is
@@ -175,14 +182,16 @@ unfolding order_said
 order-spelled h bank side pair price lots life session is =
     rw (pair_said-name h pair session is.0, price_said-spelled h pair price is.1, lots_said-numeral lots is.2, life_said-text life) refl
 
-pub command_said-fields : (h : Header) (bank : ℕ) (said : Command) → IsSession h → AreValues h bank said → is_bad said ≡ false → command_said h bank (command_fields h bank said) ≡ Ok said
+pub command_said-fields : (h : Header) (bank : ℕ) (said : Command) → IsSession h → IsPlainCommand said → AreValues h bank said → is_bad said ≡ false → command_said h bank (command_fields h bank said) ≡ Ok said
 unfolding command_said word_said cancel_said reduce_said line_said
-command_said-fields h bank (command.Order side.Buy pair price lots life) session is good = order-spelled h bank side.Buy pair price lots life session is
-command_said-fields h bank (command.Order side.Sell pair price lots life) session is good = order-spelled h bank side.Sell pair price lots life session is
-command_said-fields h bank (command.Cancel pair number) session is good = rw (pair_said-name h pair session is.0, number_said-numeral number is.1) refl
-command_said-fields h bank (command.Reduce pair number lots) session is good = rw (pair_said-name h pair session is.0, number_said-numeral number is.1, lots_said-numeral lots is.2) refl
-command_said-fields h bank (command.Pull pair) session is good = rw (pair_said-name h pair session is) refl
-command_said-fields h bank (command.Line other limit) session is good = rw (other_said-name h bank other session is.0 is.1, limit_said-numeral limit is.2) refl
-command_said-fields h bank (command.Show other) session is good = rw (other_said-name h bank other session is.0 is.1) refl
-command_said-fields h bank (command.Book pair) session is good = rw (pair_said-name h pair session is) refl
-command_said-fields h bank (command.Bad fault) session is good = absurd (cc)
+command_said-fields h bank (command.Order side.Buy pair price lots life) session plain is good = order-spelled h bank side.Buy pair price lots life session is
+command_said-fields h bank (command.Order side.Sell pair price lots life) session plain is good = order-spelled h bank side.Sell pair price lots life session is
+command_said-fields h bank (command.Cancel pair number) session plain is good = rw (pair_said-name h pair session is.0, number_said-numeral number is.1) refl
+command_said-fields h bank (command.Reduce pair number lots) session plain is good = rw (pair_said-name h pair session is.0, number_said-numeral number is.1, lots_said-numeral lots is.2) refl
+command_said-fields h bank (command.Pull pair) session plain is good = rw (pair_said-name h pair session is) refl
+command_said-fields h bank (command.Line other limit) session plain is good = rw (other_said-name h bank other session is.0 is.1, limit_said-numeral limit is.2) refl
+command_said-fields h bank (command.Total limit) session plain is good = absurd plain
+command_said-fields h bank (command.Settle a b units) session plain is good = absurd plain
+command_said-fields h bank (command.Show other) session plain is good = rw (other_said-name h bank other session is.0 is.1) refl
+command_said-fields h bank (command.Book pair) session plain is good = rw (pair_said-name h pair session is) refl
+command_said-fields h bank (command.Bad fault) session plain is good = absurd (cc)

@@ -23,7 +23,9 @@ use Rattle.fx_rules.specs.declared.command.Life.{Life}
 use Rattle.fx_rules.specs.declared.command.Life.TheVariants.{Day, Ioc, Fok}
 use Rattle.fx_rules.specs.declared.command.Reject.{Reject}
 use Rattle.fx_rules.specs.declared.command.Reject.TheVariants as reject
+use Rattle.fx_rules.specs.declared.command.Command.TheVariants as command
 use Rattle.fx_rules.specs.declared.session.PairRule.{PairRule}
+use Rattle.fx_rules.proofs.Senders.{IsPlainCommand}
 use Rattle.fx_rules.proofs.SessionLemmas.{found_from_place}
 use Rattle.order_lines.specs.Words.{word_text, word_of, life_text, life_of, fault_of, faults}
 use Rattle.order_lines.specs.Reading.{pair_said, price_said, price_or_fault, lots_said, life_said, number_said, other_said, limit_said}
@@ -216,18 +218,19 @@ other_said-name h sender other session within another =
     ap (other_than sender) (bank_named-name h other session within) ∙ cond-false _ _ _ (ne_eqb other sender another)
 
 -- faults
-pub fault_of-code : (fault : Reject) → fault_of (code_of fault) ≡ Some fault
-fault_of-code reject.Word = refl
-fault_of-code reject.Count = refl
-fault_of-code reject.Pair = refl
-fault_of-code reject.PriceForm = refl
-fault_of-code reject.PriceRange = refl
-fault_of-code reject.Lots = refl
-fault_of-code reject.Bank = refl
-fault_of-code reject.Limit = refl
-fault_of-code reject.Number = refl
-fault_of-code reject.Life = refl
-fault_of-code reject.Long = refl
+pub fault_of-code : (fault : Reject) → IsPlainCommand (command.Bad fault) → fault_of (code_of fault) ≡ Some fault
+fault_of-code reject.Units plain = absurd plain
+fault_of-code reject.Word plain = refl
+fault_of-code reject.Count plain = refl
+fault_of-code reject.Pair plain = refl
+fault_of-code reject.PriceForm plain = refl
+fault_of-code reject.PriceRange plain = refl
+fault_of-code reject.Lots plain = refl
+fault_of-code reject.Bank plain = refl
+fault_of-code reject.Limit plain = refl
+fault_of-code reject.Number plain = refl
+fault_of-code reject.Life plain = refl
+fault_of-code reject.Long plain = refl
 
 pub fault_of-ok : (number : ℕ) (fault : Reject) → fault_of number ≡ Some fault → number ≡ code_of fault
 fault_of-ok number fault found = sym (eqb-true (code_of fault) number (find-passes (λ fault. eqb (code_of fault) number) faults fault found))

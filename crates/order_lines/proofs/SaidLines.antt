@@ -17,7 +17,8 @@ use Rattle.fx_rules.specs.declared.command.Command.{Command}
 use Rattle.fx_rules.specs.declared.command.Command.TheVariants as command
 use Rattle.fx_rules.specs.declared.command.Reject.{Reject}
 use Rattle.fx_rules.specs.declared.command.Reject.TheVariants as reject
-use Rattle.fx_rules.proofs.Senders.{bank-suits}
+use Rattle.fx_rules.proofs.Plain.{only_one, first-plain}
+use Rattle.fx_rules.proofs.Senders.{IsPlainCommand, bank-suits}
 use Rattle.order_lines.specs.Grammar.{command_line, journal_line, or_bad, recorded, is_bad, fault_in, bad_said, IfSent}
 use Rattle.fx_text.specs.Faults.{◌>>=◌}
 use Rattle.order_lines.specs.Reading.{command_said, said_after, word_said, order_said, cancel_said, reduce_said, line_said}
@@ -29,6 +30,7 @@ use Rattle.order_lines.specs.declared.spoken.Spoken.{Spoken}
 use Rattle.order_lines.specs.declared.spoken.Spoken.TheVariants.{Of, Stray, End, Passed}
 use Rattle.order_lines.proofs.FieldTexts.{bank_name-letter}
 use Rattle.order_lines.proofs.SaidCommands.{SaysCommand, command_said-ok, command_said-fields, fields_3}
+use Rattle.order_lines.proofs.SaidFaults.{command_said-fault, fault_of-plain}
 use Rattle.order_lines.proofs.SaidFields.{bank_named-ok, bank_named-name, fault_of-code, fault_of-ok}
 
 abbrev first_of : Line → List ℕ
@@ -42,8 +44,8 @@ pub record IsSent (h : Header) (line : Line) (bank : ℕ) (said : Command) : Typ
   pub in_range : IsCommand h bank said
   pub spelled : is_bad said ≡ false → IsSpelled h line bank said
 
-bad_command : (h : Header) (bank : ℕ) (fault : Reject) → bank < bank_count h → IsCommand h bank (command.Bad fault)
-bad_command h bank fault within = record { sends = bank-suits h bank (command.Bad fault) within; values = tt }
+bad_command : (h : Header) (bank : ℕ) (fault : Reject) → IsPlainCommand (command.Bad fault) → bank < bank_count h → IsCommand h bank (command.Bad fault)
+bad_command h bank fault plain within = record { sends = bank-suits h bank (command.Bad fault) plain within; values = tt }
 
 -- what a line of a bank says, and one of none
 abbrev of_sender : Option ℕ → (ℕ → Command) → Spoken
@@ -57,10 +59,10 @@ sent_whole : (h : Header) (text : List ℕ) (bank : ℕ) (said : Command) → ba
 sent_whole h text bank said found (Ok command) read is =
     let named = bank_named-ok h (first_field text) bank found in
     let says : SaysCommand h bank (fields_of text) said = command_said-ok h bank (fields_of text) said named.1 (read ∙ ap Ok is) in
-    record { within = named.0; name = named.1; in_range = record { sends = bank-suits h bank said named.0; values = says.in_range }; spelled = λ _. says.spelled }
+    record { within = named.0; name = named.1; in_range = record { sends = bank-suits h bank said says.plain named.0; values = says.in_range }; spelled = λ _. says.spelled }
 sent_whole h text bank said found (Err fault) read is =
     let named = bank_named-ok h (first_field text) bank found in
-    subst (IsSent h (Whole text) bank) is (record { within = named.0; name = named.1; in_range = bad_command h bank fault named.0; spelled = λ good. absurd (false≢true (sym good)) })
+    subst (IsSent h (Whole text) bank) is (record { within = named.0; name = named.1; in_range = bad_command h bank fault (command_said-fault h bank (fields_of text) fault read) named.0; spelled = λ good. absurd (false≢true (sym good)) })
 
 -- the first field of a line is not read for its command
 by_word : (h : Header) (sender : ℕ) (word : Word) (first other : List ℕ) (rest : List (List ℕ)) → said_after h sender word (first ∷ rest) ≡ said_after h sender word (other ∷ rest)
@@ -87,13 +89,15 @@ said_behind h sender first other rest = by_read h sender (word_said (first ∷ r
 
 read-in_range : (h : Header) (sender : ℕ) (rest : List (List ℕ)) (read : Result Command Reject) → sender < bank_count h → command_said h sender (bank_name h sender ∷ rest) ≡ read → IsCommand h sender (or_bad read)
 read-in_range h sender rest (Ok said) within read =
-    record { sends = bank-suits h sender said within; values = (command_said-ok h sender (bank_name h sender ∷ rest) said refl read).in_range }
-read-in_range h sender rest (Err fault) within read = bad_command h sender fault within
+    let says = command_said-ok h sender (bank_name h sender ∷ rest) said refl read in
+    record { sends = bank-suits h sender said says.plain within; values = says.in_range }
+read-in_range h sender rest (Err fault) within read =
+    bad_command h sender fault (command_said-fault h sender (bank_name h sender ∷ rest) fault read) within
 
 -- a sender's fields say what it may send
 pub said-in_range : (h : Header) (sender : ℕ) (fields : List (List ℕ)) → sender < bank_count h → IsCommand h sender (or_bad (command_said h sender fields))
 unfolding command_said word_said
-said-in_range h sender [] within = bad_command h sender reject.Word within
+said-in_range h sender [] within = bad_command h sender reject.Word tt within
 said-in_range h sender (first ∷ rest) within =
     read-in_range h sender rest (command_said h sender (first ∷ rest)) within (said_behind h sender (bank_name h sender) first rest)
 
@@ -120,7 +124,7 @@ IsSent-command_line h (Long first) bank said is =
     (λ (kept : is_comment first ≡ false).
     let by = of_sender-ok (bank_named h.banks first) (λ sender. command.Bad reject.Long) bank said (sym (cond-false (is_comment first) Passed sent kept) ∙ is) in
     let named = bank_named-ok h first bank by.0 in
-    subst (IsSent h (Long first) bank) by.1 (record { within = named.0; name = named.1; in_range = bad_command h bank reject.Long named.0; spelled = λ good. absurd (false≢true (sym good)) }))
+    subst (IsSent h (Long first) bank) by.1 (record { within = named.0; name = named.1; in_range = bad_command h bank reject.Long tt named.0; spelled = λ good. absurd (false≢true (sym good)) }))
     (cases_Bool (is_comment first))
 
 -- a line whose fields begin with a bank's name and go on is that bank's
@@ -137,30 +141,34 @@ record Parts (h : Header) (bank : ℕ) (said : Command) : Type 0 where
   pub more : List (List ℕ)
   pub is : command_fields h bank said ≡ bank_name h bank ∷ second ∷ more
 
-parts_of : (h : Header) (bank : ℕ) (said : Command) → Parts h bank said
-parts_of h bank (command.Order side pair price lots life) = record { second = _; more = _; is = refl }
-parts_of h bank (command.Cancel pair number) = record { second = _; more = _; is = refl }
-parts_of h bank (command.Reduce pair number lots) = record { second = _; more = _; is = refl }
-parts_of h bank (command.Pull pair) = record { second = _; more = _; is = refl }
-parts_of h bank (command.Line other limit) = record { second = _; more = _; is = refl }
-parts_of h bank (command.Show other) = record { second = _; more = _; is = refl }
-parts_of h bank (command.Book pair) = record { second = _; more = _; is = refl }
-parts_of h bank (command.Bad fault) = record { second = _; more = _; is = refl }
+parts_of : (h : Header) (bank : ℕ) (said : Command) → IsPlainCommand said → Parts h bank said
+parts_of h bank (command.Order side pair price lots life) plain = record { second = _; more = _; is = refl }
+parts_of h bank (command.Cancel pair number) plain = record { second = _; more = _; is = refl }
+parts_of h bank (command.Reduce pair number lots) plain = record { second = _; more = _; is = refl }
+parts_of h bank (command.Pull pair) plain = record { second = _; more = _; is = refl }
+parts_of h bank (command.Line other limit) plain = record { second = _; more = _; is = refl }
+parts_of h bank (command.Total limit) plain = absurd plain
+parts_of h bank (command.Settle a b units) plain = absurd plain
+parts_of h bank (command.Show other) plain = record { second = _; more = _; is = refl }
+parts_of h bank (command.Book pair) plain = record { second = _; more = _; is = refl }
+parts_of h bank (command.Bad fault) plain = record { second = _; more = _; is = refl }
 
-command_line-fields : (h : Header) (text : List ℕ) (bank : ℕ) (said : Command) → IsSession h → bank < bank_count h → fields_of text ≡ command_fields h bank said
+command_line-fields : (h : Header) (text : List ℕ) (bank : ℕ) (said : Command) → IsPlainCommand said → IsSession h → bank < bank_count h → fields_of text ≡ command_fields h bank said
     → command_line h (Whole text) ≡ Of bank (or_bad (command_said h bank (command_fields h bank said)))
-command_line-fields h text bank said session within is =
-    let parts : Parts h bank said = parts_of h bank said in
+command_line-fields h text bank said plain session within is =
+    let parts : Parts h bank said = parts_of h bank said plain in
     sent_line h text bank parts.second parts.more session within (is ∙ parts.is) ∙ ap (λ (fields : List (List ℕ)). Of bank (or_bad (command_said h bank fields))) (sym parts.is)
 
 pub command_line-spelled : (h : Header) (line : Line) (bank : ℕ) (said : Command) → IsSession h → bank < bank_count h → IsCommand h bank said → is_bad said ≡ false → IsSpelled h line bank said
     → command_line h line ≡ Of bank said
 command_line-spelled h (Whole text) bank said session within in_range good is =
-    command_line-fields h text bank said session within is ∙ ap (λ (read : Result Command Reject). Of bank (or_bad read)) (command_said-fields h bank said session in_range.values good)
+    let plain : IsPlainCommand said = first-plain h bank said (only_one h session) in_range in
+    command_line-fields h text bank said plain session within is
+    ∙ ap (λ (read : Result Command Reject). Of bank (or_bad read)) (command_said-fields h bank said session plain in_range.values good)
 command_line-spelled h (Long first) bank said session within in_range good is = absurd is
 
 -- a journal's line of a bad command
-pub code_range : (fault : Reject) → (1 ≤ code_of fault) × (code_of fault ≤ 11)
+pub code_range : (fault : Reject) → (1 ≤ code_of fault) × (code_of fault ≤ 12)
 code_range reject.Word = (omega arith, omega arith)
 code_range reject.Count = (omega arith, omega arith)
 code_range reject.Pair = (omega arith, omega arith)
@@ -172,19 +180,37 @@ code_range reject.Limit = (omega arith, omega arith)
 code_range reject.Number = (omega arith, omega arith)
 code_range reject.Life = (omega arith, omega arith)
 code_range reject.Long = (omega arith, omega arith)
+code_range reject.Units = (omega arith, omega arith)
+
+code_plain : (fault : Reject) → IsPlainCommand (command.Bad fault) → code_of fault ≤ 11
+code_plain reject.Units plain = absurd plain
+code_plain reject.Word plain = omega arith
+code_plain reject.Count plain = omega arith
+code_plain reject.Pair plain = omega arith
+code_plain reject.PriceForm plain = omega arith
+code_plain reject.PriceRange plain = omega arith
+code_plain reject.Lots plain = omega arith
+code_plain reject.Bank plain = omega arith
+code_plain reject.Limit plain = omega arith
+code_plain reject.Number plain = omega arith
+code_plain reject.Life plain = omega arith
+code_plain reject.Long plain = omega arith
 
 bad_word-unknown : (h : Header) (bank : ℕ) (fault : Reject) → command_said h bank (command_fields h bank (command.Bad fault)) ≡ Err reject.Word
 unfolding command_said word_said
 bad_word-unknown h bank fault = refl
 
-fault_in-fields : (h : Header) (bank : ℕ) (fault : Reject) → fault_in (command_fields h bank (command.Bad fault)) ≡ Some fault
-fault_in-fields h bank fault =
-    let range = code_range fault in
-    rw (number_of-numeral 1 11 (code_of fault) range.0 range.1) (fault_of-code fault)
+fault_in-fields : (h : Header) (bank : ℕ) (fault : Reject) → IsPlainCommand (command.Bad fault) → fault_in (command_fields h bank (command.Bad fault)) ≡ Some fault
+fault_in-fields h bank fault plain =
+    rw (number_of-numeral 1 11 (code_of fault) (code_range fault).0 (code_plain fault plain)) (fault_of-code fault plain)
 
 fault_of-some : (number : Option ℕ) (fault : Reject) → option_and_then fault_of number ≡ Some fault → number ≡ Some (code_of fault)
 fault_of-some None fault is = absurd (cc)
 fault_of-some (Some n) fault is = ap Some (fault_of-ok n fault is)
+
+fault_read-plain : (number : Option ℕ) (fault : Reject) → option_and_then fault_of number ≡ Some fault → IsPlainCommand (command.Bad fault)
+fault_read-plain None fault is = absurd (cc)
+fault_read-plain (Some n) fault is = fault_of-plain n fault is
 
 fault_in-ok : (h : Header) (bank : ℕ) (fields : List (List ℕ)) (fault : Reject) → field_at fields 0 ≡ bank_name h bank → fault_in fields ≡ Some fault → fields ≡ command_fields h bank (command.Bad fault)
 fault_in-ok h bank fields fault name is =
@@ -200,6 +226,16 @@ fault_in-ok h bank fields fault name is =
     (λ (fails : test ≡ false). absurd (let e : None ≡ Some fault = sym (cond-false test read None fails) ∙ is in cc))
     (cases_Bool test)
 
+-- no fault that a journal's line gives is the operator's
+fault_in-plain : (fields : List (List ℕ)) (fault : Reject) → fault_in fields ≡ Some fault → IsPlainCommand (command.Bad fault)
+fault_in-plain fields fault is =
+    let test : Bool = eqb (length fields) 3 && bytes_eq (field_at fields 1) bad_word in
+    let read : Option Reject = option_and_then fault_of (number_of 1 11 (field_at fields 2)) in
+    ⊎_elim
+    (λ (passes : test ≡ true). fault_read-plain (number_of 1 11 (field_at fields 2)) fault (sym (cond-true test read None passes) ∙ is))
+    (λ (fails : test ≡ false). absurd (let e : None ≡ Some fault = sym (cond-false test read None fails) ∙ is in cc))
+    (cases_Bool test)
+
 -- a journal's line says a command of a bank
 pub record IsRecorded (h : Header) (line : Line) (bank : ℕ) (said : Command) : Type 0 where
   pub within : bank < bank_count h
@@ -207,7 +243,7 @@ pub record IsRecorded (h : Header) (line : Line) (bank : ℕ) (said : Command) :
   pub spelled : IsSpelled h line bank said
 
 recorded_fault : (h : Header) (line : Line) (bank : ℕ) (said : Command) → IsSent h line bank said → (fault : Reject) → bad_said line ≡ Some fault → IsRecorded h line bank (command.Bad fault)
-recorded_fault h (Whole text) bank said sent fault is = record { within = sent.within; in_range = bad_command h bank fault sent.within; spelled = fault_in-ok h bank (fields_of text) fault sent.name is }
+recorded_fault h (Whole text) bank said sent fault is = record { within = sent.within; in_range = bad_command h bank fault (fault_in-plain (fields_of text) fault is) sent.within; spelled = fault_in-ok h bank (fields_of text) fault sent.name is }
 recorded_fault h (Long first) bank said sent fault is = absurd (cc)
 
 recorded_bad : (h : Header) (line : Line) (sender : ℕ) (given : Command) → IsSent h line sender given → (fault : Option Reject) → bad_said line ≡ fault → (bank : ℕ) (said : Command)
@@ -242,12 +278,12 @@ unfolding journal_line
 spelled_good h line bank said session within in_range is good =
     ap (recorded line) (command_line-spelled h line bank said session within in_range good is) ∙ cond-false _ _ _ good
 
-spelled_bad : (h : Header) (line : Line) (bank : ℕ) (fault : Reject) → IsSession h → bank < bank_count h → IsSpelled h line bank (command.Bad fault) → journal_line h line ≡ Some (bank, command.Bad fault)
+spelled_bad : (h : Header) (line : Line) (bank : ℕ) (fault : Reject) → IsPlainCommand (command.Bad fault) → IsSession h → bank < bank_count h → IsSpelled h line bank (command.Bad fault) → journal_line h line ≡ Some (bank, command.Bad fault)
 unfolding journal_line
-spelled_bad h (Whole text) bank fault session within is =
-    ap (recorded (Whole text)) (command_line-fields h text bank (command.Bad fault) session within is ∙ ap (λ (read : Result Command Reject). Of bank (or_bad read)) (bad_word-unknown h bank fault))
-    ∙ ap (option_map (λ reason. (bank, command.Bad reason))) (ap fault_in is ∙ fault_in-fields h bank fault)
-spelled_bad h (Long first) bank fault session within is = absurd is
+spelled_bad h (Whole text) bank fault plain session within is =
+    ap (recorded (Whole text)) (command_line-fields h text bank (command.Bad fault) plain session within is ∙ ap (λ (read : Result Command Reject). Of bank (or_bad read)) (bad_word-unknown h bank fault))
+    ∙ ap (option_map (λ reason. (bank, command.Bad reason))) (ap fault_in is ∙ fault_in-fields h bank fault plain)
+spelled_bad h (Long first) bank fault plain session within is = absurd is
 
 pub journal_line-spelled : (h : Header) (line : Line) (bank : ℕ) (said : Command) → IsSession h → bank < bank_count h → IsCommand h bank said → IsSpelled h line bank said
     → journal_line h line ≡ Some (bank, said)
@@ -256,9 +292,12 @@ journal_line-spelled h line bank (command.Cancel pair number) session within in_
 journal_line-spelled h line bank (command.Reduce pair number lots) session within in_range is = spelled_good h line bank _ session within in_range is refl
 journal_line-spelled h line bank (command.Pull pair) session within in_range is = spelled_good h line bank _ session within in_range is refl
 journal_line-spelled h line bank (command.Line other limit) session within in_range is = spelled_good h line bank _ session within in_range is refl
+journal_line-spelled h line bank (command.Total limit) session within in_range is = spelled_good h line bank _ session within in_range is refl
+journal_line-spelled h line bank (command.Settle a b units) session within in_range is = spelled_good h line bank _ session within in_range is refl
 journal_line-spelled h line bank (command.Show other) session within in_range is = spelled_good h line bank _ session within in_range is refl
 journal_line-spelled h line bank (command.Book pair) session within in_range is = spelled_good h line bank _ session within in_range is refl
-journal_line-spelled h line bank (command.Bad fault) session within in_range is = spelled_bad h line bank fault session within is
+journal_line-spelled h line bank (command.Bad fault) session within in_range is =
+    spelled_bad h line bank fault (first-plain h bank (command.Bad fault) (only_one h session) in_range) session within is
 
 -- what a line's bank and command have, of whatever is read
 pub IfSent-command_line : (h : Header) (line : Line) (spoken : Spoken) → spoken ≡ command_line h line → (P : ℕ → Command → Type 0) → ((bank : ℕ) (said : Command) → IsSent h line bank said → P bank said) → IfSent spoken P

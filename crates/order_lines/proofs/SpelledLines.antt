@@ -1,5 +1,5 @@
 -- A command's line in its one spelling, as it is read from its front, field by field.
-use Rattle.std.proofs.Common.{◌≡◌, ◌≢◌, ℕ, ◌+◌, ◌<◌, List, ◌∷◌, ◌++◌, length, take, drop, get_or, refl, sym, ap, ap₂, ◌∙◌, arith, append_assoc, length-append}
+use Rattle.std.proofs.Common.{◌≡◌, ◌≢◌, ℕ, ◌+◌, ◌<◌, false, List, ◌∷◌, ◌++◌, length, take, drop, get_or, refl, sym, ap, ap₂, ◌∙◌, arith, append_assoc, length-append}
 use Rattle.std.proofs.lemmas.List.{take-append-drop, drop_more, drop-drop}
 use Rattle.std.specs.List.{join_with_byte}
 use Rattle.fx_amounts.specs.Numeral.{numeral}
@@ -15,13 +15,13 @@ use Rattle.fx_rules.specs.Step.{IsCommand, IsNumber}
 use Rattle.fx_rules.specs.declared.command.Command.{Command}
 use Rattle.fx_rules.specs.declared.command.Command.TheVariants as command
 use Rattle.fx_rules.specs.declared.command.Life.{Life}
-use Rattle.fx_rules.proofs.Senders.{bank-suits}
-use Rattle.order_lines.specs.Grammar.{command_line}
+use Rattle.fx_rules.proofs.Senders.{IsPlainCommand, bank-suits}
+use Rattle.order_lines.specs.Grammar.{command_line, is_bad}
 use Rattle.order_lines.specs.Spelling.{command_text_of}
-use Rattle.order_lines.specs.Words.{word_text, side_word, life_text}
+use Rattle.order_lines.specs.Words.{word_text, side_word, life_text, total_word, settle_word}
 use Rattle.order_lines.specs.declared.spoken.Spoken.TheVariants.{Of}
 use Rattle.order_lines.specs.declared.word.Word.{Word}
-use Rattle.order_lines.specs.declared.word.Word.TheVariants.{Cancel, Reduce, Pull, Line as LineWord, Show, Book}
+use Rattle.order_lines.specs.declared.word.Word.TheVariants.{Buy, Sell, Cancel, Reduce, Pull, Line as LineWord, Show, Book}
 use Rattle.order_lines.specs.inside.Printing.{price_spelled, word_field, subject_field, details}
 use Rattle.order_lines.specs.inside.Spelled.{EndsWith}
 use Rattle.order_lines.proofs.Printed.{command_fields-named}
@@ -110,18 +110,51 @@ begins h text bank said behind session is written reads valid =
       shorter = omega (arith, ap (λ (xs : List ℕ). length xs) is, length-append line (10 ∷ behind));
     }
 
+-- the words of version 2 alone are none of a bank's
+total_apart : (word : Word) → total_word ≡ word_text word → ⊥
+total_apart Buy same = omega (arith, ap (λ (t : List ℕ). get_or t 0 0) same)
+total_apart Sell same = omega (arith, ap (λ (t : List ℕ). get_or t 0 0) same)
+total_apart Cancel same = omega (arith, ap (λ (t : List ℕ). get_or t 0 0) same)
+total_apart Reduce same = omega (arith, ap (λ (t : List ℕ). get_or t 0 0) same)
+total_apart Pull same = omega (arith, ap (λ (t : List ℕ). get_or t 0 0) same)
+total_apart LineWord same = omega (arith, ap (λ (t : List ℕ). get_or t 0 0) same)
+total_apart Show same = omega (arith, ap (λ (t : List ℕ). get_or t 0 0) same)
+total_apart Book same = omega (arith, ap (λ (t : List ℕ). get_or t 0 0) same)
+
+settle_apart : (word : Word) → settle_word ≡ word_text word → ⊥
+settle_apart Buy same = omega (arith, ap (λ (t : List ℕ). get_or t 0 0) same)
+settle_apart Sell same = omega (arith, ap (λ (t : List ℕ). get_or t 2 0) same)
+settle_apart Cancel same = omega (arith, ap (λ (t : List ℕ). get_or t 0 0) same)
+settle_apart Reduce same = omega (arith, ap (λ (t : List ℕ). get_or t 0 0) same)
+settle_apart Pull same = omega (arith, ap (λ (t : List ℕ). get_or t 0 0) same)
+settle_apart LineWord same = omega (arith, ap (λ (t : List ℕ). get_or t 0 0) same)
+settle_apart Show same = omega (arith, ap (λ (t : List ℕ). get_or t 1 0) same)
+settle_apart Book same = omega (arith, ap (λ (t : List ℕ). get_or t 0 0) same)
+
+plain-said : (said : Command) (word : Word) → word_field said ≡ word_text word → is_bad said ≡ false → IsPlainCommand said
+plain-said (command.Total limit) word same good = total_apart word same
+plain-said (command.Settle a b units) word same good = settle_apart word same
+plain-said (command.Bad fault) word same good = absurd (cc)
+plain-said (command.Order side pair price lots life) word same good = tt
+plain-said (command.Cancel pair number) word same good = tt
+plain-said (command.Reduce pair number lots) word same good = tt
+plain-said (command.Pull pair) word same good = tt
+plain-said (command.Line other limit) word same good = tt
+plain-said (command.Show other) word same good = tt
+plain-said (command.Book pair) word same good = tt
+
 spelled_whole : (h : Header) (bank : ℕ) (word : Word) (text one two : List ℕ) (said : Command) (behind : List ℕ) → text ≡ bank_name h bank ++ 32 ∷ one → one ≡ word_text word ++ 32 ∷ two → EndsWith h bank word two said behind
     → text ≡ command_text_of h bank said ++ 10 ∷ behind
 unfolding command_text_of
 spelled_whole h bank word text one two said behind first second ends =
     field_onto text (bank_name h bank) one _ behind first
     (field_onto one (word_field said) two (join_with_byte 32 (subject_field h said ∷ details h said)) behind (second ∙ ap (λ (w : List ℕ). w ++ 32 ∷ two) (sym ends.is_word)) ends.spelled)
-    ∙ ap (λ (fields : List (List ℕ)). join_with_byte 32 fields ++ 10 ∷ behind) (sym (command_fields-named h bank said))
+    ∙ ap (λ (fields : List (List ℕ)). join_with_byte 32 fields ++ 10 ∷ behind) (sym (command_fields-named h bank said (plain-said said word ends.is_word ends.good)))
 
 pub BeginsWith-fields : (h : Header) (bank : ℕ) (word : Word) (text one two : List ℕ) (said : Command) (behind : List ℕ) → IsSession h → bank < bank_count h
     → text ≡ bank_name h bank ++ 32 ∷ one → one ≡ word_text word ++ 32 ∷ two → EndsWith h bank word two said behind → BeginsWith h text bank said behind
 BeginsWith-fields h bank word text one two said behind session within first second ends =
-    let valid : IsCommand h bank said = record { sends = bank-suits h bank said within; values = ends.values } in
+    let valid : IsCommand h bank said = record { sends = bank-suits h bank said (plain-said said word ends.is_word ends.good) within; values = ends.values } in
     let written : IsWritten h bank said = IsWritten-command h bank said session within valid in
     begins h text bank said behind session (spelled_whole h bank word text one two said behind first second ends) written
     (command_line-spelled h (Whole (command_text_of h bank said)) bank said session within valid ends.good written.fields) valid

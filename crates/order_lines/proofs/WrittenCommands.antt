@@ -18,6 +18,8 @@ use Rattle.order_lines.specs.declared.word.Word.TheVariants as word
 use Rattle.fx_text.proofs.FieldTexts.{IsField-numeral, IsField-price_text}
 use Rattle.fx_text.proofs.JoinedFields.{IsField, fields_of-join, join-visible, length-join, line_of-join}
 use Rattle.order_lines.proofs.FieldTexts.{IsField-bank, IsField-pair, IsField-word, IsField-life, IsField-bad, no_rule}
+use Rattle.fx_rules.proofs.Plain.{only_one, first-plain}
+use Rattle.fx_rules.proofs.Senders.{IsPlainCommand}
 use Rattle.order_lines.proofs.SaidLines.{journal_line-spelled, code_range}
 
 IsField-price : (h : Header) (pair price : ℕ) → IsSession h → pair < pair_count h → price ≤ 10 ^ 9 → IsField (price_spelled h pair price)
@@ -26,19 +28,21 @@ IsField-price h pair price session within most =
     let few : decimals_of h pair ≤ 6 = omega (arith, (session.rules pair no_rule within).decimals) in
     IsField-price_text (decimals_of h pair) price few (omega arith)
 
-are_fields : (h : Header) (bank : ℕ) (said : Command) → IsSession h → bank < bank_count h → AreValues h bank said → AllByRecursion IsField (command_fields h bank said)
-are_fields h bank (command.Order side pair price lots life) session within is =
+are_fields : (h : Header) (bank : ℕ) (said : Command) → IsSession h → bank < bank_count h → IsPlainCommand said → AreValues h bank said → AllByRecursion IsField (command_fields h bank said)
+are_fields h bank (command.Order side pair price lots life) session within plain is =
     (IsField-bank h bank session within, (IsField-word (side_word side), (IsField-pair h pair session is.0, (IsField-price h pair price session is.0 is.1.1, (IsField-numeral lots (omega (arith, is.2.1)), (IsField-life life, tt))))))
-are_fields h bank (command.Cancel pair number) session within is =
+are_fields h bank (command.Cancel pair number) session within plain is =
     (IsField-bank h bank session within, (IsField-word word.Cancel, (IsField-pair h pair session is.0, (IsField-numeral number (omega (arith, is.1.1)), tt))))
-are_fields h bank (command.Reduce pair number lots) session within is =
+are_fields h bank (command.Reduce pair number lots) session within plain is =
     (IsField-bank h bank session within, (IsField-word word.Reduce, (IsField-pair h pair session is.0, (IsField-numeral number (omega (arith, is.1.1)), (IsField-numeral lots (omega (arith, is.2.1)), tt)))))
-are_fields h bank (command.Pull pair) session within is = (IsField-bank h bank session within, (IsField-word word.Pull, (IsField-pair h pair session is, tt)))
-are_fields h bank (command.Line other limit) session within is =
+are_fields h bank (command.Pull pair) session within plain is = (IsField-bank h bank session within, (IsField-word word.Pull, (IsField-pair h pair session is, tt)))
+are_fields h bank (command.Line other limit) session within plain is =
     (IsField-bank h bank session within, (IsField-word word.Line, (IsField-bank h other session is.0, (IsField-numeral limit (omega (arith, is.2)), tt))))
-are_fields h bank (command.Show other) session within is = (IsField-bank h bank session within, (IsField-word word.Show, (IsField-bank h other session is.0, tt)))
-are_fields h bank (command.Book pair) session within is = (IsField-bank h bank session within, (IsField-word word.Book, (IsField-pair h pair session is, tt)))
-are_fields h bank (command.Bad fault) session within is = (IsField-bank h bank session within, (IsField-bad, (IsField-numeral (code_of fault) (omega (arith, (code_range fault).1)), tt)))
+are_fields h bank (command.Total limit) session within plain is = absurd plain
+are_fields h bank (command.Settle a b units) session within plain is = absurd plain
+are_fields h bank (command.Show other) session within plain is = (IsField-bank h bank session within, (IsField-word word.Show, (IsField-bank h other session is.0, tt)))
+are_fields h bank (command.Book pair) session within plain is = (IsField-bank h bank session within, (IsField-word word.Book, (IsField-pair h pair session is, tt)))
+are_fields h bank (command.Bad fault) session within plain is = (IsField-bank h bank session within, (IsField-bad, (IsField-numeral (code_of fault) (omega (arith, (code_range fault).1)), tt)))
 
 few_fields : (h : Header) (bank : ℕ) (said : Command) → (0 < length (command_fields h bank said)) × (length (command_fields h bank said) ≤ 6)
 few_fields h bank (command.Order side pair price lots life) = (omega arith, omega arith)
@@ -46,6 +50,8 @@ few_fields h bank (command.Cancel pair number) = (omega arith, omega arith)
 few_fields h bank (command.Reduce pair number lots) = (omega arith, omega arith)
 few_fields h bank (command.Pull pair) = (omega arith, omega arith)
 few_fields h bank (command.Line other limit) = (omega arith, omega arith)
+few_fields h bank (command.Total limit) = (omega arith, omega arith)
+few_fields h bank (command.Settle a b units) = (omega arith, omega arith)
 few_fields h bank (command.Show other) = (omega arith, omega arith)
 few_fields h bank (command.Book pair) = (omega arith, omega arith)
 few_fields h bank (command.Bad fault) = (omega arith, omega arith)
@@ -61,7 +67,7 @@ pub record IsWritten (h : Header) (bank : ℕ) (said : Command) : Type 0 where
 pub IsWritten-command : (h : Header) (bank : ℕ) (said : Command) → IsSession h → bank < bank_count h → IsCommand h bank said → IsWritten h bank said
 unfolding command_text_of
 IsWritten-command h bank said session within is =
-    let all : AllByRecursion IsField (command_fields h bank said) = are_fields h bank said session within is.values in
+    let all : AllByRecursion IsField (command_fields h bank said) = are_fields h bank said session within (first-plain h bank said (only_one h session) is) is.values in
     let few = few_fields h bank said in
     let fields : fields_of (command_text_of h bank said) ≡ command_fields h bank said = fields_of-join (command_fields h bank said) few.0 all in
     let whole : line_of (command_text_of h bank said) ≡ Whole (command_text_of h bank said) = line_of-join (command_fields h bank said) few.1 all in

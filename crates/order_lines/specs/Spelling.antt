@@ -9,8 +9,8 @@ use Rattle.fx_text.specs.declared.line.Line.TheVariants.{Whole, Long}
 use Rattle.fx_rules.specs.Reject.{code_of}
 use Rattle.fx_rules.specs.Session.{Header, bank_name, pair_name, decimals_of}
 use Rattle.fx_rules.specs.declared.command.Command.{Command}
-use Rattle.fx_rules.specs.declared.command.Command.TheVariants.{Order, Cancel, Reduce, Pull, Line, Show, Book, Bad}
-use Rattle.order_lines.specs.Words.{word_text, side_word, life_text, bad_word}
+use Rattle.fx_rules.specs.declared.command.Command.TheVariants.{Order, Cancel, Reduce, Pull, Line, Total, Settle, Show, Book, Bad}
+use Rattle.order_lines.specs.Words.{word_text, side_word, life_text, total_word, settle_word, host_name, bad_word}
 use Rattle.order_lines.specs.declared.word.Word.TheVariants as word
 
 -- the fields of a command's line
@@ -21,6 +21,8 @@ command_fields h bank (Cancel pair number) = bank_name h bank ∷ word_text word
 command_fields h bank (Reduce pair number lots) = bank_name h bank ∷ word_text word.Reduce ∷ pair_name h pair ∷ numeral number ∷ numeral lots ∷ []
 command_fields h bank (Pull pair) = bank_name h bank ∷ word_text word.Pull ∷ pair_name h pair ∷ []
 command_fields h bank (Line other limit) = bank_name h bank ∷ word_text word.Line ∷ bank_name h other ∷ numeral limit ∷ []
+command_fields h bank (Total limit) = bank_name h bank ∷ total_word ∷ numeral limit ∷ []
+command_fields h bank (Settle a b units) = host_name ∷ settle_word ∷ bank_name h a ∷ bank_name h b ∷ numeral units ∷ []
 command_fields h bank (Show other) = bank_name h bank ∷ word_text word.Show ∷ bank_name h other ∷ []
 command_fields h bank (Book pair) = bank_name h bank ∷ word_text word.Book ∷ pair_name h pair ∷ []
 command_fields h bank (Bad fault) = bank_name h bank ∷ bad_word ∷ numeral (code_of fault) ∷ []

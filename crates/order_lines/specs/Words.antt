@@ -57,6 +57,16 @@ faults = reject.Word ∷ reject.Count ∷ reject.Pair ∷ reject.PriceForm ∷ r
 abbrev pub fault_of : ℕ → Option Reject
 fault_of number = find (λ fault. code_of fault == number) faults
 
+-- the words of a total and of a settlement, and the operator's name: a session's text of version 1 has none of them
+abbrev pub total_word : List ℕ
+total_word = codes "TOTAL"
+
+abbrev pub settle_word : List ℕ
+settle_word = codes "SETTLE"
+
+abbrev pub host_name : List ℕ
+host_name = codes "HOST"
+
 -- the word of a bad line in a journal
 abbrev pub bad_word : List ℕ
 bad_word = codes "BAD"

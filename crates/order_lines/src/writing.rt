@@ -8,7 +8,7 @@ ghost use Rattle.order_lines.specs.Grammar.{journal_line};
 ghost use Rattle.order_lines.specs.Spelling.{command_fields, command_text_of};
 
 use crate::reading::decimals;
-use crate::word::{BAD, Word, life_text};
+use crate::word::{BAD, SETTLE, TOTAL, Word, life_text};
 use fx_amounts::{BankId, Memory, PairId};
 use fx_rules::{Command, Session};
 use fx_text::{Line, LineText};
@@ -98,13 +98,15 @@ fn word_of(command: &Command) -> &'static [u8]
         Command::Reduce { .. } => Word::Reduce.as_bytes(),
         Command::Pull { .. } => Word::Pull.as_bytes(),
         Command::Line { .. } => Word::Line.as_bytes(),
+        Command::Total { .. } => TOTAL,
+        Command::Settle { .. } => SETTLE,
         Command::Show { .. } => Word::Show.as_bytes(),
         Command::Book { .. } => Word::Book.as_bytes(),
         Command::Bad { .. } => BAD,
     }
 }
 
-// Appends the field behind the word: the pair, the bank or the fault that the command is about.
+// Appends the field behind the word: the pair, the bank, the total or the fault that the command is about.
 fn push_subject(session: &Session, command: &Command, line: &mut LineText)
     requires { IsSubjectOf session.now command.now }
     ensures { line.new ≡ take 256 (line.old ++ 32 ∷ subject_field session.now command.now) }
@@ -117,6 +119,8 @@ fn push_subject(session: &Session, command: &Command, line: &mut LineText)
         Command::Line { bank, .. } | Command::Show { bank } => {
             line.push_field(session.name(bank));
         }
+        Command::Total { limit } => line.push_number_field(limit.get()),
+        Command::Settle { a, .. } => line.push_field(session.name(a)),
         Command::Bad { reason } => line.push_number_field(u64::from(reason.code())),
     }
 }
@@ -152,7 +156,14 @@ fn push_details(session: &Session, command: &Command, line: &mut LineText)
             line.push_number_field(u64::from(lots.count()));
         }
         Command::Line { limit, .. } => line.push_number_field(limit.get()),
-        Command::Pull { .. } | Command::Show { .. } | Command::Book { .. } | Command::Bad { .. } =>
-            {}
+        Command::Settle { b, units, .. } => {
+            line.push_field(session.name(b));
+            line.push_number_field(units.get());
+        }
+        Command::Pull { .. }
+        | Command::Total { .. }
+        | Command::Show { .. }
+        | Command::Book { .. }
+        | Command::Bad { .. } => {}
     }
 }

@@ -68,7 +68,7 @@ pub kept-pushed : (nodes nodes' : List Linked) (count : ℕ) (rows rows' : List 
     → record { slots = slots_of nodes; room = room } ≡ orders → IsKept nodes count rows → nodes' ≡ pushed nodes order before → place ≡ length nodes → length nodes < 2 ^ 28
     → Lacks orders order.bank order.number → ((at : ℕ) (other : Resting) → order_at orders at ≡ Some other → other.arrival < order.arrival)
     → IsLastBelow (IsInLevel (order_at orders) order) (length orders.slots) before
-    → Written rows rows' order.bank row row' → row'.entries ≡ with_key order.number place row.entries → order.bank < 64 → order.number < 2 ^ 32 → IsLots order.left
+    → Written rows rows' order.bank row row' → row'.entries ≡ with_key order.number place row.entries → order.bank < 65 → order.number < 2 ^ 32 → IsLots order.left
     → IsKept nodes' (count + 1) rows'
 kept-pushed nodes nodes' count rows rows' room orders order before place row row' seen kept is place_is few lacks later last written with bank number own =
     subst (λ (ns : List Linked). IsKept ns (count + 1) rows') (sym is) (record {

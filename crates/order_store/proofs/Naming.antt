@@ -84,7 +84,7 @@ named_same slots slots' rows are same = subst (λ (ss : List (Option Resting)). 
 pub named_added : (slots slots' : List (Option Resting)) (rows rows' : List Row) (orders : Orders) (key : ℕ) (order : Resting) (row row' : Row) → AreNamed slots rows → slots ≡ orders.slots
     → Lacks orders order.bank order.number → get_or slots key None ≡ None → get_or slots' key None ≡ Some order
     → ((other : ℕ) → other ≢ key → get_or slots' other None ≡ get_or slots other None) → Written rows rows' order.bank row row' → row'.entries ≡ with_key order.number key row.entries
-    → order.bank < 64 → order.number < 2 ^ 32 → AreNamed slots' rows'
+    → order.bank < 65 → order.number < 2 ^ 32 → AreNamed slots' rows'
 named_added slots slots' rows rows' orders key order row row' are seen lacks vacant here others written with bank number = record {
   named = λ k o is. elim (cases_eq k key) [
     | inl same ↦
@@ -106,7 +106,7 @@ named_added slots slots' rows rows' orders key order row row' are seen lacks vac
   numbered = λ k o is. elim (cases_eq k key) [
     | inl same ↦
         let it : order ≡ o = some_same order o (sym here ∙ ap (λ j. get_or slots' j None) (sym same) ∙ is) in
-        subst (λ (r : Resting). (r.bank < 64) × (r.number < 2 ^ 32)) it (bank, number)
+        subst (λ (r : Resting). (r.bank < 65) × (r.number < 2 ^ 32)) it (bank, number)
     | inr differ ↦ are.numbered k o (sym (others k differ) ∙ is)
   ];
 }
@@ -126,7 +126,7 @@ named_lowered slots rows key left order are was =
       numbered = λ k o is. elim (cases_eq k key) [
         | inl same ↦
             let it : new ≡ o = some_same new o (sym here ∙ ap (λ j. get_or (set slots key (Some new)) j None) (sym same) ∙ is) in
-            subst (λ (r : Resting). (r.bank < 64) × (r.number < 2 ^ 32)) it (are.numbered key order was)
+            subst (λ (r : Resting). (r.bank < 65) × (r.number < 2 ^ 32)) it (are.numbered key order was)
         | inr differ ↦ are.numbered k o (sym (get_or-set_other slots key k (Some new) None differ) ∙ is)
       ];
     }

@@ -171,16 +171,16 @@ carried-last old list place banks places order link result listed packed here la
 
 -- an order's bank has a row, and so has it in a list for as many banks
 pub bank-within : (nodes : List Linked) (count places : ℕ) (rows : List Row) (orders list : Orders) (place : ℕ) (order : Resting) → record { slots = slots_of nodes; room = map (room_with places) rows } ≡ orders
-    → IsKept nodes count rows → in_node nodes place ≡ Some order → length list.room ≡ min (length orders.room) 64 → order.bank < length list.room
+    → IsKept nodes count rows → in_node nodes place ≡ Some order → length list.room ≡ min (length orders.room) 65 → order.bank < length list.room
 bank-within nodes count places rows orders list place order seen kept is banks =
     let named = kept.named.named place order is in
-    let sixty_four = (kept.named.numbered place order is).0 in
+    let number_most = (kept.named.numbered place order is).0 in
     let as_many : length rows ≡ length orders.room = seen_banks places rows orders (ap (λ (o : Orders). o.room) seen) in
     let row : order.bank < length rows = elim (cases_lt order.bank (length rows)) [
       | inl below ↦ below
       | inr past ↦ let it : None ≡ Some place = sym (ap (λ (r : Row). key_in r.entries order.number) (get_or_past rows order.bank no_row past)) ∙ named in cc
     ] in
-    omega (arith, sixty_four, as_many, row, banks)
+    omega (arith, number_most, as_many, row, banks)
 
 pub packed-none : (nodes : List Linked) (room : List ℕ) (orders list : Orders) (place banks : ℕ) (places : List ℕ) → record { slots = slots_of nodes; room = room } ≡ orders → AreListed orders
     → IsPacked orders.slots place places list banks → place < length orders.slots → None ≡ in_node nodes place → IsPacked orders.slots (place + 1) (places ++ 0 ∷ []) list banks
@@ -193,5 +193,5 @@ order-seen nodes room orders place order seen is = sym (ap (λ (o : Orders). ord
 pub packed-all : (slots : List (Option Resting)) (upto : ℕ) (places : List ℕ) (list : Orders) (banks : ℕ) → IsPacked slots upto places list banks → upto ≡ length slots → list.slots ≡ filter is_some slots
 packed-all slots upto places list banks packed all = packed.laid ∙ ap (filter is_some) (ap (λ n. take n slots) all ∙ take-length slots)
 
-pub packed-bare : (slots : List (Option Resting)) (list : Orders) (banks : ℕ) → list.slots ≡ [] → length list.room ≡ min banks 64 → IsPacked slots 0 [] list banks
+pub packed-bare : (slots : List (Option Resting)) (list : Orders) (banks : ℕ) → list.slots ≡ [] → length list.room ≡ min banks 65 → IsPacked slots 0 [] list banks
 packed-bare slots list banks bare rooms = record { laid = bare; count = refl; told = λ place order below is. absurd (omega arith); banks_are = rooms }

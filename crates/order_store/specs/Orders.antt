@@ -42,7 +42,7 @@ Lacks orders bank number = (key : ℕ) (order : Resting) → order_at orders key
 pub record AreOrders (orders : Orders) : Type 0 where
   pub unique : (key other : ℕ) (order same : Resting) → order_at orders key ≡ Some order → order_at orders other ≡ Some same
       → order.bank ≡ same.bank → order.number ≡ same.number → key ≡ other
-  pub numbered : (key : ℕ) (order : Resting) → order_at orders key ≡ Some order → (order.bank < 64) × (order.number < 2 ^ 32)
+  pub numbered : (key : ℕ) (order : Resting) → order_at orders key ≡ Some order → (order.bank < 65) × (order.number < 2 ^ 32)
 
 -- this key has got this order, or none, and all other keys have what they had
 pub record Changes (old new : Orders) (key : ℕ) (slot : Option Resting) : Type 0 where

@@ -41,12 +41,12 @@ impl Model for OrderList {
 }
 
 impl OrderList {
-    /// No orders of so many banks, 64 at most, and no room for any. `Memory` when out of memory.
+    /// No orders of so many senders, 65 at most, and no room for any. `Memory` when out of memory.
     pub fn new(alloc: Global, banks: usize) -> Result<OrderList, Memory>
         ensures empty { IfOk result (λ list. list.slots ≡ []) }
-        ensures banks { IfOk result (λ list. length list.room ≡ min banks 64) }
+        ensures banks { IfOk result (λ list. length list.room ≡ min banks 65) }
     {
-        let rows = bare_rows(alloc, banks.min(BankId::COUNT))?;
+        let rows = bare_rows(alloc, banks.min(BankId::SENDERS))?;
         Ok(OrderList {
             nodes: Nodes::new(alloc),
             rows,
@@ -201,7 +201,7 @@ impl OrderList {
     /// stays as it is. `Memory` when out of memory.
     pub fn packed(&self) -> Result<OrderList, Memory>
         ensures slots { IfOk result (λ list. list.slots ≡ filter is_some self.now.slots) }
-        ensures banks { IfOk result (λ list. length list.room ≡ min (length self.now.room) 64) }
+        ensures banks { IfOk result (λ list. length list.room ≡ min (length self.now.room) 65) }
     {
         let alloc = *self.rows.allocator();
         let mut list = OrderList::new(alloc, self.rows.len())?;

@@ -37,12 +37,12 @@ impl Model for OrderStore {
 }
 
 impl OrderStore {
-    /// No orders of so many banks, 64 at most, and no room for any. `Memory` when out of memory.
+    /// No orders of so many senders, 65 at most, and no room for any. `Memory` when out of memory.
     pub fn new(alloc: Global, banks: usize) -> Result<OrderStore, Memory>
         ensures empty { IfOk result (λ store. store.slots ≡ []) }
-        ensures banks { IfOk result (λ store. length store.room ≡ min banks 64) }
+        ensures banks { IfOk result (λ store. length store.room ≡ min banks 65) }
     {
-        let rows = bare_rows(alloc, banks.min(BankId::COUNT))?;
+        let rows = bare_rows(alloc, banks.min(BankId::SENDERS))?;
         Ok(OrderStore {
             orders: Slab::new(alloc),
             rows,

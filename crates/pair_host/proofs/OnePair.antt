@@ -3,10 +3,11 @@ use Rattle.std.proofs.Common.{ℕ, ◌≡◌, ◌+◌, ◌<◌, ◌-◌, ◌^◌
 use Rattle.fx_rules.specs.declared.command.Command.{Command}
 use Rattle.fx_rules.specs.declared.outcome.Entry.{Entry}
 use Rattle.fx_rules.specs.declared.outcome.Outcome.{Outcome}
-use Rattle.fx_rules.specs.Session.{Header, pair_count, sender_places, weight_of}
+use Rattle.fx_rules.specs.Session.{Header, bank_count, pair_count, sender_places, weight_of}
 use Rattle.fx_rules.specs.State.{State, orders_in, count_of}
 use Rattle.fx_rules.specs.History.{IsStep}
 use Rattle.fx_rules.specs.Market.{MaySend, next_entry}
+use Rattle.fx_rules.proofs.Plain.{only_one, first-command}
 use Rattle.fx_rules.proofs.Senders.{command-place}
 use Rattle.global_book.specs.Book.{Book}
 use Rattle.credit_table.specs.Table.{Table, next_sender}
@@ -23,6 +24,7 @@ use Rattle.fx_rules.proofs.Senders.{pair-within}
 -- what is known of a bank that may send a command
 pub record CanSend (book : Book) (table : Table) (bank : ℕ) : Type 0 where
   pub sender : bank < sender_places table.session
+  pub owner : bank < bank_count table.session
   pub few : get_or table.counts bank 0 < 2 ^ 32 - 1
   pub pair : book.pair < pair_count table.session
 
@@ -32,6 +34,7 @@ can-send h S book table bank command of may about =
     let back : h ≡ table.session = sym of.credit.session in
     record {
       sender = subst (λ (g : Header). bank < sender_places g) back (command-place h bank command of.valid may.allowed);
+      owner = subst (λ (g : Header). bank < bank_count g) back (first-command h bank command (only_one h of.valid) may.allowed);
       few = omega (arith, count, may.number);
       pair = subst (λ (g : Header). book.pair < pair_count g) back (pair-within h bank command book.pair may.allowed.values about);
     }

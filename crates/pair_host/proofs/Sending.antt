@@ -1,15 +1,18 @@
 -- What may be sent, and which pair it is about.
-use Rattle.std.proofs.Common.{ℕ, ◌≡◌, ◌≢◌, ◌+◌, ◌<◌, ◌^◌, false, List, get_or, Some, None, refl, sym, subst, ◌∙◌}
+use Rattle.std.proofs.Common.{ℕ, ◌≡◌, ◌≢◌, ◌+◌, ◌<◌, ◌^◌, true, false, List, get_or, Some, None, refl, sym, subst, ◌∙◌}
 use Rattle.std.proofs.lemmas.Bool.{ne_eqb}
 use Rattle.fx_rules.specs.declared.command.Command.{Command}
-use Rattle.fx_rules.specs.declared.command.Command.TheVariants.{Order, Cancel, Reduce, Pull, Line, Show, Book, Bad}
+use Rattle.fx_rules.specs.declared.command.Command.TheVariants.{Order, Cancel, Reduce, Pull, Line, Total, Settle, Show, Book, Bad}
 use Rattle.fx_rules.specs.Session.{Header}
 use Rattle.fx_rules.specs.State.{State}
 use Rattle.fx_rules.specs.Step.{IsCommand, may_change}
 use Rattle.fx_rules.specs.History.{state}
 use Rattle.fx_rules.specs.Market.{InSome, MaySend}
 use Rattle.fx_rules.specs.Sending.{pair_of}
+use Rattle.fx_rules.proofs.Plain.{only_one, no_total, no_settlement}
 use Rattle.fx_rules.proofs.Senders.{one_pair}
+use Rattle.credit_raise.specs.UnderWay.{is_change}
+use Rattle.credit_table.specs.Table.{is_of_no_pair}
 use Rattle.pair_host.specs.Standing.{HostState, StandsFor, stands}
 
 none_some : (pair : ℕ) → None ≡ Some pair → ⊥
@@ -35,6 +38,21 @@ changes_none (Cancel its number) pair other is differ = ne_eqb its other (λ sam
 changes_none (Reduce its number lots) pair other is differ = ne_eqb its other (λ same. differ (sym same ∙ one_pair its pair is))
 changes_none (Pull its) pair other is differ = ne_eqb its other (λ same. differ (sym same ∙ one_pair its pair is))
 changes_none (Line to asked) pair other is differ = absurd (none_some pair is)
+changes_none (Total asked) pair other is differ = absurd (none_some pair is)
+changes_none (Settle a b asked) pair other is differ = absurd (none_some pair is)
 changes_none (Show to) pair other is differ = refl
 changes_none (Book its) pair other is differ = refl
 changes_none (Bad reason) pair other is differ = refl
+
+-- what may be sent and is neither about one pair nor a credit change is about no pair
+pub told_by-table : (host : HostState) (bank : ℕ) (command : Command) → InSome (stands host) (MaySend bank command) → pair_of command ≡ None → is_change command ≡ false → is_of_no_pair command ≡ true
+told_by-table host bank (Order side its price lots life) some about other = cc
+told_by-table host bank (Cancel its number) some about other = cc
+told_by-table host bank (Reduce its number lots) some about other = cc
+told_by-table host bank (Pull its) some about other = cc
+told_by-table host bank (Line to asked) some about other = cc
+told_by-table host bank (Total asked) some about other = absurd (no_total some.0 bank asked (only_one some.0 some.2.session) some.4.allowed)
+told_by-table host bank (Settle a b asked) some about other = absurd (no_settlement some.0 bank a b asked (only_one some.0 some.2.session) some.4.allowed)
+told_by-table host bank (Show to) some about other = refl
+told_by-table host bank (Book its) some about other = cc
+told_by-table host bank (Bad reason) some about other = refl

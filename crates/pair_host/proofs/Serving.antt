@@ -2,7 +2,7 @@
 use Rattle.std.proofs.Common.{ℕ, ◌≡◌, ◌+◌, ◌<◌, true, false, List, [], length, get_or, set, Some, None, refl, ap, sym, subst, ◌∙◌, arith}
 use Rattle.std.proofs.lemmas.List.{length-set}
 use Rattle.fx_rules.specs.declared.command.Command.{Command}
-use Rattle.fx_rules.specs.declared.command.Command.TheVariants.{Order, Cancel, Reduce, Pull, Line, Show, Book as BookOf, Bad}
+use Rattle.fx_rules.specs.declared.command.Command.TheVariants.{Order, Cancel, Reduce, Pull, Line, Total, Settle, Show, Book as BookOf, Bad}
 use Rattle.fx_rules.specs.declared.orders.Fill.{Fill}
 use Rattle.fx_rules.specs.declared.outcome.Entry.{Entry}
 use Rattle.fx_rules.specs.declared.outcome.Outcome.{Outcome}
@@ -16,6 +16,7 @@ use Rattle.fx_rules.specs.Sound.{IsSound}
 use Rattle.fx_rules.specs.Market.{InSome, MaySend, GoesOn, next_entry}
 use Rattle.fx_rules.proofs.Soundness.{legal-sound, legal-push, after_all-push}
 use Rattle.fx_rules.proofs.RaiseSound.{limited-sound}
+use Rattle.fx_rules.proofs.Plain.{only_one, first-command, no_total, no_settlement}
 use Rattle.fx_rules.proofs.Staying.{other_pairs-stay}
 use Rattle.global_book.specs.Book.{Book}
 use Rattle.credit_lines.specs.Credit.{Credit}
@@ -31,7 +32,7 @@ use Rattle.pair_host.specs.Standing.{HostState, StandsFor, IsNextOf, FollowsOn, 
 use Rattle.pair_host.specs.inside.Books.{AreBooks, HaveOrders, EachBook, IsCarried, IsRecorded, PlansEach, host_of}
 use Rattle.pair_host.specs.inside.OnePair.{AreOf, MayServe, ServesEach, FollowsEach}
 use Rattle.pair_host.proofs.Holding.{BooksOf, books-of, stands-by, have-orders-set}
-use Rattle.fx_rules.proofs.Senders.{command-place, pair-within}
+use Rattle.fx_rules.proofs.Senders.{pair-within}
 use Rattle.pair_host.proofs.Sending.{changes_none}
 
 -- ---- from a step to the histories that it goes on
@@ -136,7 +137,7 @@ pub opens-change : (books : List Book) (table : Table) (bank : ℕ) (command : C
 opens-change books table bank command some changes =
     let h : Header = some.0 in
     let banks : table.lines.banks ≡ bank_count h = some.3.credit.lines.banks in
-    values-change h table.lines.banks bank command changes banks (omega (arith, banks, command-place h bank command some.2.session some.4.allowed)) some.4.allowed.values
+    values-change h table.lines.banks bank command changes banks (omega (arith, banks, first-command h bank command (only_one h some.2.session) some.4.allowed)) some.4.allowed.values
 
 -- what is told of a credit change that is planned in all pairs
 pub record IsPlanned (books : List Book) (table : Table) (change : Change) (bank : ℕ) (command : Command) (outcome : Outcome) : Type 0 where
@@ -241,6 +242,10 @@ recorded_orders h S bank (Pull pair) outcome old new session sound valid is abou
 recorded_orders h S bank (BookOf pair) outcome old new session sound valid is about orders recorded = absurd (some_none pair about)
 recorded_orders h S bank (Line other asked) outcome old new session sound valid is about orders recorded =
     line_recorded h S bank other asked outcome old new session sound valid is orders recorded
+recorded_orders h S bank (Total asked) outcome old new session sound valid is about orders recorded =
+    absurd (no_total h bank asked (only_one h session) valid)
+recorded_orders h S bank (Settle a b asked) outcome old new session sound valid is about orders recorded =
+    absurd (no_settlement h bank a b asked (only_one h session) valid)
 recorded_orders h S bank (Show other) outcome old new session sound valid is about orders recorded =
     none_recorded S old new (fills_of outcome) (ap fills_of is) orders recorded
 recorded_orders h S bank (Bad reason) outcome old new session sound valid is about orders recorded =

@@ -6,7 +6,7 @@ use mathlib.Core.Logic.{dite}
 use native.Mathlib.Decide.{ℕ_discrete, dec_lt}
 use borrow.Author.Tests.{lt-leb}
 use Rattle.fx_rules.specs.declared.command.Command.{Command}
-use Rattle.fx_rules.specs.declared.command.Command.TheVariants.{Order, Cancel, Reduce, Pull, Line, Show, Book, Bad}
+use Rattle.fx_rules.specs.declared.command.Command.TheVariants.{Order, Cancel, Reduce, Pull, Line, Total, Settle, Show, Book, Bad}
 use Rattle.fx_rules.specs.declared.orders.Fill.{Fill}
 use Rattle.fx_rules.specs.declared.outcome.Outcome.{Outcome}
 use Rattle.fx_rules.specs.declared.outcome.Entry.{Entry}
@@ -34,6 +34,8 @@ change_is_about (Order side pair price lots life) key is = cc
 change_is_about (Cancel pair number) key is = cc
 change_is_about (Reduce pair number lots) key is = cc
 change_is_about (Pull pair) key is = cc
+change_is_about (Total limit) key is = cc
+change_is_about (Settle a b units) key is = cc
 change_is_about (Show other) key is = cc
 change_is_about (Book pair) key is = cc
 change_is_about (Bad reason) key is = cc

@@ -2,11 +2,11 @@
 use Rattle.std.proofs.Common.{ℕ, ◌≡◌, ◌≢◌, ◌<◌, ◌^◌, ◌==◌, true, false, List, [], ◌∷◌, ◌++◌, Some, refl, ap, sym, subst, ◌∙◌, eq-eqb, ne_eqb, arith}
 use mathlib.Core.List.{IsPrefix}
 use Rattle.fx_rules.specs.declared.command.Command.{Command}
-use Rattle.fx_rules.specs.declared.command.Command.TheVariants.{Order, Cancel, Reduce, Pull, Line, Show, Book, Bad}
+use Rattle.fx_rules.specs.declared.command.Command.TheVariants.{Order, Cancel, Reduce, Pull, Line, Total, Settle, Show, Book, Bad}
 use Rattle.fx_rules.specs.declared.outcome.Outcome.{Outcome}
 use Rattle.fx_rules.specs.declared.outcome.Entry.{Entry}
-use Rattle.fx_rules.specs.Session.{Header, pair_count, sender_places}
-use Rattle.fx_rules.specs.Step.{AreValues, IsOutcome}
+use Rattle.fx_rules.specs.Session.{Header, pair_count}
+use Rattle.fx_rules.specs.Step.{IsCommand, IsOutcome}
 use Rattle.fx_rules.specs.History.{IsLegal, state, own}
 use Rattle.fx_rules.specs.Keyed.{pair_key, is_about, touches_key}
 use Rattle.fx_rules.proofs.Continuing.{legal-last}
@@ -39,6 +39,8 @@ about_pair (Reduce its number lots) pair is = about_this pair its is
 about_pair (Pull its) pair is = about_this pair its is
 about_pair (Book its) pair is = about_this pair its is
 about_pair (Line bank limit) pair is = cc
+about_pair (Total limit) pair is = cc
+about_pair (Settle a b units) pair is = cc
 about_pair (Show bank) pair is = cc
 about_pair (Bad reason) pair is = cc
 
@@ -49,19 +51,21 @@ about_other (Reduce its number lots) pair key is apart = about_its pair its key 
 about_other (Pull its) pair key is apart = about_its pair its key is apart
 about_other (Book its) pair key is apart = about_its pair its key is apart
 about_other (Line bank limit) pair key is apart = cc
+about_other (Total limit) pair key is apart = cc
+about_other (Settle a b units) pair key is apart = cc
 about_other (Show bank) pair key is apart = cc
 about_other (Bad reason) pair key is apart = cc
 
 -- ---- the entry that is prepared
 
 -- `first` is the credit book as the call began, `mid` once the sender is known
-pub prepared : (h : Header) (first mid : Recorded) (sender : Sender) (key : ℕ) (command : Command) (outcome copy : Outcome) → mid ≡ first → IsCreditBook h mid → IsNextIn (state h first.history.entries) sender → sender.bank ≡ key → sender.bank < sender_places h → sender.number < 2 ^ 32 → AreValues h key command
+pub prepared : (h : Header) (first mid : Recorded) (sender : Sender) (key : ℕ) (command : Command) (outcome copy : Outcome) → mid ≡ first → IsCreditBook h mid → IsNextIn (state h first.history.entries) sender → sender.bank ≡ key → sender.number < 2 ^ 32 → IsCommand h key command
     → IsOutcome h (state h mid.history.entries) sender.bank command outcome → copy ≡ outcome → IsPrepared h first.history.entries key command sender (entry_of sender command copy) outcome
-prepared h first mid sender key command outcome copy same kept next bank_is place most values is copied = record {
+prepared h first mid sender key command outcome copy same kept next bank_is most valid is copied = record {
   next = next;
   bank_is = bank_is;
   made_of = ap (entry_of sender command) copied;
-  legal = goes_on h first.history.entries sender key command outcome copy (subst (λ (b : Recorded). IsLegal h b.history.entries) same kept.legal) next bank_is place most values
+  legal = goes_on h first.history.entries sender key command outcome copy (subst (λ (b : Recorded). IsLegal h b.history.entries) same kept.legal) next bank_is most valid
       (subst (λ (b : Recorded). IsOutcome h (state h b.history.entries) sender.bank command outcome) same is) copied;
 }
 

@@ -2,7 +2,7 @@
 use Rattle.std.proofs.Common.{ℕ, ◌≡◌, ◌==◌, ◌||◌, nat_le, Bool, true, false, true≢false, List, [], ◌∷◌, ◌++◌, refl, ap, sym, subst, ◌∙◌, eq-eqb, ne_eqb, arith}
 use Rattle.std.proofs.lemmas.Bool.{le-leb}
 use Rattle.fx_rules.specs.declared.command.Command.{Command}
-use Rattle.fx_rules.specs.declared.command.Command.TheVariants.{Order, Cancel, Reduce, Pull, Line, Show, Book, Bad}
+use Rattle.fx_rules.specs.declared.command.Command.TheVariants.{Order, Cancel, Reduce, Pull, Line, Total, Settle, Show, Book, Bad}
 use Rattle.fx_rules.specs.declared.outcome.Entry.{Entry}
 use Rattle.fx_rules.specs.Lists.{Each}
 use Rattle.fx_rules.specs.Session.{Header, IsSession}
@@ -33,6 +33,8 @@ not_changed (Cancel its number) pair is = same_pair pair its is
 not_changed (Reduce its number lots) pair is = same_pair pair its is
 not_changed (Pull its) pair is = same_pair pair its is
 not_changed (Line bank limit) pair is = absurd (true≢false (sym (each_pair pair) ∙ is))
+not_changed (Total limit) pair is = absurd (true≢false (sym (each_pair pair) ∙ is))
+not_changed (Settle a b units) pair is = absurd (true≢false (sym (each_pair pair) ∙ is))
 not_changed (Show bank) pair is = refl
 not_changed (Book its) pair is = refl
 not_changed (Bad reason) pair is = refl

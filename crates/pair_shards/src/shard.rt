@@ -2,7 +2,7 @@ ghost use Rattle.std.specs.Prelude.{◌≡◌, ◌<◌, ◌+◌, ◌-◌, ◌^�
 ghost use Rattle.std.specs.Sync.Mutex.{mutex_guard_value};
 ghost use Rattle.fx_rules.specs.Session.{pair_count, sender_places};
 ghost use Rattle.fx_rules.specs.Keyed.{pair_key};
-ghost use Rattle.fx_rules.specs.Step.{AreValues, IsOutcome};
+ghost use Rattle.fx_rules.specs.Step.{IsCommand, IsOutcome};
 ghost use Rattle.fx_rules.specs.History.{own, state};
 ghost use Rattle.fx_chronicle.specs.Touching.{pends};
 ghost use Rattle.fx_chronicle.specs.Faces.{witness};
@@ -122,7 +122,7 @@ impl<N: Naming> Shard<N> {
         pass: &mut Pass<N>,
         command: &Command,
     ) -> Result<Outcome, Memory>
-        requires values { AreValues N.session pass.old.key command.now }
+        requires command { IsCommand N.session pass.old.key command.now }
         requires pair { pair_of command.now ≡ Some self.old.book.pair }
         requires few { length (own pass.old.key pass.old.met) < 2 ^ 32 - 1 }
         requires room { HasRoomFor self.old.book pass.old.key command.now }
@@ -157,7 +157,7 @@ impl<N: Naming> Shard<N> {
     ) -> Result<Prepared, Memory>
         requires signed { credit.old.history.pending ≡ [] }
         requires caught_up { self.now.front.seen ≡ credit.old.history.entries }
-        requires values { AreValues N.session pass.old.key command.now }
+        requires command { IsCommand N.session pass.old.key command.now }
         requires pair { pair_of command.now ≡ Some self.now.book.pair }
         requires few { length (own pass.old.key pass.old.met) < 2 ^ 32 - 1 }
         ensures prepared { IfOk result (λ prepared. IsPrepared N.session credit.old.history.entries pass.old.key command.now prepared.sender prepared.entry prepared.outcome) }

@@ -4,7 +4,7 @@ use Rattle.std.proofs.lemmas.Bool.{cases_Bool, cond_both, cond-true, cond-false,
 use Rattle.std.specs.List.{filter}
 use Rattle.fx_amounts.specs.declared.side.Side.{Side}
 use Rattle.fx_rules.specs.declared.command.Command.{Command}
-use Rattle.fx_rules.specs.declared.command.Command.TheVariants.{Order, Cancel, Reduce, Pull, Line}
+use Rattle.fx_rules.specs.declared.command.Command.TheVariants.{Order, Cancel, Reduce, Pull, Line, Total, Settle}
 use Rattle.fx_rules.specs.declared.command.Life.{Life}
 use Rattle.fx_rules.specs.declared.command.Life.TheVariants.{Day, Ioc, Fok}
 use Rattle.fx_rules.specs.declared.orders.ActiveOrder.{ActiveOrder}
@@ -151,6 +151,8 @@ steps_follow S sender pair (Pull its) (Pulled count) orders rising next is pair_
     ∙ orders_in-filter pair (λ (o : Resting). not (is_of sender.bank o)) (λ (a : ActiveOrder). not (eqb a.pair its && eqb a.order.bank sender.bank)) S.orders
     (λ a here. ap (λ (b : Bool). not (b && eqb a.order.bank sender.bank)) (eq-eqb a.pair its (here ∙ sym same)))
 steps_follow S sender pair (Line other asked) outcome orders rising next is pair_is = absurd (none_some pair pair_is)
+steps_follow S sender pair (Total asked) outcome orders rising next is pair_is = absurd (none_some pair pair_is)
+steps_follow S sender pair (Settle a b asked) outcome orders rising next is pair_is = absurd (none_some pair pair_is)
 steps_follow S sender pair command outcome orders rising next is pair_is = is
 
 pub follows : (old new : Book) (sender : Sender) (command : Command) (outcome : Outcome) → pair_of command ≡ Some old.pair → new.pair ≡ old.pair → new.orders ≡ orders_after sender command outcome old.orders → FollowsOn old new sender command outcome

@@ -92,7 +92,11 @@ fn counted_answer<L: Ledger>(
             count: count_of(book, sender.bank, &mut steps),
         }),
         Command::Book { .. } => depth(alloc, book, lines, weight, sender.bank),
-        Command::Line { .. } | Command::Show { .. } | Command::Bad { .. } => unreachable!(),
+        Command::Line { .. }
+        | Command::Total { .. }
+        | Command::Settle { .. }
+        | Command::Show { .. }
+        | Command::Bad { .. } => unreachable!(),
     }
 }
 

@@ -78,8 +78,12 @@ fn change(book: &mut PairBook, sender: &Sender, command: &Command, outcome: &Out
         Command::Pull { .. } => {
             book.pull(sender.bank);
         }
-        Command::Line { .. } | Command::Show { .. } | Command::Book { .. } | Command::Bad { .. } =>
-            {}
+        Command::Line { .. }
+        | Command::Total { .. }
+        | Command::Settle { .. }
+        | Command::Show { .. }
+        | Command::Book { .. }
+        | Command::Bad { .. } => {}
     }
 }
 

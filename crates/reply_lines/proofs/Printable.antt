@@ -2,11 +2,11 @@
 use Rattle.std.proofs.Common.{ℕ, ◌<◌, ◌≡◌, ltb, List, [], ◌∷◌, ◌++◌, sym, subst, Option, Some, None}
 use Rattle.std.proofs.lemmas.Bool.{cond_both}
 use Rattle.fx_rules.specs.declared.command.Command.{Command}
-use Rattle.fx_rules.specs.declared.command.Command.TheVariants.{Order, Cancel, Reduce, Pull, Line, Show, Book, Bad}
+use Rattle.fx_rules.specs.declared.command.Command.TheVariants.{Order, Cancel, Reduce, Pull, Line, Total, Settle, Show, Book, Bad}
 use Rattle.fx_rules.specs.declared.command.Life.{Life}
 use Rattle.fx_rules.specs.declared.command.Life.TheVariants.{Day, Ioc, Fok}
 use Rattle.fx_rules.specs.declared.outcome.Outcome.{Outcome}
-use Rattle.fx_rules.specs.declared.outcome.Outcome.TheVariants.{Ordered, Killed, Reduced, NotLess, LineSet, Depth}
+use Rattle.fx_rules.specs.declared.outcome.Outcome.TheVariants.{Ordered, Killed, Reduced, NotLess, LineSet, TotalSet, Settled, Depth}
 use Rattle.fx_rules.specs.declared.outcome.Entry.{Entry}
 use Rattle.fx_rules.specs.declared.orders.Fill.{Fill}
 use Rattle.fx_rules.specs.declared.orders.Resting.{Resting}
@@ -20,7 +20,7 @@ use Rattle.fx_rules.specs.Sound.{IsSound}
 use Rattle.fx_rules.specs.inside.Trade.{IsTrade}
 use Rattle.fx_rules.proofs.ListLemmas.{Each-weaker}
 use Rattle.fx_rules.proofs.Continuing.{legal-last}
-use Rattle.fx_rules.proofs.Senders.{suits-sender}
+use Rattle.fx_rules.proofs.Plain.{only_one, first-command}
 use Rattle.fx_rules.proofs.Soundness.{legal-sound}
 use Rattle.fx_rules.proofs.Trading.{step-trades}
 use Rattle.reply_lines.specs.Prints.{IsAnswerOf, IsFillOf}
@@ -49,6 +49,14 @@ raised-answer : (h : Header) (S : State) (bank other asked : ℕ) (outcome : Out
 raised-answer h S bank other asked (LineSet limit fills) is = tt
 raised-answer h S bank other asked outcome is = absurd is
 
+total-answer : (h : Header) (S : State) (bank asked : ℕ) (outcome : Outcome) → IsOutcome h S bank (Total asked) outcome → IsAnswerOf h (Total asked) outcome
+total-answer h S bank asked (TotalSet most fills) is = tt
+total-answer h S bank asked outcome is = absurd is
+
+settle-answer : (h : Header) (S : State) (sender a b asked : ℕ) (outcome : Outcome) → IsOutcome h S sender (Settle a b asked) outcome → IsAnswerOf h (Settle a b asked) outcome
+settle-answer h S sender a b asked (Settled given fills) is = tt
+settle-answer h S sender a b asked outcome is = absurd is
+
 book-answer : (h : Header) (S : State) (bank pair : ℕ) (outcome : Outcome) → pair < pair_count h → IsOutcome h S bank (Book pair) outcome → IsAnswerOf h (Book pair) outcome
 book-answer h S bank pair (Depth bids asks) within is = within
 book-answer h S bank pair outcome within is = absurd is
@@ -61,6 +69,8 @@ outcome-answer h S bank (Reduce pair number lots) outcome valid is =
     answer_plain h (Reduce pair number lots) outcome (reduce_answer lots (order_of S pair bank number)) is (reduce-answer h (Reduce pair number lots) lots (order_of S pair bank number))
 outcome-answer h S bank (Pull pair) outcome valid is = answer_plain h (Pull pair) outcome _ is tt
 outcome-answer h S bank (Line other asked) outcome valid is = raised-answer h S bank other asked outcome is
+outcome-answer h S bank (Total asked) outcome valid is = total-answer h S bank asked outcome is
+outcome-answer h S bank (Settle a b asked) outcome valid is = settle-answer h S bank a b asked outcome is
 outcome-answer h S bank (Show other) outcome valid is = answer_plain h (Show other) outcome _ is tt
 outcome-answer h S bank (Book pair) outcome valid is = book-answer h S bank pair outcome valid is
 outcome-answer h S bank (Bad reason) outcome valid is = answer_plain h (Bad reason) outcome _ is tt
@@ -71,7 +81,7 @@ fill-of h fill is = record { pair = is.pair; taker = is.taker; maker = is.maker 
 -- an entry that is a step of a sound state
 pub step-prints : (h : Header) (S : State) (e : Entry) → IsSession h → IsSound h S → IsStep h S e → IsEntryOf h e
 step-prints h S e session sound step = record {
-  sender = suits-sender h e.bank e.command step.command.sends;
+  sender = first-command h e.bank e.command (only_one h session) step.command;
   command = step.command;
   answer = outcome-answer h S e.bank e.command e.outcome step.command.values step.outcome;
   fills = Each-weaker (IsTrade h) (IsFillOf h) (fill-of h) (fills_of e.outcome) (step-trades h S e session sound step);

@@ -11,7 +11,7 @@ use Rattle.fx_rules.specs.declared.orders.Fill.{Fill}
 use Rattle.fx_rules.specs.declared.orders.Level.{Level}
 use Rattle.fx_rules.specs.declared.outcome.Entry.{Entry}
 use Rattle.fx_rules.specs.declared.outcome.Outcome.{Outcome}
-use Rattle.fx_rules.specs.declared.outcome.Outcome.TheVariants.{Ordered, Killed, Cancelled, Reduced, NotLess, Nothing, Pulled, LineSet, Shown, Depth, Rejected}
+use Rattle.fx_rules.specs.declared.outcome.Outcome.TheVariants.{Ordered, Killed, Cancelled, Reduced, NotLess, Nothing, Pulled, LineSet, TotalSet, Settled, Shown, Depth, Rejected}
 use Rattle.fx_rules.specs.Reject.{code_of}
 use Rattle.fx_rules.specs.Session.{Header, bank_name, decimals_of, pair_name}
 use Rattle.fx_rules.specs.Step.{fills_of}
@@ -51,7 +51,7 @@ abbrev pub book_fields : Header → ℕ → List Level → List Level → List (
 book_fields h pair bids asks =
     pair_name h pair ∷ codes "BIDS" ∷ level_fields (decimals_of h pair) bids ++ codes "ASKS" ∷ level_fields (decimals_of h pair) asks
 
--- the fields of a reply: what came of the command, and of a credit change the limit alone
+-- the fields of a reply: what came of the command, and of a credit change what was set or given back alone
 abbrev pub reply_fields : Header → Command → Outcome → List (List ℕ)
 reply_fields h command (Ordered done rests fills) = codes "ORDERED" ∷ numeral done ∷ numeral rests ∷ []
 reply_fields h command Killed = codes "KILLED" ∷ []
@@ -61,6 +61,8 @@ reply_fields h command (NotLess left) = codes "NOTLESS" ∷ numeral left ∷ []
 reply_fields h command Nothing = codes "NOTHING" ∷ []
 reply_fields h command (Pulled count) = codes "PULLED" ∷ numeral count ∷ []
 reply_fields h command (LineSet limit fills) = codes "LIMIT" ∷ numeral limit ∷ []
+reply_fields h command (TotalSet most fills) = codes "TOTAL" ∷ numeral most ∷ []
+reply_fields h command (Settled given fills) = codes "SETTLED" ∷ numeral given ∷ []
 reply_fields h command (Shown limit spent eff) = codes "SHOWN" ∷ numeral limit ∷ numeral spent ∷ numeral eff ∷ []
 reply_fields h command (Depth bids asks) = codes "BOOK" ∷ book_fields h (booked_pair command) bids asks
 reply_fields h command (Rejected reason) = codes "BAD" ∷ numeral (code_of reason) ∷ []

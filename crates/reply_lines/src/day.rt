@@ -18,7 +18,6 @@ use fx_amounts::Memory;
 use fx_edges::{Pieces, Sink, SinkFault};
 use fx_rules::{Entry, Market, Session};
 use fx_text::LineText;
-use market_run::{Observer, Run};
 use std::alloc::Global;
 
 /// What the output tells of a day so far: the journal's lines, each bank's desk, and the sums over the fills. It keeps no entry.
@@ -193,31 +192,6 @@ impl DayText {
         write_closing(session, market, &found, line, pieces, out)
     }
 }
-
-/// Each entry is told in the text while it lies in the cache, and left whole. Where memory runs out the text may have a part of it.
-impl Observer for DayText {
-    type Left = Entry;
-
-    ghost told = { IsTextOf };
-
-    ghost is_ready = { λ _. Unit {0} };
-
-    ghost leaves = { λ left entry. left ≡ entry };
-
-    ghost may_break = { Unit {0} };
-
-    fn make_ready(&mut self) -> Result<(), Memory> {
-        Ok(())
-    }
-
-    fn tell(&mut self, session: &Session, entry: Entry) -> Result<Entry, Memory> {
-        self.add(session, &entry)?;
-        Ok(entry)
-    }
-}
-
-/// A market on one thread, and what the output tells of the day that it has served so far. No entry is kept.
-pub type DayRun<M> = Run<M, DayText>;
 
 /// Writes a journal of so many lines.
 fn write_journal_text<K: Sink>(

@@ -15,7 +15,7 @@ mod report;
 mod row;
 mod telling;
 
-pub use day::{DayRun, DayText, write_output_from};
+pub use day::{DayText, write_output_from};
 pub use day_notices::DayNotices;
 pub use desk::NoticeDesk;
 pub use journal::JournalText;

@@ -68,7 +68,9 @@ fn push_outcome(outcome: &Outcome, line: &mut LineText)
         Outcome::NotLess { left } => push_count(b"NOTLESS", *left, line),
         Outcome::Nothing => line.push_field(b"NOTHING"),
         Outcome::Pulled { count } => push_count(b"PULLED", *count, line),
-        Outcome::LineSet { limit, .. } => push_units(b"LIMIT", *limit, line),
+        Outcome::LineSet { limit, .. } => push_units(b"LIMIT", limit.get(), line),
+        Outcome::TotalSet { limit, .. } => push_units(b"TOTAL", *limit, line),
+        Outcome::Settled { given, .. } => push_units(b"SETTLED", given.get(), line),
         Outcome::Shown { limit, used, eff } => push_line(*limit, *used, *eff, line),
         Outcome::Depth { .. } => {}
         Outcome::Rejected { reason } => push_count(b"BAD", u32::from(reason.code()), line),
@@ -97,13 +99,13 @@ fn push_counts(word: &[u8], first: u32, second: u32, line: &mut LineText)
 }
 
 /// Appends a word and credit units.
-fn push_units(word: &[u8], units: Units, line: &mut LineText)
+fn push_units(word: &[u8], units: u64, line: &mut LineText)
     requires { length word.now ≤ 20 }
     ensures text { line.new ≡ take 256 (line.old ++ fields_text (word.now ∷ numeral units ∷ [])) }
     ensures few { length (fields_text (word.now ∷ numeral units ∷ [])) ≤ 84 }
 {
     line.push_field(word);
-    line.push_number_field(units.get());
+    line.push_number_field(units);
 }
 
 /// Appends a limit, what is used, and the line between two banks.

@@ -11,6 +11,8 @@ use Rattle.fx_rules.specs.Lists.{below}
 use Rattle.fx_rules.specs.Names.{is_name}
 use Rattle.fx_rules.specs.Session.{Header, IsSession, IsPairRule, AreSamePair}
 use Rattle.fx_rules.specs.declared.session.PairRule.{PairRule}
+use Rattle.std.specs.Prelude.{IfSome}
+use Rattle.fx_rules.proofs.Plain.{first-known}
 use Rattle.fx_rules.proofs.Below.{map-more, length-map_below, get_or_below, all-below}
 use Rattle.session_head.specs.Draft.{Draft, limit_place, no_limits, square, header_of}
 use Rattle.session_head.specs.inside.Draft.{IsDraft}
@@ -141,12 +143,16 @@ IsSession-header_of d valid two one = record {
   limits_full = length-map_below (λ at. slice_index d.limits (limit_place (at / length d.banks) (at % length d.banks))) (length d.banks * length d.banks);
   limits_most = all-below (λ limit. limit ≤ 1000000000000000) (λ at. slice_index d.limits (limit_place (at / length d.banks) (at % length d.banks))) (length d.banks * length d.banks) (λ at within. any_at_most d.limits valid.limits_most _);
   own_limits = λ i within. square-at (length d.banks) d.limits i i within within ∙ valid.own_limits i (omega (arith, valid.banks_most));
+  version_least = omega arith;
+  version_most = first-known;
+  totals_full = refl;
+  totals_most = All-nil (λ most. IfSome most (λ units. units ≤ 1000000000000000));
 }
 
 -- the session that is built of a draft's parts
 pub session_built : (d inside : Draft) (banks : List (List ℕ)) (pairs : List PairRule) (limits : List ℕ) → IsDraft inside → inside ≡ d → 2 ≤ length d.banks → 1 ≤ length d.pairs
     → banks ≡ inside.banks → pairs ≡ inside.pairs → limits ≡ square (length inside.banks) inside.limits
-    → IsSession (record { banks = banks; pairs = pairs; limits = limits })
+    → IsSession (record { version = 1; banks = banks; pairs = pairs; limits = limits; totals = [] })
 session_built d inside banks pairs limits valid same two one banks_are pairs_are limits_are =
     rw (banks_are, pairs_are, limits_are)
     (IsSession-header_of inside valid (subst (λ (x : Draft). 2 ≤ length x.banks) (sym same) two) (subst (λ (x : Draft). 1 ≤ length x.pairs) (sym same) one))

@@ -1,5 +1,5 @@
 -- A session's header is read back from its lines.
-use Rattle.std.proofs.Common.{◌≡◌, ◌≢◌, ℕ, zero, suc, ◌+◌, ◌*◌, ◌/◌, ◌%◌, ◌<◌, ◌≤◌, List, [], ◌∷◌, ◌++◌, length, map, flat_map, replicate, get_or, slice_index, slice_set, codes, Some, Ok, refl, sym, ap, ◌∙◌, subst, arith, IsTrue, inl, inr, nat_lt, append_assoc, append-nil, length-append}
+use Rattle.std.proofs.Common.{◌≡◌, ◌≢◌, ℕ, zero, suc, ◌+◌, ◌*◌, ◌/◌, ◌%◌, ◌<◌, ◌≤◌, List, [], ◌∷◌, ◌++◌, length, map, flat_map, replicate, get_or, slice_index, slice_set, codes, Option, Some, Ok, refl, sym, ap, ◌∙◌, subst, arith, IsTrue, inl, inr, nat_lt, append_assoc, append-nil, length-append}
 use Rattle.std.specs.List.{All, AllPairs, join_with_byte}
 use Rattle.std.proofs.lemmas.Bool.{cases_eq, cases_Bool, cond-true, cond-false}
 use Rattle.std.proofs.lemmas.Bool.Decides.{nat_tests}
@@ -18,6 +18,7 @@ use Rattle.fx_rules.specs.Session.{Header, IsSession, IsPairRule, AreSamePair, b
 use Rattle.fx_rules.specs.declared.session.PairRule.{PairRule}
 use Rattle.fx_rules.specs.Lists.{Each, below}
 use Rattle.fx_rules.proofs.ListLemmas.{Each-append}
+use Rattle.fx_rules.proofs.Plain.{only_one, first-totals}
 use Rattle.fx_rules.proofs.Below.{length-map_below, get_or_below, flat_map-suc}
 use Rattle.session_head.specs.Draft.{Draft, empty_draft, no_limits, limit_place, square}
 use Rattle.session_head.specs.inside.Draft.{IsDraft}
@@ -323,7 +324,10 @@ starts n h session =
     let can : CanState (with_limits h rows.after) statements.Start = (session.banks_least, session.pairs_least) in
     let read_last : with_lines (Drafting rows.leads.count (with_limits h rows.after)) (lines_for h.banks last) ≡ Started (next rows.leads.count) h =
     line_read rows.leads.count (with_limits h rows.after) statements.Start rows.leads.valid can
-    ∙ ap (λ (limits : List ℕ). Started (next rows.leads.count) (record { banks = h.banks; pairs = h.pairs; limits = limits })) table_is in
+    ∙ ap (λ (limits : List ℕ). Started (next rows.leads.count) (record { version = 1; banks = h.banks; pairs = h.pairs; limits = limits; totals = [] })) table_is
+    ∙ ap (λ (v : ℕ). Started (next rows.leads.count) (record { version = v; banks = h.banks; pairs = h.pairs; limits = h.limits; totals = [] })) (sym (only_one h session))
+    ∙ ap (λ (totals : List (Option ℕ)). Started (next rows.leads.count) (record { version = h.version; banks = h.banks; pairs = h.pairs; limits = h.limits; totals = totals }))
+    (sym (first-totals h session (only_one h session))) in
     let all : Leads n h.banks empty_draft (named ++ paired ++ limited) (with_limits h rows.after) = record {
       count = rows.leads.count;
       leads = lead_on n h.banks empty_draft (with_limits h no_limits) (named ++ paired) limited front ∙ rows.leads.leads;

@@ -25,6 +25,6 @@ empty_draft = record { banks = []; pairs = []; limits = no_limits }
 abbrev pub square : ℕ → List ℕ → List ℕ
 square banks limits = map (λ at. slice_index limits (limit_place (at / banks) (at % banks))) (below (banks * banks))
 
--- the header that a draft declares
+-- the header that a draft declares, of version 1
 abbrev pub header_of : Draft → Header
-header_of d = record { banks = d.banks; pairs = d.pairs; limits = square (length d.banks) d.limits }
+header_of d = record { version = 1; banks = d.banks; pairs = d.pairs; limits = square (length d.banks) d.limits; totals = [] }

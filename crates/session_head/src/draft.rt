@@ -107,7 +107,9 @@ impl Draft {
     }
 
     fn set_limit(&mut self, from: BankId, to: BankId, limit: Units)
-        requires { from ≢ to }
+        requires row { from < length self.old.banks }
+        requires column { to < length self.old.banks }
+        requires apart { from ≢ to }
         ensures { self.new ≡ record self.old { limits = slice_set self.old.limits (limit_place from to) limit } }
     {
         self.limits[ROW * from.index() + to.index()] = limit;

@@ -33,7 +33,7 @@ same_session {h = h} g has is = some_header g h (sym is ∙ has.session)
 
 -- the session of a reading, or one without banks where it has none yet
 abbrev pub header_or_none : Option Header → Header
-header_or_none None = record { banks = []; pairs = []; limits = [] }
+header_or_none None = record { version = 1; banks = []; pairs = []; limits = []; totals = [] }
 header_or_none (Some h) = h
 
 pub header_same : (session : Option Header) (h : Header) → session ≡ Some h → h ≡ header_or_none session

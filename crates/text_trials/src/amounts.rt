@@ -20,11 +20,12 @@ fn amounts_know_their_ranges(rt: HostRuntime) {
         ("the most lots", most.count() == 1_000_000),
         ("too many units", Units::new(1_000_000_000_000_001) == None),
         ("no units", Units::new(0).map(Units::get) == Some(0)),
-        ("too many banks", BankId::new(64) == None),
+        ("too many senders", BankId::new(65) == None),
         (
             "the last bank",
             BankId::new(63).map(BankId::index) == Some(63),
         ),
+        ("the operator", BankId::new(64) == Some(BankId::HOST)),
         ("too many pairs", PairId::new(32) == None),
         (
             "the last pair",

@@ -12,12 +12,12 @@ use Rattle.fx_rules.specs.declared.command.Command.{Command}
 use Rattle.fx_rules.specs.declared.command.Sent.{Sent}
 use Rattle.fx_rules.specs.declared.outcome.Entry.{Entry}
 use Rattle.fx_rules.specs.Lists.{Among, Each}
-use Rattle.fx_rules.specs.Session.{Header, IsSession, sender_places}
+use Rattle.fx_rules.specs.Session.{Header, IsSession, bank_count, sender_places}
 use Rattle.fx_rules.specs.Sending.{IsSentOf}
 use Rattle.fx_rules.specs.State.{State, opening}
 use Rattle.fx_rules.specs.Step.{IsCommand}
 use Rattle.fx_rules.specs.History.{Steps, IsLegal, after_entry, own}
-use Rattle.fx_rules.proofs.Senders.{command-place}
+use Rattle.fx_rules.proofs.Senders.{bank-sender, command-place, sender-place}
 use Rattle.fx_rules.proofs.ListLemmas.{Each-append, Each-weaker, filter_cons_true, filter_cons_false}
 use Rattle.fx_chronicle.specs.Faces.{Witness, witness}
 use Rattle.fx_desk.specs.Submitting.{IsWholeOf}
@@ -159,8 +159,14 @@ next-numbers h more was now n d can filled within =
     let as_many : length (mine_of lane.pass) ≡ length (stream_of n can.sent) = sym (length-map (mine_of lane.pass) (λ (e : Entry). e.command)) ∙ ap (λ (cs : List Command). length cs) its.commands in
     subst (λ (l : Lane (Witness Entry)). l.sent + l.done < 2 ^ 32) (sym lane_is) (omega (arith, its.counted, as_many, stream_shorter n can.sent, can.few))
 
+-- the first bank has a place
+pub some-places : (h : Header) → IsSession h → 0 < sender_places h
+some-places h session =
+    let first : 0 < bank_count h = omega (arith, session.banks_least) in
+    sender-place h 0 session (bank-sender h 0 first)
+
 pub some-lanes : (h : Header) (more : List Sent) (was now : List (Lane (Witness Entry))) → CanServe h was more → AreFilled more was now → 0 < length now
-some-lanes h more was now can filled = omega (arith, filled.long, can.served.all, can.served.session.banks_least)
+some-lanes h more was now can filled = omega (arith, filled.long, can.served.all, some-places h can.served.session)
 
 -- ---- the lanes of a round that is done
 

@@ -23,7 +23,7 @@ use Rattle.fx_desk.proofs.Streams.{streams-length}
 use Rattle.gateway_workers.specs.declared.lane.Lane.{Lane}
 use Rattle.gateway_workers.specs.Lanes.{LaneRan}
 use Rattle.threaded_run.proofs.Making.{some_is, set_here, set_there, Each-at}
-use Rattle.threaded_run.proofs.Closing.{no_lane, came_back, key_of, seen_by, mine_of, streams-of}
+use Rattle.threaded_run.proofs.Closing.{no_lane, came_back, key_of, seen_by, mine_of, some-places, streams-of}
 use Rattle.threaded_run.specs.Lanes.{HaveServed, IsLaneOf}
 use Rattle.threaded_run.specs.Gathering.{HasSeen, HaveGathered, HaveGatheredAll}
 use Rattle.threaded_run.specs.inside.Lanes.{AreFilled, next_lane}
@@ -188,7 +188,7 @@ gathered-served h sent history was now served gathered = still-served h sent was
 
 -- the first lane is one
 pub some-lane : (h : Header) (sent : List Sent) (lanes : List (Lane (Witness Entry))) → HaveServed h sent lanes → 0 < length lanes
-some-lane h sent lanes served = omega (arith, served.all, served.session.banks_least)
+some-lane h sent lanes served = omega (arith, served.all, some-places h served.session)
 
 pub gathered-all : (h : Header) (sent : List Sent) (so_far history : List Entry) (count : ℕ) (was now : List (Lane (Witness Entry))) → HaveServed h sent was → HaveGathered so_far count was → AreGathered h history was now
     → (so_far ++ drop count history ≡ history) × HaveGatheredAll h sent history (length history) now

@@ -15,7 +15,7 @@ use Rattle.fx_rules.specs.Lists.{Each}
 use Rattle.fx_rules.specs.Session.{Header}
 use Rattle.fx_rules.specs.Sending.{IsSentOf, sent_by}
 use Rattle.fx_rules.specs.State.{State, opening}
-use Rattle.fx_rules.specs.Step.{IsCommand, AreValues}
+use Rattle.fx_rules.specs.Step.{IsCommand}
 use Rattle.fx_rules.specs.History.{Steps, IsLegal, after_entry, own}
 use Rattle.fx_rules.proofs.Continuing.{histories_agree}
 use Rattle.fx_rules.proofs.ListLemmas.{Each-append}
@@ -190,8 +190,8 @@ module _ (h : Header) (entries note : List Entry) (n : ℕ) (e : Entry) (lanes :
     lane_of : IsLaneOf place (map sent_by (take n entries)) lane
     lane_of = re.served.each place lane (slice_get-get_or lanes place d (omega (arith, place-within, place_is)))
 
-    pub next-values : AreValues h lane.pass.key e.command
-    next-values = subst (λ (k : ℕ). AreValues h k e.command) (sym (lane_of.key_is ∙ place_is)) (next-may h entries n e legal within e_is).values
+    pub next-command : IsCommand h lane.pass.key e.command
+    next-command = subst (λ (k : ℕ). IsCommand h k e.command) (sym (lane_of.key_is ∙ place_is)) (next-may h entries n e legal within e_is)
 
     pub next-counted : lane.sent + lane.done ≡ length (own lane.pass.key lane.pass.met)
     next-counted = lane_of.counted

@@ -1,7 +1,7 @@
 //! Entries that are kept, submitted again.
 ghost use Rattle.std.specs.Prelude.{◌≡◌, ◌+◌, ◌-◌, ◌^◌, ◌<◌, [], length, List, IfOk, OnOk};
 ghost use Rattle.fx_rules.specs.declared.outcome.Entry.{Entry as HistoryEntry};
-ghost use Rattle.fx_rules.specs.Step.{AreValues};
+ghost use Rattle.fx_rules.specs.Step.{IsCommand};
 ghost use Rattle.fx_rules.specs.History.{IsLegal, own};
 ghost use Rattle.threaded_run.specs.Lanes.{HaveServed};
 ghost use Rattle.threaded_run.specs.Gathering.{HaveGathered};
@@ -46,7 +46,7 @@ fn submit_behind<N: Naming + Send, R: Wait>(
     note: Note<N>,
     command: &Command,
 ) -> Result<Note<N>, Memory>
-    requires values { AreValues N.session lane.old.pass.key command.now }
+    requires command { IsCommand N.session lane.old.pass.key command.now }
     requires counted { lane.old.sent + lane.old.done ≡ length (own lane.old.pass.key lane.old.pass.met) }
     requires few { length (own lane.old.pass.key lane.old.pass.met) < 2 ^ 32 - 1 }
     ensures submitted { OnOk result (HasSubmitted note command.now lane.old lane.new) }

@@ -43,6 +43,20 @@ pub fn is_same(one: &Outcome, other: &Outcome) -> bool {
             } => limit == other_limit && fills.as_slice() == other_fills.as_slice(),
             _ => false,
         },
+        Outcome::TotalSet { limit, fills } => match other {
+            Outcome::TotalSet {
+                limit: other_limit,
+                fills: other_fills,
+            } => limit == other_limit && fills.as_slice() == other_fills.as_slice(),
+            _ => false,
+        },
+        Outcome::Settled { given, fills } => match other {
+            Outcome::Settled {
+                given: other_given,
+                fills: other_fills,
+            } => given == other_given && fills.as_slice() == other_fills.as_slice(),
+            _ => false,
+        },
         Outcome::Depth { bids, asks } => match other {
             Outcome::Depth {
                 bids: other_bids,

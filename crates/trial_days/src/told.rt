@@ -16,6 +16,8 @@ pub fn tell(session: &Session, outcome: &Outcome, text: &mut Vec<u8>) -> Result<
             text,
         )?,
         Outcome::LineSet { limit, .. } => say(b"LIMIT", &[limit.get()], text)?,
+        Outcome::TotalSet { limit, .. } => say(b"TOTAL", &[*limit], text)?,
+        Outcome::Settled { given, .. } => say(b"SETTLED", &[given.get()], text)?,
         Outcome::Depth { bids, asks } => {
             say(b"BOOK BIDS", &[], text)?;
             tell_levels(bids.as_slice(), text)?;

@@ -19,13 +19,13 @@ rows_from entries bank (suc count) = rows_in entries bank ∷ rows_from entries 
 abbrev pub rows_of : List (ℕ × OwnRows) → ℕ → List OwnRows
 rows_of entries banks = rows_from entries 0 banks
 
--- Each number is the place of its bank among the owners. The owners are some of so many banks, 64 at most, and as many more fit
+-- Each number is the place of its bank among the owners. The owners are some of so many banks, 65 at most, and as many more fit
 -- without memory as have no number.
 pub record AreNumbered (banks : ℕ) (numbers : List (Option ℕ)) (entries : List (ℕ × OwnRows)) (spare : ℕ) : Type 0 where
-  pub few : banks ≤ 64
-  pub size : length numbers ≡ 64
-  pub named : (bank number : ℕ) → bank < 64 → slice_index_or numbers bank None ≡ Some number → slice_get (keys_of entries) number ≡ Some bank
-  pub unnamed : (bank : ℕ) → bank < 64 → slice_index_or numbers bank None ≡ None → lookup (nat_eq bank) entries ≡ None
+  pub few : banks ≤ 65
+  pub size : length numbers ≡ 65
+  pub named : (bank number : ℕ) → bank < 65 → slice_index_or numbers bank None ≡ Some number → slice_get (keys_of entries) number ≡ Some bank
+  pub unnamed : (bank : ℕ) → bank < 65 → slice_index_or numbers bank None ≡ None → lookup (nat_eq bank) entries ≡ None
   pub apart : IsDistinct nat_eq (keys_of entries)
   pub below : (bank : ℕ) → list_any (nat_eq bank) (keys_of entries) ≡ true → bank < banks
   pub room : banks ≤ length entries + spare

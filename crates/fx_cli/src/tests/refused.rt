@@ -184,6 +184,7 @@ fn refused_history<N: Naming + Send + Sync, R: AllocGlobal + Threads + Wait + Sy
     requires table { blank.table ≡ N.table }
     requires keys { blank.keys ≡ 65 }
     requires session { session.now ≡ N.session }
+    requires valid { IsSession session.now }
     requires banks { bank_count session.now ≡ 2 }
 {
     let alloc = rt.alloc();

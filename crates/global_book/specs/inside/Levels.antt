@@ -78,7 +78,7 @@ lots_where test (slot ∷ slots) = slot_lots test slot + lots_where test slots
 
 -- the levels have the lots of the orders that are kept, 1 to 10^6 of each
 pub record AreLevelled (banks : ℕ) (orders : Orders) (levels : List LevelSides) : Type 0 where
-  pub count : length levels ≡ min banks 64
+  pub count : length levels ≡ min banks 65
   pub lots : (bank : ℕ) (side : Side) (price : ℕ)
       → lots_of (levels_at levels bank side).levels price ≡ lots_where (is_level (opposite side) bank price) orders.slots
   pub left : (key : ℕ) (order : Resting) → order_at orders key ≡ Some order → (1 ≤ order.left) × (order.left ≤ 10 ^ 6)

@@ -57,14 +57,14 @@ IsOwnRow bank side = IsRow (is_own bank side) side
 -- all that a book keeps: the orders, and for each bank a row of either side
 pub record IsKept (banks : ℕ) (orders : Orders) (own : List OwnRows) : Type 0 where
   pub resting : AreResting (length own) orders
-  pub banks_are : length own ≡ min banks 64
+  pub banks_are : length own ≡ min banks 65
   pub own_are : (bank : ℕ) (side : Side) → bank < length own → IsOwnRow bank side orders (row_at own bank side)
 
--- the same, and the levels of each bank and side; the orders are those of so many banks, 64 at most
+-- the same, and the levels of each bank and side; the orders are those of so many senders, 65 at most
 pub record IsStored (banks : ℕ) (orders : Orders) (own : List OwnRows) (levels : List LevelSides) : Type 0 where
   pub kept : IsKept banks orders own
   pub levelled : AreLevelled banks orders levels
-  pub of_banks : length orders.room ≡ min banks 64
+  pub of_banks : length orders.room ≡ min banks 65
 
 -- how many buys and sells of a bank can come to rest, which has so many places for orders, and these rows and levels
 abbrev pub room_in : ℕ → OwnRows → LevelSides → ℕ × ℕ

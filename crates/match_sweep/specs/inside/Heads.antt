@@ -74,7 +74,7 @@ first_open book credit weight t = open_behind (λ bank. line_in credit t.bank ba
 
 -- of these banks those are marked of which something may be taken, the taker's own not, and the best head of all is found
 pub record IsOpening (book : Book) (credit : Credit) (weight : ℕ) (t : Taker) (banks : List ℕ) (opening : Opening) : Type 0 where
-  pub long : length opening.opens ≡ 64
+  pub long : length opening.opens ≡ 65
   pub shut : (bank : ℕ) → Contains banks bank → slice_index_or opening.opens bank false ≡ false → IsShut book credit weight t bank
   pub others : (bank : ℕ) → slice_index_or opening.opens bank false ≡ true → bank ≢ t.bank
   pub first : IsOpenHead book credit weight t opening.first.bank opening.first

@@ -71,7 +71,7 @@ price_of walk bank = if nat_le walk.weight (slice_index walk.lines bank) then pr
 -- of each bank with which a line pays for a lot, the best level behind the last one is at its head
 abbrev pub HaveLevels : Book → LevelWalk → Type 0
 HaveLevels book walk =
-    (bank : ℕ) → bank < 64 → 1 ≤ slice_index walk.lines bank / walk.weight → IsHead walk.taker bank walk.last book.orders (head_of walk bank)
+    (bank : ℕ) → bank < 65 → 1 ≤ slice_index walk.lines bank / walk.weight → IsHead walk.taker bank walk.last book.orders (head_of walk bank)
 
 -- the better of two prices, where there are any
 abbrev pub better_price : Side → Option ℕ → Option ℕ → Option ℕ
@@ -91,7 +91,7 @@ pub record IsRank (taker : Side) (price : Option ℕ) (rank : ℕ) : Type 0 wher
 
 -- each bank's rank is that of the price that it is asked at
 abbrev pub AreRanked : LevelWalk → Type 0
-AreRanked walk = (bank : ℕ) → bank < 64 → IsRank walk.taker (price_of walk bank) (slice_index walk.ranks bank)
+AreRanked walk = (bank : ℕ) → bank < 65 → IsRank walk.taker (price_of walk bank) (slice_index walk.ranks bank)
 
 -- a bank's line and head are written down, and those of all others stay
 pub record Puts (old new : LevelWalk) (bank line : ℕ) (head : Option BankLevel) : Type 0 where
@@ -137,20 +137,20 @@ pub record TakesOf (book : Book) (old new : LevelWalk) (bank price lots : ℕ) :
 
 -- the lots of all banks
 pub record AreTaken (book : Book) (old new : LevelWalk) (price lots : ℕ) : Type 0 where
-  pub taken : (bank : ℕ) → bank < 64 → IsTakenOf book old new price bank
+  pub taken : (bank : ℕ) → bank < 65 → IsTakenOf book old new price bank
   pub sum : IsPaid old new lots
 
 -- a level is taken, at the best price; or there is none
 abbrev pub TakesLevel : Book → LevelWalk → LevelWalk → Option Level → Type 0
-TakesLevel book old new None = (new ≡ old) × IsBestPrice old 64 None
+TakesLevel book old new None = (new ≡ old) × IsBestPrice old 65 None
 TakesLevel book old new (Some level) =
-    IsBestPrice old 64 (Some level.price)
+    IsBestPrice old 65 (Some level.price)
     × ((taken : LevelWalk) × AreTaken book old taken level.price level.lots × (new ≡ record taken { last = Some level.price }))
 
 -- a walk that has found no line and no level
 pub record IsBareLevel (walk : LevelWalk) : Type 0 where
-  pub lines : walk.lines ≡ replicate 64 0
-  pub ranks : walk.ranks ≡ replicate 64 (2 ^ 32 - 1)
+  pub lines : walk.lines ≡ replicate 65 0
+  pub ranks : walk.ranks ≡ replicate 65 (2 ^ 32 - 1)
   pub last : walk.last ≡ None
 
 -- nothing but lines, heads and ranks changed
@@ -174,7 +174,7 @@ pub record OpensLevel (book : Book) (credit : Credit) (old new : LevelWalk) (ban
 pub record HaveOpened (book : Book) (credit : Credit) (banks : List ℕ) (bank : ℕ) (old new : LevelWalk) : Type 0 where
   pub keeps : KeepsTaker old new
   pub most : (other : ℕ) → slice_index new.lines other ≤ 10 ^ 15
-  pub few : (other : ℕ) → Contains banks other → other ≢ bank → other < 64
+  pub few : (other : ℕ) → Contains banks other → other ≢ bank → other < 65
   pub lines : (other : ℕ) → Contains banks other → other ≢ bank → slice_index new.lines other ≡ line_in credit bank other
   pub own : slice_index new.lines bank ≡ 0
   pub heads : (other : ℕ) → HasFirst book old.weight old.taker new other
@@ -182,10 +182,10 @@ pub record HaveOpened (book : Book) (credit : Credit) (banks : List ℕ) (bank :
 -- a walk before its first level, by the lines of a bank
 pub record BeginsAt (book : Book) (credit : Credit) (weight bank : ℕ) (taker : Side) (walk : LevelWalk) : Type 0 where
   pub valid : IsBook book
-  pub few : Each (λ order. order.bank < 64) book.orders
-  pub long : length walk.lines ≡ 64
+  pub few : Each (λ order. order.bank < 65) book.orders
+  pub long : length walk.lines ≡ 65
   pub heads : HaveLevels book walk
   pub is : walk ≡ record walk { weight = weight; taker = taker; last = None }
   pub own : slice_index walk.lines bank ≡ 0
   pub line : Each (λ order. order.bank ≢ bank → slice_index walk.lines order.bank ≡ line_in credit bank order.bank) book.orders
-  pub most : total (λ line. line) walk.lines ≤ 64 * 10 ^ 15
+  pub most : total (λ line. line) walk.lines ≤ 65 * 10 ^ 15

@@ -111,7 +111,7 @@ leads walk bank (Some best) =
 abbrev pub IsPickedAt : WholeWalk → List ℕ → Option ℕ → Type 0
 IsPickedAt walk banks None = (bank : ℕ) → Contains banks bank → may_take_head walk bank (head_of walk bank) ≡ false
 IsPickedAt walk banks (Some best) =
-    Contains banks best × (best < 64) × (may_take_head walk best (head_of walk best) ≡ true)
+    Contains banks best × (best < 65) × (may_take_head walk best (head_of walk best) ≡ true)
     × ((bank : ℕ) → Contains banks bank → may_take_head walk bank (head_of walk bank) ≡ true →
     is_ahead walk.order.side (head_of walk bank) (head_of walk best) ≡ false)
 
@@ -142,12 +142,12 @@ pub record Begins (book : Book) (credit : Credit) (weight : ℕ) (taker : Taker)
   pub weighs : walk.weight ≡ weight
   pub last : walk.last ≡ None
   pub agrees : AgreeInBook weight taker (slice_index walk.lines) (line_in credit taker.bank) book.orders
-  pub most : total (λ line. line) walk.lines ≤ 64 * 10 ^ 15
+  pub most : total (λ line. line) walk.lines ≤ 65 * 10 ^ 15
 
 -- a walk that has found no line and no head
 pub record IsBare (walk : WholeWalk) : Type 0 where
-  pub lines : walk.lines ≡ replicate 64 0
-  pub heads : walk.heads ≡ replicate 64 None
+  pub lines : walk.lines ≡ replicate 65 0
+  pub heads : walk.heads ≡ replicate 65 None
   pub last : walk.last ≡ None
 
 -- nothing but lines and heads changed

@@ -5,8 +5,8 @@ use Rattle.fx_amounts.specs.PriceText.{price_text}
 use Rattle.fx_rules.specs.Reject.{code_of}
 use Rattle.fx_rules.specs.Session.{Header, bank_count, pair_count, bank_name, decimals_of, pair_name}
 use Rattle.fx_rules.specs.declared.command.Command.{Command}
-use Rattle.fx_rules.specs.declared.command.Command.TheVariants.{Order, Cancel, Reduce, Pull, Line, Show, Book, Bad}
-use Rattle.order_lines.specs.Words.{word_text, side_word, life_text, bad_word}
+use Rattle.fx_rules.specs.declared.command.Command.TheVariants.{Order, Cancel, Reduce, Pull, Line, Total, Settle, Show, Book, Bad}
+use Rattle.order_lines.specs.Words.{word_text, side_word, life_text, total_word, settle_word, bad_word}
 use Rattle.order_lines.specs.declared.word.Word.TheVariants as word
 
 -- a price of a pair, in its one spelling
@@ -20,17 +20,21 @@ word_field (Cancel pair number) = word_text word.Cancel
 word_field (Reduce pair number lots) = word_text word.Reduce
 word_field (Pull pair) = word_text word.Pull
 word_field (Line other limit) = word_text word.Line
+word_field (Total limit) = total_word
+word_field (Settle a b units) = settle_word
 word_field (Show other) = word_text word.Show
 word_field (Book pair) = word_text word.Book
 word_field (Bad fault) = bad_word
 
--- the field behind the word: the pair, the bank or the fault that the command is about
+-- the field behind the word: the pair, the bank, the total or the fault that the command is about
 abbrev pub subject_field : Header → Command → List ℕ
 subject_field h (Order side pair price lots life) = pair_name h pair
 subject_field h (Cancel pair number) = pair_name h pair
 subject_field h (Reduce pair number lots) = pair_name h pair
 subject_field h (Pull pair) = pair_name h pair
 subject_field h (Line other limit) = bank_name h other
+subject_field h (Total limit) = numeral limit
+subject_field h (Settle a b units) = bank_name h a
 subject_field h (Show other) = bank_name h other
 subject_field h (Book pair) = pair_name h pair
 subject_field h (Bad fault) = numeral (code_of fault)
@@ -42,6 +46,8 @@ IsSubjectOf h (Cancel pair number) = pair < pair_count h
 IsSubjectOf h (Reduce pair number lots) = pair < pair_count h
 IsSubjectOf h (Pull pair) = pair < pair_count h
 IsSubjectOf h (Line other limit) = other < bank_count h
+IsSubjectOf h (Total limit) = Unit {0}
+IsSubjectOf h (Settle a b units) = (a < bank_count h) × (b < bank_count h)
 IsSubjectOf h (Show other) = other < bank_count h
 IsSubjectOf h (Book pair) = pair < pair_count h
 IsSubjectOf h (Bad fault) = Unit {0}
@@ -53,6 +59,8 @@ details h (Cancel pair number) = numeral number ∷ []
 details h (Reduce pair number lots) = numeral number ∷ numeral lots ∷ []
 details h (Pull pair) = []
 details h (Line other limit) = numeral limit ∷ []
+details h (Total limit) = []
+details h (Settle a b units) = bank_name h b ∷ numeral units ∷ []
 details h (Show other) = []
 details h (Book pair) = []
 details h (Bad fault) = []

@@ -6,4 +6,4 @@ use Rattle.order_store.specs.inside.Rows.{Row, row_at, key_in}
 -- the row of each order's bank has its key with its number
 pub record AreNamed (slots : List (Option Resting)) (rows : List Row) : Type 0 where
   pub named : (key : ℕ) (order : Resting) → slice_index_or slots key None ≡ Some order → key_in (row_at rows order.bank).entries order.number ≡ Some key
-  pub numbered : (key : ℕ) (order : Resting) → slice_index_or slots key None ≡ Some order → (order.bank < 64) × (order.number < 2 ^ 32)
+  pub numbered : (key : ℕ) (order : Resting) → slice_index_or slots key None ≡ Some order → (order.bank < 65) × (order.number < 2 ^ 32)

@@ -16,4 +16,4 @@ pub record IsPacked (slots : List (Option Resting)) (upto : ℕ) (places : List 
   pub laid : list.slots ≡ filter is_some (take upto slots)
   pub count : length places ≡ upto
   pub told : (place : ℕ) (order : Resting) → place < upto → slice_index_or slots place None ≡ Some order → slice_index_or places place 0 ≡ rank_of slots place
-  pub banks_are : length list.room ≡ min banks 64
+  pub banks_are : length list.room ≡ min banks 65

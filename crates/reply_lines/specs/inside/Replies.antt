@@ -3,7 +3,7 @@ use Rattle.std.specs.Prelude.{List, ℕ, [], ◌∷◌, codes}
 use Rattle.fx_amounts.specs.Numeral.{numeral}
 use Rattle.fx_rules.specs.Reject.{code_of}
 use Rattle.fx_rules.specs.declared.outcome.Outcome.{Outcome}
-use Rattle.fx_rules.specs.declared.outcome.Outcome.TheVariants.{Ordered, Killed, Cancelled, Reduced, NotLess, Nothing, Pulled, LineSet, Shown, Depth, Rejected}
+use Rattle.fx_rules.specs.declared.outcome.Outcome.TheVariants.{Ordered, Killed, Cancelled, Reduced, NotLess, Nothing, Pulled, LineSet, TotalSet, Settled, Shown, Depth, Rejected}
 
 -- of a reply that shows one there are none here
 abbrev pub plain_fields : Outcome → List (List ℕ)
@@ -15,6 +15,8 @@ plain_fields (NotLess left) = codes "NOTLESS" ∷ numeral left ∷ []
 plain_fields Nothing = codes "NOTHING" ∷ []
 plain_fields (Pulled count) = codes "PULLED" ∷ numeral count ∷ []
 plain_fields (LineSet limit fills) = codes "LIMIT" ∷ numeral limit ∷ []
+plain_fields (TotalSet most fills) = codes "TOTAL" ∷ numeral most ∷ []
+plain_fields (Settled given fills) = codes "SETTLED" ∷ numeral given ∷ []
 plain_fields (Shown limit spent eff) = codes "SHOWN" ∷ numeral limit ∷ numeral spent ∷ numeral eff ∷ []
 plain_fields (Depth bids asks) = []
 plain_fields (Rejected reason) = codes "BAD" ∷ numeral (code_of reason) ∷ []

@@ -14,7 +14,7 @@ knower h tape = record { known = true; session = h; head = head_of tape }
 
 -- a seat that knows nothing
 abbrev pub newcomer : View
-newcomer = record { known = false; session = record { banks = []; pairs = []; limits = [] }; head = head_of (record { number = 0; log_name = 0; cells_name = 0 }) }
+newcomer = record { known = false; session = record { version = 1; banks = []; pairs = []; limits = []; totals = [] }; head = head_of (record { number = 0; log_name = 0; cells_name = 0 }) }
 
 -- what is shown is of the feed that the seat knows
 abbrev pub Fits : Exhibit → View → Type 0

@@ -1,4 +1,4 @@
--- 64 lines in their range have a sum in range.
+-- 65 lines in their range have a sum in range.
 use Rattle.std.proofs.Common.{ℕ, zero, suc, ◌≤◌, ◌^◌, arith, get_or, replicate}
 use Rattle.std.proofs.lemmas.List.{length-replicate}
 use Rattle.flat_host.proofs.Counting.{total-most}
@@ -12,8 +12,8 @@ zeros_small (suc n) (suc k) = zeros_small n k
 pub loop-place-init : goal.loop-place-init
 loop-place-init c = record {
   lines = λ other below. absurd (omega arith);
-  small = zeros_small 64;
-  full = length-replicate {A = ℕ} 64 0;
+  small = zeros_small 65;
+  full = length-replicate {A = ℕ} 65 0;
 }
 
 pub returns-clause-most : goal.returns-clause-most

@@ -7,5 +7,5 @@ abbrev pub invariant-loop-place : goal.invariant-loop-place
 invariant-loop-place l = record {
   lines : (other : ℕ) → other < l.place → slice_index l.lines other ≡ line_in l.limits l.uses l.bank other;
   small : (other : ℕ) → slice_index l.lines other ≤ 10 ^ 15;
-  full : length l.lines ≡ 64;
+  full : length l.lines ≡ 65;
 }

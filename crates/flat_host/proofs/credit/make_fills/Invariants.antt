@@ -11,5 +11,5 @@ invariant-loop-fill l = record {
   room : vec_capacity l.orders ≡ vec_capacity l.initial.orders;
   uses : uses_after l.weights l.limits l.uses (drop l.fill-index l.fills) ≡ uses_after l.weights l.limits l.initial.uses l.fills;
   within : IsWithin l.limits l.initial.uses → IsWithin l.limits l.uses;
-  full : length l.uses ≡ 4096;
+  full : length l.uses ≡ 4225;
 }

@@ -13,5 +13,5 @@ invariant-loop-active l = record {
       TurnedIn l.terms.weights.now l.terms.limits.now l.pair l.book.items l.uses (orders_in l.pair (drop l.active-index l.orders)) more →
       TurnedIn l.terms.weights.now l.terms.limits.now l.pair (in_pair l.pair l.orders) l.initial.uses (orders_in l.pair l.orders) (l.fills.items ++ more);
   uses : l.uses ≡ uses_after l.terms.weights.now l.terms.limits.now l.initial.uses l.fills.items;
-  full : length l.uses ≡ 4096;
+  full : length l.uses ≡ 4225;
 }

@@ -9,5 +9,5 @@ invariant-loop-place l = record {
   goes_on : (more : List Fill) →
       RaisedIn l.terms.weights.now l.terms.limits.now l.orders (length l.terms.weights.now - l.place) l.place l.table more →
       RaisedIn l.terms.weights.now l.terms.limits.now l.orders (length l.terms.weights.now) 0 l.uses (l.fills.items ++ more);
-  full : length l.table ≡ 4096;
+  full : length l.table ≡ 4225;
 }

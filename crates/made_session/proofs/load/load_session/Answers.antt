@@ -1,4 +1,4 @@
-use Rattle.std.proofs.Common.{rules, ◌≡◌, length, ap, sym, subst, ◌∙◌}
+use Rattle.std.proofs.Common.{rules, ◌≡◌, [], length, ap, sym, subst, ◌∙◌}
 use Rattle.fx_rules.specs.Lists.{Each}
 use Rattle.fx_rules.specs.Sending.{IsSentOf}
 use Rattle.fx_rules.specs.Session.{Header}
@@ -9,11 +9,11 @@ use Rattle.made_session.proofs.load.load_session.Goals as goal
 
 pub unwrap-session-requires : goal.unwrap-session-requires
 unwrap-session-requires c =
-    let parts : Header = record { banks = c.in_ok-names.names.items; pairs = c.in_ok-rules.rules.items; limits = c.in_ok-limits.limits.items } in
+    let parts : Header = record { version = 1; banks = c.in_ok-names.names.items; pairs = c.in_ok-rules.rules.items; limits = c.in_ok-limits.limits.items; totals = [] } in
     let limits : c.in_ok-limits.limits.items ≡ (made_header c.args.seed c.args.banks c.args.pairs).limits =
     c.in_ok-limits.ensures.limits ∙ ap (made_limits c.args.banks) c.new-draws.ensures in
     let same : parts ≡ made_header c.args.seed c.args.banks c.args.pairs =
-    λ i. record { banks = c.in_ok-names.ensures i; pairs = c.in_ok-rules.ensures i; limits = limits i } in
+    λ i. record { version = 1; banks = c.in_ok-names.ensures i; pairs = c.in_ok-rules.ensures i; limits = limits i; totals = [] } in
     built c.build.result parts c.build.ensures.value
     (parts_are_session c.args.seed c.args.banks c.args.pairs parts c.requires.banks.0 c.requires.banks.1 c.requires.pairs.0 c.requires.pairs.1 same)
 

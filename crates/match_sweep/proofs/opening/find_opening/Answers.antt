@@ -45,7 +45,7 @@ stepped own bank banks banks' first old new is was more same =
 pub loop-owner-init : goal.loop-owner-init
 loop-owner-init g c = record {
   full = refl;
-  others = λ bank flag. absurd (both_ways (get_or (replicate 64 false) bank false) (replicate-at false 64 bank) flag);
+  others = λ bank flag. absurd (both_ways (get_or (replicate 65 false) bank false) (replicate-at false 65 bank) flag);
   opening = λ bank there. absurd (omega (arith, there.1));
   steps = λ _. omega (arith, c.best_prices-best.ensures.step);
 }

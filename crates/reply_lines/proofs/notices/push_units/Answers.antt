@@ -1,4 +1,4 @@
-use Rattle.std.proofs.Common.{◌∙◌, ◌++◌, ◌∷◌, [], ◌≤◌, ℕ, ap, take, length, arith}
+use Rattle.std.proofs.Common.{◌∷◌, [], arith}
 use Rattle.fx_amounts.specs.Numeral.{numeral}
 use Rattle.fx_text.proofs.LineTexts.{last_field, one_field, length-fields_text}
 use Rattle.reply_lines.proofs.notices.push_units.Goals as goal
@@ -7,9 +7,8 @@ pub returns-clause-text : goal.returns-clause-text
 returns-clause-text c =
     one_field c.args.line.now c.push_field.new.self c.push_number_field.new.self c.args.word.now (numeral c.args.units ∷ []) c.push_field.ensures
     (last_field c.push_field.new.self c.push_number_field.new.self (numeral c.args.units)
-    (c.push_number_field.ensures.text ∙ ap (λ (n : ℕ). take 256 (c.push_field.new.self ++ 32 ∷ numeral n)) c.get.ensures.value))
+    c.push_number_field.ensures.text)
 
 pub returns-clause-few : goal.returns-clause-few
 returns-clause-few c =
-    let units : length (numeral c.args.units) ≤ 20 = omega (arith, c.push_number_field.ensures.few, ap (λ (n : ℕ). length (numeral n)) c.get.ensures.value) in
-    omega (arith, length-fields_text (c.args.word.now ∷ numeral c.args.units ∷ []) (c.requires, (units, tt)))
+    omega (arith, length-fields_text (c.args.word.now ∷ numeral c.args.units ∷ []) (c.requires, (c.push_number_field.ensures.few, tt)))

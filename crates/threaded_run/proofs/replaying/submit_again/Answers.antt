@@ -1,5 +1,5 @@
 use Rattle.std.proofs.Common.{◌<◌, length, arith}
-use Rattle.threaded_run.proofs.Replayed.{resubmitted-none, resubmitted-next, place-within, next-values, next-counted, next-few}
+use Rattle.threaded_run.proofs.Replayed.{resubmitted-none, resubmitted-next, place-within, next-command, next-counted, next-few}
 use Rattle.threaded_run.proofs.replaying.submit_again.Goals as goal
 
 pub loop-entry-init : goal.loop-entry-init
@@ -10,9 +10,9 @@ pub bounds-lanes-index : goal.bounds-lanes-index
 bounds-lanes-index g c =
     omega (arith, place-within g.N.Naming.session c.args.entries.now c.loop-entry.note c.loop-entry.entry-index c.entry-item.result c.loop-entry.lanes c.requires.legal c.loop-entry-test.true c.entry-item.is c.loop-entry.invariant, c.index.ensures.value)
 
-pub submit_behind-requires-clause-values : goal.submit_behind-requires-clause-values
-submit_behind-requires-clause-values g c κs within =
-    next-values g.N.Naming.session c.args.entries.now c.loop-entry.note c.loop-entry.entry-index c.entry-item.result c.loop-entry.lanes c.requires.legal c.loop-entry-test.true c.entry-item.is c.loop-entry.invariant
+pub submit_behind-requires-clause-command : goal.submit_behind-requires-clause-command
+submit_behind-requires-clause-command g c κs within =
+    next-command g.N.Naming.session c.args.entries.now c.loop-entry.note c.loop-entry.entry-index c.entry-item.result c.loop-entry.lanes c.requires.legal c.loop-entry-test.true c.entry-item.is c.loop-entry.invariant
     c.index.result c.index-lanes-index.result c.index.ensures.value
 
 pub submit_behind-requires-clause-counted : goal.submit_behind-requires-clause-counted

@@ -11,7 +11,7 @@ use Rattle.access_index.proofs.Rows.{empty_at}
 use Rattle.access_index.proofs.Listing.{listed_none}
 use Rattle.access_index.proofs.owners.Owners.new.Goals as goal
 
-owned_none : (rows : List OwnRows) → All AreEmpty rows → length rows ≤ 64 → AreOwned rows
+owned_none : (rows : List OwnRows) → All AreEmpty rows → length rows ≤ 65 → AreOwned rows
 owned_none rows empty few = record {
   few = few;
   sides = λ bank side. (empty_at rows empty bank side).0;

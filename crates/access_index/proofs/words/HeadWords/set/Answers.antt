@@ -11,22 +11,20 @@ use Rattle.access_index.proofs.words.HeadWords.set.Goals.{in-Some, in-None}
 
 pub returns : goal.returns
 returns c =
-    let small : c.args.bank < 64 = omega (arith, c.index.ensures.value, c.index.ensures.most) in
     map-set head_of c.self.inside.words c.index.result c.match-head.self
     ∙ ap (λ (hs : List (Option Head)). set hs c.index.result (head_of c.match-head.self)) c.self.view_is
     ∙ ap (λ (k : ℕ). set c.args.self.now k (head_of c.match-head.self)) c.index.ensures.value
     ∙ ap (set c.args.self.now c.args.bank) (elim c.match-head.branch [
       | in-Some w ↦
-          ap head_of (w.self-is ∙ w.word_of.ensures.word) ∙ head_of-word w.in-Some.head c.args.bank (subst (λ (o : Option Head). IfSome o IsHead) w.in-Some.is c.requires.head) small ∙ sym w.in-Some.is
+          ap head_of (w.self-is ∙ w.word_of.ensures.word) ∙ head_of-word w.in-Some.head c.args.bank (subst (λ (o : Option Head). IfSome o IsHead) w.in-Some.is c.requires.head) c.requires.bank ∙ sym w.in-Some.is
       | in-None w ↦ ap head_of w.self-is ∙ none_of _ refl ∙ sym w.in-None.is
     ])
 
 pub invariant_of-self : goal.invariant_of-self
 invariant_of-self c =
-    let small : c.args.bank < 64 = omega (arith, c.index.ensures.value, c.index.ensures.most) in
     words_set c.self.inside.words c.index.result c.args.bank c.match-head.self c.self.told c.index.ensures.value c.self.invariant
     (elim c.match-head.branch [
-      | in-Some w ↦ λ _. ap (λ (n : ℕ). n % 64) (w.self-is ∙ w.word_of.ensures.word) ∙ own_word w.in-Some.head c.args.bank small
+      | in-Some w ↦ λ _. ap (λ (n : ℕ). n % 64) (w.self-is ∙ w.word_of.ensures.word) ∙ own_word w.in-Some.head c.args.bank c.requires.bank
       | in-None w ↦ λ some. absurd (some w.self-is)
     ])
     (elim c.match-head.branch [

@@ -1,5 +1,6 @@
-use Rattle.std.proofs.Common.{ℕ, ◌≡◌, List, length, ap, ◌∙◌, arith}
+use Rattle.std.proofs.Common.{ℕ, ◌≡◌, List, length, ap, sym, ◌∙◌, arith}
 use Rattle.std.proofs.lemmas.List.{length-replicate}
+use Rattle.fx_rules.proofs.Plain.{only_one, first-places}
 use Rattle.client_desk.specs.Standing.{Sums, no_sums}
 use Rattle.client_desk.proofs.Naming.{client-within}
 use Rattle.client_desk.proofs.Reading.{opens-for}
@@ -18,4 +19,5 @@ invariant_of-result c =
 pub returns-clause-opens : goal.returns-clause-opens
 returns-clause-opens c =
     opens-for c.args.session.now _ c.len.result c.banks.ensures.valid c.in_ok-weights.ensures.value c.in_ok-accounts.ensures.value
-    (c.in_ok-rows.ensures.count ∙ ap (λ (names : List (List ℕ)). length names) c.banks.ensures.value) c.in_ok-rows.ensures.empty
+    (c.in_ok-rows.ensures.count ∙ ap (λ (names : List (List ℕ)). length names) c.banks.ensures.value ∙ sym (first-places c.args.session.now (only_one c.args.session.now c.banks.ensures.valid)))
+    c.in_ok-rows.ensures.empty

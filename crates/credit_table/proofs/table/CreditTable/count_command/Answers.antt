@@ -5,6 +5,7 @@ use Rattle.std.proofs.lemmas.List.{get_or_default}
 use Rattle.fx_rules.specs.Lists.{total}
 use Rattle.fx_rules.specs.Session.{sender_places}
 use Rattle.fx_rules.proofs.ListLemmas.{total-set}
+use Rattle.fx_rules.proofs.Senders.{places-most}
 use Rattle.credit_table.specs.Table.{Table}
 use Rattle.credit_table.specs.inside.Table.{IsTable}
 use Rattle.credit_table.proofs.Following.{total-bounded, counted-table}
@@ -16,8 +17,8 @@ same_set counts bank place read at' is within =
     ap (λ p. set counts p (get_or counts p 0 + 1)) (sym at')
     ∙ ap (λ n. set counts place (n + 1)) (sym (is ∙ get_or_default counts place read 0 (omega arith)))
 
-bounded : (table : Table) → IsTable table → total (λ count. count) table.counts ≤ 64 * 2 ^ 32
-bounded table is = omega (arith, total-bounded table.counts is.counts, is.senders, is.session.banks_most)
+bounded : (table : Table) → IsTable table → total (λ count. count) table.counts ≤ 65 * 2 ^ 32
+bounded table is = omega (arith, total-bounded table.counts is.counts, is.senders, places-most table.session is.session)
 
 pub overflow_add-self : goal.overflow_add-self
 overflow_add-self c = omega (arith, c.self.invariant.arrivals, bounded _ c.self.invariant.table)

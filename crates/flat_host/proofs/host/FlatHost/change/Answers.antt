@@ -6,6 +6,7 @@ use Rattle.flat_host.specs.inside.Parts.{order_carried}
 use Rattle.flat_host.specs.inside.Turns.{raised_in}
 use Rattle.flat_host.specs.inside.Steps.{ChangesEach}
 use Rattle.flat_host.proofs.Stepping.{order-changes, line-changes}
+use Rattle.flat_host.proofs.Unsent.{neither}
 use Rattle.flat_host.proofs.host.FlatHost.change.Goals as goal
 
 on_ok : (r : Result (Unit {0}) Memory) (P Q R : Type 0) → ((P → Q) → R) → (P → OnOk r Q) → OnOk r R
@@ -27,3 +28,7 @@ pub returns-in-Line-clause-changes : goal.returns-in-Line-clause-changes
 returns-in-Line-clause-changes c =
     line-changes c.args.self.now c.raise.new.self c.args.bank c.in-Line.other c.in-Line.limit c.args.command.now c.args.outcome.now c.raise.ensures.kept c.in-Line.is c.requires.sender c.requires.command
     (c.raise.ensures.raised ∙ ap (raised_in c.args.self.now c.args.bank c.in-Line.other c.in-Line.limit) c.fills-in-Line.ensures.fills)
+
+-- there are no totals and no settlements yet
+pub unreachable-requires : goal.unreachable-requires
+unreachable-requires c = neither c.args.self.now c.args.bank c.args.command.now c.requires.command c.in-Total.is

@@ -14,6 +14,7 @@ use Rattle.flat_host.specs.inside.Turns.{LineSetIn}
 use Rattle.flat_host.specs.Steps.{AnswersEach, ShowsEach}
 use Rattle.flat_host.proofs.Stepping.{order-answers, cancel-answers, reduce-answers, pull-answers, line-answers, show-answers, book-answers, bad-answers}
 use Rattle.flat_host.proofs.Sendable.{order-pair, line-other, book-pair}
+use Rattle.flat_host.proofs.Unsent.{neither}
 use Rattle.flat_host.proofs.host.FlatHost.find_answer.Goals as goal
 
 if_ok : (r : Result Outcome Memory) (P Q : Outcome → Type 0) → ((outcome : Outcome) → P outcome → Q outcome) → IfOk r P → IfOk r Q
@@ -89,3 +90,7 @@ returns-in-Book c = record {
 
 pub returns-in-Bad : goal.returns-in-Bad
 returns-in-Bad c = record { answers = bad-answers c.args.self.now c.args.bank c.in-Bad.reason c.args.command.now c.in-Bad.is }
+
+-- there are no totals and no settlements yet
+pub unreachable-requires : goal.unreachable-requires
+unreachable-requires c = neither c.args.self.now c.args.bank c.args.command.now c.requires.command c.in-Total.is

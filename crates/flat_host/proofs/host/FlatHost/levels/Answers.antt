@@ -35,7 +35,7 @@ made_is l bank pair side price left arrival p n a =
     ap (λ q. made bank pair side q left arrival) p ∙ ap (λ m. made bank pair side (any_price side) m arrival) n
     ∙ ap (made bank pair side (any_price side) (against pair side l.orders)) a
 
-probed : (l : FlatState) (bank pair : ℕ) (side : Side) (t : Taker) (lines : List ℕ) (weight : ℕ) (orders : List ActiveOrder) (r : Result (List Level) Memory) → t ≡ unlimited_in l bank pair side → weight ≡ slice_index l.weights pair → orders ≡ l.orders → ((other : ℕ) → other < 64 → slice_index lines other ≡ line_in l.limits l.uses bank other) → IfOk r (IsLevelled weight lines orders t) → IfOk r (ProbedIn l bank pair side)
+probed : (l : FlatState) (bank pair : ℕ) (side : Side) (t : Taker) (lines : List ℕ) (weight : ℕ) (orders : List ActiveOrder) (r : Result (List Level) Memory) → t ≡ unlimited_in l bank pair side → weight ≡ slice_index l.weights pair → orders ≡ l.orders → ((other : ℕ) → other < 65 → slice_index lines other ≡ line_in l.limits l.uses bank other) → IfOk r (IsLevelled weight lines orders t) → IfOk r (ProbedIn l bank pair side)
 probed l bank pair side t lines weight orders (Err e) taker weight_is orders_are lines_are is = tt
 probed l bank pair side t lines weight orders (Ok levels) taker weight_is orders_are lines_are is = (
   is.0,

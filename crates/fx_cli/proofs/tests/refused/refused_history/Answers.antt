@@ -2,9 +2,10 @@
 use Rattle.std.proofs.Common.{rules, ℕ, ◌≡◌, ◌<◌, List, [], ◌∷◌, length, refl, ap, ap₂, sym, subst, ◌∙◌, arith}
 use Rattle.std.specs.Prelude.{Some, All}
 use Rattle.fx_rules.specs.declared.outcome.Entry.{Entry}
-use Rattle.fx_rules.specs.Session.{Header, bank_count, sender_places}
+use Rattle.fx_rules.specs.Session.{Header, IsSession, bank_count, sender_places}
 use Rattle.fx_rules.specs.History.{own}
 use Rattle.fx_chronicle.specs.Faces.{Witness, witness, AreNew}
+use Rattle.fx_desk.proofs.Sending.{bank-places}
 use Rattle.gateway_workers.specs.Lanes.{IsReadyLane}
 use Rattle.fx_cli.proofs.tests.refused.refused_history.Goals as goal
 
@@ -20,7 +21,10 @@ two_new n (a ∷ b ∷ []) two new =
 
 pub lanes_of-requires-clause-passes : goal.lanes_of-requires-clause-passes
 lanes_of-requires-clause-passes g c =
-    two_new (sender_places g.N.Naming.session) c.in_ok-host.passes.items (subst (λ (h : Header). bank_count h ≡ 2) c.requires.session c.requires.banks) c.in_ok-host.ensures.passes
+    let h = g.N.Naming.session in
+    let places : sender_places h ≡ 2 =
+    sym (bank-places h (subst IsSession c.requires.session c.requires.valid)) ∙ subst (λ (k : Header). bank_count k ≡ 2) c.requires.session c.requires.banks in
+    two_new (sender_places h) c.in_ok-host.passes.items places c.in_ok-host.ensures.passes
 
 pub refuse_and_go_on-requires-clause-ready : goal.refuse_and_go_on-requires-clause-ready
 refuse_and_go_on-requires-clause-ready g c κs within =

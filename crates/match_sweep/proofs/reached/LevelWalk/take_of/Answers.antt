@@ -11,12 +11,12 @@ use Rattle.match_sweep.proofs.Reaching.{HasPrice, has_price, head_there, head_wi
 use Rattle.match_sweep.proofs.reached.LevelWalk.take_of.Goals as goal
 
 -- a bank that is asked at another price, or at none
-asked_else : (walk : LevelWalk) (bank at price other : ℕ) → at ≡ bank → at < 64 → AreRanked walk → IsRank walk.taker (Some price) other → slice_index walk.ranks at ≢ other → price_of walk bank ≢ Some price
+asked_else : (walk : LevelWalk) (bank at price other : ℕ) → at ≡ bank → at < 65 → AreRanked walk → IsRank walk.taker (Some price) other → slice_index walk.ranks at ≢ other → price_of walk bank ≢ Some price
 asked_else walk bank at price other at_is below ranked is differ same =
     differ (one_rank walk.taker (price_of walk at) price (slice_index walk.ranks at) other (ranked at below) is (ap (price_of walk) at_is ∙ same))
 
 -- one that is asked at the price
-asked_here : (walk : LevelWalk) (bank at price other : ℕ) → at ≡ bank → at < 64 → AreRanked walk → IsRank walk.taker (Some price) other → slice_index walk.ranks at ≡ other → HasPrice walk bank price
+asked_here : (walk : LevelWalk) (bank at price other : ℕ) → at ≡ bank → at < 65 → AreRanked walk → IsRank walk.taker (Some price) other → slice_index walk.ranks at ≡ other → HasPrice walk bank price
 asked_here walk bank at price other at_is below ranked is same =
     has_price walk bank price (ap (price_of walk) (sym at_is) ∙ same_rank walk.taker (price_of walk at) price (slice_index walk.ranks at) other (ranked at below) is same)
 

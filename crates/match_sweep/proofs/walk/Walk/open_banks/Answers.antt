@@ -15,7 +15,7 @@ use Rattle.match_sweep.proofs.walk.Walk.open_banks.Goals.{then-opening-index, el
 
 pub loop-owner-init : goal.loop-owner-init
 loop-owner-init g c =
-    let none : (bank : ℕ) → slice_index c.args.self.now.lines bank ≡ 0 = λ bank. ap (λ (xs : List ℕ). slice_index xs bank) c.requires.bare.lines ∙ replicate-at 0 64 bank in
+    let none : (bank : ℕ) → slice_index c.args.self.now.lines bank ≡ 0 = λ bank. ap (λ (xs : List ℕ). slice_index xs bank) c.requires.bare.lines ∙ replicate-at 0 65 bank in
     record {
       opened = record {
         keeps = record { same = refl; long = refl };

@@ -1,5 +1,6 @@
 use Rattle.std.proofs.Common.{◌+◌, ap, sym, subst, ◌∙◌, arith}
 use Rattle.fx_rules.specs.declared.outcome.Entry.{Entry}
+use Rattle.fx_rules.proofs.Plain.{only_one, first-command}
 use Rattle.fx_chronicle.specs.Faces.{Chronicle, Witness}
 use Rattle.fx_rules.specs.History.{IsLegal, own}
 use Rattle.one_lock_host.proofs.Serving.{count_is, goes_on, committed, sender_pends, floor_after, entries_after, entry_is}
@@ -14,12 +15,21 @@ unreachable-requires g c =
       count_is _ _ _ _ _ _ _ c.self.invariant c.bank-bank.ensures.value c.count-count.ensures.value c.catch_up.ensures.own,
     )
 
+pub answer-requires-clause-sender : goal.answer-requires-clause-sender
+answer-requires-clause-sender g c =
+    omega (
+      arith,
+      c.self.invariant.stands.banks,
+      c.bank-bank.ensures.value,
+      first-command g.N.Naming.session c.args.pass.now.key c.args.command.now (only_one g.N.Naming.session c.self.invariant.legal.session) c.requires.command,
+    )
+
 pub follow-requires : goal.follow-requires
 follow-requires g c = record {
   next = (
     _,
     c.self.inside.writer.entries,
-    goes_on _ _ _ _ _ _ _ _ _ c.self.invariant c.bank-bank.ensures.value c.bank-bank.ensures.sender c.requires.values c.count-count.ensures.value c.count-count.type_inv c.if-count.false c.in_ok-outcome.ensures.answers c.in_ok-copy.ensures.equal,
+    goes_on _ _ _ _ _ _ _ _ _ c.self.invariant c.bank-bank.ensures.value c.requires.command c.count-count.ensures.value c.count-count.type_inv c.if-count.false c.in_ok-outcome.ensures.answers c.in_ok-copy.ensures.equal,
     c.self.invariant.stands,
   );
 }
@@ -33,11 +43,11 @@ pub sign-requires-clause-legal : goal.sign-requires-clause-legal
 sign-requires-clause-legal g c =
     let grown = committed _ c.self.inside.writer _ _ _ _ c.reserve.ensures.value c.catch_up-2.ensures.same c.commit.ensures.value in
     subst (IsLegal _) (sym grown.entries)
-    (goes_on _ _ _ _ _ _ _ _ _ c.self.invariant c.bank-bank.ensures.value c.bank-bank.ensures.sender c.requires.values c.count-count.ensures.value c.count-count.type_inv c.if-count.false c.in_ok-outcome.ensures.answers c.in_ok-copy.ensures.equal)
+    (goes_on _ _ _ _ _ _ _ _ _ c.self.invariant c.bank-bank.ensures.value c.requires.command c.count-count.ensures.value c.count-count.type_inv c.if-count.false c.in_ok-outcome.ensures.answers c.in_ok-copy.ensures.equal)
 
 pub invariant_of-self-2 : goal.invariant_of-self-2
 invariant_of-self-2 g c =
-    let legal = goes_on _ _ _ _ _ _ _ _ _ c.self.invariant c.bank-bank.ensures.value c.bank-bank.ensures.sender c.requires.values c.count-count.ensures.value c.count-count.type_inv c.if-count.false c.in_ok-outcome.ensures.answers c.in_ok-copy.ensures.equal in
+    let legal = goes_on _ _ _ _ _ _ _ _ _ c.self.invariant c.bank-bank.ensures.value c.requires.command c.count-count.ensures.value c.count-count.type_inv c.if-count.false c.in_ok-outcome.ensures.answers c.in_ok-copy.ensures.equal in
     floor_after _ _ _ _ _ _ _ _ c.self.invariant (committed _ c.self.inside.writer _ _ _ _ c.reserve.ensures.value c.catch_up-2.ensures.same c.commit.ensures.value)
     (ap (λ (w : Witness Entry). w.key) c.catch_up-2.ensures.pass ∙ sym c.bank-bank.ensures.value)
     c.sign.ensures.writer legal (c.in_ok-follow.ensures.follows _ _ legal c.self.invariant.stands)
@@ -54,4 +64,4 @@ pub returns-clause-legal : goal.returns-clause-legal
 returns-clause-legal g c =
     let grown = committed _ c.self.inside.writer _ _ _ _ c.reserve.ensures.value c.catch_up-2.ensures.same c.commit.ensures.value in
     subst (IsLegal _) (sym (ap (λ (w : Chronicle Entry). w.entries) c.sign.ensures.writer ∙ grown.entries))
-    (goes_on _ _ _ _ _ _ _ _ _ c.self.invariant c.bank-bank.ensures.value c.bank-bank.ensures.sender c.requires.values c.count-count.ensures.value c.count-count.type_inv c.if-count.false c.in_ok-outcome.ensures.answers c.in_ok-copy.ensures.equal)
+    (goes_on _ _ _ _ _ _ _ _ _ c.self.invariant c.bank-bank.ensures.value c.requires.command c.count-count.ensures.value c.count-count.type_inv c.if-count.false c.in_ok-outcome.ensures.answers c.in_ok-copy.ensures.equal)

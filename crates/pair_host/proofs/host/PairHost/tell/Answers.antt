@@ -1,7 +1,7 @@
 -- The table alone answers and follows.
 use Rattle.std.proofs.Common.{ℕ, ◌≡◌, true, false, refl, ap, sym, subst}
 use Rattle.fx_rules.specs.declared.command.Command.{Command}
-use Rattle.fx_rules.specs.declared.command.Command.TheVariants.{Order, Cancel, Reduce, Pull, Line, Show, Book, Bad}
+use Rattle.fx_rules.specs.declared.command.Command.TheVariants.{Order, Cancel, Reduce, Pull, Line, Total, Settle, Show, Book, Bad}
 use Rattle.fx_rules.specs.Step.{may_change}
 use Rattle.fx_rules.specs.History.{state}
 use Rattle.fx_rules.specs.Market.{GoesOn, InSome, MaySend}
@@ -21,6 +21,8 @@ changes_nothing (Cancel its number) pair is = cc
 changes_nothing (Reduce its number lots) pair is = cc
 changes_nothing (Pull its) pair is = cc
 changes_nothing (Line other asked) pair is = cc
+changes_nothing (Total asked) pair is = cc
+changes_nothing (Settle a b asked) pair is = cc
 changes_nothing (Book its) pair is = cc
 
 pub follow-requires : goal.follow-requires

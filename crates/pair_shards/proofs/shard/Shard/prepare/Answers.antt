@@ -4,5 +4,5 @@ use Rattle.pair_shards.proofs.shard.Shard.prepare.Goals as goal
 pub returns-clause-prepared : goal.returns-clause-prepared
 returns-clause-prepared g c =
     prepared _ c.args.credit.now c.sender-sender.new.self c.sender-sender.result c.args.pass.now.key c.args.command.now c.in_ok-outcome.outcome c.in_ok-copy.field-0
-    c.sender-sender.ensures.same c.sender-sender.ensures.kept c.sender-sender.ensures.next c.sender-sender.ensures.bank c.sender-sender.ensures.sender c.sender-sender.ensures.number
-    c.requires.values c.in_ok-outcome.ensures.answers c.in_ok-copy.ensures.equal
+    c.sender-sender.ensures.same c.sender-sender.ensures.kept c.sender-sender.ensures.next c.sender-sender.ensures.bank c.sender-sender.ensures.number
+    c.requires.command c.in_ok-outcome.ensures.answers c.in_ok-copy.ensures.equal
