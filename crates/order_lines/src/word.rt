@@ -17,8 +17,10 @@ pub(crate) enum Word {
     Book,
 }
 
-/// The words of a total and of a settlement. In a session's text of version 1 they are no words.
+/// The word of a total. In a session's text of version 1 it is no word.
 pub(crate) const TOTAL: &[u8] = b"TOTAL";
+
+/// The word of a settlement. In a session's text of version 1 it is no word.
 pub(crate) const SETTLE: &[u8] = b"SETTLE";
 
 /// The word of a bad line in a journal. In a session's text it is no word.

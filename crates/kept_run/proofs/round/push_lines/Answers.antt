@@ -14,4 +14,4 @@ pub make_command-requires-clause-bank : goal.make_command-requires-clause-bank
 make_command-requires-clause-bank c =
     let sends : Entry → Type 0 = λ e. IsCommand c.args.session.now e.bank e.command in
     first-command c.args.session.now c.entry-item.result.bank c.entry-item.result.command (only_one c.args.session.now c.banks-banks.ensures.valid)
-        (subst sends (sym c.entry-item.is) (each_at sends c.args.entries.now c.loop-entry.entry-index c.entry-item.result c.requires.commands c.loop-entry-test.true))
+    (subst sends (sym c.entry-item.is) (each_at sends c.args.entries.now c.loop-entry.entry-index c.entry-item.result c.requires.commands c.loop-entry-test.true))
