@@ -1,11 +1,12 @@
 #!/usr/bin/env python3
-"""Writes a session text: make_session.py BANKS PAIRS COMMANDS [KIND [SEED]].
+"""Writes a session text: make_session.py BANKS PAIRS COMMANDS [KIND [SEED [CLIENTS]]].
 
 KIND is `orders` (DAY orders around one price; the default), `rest` (DAY orders that never cross, so that books grow deep),
 `mixed` (orders of every life, cancels, credit changes, books), `thick` (commands of all kinds, every fourth a credit change
 that orders are waiting for), `raced` (orders in all pairs for lines that are soon used up and raised a little at a time),
 `raise` (a deep book without credit, and then one credit change between the first two banks), or `long` (such a raise with 150
-fills, ten levels of a book, and then orders and a book after each thousand). The same arguments give the same text.
+fills, ten levels of a book, and then orders and a book after each thousand), or `clients` (the orders of `orders`, each sent by one of
+CLIENTS clients, 16 if none is given, whose limits they never meet). The same arguments give the same text.
 """
 import random
 import sys
@@ -102,6 +103,17 @@ def long_day(rng, banks, pairs, commands):
         yield f"{second} BOOK {pair(0)}" if number % 1000 == 999 else order(rng, banks, pairs)
 
 
+def of_clients(rng, banks, pairs, commands, clients):
+    owned = [f"{name(place % banks)}:C{place // banks:03}" for place in range(clients)]
+    for owner in owned:
+        bank, own = owner.split(":")
+        yield f"CLIENT: {bank} {own} {10**15}"
+    for _ in range(commands):
+        bank, rest = order(rng, banks, pairs).split(" ", 1)
+        mine = owned[int(bank[1:]) - 1 :: banks]
+        yield f"{rng.choice(mine)} {rest}" if mine else f"{bank} {rest}"
+
+
 def main():
     banks, pairs, commands = (int(word) for word in sys.argv[1:4])
     kind = sys.argv[4] if len(sys.argv) > 4 else "orders"
@@ -127,6 +139,8 @@ def main():
         out += [raced(rng, banks, pairs, number) for number in range(commands)]
     elif kind == "long":
         out += long_day(rng, banks, pairs, commands)
+    elif kind == "clients":
+        out += of_clients(rng, banks, pairs, commands, int(sys.argv[6]) if len(sys.argv) > 6 else 16)
     elif kind == "raise":
         out += [order(rng, banks, pairs) for _ in range(commands)]
         out += [f"{name(0)} LINE {name(1)} 1000000", f"{name(1)} LINE {name(0)} 1000000"]

@@ -11,7 +11,7 @@ _fx() {
         --workers) choices='1 2 4 8 16 32 64' ;;
     esac
     if [ "$COMP_CWORD" = 1 ]; then
-        choices='serial run check load payments watch keep restart'
+        choices='serial run check load clients payments watch keep restart'
         [ "${COMP_WORDS[0]##*/}" = fx_cli ] || choices+=' build package help'
     elif [ "${COMP_WORDS[1]} $COMP_CWORD" = 'payments 2' ]; then
         choices='bilateral net'

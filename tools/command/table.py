@@ -67,6 +67,12 @@ WORDS = (
         threaded=True,
     ),
     Word(
+        "clients",
+        "runs a session whose banks have clients, in the order of its lines, and prints behind its output what each client has and was told",
+        "A client trades in its bank's name, under a limit of its own. docs/SESSION.md has the lines of clients.",
+        reads="SESSION",
+    ),
+    Word(
         "payments",
         "prints what the banks pay at the end of the day: each two banks one another, or netted over all banks",
         "No list that settles the day pays less. It prints NO and the offset, as check does, where the text is not a right output.",

@@ -1,7 +1,7 @@
 -- What is read off a book is what the histories have that it stands for.
-use Rattle.std.proofs.Common.{ℕ, zero, suc, ◌≡◌, ◌-◌, ◌≤◌, ◌<◌, Bool, true, false, ◌&&◌, eqb, ltb, List, [], ◌∷◌, inl, inr, refl, ap, sym, subst, ◌∙◌, arith, get_or, length, map, Option, Some, None, find, replicate}
+use Rattle.std.proofs.Common.{ℕ, zero, suc, ◌≡◌, ◌-◌, ◌≤◌, ◌<◌, Bool, true, false, ◌&&◌, eqb, ltb, List, [], ◌∷◌, ◌++◌, inl, inr, refl, ap, sym, subst, ◌∙◌, arith, get_or, length, map, Option, Some, None, find, replicate}
 use Rattle.std.specs.Prelude.{◌⊎◌, is_some, slice_get, option_and_then}
-use Rattle.std.proofs.lemmas.Bool.{cases_Bool, cond-true, cond-false, and_left, and_right, ltb-true, ltb-false, lt-ltb}
+use Rattle.std.proofs.lemmas.Bool.{cases_lt, cases_Bool, cond-true, cond-false, and_left, and_right, ltb-true, ltb-false, lt-ltb}
 use Rattle.std.proofs.lemmas.Option.{slice_get-get_or, slice_get_past}
 use Rattle.fx_rules.specs.declared.orders.ActiveOrder.{ActiveOrder}
 use Rattle.fx_rules.specs.declared.orders.Resting.{Resting}
@@ -14,9 +14,10 @@ use Rattle.fx_rules.specs.Sound.{IsSound, IsKept}
 use Rattle.fx_rules.proofs.ListLemmas.{Each-weaker}
 use Rattle.fx_rules.proofs.Planning.{orders_in-here, orders_in-there}
 use Rattle.fx_rules.proofs.Soundness.{legal-sound}
+use Rattle.client_desk.specs.declared.client.Client.{Client}
 use Rattle.client_desk.specs.declared.rows.Slot.{Slot}
 use Rattle.client_desk.specs.Clients.{Tagged, entries_of, state_of, owner_in, is_client, when, bank_of_client, free_of, rests_for}
-use Rattle.client_desk.specs.Standing.{free_in, Sums, Row, Book, no_sums, no_slot, no_row, row_of, left_in, left_of, SlotStands, RowStands, StandsFor}
+use Rattle.client_desk.specs.Standing.{free_in, Sums, Row, Book, no_sums, no_slot, no_row, account_of, row_of, left_in, left_of, SlotStands, RowStands, StandsFor}
 use Rattle.client_desk.specs.inside.Books.{AreAllEmpty, empty_row, slot_numbered, slot_rests, some_rests, rests_in, owner_at}
 use Rattle.client_desk.proofs.Owners.{IsKnown, owner-none}
 
@@ -188,3 +189,42 @@ opens-for h book n session weights accounts senders empty = record {
     reserved = λ c within. ap (λ (s : Sums). s.reserved) (ap (λ (sums : List Sums). get_or sums c no_sums) accounts ∙ no-account n c);
   };
 }
+
+-- ---- one client more
+
+account-more : (sums : List Sums) (c : ℕ) → get_or (sums ++ no_sums ∷ []) c no_sums ≡ get_or sums c no_sums
+account-more [] zero = refl
+account-more [] (suc c) = refl
+account-more (s ∷ sums) zero = refl
+account-more (s ∷ sums) (suc c) = account-more sums c
+
+account-out : (sums : List Sums) (c : ℕ) → length sums ≤ c → get_or sums c no_sums ≡ no_sums
+account-out [] c out = refl
+account-out (s ∷ sums) zero out = absurd (omega arith)
+account-out (s ∷ sums) (suc c) out = account-out sums c (omega arith)
+
+-- no client has anything before the first command
+no-filled : (h : Header) (book : Book) (c : ℕ) → StandsFor h [] book → length book.accounts ≡ length book.clients → (account_of book c).filled ≡ 0
+no-filled h book c stands full = elim (cases_lt c (length book.clients)) [
+  | inl within ↦ stands.stands.filled c within
+  | inr out ↦ ap (λ (s : Sums). s.filled) (account-out book.accounts c (omega (arith, full)))
+]
+
+no-reserved : (h : Header) (book : Book) (c : ℕ) → StandsFor h [] book → length book.accounts ≡ length book.clients → (account_of book c).reserved ≡ 0
+no-reserved h book c stands full = elim (cases_lt c (length book.clients)) [
+  | inl within ↦ stands.stands.reserved c within
+  | inr out ↦ ap (λ (s : Sums). s.reserved) (account-out book.accounts c (omega (arith, full)))
+]
+
+pub declared-for : (h : Header) (book new : Book) (client : Client) → StandsFor h [] book → length book.accounts ≡ length book.clients → new ≡ record book { clients = book.clients ++ client ∷ []; accounts = book.accounts ++ no_sums ∷ [] } → StandsFor h [] new
+declared-for h book new client stands full is =
+    subst (StandsFor h []) (sym is) (record {
+      tagged_is = record { legal = stands.tagged_is.legal; tags = tt; passed = tt };
+      stands = record {
+        weights = stands.stands.weights;
+        senders = stands.stands.senders;
+        rows = stands.stands.rows;
+        filled = λ c within. ap (λ (s : Sums). s.filled) (account-more book.accounts c) ∙ no-filled h book c stands full;
+        reserved = λ c within. ap (λ (s : Sums). s.reserved) (account-more book.accounts c) ∙ no-reserved h book c stands full;
+      };
+    })

@@ -1,4 +1,4 @@
-ghost use Rattle.std.specs.Prelude.{ℕ, ◌≡◌, ◌<◌, ◌*◌, [], List, length, map, replicate, slice_index, nat_lt, if◌then◌else◌, IfOk};
+ghost use Rattle.std.specs.Prelude.{ℕ, ◌≡◌, ◌<◌, ◌*◌, [], ◌∷◌, ◌++◌, List, length, map, replicate, slice_index, nat_lt, if◌then◌else◌, IfOk, OnOk, OnErr};
 ghost use Rattle.fx_rules.specs.Session.{Header};
 ghost use Rattle.client_desk.specs.declared.ask.Ask.TheVariants.{Pass, Short, Barred};
 ghost use Rattle.client_desk.specs.Clients.{Tagged, AreClients, ask_of, filled_by, reserved_by, free_of, owner_in};
@@ -55,6 +55,19 @@ impl ClientBook {
             accounts,
             rows,
         })
+    }
+
+    /// Adds a client behind the others, before any command. After `Memory` the book is as it was.
+    pub fn declare(&mut self, client: Client) -> Result<(), Memory>
+        requires next { (h : Header) × StandsFor h [] self.old × AreClients h (self.old.clients ++ client ∷ []) }
+        ensures clients { OnOk result (self.new.clients ≡ self.old.clients ++ client ∷ []) }
+        ensures declared { OnOk result ((h : Header) → StandsFor h [] self.old → StandsFor h [] self.new) }
+        ensures memory { OnErr result (self.new ≡ self.old) }
+    {
+        self.accounts.reserve(1)?;
+        self.clients.push(client)?;
+        self.accounts.push_reserved(Account::open());
+        Ok(())
     }
 
     /// The clients, in the order in which they were declared. It takes no memory.

@@ -18,6 +18,7 @@ impl ClientBook {
     pub fn record(&mut self, who: Option<ClientId>, entry: &Entry) -> Result<(), Memory>
         requires next { (h : Header) × (tagged : List Tagged) × StandsFor h tagged self.old × IsTagged h self.old.clients (tagged ++ tag who entry.now ∷ []) }
         ensures recorded { OnOk result ((h : Header) (tagged : List Tagged) → StandsFor h tagged self.old → IsTagged h self.old.clients (tagged ++ tag who entry.now ∷ []) → StandsFor h (tagged ++ tag who entry.now ∷ []) self.new) }
+        ensures clients { OnOk result (self.new.clients ≡ self.old.clients) }
         ensures memory { OnErr result (self.new ≡ self.old) }
     {
         self.limit_fits(&who);
@@ -76,6 +77,7 @@ impl ClientBook {
     fn fill_all(&mut self, fills: &[Fill])
         requires drawn { CanFillAll self.old fills.now }
         ensures filled { FillsAll self.old self.new fills.now }
+        ensures clients { self.new.clients ≡ self.old.clients }
     {
         for fill in fills {
             self.fill(fill);
@@ -86,6 +88,7 @@ impl ClientBook {
     fn fill(&mut self, fill: &Fill)
         requires drawn { CanFill self.old fill.now }
         ensures filled { Fills self.old self.new fill.now }
+        ensures clients { self.new.clients ≡ self.old.clients }
     {
         // That each client has an account is known once a field is looked at.
         let _accounts = &self.accounts;
@@ -120,6 +123,7 @@ impl ClientBook {
     fn settle(&mut self, entry: &Entry)
         requires made { CanSettle self.old entry.now }
         ensures settled { Settles self.old self.new entry.now }
+        ensures clients { self.new.clients ≡ self.old.clients }
     {
         match entry.command {
             Command::Order { pair, life, .. } => match life {
@@ -151,6 +155,7 @@ impl ClientBook {
         requires rests { CanTake self.old pair bank number }
         ensures taken { Takes self.old self.new pair bank number }
         ensures swept { (row_of self.new bank).swept ≡ (row_of self.old bank).swept }
+        ensures clients { self.new.clients ≡ self.old.clients }
     {
         let lots = self.left(pair, bank, number);
         self.release(bank, number, pair, lots);
@@ -160,6 +165,7 @@ impl ClientBook {
     fn reduce(&mut self, pair: PairId, bank: BankId, number: u32, left: u32)
         requires rests { CanReduce self.old pair bank number left }
         ensures reduced { Reduces self.old self.new pair bank number left }
+        ensures clients { self.new.clients ≡ self.old.clients }
     {
         let lots = self.left(pair, bank, number);
         self.release(bank, number, pair, lots.saturating_sub(left));
@@ -170,6 +176,7 @@ impl ClientBook {
     fn pull(&mut self, pair: PairId, bank: BankId, last: u32)
         requires sender { CanPull self.old pair bank last }
         ensures pulled { Pulls self.old self.new pair bank last }
+        ensures clients { self.new.clients ≡ self.old.clients }
     {
         let first = self.swept(pair, bank);
         for place in first..last {

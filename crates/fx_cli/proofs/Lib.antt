@@ -1,5 +1,6 @@
 pub mod HeadlineLaws
 pub mod Served
+mod ClientTexts
 mod Watched
 pub mod TopCallLaws
 pub mod CheckLaws

@@ -4,7 +4,7 @@ use Rattle.std.specs.declared.alloc.Global.{Global}
 use Rattle.net_settle.specs.declared.form.Form.{Form}
 use Rattle.program_words.specs.Forms.{task_of}
 use Rattle.program_words.specs.declared.task.Task.{Task}
-use Rattle.program_words.specs.declared.task.Task.TheVariants.{Run, Serial, Check, Load, Payments, Watch}
+use Rattle.program_words.specs.declared.task.Task.TheVariants.{Run, Serial, Check, Load, Clients, Payments, Watch}
 use Rattle.fx_cli.specs.TopCall.{EndsExactly, IsOutputOf, ToldErr}
 use Rattle.fx_cli.specs.Headline.{IsHeadline, IsSerial}
 use Rattle.fx_cli.specs.SessionCall.{DidSession}
@@ -12,6 +12,7 @@ use Rattle.fx_cli.specs.Check.{SaysYes}
 use Rattle.fx_cli.specs.CheckCall.{DidCheck}
 use Rattle.fx_cli.specs.Payments.{IsPaymentsOf}
 use Rattle.fx_cli.specs.LoadCall.{DidLoad}
+use Rattle.fx_cli.specs.Clients.{IsClientsTextOf}
 use Rattle.fx_cli.specs.Watch.{IsWatchedOf}
 use Rattle.fx_cli.specs.declared.status.Status.{Status}
 use Rattle.fx_cli.specs.declared.status.Status.TheVariants.{Usage}
@@ -26,13 +27,14 @@ pub record Answered {S K E : Type 0} (left : S → Option (List ℕ)) (failed : 
   -- words in none of the forms are refused before anything is read or written
   pub usage : EndsExactly status Usage [] (asked words ≡ None)
   pub untouched : asked words ≡ None → (source' ≡ source) × (out' ≡ out)
-  -- what came of a session, on threads and in the order of its lines, of the check of an output, of a load, of an output's payments,
-  -- and of a session that is watched: what was read and written, and the cause of each status
+  -- what came of a session, on threads and in the order of its lines, of the check of an output, of a load, of a session with clients,
+  -- of an output's payments, and of a session that is watched: what was read and written, and the cause of each status
   pub run : (workers : ℕ) → asked words ≡ Some (Run workers) → DidSession (IsOutputOf IsHeadline) left failed written faults source source' out out' status
   pub serial : asked words ≡ Some Serial → DidSession (IsOutputOf IsSerial) left failed written faults source source' out out' status
   pub check : asked words ≡ Some Check → DidCheck SaysYes left failed written faults source source' out out' status
   pub load : (seed banks pairs commands workers : ℕ) → asked words ≡ Some (Load seed banks pairs commands workers) →
       DidLoad written faults seed banks pairs commands source source' out out' status
+  pub clients : asked words ≡ Some Clients → DidSession IsClientsTextOf left failed written faults source source' out out' status
   pub payments : (form : Form) → asked words ≡ Some (Payments form) → DidCheck (IsPaymentsOf form) left failed written faults source source' out out' status
   pub watch : asked words ≡ Some Watch → DidSession IsWatchedOf left failed written faults source source' out out' status
   -- standard error: the line of the status

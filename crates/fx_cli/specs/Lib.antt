@@ -8,6 +8,7 @@ pub mod Load
 pub mod LoadCall
 pub mod CheckCall
 pub mod Payments
+pub mod Clients
 pub mod Watch
 pub mod Answered
 pub mod KeptCall

@@ -69,7 +69,7 @@ block_text block = codes "journal block " ++ numeral block ++ codes " damaged\n"
 -- the line for standard error, none where all went well
 unfoldable pub err_text : Status → List ℕ
 err_text Done = []
-err_text Usage = codes "usage: fx_cli run [--workers N] | serial | check | load SEED BANKS PAIRS COMMANDS [--workers N] | payments bilateral | payments net | watch | keep | restart\n"
+err_text Usage = codes "usage: fx_cli run [--workers N] | serial | check | load SEED BANKS PAIRS COMMANDS [--workers N] | clients | payments bilateral | payments net | watch | keep | restart\n"
 err_text (Header line reason) = fault_text line reason
 err_text Cut = codes "input ended before END\n"
 err_text ReadFault = codes "read failed\n"

@@ -2,6 +2,7 @@
 #![tactic(auto)]
 
 mod check;
+mod clients;
 mod ending;
 mod kept;
 mod load;

@@ -80,7 +80,7 @@ impl Status {
             Status::Done => write_all(err, b""),
             Status::Usage => write_all(
                 err,
-                b"usage: fx_cli run [--workers N] | serial | check | load SEED BANKS PAIRS COMMANDS [--workers N] | payments bilateral | payments net | watch | keep | restart\n",
+                b"usage: fx_cli run [--workers N] | serial | check | load SEED BANKS PAIRS COMMANDS [--workers N] | clients | payments bilateral | payments net | watch | keep | restart\n",
             ),
             Status::Header { line, reason } => write_fault_line(alloc, line, reason, err),
             Status::Cut => write_all(err, b"input ended before END\n"),

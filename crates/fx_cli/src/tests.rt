@@ -17,6 +17,7 @@ use std::sync::atomic::Ordering::SeqCst;
 use std::test::Fail;
 use std::thread::Threads;
 
+mod clients;
 mod kept;
 mod refused;
 mod rounds;
@@ -25,7 +26,7 @@ mod threads;
 mod watching;
 
 const USAGE: &[u8] =
-    b"usage: fx_cli run [--workers N] | serial | check | load SEED BANKS PAIRS COMMANDS [--workers N] | payments bilateral | payments net | watch | keep | restart\n";
+    b"usage: fx_cli run [--workers N] | serial | check | load SEED BANKS PAIRS COMMANDS [--workers N] | clients | payments bilateral | payments net | watch | keep | restart\n";
 
 // The calls of an end that fail, counted from 1.
 #[derive(Clone, Copy, Debug)]

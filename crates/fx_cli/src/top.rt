@@ -5,6 +5,7 @@ ghost use Rattle.net_settle.specs.declared.form.Form.{Form};
 ghost use Rattle.fx_cli.specs.Answered.{Answered, asked};
 ghost use Rattle.fx_cli.specs.Headline.{IsHeadline, IsSerial};
 ghost use Rattle.fx_cli.specs.Check.{Checked, SaysYes};
+ghost use Rattle.fx_cli.specs.Clients.{IsClientsTextOf};
 ghost use Rattle.fx_cli.specs.Load.{Loaded};
 ghost use Rattle.fx_cli.specs.Payments.{IsPaymentsOf};
 ghost use Rattle.fx_cli.specs.KeptCall.{AnsweredTop};
@@ -14,6 +15,7 @@ ghost use Rattle.fx_cli.specs.Watch.{IsWatchedOf};
 ghost use Rattle.fx_cli.specs.inside.TopCall.{Refused};
 
 use crate::check::check;
+use crate::clients::clients;
 use crate::kept::follow_kept;
 use crate::load::load;
 use crate::payments::payments;
@@ -39,15 +41,17 @@ use std::thread::Threads;
 ///   are the output of a legal history, else `NO` and the offset at which they are not.
 /// - `load SEED BANKS PAIRS COMMANDS`, also followed by `--workers N`: makes a session from a number, runs it both ways and
 ///   writes a summary. It reads nothing.
+/// - `clients`: runs a session as `serial` does, where clients trade in their banks' names, and writes behind its output what each
+///   client has and was told.
 /// - `payments bilateral`, `payments net`: reads an output as `check` does, and writes what the banks pay by its history; where
 ///   the bytes are no output, it writes what `check` does.
 /// - `watch`: runs a session as `run` does, and writes behind its output what a reader saw of it meanwhile.
 ///
 /// Refusals come in the order `Usage`; `Header`; the first of `ReadFault`, `Cut` and `TooMuch` that the reading meets. Where
-/// START was read by then, `run`, `serial` and `watch` write the output of the whole lines so far, with a last line that names the
+/// START was read by then, `run`, `serial`, `clients` and `watch` write the output of the whole lines so far, with a last line that names the
 /// refusal; else nothing. `WriteFault` takes the place of `Done`, `Differs` and of these three where it comes while the
 /// output is written, and `Memory` that of any. With `run`, `load` and `watch` it may wait;
-/// `serial`, `check` and `payments` are handed nothing by which they could.
+/// `serial`, `check`, `clients` and `payments` are handed nothing by which they could.
 pub fn fx_main<R: AllocGlobal + Threads + Wait + Sync, S: Source, K: Sink, E: Sink, G: Gate + Sync>(
     rt: &R,
     words: &[String],
@@ -111,6 +115,7 @@ fn follow<R: AllocGlobal + Threads + Wait + Sync, S: Source, K: Sink, G: Gate + 
     ensures serial { asked words.now ≡ Some Task.Serial → Ran (IsOutputOf IsSerial) S.left S.faults K.written K.faults source.old source.new out.old out.new result }
     ensures check { asked words.now ≡ Some Task.Check → Checked SaysYes S.left S.faults K.written K.faults source.old source.new out.old out.new result }
     ensures load { (seed banks pairs commands workers : ℕ) → asked words.now ≡ Some (Task.Load seed banks pairs commands workers) → Loaded K.written K.faults out.old out.new seed banks pairs commands result }
+    ensures clients { asked words.now ≡ Some Task.Clients → Ran IsClientsTextOf S.left S.faults K.written K.faults source.old source.new out.old out.new result }
     ensures payments { (form : Form) → asked words.now ≡ Some (Task.Payments form) → Checked (IsPaymentsOf form) S.left S.faults K.written K.faults source.old source.new out.old out.new result }
     ensures watch { asked words.now ≡ Some Task.Watch → Ran IsWatchedOf S.left S.faults K.written K.faults source.old source.new out.old out.new result }
     ensures unread { (seed banks pairs commands workers : ℕ) → asked words.now ≡ Some (Task.Load seed banks pairs commands workers) → source.new ≡ source.old }
@@ -130,6 +135,7 @@ fn follow<R: AllocGlobal + Threads + Wait + Sync, S: Source, K: Sink, G: Gate + 
                 workers,
             },
         ) => load(rt, seed, banks, pairs, commands, workers, out, gate),
+        Ok(Task::Clients) => clients(rt.alloc(), source, out),
         Ok(Task::Payments { form }) => payments(rt.alloc(), form, source, out),
         Ok(Task::Watch) => watch(rt, source, out, gate),
         Err(WordsFault::Usage) => Status::Usage,

@@ -250,7 +250,7 @@ nil-back (x ∷ xs) ys is = absurd cc
 -- a reading that goes on behind a header has said nothing
 pub resumed-here : {front : List ℕ} {S : Type 0} {left : S → Option (List ℕ)} {failed : S → ℕ} {a b : S} {reading : Reading} {h : Header} → HasReadBehind front left failed a b reading h [] → HasReadBehind front left failed a b reading h (sent_at reading.intake.stage)
 resumed-here {front = front} {left = left} {failed = failed} {a = a} {b = b} {reading = reading} {h = h} has =
-    subst (λ (ss : List Sent). HasReadBehind front left failed a b reading h ss) (sym (nil-back has.former (sent_at reading.intake.stage) has.all_is)) has
+    subst (λ (ss : List Sent). HasReadBehind front left failed a b reading h ss) (sym (nil-back has.former.sent (sent_at reading.intake.stage) has.all_is)) has
 
 -- behind the header of a known session
 pub resumed : {S : Type 0} (left : S → Option (List ℕ)) (failed : S → ℕ) {source : S} {reading : Reading} {session h : Header} → session ≡ h → HasReadBehind (head_text_of session) left failed source source reading session []

@@ -19,10 +19,10 @@ use Rattle.program_words.specs.declared.reading.WordsFault.{WordsFault}
 use Rattle.program_words.specs.declared.reading.WordsFault.TheVariants.{Usage, Memory}
 use Rattle.program_words.proofs.MatchedLemmas.{some_is}
 use Rattle.program_words.specs.declared.task.Task.{Task}
-use Rattle.program_words.specs.declared.task.Task.TheVariants.{Run, Serial, Check, Payments, Watch}
+use Rattle.program_words.specs.declared.task.Task.TheVariants.{Run, Serial, Check, Clients, Payments, Watch}
 use Rattle.program_words.specs.Forms.{◌>>=◌, workers_of, alone, load_of, form_of, payments_of, task_of}
 use Rattle.program_words.proofs.Walking.{IsPlain, plain}
-use Rattle.program_words.proofs.Taken.{IsTaken, load_alone, load_with, run_with, run_alone, serial_alone, check_alone, watch_alone, payments_taken_by}
+use Rattle.program_words.proofs.Taken.{IsTaken, load_alone, load_with, run_with, run_alone, serial_alone, check_alone, clients_alone, watch_alone, payments_taken_by}
 
 -- what a step gave
 pub record Gave {A B : Type 0} (given : Option A) (f : A → Option B) (b : B) : Type 0 where
@@ -122,18 +122,19 @@ named word name rest is taken = subst (λ (w : Text). IsTaken (w ∷ rest)) (sym
 -- Words that ask for a task are taken.
 pub all_taken : (words : List Text) (task : Task) → task_of words ≡ Some task → IsTaken words
 all_taken [] task e = absurd (none-some task e)
-all_taken (word ∷ rest) task e = go (bytes_eq word (codes "run")) (bytes_eq word (codes "serial")) (bytes_eq word (codes "check")) (bytes_eq word (codes "load")) (bytes_eq word (codes "payments")) (bytes_eq word (codes "watch")) refl refl refl refl refl refl e
+all_taken (word ∷ rest) task e = go (bytes_eq word (codes "run")) (bytes_eq word (codes "serial")) (bytes_eq word (codes "check")) (bytes_eq word (codes "load")) (bytes_eq word (codes "clients")) (bytes_eq word (codes "payments")) (bytes_eq word (codes "watch")) refl refl refl refl refl refl refl e
   where
-    go : (run serial check load pay watch : Bool) → bytes_eq word (codes "run") ≡ run → bytes_eq word (codes "serial") ≡ serial → bytes_eq word (codes "check") ≡ check → bytes_eq word (codes "load") ≡ load → bytes_eq word (codes "payments") ≡ pay → bytes_eq word (codes "watch") ≡ watch
-        → (if run then run_of rest else if serial then alone Serial rest else if check then alone Check rest else if load then load_of rest else if pay then payments_of rest else if watch then alone Watch rest else None) ≡ Some task
+    go : (run serial check load clients pay watch : Bool) → bytes_eq word (codes "run") ≡ run → bytes_eq word (codes "serial") ≡ serial → bytes_eq word (codes "check") ≡ check → bytes_eq word (codes "load") ≡ load → bytes_eq word (codes "clients") ≡ clients → bytes_eq word (codes "payments") ≡ pay → bytes_eq word (codes "watch") ≡ watch
+        → (if run then run_of rest else if serial then alone Serial rest else if check then alone Check rest else if load then load_of rest else if clients then alone Clients rest else if pay then payments_of rest else if watch then alone Watch rest else None) ≡ Some task
         → IsTaken (word ∷ rest)
-    go true serial check load pay watch r s k l p w given = named word (codes "run") rest r (run_taken rest task given)
-    go false true check load pay watch r s k l p w given = named word (codes "serial") rest s (alone_taken (codes "serial") Serial rest task serial_alone given)
-    go false false true load pay watch r s k l p w given = named word (codes "check") rest k (alone_taken (codes "check") Check rest task check_alone given)
-    go false false false true pay watch r s k l p w given = named word (codes "load") rest l (load_taken rest task given)
-    go false false false false true watch r s k l p w given = named word (codes "payments") rest p (payments_taken rest task given)
-    go false false false false false true r s k l p w given = named word (codes "watch") rest w (alone_taken (codes "watch") Watch rest task watch_alone given)
-    go false false false false false false r s k l p w given = absurd (none-some task given)
+    go true serial check load clients pay watch r s k l n p w given = named word (codes "run") rest r (run_taken rest task given)
+    go false true check load clients pay watch r s k l n p w given = named word (codes "serial") rest s (alone_taken (codes "serial") Serial rest task serial_alone given)
+    go false false true load clients pay watch r s k l n p w given = named word (codes "check") rest k (alone_taken (codes "check") Check rest task check_alone given)
+    go false false false true clients pay watch r s k l n p w given = named word (codes "load") rest l (load_taken rest task given)
+    go false false false false true pay watch r s k l n p w given = named word (codes "clients") rest n (alone_taken (codes "clients") Clients rest task clients_alone given)
+    go false false false false false true watch r s k l n p w given = named word (codes "payments") rest p (payments_taken rest task given)
+    go false false false false false false true r s k l n p w given = named word (codes "watch") rest w (alone_taken (codes "watch") Watch rest task watch_alone given)
+    go false false false false false false false r s k l n p w given = absurd (none-some task given)
 
 -- Why words are in no form.
 

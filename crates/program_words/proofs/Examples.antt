@@ -3,7 +3,7 @@ use Rattle.std.proofs.Common.{◌≡◌, [], ◌∷◌, Some, None, refl, codes}
 use Rattle.fx_amounts.specs.Numeral.{is_numeral}
 use Rattle.fx_text.specs.Number.{number_of}
 use Rattle.net_settle.specs.declared.form.Form.TheVariants.{Bilateral, Net}
-use Rattle.program_words.specs.declared.task.Task.TheVariants.{Run, Serial, Check, Load, Payments, Watch}
+use Rattle.program_words.specs.declared.task.Task.TheVariants.{Run, Serial, Check, Load, Clients, Payments, Watch}
 use Rattle.program_words.specs.declared.kept.KeptTask.TheVariants.{Keep, Restart}
 use Rattle.program_words.specs.Forms.{task_of, kept_task_of}
 
@@ -34,6 +34,9 @@ payments_of_each_two = refl
 
 payments_netted : task_of (codes "payments" ∷ codes "net" ∷ []) ≡ Some (Payments Net)
 payments_netted = refl
+
+clients : task_of (codes "clients" ∷ []) ≡ Some Clients
+clients = refl
 
 watch : task_of (codes "watch" ∷ []) ≡ Some Watch
 watch = refl

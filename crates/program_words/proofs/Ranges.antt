@@ -6,7 +6,7 @@ use Rattle.fx_text.specs.Number.{number_of}
 use Rattle.fx_text.proofs.NumberLemmas.{Reads, Reads-number_of}
 use Rattle.clap.specs.Words.{Text}
 use Rattle.program_words.specs.declared.task.Task.{Task}
-use Rattle.program_words.specs.declared.task.Task.TheVariants.{Run, Serial, Check, Load, Payments, Watch}
+use Rattle.program_words.specs.declared.task.Task.TheVariants.{Run, Serial, Check, Load, Clients, Payments, Watch}
 use Rattle.program_words.specs.Forms.{◌>>=◌, workers_of, alone, load_of, form_of, payments_of, task_of, AreWorkers, IsTask}
 use Rattle.program_words.proofs.MatchedLemmas.{some_is}
 use Rattle.program_words.proofs.Complete.{gave, run_of}
@@ -84,15 +84,16 @@ payments_is_task (word ∷ more ∷ rest) task e = absurd (none-some task e)
 
 pub task_is_task : (words : List Text) (task : Task) → task_of words ≡ Some task → IsTask task
 task_is_task [] task e = absurd (none-some task e)
-task_is_task (word ∷ rest) task e = go (bytes_eq word (codes "run")) (bytes_eq word (codes "serial")) (bytes_eq word (codes "check")) (bytes_eq word (codes "load")) (bytes_eq word (codes "payments")) (bytes_eq word (codes "watch")) e
+task_is_task (word ∷ rest) task e = go (bytes_eq word (codes "run")) (bytes_eq word (codes "serial")) (bytes_eq word (codes "check")) (bytes_eq word (codes "load")) (bytes_eq word (codes "clients")) (bytes_eq word (codes "payments")) (bytes_eq word (codes "watch")) e
   where
-    go : (run serial check load pay watch : Bool)
-        → (if run then run_of rest else if serial then alone Serial rest else if check then alone Check rest else if load then load_of rest else if pay then payments_of rest else if watch then alone Watch rest else None) ≡ Some task
+    go : (run serial check load clients pay watch : Bool)
+        → (if run then run_of rest else if serial then alone Serial rest else if check then alone Check rest else if load then load_of rest else if clients then alone Clients rest else if pay then payments_of rest else if watch then alone Watch rest else None) ≡ Some task
         → IsTask task
-    go true serial check load pay watch given = run_is_task rest task given
-    go false true check load pay watch given = alone_is_task Serial rest task tt given
-    go false false true load pay watch given = alone_is_task Check rest task tt given
-    go false false false true pay watch given = load_is_task rest task given
-    go false false false false true watch given = payments_is_task rest task given
-    go false false false false false true given = alone_is_task Watch rest task tt given
-    go false false false false false false given = absurd (none-some task given)
+    go true serial check load clients pay watch given = run_is_task rest task given
+    go false true check load clients pay watch given = alone_is_task Serial rest task tt given
+    go false false true load clients pay watch given = alone_is_task Check rest task tt given
+    go false false false true clients pay watch given = load_is_task rest task given
+    go false false false false true pay watch given = alone_is_task Clients rest task tt given
+    go false false false false false true watch given = payments_is_task rest task given
+    go false false false false false false true given = alone_is_task Watch rest task tt given
+    go false false false false false false false given = absurd (none-some task given)

@@ -188,7 +188,7 @@ run_with n pn = record {
 -- `payments`
 
 abbrev payments_leaf : Shape
-payments_leaf = leaf 4
+payments_leaf = leaf 5
 
 abbrev payments_held : Text → Held
 payments_held w = (to_positional payments_leaf.rules (arg_by_index payments_leaf.rules 1) w (at_place 1 nothing_held) nothing_held).held
@@ -229,6 +229,10 @@ serial_alone = record { taken = refl; back = refl }
 pub check_alone : IsTaken (codes "check" ∷ [])
 unfolding clap_on_literals
 check_alone = record { taken = refl; back = refl }
+
+pub clients_alone : IsTaken (codes "clients" ∷ [])
+unfolding clap_on_literals
+clients_alone = record { taken = refl; back = refl }
 
 pub watch_alone : IsTaken (codes "watch" ∷ [])
 unfolding clap_on_literals

@@ -4,7 +4,7 @@ use Rattle.fx_text.specs.Number.{number_of}
 use Rattle.net_settle.specs.declared.form.Form.{Form}
 use Rattle.net_settle.specs.declared.form.Form.TheVariants.{Bilateral, Net}
 use Rattle.program_words.specs.declared.task.Task.{Task}
-use Rattle.program_words.specs.declared.task.Task.TheVariants.{Run, Serial, Check, Load, Payments, Watch}
+use Rattle.program_words.specs.declared.task.Task.TheVariants.{Run, Serial, Check, Load, Clients, Payments, Watch}
 use Rattle.program_words.specs.declared.kept.KeptTask.{KeptTask}
 use Rattle.program_words.specs.declared.kept.KeptTask.TheVariants.{Keep, Restart}
 
@@ -56,6 +56,7 @@ task_of (word ∷ rest) =
     else if bytes_eq word (codes "serial") then alone Serial rest
     else if bytes_eq word (codes "check") then alone Check rest
     else if bytes_eq word (codes "load") then load_of rest
+    else if bytes_eq word (codes "clients") then alone Clients rest
     else if bytes_eq word (codes "payments") then payments_of rest
     else if bytes_eq word (codes "watch") then alone Watch rest
     else None

@@ -19,6 +19,7 @@ pub(crate) fn command_line<'a>(alloc: Global) -> Result<Command<'a>, Memory>
         .subcommand(Command::new(alloc, "serial"))?
         .subcommand(Command::new(alloc, "check"))?
         .subcommand(load_command(alloc)?)?
+        .subcommand(Command::new(alloc, "clients"))?
         .subcommand(payments_command(alloc)?)?
         .subcommand(Command::new(alloc, "watch"))?;
     Ok(tool)

@@ -25,6 +25,7 @@ pub(crate) enum Matched<'a> {
         commands: &'a str,
         workers: Option<&'a str>,
     },
+    Clients,
     Payments {
         form: &'a str,
     },
@@ -44,6 +45,7 @@ impl<'a> Matched<'a> {
             "serial" => Some(Matched::Serial),
             "check" => Some(Matched::Check),
             "load" => load_in(inner),
+            "clients" => Some(Matched::Clients),
             "payments" => payments_in(inner),
             "watch" => Some(Matched::Watch),
             _ => None,
@@ -76,6 +78,7 @@ impl<'a> Matched<'a> {
                 words.push(*commands)?;
                 push_option(&mut words, *workers)?;
             }
+            Matched::Clients => words.push("clients")?,
             Matched::Payments { form } => {
                 words.push("payments")?;
                 words.push(*form)?;
@@ -108,6 +111,7 @@ impl<'a> Matched<'a> {
                 commands: number(commands.as_bytes(), 1, 20_000)? as u32,
                 workers: workers_from(*workers)?,
             }),
+            Matched::Clients => Some(Task::Clients),
             Matched::Payments { form } => Some(Task::Payments {
                 form: form_from(form)?,
             }),

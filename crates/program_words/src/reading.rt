@@ -64,6 +64,7 @@ fn memory_told_by(kind: ErrorKind) -> Option<Memory>
 /// - `serial`
 /// - `check`
 /// - `load SEED BANKS PAIRS COMMANDS`, also followed by `--workers N`
+/// - `clients`
 /// - `payments bilateral` or `payments net`
 /// - `watch`
 ///

@@ -23,6 +23,8 @@ pub enum Task {
         commands: u32,
         workers: u32,
     },
+    /// To run a session whose banks have clients, in the order of its lines.
+    Clients,
     /// To read an output, and tell what the banks pay.
     Payments {
         form: Form,

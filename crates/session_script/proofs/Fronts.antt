@@ -1,5 +1,5 @@
 -- The first lines of a text, where each is a command in its one spelling.
-use Rattle.std.proofs.Common.{◌≡◌, ℕ, ◌<◌, Bool, false, List, [], ◌∷◌, ◌++◌, length, take, refl, sym, ap, ◌∙◌, subst, arith, append_assoc, append-nil}
+use Rattle.std.proofs.Common.{◌≡◌, ℕ, ◌<◌, Bool, true, false, List, [], ◌∷◌, ◌++◌, length, take, refl, sym, ap, ◌∙◌, subst, arith, append_assoc, append-nil}
 use Rattle.std.proofs.Math.Seq.{take-append_seam}
 use Rattle.fx_rules.specs.Lists.{Each}
 use Rattle.fx_rules.specs.Sending.{IsSentOf}
@@ -12,7 +12,7 @@ use Rattle.order_lines.specs.Spelling.{command_text_of}
 use Rattle.order_lines.specs.declared.spoken.Spoken.{Spoken}
 use Rattle.order_lines.specs.declared.spoken.Spoken.TheVariants.{Of}
 use Rattle.session_script.specs.Script.{has_end, sent_among}
-use Rattle.session_script.specs.Stage.{StandsAt, Tells}
+use Rattle.session_script.specs.Stage.{Past, StandsAt, Tells, Hears}
 use Rattle.session_script.specs.inside.Stage.{AddsLines, AddsFront, TakesFront, counted}
 use Rattle.session_script.specs.declared.script.Script.{Script}
 use Rattle.session_script.specs.declared.intake.stage.Stage.{Stage}
@@ -54,8 +54,8 @@ AddsLines-line h first old new text rest behind line sent adds starts less spell
 }
 
 -- a script with the commands that were added
-pub AddsFront-lines : (old new : Script) (text rest : List ℕ) → AddsLines old.session old.sent.items new.sent.items text rest → new.session ≡ old.session → new.strays ≡ old.strays → AddsFront old new text rest
-AddsFront-lines old new text rest adds same strays = record {
+pub AddsFront-lines : (old new : Script) (text rest : List ℕ) → AddsLines old.session old.sent.items new.sent.items text rest → new.session ≡ old.session → new.strays ≡ old.strays → new.keeps ≡ old.keeps → old.keeps ≡ false → AddsFront old new text rest
+AddsFront-lines old new text rest adds same strays kept never = record {
   done = adds.done;
   lines = adds.lines;
   behind = adds.behind;
@@ -64,6 +64,21 @@ AddsFront-lines old new text rest adds same strays = record {
   tells = λ lines former tells.
       subst (λ (h : Header). Tells (lines ++ adds.done) h (former ++ new.sent.items) new.strays false) (sym same)
       (subst (λ (n : ℕ). Tells (lines ++ adds.done) old.session (former ++ new.sent.items) n false) (sym strays) (adds.tells lines former old.strays tells));
+  hears = λ lines former hears.
+      let none : former.keeps ≡ true → ⊥ = λ on. let e : true ≡ false = sym on ∙ sym hears.keeps ∙ never in cc in
+      record { keeps = kept ∙ hears.keeps; heard = λ on. absurd (none on); valid = λ on. absurd (none on) };
+}
+
+-- a script to which nothing was added
+pub AddsFront-none : (script : Script) (text : List ℕ) → AddsFront script script text text
+AddsFront-none script text = record {
+  done = [];
+  lines = refl;
+  behind = refl;
+  shorter = omega arith;
+  session = refl;
+  tells = λ lines former tells. subst (λ (all : List Line). Tells all script.session (former ++ script.sent.items) script.strays false) (sym (append-nil lines)) tells;
+  hears = λ lines former hears. subst (λ (all : List Line). Hears all former script) (sym (append-nil lines)) hears;
 }
 
 pub TakesFront-script : (stage : Stage) (old new : Script) (ended : Bool) (text rest : List ℕ) → stage ≡ Commanding old ended → ended ≡ false → AddsFront old new text rest
@@ -74,9 +89,11 @@ TakesFront-script stage old new ended text rest is goes adds = record {
   behind = adds.behind;
   shorter = adds.shorter;
   stands = λ lines former at.
-      let before : Tells lines old.session (former ++ old.sent.items) old.strays ended = subst (λ (s : Stage). StandsAt s lines former) is at in
-      subst (λ (e : Bool). Tells (lines ++ adds.done) new.session (former ++ new.sent.items) new.strays e) (sym goes)
-      (adds.tells lines former (subst (λ (e : Bool). Tells lines old.session (former ++ old.sent.items) old.strays e) goes before));
+      let before : StandsAt (Commanding old ended) lines former = subst (λ (s : Stage). StandsAt s lines former) is at in (
+        subst (λ (e : Bool). Tells (lines ++ adds.done) new.session (former.sent ++ new.sent.items) new.strays e) (sym goes)
+            (adds.tells lines former.sent (subst (λ (e : Bool). Tells lines old.session (former.sent ++ old.sent.items) old.strays e) goes before.0)),
+        adds.hears lines former before.1,
+      );
 }
 
 -- a line more, and then the first lines of what stands behind it
@@ -85,7 +102,7 @@ lines_go_on all done front after rest behind line is next on =
     is ∙ ap (λ (more : List Line). done ++ more) (next ∙ ap (λ (more : List Line). line ∷ more) on)
     ∙ sym (append_assoc done (line ∷ []) (front ++ after)) ∙ sym (append_assoc (done ++ line ∷ []) front after)
 
-pub StandsAt-goes_on : (stage : Stage) (lines done front : List Line) (line : Line) (former : List Sent) → StandsAt stage (((lines ++ done) ++ line ∷ []) ++ front) former → StandsAt stage (lines ++ ((done ++ line ∷ []) ++ front)) former
+pub StandsAt-goes_on : (stage : Stage) (lines done front : List Line) (line : Line) (former : Past) → StandsAt stage (((lines ++ done) ++ line ∷ []) ++ front) former → StandsAt stage (lines ++ ((done ++ line ∷ []) ++ front)) former
 StandsAt-goes_on stage lines done front line former at =
     subst (λ (all : List Line). StandsAt stage all former)
     (ap (λ (all : List Line). all ++ front) (append_assoc lines done (line ∷ [])) ∙ append_assoc lines (done ++ line ∷ []) front) at

@@ -1,4 +1,5 @@
 pub mod ScriptLaws
+pub mod Hearing
 pub mod Taking
 pub mod Journaling
 pub mod Fronts

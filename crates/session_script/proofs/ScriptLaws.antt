@@ -72,7 +72,7 @@ chosen_short : (b : Bool) (left right : List Line) (n : ℕ) → length left ≤
 chosen_short true left right n first second = first
 chosen_short false left right n first second = second
 
-lines_behind-append : (head : Head) (lines more : List Line) → is_started head ≡ false → is_started (with_lines head lines) ≡ true → lines_behind head (lines ++ more) ≡ lines_behind head lines ++ more
+pub lines_behind-append : (head : Head) (lines more : List Line) → is_started head ≡ false → is_started (with_lines head lines) ≡ true → lines_behind head (lines ++ more) ≡ lines_behind head lines ++ more
 lines_behind-append head [] more before behind = absurd (cc)
 lines_behind-append head (line ∷ lines) more before behind =
     chosen_more (is_started (with_line head line)) lines (lines_behind (with_line head line) lines) (lines_behind (with_line head line) (lines ++ more)) more

@@ -1,5 +1,5 @@
 -- The reading of a session's text, read by read and round by round.
-use Rattle.std.proofs.Common.{◌≡◌, ℕ, ◌+◌, ◌<◌, ◌≤◌, true, List, [], ◌++◌, Option, Some, None, Result, Ok, Err, inl, inr, length, refl, sym, ap, ◌∙◌, subst, arith, append-nil, append_assoc, length-append}
+use Rattle.std.proofs.Common.{◌≡◌, ℕ, ◌+◌, ◌<◌, ◌≤◌, Bool, true, false, List, [], ◌++◌, Option, Some, None, Result, Ok, Err, inl, inr, length, refl, sym, ap, ◌∙◌, subst, arith, append-nil, append_assoc, length-append}
 use Rattle.std.specs.Prelude.{IsSome, OnOk}
 use Rattle.std.specs.Io.KnownBytes.{IsAtEnd}
 use Rattle.fx_amounts.specs.OutOfMemory.{refused}
@@ -7,6 +7,7 @@ use Rattle.fx_edges.specs.Faults.{Rose}
 use Rattle.fx_edges.specs.Reading.{Took}
 use Rattle.fx_edges.proofs.Reading.{Took-nil, Took-append, Took-failed, prepend_known-nil}
 use Rattle.fx_rules.specs.declared.command.Sent.{Sent}
+use Rattle.fx_rules.specs.Lists.{Each}
 use Rattle.fx_rules.specs.Session.{Header as SessionHeader, IsSession}
 use Rattle.fx_text.specs.Lines.{lines_of, rest_of}
 use Rattle.session_head.specs.Head as heads
@@ -16,13 +17,15 @@ use Rattle.session_head.proofs.RoundLemmas.{head_text-ends, head_text-whole}
 use Rattle.session_script.specs.Input.{input_limit}
 use Rattle.session_script.specs.Script.{lines_behind}
 use Rattle.session_script.specs.inside.Script.{is_started}
-use Rattle.session_script.specs.Stage.{StandsAt, session_at, sent_at, strays_at}
-use Rattle.session_script.specs.inside.Stage.{is_open}
+use Rattle.session_script.specs.Heard.{IsHeardOf, heard_in, heard_of}
+use Rattle.session_script.specs.Stage.{Past, StandsAt, no_past, session_at, sent_at, strays_at, heard_at}
+use Rattle.session_script.specs.declared.heard.Heard.{Heard}
+use Rattle.session_script.specs.inside.Stage.{is_open, past_behind}
 use Rattle.session_script.specs.Intake.{StandsFor}
 use Rattle.session_script.specs.inside.Intake.{IsSettled, Closed}
 use Rattle.session_script.specs.Reading.{GoesOn, HasNotStarted, IsPromptBehind, MetEnd, SaysBehind, ProgressedBehind, TextEndedBehind, Stopped}
 use Rattle.session_script.specs.inside.Reading.{RoundCame}
-use Rattle.session_script.specs.Rounds.{IsFront, TookOnBehind, HasReadBehind, HasStopped}
+use Rattle.session_script.specs.Rounds.{IsFront, TookOnBehind, HasReadBehind, HasHeardBehind, HasStopped}
 use Rattle.session_script.specs.inside.Rounds.{ReadsOn, TookRound}
 use Rattle.session_script.specs.declared.ends.EarlyEnd.{EarlyEnd}
 use Rattle.session_script.specs.declared.ends.EarlyEnd.TheVariants.{Cut, ReadFault, TooMuch}
@@ -35,6 +38,7 @@ use Rattle.session_script.specs.declared.intake.stage.Stage.{Stage}
 use Rattle.session_script.specs.declared.intake.stage.Stage.TheVariants.{Heading, Commanding, Faulted}
 use Rattle.session_script.specs.declared.reading.Reading.{Reading}
 use Rattle.session_script.proofs.ScriptLaws.{HasSession-no_fault, lines_behind-start, length-spoken_behind}
+use Rattle.session_script.proofs.Hearing.{heard_in-few}
 use Rattle.session_script.proofs.Closing.{heading-goes_on, heading-no_session, faulted-has, told_says}
 
 -- an empty text
@@ -58,8 +62,8 @@ front-head h session =
 pub GoesOn-nil : GoesOn []
 GoesOn-nil = heading-goes_on [] (heads.Begun 0) (sym (ap read_head no_lines)) refl
 
-pub ReadsOn-nil : {S : Type 0} (left : S → Option (List ℕ)) (faults : S → ℕ) (source : S) (intake : Intake) → StandsFor intake [] [] → intake.taken ≡ 0 → ReadsOn [] left faults source source intake [] []
-ReadsOn-nil left faults source intake stands none = record {
+pub ReadsOn-nil : {S : Type 0} (left : S → Option (List ℕ)) (faults : S → ℕ) (source : S) (intake : Intake) (keeps : Bool) → StandsFor intake [] (no_past keeps) → intake.taken ≡ 0 → ReadsOn [] left faults source source intake (no_past keeps) []
+ReadsOn-nil left faults source intake keeps stands none = record {
   took = Took-nil left faults source;
   stands = stands;
   taken = none;
@@ -74,15 +78,15 @@ prompt_there : (front input piece : List ℕ) → GoesOn (front ++ input) → le
 prompt_there front input piece going short = record { before = input; last = piece; joined = refl; short = short; goes_on = going }
 
 -- within a round that began behind some input: more was taken, which goes on
-pub record InRound (front : List ℕ) {S : Type 0} (left : S → Option (List ℕ)) (faults : S → ℕ) (before now : S) (intake : Intake) (former : List Sent) (begun : List ℕ) : Type 0 where
+pub record InRound (front : List ℕ) {S : Type 0} (left : S → Option (List ℕ)) (faults : S → ℕ) (before now : S) (intake : Intake) (former : Past) (begun : List ℕ) : Type 0 where
   pub more : List ℕ
   pub reads : ReadsOn front left faults before now intake former (begun ++ more)
 
 -- how many bytes were taken
-count_of : {front : List ℕ} {S : Type 0} {left : S → Option (List ℕ)} {faults : S → ℕ} {a b : S} {intake : Intake} {former : List Sent} {begun : List ℕ} (so_far : InRound front left faults a b intake former begun) → intake.taken ≡ length (begun ++ so_far.more)
+count_of : {front : List ℕ} {S : Type 0} {left : S → Option (List ℕ)} {faults : S → ℕ} {a b : S} {intake : Intake} {former : Past} {begun : List ℕ} (so_far : InRound front left faults a b intake former begun) → intake.taken ≡ length (begun ++ so_far.more)
 count_of so_far = so_far.reads.taken
 
-pub InRound-begun : {front : List ℕ} {S : Type 0} {left : S → Option (List ℕ)} {faults : S → ℕ} {a b : S} {intake : Intake} {former : List Sent} {begun : List ℕ} (later : List Sent) (now : Intake) → now.cutter ≡ intake.cutter → now.taken ≡ intake.taken
+pub InRound-begun : {front : List ℕ} {S : Type 0} {left : S → Option (List ℕ)} {faults : S → ℕ} {a b : S} {intake : Intake} {former : Past} {begun : List ℕ} (later : Past) (now : Intake) → now.cutter ≡ intake.cutter → now.taken ≡ intake.taken
     → ReadsOn front left faults a b intake former begun → StandsAt now.stage (lines_of (front ++ begun)) later → InRound front left faults a b now later begun
 InRound-begun {front = front} {left = left} {faults = faults} {a = a} {b = b} {begun = begun} later now held taken reads at = record {
   more = [];
@@ -91,7 +95,7 @@ InRound-begun {front = front} {left = left} {faults = faults} {a = a} {b = b} {b
 }
 
 -- a read that failed
-pub TookRound-fault : {front : List ℕ} {S : Type 0} {left : S → Option (List ℕ)} {faults : S → ℕ} {a b c : S} {intake : Intake} {former : List Sent} {begun : List ℕ} → InRound front left faults a b intake former begun
+pub TookRound-fault : {front : List ℕ} {S : Type 0} {left : S → Option (List ℕ)} {faults : S → ℕ} {a b c : S} {intake : Intake} {former : Past} {begun : List ℕ} → InRound front left faults a b intake former begun
     → intake.taken < input_limit → left c ≡ left b → Rose (faults b) (faults c) → faults b ≤ faults c → TookRound front left faults a c intake former begun (Ok (Some (Early ReadFault)))
 TookRound-fault {front = front} {begun = begun} so_far short same rose count = record {
   more = so_far.more;
@@ -105,7 +109,7 @@ TookRound-fault {front = front} {begun = begun} so_far short same rose count = r
 }
 
 -- the limit was met
-pub TookRound-much : {front : List ℕ} {S : Type 0} {left : S → Option (List ℕ)} {faults : S → ℕ} {a b : S} {intake : Intake} {former : List Sent} {begun : List ℕ} → InRound front left faults a b intake former begun
+pub TookRound-much : {front : List ℕ} {S : Type 0} {left : S → Option (List ℕ)} {faults : S → ℕ} {a b : S} {intake : Intake} {former : Past} {begun : List ℕ} → InRound front left faults a b intake former begun
     → input_limit ≤ intake.taken → intake.taken ≤ input_limit → TookRound front left faults a b intake former begun (Ok (Some (Early TooMuch)))
 TookRound-much {front = front} {begun = begun} so_far full within = record {
   more = so_far.more;
@@ -119,7 +123,7 @@ TookRound-much {front = front} {begun = begun} so_far full within = record {
 }
 
 -- the round was full
-pub TookRound-on : {front : List ℕ} {S : Type 0} {left : S → Option (List ℕ)} {faults : S → ℕ} {a b : S} {intake : Intake} {former : List Sent} {begun : List ℕ} → InRound front left faults a b intake former begun
+pub TookRound-on : {front : List ℕ} {S : Type 0} {left : S → Option (List ℕ)} {faults : S → ℕ} {a b : S} {intake : Intake} {former : Past} {begun : List ℕ} → InRound front left faults a b intake former begun
     → intake.taken ≤ input_limit → TookRound front left faults a b intake former begun (Ok None)
 TookRound-on {front = front} {begun = begun} so_far within = record {
   more = so_far.more;
@@ -133,7 +137,7 @@ TookRound-on {front = front} {begun = begun} so_far within = record {
 }
 
 -- a piece more
-piece_behind : {front : List ℕ} {S : Type 0} {left : S → Option (List ℕ)} {faults : S → ℕ} {a b c : S} {intake : Intake} {former : List Sent} {begun piece : List ℕ} (so_far : InRound front left faults a b intake former begun)
+piece_behind : {front : List ℕ} {S : Type 0} {left : S → Option (List ℕ)} {faults : S → ℕ} {a b c : S} {intake : Intake} {former : Past} {begun piece : List ℕ} (so_far : InRound front left faults a b intake former begun)
     → Took left faults b c piece → Took left faults a c (begun ++ (so_far.more ++ piece))
 piece_behind {left = left} {faults = faults} {a = a} {c = c} {begun = begun} {piece = piece} so_far took =
     subst (λ (input : List ℕ). Took left faults a c input) (append_assoc begun so_far.more piece) (Took-append so_far.reads.took took)
@@ -144,7 +148,7 @@ piece_prompt front begun more piece going short = subst (λ (input : List ℕ). 
 piece_fits : (begun more piece : List ℕ) (taken : ℕ) → taken ≡ length (begun ++ more) → taken + length piece ≤ input_limit → length (begun ++ (more ++ piece)) ≤ input_limit
 piece_fits begun more piece taken count fits = omega (arith, count, fits, length-append begun more, length-append more piece, length-append begun (more ++ piece))
 
-piece_stands : (intake fed : Intake) (former : List Sent) (front begun more piece : List ℕ) → ((text : List ℕ) (sent : List Sent) → StandsFor intake text sent → StandsFor fed (text ++ piece) sent)
+piece_stands : (intake fed : Intake) (former : Past) (front begun more piece : List ℕ) → ((text : List ℕ) (past : Past) → StandsFor intake text past → StandsFor fed (text ++ piece) past)
     → StandsFor intake (front ++ (begun ++ more)) former → StandsFor fed (front ++ (begun ++ (more ++ piece))) former
 piece_stands intake fed former front begun more piece feeds stands =
     subst (λ (text : List ℕ). StandsFor fed text former) (append_assoc front (begun ++ more) piece ∙ ap (λ (input : List ℕ). front ++ input) (append_assoc begun more piece))
@@ -154,7 +158,7 @@ piece_taken : (intake fed : Intake) (begun more piece : List ℕ) → fed.taken 
 piece_taken intake fed begun more piece more_taken taken = omega (arith, more_taken, taken, length-append begun more, length-append more piece, length-append begun (more ++ piece))
 
 -- no memory for it
-pub TookRound-memory : {front : List ℕ} {S : Type 0} {left : S → Option (List ℕ)} {faults : S → ℕ} {a b c : S} {intake : Intake} {former : List Sent} {begun : List ℕ} (fed : Intake) {piece : List ℕ} → InRound front left faults a b intake former begun
+pub TookRound-memory : {front : List ℕ} {S : Type 0} {left : S → Option (List ℕ)} {faults : S → ℕ} {a b c : S} {intake : Intake} {former : Past} {begun : List ℕ} (fed : Intake) {piece : List ℕ} → InRound front left faults a b intake former begun
     → Took left faults b c piece → length piece ≤ 4096 → intake.taken + length piece ≤ input_limit → TookRound front left faults a c fed former begun (Err (Memory refused))
 TookRound-memory {front = front} {intake = intake} {begun = begun} fed {piece = piece} so_far took short fits = record {
   more = so_far.more ++ piece;
@@ -189,8 +193,8 @@ on_ok (Err e) p = tt
 nothing_took : {S : Type 0} {left : S → Option (List ℕ)} {faults : S → ℕ} {b c : S} → Took left faults b c [] → left b ≡ left c
 nothing_took {left = left} {c = c} took = took.moved ∙ prepend_known-nil (left c)
 
-pub TookRound-end : {front : List ℕ} {S : Type 0} {left : S → Option (List ℕ)} {faults : S → ℕ} {a b c : S} {intake : Intake} {former : List Sent} {begun : List ℕ} {result : Result (Option TextEnd) Stop} → InRound front left faults a b intake former begun
-    → intake.taken < input_limit → Took left faults b c [] → IsAtEnd (left b) → ((text : List ℕ) (sent : List Sent) → StandsFor intake text sent → Closed text result) → TookRound front left faults a c intake former begun result
+pub TookRound-end : {front : List ℕ} {S : Type 0} {left : S → Option (List ℕ)} {faults : S → ℕ} {a b c : S} {intake : Intake} {former : Past} {begun : List ℕ} {result : Result (Option TextEnd) Stop} → InRound front left faults a b intake former begun
+    → intake.taken < input_limit → Took left faults b c [] → IsAtEnd (left b) → ((text : List ℕ) (past : Past) → StandsFor intake text past → Closed text result) → TookRound front left faults a c intake former begun result
 TookRound-end {front = front} {left = left} {b = b} {c = c} {former = former} {begun = begun} {result = result} so_far short took at_end closes =
     let input : List ℕ = begun ++ so_far.more in
     let closed : Closed (front ++ input) result = closes (front ++ input) former so_far.reads.stands in
@@ -225,9 +229,9 @@ ended_by_piece front known input (Err (Header line reason)) fault settled = faul
 ended_by_piece front known input (Err (EarlyStop early)) never settled = absurd never
 ended_by_piece front known input (Err (Memory memory)) never settled = absurd never
 
-pub TookRound-settled : {front : List ℕ} {S : Type 0} {left : S → Option (List ℕ)} {faults : S → ℕ} {a b c : S} {intake fed : Intake} {former : List Sent} {begun piece : List ℕ} {result : Result (Option TextEnd) Stop} → InRound front left faults a b intake former begun
-    → Took left faults b c piece → length piece ≤ 4096 → intake.taken + length piece ≤ input_limit → ((text : List ℕ) (sent : List Sent) → StandsFor intake text sent → StandsFor fed (text ++ piece) sent)
-    → fed.taken ≡ intake.taken + length piece → ((text : List ℕ) (sent : List Sent) → StandsFor fed text sent → IsSettled text) → ((text : List ℕ) (sent : List Sent) → StandsFor fed text sent → Closed text result) → TookRound front left faults a c fed former begun result
+pub TookRound-settled : {front : List ℕ} {S : Type 0} {left : S → Option (List ℕ)} {faults : S → ℕ} {a b c : S} {intake fed : Intake} {former : Past} {begun piece : List ℕ} {result : Result (Option TextEnd) Stop} → InRound front left faults a b intake former begun
+    → Took left faults b c piece → length piece ≤ 4096 → intake.taken + length piece ≤ input_limit → ((text : List ℕ) (past : Past) → StandsFor intake text past → StandsFor fed (text ++ piece) past)
+    → fed.taken ≡ intake.taken + length piece → ((text : List ℕ) (past : Past) → StandsFor fed text past → IsSettled text) → ((text : List ℕ) (past : Past) → StandsFor fed text past → Closed text result) → TookRound front left faults a c fed former begun result
 TookRound-settled {front = front} {left = left} {c = c} {intake = intake} {fed = fed} {former = former} {begun = begun} {piece = piece} {result = result} so_far took short fits feeds more_taken settles closes =
     let input : List ℕ = begun ++ (so_far.more ++ piece) in
     let stands : StandsFor fed (front ++ input) former = piece_stands intake fed former front begun so_far.more piece feeds so_far.reads.stands in
@@ -244,9 +248,9 @@ TookRound-settled {front = front} {left = left} {c = c} {intake = intake} {fed =
     }
 
 -- a piece behind which it goes on
-pub InRound-piece : {front : List ℕ} {S : Type 0} {left : S → Option (List ℕ)} {faults : S → ℕ} {a b c : S} {intake fed : Intake} {former : List Sent} {begun piece : List ℕ} → InRound front left faults a b intake former begun
-    → Took left faults b c piece → ((text : List ℕ) (sent : List Sent) → StandsFor intake text sent → StandsFor fed (text ++ piece) sent)
-    → fed.taken ≡ intake.taken + length piece → ((text : List ℕ) (sent : List Sent) → StandsFor fed text sent → GoesOn text) → InRound front left faults a c fed former begun
+pub InRound-piece : {front : List ℕ} {S : Type 0} {left : S → Option (List ℕ)} {faults : S → ℕ} {a b c : S} {intake fed : Intake} {former : Past} {begun piece : List ℕ} → InRound front left faults a b intake former begun
+    → Took left faults b c piece → ((text : List ℕ) (past : Past) → StandsFor intake text past → StandsFor fed (text ++ piece) past)
+    → fed.taken ≡ intake.taken + length piece → ((text : List ℕ) (past : Past) → StandsFor fed text past → GoesOn text) → InRound front left faults a c fed former begun
 InRound-piece {front = front} {intake = intake} {fed = fed} {former = former} {begun = begun} {piece = piece} so_far took feeds more_taken goes =
     let stands : StandsFor fed (front ++ (begun ++ (so_far.more ++ piece))) former = piece_stands intake fed former front begun so_far.more piece feeds so_far.reads.stands in
     record {
@@ -262,49 +266,43 @@ InRound-piece {front = front} {intake = intake} {fed = fed} {former = former} {b
 -- Rounds
 
 -- where START was not read, a text that an intake stands for has no session
-not_started : (stage : Stage) (input : List ℕ) (former : List Sent) → StandsAt stage (lines_of input) former → is_open stage ≡ true → session_at stage ≡ None → HasNotStarted input
-not_started (Heading reader) input former at unread none = heading-no_session input reader at.0 unread
+not_started : (stage : Stage) (input : List ℕ) (former : Past) → StandsAt stage (lines_of input) former → is_open stage ≡ true → session_at stage ≡ None → HasNotStarted input
+not_started (Heading reader keeps) input former at unread none = heading-no_session input reader at.0 unread
 not_started (Commanding script ended) input former at unread none = absurd (cc)
 not_started (Faulted line reason) input former at unread none = λ h session. HasSession-no_fault input h line reason session (faulted-has input line reason at)
 
--- and no command was read
-none_sent : (stage : Stage) → session_at stage ≡ None → sent_at stage ≡ []
-none_sent (Heading reader) none = refl
-none_sent (Commanding script ended) none = absurd (cc)
-none_sent (Faulted line reason) none = refl
+same_session : (g h : SessionHeader) → Some g ≡ Some h → g ≡ h
+same_session g h same = cc
 
 -- where it was, it says what the stage has
-stage_says : (stage : Stage) (h : SessionHeader) (front input : List ℕ) (former : List Sent) → IsFront front → StandsAt stage (lines_of (front ++ input)) former → session_at stage ≡ Some h → length input ≤ input_limit
-    → SaysBehind front input h (former ++ sent_at stage) (strays_at stage)
-stage_says (Heading reader) h front input former is_front at is small = absurd (cc)
+pub stage_says : (stage : Stage) (h : SessionHeader) (front input : List ℕ) (former : Past) → IsFront front → StandsAt stage (lines_of (front ++ input)) former → session_at stage ≡ Some h → length input ≤ input_limit
+    → SaysBehind front input h (former.sent ++ sent_at stage) (strays_at stage)
+stage_says (Heading reader keeps) h front input former is_front at is small = absurd (cc)
 stage_says (Commanding script ended) h front input former is_front at is small =
-    subst (λ (g : SessionHeader). SaysBehind front input g (former ++ script.sent.items) script.strays) (same_header script.session h is)
-    (told_says front input script.session (former ++ script.sent.items) script.strays ended (length-spoken_behind front input script.session is_front) (omega (arith, small)) at)
-  where
-    same_header : (g h : SessionHeader) → Some g ≡ Some h → g ≡ h
-    same_header g h same = cc
+    subst (λ (g : SessionHeader). SaysBehind front input g (former.sent ++ script.sent.items) script.strays) (same_session script.session h is)
+    (told_says front input script.session (former.sent ++ script.sent.items) script.strays ended (length-spoken_behind front input script.session is_front) (omega (arith, small)) at.0)
 stage_says (Faulted line reason) h front input former is_front at is small = absurd (cc)
 
 -- a round taken, whatever came of it
-pub TookOn-round : {front : List ℕ} {S : Type 0} {left : S → Option (List ℕ)} {faults : S → ℕ} {a b : S} {intake : Intake} {former : List Sent} {begun : List ℕ} {result : Result (Option TextEnd) Stop}
+pub TookOn-round : {front : List ℕ} {S : Type 0} {left : S → Option (List ℕ)} {faults : S → ℕ} {a b : S} {intake : Intake} {former : Past} {begun : List ℕ} {result : Result (Option TextEnd) Stop}
     → TookRound front left faults a b intake former begun result → TookOnBehind front left faults a b begun
 TookOn-round {begun = begun} round = (record { input = begun ++ round.more; took = round.took; within = round.within; prompt = round.prompt }, record { rest = round.more; joined = refl })
 
 abbrev came_so : Option TextEnd → Result (Option TextEnd) Stop
 came_so end = Ok end
 
-same_came : (a b : Option TextEnd) → a ≡ b → came_so a ≡ came_so b
+pub same_came : (a b : Option TextEnd) → a ≡ b → came_so a ≡ came_so b
 same_came a b same = ap came_so same
 
 -- behind START
-pub HasRead-round : {front : List ℕ} {S : Type 0} {left : S → Option (List ℕ)} {faults : S → ℕ} {a b : S} {former : List Sent} {begun : List ℕ} (intake : Intake) (end : Option TextEnd) (reading : Reading) (h : SessionHeader) (all : List Sent)
-    → TookRound front left faults a b intake former begun (Ok end) → session_at intake.stage ≡ Some h → reading.intake ≡ intake → reading.end ≡ end → all ≡ former ++ sent_at intake.stage
+unfoldable pub HasRead-round : {front : List ℕ} {S : Type 0} {left : S → Option (List ℕ)} {faults : S → ℕ} {a b : S} {former : Past} {begun : List ℕ} (intake : Intake) (end : Option TextEnd) (reading : Reading) (h : SessionHeader) (all : List Sent)
+    → TookRound front left faults a b intake former begun (Ok end) → session_at intake.stage ≡ Some h → reading.intake ≡ intake → reading.end ≡ end → all ≡ former.sent ++ sent_at intake.stage
     → IsFront front → HasReadBehind front left faults a b reading h all
 HasRead-round {front = front} {left = left} {faults = faults} {a = a} {b = b} {former = former} {begun = begun} intake end reading h all round session same ends all_is is_front =
     let input : List ℕ = begun ++ round.more in
     let stands : StandsFor reading.intake (front ++ input) former = subst (λ (i : Intake). StandsFor i (front ++ input) former) (sym same) round.stands in
     let session' : session_at reading.intake.stage ≡ Some h = ap (λ (i : Intake). session_at i.stage) same ∙ session in
-    let all' : all ≡ former ++ sent_at reading.intake.stage = all_is ∙ ap (λ (i : Intake). former ++ sent_at i.stage) (sym same) in
+    let all' : all ≡ former.sent ++ sent_at reading.intake.stage = all_is ∙ ap (λ (i : Intake). former.sent ++ sent_at i.stage) (sym same) in
     record {
       input = input;
       took = round.took;
@@ -321,13 +319,43 @@ HasRead-round {front = front} {left = left} {faults = faults} {a = a} {b = b} {f
       taken = ap (λ (i : Intake). i.taken) same ∙ round.taken;
     }
 
+-- where strays are kept, a stage has heard what there is to hear
+stage_hears : (stage : Stage) (h : SessionHeader) (text : List ℕ) (former : Past) → StandsAt stage (lines_of text) former → session_at stage ≡ Some h → former.keeps ≡ true → former.heard ++ heard_at stage ≡ heard_in h text
+unfolding heard_in
+stage_hears (Heading reader keeps) h text former at is on = absurd (cc)
+stage_hears (Commanding script ended) h text former at is on = at.1.heard on ∙ ap (λ (g : SessionHeader). heard_of g (lines_of text)) (same_session script.session h is)
+stage_hears (Faulted line reason) h text former at is on = absurd (cc)
+
+-- which may be sent
+stage_valid : (stage : Stage) (h : SessionHeader) (text : List ℕ) (former : Past) → StandsAt stage (lines_of text) former → session_at stage ≡ Some h → former.keeps ≡ true → Each (IsHeardOf h) (former.heard ++ heard_at stage)
+stage_valid (Heading reader keeps) h text former at is on = absurd (cc)
+stage_valid (Commanding script ended) h text former at is on =
+    subst (λ (g : SessionHeader). Each (IsHeardOf g) (former.heard ++ script.heard.items)) (same_session script.session h is) (at.1.valid on)
+stage_valid (Faulted line reason) h text former at is on = absurd (cc)
+
+pub HasHeard-round : {front : List ℕ} {S : Type 0} {left : S → Option (List ℕ)} {faults : S → ℕ} {a b : S} {former : Past} {begun : List ℕ} (intake : Intake) (end : Option TextEnd) (reading : Reading) (h : SessionHeader) (all : List Sent) (heard : List Heard)
+    → TookRound front left faults a b intake former begun (Ok end) → session_at intake.stage ≡ Some h → reading.intake ≡ intake → reading.end ≡ end → all ≡ former.sent ++ sent_at intake.stage
+    → IsFront front → former.keeps ≡ true → heard ≡ former.heard ++ heard_at intake.stage → HasHeardBehind front left faults a b reading h all heard
+unfolding HasRead-round
+HasHeard-round {front = front} {former = former} {begun = begun} intake end reading h all heard round session same ends all_is is_front on heard_is =
+    let input : List ℕ = begun ++ round.more in
+    let hears : heard ≡ heard_in h (front ++ input) = heard_is ∙ stage_hears intake.stage h (front ++ input) former round.stands.stage session on in
+    record {
+      has_read = HasRead-round intake end reading h all round session same ends all_is is_front;
+      says_so = hears;
+      valid = subst (Each (IsHeardOf h)) (sym heard_is) (stage_valid intake.stage h (front ++ input) former round.stands.stage session on);
+      few = omega (arith, ap (λ (all : List Heard). length all) hears, heard_in-few front input h is_front);
+      keeps = on;
+      heard_is = heard_is ∙ ap (λ (i : Intake). former.heard ++ heard_at i.stage) (sym same);
+    }
+
 -- behind the header of a session that is known, where nothing is taken yet
-pub HasRead-resumed : {S : Type 0} (left : S → Option (List ℕ)) (faults : S → ℕ) (source : S) (intake : Intake) (reading : Reading) (h : SessionHeader) → IsFront (head_text_of h) → GoesOn (head_text_of h) → StandsFor intake (head_text_of h) []
+pub HasRead-resumed : {S : Type 0} (left : S → Option (List ℕ)) (faults : S → ℕ) (source : S) (intake : Intake) (reading : Reading) (h : SessionHeader) → IsFront (head_text_of h) → GoesOn (head_text_of h) → StandsFor intake (head_text_of h) (no_past false)
     → session_at intake.stage ≡ Some h → sent_at intake.stage ≡ [] → intake.taken ≡ 0 → reading.intake ≡ intake → reading.end ≡ None → HasReadBehind (head_text_of h) left faults source source reading h []
 HasRead-resumed left faults source intake reading h is_front going stands session none untaken same ends =
     let front : List ℕ = head_text_of h in
     let whole : front ≡ front ++ [] = sym (append-nil front) in
-    let stands' : StandsFor reading.intake (front ++ []) [] = subst (λ (i : Intake). StandsFor i (front ++ []) []) (sym same) (subst (λ (text : List ℕ). StandsFor intake text []) whole stands) in
+    let stands' : StandsFor reading.intake (front ++ []) (no_past false) = subst (λ (i : Intake). StandsFor i (front ++ []) (no_past false)) (sym same) (subst (λ (text : List ℕ). StandsFor intake text (no_past false)) whole stands) in
     let session' : session_at reading.intake.stage ≡ Some h = ap (λ (i : Intake). session_at i.stage) same ∙ session in
     let none' : sent_at reading.intake.stage ≡ [] = ap (λ (i : Intake). sent_at i.stage) same ∙ none in
     let going' : GoesOn (front ++ []) = subst GoesOn whole going in
@@ -337,11 +365,11 @@ HasRead-resumed left faults source intake reading h is_front going stands sessio
       within = omega arith;
       prompt = prompt_here front [] going';
       session = session';
-      says = subst (λ (sent : List Sent). SaysBehind front [] h sent (strays_at reading.intake.stage)) none' (stage_says reading.intake.stage h front [] [] is_front stands'.stage session' (omega arith));
+      says = subst (λ (sent : List Sent). SaysBehind front [] h sent (strays_at reading.intake.stage)) none' (stage_says reading.intake.stage h front [] (no_past false) is_front stands'.stage session' (omega arith));
       ended = subst (λ (e : Option TextEnd). ProgressedBehind front (left source) [] e) (sym ends) going';
       cause = λ is. absurd (let e : None ≡ Some (Early ReadFault) = sym ends ∙ is in cc);
       is_front = is_front;
-      former = [];
+      former = no_past false;
       all_is = sym none';
       stands = stands';
       taken = ap (λ (i : Intake). i.taken) same ∙ untaken;
@@ -354,12 +382,12 @@ ReadsOn-reading {front = front} {left = left} {b = b} has on =
     record { took = has.took; stands = has.stands; taken = has.taken; goes_on = subst (λ (e : Option TextEnd). ProgressedBehind front (left b) has.input e) on has.ended }
 
 -- before START
-pub ReadsOn-round : {front : List ℕ} {S : Type 0} {left : S → Option (List ℕ)} {faults : S → ℕ} {a b : S} {intake : Intake} {former : List Sent} {begun : List ℕ} {end : Option TextEnd} (round : TookRound front left faults a b intake former begun (Ok end)) → end ≡ None
+pub ReadsOn-round : {front : List ℕ} {S : Type 0} {left : S → Option (List ℕ)} {faults : S → ℕ} {a b : S} {intake : Intake} {former : Past} {begun : List ℕ} {end : Option TextEnd} (round : TookRound front left faults a b intake former begun (Ok end)) → end ≡ None
     → ReadsOn front left faults a b intake former (begun ++ round.more)
 ReadsOn-round {front = front} {left = left} {b = b} {begun = begun} round on =
     record { took = round.took; stands = round.stands; taken = round.taken; goes_on = subst (λ (e : Option TextEnd). ProgressedBehind front (left b) (begun ++ round.more) e) on round.came }
 
-pub no_end_line : {S : Type 0} {left : S → Option (List ℕ)} {faults : S → ℕ} {a b : S} {intake : Intake} {former : List Sent} {begun : List ℕ} → TookRound [] left faults a b intake former begun (Ok (Some EndLine))
+pub no_end_line : {S : Type 0} {left : S → Option (List ℕ)} {faults : S → ℕ} {a b : S} {intake : Intake} {former : Past} {begun : List ℕ} → TookRound [] left faults a b intake former begun (Ok (Some EndLine))
     → session_at intake.stage ≡ None → ⊥
 no_end_line {left = left} {b = b} {intake = intake} {former = former} {begun = begun} round none =
     ended_nowhere (left b) (begun ++ round.more) (not_started intake.stage (begun ++ round.more) former round.stands.stage intake.readable none) round.came
@@ -368,7 +396,7 @@ no_end_line {left = left} {b = b} {intake = intake} {former = former} {begun = b
     ended_nowhere known input not (inl (h, session, end)) = not h session
     ended_nowhere known input not (inr (met, (h, session, end))) = not h session
 
-pub HasStopped-early : {S : Type 0} {left : S → Option (List ℕ)} {faults : S → ℕ} {a b : S} {intake : Intake} {former : List Sent} {begun : List ℕ} (early : EarlyEnd) → TookRound [] left faults a b intake former begun (Ok (Some (Early early)))
+pub HasStopped-early : {S : Type 0} {left : S → Option (List ℕ)} {faults : S → ℕ} {a b : S} {intake : Intake} {former : Past} {begun : List ℕ} (early : EarlyEnd) → TookRound [] left faults a b intake former begun (Ok (Some (Early early)))
     → session_at intake.stage ≡ None → HasStopped left faults a b (EarlyStop early)
 HasStopped-early {left = left} {b = b} {intake = intake} {former = former} {begun = begun} early round none = record {
   input = begun ++ round.more;
@@ -382,7 +410,7 @@ HasStopped-early {left = left} {b = b} {intake = intake} {former = former} {begu
     same_early : (e f : EarlyEnd) → EarlyStop e ≡ EarlyStop f → came_so (Some (Early e)) ≡ came_so (Some (Early f))
     same_early e f same = cc
 
-pub HasStopped-err : {S : Type 0} {left : S → Option (List ℕ)} {faults : S → ℕ} {a b : S} {intake : Intake} {former : List Sent} {begun : List ℕ} (stop : Stop) → TookRound [] left faults a b intake former begun (Err stop)
+pub HasStopped-err : {S : Type 0} {left : S → Option (List ℕ)} {faults : S → ℕ} {a b : S} {intake : Intake} {former : Past} {begun : List ℕ} (stop : Stop) → TookRound [] left faults a b intake former begun (Err stop)
     → HasStopped left faults a b stop
 HasStopped-err {left = left} {b = b} {begun = begun} stop round = record {
   input = begun ++ round.more;
@@ -399,13 +427,15 @@ HasStopped-err {left = left} {b = b} {begun = begun} stop round = record {
     stopped_so known input (Memory memory) came = came
 
 -- a round before START
-abbrev pub first_former : Intake → List Sent
-first_former intake = [] ++ sent_at intake.stage
+none_past : (stage : Stage) (keeps : Bool) → session_at stage ≡ None → past_behind (no_past keeps) stage ≡ no_past keeps
+none_past (Heading reader kept) keeps none = refl
+none_past (Commanding script ended) keeps none = absurd (cc)
+none_past (Faulted line reason) keeps none = refl
 
-pub first_none : {S : Type 0} {left : S → Option (List ℕ)} {faults : S → ℕ} {a b : S} {intake : Intake} {input : List ℕ} {result : Result (Option TextEnd) Stop} (old : Intake) → session_at old.stage ≡ None
-    → TookRound [] left faults a b intake (first_former old) input result → TookRound [] left faults a b intake [] input result
-first_none {left = left} {faults = faults} {a = a} {b = b} {intake = intake} {input = input} {result = result} old none round =
-    subst (λ (sent : List Sent). TookRound [] left faults a b intake sent input result) (none_sent old.stage none) round
+pub first_none : {S : Type 0} {left : S → Option (List ℕ)} {faults : S → ℕ} {a b : S} {intake : Intake} {input : List ℕ} {result : Result (Option TextEnd) Stop} (old : Intake) (keeps : Bool) → session_at old.stage ≡ None
+    → TookRound [] left faults a b intake (past_behind (no_past keeps) old.stage) input result → TookRound [] left faults a b intake (no_past keeps) input result
+first_none {left = left} {faults = faults} {a = a} {b = b} {intake = intake} {input = input} {result = result} old keeps none round =
+    subst (λ (past : Past). TookRound [] left faults a b intake past input result) (none_past old.stage keeps none) round
 
 pub known_session : (session : Option SessionHeader) → IsSome session → (h : SessionHeader) × (session ≡ Some h)
 known_session None is = absurd (cc)

@@ -18,7 +18,7 @@ use Rattle.fx_rules.specs.declared.command.Sent.{Sent}
 use Rattle.session_script.proofs.ScriptLaws.{session_of-more, spoken_of-append, spoken_of-start, has_end-more, up_to_end-more, has_end-append, up_to_end-append, sent_among-append, strays_in-append, sent_among-one, strays_in-one}
 
 -- a header that goes on has not started
-goes_on-not_started : (head : Head) → goes_on head ≡ true → is_started head ≡ false
+pub goes_on-not_started : (head : Head) → goes_on head ≡ true → is_started head ≡ false
 goes_on-not_started (heads.Begun line) is = refl
 goes_on-not_started (heads.Drafting line draft) is = refl
 goes_on-not_started (heads.Started line h) is = absurd (cc)

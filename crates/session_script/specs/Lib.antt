@@ -1,6 +1,7 @@
 pub mod Input
 pub mod Journal
 pub mod Script
+pub mod Heard
 pub mod Stage
 pub mod Reading
 pub mod Intake

@@ -1,5 +1,5 @@
 -- What the lines of a text have come to, as they are taken one after another.
-use Rattle.std.specs.Prelude.{ℕ, ◌≡◌, ◌-◌, ◌^◌, min, Bool, List, [], ◌++◌, Option, Some, None}
+use Rattle.std.specs.Prelude.{ℕ, ◌≡◌, ◌-◌, ◌^◌, min, Bool, true, List, [], ◌++◌, Option, Some, None}
 use Rattle.fx_rules.specs.Lists.{Each}
 use Rattle.fx_rules.specs.Session.{Header}
 use Rattle.fx_text.specs.declared.line.Line.{Line}
@@ -8,6 +8,9 @@ use Rattle.session_head.specs.Head.{read_head, session_of}
 use Rattle.session_script.specs.Script.{spoken_of, up_to_end, has_end, sent_among, strays_in}
 use Rattle.fx_rules.specs.Sending.{IsSentOf}
 use Rattle.fx_rules.specs.declared.command.Sent.{Sent}
+use Rattle.session_script.specs.Heard.{heard_of, IsHeardOf}
+use Rattle.session_script.specs.declared.heard.Heard.{Heard}
+use Rattle.session_script.specs.declared.script.Script.{Script}
 use Rattle.session_script.specs.declared.intake.stage.Stage.{Stage}
 use Rattle.session_script.specs.declared.intake.stage.Stage.TheVariants.{Heading, Commanding, Faulted}
 
@@ -23,24 +26,46 @@ pub record Tells (lines : List Line) (h : Header) (sent : List Sent) (strays : �
   pub end : ended ≡ has_end (spoken_of h lines)
   pub valid : Each (IsSentOf h) sent
 
+-- What a reading gave in former rounds: the commands; whether it keeps strays, and then the commands and the strays too.
+pub record Past : Type 0 where
+  pub sent : List Sent
+  pub keeps : Bool
+  pub heard : List Heard
+
+-- nothing yet
+abbrev pub no_past : Bool → Past
+no_past keeps = record { sent = []; keeps = keeps; heard = [] }
+
 -- the session of a text whose START was read, the commands of the last round, and the strays so far
 abbrev pub session_at : Stage → Option Header
-session_at (Heading reader) = None
+session_at (Heading reader keeps) = None
 session_at (Commanding script ended) = Some script.session
 session_at (Faulted line reason) = None
 
 abbrev pub sent_at : Stage → List Sent
-sent_at (Heading reader) = []
+sent_at (Heading reader keeps) = []
 sent_at (Commanding script ended) = script.sent.items
 sent_at (Faulted line reason) = []
 
 abbrev pub strays_at : Stage → ℕ
-strays_at (Heading reader) = 0
+strays_at (Heading reader keeps) = 0
 strays_at (Commanding script ended) = script.strays
 strays_at (Faulted line reason) = 0
 
--- these lines lead to the stage, where the commands of former rounds were these
-abbrev pub StandsAt : Stage → List Line → List Sent → Type 0
-StandsAt (Heading reader) lines former = (reader ≡ read_head lines) × (former ≡ [])
-StandsAt (Commanding script ended) lines former = Tells lines script.session (former ++ script.sent.items) script.strays ended
+-- the commands and the strays of the last round, where strays are kept
+abbrev pub heard_at : Stage → List Heard
+heard_at (Heading reader keeps) = []
+heard_at (Commanding script ended) = script.heard.items
+heard_at (Faulted line reason) = []
+
+-- a script keeps strays as the past does, and has heard behind it what there is to hear of these lines
+pub record Hears (lines : List Line) (former : Past) (script : Script) : Type 0 where
+  pub keeps : script.keeps ≡ former.keeps
+  pub heard : former.keeps ≡ true → former.heard ++ script.heard.items ≡ heard_of script.session lines
+  pub valid : former.keeps ≡ true → Each (IsHeardOf script.session) (former.heard ++ script.heard.items)
+
+-- these lines lead to the stage, where this was given in former rounds
+abbrev pub StandsAt : Stage → List Line → Past → Type 0
+StandsAt (Heading reader keeps) lines former = (reader ≡ read_head lines) × (former ≡ no_past keeps)
+StandsAt (Commanding script ended) lines former = Tells lines script.session (former.sent ++ script.sent.items) script.strays ended × Hears lines former script
 StandsAt (Faulted line reason) lines former = read_head lines ≡ heads.Faulted line reason

@@ -1,12 +1,11 @@
 mod stage;
 
-ghost use Rattle.std.specs.Prelude.{ℕ, ◌≡◌, ◌≢◌, ◌<◌, ◌≤◌, ◌+◌, ◌^◌, ◌++◌, [], List, Ok, Some, None, IfOk, IfErr, IsOk, OnOk, IsTrue, length};
+ghost use Rattle.std.specs.Prelude.{ℕ, ◌≡◌, ◌≢◌, ◌<◌, ◌≤◌, ◌+◌, ◌^◌, ◌++◌, [], List, false, Ok, Some, None, IfOk, IfErr, IsOk, OnOk, IsTrue, length};
 ghost use Rattle.std.specs.Bool.{MatchBool};
 ghost use Rattle.fx_amounts.specs.OutOfMemory.{refused};
-ghost use Rattle.fx_rules.specs.declared.command.Sent.{Sent as SentCommand};
 ghost use Rattle.fx_rules.specs.Session.{Header as SessionHeader};
 ghost use Rattle.session_head.specs.HeadText.{head_text_of};
-ghost use Rattle.session_script.specs.inside.Stage.{is_open};
+ghost use Rattle.session_script.specs.inside.Stage.{is_open, past_behind};
 
 use crate::ends::{EarlyEnd, Stop, TextEnd};
 use fx_amounts::Memory;
@@ -40,32 +39,33 @@ pub(crate) struct Intake {
 }
 
 impl Intake {
-    ghost use Rattle.session_script.specs.Stage.{sent_at, session_at};
+    ghost use Rattle.session_script.specs.Stage.{Past, heard_at, no_past, sent_at, session_at};
     ghost use Rattle.session_script.specs.Intake.{StandsFor};
     ghost use Rattle.session_script.specs.inside.Intake.{IsSettled, Closed};
     ghost use Rattle.session_script.specs.Reading.{GoesOn};
     ghost use Rattle.session_script.specs.Rounds.{IsFront};
     ghost use Rattle.session_script.specs.inside.Rounds.{ReadsOn, TookRound};
 
-    /// An intake of no bytes. It takes no memory.
-    pub(crate) fn new(alloc: Global) -> Intake
-        ensures begun { StandsFor result [] [] }
+    /// An intake of no bytes, which keeps strays, or not. It takes no memory.
+    pub(crate) fn new(alloc: Global, keeps: bool) -> Intake
+        ensures begun { StandsFor result [] (no_past keeps) }
         ensures heading { session_at result.stage ≡ None }
         ensures none { result.taken ≡ 0 }
     {
         Intake {
             cutter: LineCutter::new(),
             alloc,
-            stage: Stage::new(alloc),
+            stage: Stage::new(alloc, keeps),
             taken: 0,
         }
     }
 
     /// An intake of no bytes that goes on behind the text of a session's header. It takes no memory.
     pub(crate) fn resume(alloc: Global, session: Session) -> Intake
-        ensures stands { StandsFor result (head_text_of session) [] }
+        ensures stands { StandsFor result (head_text_of session) (no_past false) }
         ensures session { session_at result.stage ≡ Some session }
         ensures sent { sent_at result.stage ≡ [] }
+        ensures heard { heard_at result.stage ≡ [] }
         ensures front { IsFront (head_text_of session) }
         ensures goes_on { GoesOn (head_text_of session) }
         ensures none { result.taken ≡ 0 }
@@ -82,7 +82,7 @@ impl Intake {
     /// 65,536 bytes at most, and 2^26 of all rounds. Each read asks for 4,096 bytes, or for what the round leaves where that
     /// is less. Answers how the text ended, if it did. After `Err` the intake must not be used any more.
     pub(crate) fn read_round<S: Source>(&mut self, source: &mut S) -> Result<Option<TextEnd>, Stop>
-        ensures took { (front : List ℕ) (before : S) (former : List SentCommand) (input : List ℕ) → ReadsOn front S.left S.faults before source.old self.old former input → TookRound front S.left S.faults before source.new self.new (former ++ sent_at self.old.stage) input result }
+        ensures took { (front : List ℕ) (before : S) (former : Past) (input : List ℕ) → ReadsOn front S.left S.faults before source.old self.old former input → TookRound front S.left S.faults before source.new self.new (past_behind former self.old.stage) input result }
         ensures session { (h : SessionHeader) → session_at self.old.stage ≡ Some h → session_at self.new.stage ≡ Some h }
         ensures further { result ≡ Ok None → self.old.taken < self.new.taken }
 
@@ -119,7 +119,7 @@ impl Intake {
     /// it lies. After `Err` some of its lines may be taken, and the intake must not be used any more.
     fn feed(&mut self, piece: &[u8]) -> Result<(), Memory>
         requires room { self.old.taken + length piece.now ≤ 2 ^ 26 }
-        ensures fed { OnOk result ((text : List ℕ) (former : List SentCommand) → StandsFor self.old text former → StandsFor self.new (text ++ piece.now) former) }
+        ensures fed { OnOk result ((text : List ℕ) (former : Past) → StandsFor self.old text former → StandsFor self.new (text ++ piece.now) former) }
         ensures taken { OnOk result (self.new.taken ≡ self.old.taken + length piece.now) }
         ensures session { (h : SessionHeader) → session_at self.old.stage ≡ Some h → session_at self.new.stage ≡ Some h }
     {
@@ -134,10 +134,10 @@ impl Intake {
 
     /// Whether no further byte changes what the text says: its header has a fault, or its END line was read.
     fn is_settled(&self) -> bool
-        ensures { (text : List ℕ) (former : List SentCommand) → StandsFor self.now text former → MatchBool result (IsSettled text) (GoesOn text) }
+        ensures { (text : List ℕ) (former : Past) → StandsFor self.now text former → MatchBool result (IsSettled text) (GoesOn text) }
     {
         match &self.stage {
-            Stage::Heading(_) => false,
+            Stage::Heading { .. } => false,
             Stage::Commanding { ended, .. } => *ended,
             Stage::Faulted { .. } => true,
         }
@@ -145,12 +145,12 @@ impl Intake {
 
     /// How the text ends where nothing follows: what is left over behind the last line feed may be its END line.
     fn close(&self) -> Result<Option<TextEnd>, Stop>
-        ensures closed { (text : List ℕ) (former : List SentCommand) → StandsFor self.now text former → Closed text result }
+        ensures closed { (text : List ℕ) (former : Past) → StandsFor self.now text former → Closed text result }
         ensures ended { result ≢ Ok None }
         ensures started { (h : SessionHeader) → session_at self.now.stage ≡ Some h → IsOk result }
     {
         match &self.stage {
-            Stage::Heading(_) => Ok(Some(TextEnd::Early(EarlyEnd::Cut))),
+            Stage::Heading { .. } => Ok(Some(TextEnd::Early(EarlyEnd::Cut))),
             Stage::Commanding { ended, .. } => {
                 if *ended || self.cutter.rest_is_end() {
                     Ok(Some(TextEnd::EndLine))

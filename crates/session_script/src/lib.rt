@@ -4,11 +4,13 @@
 
 mod ends;
 mod front;
+mod heard;
 mod intake;
 mod reading;
 mod script;
 
 pub use ends::{EarlyEnd, Stop, TextEnd};
+pub use heard::Heard;
 pub use intake::{INPUT_LIMIT, ROUND};
 pub use reading::Reading;
 pub use script::Script;

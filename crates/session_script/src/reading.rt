@@ -1,7 +1,8 @@
-ghost use Rattle.std.specs.Prelude.{ℕ, [], ◌≡◌, ◌<◌, ◌≤◌, ◌+◌, ◌++◌, Option, Some, None, IsSome, OnOk, OnErr, List};
+ghost use Rattle.std.specs.Prelude.{ℕ, [], true, ◌≡◌, ◌<◌, ◌≤◌, ◌+◌, ◌++◌, Option, Some, None, IsSome, OnOk, OnErr, List};
 ghost use Rattle.fx_rules.specs.declared.command.Sent.{Sent as SentCommand};
 ghost use Rattle.fx_rules.specs.Session.{Header as SessionHeader};
 ghost use Rattle.session_script.specs.Stage.{session_at};
+ghost use Rattle.session_script.specs.declared.heard.Heard.{Heard as HeardLine};
 
 use crate::ends::{Stop, TextEnd};
 use crate::intake::{Intake, Stage};
@@ -15,7 +16,7 @@ use std::alloc::Global;
 ///
 /// A round takes bytes up to the END line, the source's end or a read that fails, and 65,536 at most; a line that its end
 /// cuts is of the round in which it ends. Of all rounds 2^26 bytes are taken. Each read asks for 4,096 bytes, or for what the
-/// round or the limit leaves where that is less. The text of former rounds is not kept, nor are their commands.
+/// round or the limit leaves where that is less. The text of former rounds is not kept, nor are their commands and strays.
 #[derive(Drop)]
 pub struct Reading {
     intake: Intake,
@@ -25,15 +26,32 @@ pub struct Reading {
 }
 
 impl Reading {
-    ghost use Rattle.session_script.specs.Stage.{sent_at, strays_at};
+    ghost use Rattle.session_script.specs.Stage.{heard_at, sent_at, strays_at};
     ghost use Rattle.session_head.specs.HeadText.{head_text_of};
-    ghost use Rattle.session_script.specs.Rounds.{HasBegun, HasReadBehind, TookOnBehind};
+    ghost use Rattle.session_script.specs.Rounds.{HasBegun, HasBegunHearing, HasHeardBehind, HasReadBehind, TookOnBehind};
 
-    /// Reads the rounds up to the one with START. The reading stops at the first fault of the header too.
+    /// Reads the rounds up to the one with START. The reading stops at the first fault of the header too. Strays are not kept.
     pub fn begin<S: Source>(alloc: Global, source: &mut S) -> Result<Reading, Stop>
         ensures begun { HasBegun S.left S.faults source.old source.new result }
     {
-        let mut intake = Intake::new(alloc);
+        Reading::begin_as(alloc, source, false)
+    }
+
+    /// Reads the rounds up to the one with START, as `begin` does, where each round's strays are kept among its commands, in the
+    /// order of the lines.
+    pub fn begin_keeping<S: Source>(alloc: Global, source: &mut S) -> Result<Reading, Stop>
+        ensures begun { HasBegun S.left S.faults source.old source.new result }
+        ensures heard { HasBegunHearing S.left S.faults source.old source.new result }
+    {
+        Reading::begin_as(alloc, source, true)
+    }
+
+    /// Reads the rounds up to the one with START, where strays are kept, or not.
+    fn begin_as<S: Source>(alloc: Global, source: &mut S, keeps: bool) -> Result<Reading, Stop>
+        ensures begun { HasBegun S.left S.faults source.old source.new result }
+        ensures heard { keeps ≡ true → HasBegunHearing S.left S.faults source.old source.new result }
+    {
+        let mut intake = Intake::new(alloc, keeps);
         loop {
             let end = match intake.read_round(source) {
                 Ok(end) => end,
@@ -68,6 +86,7 @@ impl Reading {
     pub fn read_round<S: Source>(&mut self, source: &mut S) -> Result<(), Memory>
         requires goes_on { self.old.end ≡ None }
         ensures read { OnOk result ((front : List ℕ) (before : S) (h : SessionHeader) (all : List SentCommand) → HasReadBehind front S.left S.faults before source.old self.old h all → HasReadBehind front S.left S.faults before source.new self.new h (all ++ sent_at self.new.intake.stage)) }
+        ensures heard { OnOk result ((front : List ℕ) (before : S) (h : SessionHeader) (all : List SentCommand) (heard : List HeardLine) → HasHeardBehind front S.left S.faults before source.old self.old h all heard → HasHeardBehind front S.left S.faults before source.new self.new h (all ++ sent_at self.new.intake.stage) (heard ++ heard_at self.new.intake.stage)) }
         ensures further { OnOk result (self.new.end ≡ None → self.old.intake.taken < self.new.intake.taken) }
         ensures few { OnOk result (self.new.intake.taken ≤ self.old.intake.taken + 65536) }
         ensures whole { OnOk result (self.new.end ≡ None → self.new.intake.taken ≡ self.old.intake.taken + 65536) }
@@ -86,11 +105,13 @@ impl Reading {
         }
     }
 
-    /// What the text says so far: its session, the commands of the last round, and the strays of all.
+    /// What the text says so far: its session, the commands of the last round, and the strays of all; where strays are kept, the
+    /// commands and the strays of the last round too.
     pub fn script(&self) -> &Script
         ensures session { session_at self.now.intake.stage ≡ Some result.now.session }
         ensures sent { sent_at self.now.intake.stage ≡ result.now.sent.items }
         ensures strays { strays_at self.now.intake.stage ≡ result.now.strays }
+        ensures heard { heard_at self.now.intake.stage ≡ result.now.heard.items }
     {
         match &self.intake.stage {
             Stage::Commanding { script, .. } => script,

@@ -1,12 +1,14 @@
-ghost use Rattle.std.specs.Prelude.{◌≡◌, [], ◌∷◌, ◌++◌, IfOk, OnOk};
+ghost use Rattle.std.specs.Prelude.{◌≡◌, true, [], ◌∷◌, ◌++◌, IfOk, OnOk};
 ghost use Rattle.fx_rules.specs.Sending.{IsSentOf};
 ghost use Rattle.fx_text.specs.Lines.{line_seen};
 ghost use Rattle.order_lines.specs.Grammar.{command_line};
 ghost use Rattle.session_script.specs.Journal.{sent_lines};
+ghost use Rattle.session_script.specs.declared.heard.Heard.TheVariants.{Command as HeardCommand, Stray as HeardStray};
 
 use crate::front::push_spelled;
-use fx_amounts::Memory;
-use fx_rules::{Sent, Session};
+use crate::heard::{Heard, kept_line};
+use fx_amounts::{BankId, Memory};
+use fx_rules::{Command, Sent, Session};
 use fx_text::{LineText, LineView};
 use order_lines::{Spoken, command_in, make_command};
 use std::alloc::Global;
@@ -21,24 +23,32 @@ pub struct Script {
     /// The journal's lines of the last round's commands, in the same order. Those of lines in their one spelling are the bytes of
     /// the text, and the others are made.
     pub journal: Vec<u8>,
+    /// Whether strays are kept.
+    pub keeps: bool,
+    /// Where they are, the commands and the strays of the last round, in the order of their lines.
+    pub heard: Vec<Heard>,
 
     pub ghost in_journal: { journal.items ≡ sent_lines session sent.items },
 }
 
 impl Script {
-    ghost use Rattle.session_script.specs.inside.Stage.{Adds, AddsFront};
+    ghost use Rattle.session_script.specs.inside.Stage.{Adds, AddsFront, SaysAsBefore};
 
-    /// The script of a session, so far without a command.
-    pub(crate) fn of(alloc: Global, session: Session) -> Script
+    /// The script of a session, so far without a command. It tells whether strays are kept.
+    pub(crate) fn of(alloc: Global, session: Session, keeps: bool) -> Script
         ensures session { result.session ≡ session }
         ensures sent { result.sent.items ≡ [] }
         ensures strays { result.strays ≡ 0 }
+        ensures keeps { result.keeps ≡ keeps }
+        ensures heard { result.heard.items ≡ [] }
     {
         Script {
             session,
             sent: Vec::new(alloc),
             strays: 0,
             journal: Vec::new(alloc),
+            keeps,
+            heard: Vec::new(alloc),
         }
     }
 
@@ -47,20 +57,29 @@ impl Script {
         ensures session { self.new.session ≡ self.old.session }
         ensures sent { self.new.sent.items ≡ [] }
         ensures strays { self.new.strays ≡ self.old.strays }
+        ensures keeps { self.new.keeps ≡ self.old.keeps }
+        ensures heard { self.new.heard.items ≡ [] }
     {
         self.sent.clear();
         self.journal.clear();
+        self.heard.clear();
     }
 
-    /// Adds what a line behind START says, and answers whether it is the END line. After `Err` the line is not added.
+    /// Adds what a line behind START says, and answers whether it is the END line. After `Err` it may be added in part.
     pub(crate) fn add(&mut self, line: &LineView<'_>) -> Result<bool, Memory>
         ensures adds { IfOk result
-            (λ ended. Adds self.old self.new (command_line self.old.session (line_seen line.now)) ended) }
+            (λ ended. Adds self.old self.new (line_seen line.now) (command_line self.old.session (line_seen line.now)) ended) }
         ensures session { self.new.session ≡ self.old.session }
     {
         match command_in(&self.session, line) {
-            Spoken::Of(bank, command) => self.add_sent(Sent { bank, command })?,
-            Spoken::Stray => self.strays = self.strays.saturating_add(1),
+            Spoken::Of(bank, command) => {
+                self.hear_command(bank, &command)?;
+                self.add_sent(Sent { bank, command })?;
+            }
+            Spoken::Stray => {
+                self.strays = self.strays.saturating_add(1);
+                self.hear_stray(line)?;
+            }
             Spoken::Passed => {}
             Spoken::End => return Ok(true),
         }
@@ -73,6 +92,7 @@ impl Script {
         ensures session { self.new.session ≡ self.old.session }
         ensures sent { OnOk result (self.new.sent.items ≡ self.old.sent.items ++ sent ∷ []) }
         ensures strays { self.new.strays ≡ self.old.strays }
+        ensures heard { (self.new.keeps ≡ self.old.keeps) × (self.new.heard.items ≡ self.old.heard.items) }
     {
         // The clauses on the line rest on a valid session, as each is.
         let _banks = self.session.banks();
@@ -84,12 +104,39 @@ impl Script {
         Ok(())
     }
 
-    /// Adds the commands with whose lines in their one spelling a text begins, and answers what stands behind these lines. After
-    /// `Err` none of them is added.
+    /// Hears a command, where strays are kept. After `Err` it is not heard.
+    fn hear_command(&mut self, bank: BankId, command: &Command) -> Result<(), Memory>
+        ensures as_before { SaysAsBefore self.old self.new }
+        ensures heard { OnOk result (self.old.keeps ≡ true → self.new.heard.items ≡ self.old.heard.items ++ HeardCommand (record { bank = bank; command = command.now }) ∷ []) }
+    {
+        if self.keeps {
+            let command = *command;
+            self.heard.push(Heard::Command(Sent { bank, command }))?;
+        }
+        Ok(())
+    }
+
+    /// Hears a stray, where strays are kept. After `Err` it is not heard.
+    fn hear_stray(&mut self, line: &LineView<'_>) -> Result<(), Memory>
+        ensures as_before { SaysAsBefore self.old self.new }
+        ensures heard { OnOk result (self.old.keeps ≡ true → self.new.heard.items ≡ self.old.heard.items ++ HeardStray (line_seen line.now) ∷ []) }
+    {
+        if self.keeps {
+            let kept = kept_line(*self.heard.allocator(), line)?;
+            self.heard.push(Heard::Stray(kept))?;
+        }
+        Ok(())
+    }
+
+    /// Adds the commands with whose lines in their one spelling a text begins, and answers what stands behind these lines. Where
+    /// strays are kept it adds none: each line is taken by itself then. After `Err` none of them is added.
     pub(crate) fn add_spelled<'p>(&mut self, text: &'p [u8]) -> Result<&'p [u8], Memory>
         ensures adds { IfOk result (λ rest. AddsFront self.old self.new text.now rest.now) }
         ensures session { self.new.session ≡ self.old.session }
     {
+        if self.keeps {
+            return Ok(text);
+        }
         let before = self.sent.len();
         let memory = match push_spelled(&self.session, text, &mut self.sent) {
             Ok(rest) => {

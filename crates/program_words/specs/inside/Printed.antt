@@ -4,7 +4,7 @@ use Rattle.std.specs.Borrow.{Bor}
 use Rattle.clap.specs.Words.{Row, Text, first_of}
 use Rattle.program_words.specs.Forms.{◌>>=◌}
 use Rattle.program_words.specs.declared.matched.Matched.{Matched}
-use Rattle.program_words.specs.declared.matched.Matched.TheVariants.{Run, Serial, Check, Load, Payments, Watch}
+use Rattle.program_words.specs.declared.matched.Matched.TheVariants.{Run, Serial, Check, Load, Clients, Payments, Watch}
 
 -- an option, where it was given
 abbrev pub with_option : Option Text → List Text
@@ -19,6 +19,7 @@ matched_words (Run workers) = codes "run" ∷ option_words workers
 matched_words Serial = codes "serial" ∷ []
 matched_words Check = codes "check" ∷ []
 matched_words (Load seed banks pairs commands workers) = codes "load" ∷ seed.now ∷ banks.now ∷ pairs.now ∷ commands.now ∷ option_words workers
+matched_words Clients = codes "clients" ∷ []
 matched_words (Payments form) = codes "payments" ∷ form.now ∷ []
 matched_words Watch = codes "watch" ∷ []
 
@@ -42,6 +43,7 @@ printed_of name rows =
     else if bytes_eq name (codes "serial") then Some (codes "serial" ∷ [])
     else if bytes_eq name (codes "check") then Some (codes "check" ∷ [])
     else if bytes_eq name (codes "load") then printed_load rows
+    else if bytes_eq name (codes "clients") then Some (codes "clients" ∷ [])
     else if bytes_eq name (codes "payments") then printed_payments rows
     else if bytes_eq name (codes "watch") then Some (codes "watch" ∷ [])
     else None

@@ -25,5 +25,5 @@ bare a = record a { top = record a.top { no_binary_name = true; disable_help_fla
 
 abbrev pub tool : App
 tool =
-    with_subcommand (with_subcommand (with_subcommand (with_subcommand (with_subcommand (with_subcommand (bare (new_app (codes "fx_cli")))
-    run_app.top) (new_app (codes "serial")).top) (new_app (codes "check")).top) load_app.top) payments_app.top) (new_app (codes "watch")).top
+    with_subcommand (with_subcommand (with_subcommand (with_subcommand (with_subcommand (with_subcommand (with_subcommand (bare (new_app (codes "fx_cli")))
+    run_app.top) (new_app (codes "serial")).top) (new_app (codes "check")).top) load_app.top) (new_app (codes "clients")).top) payments_app.top) (new_app (codes "watch")).top

@@ -15,7 +15,12 @@ use Rattle.fx_rules.specs.Sending.{IsSentOf}
 use Rattle.session_script.specs.declared.script.Script.{Script}
 use Rattle.session_script.specs.declared.intake.stage.Stage.{Stage}
 use Rattle.session_script.specs.declared.intake.stage.Stage.TheVariants.{Heading, Commanding, Faulted}
-use Rattle.session_script.specs.Stage.{Tells, StandsAt, most_strays}
+use Rattle.session_script.specs.Heard.{heard_as}
+use Rattle.session_script.specs.Stage.{Past, Tells, Hears, StandsAt, most_strays, sent_at, heard_at}
+
+-- what was given before, once the stage's round is a former one
+abbrev pub past_behind : Past → Stage → Past
+past_behind former stage = record { sent = former.sent ++ sent_at stage; keeps = former.keeps; heard = former.heard ++ heard_at stage }
 
 -- a count of strays, once this is said too
 abbrev pub counted : ℕ → Spoken → ℕ
@@ -24,13 +29,22 @@ counted strays (Of bank command) = strays
 counted strays End = strays
 counted strays Passed = strays
 
--- what is said makes a script of another
-pub record Adds (old new : Script) (said : Spoken) (is_end : Bool) : Type 0 where
+-- a line that says this makes a script of another
+pub record Adds (old new : Script) (line : Line) (said : Spoken) (is_end : Bool) : Type 0 where
   pub session : new.session ≡ old.session
   pub sent : new.sent.items ≡ old.sent.items ++ sent_among (said ∷ [])
   pub strays : new.strays ≡ counted old.strays said
   pub ended : is_end ≡ has_end (said ∷ [])
   pub valid : Each (IsSentOf old.session) (sent_among (said ∷ []))
+  pub keeps : new.keeps ≡ old.keeps
+  pub heard : old.keeps ≡ true → new.heard.items ≡ old.heard.items ++ heard_as line said
+
+-- but for what is heard, a script is as it was
+pub record SaysAsBefore (old new : Script) : Type 0 where
+  pub session : new.session ≡ old.session
+  pub sent : new.sent.items ≡ old.sent.items
+  pub strays : new.strays ≡ old.strays
+  pub keeps : new.keeps ≡ old.keeps
 
 -- the first lines of a text are commands in their one spelling, each of which is added; this is what stands behind them
 pub record AddsLines (h : Header) (old new : List Sent) (text rest : List ℕ) : Type 0 where
@@ -53,6 +67,7 @@ pub record AddsFront (old new : Script) (text rest : List ℕ) : Type 0 where
   pub session : new.session ≡ old.session
   pub tells : (lines : List Line) (former : List Sent) → Tells lines old.session (former ++ old.sent.items) old.strays false
       → Tells (lines ++ done) new.session (former ++ new.sent.items) new.strays false
+  pub hears : (lines : List Line) (former : Past) → Hears lines former old → Hears (lines ++ done) former new
 
 -- the first lines of a text were taken; this is what stands behind them
 pub record TakesFront (old new : Stage) (text rest : List ℕ) : Type 0 where
@@ -60,7 +75,7 @@ pub record TakesFront (old new : Stage) (text rest : List ℕ) : Type 0 where
   pub lines : lines_of text ≡ done ++ lines_of rest
   pub behind : rest_of text ≡ rest_of rest
   pub shorter : length rest ≤ length text
-  pub stands : (lines : List Line) (former : List Sent) → StandsAt old lines former → StandsAt new (lines ++ done) former
+  pub stands : (lines : List Line) (former : Past) → StandsAt old lines former → StandsAt new (lines ++ done) former
 
 -- the header goes on: neither START nor a fault has come
 abbrev pub goes_on : Head → Bool
@@ -71,6 +86,6 @@ goes_on (heads.Faulted line reason) = false
 
 -- a reader that is kept can read on
 abbrev pub is_open : Stage → Bool
-is_open (Heading reader) = goes_on reader
+is_open (Heading reader keeps) = goes_on reader
 is_open (Commanding script ended) = true
 is_open (Faulted line reason) = true

@@ -1,6 +1,5 @@
-ghost use Rattle.std.specs.Prelude.{◌≡◌, ◌++◌, ◌∷◌, [], List, IsTrue, IfOk, OnOk, IsSome, Some, None};
+ghost use Rattle.std.specs.Prelude.{◌≡◌, ◌++◌, ◌∷◌, [], false, List, IsTrue, IfOk, OnOk, IsSome, Some, None};
 ghost use Rattle.std.specs.Bool.{MatchBool};
-ghost use Rattle.fx_rules.specs.declared.command.Sent.{Sent as SentCommand};
 ghost use Rattle.fx_rules.specs.Session.{Header as SessionHeader};
 ghost use Rattle.fx_text.specs.Lines.{lines_of, rest_of, line_seen, IsRest};
 ghost use Rattle.fx_text.specs.declared.line.Line.{Line as TextLine};
@@ -18,8 +17,8 @@ use std::mem;
 /// What the lines of a text have come to.
 #[derive(Drop)]
 pub(crate) enum Stage {
-    /// The header goes on.
-    Heading(HeadReader),
+    /// The header goes on. Behind it strays are kept, or not.
+    Heading { reader: HeadReader, keeps: bool },
     /// START was read. Once the END line was, no further line is looked at.
     Commanding { script: Script, ended: bool },
     /// The header has a fault. No further line is looked at.
@@ -27,33 +26,37 @@ pub(crate) enum Stage {
 }
 
 impl Stage {
-    ghost use Rattle.session_script.specs.Stage.{StandsAt, sent_at, session_at};
-    ghost use Rattle.session_script.specs.inside.Stage.{is_open, TakesFront};
+    ghost use Rattle.session_script.specs.Stage.{Past, StandsAt, no_past, session_at, sent_at, heard_at};
+    ghost use Rattle.session_script.specs.inside.Stage.{is_open, TakesFront, past_behind};
     ghost use Rattle.session_script.specs.Reading.{GoesOn};
     ghost use Rattle.session_script.specs.Rounds.{IsFront};
 
-    /// The stage before the first line. It takes no memory.
-    pub(crate) fn new(alloc: Global) -> Stage
-        ensures begun { StandsAt result [] [] }
+    /// The stage before the first line, where it is told whether strays are kept. It takes no memory.
+    pub(crate) fn new(alloc: Global, keeps: bool) -> Stage
+        ensures begun { StandsAt result [] (no_past keeps) }
         ensures readable { IsTrue (is_open result) }
         ensures heading { session_at result ≡ None }
     {
-        Stage::Heading(HeadReader::new(alloc))
+        Stage::Heading {
+            reader: HeadReader::new(alloc),
+            keeps,
+        }
     }
 
-    /// The stage behind the START of a session's header. It takes no memory.
+    /// The stage behind the START of a session's header. Strays are not kept. It takes no memory.
     pub(crate) fn resume(alloc: Global, session: Session) -> Stage
-        ensures stands { StandsAt result (lines_of (head_text_of session)) [] }
+        ensures stands { StandsAt result (lines_of (head_text_of session)) (no_past false) }
         ensures readable { IsTrue (is_open result) }
         ensures session { session_at result ≡ Some session }
         ensures sent { sent_at result ≡ [] }
+        ensures heard { heard_at result ≡ [] }
         ensures front { IsFront (head_text_of session) }
         ensures goes_on { GoesOn (head_text_of session) }
     {
         // A session is valid as it is seen.
         let _banks = session.banks();
         Stage::Commanding {
-            script: Script::of(alloc, session),
+            script: Script::of(alloc, session, false),
             ended: false,
         }
     }
@@ -68,7 +71,7 @@ impl Stage {
     /// Lets go of the commands so far, which were a former round's.
     pub(crate) fn begin_round(&mut self)
         requires { IsTrue (is_open self.old) }
-        ensures begun { (lines : List TextLine) (former : List SentCommand) → StandsAt self.old lines former → StandsAt self.new lines (former ++ sent_at self.old) }
+        ensures begun { (lines : List TextLine) (former : Past) → StandsAt self.old lines former → StandsAt self.new lines (past_behind former self.old) }
         ensures readable { IsTrue (is_open self.new) }
         ensures session { (h : SessionHeader) → session_at self.old ≡ Some h → session_at self.new ≡ Some h }
     {
@@ -80,15 +83,15 @@ impl Stage {
     /// Takes one line more. After `Err` it is not taken.
     pub(crate) fn take(&mut self, alloc: Global, line: &LineView<'_>) -> Result<(), Memory>
         requires { IsTrue (is_open self.old) }
-        ensures taken { OnOk result ((lines : List TextLine) (former : List SentCommand) → StandsAt self.old lines former → StandsAt self.new (lines ++ line_seen line.now ∷ []) former) }
+        ensures taken { OnOk result ((lines : List TextLine) (former : Past) → StandsAt self.old lines former → StandsAt self.new (lines ++ line_seen line.now ∷ []) former) }
         ensures readable { IsTrue (is_open self.new) }
         ensures session { (h : SessionHeader) → session_at self.old ≡ Some h → session_at self.new ≡ Some h }
     {
         match self {
-            Stage::Heading(reader) => match reader.line_in(line) {
+            Stage::Heading { reader, keeps } => match reader.line_in(line) {
                 Ok(HeadStep::More) => {}
                 Ok(HeadStep::Start) => {
-                    let script = started(alloc, reader);
+                    let script = started(alloc, reader, *keeps);
                     *self = Stage::Commanding {
                         script,
                         ended: false,
@@ -111,7 +114,7 @@ impl Stage {
     /// taken.
     pub(crate) fn take_all<'p>(&mut self, alloc: Global, text: &'p [u8]) -> Result<&'p [u8], Memory>
         requires { IsTrue (is_open self.old) }
-        ensures taken { OnOk result ((lines : List TextLine) (former : List SentCommand) → StandsAt self.old lines former → StandsAt self.new (lines ++ lines_of text.now) former) }
+        ensures taken { OnOk result ((lines : List TextLine) (former : Past) → StandsAt self.old lines former → StandsAt self.new (lines ++ lines_of text.now) former) }
         ensures rest { IfOk result (λ rest. IsRest rest.now) }
         ensures behind { IfOk result (λ rest. rest.now ≡ rest_of text.now) }
         ensures readable { IsTrue (is_open self.new) }
@@ -142,13 +145,16 @@ impl Stage {
     }
 }
 
-/// The script of the session that a reader has read, so far without a command. The reader begins anew.
-fn started(alloc: Global, reader: &mut HeadReader) -> Script
+/// The script of the session that a reader has read, so far without a command. It tells whether strays are kept. The reader
+/// begins anew.
+fn started(alloc: Global, reader: &mut HeadReader, keeps: bool) -> Script
     requires { IsSome (session_of reader.old) }
     ensures session { session_of reader.old ≡ Some result.session }
     ensures sent { result.sent.items ≡ [] }
     ensures strays { result.strays ≡ 0 }
+    ensures keeps { result.keeps ≡ keeps }
+    ensures heard { result.heard.items ≡ [] }
 {
     let reader = mem::replace(reader, HeadReader::new(alloc));
-    Script::of(alloc, reader.into_session().unwrap())
+    Script::of(alloc, reader.into_session().unwrap(), keeps)
 }

@@ -6,6 +6,7 @@ use Rattle.fx_cli.proofs.TopCallLaws.{not_begun}
 use Rattle.fx_cli.proofs.CheckLaws.{check_not_begun}
 use Rattle.fx_cli.specs.Check.{SaysYes}
 use Rattle.fx_cli.specs.Payments.{IsPaymentsOf}
+use Rattle.fx_cli.specs.Clients.{IsClientsTextOf}
 use Rattle.fx_cli.specs.Watch.{IsWatchedOf}
 use Rattle.fx_cli.proofs.top.follow.Goals as goal
 
@@ -24,6 +25,10 @@ returns-in-Err-Memory-clause-check g c = λ asked.
 pub returns-in-Err-Memory-clause-payments : goal.returns-in-Err-Memory-clause-payments
 returns-in-Err-Memory-clause-payments g c = λ form asked.
     check_not_begun (IsPaymentsOf form) g.S.Source.left g.S.Source.faults g.K.Sink.written g.K.Sink.faults c.args.source.now c.args.source.now c.args.out.now c.args.out.now refl refl
+
+pub returns-in-Err-Memory-clause-clients : goal.returns-in-Err-Memory-clause-clients
+returns-in-Err-Memory-clause-clients g c = λ asked.
+    not_begun IsClientsTextOf g.S.Source.left g.S.Source.faults g.K.Sink.written g.K.Sink.faults c.args.source.now c.args.source.now c.args.out.now c.args.out.now refl refl
 
 pub returns-in-Err-Memory-clause-watch : goal.returns-in-Err-Memory-clause-watch
 returns-in-Err-Memory-clause-watch g c = λ asked.

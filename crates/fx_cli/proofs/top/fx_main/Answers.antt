@@ -6,6 +6,7 @@ use Rattle.fx_cli.proofs.CheckLaws.{check_did}
 use Rattle.fx_cli.proofs.LoadLaws.{load_did}
 use Rattle.fx_cli.specs.Check.{SaysYes}
 use Rattle.fx_cli.specs.Payments.{IsPaymentsOf}
+use Rattle.fx_cli.specs.Clients.{IsClientsTextOf}
 use Rattle.fx_cli.specs.Watch.{IsWatchedOf}
 use Rattle.fx_cli.proofs.top.fx_main.Goals as goal
 
@@ -29,6 +30,9 @@ returns g c = record {
     payments = λ form asked.
         check_did (IsPaymentsOf form) g.S.Source.left g.S.Source.faults g.K.Sink.written g.K.Sink.faults c.args.source.now c.follow-status.new.source c.args.out.now c.follow-status.new.out
         c.follow-status.result c.tell.result (c.follow-status.ensures.payments form asked) c.tell.ensures.same;
+    clients = λ asked.
+        session_did IsClientsTextOf g.S.Source.left g.S.Source.faults g.K.Sink.written g.K.Sink.faults c.args.source.now c.follow-status.new.source c.args.out.now c.follow-status.new.out
+        c.follow-status.result c.tell.result (c.follow-status.ensures.clients asked) c.tell.ensures.same;
     watch = λ asked.
         session_did IsWatchedOf g.S.Source.left g.S.Source.faults g.K.Sink.written g.K.Sink.faults c.args.source.now c.follow-status.new.source c.args.out.now c.follow-status.new.out
         c.follow-status.result c.tell.result (c.follow-status.ensures.watch asked) c.tell.ensures.same;

@@ -21,5 +21,6 @@ returns c =
     let serial = c.in_ok-subcommand-2.ensures.shape c.new-2.ensures.local ∙ ap₂ with_subcommand run (ap (λ (a : App). a.top) c.new-2.ensures.app) in
     let check = c.in_ok-subcommand-3.ensures.shape c.new-3.ensures.local ∙ ap₂ with_subcommand serial (ap (λ (a : App). a.top) c.new-3.ensures.app) in
     let load = c.in_ok-subcommand-4.ensures.shape c.in_ok-load_command.ensures.local ∙ ap₂ with_subcommand check (ap (λ (a : App). a.top) c.in_ok-load_command.ensures.app) in
-    let payments = c.in_ok-subcommand-5.ensures.shape c.in_ok-payments_command.ensures.local ∙ ap₂ with_subcommand load (ap (λ (a : App). a.top) c.in_ok-payments_command.ensures.app) in
-    c.in_ok-tool.ensures.shape c.new-4.ensures.local ∙ ap₂ with_subcommand payments (ap (λ (a : App). a.top) c.new-4.ensures.app)
+    let clients = c.in_ok-subcommand-5.ensures.shape c.new-4.ensures.local ∙ ap₂ with_subcommand load (ap (λ (a : App). a.top) c.new-4.ensures.app) in
+    let payments = c.in_ok-subcommand-6.ensures.shape c.in_ok-payments_command.ensures.local ∙ ap₂ with_subcommand clients (ap (λ (a : App). a.top) c.in_ok-payments_command.ensures.app) in
+    c.in_ok-tool.ensures.shape c.new-5.ensures.local ∙ ap₂ with_subcommand payments (ap (λ (a : App). a.top) c.new-5.ensures.app)

@@ -34,6 +34,7 @@ returns c =
     c.fill_side-2.ensures.value ∙ ap (λ (b : Book). side_with filled_sums b c.args.fill.now.taker c.args.fill.now.taker_number c.args.fill.now.pair c.count-lots.result) first
     ∙ ap (side_with filled_sums (side_with filled_sums c.args.self.now c.args.fill.now.maker c.args.fill.now.maker_number c.args.fill.now.pair c.args.fill.now.lots) c.args.fill.now.taker c.args.fill.now.taker_number c.args.fill.now.pair) c.count-lots.ensures.value in
     record {
+      clients = ap (λ (b : Book). b.clients) second;
       filled = λ h tagged t orders fills way is.
           subst (IsUnderWay h tagged t (drawn orders c.args.fill.now) (fills ++ c.args.fill.now ∷ [])) (sym second) (fill-way h tagged t orders fills c.args.fill.now c.args.self.now way is full);
     }

@@ -1,8 +1,8 @@
-use Rattle.std.proofs.Common.{ℕ, ◌≡◌, ◌≤◌, List, length, get_or, ap, sym, subst, ◌∙◌, arith}
+use Rattle.std.proofs.Common.{ℕ, ◌≡◌, ◌≤◌, List, length, get_or, refl, ap, sym, subst, ◌∙◌, arith}
 use Rattle.std.proofs.Math.ListN.{set}
 use Rattle.fx_rules.specs.declared.orders.ActiveOrder.{ActiveOrder}
 use Rattle.fx_rules.specs.Step.{without_orders}
-use Rattle.client_desk.specs.Standing.{row_of}
+use Rattle.client_desk.specs.Standing.{Book, row_of}
 use Rattle.client_desk.specs.inside.UnderWay.{IsUnderWay, counts_of}
 use Rattle.client_desk.proofs.Pulling.{none-pulled, pulled_to, take-pulled}
 use Rattle.client_desk.proofs.Recording.{pull-end}
@@ -13,6 +13,7 @@ swept-first-requires c = record { sender = omega (arith, c.requires.sender.6, c.
 
 pub loop-place-init : goal.loop-place-init
 loop-place-init c = record {
+  clients = refl;
   swept = sym c.swept-first.ensures.value;
   taken = λ h tagged t orders fills way sender last.
       subst (λ (os : List ActiveOrder). IsUnderWay h tagged t os fills c.args.self.now) (sym (none-pulled c.args.pair c.args.bank c.swept-first.result orders)) way;
@@ -34,6 +35,7 @@ take_out-requires c = record {
 
 pub loop-place-preserved : goal.loop-place-preserved
 loop-place-preserved c = record {
+  clients = c.take_out.ensures.clients ∙ c.loop-place.invariant.clients;
   swept = ap (λ (xs : List ℕ). get_or xs c.args.pair 0) c.take_out.ensures.swept ∙ c.loop-place.invariant.swept;
   taken = λ h tagged t orders fills way sender last.
       subst (λ (os : List ActiveOrder). IsUnderWay h tagged t os fills c.take_out.new.self) (take-pulled c.args.pair c.args.bank c.swept-first.result c.loop-place.place orders (omega arith))
@@ -48,6 +50,7 @@ sweep-requires c =
 
 pub returns : goal.returns
 returns c = record {
+  clients = ap (λ (b : Book). b.clients) c.sweep.ensures.value ∙ c.loop-place.invariant.clients;
   pulled = λ h tagged t orders fills way sender last.
       let rows = way.stands.rows c.args.bank sender in
       let first : c.swept-first.result ≤ c.args.last = omega (arith, c.swept-first.ensures.value, rows.swept_most c.args.pair, last) in

@@ -1,5 +1,6 @@
 use Rattle.std.proofs.Common.{◌≡◌, ◌-◌, ap, sym, subst, ◌∙◌, arith}
 use Rattle.fx_rules.specs.Step.{reduced}
+use Rattle.client_desk.specs.Standing.{Book}
 use Rattle.client_desk.specs.inside.Changes.{kept_left}
 use Rattle.client_desk.specs.inside.UnderWay.{IsUnderWay}
 use Rattle.client_desk.proofs.UnderWay.{weighs-pair}
@@ -21,6 +22,7 @@ pub returns : goal.returns
 returns c =
     let kept : c.saturating_sub.result ≡ kept_left c.args.self.now c.args.pair c.args.bank c.args.number - c.args.left = c.saturating_sub.ensures ∙ ap (λ n. n - c.args.left) c.left-lots.ensures.value in
     record {
+      clients = ap (λ (b : Book). b.clients) c.release.ensures.value;
       reduced = λ h tagged t orders fills way known above.
           subst (IsUnderWay h tagged t (reduced c.args.bank c.args.number c.args.left orders) fills) (sym c.release.ensures.value)
           (reduce-way h tagged t orders fills c.args.self.now c.args.pair c.args.bank c.args.number c.args.left c.saturating_sub.result way known c.left-lots.ensures.full above kept);

@@ -28,6 +28,7 @@ take_out-requires c = record {
 
 pub returns-in-Ioc : goal.returns-in-Ioc
 returns-in-Ioc c = record {
+  clients = c.take_out.ensures.clients;
   settled = λ h tagged t same way.
       subst (λ (os : List ActiveOrder). IsUnderWay h tagged t os (fills_of c.args.entry.now.outcome) c.take_out.new.self)
       (sym (ap (λ (k : Command). settled c.args.entry.now.bank c.args.entry.now.number k c.args.entry.now.outcome (drawn_all (entered (state_of h tagged) c.args.entry.now) (fills_of c.args.entry.now.outcome))) (c.in-Order.is ∙ ap (Order c.in-Order.side c.in-Order.pair c.in-Order.price c.in-Order.lots) c.in-Ioc.is)))
@@ -50,6 +51,7 @@ take_out-requires-in-Fok c = record {
 
 pub returns-in-Fok : goal.returns-in-Fok
 returns-in-Fok c = record {
+  clients = c.take_out-in-Fok.ensures.clients;
   settled = λ h tagged t same way.
       subst (λ (os : List ActiveOrder). IsUnderWay h tagged t os (fills_of c.args.entry.now.outcome) c.take_out-in-Fok.new.self)
       (sym (ap (λ (k : Command). settled c.args.entry.now.bank c.args.entry.now.number k c.args.entry.now.outcome (drawn_all (entered (state_of h tagged) c.args.entry.now) (fills_of c.args.entry.now.outcome))) (c.in-Order.is ∙ ap (Order c.in-Order.side c.in-Order.pair c.in-Order.price c.in-Order.lots) c.in-Fok.is)))
@@ -74,6 +76,7 @@ take_out-requires-in-Cancelled c =
 
 pub returns-in-Cancelled : goal.returns-in-Cancelled
 returns-in-Cancelled c = record {
+  clients = c.take_out-in-Cancelled.ensures.clients;
   settled = λ h tagged t same way.
       let found = cancel-found (state_of h tagged) c.in-Cancel.pair c.args.entry.now.bank c.in-Cancel.number c.in-Cancelled.left (settling-outcome h tagged t c.args.entry.now (drawn_all (entered (state_of h tagged) c.args.entry.now) (fills_of c.args.entry.now.outcome)) (fills_of c.args.entry.now.outcome) c.args.self.now same way (Cancel c.in-Cancel.pair c.in-Cancel.number) (Cancelled c.in-Cancelled.left) c.in-Cancel.is c.in-Cancelled.is) in
       subst (λ (os : List ActiveOrder). IsUnderWay h tagged t os (fills_of c.args.entry.now.outcome) c.take_out-in-Cancelled.new.self)
@@ -115,6 +118,7 @@ reduce-requires c =
 
 pub returns-in-Reduced : goal.returns-in-Reduced
 returns-in-Reduced c = record {
+  clients = c.reduce.ensures.clients;
   settled = λ h tagged t same way.
       let outcome = settling-outcome h tagged t c.args.entry.now (drawn_all (entered (state_of h tagged) c.args.entry.now) (fills_of c.args.entry.now.outcome)) (fills_of c.args.entry.now.outcome) c.args.self.now same way (Reduce c.in-Reduce.pair c.in-Reduce.number c.in-Reduce.lots) (Reduced c.in-Reduced.left) c.in-Reduce.is c.in-Reduced.is in
       let found = reduced-of (state_of h tagged) c.in-Reduce.pair c.args.entry.now.bank c.in-Reduce.number c.in-Reduce.lots c.in-Reduced.left outcome in
@@ -144,6 +148,7 @@ pull-requires c = record {
 
 pub returns-in-Pulled : goal.returns-in-Pulled
 returns-in-Pulled c = record {
+  clients = c.pull.ensures.clients;
   settled = λ h tagged t same way.
       subst (λ (os : List ActiveOrder). IsUnderWay h tagged t os (fills_of c.args.entry.now.outcome) c.pull.new.self)
       (sym (ap (λ (k : Command). settled c.args.entry.now.bank c.args.entry.now.number k c.args.entry.now.outcome (drawn_all (entered (state_of h tagged) c.args.entry.now) (fills_of c.args.entry.now.outcome))) c.in-Pull.is ∙ ap (λ (o : Outcome). settled c.args.entry.now.bank c.args.entry.now.number (Pull c.in-Pull.pair) o (drawn_all (entered (state_of h tagged) c.args.entry.now) (fills_of c.args.entry.now.outcome))) c.in-Pulled.is))

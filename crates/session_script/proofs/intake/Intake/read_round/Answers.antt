@@ -4,9 +4,9 @@ use Rattle.std.specs.Prelude.{IsErrAnd}
 use Rattle.std.specs.Io.KnownBytes.{IsAtEnd}
 use Rattle.fx_amounts.specs.OutOfMemory.{refused}
 use Rattle.fx_edges.specs.Reading.{Took}
-use Rattle.fx_rules.specs.declared.command.Sent.{Sent}
 use Rattle.fx_text.specs.Lines.{lines_of}
-use Rattle.session_script.specs.Stage.{sent_at}
+use Rattle.session_script.specs.Stage.{Past}
+use Rattle.session_script.specs.inside.Stage.{past_behind}
 use Rattle.session_script.specs.Intake.{StandsFor}
 use Rattle.session_script.specs.inside.Rounds.{TookRound}
 use Rattle.session_script.specs.declared.ends.TextEnd.{TextEnd}
@@ -38,7 +38,7 @@ memory_result (Err stop) is = ap Err is
 pub loop-self-init : goal.loop-self-init
 loop-self-init g c = record {
   round = λ front before former input reads.
-      InRound-begun (former ++ sent_at c.args.self.now.stage) _ refl refl reads (c.begin_round.ensures.begun (lines_of (front ++ input)) former reads.stands.stage);
+      InRound-begun (past_behind former c.args.self.now.stage) _ refl refl reads (c.begin_round.ensures.begun (lines_of (front ++ input)) former reads.stands.stage);
   session = c.begin_round.ensures.session;
   within = omega (arith, c.min-end.ensures, c.args.self.now.within);
 }
@@ -58,15 +58,15 @@ pub returns-in_err-feed-clause-took : goal.returns-in_err-feed-clause-took
 returns-in_err-feed-clause-took g c = λ front before former input reads.
     let taken = c.loop-self.self.taken in
     let piece = IsPiece-read c.read.new.into c.loop-self.piece c.in-Ok.count c.min-room.result taken c.min-end.result c.in-Ok.ensures.room.1 c.in-Ok.ensures.room.0 c.read.auto.into c.min-room.ensures c.loop-self-test.true in
-    subst (λ (result : Result (Option TextEnd) Stop). TookRound front g.S.Source.left g.S.Source.faults before c.read.new.self c.feed.new.self (former ++ sent_at c.args.self.now.stage) input result) (sym (memory_result c.from_residual.result c.from_residual.ensures.1))
+    subst (λ (result : Result (Option TextEnd) Stop). TookRound front g.S.Source.left g.S.Source.faults before c.read.new.self c.feed.new.self (past_behind former c.args.self.now.stage) input result) (sym (memory_result c.from_residual.result c.from_residual.ensures.1))
     (TookRound-memory c.feed.new.self (c.loop-self.invariant.round front before former input reads) c.in-Ok.ensures.ok piece.short (omega (arith, piece.fits, c.min-end.ensures)))
 
 pub returns-then-is_settled-clause-took : goal.returns-then-is_settled-clause-took
 returns-then-is_settled-clause-took g c = λ front before former input reads.
     let into = c.read.new.into in
     let piece = IsPiece-read into c.loop-self.piece c.in-Ok.count c.min-room.result c.loop-self.self.taken c.min-end.result c.in-Ok.ensures.room.1 c.in-Ok.ensures.room.0 c.read.auto.into c.min-room.ensures c.loop-self-test.true in
-    let feeds : (text : List ℕ) (sent : List Sent) → StandsFor c.loop-self.self text sent → StandsFor c.feed.new.self (text ++ take c.in-Ok.count into) sent =
-    subst (λ (bytes : List ℕ). (text : List ℕ) (sent : List Sent) → StandsFor c.loop-self.self text sent → StandsFor c.feed.new.self (text ++ bytes) sent)
+    let feeds : (text : List ℕ) (past : Past) → StandsFor c.loop-self.self text past → StandsFor c.feed.new.self (text ++ take c.in-Ok.count into) past =
+    subst (λ (bytes : List ℕ). (text : List ℕ) (past : Past) → StandsFor c.loop-self.self text past → StandsFor c.feed.new.self (text ++ bytes) past)
     (fed into (drop c.min-room.result c.loop-self.piece) c.in-Ok.count c.in-Ok.ensures.room.0) c.in_ok-feed.ensures.fed in
     let taken : c.feed.new.self.taken ≡ c.loop-self.self.taken + length (take c.in-Ok.count into) =
     c.in_ok-feed.ensures.taken ∙ ap (λ (bytes : List ℕ). c.loop-self.self.taken + length bytes) (fed into (drop c.min-room.result c.loop-self.piece) c.in-Ok.count c.in-Ok.ensures.room.0) in
@@ -75,8 +75,8 @@ returns-then-is_settled-clause-took g c = λ front before former input reads.
 pub loop-self-preserved : goal.loop-self-preserved
 loop-self-preserved g c =
     let into = c.read.new.into in
-    let feeds : (text : List ℕ) (sent : List Sent) → StandsFor c.loop-self.self text sent → StandsFor c.feed.new.self (text ++ take c.in-Ok.count into) sent =
-    subst (λ (bytes : List ℕ). (text : List ℕ) (sent : List Sent) → StandsFor c.loop-self.self text sent → StandsFor c.feed.new.self (text ++ bytes) sent)
+    let feeds : (text : List ℕ) (past : Past) → StandsFor c.loop-self.self text past → StandsFor c.feed.new.self (text ++ take c.in-Ok.count into) past =
+    subst (λ (bytes : List ℕ). (text : List ℕ) (past : Past) → StandsFor c.loop-self.self text past → StandsFor c.feed.new.self (text ++ bytes) past)
     (fed into (drop c.min-room.result c.loop-self.piece) c.in-Ok.count c.in-Ok.ensures.room.0) c.in_ok-feed.ensures.fed in
     let piece = IsPiece-read into c.loop-self.piece c.in-Ok.count c.min-room.result c.loop-self.self.taken c.min-end.result c.in-Ok.ensures.room.1 c.in-Ok.ensures.room.0 c.read.auto.into c.min-room.ensures c.loop-self-test.true in
     record {

@@ -1,11 +1,12 @@
 use Rattle.std.proofs.Common.{true, false, refl, sym, subst, append-nil}
+use Rattle.fx_text.specs.Lines.{line_seen}
 use Rattle.session_script.specs.inside.Stage.{Adds}
 use Rattle.session_script.proofs.script.Script.add.Goals as goal
 
 pub returns-in-End-clause-adds : goal.returns-in-End-clause-adds
-returns-in-End-clause-adds c = subst (λ said. Adds c.args.self.now c.args.self.now said true) c.in-End.ensures.reads
-    (record { session = refl; sent = sym (append-nil c.args.self.now.sent.items); strays = refl; ended = refl; valid = tt })
+returns-in-End-clause-adds c = subst (λ said. Adds c.args.self.now c.args.self.now (line_seen c.args.line.now) said true) c.in-End.ensures.reads
+    (record { session = refl; sent = sym (append-nil c.args.self.now.sent.items); strays = refl; ended = refl; valid = tt; keeps = refl; heard = λ on. sym (append-nil c.args.self.now.heard.items) })
 
 pub returns-in-Passed-clause-adds : goal.returns-in-Passed-clause-adds
-returns-in-Passed-clause-adds c = subst (λ said. Adds c.args.self.now c.args.self.now said false) c.in-Passed.ensures.reads
-    (record { session = refl; sent = sym (append-nil c.args.self.now.sent.items); strays = refl; ended = refl; valid = tt })
+returns-in-Passed-clause-adds c = subst (λ said. Adds c.args.self.now c.args.self.now (line_seen c.args.line.now) said false) c.in-Passed.ensures.reads
+    (record { session = refl; sent = sym (append-nil c.args.self.now.sent.items); strays = refl; ended = refl; valid = tt; keeps = refl; heard = λ on. sym (append-nil c.args.self.now.heard.items) })

@@ -7,9 +7,11 @@ use Rattle.session_head.specs.Head as heads
 use Rattle.session_head.specs.Head.{read_head, session_of}
 use Rattle.session_head.specs.HeadText.{head_text_of}
 use Rattle.session_head.proofs.RoundLemmas.{head_text-ends, head_text-read}
-use Rattle.session_script.specs.Stage.{Tells}
+use Rattle.session_script.specs.Stage.{Hears, Tells, no_past}
+use Rattle.session_script.specs.inside.Script.{is_started}
 use Rattle.session_script.specs.declared.script.Script.{Script}
 use Rattle.session_script.proofs.Closing.{told-settled}
+use Rattle.session_script.proofs.Hearing.{Hears-start}
 use Rattle.session_script.proofs.ScriptReading.{front-head}
 use Rattle.session_script.proofs.Taking.{Tells-start}
 use Rattle.session_script.proofs.intake.stage.Stage.resume.Goals as goal
@@ -23,8 +25,16 @@ tells h script valid same none no_strays =
     (Tells-start ends.lines ends.last (heads.Drafting ends.drafted ends.draft) (read_head (ends.lines ++ ends.last ∷ [])) script.session script.sent.items script.strays
     (sym ends.before) refl refl read none no_strays)
 
+hears : (h : Header) (script : Script) → IsSession h → script.keeps ≡ false → script.heard.items ≡ [] → Hears (lines_of (head_text_of h)) (no_past false) script
+hears h script valid kept silent =
+    let ends = head_text-ends h valid in
+    subst (λ (lines : List Line). Hears lines (no_past false) script) (sym ends.all_are) (Hears-start ends.lines ends.last (no_past false) script false (ap is_started ends.before) refl kept silent)
+
 pub returns-clause-stands : goal.returns-clause-stands
-returns-clause-stands c = tells c.args.session c.of.result c.banks-banks.ensures.valid c.of.ensures.session c.of.ensures.sent c.of.ensures.strays
+returns-clause-stands c = (
+  tells c.args.session c.of.result c.banks-banks.ensures.valid c.of.ensures.session c.of.ensures.sent c.of.ensures.strays,
+  hears c.args.session c.of.result c.banks-banks.ensures.valid c.of.ensures.keeps c.of.ensures.heard,
+)
 
 pub returns-clause-front : goal.returns-clause-front
 returns-clause-front c = front-head c.args.session c.banks-banks.ensures.valid

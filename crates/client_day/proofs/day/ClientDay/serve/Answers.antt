@@ -1,0 +1,89 @@
+-- The entry is made, recorded and told.
+use Rattle.std.proofs.Common.{◌≡◌, ◌<◌, ◌++◌, ◌∷◌, [], refl, ap, sym, subst, ◌∙◌, arith, length}
+use Rattle.fx_rules.specs.declared.command.Sent.{Sent}
+use Rattle.fx_rules.specs.declared.outcome.Entry.{Entry}
+use Rattle.fx_rules.specs.Sending.{sent_by}
+use Rattle.fx_rules.specs.Step.{IsCommand}
+use Rattle.client_desk.specs.Clients.{IsTagged, entries_of, tag}
+use Rattle.client_desk.specs.Standing.{StandsFor}
+use Rattle.market_run.specs.Running.{HasServed}
+use Rattle.pair_host.specs.Standing.{stands}
+use Rattle.reply_lines.specs.Day.{AreNoticesOf}
+use Rattle.reply_lines.proofs.Outputs.{on_ok}
+use Rattle.reply_lines.proofs.Printable.{last-prints}
+use Rattle.client_day.specs.Events.{tagged_in}
+use Rattle.client_day.proofs.Days.{behind-entered, goes-tagged, passed-of, takes-entered}
+use Rattle.client_day.proofs.Events.{entries-few}
+use Rattle.client_day.proofs.day.ClientDay.serve.Goals as goal
+
+pub serve_entry-requires : goal.serve_entry-requires
+serve_entry-requires c =
+    let next = c.requires.next in
+    record {
+      may_serve = record {
+        entries = entries_of (tagged_in next.0);
+        has_served = next.1.served;
+        valid = (c.requires.sent, tt);
+        few = omega (arith, entries-few next.0, next.2);
+      };
+    }
+
+pub add_line-requires : goal.add_line-requires
+add_line-requires c =
+    let next = c.requires.next in
+    let made = c.in_ok-entry.ensures.served in
+    let named : sent_by c.in_ok-entry.entry ≡ c.args.sent = ap sent_by made.left_is ∙ made.sent_is in
+    record {
+      command = subst (λ (s : Sent). IsCommand c.args.session.now s.bank s.command) (sym named) c.requires.sent.command;
+      few = omega (arith, next.1.journal_is.count, entries-few next.0, next.2);
+    }
+
+pub record-requires : goal.record-requires
+record-requires c =
+    let next = c.requires.next in
+    let made = c.in_ok-entry.ensures.served in
+    let e : Entry = c.in_ok-entry.entry in
+    let served : HasServed stands AreNoticesOf c.args.session.now (entries_of (tagged_in next.0) ++ e ∷ []) c.serve_entry.new.self =
+    subst (λ (e : Entry). HasServed stands AreNoticesOf c.args.session.now (entries_of (tagged_in next.0) ++ e ∷ []) c.serve_entry.new.self) (sym made.left_is) (made.goes_on (entries_of (tagged_in next.0)) next.1.served) in
+    record {
+      next = (
+        c.args.session.now,
+        tagged_in next.0,
+        next.1.known,
+        goes-tagged c.args.session.now next.0 c.args.self.now c.args.who.now e c.args.sent c.serve_entry.new.self next.1 (ap sent_by made.left_is ∙ made.sent_is) served c.requires.client c.requires.passed,
+      );
+    }
+
+pub note_entry-requires : goal.note_entry-requires
+note_entry-requires c =
+    let next = c.requires.next in
+    let made = c.in_ok-entry.ensures.served in
+    let e : Entry = c.in_ok-entry.entry in
+    let served : HasServed stands AreNoticesOf c.args.session.now (entries_of (tagged_in next.0) ++ e ∷ []) c.serve_entry.new.self =
+    subst (λ (e : Entry). HasServed stands AreNoticesOf c.args.session.now (entries_of (tagged_in next.0) ++ e ∷ []) c.serve_entry.new.self) (sym made.left_is) (made.goes_on (entries_of (tagged_in next.0)) next.1.served) in
+    let tagged : IsTagged c.args.session.now c.args.self.now.book.clients (tagged_in next.0 ++ tag c.args.who.now e ∷ []) =
+    goes-tagged c.args.session.now next.0 c.args.self.now c.args.who.now e c.args.sent c.serve_entry.new.self next.1 (ap sent_by made.left_is ∙ made.sent_is) served c.requires.client c.requires.passed in
+    let prints = last-prints c.args.session.now (entries_of (tagged_in next.0)) e served.legal in
+    record {
+      answer = prints.answer;
+      fills = prints.fills;
+      known = (c.args.session.now, tagged_in next.0 ++ tag c.args.who.now e ∷ [], c.in_ok-record.ensures.recorded c.args.session.now (tagged_in next.0) next.1.known tagged);
+      who = λ k is. subst (λ n. k < n) (sym next.1.desks) (c.requires.client k is).0;
+      desks = next.1.desks ∙ ap length (sym c.in_ok-record.ensures.clients);
+    }
+
+pub returns : goal.returns
+returns c = record {
+  taken = on_ok c.note_entry.result (λ noted.
+      let made = c.in_ok-entry.ensures.served in
+      let e : Entry = c.in_ok-entry.entry in
+      let named : sent_by e ≡ c.args.sent = ap sent_by made.left_is ∙ made.sent_is in
+      takes-entered c.args.session.now c.args.self.now _ c.args.who.now c.args.sent e named c.in_ok-record.ensures.clients refl refl (λ events is.
+      let served : HasServed stands AreNoticesOf c.args.session.now (entries_of (tagged_in events) ++ e ∷ []) c.serve_entry.new.self =
+      subst (λ (e : Entry). HasServed stands AreNoticesOf c.args.session.now (entries_of (tagged_in events) ++ e ∷ []) c.serve_entry.new.self) (sym made.left_is) (made.goes_on (entries_of (tagged_in events)) is.served) in
+      let known : StandsFor c.args.session.now (tagged_in events ++ tag c.args.who.now e ∷ []) c.record.new.book =
+      c.in_ok-record.ensures.recorded c.args.session.now (tagged_in events) is.known (goes-tagged c.args.session.now events c.args.self.now c.args.who.now e c.args.sent c.serve_entry.new.self is named served c.requires.client c.requires.passed) in
+      behind-entered c.args.session.now events c.args.self.now _ c.args.who.now e is (passed-of c.args.session.now events c.args.self.now c.args.who.now e c.args.sent is named c.requires.passed) served
+      c.in_ok-add_line.ensures.count c.in_ok-add_line.ensures.lines known c.in_ok-record.ensures.clients (noted c.args.session.now (tagged_in events ++ tag c.args.who.now e ∷ []) known)))
+      c.note_entry.ensures.noted;
+}

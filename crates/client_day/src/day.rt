@@ -1,0 +1,200 @@
+ghost use Rattle.std.specs.Prelude.{ℕ, ◌≡◌, ◌<◌, ◌≤◌, ◌+◌, ◌^◌, ◌==◌, [], ◌∷◌, ◌++◌, List, true, if◌then◌else◌, None, Some, length, IfOk, OnOk};
+ghost use Rattle.fx_rules.specs.Lists.{Each};
+ghost use Rattle.fx_rules.specs.Sending.{IsSentOf};
+ghost use Rattle.fx_rules.specs.Session.{Header};
+ghost use Rattle.fx_rules.specs.Step.{IsCommand};
+ghost use Rattle.client_desk.specs.Clients.{AreClients, IsTagged, Tagged, ask_of, bank_of_client, tag};
+ghost use Rattle.client_desk.specs.Lines.{client_line_of};
+ghost use Rattle.client_desk.specs.Standing.{StandsFor};
+ghost use Rattle.client_desk.specs.declared.ask.Ask.TheVariants.{Pass};
+ghost use Rattle.client_desk.specs.declared.line.ClientLine.TheVariants.{Declares};
+ghost use Rattle.fx_text.specs.declared.line.Line.{Line as TextLine};
+ghost use Rattle.reply_lines.specs.Output.{entry_line};
+ghost use Rattle.session_script.specs.Heard.{IsHeardOf};
+ghost use Rattle.session_script.specs.declared.heard.Heard.{Heard as HeardLine};
+ghost use Rattle.session_script.specs.declared.heard.Heard.TheVariants.{Stray as HeardStray};
+ghost use Rattle.client_day.specs.Days.{IsBehind, IsDayOf};
+ghost use Rattle.client_day.specs.inside.Days.{HasRoom, IsClientOf, TakesAsked};
+ghost use Rattle.client_day.specs.inside.Desks.{HaveNoted};
+ghost use Rattle.client_day.specs.Events.{Event as DayEvent};
+ghost use Rattle.client_day.specs.Notes.{refusal_notes};
+ghost use Rattle.client_day.specs.Script.{asked_for};
+
+use crate::desk::ClientDesk;
+use crate::notes::note_entry;
+use client_desk::{Ask, Client, ClientBook, ClientId, ClientLine, client_line};
+use fx_amounts::Memory;
+use fx_rules::{Command, Entry, Sent, Session};
+use fx_text::{Line, LineText};
+use market_run::Run;
+use order_lines::make_command;
+use pair_host::PairHost;
+use reply_lines::{DayNotices, JournalText, NoticeWriter};
+use session_script::Heard;
+use std::alloc::Global;
+
+/// A session with clients as it is served: the market with what its output tells, the clients' book, and what each client is told.
+#[derive(Drop)]
+pub struct ClientDay {
+    pub(crate) run: Run<PairHost, DayNotices>,
+    pub(crate) journal: JournalText,
+    pub(crate) book: ClientBook,
+    /// By client.
+    pub(crate) desks: Vec<ClientDesk>,
+    pub(crate) writer: NoticeWriter,
+    /// How many lines were strays so far.
+    pub(crate) strays: u64,
+    /// Whether a command was asked for, so that no client is declared any more.
+    pub(crate) trading: bool,
+}
+
+impl ClientDay {
+    /// The day of a session before its first line. `Memory` when out of memory.
+    pub(crate) fn open(alloc: Global, session: &Session) -> Result<ClientDay, Memory>
+        ensures opens { IfOk result (IsDayOf session.now []) }
+    {
+        let host = PairHost::open(alloc, session)?;
+        let notices = DayNotices::open(alloc, session)?;
+        let book = ClientBook::open(session, Vec::new(alloc))?;
+        Ok(ClientDay {
+            run: Run::open(session, host, notices),
+            journal: JournalText::new(alloc),
+            book,
+            desks: Vec::new(alloc),
+            writer: NoticeWriter::new(alloc),
+            strays: 0,
+            trading: false,
+        })
+    }
+
+    /// Serves what is heard next, in order. After `Memory` the day must not be used any more.
+    pub(crate) fn take_all(&mut self, session: &Session, heard: &[Heard]) -> Result<(), Memory>
+        requires next { (before : List HeardLine) × IsDayOf session.now before self.old × (length before + length heard.now < 2 ^ 32) }
+        requires valid { Each (IsHeardOf session.now) heard.now }
+        ensures taken { OnOk result ((before : List HeardLine) → IsDayOf session.now before self.old → IsDayOf session.now (before ++ heard.now) self.new) }
+    {
+        for item in heard {
+            self.take(session, item)?;
+        }
+        Ok(())
+    }
+
+    /// Serves a command, or reads a line that is a stray without clients. After `Memory` the day must not be used any more.
+    fn take(&mut self, session: &Session, heard: &Heard) -> Result<(), Memory>
+        requires next { (before : List HeardLine) × IsDayOf session.now before self.old × (length before + 1 < 2 ^ 32) }
+        requires valid { IsHeardOf session.now heard.now }
+        ensures taken { OnOk result ((before : List HeardLine) → IsDayOf session.now before self.old → IsDayOf session.now (before ++ heard.now ∷ []) self.new) }
+    {
+        match heard {
+            Heard::Command(sent) => self.serve(session, &None, *sent),
+            Heard::Stray(line) => self.take_line(session, line),
+        }
+    }
+
+    /// Reads a line that is a stray without clients.
+    fn take_line(&mut self, session: &Session, line: &Line) -> Result<(), Memory>
+        requires next { (before : List HeardLine) × IsDayOf session.now before self.old × (length before + 1 < 2 ^ 32) }
+        ensures taken { OnOk result ((before : List HeardLine) → IsDayOf session.now before self.old → IsDayOf session.now (before ++ HeardStray line.now ∷ []) self.new) }
+    {
+        match client_line(session, self.book.clients(), line) {
+            ClientLine::Declares(client) => self.declare(client),
+            ClientLine::Of(client, command) => self.ask(session, client, command),
+            ClientLine::Plain(_) => {
+                self.strays += 1;
+                Ok(())
+            }
+        }
+    }
+
+    /// Adds a client; behind the first command that is asked for, its line is a stray.
+    fn declare(&mut self, client: Client) -> Result<(), Memory>
+        requires next { (h : Header) × (before : List HeardLine) × IsDayOf h before self.old × (length before + 1 < 2 ^ 32) × AreClients h (self.old.book.clients ++ client ∷ []) }
+        ensures taken { OnOk result ((h : Header) (before : List HeardLine) (line : TextLine) → IsDayOf h before self.old → AreClients h (self.old.book.clients ++ client ∷ []) → client_line_of h self.old.book.clients line ≡ Declares client → IsDayOf h (before ++ HeardStray line ∷ []) self.new) }
+    {
+        if self.trading {
+            self.strays += 1;
+            return Ok(());
+        }
+        let desk = ClientDesk::new(*self.desks.allocator());
+        self.desks.reserve(1)?;
+        self.book.declare(client)?;
+        self.desks.push_reserved(desk);
+        Ok(())
+    }
+
+    /// Serves a client's command where it passes, and else refuses it.
+    fn ask(&mut self, session: &Session, client: ClientId, command: Command) -> Result<(), Memory>
+        requires next { (events : List DayEvent) × IsBehind session.now events self.old × HasRoom events }
+        requires client { client < length self.old.book.clients }
+        requires command { IsCommand session.now (bank_of_client self.old.book.clients client) command }
+        ensures taken { OnOk result (TakesAsked session.now (asked_for (Some client) (bank_of_client self.old.book.clients client) command) self.old self.new) }
+    {
+        match self.book.ask(client, &command) {
+            Ask::Pass => {
+                let bank = self.book.clients()[client.index()].bank;
+                self.serve(session, &Some(client), Sent { bank, command })
+            }
+            Ask::Short { free } => self.refuse(client, Ask::Short { free }),
+            Ask::Barred => self.refuse(client, Ask::Barred),
+        }
+    }
+
+    /// Tells a client that its command is refused.
+    fn refuse(&mut self, client: ClientId, answer: Ask) -> Result<(), Memory>
+        requires client { client < length self.old.desks.items }
+        ensures rest { (self.new.run ≡ self.old.run) × (self.new.journal ≡ self.old.journal) × (self.new.book ≡ self.old.book) × (self.new.strays ≡ self.old.strays) }
+        ensures trades { self.new.trading ≡ true }
+        ensures noted { OnOk result ((h : Header) → HaveNoted h (λ c. if client == c then refusal_notes answer else []) self.old.desks.items self.new.desks.items) }
+    {
+        self.trading = true;
+        self.desks[client.index()].refuse(answer)
+    }
+
+    /// Serves a command, of this client where it has one, and tells the clients what came of it.
+    fn serve(&mut self, session: &Session, who: &Option<ClientId>, sent: Sent) -> Result<(), Memory>
+        requires next { (events : List DayEvent) × IsBehind session.now events self.old × HasRoom events }
+        requires client { IsClientOf self.old who.now sent.bank }
+        requires sent { IsSentOf session.now sent }
+        requires passed { (tagged : List Tagged) → StandsFor session.now tagged self.old.book → (c : ℕ) → who.now ≡ Some c → ask_of session.now self.old.book.clients tagged c sent.command ≡ Pass }
+        ensures taken { OnOk result (TakesAsked session.now (asked_for who.now sent.bank sent.command) self.old self.new) }
+    {
+        self.trading = true;
+        let entry = self.run.serve_entry(session, sent)?;
+        add_line(session, &entry, &mut self.journal)?;
+        record(&mut self.book, who, &entry)?;
+        note_entry(
+            session,
+            &self.book,
+            who,
+            &entry,
+            &mut self.desks,
+            &mut self.writer,
+        )
+    }
+}
+
+/// Adds the line of an entry to the journal.
+fn add_line(session: &Session, entry: &Entry, journal: &mut JournalText) -> Result<(), Memory>
+    requires command { IsCommand session.now entry.now.bank entry.now.command }
+    requires few { journal.old.count + 1 < 2 ^ 64 }
+    ensures count { OnOk result (journal.new.count ≡ journal.old.count + 1) }
+    ensures lines { OnOk result (journal.new.lines.items ≡ journal.old.lines.items ++ entry_line session.now entry.now) }
+{
+    // The clauses on the line rest on a valid session, as each is.
+    let _banks = session.banks();
+    let mut line = LineText::new();
+    make_command(session, entry.bank, &entry.command, &mut line);
+    journal.add_lines(1, line.as_slice())
+}
+
+/// Has the book follow an entry, of this client where it has one.
+fn record(book: &mut ClientBook, who: &Option<ClientId>, entry: &Entry) -> Result<(), Memory>
+    requires next { (h : Header) × (tagged : List Tagged) × StandsFor h tagged book.old × IsTagged h book.old.clients (tagged ++ tag who.now entry.now ∷ []) }
+    ensures recorded { OnOk result ((h : Header) (tagged : List Tagged) → StandsFor h tagged book.old → IsTagged h book.old.clients (tagged ++ tag who.now entry.now ∷ []) → StandsFor h (tagged ++ tag who.now entry.now ∷ []) book.new) }
+    ensures clients { OnOk result (book.new.clients ≡ book.old.clients) }
+{
+    match *who {
+        Some(client) => book.record(Some(client), entry),
+        None => book.record(None, entry),
+    }
+}
