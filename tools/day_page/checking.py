@@ -29,11 +29,12 @@ class Verdict:
 
 @dataclass
 class Source:
-    """The text: the name to show, how many bytes it has, and their SHA-256."""
+    """The text: the name to show, how many bytes it has, and their SHA-256; and how many bytes of it are the output, about which the check is asked."""
 
     name: str
     size: int
     digest: str
+    output: int
 
 
 class Asked:

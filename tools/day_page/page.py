@@ -8,11 +8,12 @@ from reading.output import ENDINGS
 
 from . import charts
 from .checking import RIGHT, UNCHECKED, WRONG
+from .clients import clients_link, clients_section
 from .credit_path import FOLLOWED
 from .refused import refused_section, words_of_faults
 from .scale import is_full, is_nearly_full, percent
 from .settling import settlement_section
-from .tables import few, grouped, safe, table
+from .tables import average, few, grouped, legend_items, mean_price, safe, table
 
 HERE = os.path.dirname(os.path.realpath(__file__))
 # How many lines the list of those nearest to the limit has, and up to how many currencies all charts of nets stand side by side.
@@ -22,16 +23,6 @@ USE_HEADS = ("Bank", "Other", "#Bank's limit", "#Other's limit", "#Used", "#Left
 CHIPS = {RIGHT: "\u2713 checked: a right output", WRONG: "\u2717 NOT A RIGHT OUTPUT", UNCHECKED: "? NOT CHECKED"}
 MARKS = {RIGHT: "Checked: a right output", WRONG: "NOT A RIGHT OUTPUT", UNCHECKED: "NOT CHECKED"}
 MARK_COLOURS = {RIGHT: "#12663a", WRONG: "#a3120a", UNCHECKED: "#7a4a00"}
-
-
-def average(pair, turnover, lots):
-    """The average price of some lots, by lots, with one digit more than a price has; `turnover` is the sum of lots times ticks."""
-    return decimal((10 * turnover + lots // 2) // lots, pair.decimals + 1) if lots else ""
-
-
-def decimal(number, places):
-    digits = f"{number:0{places + 1}}"
-    return f"{digits[:-places]}.{digits[-places:]}" if places else digits
 
 
 def shade(day, use):
@@ -88,7 +79,7 @@ def nets_table(day):
 def volumes_table(day):
     rows = []
     for pair, (fills, lots, base, quote) in zip(day.pairs, day.volumes):
-        mean = average(pair, quote // pair.unit, lots) if pair.unit else ""
+        mean = mean_price(pair, lots, quote)
         rows.append((pair.name, grouped(fills), grouped(lots), grouped(base), grouped(quote), mean, grouped(lots * pair.weight)))
     heads = ("Pair", "#Fills", "#Lots", "#Base amount", "#Quote amount", "#Average price", "#Credit units used")
     return table("volumes", "The report's text lines VOLUME; the average is the quote amount by the base amount.", heads, rows)
@@ -97,8 +88,7 @@ def volumes_table(day):
 def legend(day):
     """What the heat map's colours say, with how many lines have each."""
     levels = [day.scale.level(use) for use in day.uses]
-    items = "".join(f'<li><span class="swatch" style="background: var(--h{at})"></span>{name}: {grouped(levels.count(at))}</li>' for at, name in day.scale.names())
-    return f'The part of the lesser limit that is used, with the number of lines. The steps follow the shares of this day. <ul class="legend">{items}</ul>'
+    return f"The part of the lesser limit that is used, with the number of lines. The steps follow the shares of this day. {legend_items(day.scale, levels)}"
 
 
 def followed(day):
@@ -155,10 +145,20 @@ def figures(day):
         ("Strays", grouped(day.strays), ""),
         ("Ending", day.ending, "" if day.ending == "END" else "alarm"),
     ]
+    if day.clients is not None:
+        told.insert(1, ("Clients", grouped(len(day.clients)), "alarm" if any(client.wrong for client in day.clients) else ""))
     return "\n".join(f'<div class="{extra}"><dt>{name}</dt><dd>{value}</dd></div>' for name, value, extra in told)
 
 
-def verdict_text(verdict):
+def verdict_text(day, source, verdict):
+    """What the check says, and of a text with clients also of what it says it."""
+    told = verdict_words(verdict)
+    if day.clients is None or verdict.kind == UNCHECKED:
+        return told
+    return f"{told} It was asked about the first {grouped(source.output)} bytes, which are the output, and not about what stands of clients behind them."
+
+
+def verdict_words(verdict):
     if verdict.kind == UNCHECKED:
         return (
             "<strong>NOT CHECKED.</strong> Nobody has asked <code>./fx check</code> whether this text is a right output: the page was made with <code>--unchecked</code>."
@@ -202,7 +202,7 @@ def desk_data(day, bank):
     for at, pair in enumerate(day.pairs):
         bought, sold = (desk.traded.get((at, buys), (0, 0, 0, 0)) for buys in (True, False))
         if bought[0] or sold[0]:
-            means = [average(pair, side[3] // pair.unit, side[1]) if pair.unit else "" for side in (bought, sold)]
+            means = [mean_price(pair, side[1], side[3]) for side in (bought, sold)]
             traded.append([pair.name, str(bought[1]), means[0], str(sold[1]), means[1], str(bought[1] - sold[1])])
     sent = [line.split(b" ", 1)[1].decode() for line in day.sent[bank]]
     return {
@@ -331,6 +331,13 @@ def fill_charts(day, tell):
     return "\n".join(made)
 
 
+def checked_bytes(day, source, verdict):
+    """Which bytes of the text were checked."""
+    if verdict.kind == UNCHECKED:
+        return "These bytes were not checked."
+    return "These bytes were the ones that were checked." if day.clients is None else f"The first {grouped(source.output)} of these bytes, the output, were the ones that were checked."
+
+
 def made_text(day, source, verdict):
     """How each figure is got, and what a long day leaves out."""
     reduced = [f"the desk of {name}" for name, desk in zip(day.banks, day.desks) if desk.count > day.kept]
@@ -344,7 +351,7 @@ def made_text(day, source, verdict):
     agree = "do not all agree, as said above" if day.differences else "agree"
     return f"""<ul>
 <li><strong>Not proved.</strong> <code>tools/day</code> made this page. The program that makes such texts and checks them is proved; that doesn't make the page proved.</li>
-<li><strong>The text.</strong> <span id="source-name">{safe(source.name)}</span>, {grouped(source.size)} bytes in {grouped(day.lines)} text lines, SHA-256 <span class="hash" id="digest">{source.digest}</span>. These bytes were {'not checked' if verdict.kind == UNCHECKED else 'the ones that were checked'}.</li>
+<li><strong>The text.</strong> <span id="source-name">{safe(source.name)}</span>, {grouped(source.size)} bytes in {grouped(day.lines)} text lines, SHA-256 <span class="hash" id="digest">{source.digest}</span>. {checked_bytes(day, source, verdict)}</li>
 <li><strong>Limits, use, lines, nets and volumes</strong> are those of the text's report, and the local books are its section of that name. The page also adds up the fills of all desks: the sums and the report {agree}.</li>
 <li><strong>What a bank is to receive from another, or owes it,</strong> is the sum over their fills on the bank's desk. There is no clearing house: banks pay one another.</li>
 <li><strong>A fill</strong> is on two desks, and the page puts its two notices together. Its place in the history is the later of the last commands that the two desks had answered before it; its taker is the later of the two orders.</li>
@@ -369,9 +376,10 @@ def page(day, source, verdict, session=None, tell=lambda part: None):
         "title": safe(f"{mark}the day of {source.name}"), "name": safe(f"The day of {source.name}"), "css": parts["page.css"], "js": parts["page.js"],
         "mark": MARKS[verdict.kind], "mark_colour": MARK_COLOURS[verdict.kind], "short_hash": source.digest[:16],
         "verdict_class": verdict.kind + (" many" if many else ""), "verdict_role": "status" if verdict.kind == RIGHT else "alert",
-        "chip": CHIPS[verdict.kind], "verdict": verdict_text(verdict), "differences": differences(day), "figures": figures(day),
+        "chip": CHIPS[verdict.kind], "verdict": verdict_text(day, source, verdict), "differences": differences(day), "figures": figures(day),
         "heat": heat, "heat_left": str(left), "heat_top": str(top), "heat_cell": str(cell), "legend": legend(day),
         "nearest": nearest_table(day), "exposure": exposure_table(day), "uses": uses_table(day), "credit": credit_part(day, tell), "use_count": few(len(day.uses), "line"),
+        "clients": clients_section(day), "clients_link": clients_link(day),
         "settlement": settlement_section(day), "nets": nets_table(day), "nets_controls": chosen, "nets_open": "" if many else " open", "net_charts": net_charts(day, tell),
         "volume": charts.volume(day), "volume_bars": volume_bars(day), "volumes": volumes_table(day), "refused": refused_section(day, session), "fill_charts": fill_charts(day, tell),
         "made": made_text(day, source, verdict), "data": data(day),

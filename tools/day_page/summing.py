@@ -9,8 +9,9 @@ from dataclasses import dataclass, field
 from functools import cached_property
 from typing import NamedTuple
 
+from reading.clients import read_clients
 from reading.output import (
-    COMMANDS, KINDS, Fill, Lines, Matching, read_books, read_count, read_desk, read_end, read_entries, read_header, read_nets, read_notices, read_uses, read_volumes,
+    COMMANDS, KINDS, Fill, Lines, Matching, read_books, read_count, read_desk, read_ending, read_entries, read_header, read_nets, read_notices, read_uses, read_volumes,
 )
 
 from .credit_path import CreditPath
@@ -97,7 +98,8 @@ class Bad(NamedTuple):
 
 class Day:
     """A day as it is summed up. `kept` is how many of a desk's notices, of a bank's commands, of a pair's fills and of the bad commands
-    are held at most; `paid_alike` is whether `./fx payments` tells what the page finds, once it was asked."""
+    are held at most; `paid_alike` is whether `./fx payments` tells what the page finds, once it was asked; `clients` are those that stand
+    behind the output, or None where nothing stands there."""
 
     def __init__(self, kept, header):
         self.kept, self.header = kept, header
@@ -108,7 +110,7 @@ class Day:
         self.desks, self.fills, self.books = [], [], []
         self.volumes, self.uses, self.nets = [], [], []
         self.strays, self.ending, self.differences, self.lines = 0, "", [], 0
-        self.paid_alike = None
+        self.paid_alike, self.clients = None, None
 
     def differs(self, what):
         self.differences.append(what)
@@ -180,7 +182,7 @@ def take_reply(day, desk, bank, reply):
 def take_fill(lines, day, desk, bank, fill):
     """Adds a fill's notice to its desk's sums."""
     pair = day.pairs[fill.pair]
-    if (fill.base, fill.quote) != (fill.lots * pair.lot, fill.lots * pair.unit * fill.ticks):
+    if (fill.base, fill.quote) != pair.amounts(fill.lots, fill.ticks):
         day.differs(f"the amounts at line {lines.number} are not those of {fill.lots} lots at {fill.price.decode()}")
     sums = desk.traded.setdefault((fill.pair, fill.buys), [0, 0, 0, 0])
     for place, amount in enumerate((1, fill.lots, fill.base, fill.quote)):
@@ -249,8 +251,27 @@ def compare_nets(day):
 
 
 def sum_end(lines, day):
-    day.strays, day.ending = read_end(lines)
+    day.strays, day.ending = read_ending(lines)
+
+
+def sum_clients(lines, day):
+    """Reads what stands behind the output, and compares the clients' fills with their banks' desks."""
+    day.clients = read_clients(lines, day.header, [len(places) for places in day.places])
     day.lines = lines.number
+    if day.clients is not None:
+        compare_clients(day)
+
+
+def compare_clients(day):
+    """No bank's clients have traded more than the bank."""
+    for bank, desk in enumerate(day.desks):
+        own = [client for client in day.clients if client.bank == bank]
+        for key in dict.fromkeys(key for client in own for key in client.traded):
+            lots = sum(client.traded[key].lots for client in own if key in client.traded)
+            most = desk.traded[key][1] if key in desk.traded else 0
+            if lots > most:
+                side = "bought" if key[1] else "sold"
+                own[0].wrong.append(f"the clients of {day.banks[bank]} have {side} {lots} lots of {day.pairs[key[0]].name}, and its desk {most}")
 
 
 def read_day(pieces, kept, tell=lambda part: None):
@@ -264,6 +285,7 @@ def read_day(pieces, kept, tell=lambda part: None):
         ("local books", sum_books),
         ("report", sum_report),
         ("last lines", sum_end),
+        ("clients", sum_clients),
     ):
         tell(part)
         take(lines, day)

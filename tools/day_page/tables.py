@@ -14,6 +14,27 @@ def few(count, one):
     return f"{grouped(count)} {one}{'' if count == 1 else 's'}"
 
 
+def decimal(number, places):
+    digits = f"{number:0{places + 1}}"
+    return f"{digits[:-places]}.{digits[-places:]}" if places else digits
+
+
+def average(pair, turnover, lots):
+    """The average price of some lots, by lots, with one digit more than a price has; `turnover` is the sum of lots times ticks."""
+    return decimal((10 * turnover + lots // 2) // lots, pair.decimals + 1) if lots else ""
+
+
+def mean_price(pair, lots, quote):
+    """The average price of some lots that came to this amount of quote currency."""
+    return average(pair, quote // pair.unit, lots) if pair.unit else ""
+
+
+def legend_items(scale, levels):
+    """The steps of a scale, each with its colour and with how many of these levels have it."""
+    items = "".join(f'<li><span class="swatch" style="background: var(--h{at})"></span>{name}: {grouped(levels.count(at))}</li>' for at, name in scale.names())
+    return f'<ul class="legend">{items}</ul>'
+
+
 def table(name, caption, heads, rows, classes="sorts"):
     """A table's markup. A heading that begins with # is one of numbers; a cell is a text, or a text with its classes."""
     numbers = [head.startswith("#") for head in heads]

@@ -43,6 +43,10 @@ class Pair:
         """The ticks of a price's bytes, or None where it has another number of decimals."""
         return int(price.replace(b".", b"")) if len(price.partition(b".")[2]) == self.decimals else None
 
+    def amounts(self, lots: int, ticks: int) -> tuple[int, int]:
+        """What so many lots at a price come to, in base and in quote currency."""
+        return lots * self.lot, lots * self.unit * ticks
+
 
 @dataclass
 class Header:

@@ -13,6 +13,7 @@ from .market import MOST_BANKS, MOST_PAIRS, Header, Pair
 LONGEST_LINE = 4096
 MOST_ENTRIES = 1 << 28
 PIECE = 1 << 18
+CLIENTS_BEHIND = "behind the output stands what clients have and were told; sed '/^CLIENTS [0-9]/,$d' leaves the output"
 ENDINGS = {
     "END": "the session's text came to its line END",
     "CUT": "the input ended before a line END",
@@ -60,6 +61,7 @@ VOLUME_LINE = form(rf"VOLUME {CODES} {NUMBER} {NUMBER} {NUMBER} {NUMBER}")
 USE_LINE = form(rf"USE {NAME} {NAME} {NUMBER} {NUMBER} {NUMBER} {NUMBER}")
 NET_LINE = form(rf"NET {NAME} ([A-Z]{{3}}) {SIGNED}")
 STRAYS_LINE = form(f"STRAYS {NUMBER}")
+CLIENTS_LINE = form(f"CLIENTS {NUMBER}")
 
 
 class BadLine(Exception):
@@ -94,13 +96,20 @@ class Lines:
 
     def next(self, *wanted: object) -> bytes:
         """The next line; `wanted` says, in parts that are put together only where they are told, what it should be."""
+        line = self.more()
+        if line is None:
+            self.number += 1
+            raise self.bad(f"the text ends, and {''.join(map(str, wanted))} is missing")
+        return line
+
+    def more(self) -> bytes | None:
+        """The next line, or None where the text has no more."""
         for line in self.source:
             self.number += 1
             if self.kept is not None:
                 self.kept.append(line)
             return line
-        self.number += 1
-        raise self.bad(f"the text ends, and {''.join(map(str, wanted))} is missing")
+        return None
 
     def take(self, shape: re.Pattern[bytes], wanted: str) -> list[str]:
         """The parts of the next line, which has to have this form."""
@@ -243,11 +252,15 @@ def read_notices(lines: Lines, header: Header, bank: int, count: int, sent: int)
             yield fill_told(lines, header, bank, replied, line, found)
             continue
         replied += 1
-        parts = found.groups()
-        if int(parts[1]) != replied or replied > sent:
+        if int(found[2]) != replied or replied > sent:
             raise lines.bad(f"expected the reply to command {replied} of {name}")
-        numbers = tuple([int(part) for part in parts[3:9] if part is not None])
-        yield Reply(number, replied, parts[2].decode(), line, numbers, parts[9:] if parts[9] else ())
+        yield reply_told(line, found)
+
+
+def reply_told(line: bytes, found: re.Match[bytes]) -> Reply:
+    notice, command, kind, *parts = found.groups()
+    numbers = tuple([int(part) for part in parts[:6] if part is not None])
+    return Reply(int(notice), int(command), kind.decode(), line, numbers, tuple(parts[6:]) if parts[6] else ())
 
 
 def fill_told(lines: Lines, header: Header, bank: int, replied: int, line: bytes, found: re.Match[bytes]) -> Fill:
@@ -362,13 +375,19 @@ def read_nets(lines: Lines, header: Header) -> Iterator[tuple[int, str, int]]:
             yield bank, code, int(amount)
 
 
-def read_end(lines: Lines) -> tuple[int, str]:
-    """The number of strays and the ending, behind which the text has nothing."""
+def read_ending(lines: Lines) -> tuple[int, str]:
+    """The number of strays and the ending, which are an output's last lines."""
     strays = int(lines.take(STRAYS_LINE, "the line STRAYS with a number")[0])
     ending = lines.next("the ending").decode(errors="replace")
     if ending not in ENDINGS:
         raise lines.bad("expected one of the endings END, CUT, READ and MUCH")
-    for _ in lines.source:
-        lines.number += 1
-        raise lines.bad("a line after the ending")
     return strays, ending
+
+
+def read_end(lines: Lines) -> tuple[int, str]:
+    """The number of strays and the ending, where an output alone is wanted: behind them the text has nothing."""
+    told = read_ending(lines)
+    line = lines.more()
+    if line is not None:
+        raise lines.bad(CLIENTS_BEHIND if CLIENTS_LINE.fullmatch(line) else "a line after the ending")
+    return told
