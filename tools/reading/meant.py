@@ -202,6 +202,9 @@ def stray_hint(header: Header, said: Said) -> tuple[str, list[bytes] | None]:
         return f"{first.decode()} is a word of an output: is this text an output, not a session?", None
     if first.upper().strip(b".;") == b"END":
         return "only a line that has END alone ends the session", [b"END"] if len(said.fields) == 1 else None
+    bank, _, client = first.partition(b":")
+    if first == b"CLIENT:" or (client and bank in header.bank_at):
+        return "it is a line of clients, which only the word clients reads", None
     if first.startswith(COMMENTS):
         return "a comment begins with #", None
     if first in (b"FXBOOK", b"BANK", b"PAIR", b"START"):
