@@ -68,7 +68,7 @@ WORDS = (
     ),
     Word(
         "clients",
-        "runs a session whose banks have clients, in the order of its lines, and prints behind its output what each client has and was told",
+        "runs a session whose banks have clients as serial does, and prints behind its output what each has and was told",
         "A client trades in its bank's name, under a limit of its own. docs/SESSION.md has the lines of clients.",
         reads="SESSION",
     ),

@@ -27,6 +27,7 @@ WRONG = {
     ("payments",): "payments needs bilateral or net after it",
     ("payments", "gross"): "what follows payments is bilateral or net, not 'gross'",
     ("payments", "net", "day.out"): "comes from standard input, as in ./fx payments net < FILE",
+    ("clients", "day.fx"): "comes from standard input, as in ./fx clients < FILE",
     ("build", "now"): "unexpected argument 'now'",
     ("keep", "day.fx"): "comes from standard input, as in ./fx keep < FILE",
     ("restart", "--workers", "2"): "unexpected argument '--workers'",
@@ -45,7 +46,7 @@ RIGHT_LOAD = ["1", "2", "1", "2"]
 
 def word_lists() -> list[list[str]]:
     """Words in all forms of the program, right and wrong, and none that makes it work for long."""
-    lists = [[], ["serial"], ["check"], ["run"], ["serial", ""], ["check", "x"], ["load"], ["RUN"], [" run"], ["run", "--workers=2"], ["run", "2"], ["run", "--"]]
+    lists = [[], ["serial"], ["check"], ["run"], ["serial", ""], ["check", "x"], ["clients"], ["clients", "x"], ["load"], ["RUN"], [" run"], ["run", "--workers=2"], ["run", "2"], ["run", "--"]]
     lists += [["payments", *rest] for rest in ([], ["net"], ["bilateral"], ["gross"], ["Net"], ["net", ""], ["net", "bilateral"], ["--workers", "2"])]
     lists += [[word, *rest] for word in ("keep", "restart") for rest in ([], [""], ["now"], ["--workers", "2"], ["keep"])]
     lists += [["run", "--workers", number] for number in ("1", "64", "0", "65", "01", "+1", "", " 1", "4294967297", "1_0", "\u0661")]
@@ -97,10 +98,9 @@ class Help(CopyTrial):
     def test_as_the_program(self) -> None:
         """./fx calls words wrong exactly where the program does."""
         usage = subprocess.run([PROGRAM], stdin=subprocess.DEVNULL, capture_output=True).stderr
-        if b"load SEED" not in usage:
-            self.skipTest("the program at hand is another one, that has not the word load")
-        if b"restart" not in usage:
-            self.skipTest("the program at hand is another one, that has not the word restart")
+        for word in ("load SEED", "clients", "restart"):
+            if f"| {word}" not in usage.decode():
+                self.skipTest(f"the program at hand is another one, that has not the word {word.split()[0]}")
         self.assertEqual(WORKERS.name, "N")
         for words in word_lists():
             run = subprocess.run([PROGRAM, *words], stdin=subprocess.DEVNULL, capture_output=True, timeout=PATIENCE, cwd=self.folder)
