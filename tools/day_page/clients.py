@@ -2,7 +2,7 @@
 from typing import NamedTuple
 
 from .scale import Scale, percent
-from .tables import few, grouped, legend_items, mean_price, safe, table
+from .tables import contradictions, few, grouped, legend_items, mean_price, table
 
 
 class Taken(NamedTuple):
@@ -30,24 +30,16 @@ def clients_section(day):
     """The whole section, or nothing where the text has no such part."""
     if day.clients is None:
         return ""
+    wrong = [what for client in day.clients for what in client.wrong]
     return f"""<section id="clients" aria-labelledby="clients-head">
 <h2 id="clients-head">What clients have</h2>
 <p>A client trades in its bank's name, under a limit of its own, which counts each fill of its orders, on either side, and what its resting orders have left. A share is what of the
 limit is filled or reserved. <code>./fx check</code> is not asked about this part of the text: the page adds up the clients' fills itself, and compares the sums.</p>
-{contradictions(day)}{tables_of(day) if day.clients else "<p>None: no client was declared.</p>"}
+{contradictions("client-differences", "What stands of clients contradicts itself:", wrong)}
+{tables_of(day) if day.clients else "<p>None: no client was declared.</p>"}
 </section>
 
 """
-
-
-def contradictions(day):
-    """What the clients' lines tell twice and not alike."""
-    told = [what for client in day.clients for what in client.wrong]
-    if not told:
-        return ""
-    shown = "".join(f"<li>{safe(what)}</li>" for what in told[:10])
-    more = f"<p>and {grouped(len(told) - 10)} more.</p>" if len(told) > 10 else ""
-    return f'<div class="differences" id="client-differences"><p><strong>What stands of clients contradicts itself:</strong></p><ul>{shown}</ul>{more}</div>\n'
 
 
 def tables_of(day):

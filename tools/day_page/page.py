@@ -13,7 +13,7 @@ from .credit_path import FOLLOWED
 from .refused import refused_section, words_of_faults
 from .scale import is_full, is_nearly_full, percent
 from .settling import settlement_section
-from .tables import average, few, grouped, legend_items, mean_price, safe, table
+from .tables import average, contradictions, few, grouped, legend_items, mean_price, safe, table
 
 HERE = os.path.dirname(os.path.realpath(__file__))
 # How many lines the list of those nearest to the limit has, and up to how many currencies all charts of nets stand side by side.
@@ -180,15 +180,6 @@ def who(verdict):
         if verdict.proved
         else "<code>./fx check</code>, here the program's sources with run-time checks, and not the proved program that <code>./fx build</code> makes,"
     )
-
-
-def differences(day):
-    """What the text tells twice and not alike."""
-    if not day.differences:
-        return ""
-    shown = "".join(f"<li>{safe(what)}</li>" for what in day.differences[:10])
-    more = f"<p>and {grouped(len(day.differences) - 10)} more.</p>" if len(day.differences) > 10 else ""
-    return f'<div class="differences" id="differences"><p><strong>The output contradicts itself:</strong></p><ul>{shown}</ul>{more}</div>'
 
 
 def desk_text(day, bank):
@@ -376,7 +367,7 @@ def page(day, source, verdict, session=None, tell=lambda part: None):
         "title": safe(f"{mark}the day of {source.name}"), "name": safe(f"The day of {source.name}"), "css": parts["page.css"], "js": parts["page.js"],
         "mark": MARKS[verdict.kind], "mark_colour": MARK_COLOURS[verdict.kind], "short_hash": source.digest[:16],
         "verdict_class": verdict.kind + (" many" if many else ""), "verdict_role": "status" if verdict.kind == RIGHT else "alert",
-        "chip": CHIPS[verdict.kind], "verdict": verdict_text(day, source, verdict), "differences": differences(day), "figures": figures(day),
+        "chip": CHIPS[verdict.kind], "verdict": verdict_text(day, source, verdict), "differences": contradictions("differences", "The output contradicts itself:", day.differences), "figures": figures(day),
         "heat": heat, "heat_left": str(left), "heat_top": str(top), "heat_cell": str(cell), "legend": legend(day),
         "nearest": nearest_table(day), "exposure": exposure_table(day), "uses": uses_table(day), "credit": credit_part(day, tell), "use_count": few(len(day.uses), "line"),
         "clients": clients_section(day), "clients_link": clients_link(day),

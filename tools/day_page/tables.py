@@ -35,6 +35,15 @@ def legend_items(scale, levels):
     return f'<ul class="legend">{items}</ul>'
 
 
+def contradictions(name, heading, told):
+    """A box with what a text tells twice and not alike; nothing where all agrees."""
+    if not told:
+        return ""
+    shown = "".join(f"<li>{safe(what)}</li>" for what in told[:10])
+    more = f"<p>and {grouped(len(told) - 10)} more.</p>" if len(told) > 10 else ""
+    return f'<div class="differences" id="{name}"><p><strong>{heading}</strong></p><ul>{shown}</ul>{more}</div>'
+
+
 def table(name, caption, heads, rows, classes="sorts"):
     """A table's markup. A heading that begins with # is one of numbers; a cell is a text, or a text with its classes."""
     numbers = [head.startswith("#") for head in heads]
