@@ -1,12 +1,15 @@
 """Trials of the reading of what stands of clients behind an output, and of what the tools say of such a text."""
+import os
+import random
 import re
 import subprocess
+import unittest
 
 from day_page.summing import read_day
 from reading.clients import Client, OutputPart, Traded
 from reading.output import BadLine
 
-from .common import HERE, MORNING, Trial, needs_program, program, ran, read
+from .common import HERE, MORNING, PROGRAM, Trial, faulty, made, program, ran, read
 
 SESSION, TEXT = read(f"{HERE}/examples/clients.fx"), read(f"{HERE}/examples/clients.out")
 OUTPUT = TEXT[: TEXT.index(b"CLIENTS 2\n")]
@@ -62,6 +65,21 @@ UNEVEN = (
 def clients(text: bytes) -> list[Client] | None:
     """The clients of a whole text."""
     return read_day([text], 500).clients
+
+
+def has_word() -> bool:
+    """Whether the program at hand has the word `clients`."""
+    return os.access(PROGRAM, os.X_OK) and b"| clients" in program("usage", b"")[2]
+
+
+def with_clients(session: bytes, seed: int) -> bytes:
+    """The session with three clients of each bank, who send most of the banks' commands, and some that nobody declared."""
+    rng, banks = random.Random(seed), re.findall(rb"(?m)^BANK (\S+)", session)
+    head, start, rest = session.partition(b"START\n")
+    declared = b"".join(b"CLIENT: %s C0%d %d\n" % (bank, place, rng.choice([0, 100, 1000, 5000, 10**6])) for bank in banks for place in range(3))
+    lines = (line.split(b" ") for line in rest.split(b"\n"))
+    sent = [b" ".join([first + b":C0%d" % rng.randrange(4) if first in banks and rng.random() < 0.7 else first, *more]) for first, *more in lines]
+    return head + start + declared + b"\n".join(sent)
 
 
 def with_part(old: bytes, new: bytes) -> bytes:
@@ -141,9 +159,18 @@ class Tools(Trial):
         self.assertEqual((status, "; its lines of clients are strays here" in out), (1, True), out)
         self.assertNotIn("clients", ran("covers", MORNING[0], self.file("out", OUTPUT))[1])
 
-    @needs_program
-    def test_the_program(self) -> None:
-        status, out, err = program("clients", SESSION)
-        if b"usage" in err and b"| clients |" not in err:
-            self.skipTest("the program at hand is another one, that has not the word clients")
-        self.assertEqual((status, out, err), (0, TEXT, b""))
+
+@unittest.skipUnless(has_word(), f"no program with the word clients at {PROGRAM}: ./fx build makes it, or FX_PROGRAM names another")
+class AgainstProgram(Trial):
+    def test_the_worked_session(self) -> None:
+        self.assertEqual(program("clients", SESSION), (0, TEXT, b""))
+
+    def test_days(self) -> None:
+        """What the program writes of clients is read, and nothing of it contradicts itself."""
+        for seed, session in ((1, faulty(1, 600)), (2, made(5, 3, 1500, "mixed", 2)), (5, faulty(5, 600))):
+            status, out, err = program("clients", with_clients(session, seed))
+            found = clients(out)
+            self.assertEqual((status, err, [what for client in found for what in client.wrong]), (0, b"", []), seed)
+            self.assertTrue(all(sum(column) for column in zip(*((client.replies, client.short, client.barred, client.cost) for client in found))), seed)
+            part = OutputPart()
+            self.assertEqual(program("check", part.of(out) + part.rest())[1], b"YES\n", seed)
