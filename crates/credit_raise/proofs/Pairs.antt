@@ -14,8 +14,9 @@ use Rattle.fx_rules.specs.Sweep.{filled_all}
 use Rattle.fx_rules.specs.Raise.{limit_set, limited, Turned, PairsTurned}
 use Rattle.fx_rules.specs.Step.{IsOutcome}
 use Rattle.fx_rules.specs.History.{IsLegal, state}
-use Rattle.fx_rules.specs.Sound.{IsPlain}
-use Rattle.fx_rules.proofs.Plain.{plain-line}
+use Rattle.fx_rules.specs.Sound.{IsSound, IsPlain}
+use Rattle.fx_rules.proofs.Plain.{only_one-sound, plain-line}
+use Rattle.fx_rules.proofs.Soundness.{legal-sound}
 use Rattle.fx_rules.proofs.SweepSound.{filled_all-append}
 use Rattle.global_book.specs.Book.{Book}
 use Rattle.credit_lines.specs.Credit.{Credit, limit_in, used_in}
@@ -167,6 +168,8 @@ begins h entries credit bank other asked legal stands bank_in other_in differ un
     let spent : used_in credit bank other ≡ used h S bank other = stands.uses bank other bank' other' differ in
     let back : limit_in credit other bank ≡ S.limits other bank = stands.limits other bank other' bank' differ' in
     let limit_is : change.course.limit ≡ limit_set h S bank other asked = ap (max asked) spent in
+    let sound : IsSound h S = legal-sound h entries legal in
+    let plain : IsPlain S = sound.plain (only_one-sound h S sound) in
     record {
       asked = asked;
       command_is = refl;
@@ -174,7 +177,7 @@ begins h entries credit bank other asked legal stands bank_in other_in differ un
       waits = λ book weight past some of.
           subst (λ n. IsRaised h (limited bank other n S) book weight bank other change.course.line) (sym limit_is)
           (raised-first h entries book weight bank other asked change.course.line legal bank' other' differ' units (sym of.orders) (sym of.weighs)
-          (ap (λ n. line h (limited bank other n S) bank other) (sym limit_is) ∙ opened_line h S credit bank other change.course.limit stands.plain differ back spent));
+          (ap (λ n. line h (limited bank other n S) bank other) (sym limit_is) ∙ opened_line h S credit bank other change.course.limit plain differ back spent));
       goes_on = λ pairs fills rest. let count : pairs ≡ 0 + pairs = omega arith in subst (λ n. PairsTurned h n 0 (begun change S) fills) count rest;
       makes = tt;
     }

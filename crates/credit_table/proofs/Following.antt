@@ -1,17 +1,21 @@
 -- What an entry does to the table.
-use Rattle.std.proofs.Common.{ℕ, zero, suc, ◌≡◌, ◌+◌, ◌-◌, ◌*◌, ◌<◌, ◌≤◌, ◌^◌, List, [], ◌∷◌, length, get_or, set, replicate, Option, refl, ap, sym, subst, ◌∙◌, arith}
+use Rattle.std.proofs.Common.{ℕ, zero, suc, ◌≡◌, ◌+◌, ◌-◌, ◌*◌, ◌<◌, ◌≤◌, ◌^◌, ◌≢◌, List, [], ◌∷◌, length, get_or, set, replicate, Option, refl, ap, sym, subst, ◌∙◌, arith}
 use Rattle.std.proofs.lemmas.List.{length-set, length-replicate}
+use Rattle.fx_rules.specs.declared.command.Command.{Command}
+use Rattle.fx_rules.specs.declared.command.Command.TheVariants.{Show}
 use Rattle.fx_rules.specs.declared.outcome.Entry.{Entry}
+use Rattle.fx_rules.specs.declared.outcome.Outcome.TheVariants.{Shown}
 use Rattle.fx_rules.specs.Lists.{Each, total}
 use Rattle.fx_rules.specs.Session.{Header, IsSession, bank_count}
 use Rattle.fx_rules.specs.History.{after_entry}
-use Rattle.fx_rules.specs.State.{opening}
+use Rattle.fx_rules.specs.State.{opening, used}
+use Rattle.fx_rules.specs.Step.{IsCommand, IsOutcome}
 use Rattle.fx_rules.proofs.Plain.{only_one, first-places, first-totals}
 use Rattle.fx_rules.proofs.Staying.{changed-counts}
-use Rattle.credit_lines.specs.Credit.{Credit, opened}
+use Rattle.credit_lines.specs.Credit.{Credit, limit_in, used_in, line_in, opened}
 use Rattle.credit_lines.specs.Market as lines
-use Rattle.credit_lines.proofs.MarketLemmas.{StandsFor-opened}
-use Rattle.credit_table.specs.Table.{Table, Stands, IsNextOf, FollowsOn}
+use Rattle.credit_lines.proofs.MarketLemmas.{StandsFor-opened, line_in-line}
+use Rattle.credit_table.specs.Table.{Table, Stands, AnswersEach, IsNextOf, FollowsOn}
 use Rattle.credit_table.specs.inside.Table.{IsTable}
 
 -- it is the next of the lines
@@ -88,6 +92,20 @@ none_sent counts banks counts_are = sym (ap (total (λ count. count)) counts_are
 pub opening_stands : (h : Header) (table : Table) (banks : ℕ) → IsSession h → table.session ≡ h → table.lines ≡ opened h → table.counts ≡ replicate banks 0 → banks ≡ bank_count h → Stands h (opening h) table
 opening_stands h table banks valid session_is lines_are counts_are banks_are = record {
   session = session_is;
-  lines = subst (lines.StandsFor h (opening h)) (sym lines_are) (StandsFor-opened h valid);
+  lines = subst (lines.StandsFor h (opening h)) (sym lines_are) (StandsFor-opened h);
   counts = counts_are ∙ ap (λ n. replicate n 0) (banks_are ∙ sym (first-places h (only_one h valid)));
 }
+
+-- what a show command tells, as it is read off the lines, is the market's answer
+pub shown-answers : (table now : Table) (bank other : ℕ) (command : Command) (limit uses eff : ℕ) → table ≡ now → command ≡ Show other → IsCommand now.session bank command
+    → limit ≡ limit_in table.lines bank other → uses ≡ used_in table.lines bank other → eff ≡ line_in table.lines bank other → AnswersEach now bank command (Shown limit uses eff)
+shown-answers table now bank other command limit uses eff same is valid limit_is uses_is eff_is h S stands =
+    let shows : IsCommand h bank (Show other) = subst (λ (k : Header). IsCommand k bank (Show other)) stands.session (subst (IsCommand now.session bank) is valid) in
+    let p : bank < bank_count h = shows.sends in
+    let q : other < bank_count h = shows.values.0 in
+    let differ : bank ≢ other = λ own. shows.values.1 (sym own) in
+    let its : lines.StandsFor h S table.lines = subst (λ (t : Table). lines.StandsFor h S t.lines) (sym same) stands.lines in
+    subst (λ (c : Command). IsOutcome h S bank c (Shown limit uses eff)) (sym is)
+    (ap (λ l. Shown l uses eff) (limit_is ∙ its.limits bank other p q differ)
+    ∙ ap (λ u. Shown (S.limits bank other) u eff) (uses_is ∙ its.uses bank other p q differ)
+    ∙ ap (Shown (S.limits bank other) (used h S bank other)) (eff_is ∙ line_in-line h S table.lines bank other its p q differ))

@@ -19,7 +19,7 @@ use Rattle.fx_rules.specs.Sound.{IsSound, IsKept, IsPlain}
 use Rattle.fx_rules.proofs.ListLemmas.{Each-of, Each-among, Each-weaker, filter_agree_on}
 use Rattle.fx_rules.proofs.Credit.{IsAllowed}
 use Rattle.fx_rules.proofs.Opens.{orders_in-among, IsMaker, maker_of, allowed-open}
-use Rattle.fx_rules.proofs.Plain.{plain-filled, plain-line_filled}
+use Rattle.fx_rules.proofs.Plain.{only_one-sound, plain-filled, plain-line_filled}
 use Rattle.fx_rules.proofs.Planning.{orders_in-rising}
 use Rattle.fx_rules.proofs.SweepSound.{filled-sound}
 use Rattle.fx_rules.proofs.Lowering.{Each-lowered, is_order-says}
@@ -277,9 +277,10 @@ shown-levelled book credit weight bank side levels bank_in some levelled h S sou
     let n : ℕ = lots_against S book.pair side in
     let fills : List Fill = levelled.fills in
     let swept : Swept h S t fills levelled.left = levelled.sweep h S sound fits in
+    let plain : IsPlain S = sound.plain (only_one-sound h S sound) in
     let instead : Instead h S S t number n (arrivals S) = record {
       sound = sound;
-      like = record { orders = refl; lines = λ i k. refl; plain = (fits.lines.plain, fits.lines.plain) };
+      like = record { orders = refl; lines = λ i k. refl; plain = (plain, plain) };
       sender = omega (arith, bank_in, fits.lines.banks);
       weight = omega (arith, some, fits.weighs);
       fresh = inl refl;

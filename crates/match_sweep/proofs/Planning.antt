@@ -15,7 +15,7 @@ use Rattle.fx_rules.specs.Sweep.{Taker, is_open, open_orders, IsBest, amount, fi
 use Rattle.fx_rules.specs.Plan.{Planned, is_behind, open_behind, spend}
 use Rattle.fx_rules.proofs.ListLemmas.{Each-among, Among-filter, filter_agree_on}
 use Rattle.fx_rules.proofs.Opens.{is_open-says}
-use Rattle.fx_rules.proofs.Plain.{plain-room}
+use Rattle.fx_rules.proofs.Plain.{only_one-sound, plain-room}
 use Rattle.fx_rules.proofs.Planning.{open_own, Agrees}
 use Rattle.fx_rules.proofs.PlanSwept.{planned-swept}
 use Rattle.global_book.specs.Book.{Book, IsBook, IsHeld}
@@ -201,7 +201,7 @@ planned-sweep book credit weight t lines fills left is banks bank pair some line
       sound = sound;
       bank = omega (arith, same, bank);
       weight = omega (arith, weighs, some);
-      purse_is = sym (plain-room h S t.bank fits.lines.plain);
+      purse_is = sym (plain-room h S t.bank (sound.plain (only_one-sound h S sound)));
       agrees = agrees;
       rising = is.rising;
       owners = owners;
