@@ -11,8 +11,8 @@ use Rattle.fx_rules.specs.Lists.{total}
 use Rattle.fx_rules.specs.State.{orders_in}
 use Rattle.fx_rules.specs.Sweep.{Taker, is_order, at_rest}
 use Rattle.fx_rules.specs.Step.{without_order, reduced}
-use Rattle.flat_host.specs.FlatState.{FlatState, limit_place, limit_in, use_in, line_in}
-use Rattle.flat_host.specs.Parts.{both_lowered, uses_after, PlannedOver}
+use Rattle.flat_host.specs.FlatState.{FlatState, limit_in, use_in, line_in}
+use Rattle.flat_host.specs.Parts.{both_lowered, credit_after, PlannedBy}
 
 -- the first order of a command stands at a place
 pub record StandsAt (bank number : ℕ) (orders : List ActiveOrder) (i : ℕ) (a : ActiveOrder) : Type 0 where
@@ -34,7 +34,7 @@ taker_from l bank side pair price lots = record {
 
 -- a sweep planned over a flat state
 abbrev pub PlannedIn : FlatState → Taker → List Fill → ℕ → Type 0
-PlannedIn l t fills left = PlannedOver l.weights l.limits l.uses (orders_in t.pair l.orders) t fills left
+PlannedIn l t fills left = PlannedBy (slice_index l.weights t.pair) l.credit (orders_in t.pair l.orders) t fills left
 
 -- an order's outcome by its life, of the sweep that was planned in the flat state
 abbrev pub OrderedIn : FlatState → Taker → Life → Outcome → Type 0
@@ -52,18 +52,14 @@ with_rest t rests orders = if nat_lt 0 rests then orders ++ at_rest t rests ∷ 
 abbrev pub filled_in : FlatState → List Fill → FlatState
 filled_in l fills = record l {
   orders = both_lowered l.orders fills;
-  uses = uses_after l.weights l.limits l.uses fills;
+  credit = credit_after l.weights l.credit fills;
 }
 
 -- the flat state after an order: its fills are made, and its rest stands
 abbrev pub order_carried : FlatState → Taker → ℕ → List Fill → FlatState
 order_carried l t rests fills = record (filled_in l fills) { orders = with_rest t rests (both_lowered l.orders fills) }
 
--- the limits with one set
-abbrev pub limits_with : List ℕ → ℕ → ℕ → ℕ → List ℕ
-limits_with limits bank other limit = slice_set limits (limit_place bank other) limit
-
--- the flat state with one more command of a bank
+-- the flat state with one more command of a sender
 abbrev pub counted_in : FlatState → ℕ → FlatState
 counted_in l bank = record l { counts = slice_set l.counts bank (slice_index l.counts bank + 1) }
 
@@ -77,4 +73,4 @@ reduced_in l bank number left done = record l { orders = if done then reduced ba
 
 -- the line of a bank with another
 abbrev pub shown_in : FlatState → ℕ → ℕ → Outcome
-shown_in l bank other = Shown (limit_in l.limits bank other) (use_in l.uses bank other) (line_in l.limits l.uses bank other)
+shown_in l bank other = Shown (limit_in l.credit.limits bank other) (use_in l.credit.uses bank other) (line_in l.credit bank other)

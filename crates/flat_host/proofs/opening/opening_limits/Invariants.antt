@@ -1,6 +1,6 @@
 use Rattle.std.proofs.Common.{ℕ, ◌≡◌, ◌<◌, slice_index, vec_len}
 use Rattle.flat_host.specs.inside.Opening.{limit_at}
-use Rattle.flat_host.proofs.host.opening_limits.Given as goal
+use Rattle.flat_host.proofs.opening.opening_limits.Given as goal
 
 -- the limits at the places that were passed
 abbrev pub invariant-loop-place : goal.invariant-loop-place

@@ -1,5 +1,5 @@
 use Rattle.std.proofs.Common.{ℕ, ◌≡◌, slice_index, vec_len}
-use Rattle.flat_host.proofs.host.no_uses.Given as goal
+use Rattle.flat_host.proofs.opening.no_uses.Given as goal
 
 -- nothing is used so far
 abbrev pub invariant-loop-place : goal.invariant-loop-place
