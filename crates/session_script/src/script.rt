@@ -94,8 +94,6 @@ impl Script {
         ensures strays { self.new.strays ≡ self.old.strays }
         ensures heard { (self.new.keeps ≡ self.old.keeps) × (self.new.heard.items ≡ self.old.heard.items) }
     {
-        // The clauses on the line rest on a valid session, as each is.
-        let _banks = self.session.banks();
         let mut line = LineText::new();
         make_command(&self.session, sent.bank, &sent.command, &mut line);
         self.sent.reserve(1)?;
