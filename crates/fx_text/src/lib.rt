@@ -3,6 +3,7 @@
 #![tactic(auto)]
 
 mod cutter;
+mod digits;
 mod field;
 mod line;
 mod line_text;

@@ -4,6 +4,7 @@ ghost use Rattle.fx_amounts.specs.PriceText.{price_text};
 ghost use Rattle.fx_amounts.specs.Quantity.{IsDecimals};
 ghost use Rattle.fx_text.specs.Number.{signed_numeral};
 
+use crate::digits::{put_eight, put_short};
 use fx_amounts::Price;
 use itoa::Buffer;
 use std::marker::Model;
@@ -65,6 +66,19 @@ impl LineText {
         self.len += count;
     }
 
+    /// Appends a word, as much of it as there is room for. Its length is fixed, so that it is written without a call.
+    #[inline(always)]
+    pub fn push_word<const N: usize>(&mut self, word: &[u8; N])
+        ensures { self.new ≡ take 256 (self.old ++ word.now) }
+    {
+        if N <= ROOM - self.len {
+            self.bytes[self.len..self.len + N].copy_from_slice(word);
+            self.len += N;
+        } else {
+            self.push(word);
+        }
+    }
+
     /// Appends a byte, where there is room for it.
     #[inline(always)]
     pub fn push_byte(&mut self, byte: u8)
@@ -77,25 +91,49 @@ impl LineText {
     }
 
     /// Appends a number's decimal digits.
+    #[inline(always)]
     pub fn push_number(&mut self, value: u64)
         ensures { self.new ≡ take 256 (self.old ++ numeral value) }
     {
-        let mut buffer = Buffer::new();
-        self.push(buffer.format(value).as_bytes());
+        if value < 10_000 && self.len <= ROOM - 4 {
+            let end = put_short(value, &mut self.bytes, self.len);
+            self.len = end;
+        } else {
+            self.push_long(value);
+        }
+    }
+
+    /// Appends the digits of a number that is long, or that there may be no room for.
+    fn push_long(&mut self, value: u64)
+        ensures { self.new ≡ take 256 (self.old ++ numeral value) }
+    {
+        if 10_000 <= value && value < 100_000_000 && self.len <= ROOM - 8 {
+            let end = put_eight(value, &mut self.bytes, self.len);
+            self.len = end;
+        } else {
+            let mut buffer = Buffer::new();
+            self.push(buffer.format(value).as_bytes());
+        }
     }
 
     /// Appends a large number's decimal digits.
+    #[inline(always)]
     pub fn push_wide(&mut self, value: u128)
         ensures text { self.new ≡ take 256 (self.old ++ numeral value) }
         ensures few { length (numeral value) ≤ 39 }
     {
         match u64::try_from(value) {
             Ok(small) => self.push_number(small),
-            Err(_) => {
-                let mut buffer = Buffer::new();
-                self.push(buffer.format(value).as_bytes());
-            }
+            Err(_) => self.push_widest(value),
         }
+    }
+
+    /// Appends a number of more than 64 bits.
+    fn push_widest(&mut self, value: u128)
+        ensures { self.new ≡ take 256 (self.old ++ numeral value) }
+    {
+        let mut buffer = Buffer::new();
+        self.push(buffer.format(value).as_bytes());
     }
 
     /// Appends a price's one spelling, where a tick is the last of `decimals` decimal places.
@@ -132,7 +170,17 @@ impl LineText {
         self.push(text);
     }
 
+    /// Appends a word behind a space. Its length is fixed, as that of `push_word`.
+    #[inline(always)]
+    pub fn push_word_field<const N: usize>(&mut self, word: &[u8; N])
+        ensures { self.new ≡ take 256 (self.old ++ 32 ∷ word.now) }
+    {
+        self.push_byte(b' ');
+        self.push_word(word);
+    }
+
     /// Appends a number behind a space.
+    #[inline(always)]
     pub fn push_number_field(&mut self, value: u64)
         ensures text { self.new ≡ take 256 (self.old ++ 32 ∷ numeral value) }
         ensures few { length (numeral value) ≤ 20 }
