@@ -19,53 +19,48 @@ fn are_same(one: &Entry, other: &Entry) -> bool {
 
 /// Whether both tell the same.
 pub fn is_same(one: &Outcome, other: &Outcome) -> bool {
-    match one {
-        Outcome::Ordered {
-            filled,
-            rests,
-            fills,
-        } => match other {
+    one.fills() == other.fills() && is_same_beside_fills(one, other)
+}
+
+/// Whether two outcomes are alike in all but their fills.
+fn is_same_beside_fills(one: &Outcome, other: &Outcome) -> bool {
+    match (one, other) {
+        (
+            Outcome::Ordered { filled, rests, .. },
             Outcome::Ordered {
                 filled: other_filled,
                 rests: other_rests,
-                fills: other_fills,
-            } => {
-                filled == other_filled
-                    && rests == other_rests
-                    && fills.as_slice() == other_fills.as_slice()
-            }
-            _ => false,
-        },
-        Outcome::LineSet { limit, fills } => match other {
+                ..
+            },
+        ) => filled == other_filled && rests == other_rests,
+        (
+            Outcome::LineSet { limit, .. },
             Outcome::LineSet {
                 limit: other_limit,
-                fills: other_fills,
-            } => limit == other_limit && fills.as_slice() == other_fills.as_slice(),
-            _ => false,
-        },
-        Outcome::TotalSet { limit, fills } => match other {
+                ..
+            },
+        ) => limit == other_limit,
+        (
+            Outcome::TotalSet { limit, .. },
             Outcome::TotalSet {
                 limit: other_limit,
-                fills: other_fills,
-            } => limit == other_limit && fills.as_slice() == other_fills.as_slice(),
-            _ => false,
-        },
-        Outcome::Settled { given, fills } => match other {
+                ..
+            },
+        ) => limit == other_limit,
+        (
+            Outcome::Settled { given, .. },
             Outcome::Settled {
                 given: other_given,
-                fills: other_fills,
-            } => given == other_given && fills.as_slice() == other_fills.as_slice(),
-            _ => false,
-        },
-        Outcome::Depth { bids, asks } => match other {
+                ..
+            },
+        ) => given == other_given,
+        (
+            Outcome::Depth { bids, asks },
             Outcome::Depth {
                 bids: other_bids,
                 asks: other_asks,
-            } => {
-                bids.as_slice() == other_bids.as_slice() && asks.as_slice() == other_asks.as_slice()
-            }
-            _ => false,
-        },
+            },
+        ) => bids.as_slice() == other_bids.as_slice() && asks.as_slice() == other_asks.as_slice(),
         _ => is_same_number(one, other),
     }
 }
