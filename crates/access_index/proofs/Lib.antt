@@ -5,3 +5,4 @@ mod Walking
 mod Wanting
 mod Numbering
 mod Wording
+mod Ranking

@@ -4,3 +4,4 @@ pub mod Search
 pub mod Fronts
 pub mod Numbered
 pub mod Words
+pub mod Ranked

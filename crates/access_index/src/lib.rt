@@ -3,10 +3,12 @@
 
 mod fronts;
 mod owners;
+mod ranked;
 mod search;
 mod sides;
 mod words;
 
 pub use owners::Owners;
+pub use ranked::RankedOwners;
 pub use search::best_of;
 pub use words::{Head, HeadWords};

@@ -1,4 +1,4 @@
-ghost use Rattle.std.specs.Prelude.{ℕ, ◌≡◌, ◌-◌, ◌≤◌, ◌<◌, ◌^◌, None, if◌then◌else◌, replicate, slice_index, slice_index_or, slice_set, IfSome};
+ghost use Rattle.std.specs.Prelude.{ℕ, ◌≡◌, ◌-◌, ◌/◌, ◌%◌, ◌≤◌, ◌<◌, ◌^◌, None, if◌then◌else◌, length, replicate, slice_index, slice_index_or, slice_set, IfSome};
 ghost use Rattle.access_index.specs.Heads.{IsHead, IsLeastHead};
 ghost use Rattle.access_index.specs.inside.Words.{IsLeastWord, word_of};
 
@@ -19,8 +19,6 @@ const NO_WORD: u64 = u64::MAX;
 
 /// For each bank the best order of one side in a word: its rank, its place and the bank, so that the least of some words is that of the
 /// best order. They lie side by side, and a search looks at all of them with no branch.
-///
-/// It is to take the place of the best prices beside the owners' rows. Nothing calls it yet.
 #[derive(Debug, Drop)]
 pub struct HeadWords {
     words: [u64; BankId::COUNT],
@@ -60,6 +58,19 @@ impl HeadWords {
         };
     }
 
+    /// The best order of a bank; `None` where it has none.
+    pub fn of(&self, bank: BankId) -> Option<Head>
+        requires bank { bank < 64 }
+        ensures head { result ≡ slice_index_or self.now bank None }
+        ensures count { length self.now ≡ 64 }
+    {
+        let word = self.words[bank.index()];
+        if word == NO_WORD {
+            return None;
+        }
+        Some(head_in(word))
+    }
+
     /// The best order of all banks with which a line of so many units at least is left, with its bank; `None` where none of these has an
     /// order. There is a line for each bank.
     pub fn least(&self, lines: &[u64; BankId::COUNT], units: u64) -> Option<(BankId, Head)>
@@ -71,11 +82,17 @@ impl HeadWords {
             return None;
         }
         let bank = BankId::at((least % 64) as usize);
-        let head = Head {
-            rank: (least >> 34) as u32,
-            place: (least / 64 % (1 << 28)) as u32,
-        };
-        Some((bank, head))
+        Some((bank, head_in(least)))
+    }
+}
+
+/// The best order that a word tells.
+fn head_in(word: u64) -> Head
+    ensures { result ≡ record { rank = word / 2 ^ 34; place = word / 64 % 2 ^ 28 } }
+{
+    Head {
+        rank: (word >> 34) as u32,
+        place: (word / 64 % (1 << 28)) as u32,
     }
 }
 

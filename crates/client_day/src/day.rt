@@ -9,7 +9,7 @@ ghost use Rattle.client_desk.specs.Standing.{StandsFor};
 ghost use Rattle.client_desk.specs.declared.ask.Ask.TheVariants.{Pass};
 ghost use Rattle.client_desk.specs.declared.line.ClientLine.TheVariants.{Declares};
 ghost use Rattle.fx_text.specs.declared.line.Line.{Line as TextLine};
-ghost use Rattle.reply_lines.specs.Output.{entry_line};
+ghost use Rattle.order_lines.specs.Spelling.{command_text_of};
 ghost use Rattle.session_script.specs.Heard.{IsHeardOf};
 ghost use Rattle.session_script.specs.declared.heard.Heard.{Heard as HeardLine};
 ghost use Rattle.session_script.specs.declared.heard.Heard.TheVariants.{Stray as HeardStray};
@@ -22,7 +22,7 @@ ghost use Rattle.client_day.specs.Script.{asked_for};
 
 use crate::desk::ClientDesk;
 use crate::notes::note_entry;
-use client_desk::{Ask, Client, ClientBook, ClientId, ClientLine, client_line};
+use client_desk::{Ask, Client, ClientBook, ClientId, ClientLine, client_line_with};
 use fx_amounts::Memory;
 use fx_rules::{Command, Entry, Sent, Session};
 use fx_text::{Line, LineText};
@@ -86,9 +86,20 @@ impl ClientDay {
         ensures taken { OnOk result ((before : List HeardLine) → IsDayOf session.now before self.old → IsDayOf session.now (before ++ heard.now ∷ []) self.new) }
     {
         match heard {
-            Heard::Command(sent) => self.serve(session, &None, *sent),
+            Heard::Command(sent) => self.take_command(session, *sent),
             Heard::Stray(line) => self.take_line(session, line),
         }
+    }
+
+    /// Serves a bank's command. After `Memory` the day must not be used any more.
+    fn take_command(&mut self, session: &Session, sent: Sent) -> Result<(), Memory>
+        requires next { (events : List DayEvent) × IsBehind session.now events self.old × HasRoom events }
+        requires sent { IsSentOf session.now sent }
+        ensures taken { OnOk result (TakesAsked session.now (asked_for None sent.bank sent.command) self.old self.new) }
+    {
+        let mut line = LineText::new();
+        make_command(session, sent.bank, &sent.command, &mut line);
+        self.serve(session, &None, sent, line.as_slice())
     }
 
     /// Reads a line that is a stray without clients.
@@ -96,9 +107,12 @@ impl ClientDay {
         requires next { (before : List HeardLine) × IsDayOf session.now before self.old × (length before + 1 < 2 ^ 32) }
         ensures taken { OnOk result ((before : List HeardLine) → IsDayOf session.now before self.old → IsDayOf session.now (before ++ HeardStray line.now ∷ []) self.new) }
     {
-        match client_line(session, self.book.clients(), line) {
+        let mut journal = LineText::new();
+        match client_line_with(session, self.book.named_clients(), line, &mut journal) {
             ClientLine::Declares(client) => self.declare(client),
-            ClientLine::Of(client, command) => self.ask(session, client, command),
+            ClientLine::Of(client, command) => {
+                self.ask(session, client, command, journal.as_slice())
+            }
             ClientLine::Plain(_) => {
                 self.strays += 1;
                 Ok(())
@@ -122,17 +136,24 @@ impl ClientDay {
         Ok(())
     }
 
-    /// Serves a client's command where it passes, and else refuses it.
-    fn ask(&mut self, session: &Session, client: ClientId, command: Command) -> Result<(), Memory>
+    /// Serves a client's command, whose line in the journal this is, where it passes, and else refuses it.
+    fn ask(
+        &mut self,
+        session: &Session,
+        client: ClientId,
+        command: Command,
+        line: &[u8],
+    ) -> Result<(), Memory>
         requires next { (events : List DayEvent) × IsBehind session.now events self.old × HasRoom events }
         requires client { client < length self.old.book.clients }
         requires command { IsCommand session.now (bank_of_client self.old.book.clients client) command }
+        requires line { line.now ≡ command_text_of session.now (bank_of_client self.old.book.clients client) command ++ 10 ∷ [] }
         ensures taken { OnOk result (TakesAsked session.now (asked_for (Some client) (bank_of_client self.old.book.clients client) command) self.old self.new) }
     {
         match self.book.ask(client, &command) {
             Ask::Pass => {
                 let bank = self.book.clients()[client.index()].bank;
-                self.serve(session, &Some(client), Sent { bank, command })
+                self.serve(session, &Some(client), Sent { bank, command }, line)
             }
             Ask::Short { free } => self.refuse(client, Ask::Short { free }),
             Ask::Barred => self.refuse(client, Ask::Barred),
@@ -150,17 +171,24 @@ impl ClientDay {
         self.desks[client.index()].refuse(answer)
     }
 
-    /// Serves a command, of this client where it has one, and tells the clients what came of it.
-    fn serve(&mut self, session: &Session, who: &Option<ClientId>, sent: Sent) -> Result<(), Memory>
+    /// Serves a command, of this client where it has one, whose line in the journal this is, and tells the clients what came of it.
+    fn serve(
+        &mut self,
+        session: &Session,
+        who: &Option<ClientId>,
+        sent: Sent,
+        line: &[u8],
+    ) -> Result<(), Memory>
         requires next { (events : List DayEvent) × IsBehind session.now events self.old × HasRoom events }
         requires client { IsClientOf self.old who.now sent.bank }
         requires sent { IsSentOf session.now sent }
+        requires line { line.now ≡ command_text_of session.now sent.bank sent.command ++ 10 ∷ [] }
         requires passed { (tagged : List Tagged) → StandsFor session.now tagged self.old.book → (c : ℕ) → who.now ≡ Some c → ask_of session.now self.old.book.clients tagged c sent.command ≡ Pass }
         ensures taken { OnOk result (TakesAsked session.now (asked_for who.now sent.bank sent.command) self.old self.new) }
     {
         self.trading = true;
         let entry = self.run.serve_entry(session, sent)?;
-        add_line(session, &entry, &mut self.journal)?;
+        self.journal.add_lines(1, line)?;
         record(&mut self.book, who, &entry)?;
         note_entry(
             session,
@@ -171,20 +199,6 @@ impl ClientDay {
             &mut self.writer,
         )
     }
-}
-
-/// Adds the line of an entry to the journal.
-fn add_line(session: &Session, entry: &Entry, journal: &mut JournalText) -> Result<(), Memory>
-    requires command { IsCommand session.now entry.now.bank entry.now.command }
-    requires few { journal.old.count + 1 < 2 ^ 64 }
-    ensures count { OnOk result (journal.new.count ≡ journal.old.count + 1) }
-    ensures lines { OnOk result (journal.new.lines.items ≡ journal.old.lines.items ++ entry_line session.now entry.now) }
-{
-    // The clauses on the line rest on a valid session, as each is.
-    let _banks = session.banks();
-    let mut line = LineText::new();
-    make_command(session, entry.bank, &entry.command, &mut line);
-    journal.add_lines(1, line.as_slice())
 }
 
 /// Has the book follow an entry, of this client where it has one.

@@ -13,3 +13,5 @@ pub mod UnderWay
 pub mod Ways
 pub mod Pulling
 pub mod Recording
+pub mod Finding
+pub mod BankLines

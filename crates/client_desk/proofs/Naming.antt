@@ -6,7 +6,7 @@ use Rattle.std.specs.Cmp.Lexicographic.{bytes_decides}
 use Rattle.std.specs.Cmp.Derive.{both_true}
 use Rattle.std.proofs.lemmas.Bool.{cases_Bool, cases_lt, and_parts, cond-false, cond-true, le-ltb, ltb-true, ltb-false, eqb-true, eq-eqb, false_from_ne_true, both_ways, true≢false}
 use Rattle.std.proofs.lemmas.List.{get_or-take, length-take, get_or-map}
-use Rattle.std.proofs.lemmas.List.Sums.{position_or_len_is, fails_before_first, passes_at_first, prefix_len-le-length, split_at_first}
+use Rattle.std.proofs.lemmas.List.Sums.{position_or_len_is, fails_before_first, passes_at_first, split_at_first}
 use Rattle.std.proofs.lemmas.List.Quantifiers.{position-Some}
 use Rattle.std.proofs.lemmas.List.Elements.{recursion_from_All}
 use Rattle.std.proofs.lemmas.Option.{cond_some}
@@ -14,35 +14,11 @@ use Rattle.std.proofs.Math.Seq.{get_or-append_seam}
 use Rattle.fx_rules.specs.Lists.{Each}
 use Rattle.fx_rules.specs.Names.{is_name, is_name_byte}
 use Rattle.fx_rules.specs.Session.{Header, IsSession, bank_count, bank_name, bank_named}
-use Rattle.fx_rules.proofs.ListLemmas.{Each-append, EachPair-push}
+use Rattle.fx_rules.proofs.ListLemmas.{Each-append, Each-at, EachPair-push}
+use Rattle.fx_rules.proofs.Sought.{same_test, position_agrees, position_none}
 use Rattle.client_desk.specs.declared.client.Client.{Client}
 use Rattle.client_desk.specs.Clients.{AreClients, Differ, bank_of_client}
 use Rattle.client_desk.specs.Lines.{client_text, client_named, is_same, is_new}
-
-same_test : (a b : Bool) → (a ≡ true → b ≡ true) → (b ≡ true → a ≡ true) → a ≡ b
-same_test true b there back = sym (there refl)
-same_test false true there back = back refl
-same_test false false there back = refl
-
--- two tests that agree on each element find the same place
-position_agrees : {X : Type 0} (p q : X → Bool) (xs : List X) → All (λ x. p x ≡ q x) xs → position p xs ≡ position q xs
-position_agrees p q [] agree = refl
-position_agrees p q (x ∷ xs) agree =
-    let all = x ∷ xs in
-    let place : ℕ = position_or_len q all in
-    let within : place ≤ length all = prefix_len-le-length (λ (y : _). not (q y)) all in
-    let same : position_or_len p all ≡ place = position_or_len_is p all place x within
-    (λ k before. agree k x (omega arith) ∙ fails_before_first q all k x before)
-    (λ inside. agree place x inside ∙ passes_at_first q all x inside) in
-    ap (λ n. cond (nat_lt n (length all)) (Some n) None) same
-
--- a test that no element passes finds none
-position_none : {X : Type 0} (p : X → Bool) (xs : List X) → All (λ x. p x ≡ false) xs → position p xs ≡ None
-position_none p [] fails = refl
-position_none p (x ∷ xs) fails =
-    let all = x ∷ xs in
-    let past : position_or_len p all ≡ length all = position_or_len_is p all (length all) x (omega arith) (λ k within. fails k x within) (λ inside. absurd (omega (arith, inside))) in
-    ap (λ n. cond (nat_lt n (length all)) (Some n) None) past ∙ cond-false _ _ _ (le-ltb (length all) (length all) (omega arith))
 
 -- no byte of a text is a colon
 abbrev pub HasNone : List ℕ → Type 0
@@ -115,11 +91,6 @@ named_is h bank text named =
     let found = position-Some (λ name. bytes_eq name text) h.banks bank [] named in
     (bytes_decides (bank_name h bank) text).0 found.1
 
-Each-at : {X : Type 0} (P : X → Type 0) (xs : List X) (k : ℕ) (d : X) → Each P xs → k < length xs → P (get_or xs k d)
-Each-at P [] k d all within = absurd (omega arith)
-Each-at P (x ∷ xs) zero d all within = all.0
-Each-at P (x ∷ xs) (suc k) d all within = Each-at P xs k d all.1 (omega arith)
-
 clients_within : (h : Header) (clients : List Client) → AreClients h clients → All (λ (client : Client). client.bank < bank_count h) clients
 clients_within h clients are k d within = Each-at (λ (client : Client). client.bank < bank_count h) clients k d are.banks within
 
@@ -152,14 +123,14 @@ none_passes p xs missing k d within =
 -- none is where the front is no bank's name
 pub client-no_bank : (h : Header) (clients : List Client) (text front rest : List ℕ) → IsSession h → AreClients h clients → HasNone front → text ≡ front ++ 58 ∷ rest → bank_named h.banks front ≡ None → client_named h clients text ≡ None
 client-no_bank h clients text front rest session are none whole no_bank =
-    position_none (λ (client : Client). bytes_eq (client_text h client) text) clients
+    sym (position_none (λ (client : Client). bytes_eq (client_text h client) text) clients
     (λ k d within.
     let client : Client = get_or clients k d in
     let its : client.bank < bank_count h = clients_within h clients are k d within in
     false_from_ne_true (bytes_eq (client_text h client) text)
     (λ is.
     let same : bank_name h client.bank ≡ front = (same_parts (bank_name h client.bank) client.name front rest (text_apart h client.bank session its) none ((bytes_decides (client_text h client) text).0 is ∙ whole)).0 in
-    both_ways (bytes_eq (bank_name h client.bank) front) (none_passes (λ name. bytes_eq name front) h.banks no_bank client.bank [] its) ((bytes_decides (bank_name h client.bank) front).1 same)))
+    both_ways (bytes_eq (bank_name h client.bank) front) (none_passes (λ name. bytes_eq name front) h.banks no_bank client.bank [] its) ((bytes_decides (bank_name h client.bank) front).1 same))))
 
 no_colon : (text : List ℕ) → position (λ byte. eqb byte 58) text ≡ None → (k : ℕ) → k < length text → get_or text k 0 ≢ 58
 no_colon text missing k within is = true≢false (sym (eq-eqb (get_or text k 0) 58 is) ∙ none_passes (λ byte. eqb byte 58) text missing k 0 within)
@@ -167,7 +138,7 @@ no_colon text missing k within is = true≢false (sym (eq-eqb (get_or text k 0) 
 -- and where no colon stands
 pub client-no_colon : (h : Header) (clients : List Client) (text : List ℕ) → position (λ byte. eqb byte 58) text ≡ None → client_named h clients text ≡ None
 client-no_colon h clients text missing =
-    position_none (λ (client : Client). bytes_eq (client_text h client) text) clients
+    sym (position_none (λ (client : Client). bytes_eq (client_text h client) text) clients
     (λ k d within.
     let client : Client = get_or clients k d in
     false_from_ne_true (bytes_eq (client_text h client) text)
@@ -177,7 +148,7 @@ client-no_colon h clients text missing =
     sym (ap (λ (t : List ℕ). get_or t (length (bank_name h client.bank)) 0) whole) ∙ get_or-append_seam (bank_name h client.bank) 58 client.name 0 in
     let inside : length (bank_name h client.bank) < length text =
     omega (arith, ap (λ (t : List ℕ). length t) whole, length-append (bank_name h client.bank) (58 ∷ client.name)) in
-    no_colon text missing (length (bank_name h client.bank)) inside colon))
+    no_colon text missing (length (bank_name h client.bank)) inside colon)))
 
 -- ---- a client that is declared
 

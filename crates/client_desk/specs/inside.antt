@@ -1,4 +1,5 @@
 pub mod Books
 pub mod Changes
+pub mod Keys
 pub mod Numbers
 pub mod UnderWay

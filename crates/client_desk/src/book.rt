@@ -1,5 +1,5 @@
 ghost use Rattle.std.specs.Prelude.{ℕ, ◌≡◌, ◌<◌, ◌*◌, [], ◌∷◌, ◌++◌, List, length, map, replicate, slice_index, nat_lt, if◌then◌else◌, IfOk, OnOk, OnErr};
-ghost use Rattle.fx_rules.specs.Session.{Header};
+ghost use Rattle.fx_rules.specs.Session.{Header, IsSession, sender_places};
 ghost use Rattle.client_desk.specs.declared.ask.Ask.TheVariants.{Pass, Short, Barred};
 ghost use Rattle.client_desk.specs.Clients.{Tagged, AreClients, ask_of, filled_by, reserved_by, free_of, owner_in};
 ghost use Rattle.client_desk.specs.Standing.{StandsFor, NamesPair, account_of, free_in, no_sums};
@@ -8,6 +8,7 @@ ghost use Rattle.client_desk.specs.inside.Books.{AreAllEmpty, owner_at, rests_in
 use crate::account::Account;
 use crate::ask::Ask;
 use crate::client::{Client, ClientId};
+use crate::clients::Clients;
 use crate::rows::SlotRow;
 use fx_amounts::{BankId, Lots, Memory, PairId, Units};
 use fx_rules::{Command, Session};
@@ -18,7 +19,7 @@ use std::marker::Model;
 /// owners, the sums and the resting orders that it keeps.
 #[derive(Debug, Drop)]
 pub struct ClientBook {
-    pub(crate) clients: Vec<Client>,
+    pub(crate) clients: Clients,
     /// Credit units a lot, by pair.
     pub(crate) weights: Vec<u32>,
     /// By client.
@@ -33,9 +34,9 @@ impl Model for ClientBook {
 
     ghost Value = { Book };
 
-    ghost view = { λ b. record { clients = b.clients.items; weights = b.weights.items; accounts = b.accounts.items; rows = b.rows.items } };
+    ghost view = { λ b. record { clients = b.clients; weights = b.weights.items; accounts = b.accounts.items; rows = b.rows.items } };
 
-    ghost invariant = { λ b. AreKept b.clients.items b.accounts.items b.rows.items };
+    ghost invariant = { λ b. AreKept b.clients b.accounts.items b.rows.items };
 }
 
 impl ClientBook {
@@ -46,9 +47,10 @@ impl ClientBook {
         ensures clients { IfOk result (λ book. book.clients ≡ clients.items) }
     {
         let alloc = *clients.allocator();
+        let clients = Clients::of(&clients, alloc)?;
         let weights = weights_of(alloc, session)?;
-        let accounts = empty_accounts(alloc, clients.len())?;
-        let rows = empty_rows(alloc, session.banks().len())?;
+        let accounts = empty_accounts(alloc, clients.as_slice().len())?;
+        let rows = empty_rows(alloc, sender_places(session))?;
         Ok(ClientBook {
             clients,
             weights,
@@ -72,6 +74,13 @@ impl ClientBook {
 
     /// The clients, in the order in which they were declared. It takes no memory.
     pub fn clients(&self) -> &[Client]
+        ensures value { result.now ≡ self.now.clients }
+    {
+        self.clients.as_slice()
+    }
+
+    /// The same, each found by its bank and its name. It takes no memory.
+    pub fn named_clients(&self) -> &Clients
         ensures value { result.now ≡ self.now.clients }
     {
         &self.clients
@@ -116,7 +125,7 @@ impl ClientBook {
         requires client { client < length self.now.clients }
         ensures answers { result ≡ (if rests_in self.now client pair number then Pass else Barred) }
     {
-        let bank = self.clients[client.index()].bank;
+        let bank = self.clients.bank_of(client);
         match self.rows[bank.index()].slot(number) {
             Some(slot) if slot.rests_for(client, pair) => Ask::Pass,
             _ => Ask::Barred,
@@ -148,7 +157,7 @@ impl ClientBook {
         ensures value { result ≡ free_in self.now client }
         ensures free { (h : Header) (tagged : List Tagged) → StandsFor h tagged self.now → result ≡ free_of h self.now.clients tagged client }
     {
-        let limit = self.clients[client.index()].limit;
+        let limit = self.clients.as_slice()[client.index()].limit;
         self.account(client).free(limit)
     }
 
@@ -174,6 +183,19 @@ impl ClientBook {
         ensures value { result ≡ account_of self.now client }
     {
         self.accounts[client.index()]
+    }
+}
+
+/// How many places a list has that a sender's number indexes.
+fn sender_places(session: &Session) -> usize
+    ensures value { result ≡ sender_places session.now }
+    ensures valid { IsSession session.now }
+{
+    let banks = session.banks().len();
+    if session.version() == 2 {
+        BankId::SENDERS
+    } else {
+        banks
     }
 }
 

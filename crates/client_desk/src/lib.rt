@@ -10,13 +10,19 @@ mod account;
 mod ask;
 mod book;
 mod client;
+mod clients;
+mod keys;
 mod laws;
 mod line;
 mod record;
 mod rows;
+mod spelled;
 
 pub use ask::Ask;
 pub use book::ClientBook;
 pub use client::{Client, ClientId};
+pub use clients::Clients;
+#[doc(hidden)]
+pub use keys::ClientKey;
 pub use laws::{clients_stay_within, fills_are_drawn, sides_have_one_entry, steps_settle};
-pub use line::{ClientLine, client_line};
+pub use line::{ClientLine, client_line, client_line_with};

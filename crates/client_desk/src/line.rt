@@ -2,15 +2,18 @@ ghost use Rattle.std.specs.Prelude.{◌≡◌, ◌<◌, ◌==◌, ◌&&◌, [], 
 ghost use Rattle.fx_rules.specs.Session.{bank_count};
 ghost use Rattle.fx_rules.specs.Step.{IsCommand};
 ghost use Rattle.order_lines.specs.Grammar.{IfSent};
+ghost use Rattle.order_lines.specs.Spelling.{command_text_of};
 ghost use Rattle.order_lines.specs.declared.spoken.Spoken.TheVariants.{Stray};
 ghost use Rattle.client_desk.specs.Clients.{AreClients, bank_of_client};
 ghost use Rattle.client_desk.specs.Lines.{IfDeclares, IfOf, IfPlain, client_line_of, client_named, client_said, declared, is_new};
 
 use crate::client::{Client, ClientId};
+use crate::clients::Clients;
+use crate::spelled::spelled_client;
 use fx_amounts::{BankId, Units};
 use fx_rules::{Command, Name, Reject, Session};
-use fx_text::{Fields, Line, fields, number};
-use order_lines::{Spoken, command_by, command_from};
+use fx_text::{Fields, Line, LineText, fields, number};
+use order_lines::{Spoken, command_by, command_from, make_command};
 
 /// What a line after `START` says of clients.
 #[derive(Clone, Copy, Debug, PartialEq, Eq)]
@@ -28,7 +31,7 @@ pub enum ClientLine {
 /// is a bank's name, a colon and a declared client's name is that client's command, and its other fields are read as a bank's.
 /// Any other is what `command_from` says. Whether a command came before a declaration is not known here. Takes no memory.
 #[tactic(auto, unfolding(crate::specs::Lines::client_line_of))]
-pub fn client_line(session: &Session, clients: &[Client], line: &Line) -> ClientLine
+pub fn client_line(session: &Session, clients: &Clients, line: &Line) -> ClientLine
     requires clients { AreClients session.now clients.now }
     ensures reads { result ≡ client_line_of session.now clients.now line.now }
 
@@ -48,7 +51,7 @@ pub fn client_line(session: &Session, clients: &[Client], line: &Line) -> Client
             }
             match client_named(session, clients, fields.first()) {
                 Some(client) => {
-                    let bank = clients[client.index()].bank;
+                    let bank = clients.bank_of(client);
                     ClientLine::Of(client, command_by(session, bank, &fields))
                 }
                 None => ClientLine::Plain(command_from(session, line)),
@@ -71,11 +74,46 @@ pub fn client_line(session: &Session, clients: &[Client], line: &Line) -> Client
     }
 }
 
+/// As `client_line`, and in `journal` the line that a journal has of a client's command, with its line feed. Of any other line
+/// `journal` has any bytes. Takes no memory.
+pub fn client_line_with(
+    session: &Session,
+    clients: &Clients,
+    line: &Line,
+    journal: &mut LineText,
+) -> ClientLine
+    requires clients { AreClients session.now clients.now }
+    ensures reads { result ≡ client_line_of session.now clients.now line.now }
+    ensures declares { IfDeclares result (λ client. AreClients session.now (clients.now ++ client ∷ [])) }
+    ensures client { IfOf result (λ client command. client < length clients.now) }
+    ensures range { IfOf result (λ client command. IsCommand session.now (bank_of_client clients.now client) command) }
+    ensures plain { IfPlain result (λ spoken. IfSent spoken (IsCommand session.now)) }
+    ensures journal { IfOf result (λ client command. journal.new ≡ command_text_of session.now (bank_of_client clients.now client) command ++ 10 ∷ []) }
+{
+    if let Line::Whole(text) = line {
+        if let Some((client, command)) = spelled_client(
+            session,
+            clients,
+            text.as_slice(),
+            journal,
+        ) {
+            return ClientLine::Of(client, command);
+        }
+    }
+    match client_line(session, clients, line) {
+        ClientLine::Of(client, command) => {
+            make_command(session, clients.bank_of(client), &command, journal);
+            ClientLine::Of(client, command)
+        }
+        said => said,
+    }
+}
+
 /// The first field of a declaration.
-const CLIENT: &[u8] = b"CLIENT:";
+pub(crate) const CLIENT: &[u8] = b"CLIENT:";
 
 /// What a declaration says.
-fn declaration(session: &Session, clients: &[Client], fields: &Fields<'_>) -> ClientLine
+fn declaration(session: &Session, clients: &Clients, fields: &Fields<'_>) -> ClientLine
     requires clients { AreClients session.now clients.now }
     ensures declares { IfDeclares result (λ client. AreClients session.now (clients.now ++ client ∷ [])) }
     ensures none { IfOf result (λ _ _. ⊥) }
@@ -107,15 +145,17 @@ fn declared_client(session: &Session, fields: &Fields<'_>) -> Option<Client>
 }
 
 /// Whether there is room for a client more, and it is not among them.
-fn is_new(clients: &[Client], client: &Client) -> bool
+fn is_new(clients: &Clients, client: &Client) -> bool
     ensures value { result ≡ is_new clients.now client.now }
 {
-    clients.len() < ClientId::COUNT
-        && place_of(clients, client.bank, client.name.as_bytes()).is_none()
+    clients.as_slice().len() < ClientId::COUNT
+        && clients
+            .place_of(client.bank, client.name.as_bytes())
+            .is_none()
 }
 
 /// The client that a field `bank:name` names. Takes no memory.
-fn client_named(session: &Session, clients: &[Client], field: &[u8]) -> Option<ClientId>
+pub(crate) fn client_named(session: &Session, clients: &Clients, field: &[u8]) -> Option<ClientId>
     requires clients { AreClients session.now clients.now }
     ensures value { result ≡ client_named session.now clients.now field.now }
     ensures within { IfSome result (λ client. client < length clients.now) }
@@ -126,7 +166,7 @@ fn client_named(session: &Session, clients: &[Client], field: &[u8]) -> Option<C
     let (front, _) = field.split_at(at);
     let (_, name) = field.split_at(at + 1);
     let bank = session.bank_named(front)?;
-    let place = place_of(clients, bank, name)?;
+    let place = clients.place_of(bank, name)?;
     Some(ClientId::at(place))
 }
 
@@ -136,11 +176,4 @@ fn place_of_colon(text: &[u8]) -> Option<usize>
     ensures within { IfSome result (λ at. at < length text.now) }
 {
     text.iter().position(|byte| *byte == b':')
-}
-
-/// The place of the first client of a bank and a name.
-fn place_of(clients: &[Client], bank: BankId, name: &[u8]) -> Option<usize>
-    ensures value { result ≡ position (λ client. (client.bank == bank) && bytes_eq client.name name.now) clients.now }
-{
-    clients.iter().position(|client| client.bank == bank && client.name.as_bytes() == name)
 }

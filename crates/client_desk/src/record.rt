@@ -36,7 +36,7 @@ impl ClientBook {
     {
         let _accounts = &self.accounts;
         if let Some(client) = *who {
-            if let Some(kept) = self.clients.get(client.index()) {
+            if let Some(kept) = self.clients.as_slice().get(client.index()) {
                 let _limit = kept.limit.get();
             }
         }

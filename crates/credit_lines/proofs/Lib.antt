@@ -1,3 +1,4 @@
+mod Sums
 pub mod CreditLemmas
 pub mod OpeningLemmas
 pub mod MarketLemmas

@@ -27,8 +27,8 @@ TurnsArePaid =
     IsSound h S → IsCredit credit → StandsFor h S credit → 0 < weight_of h pair → Turned h pair S orders fills →
     ArePaid h credit fills × StandsFor h (filled_all S fills) (taken_by_all h credit fills)
 
--- So do they for the fills of each step, once the limit is set that its command asks for; and the credit that the entry leaves
--- is that of the state after it.
+-- So do they for the fills of each step, once its command has set the limit or the total, or given back the units, that it asks for;
+-- and the credit that the entry leaves is that of the state after it.
 abbrev pub StepsArePaid : Type 0
 StepsArePaid =
     (h : Header) (S : State) (credit : Credit) (entry : Entry) →

@@ -1,6 +1,7 @@
 //! Sums and differences of credit units.
 ghost use Rattle.std.specs.Prelude.{◌≡◌, ◌≤◌, ◌+◌, ◌-◌, min, max};
 ghost use Rattle.fx_amounts.specs.Quantity.{IsUnits};
+ghost use Rattle.fx_rules.specs.State as state;
 
 use fx_amounts::Units;
 
@@ -29,4 +30,14 @@ pub(crate) fn difference(a: Units, b: Units) -> Units
     ensures { result ≡ a - b }
 {
     Units::new(a.get() - b.get()).unwrap()
+}
+
+/// Credit units, and no more than a bound where there is one.
+pub(crate) fn at_most(bound: Option<u64>, units: Units) -> Units
+    ensures { result ≡ state.at_most bound units }
+{
+    match bound {
+        Some(most) if most < units.get() => Units::new(most).unwrap(),
+        _ => units,
+    }
 }

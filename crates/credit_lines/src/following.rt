@@ -8,15 +8,24 @@ use crate::CreditLines;
 use fx_amounts::BankId;
 use fx_rules::{Command, Fill, Session};
 
-/// Sets the limit that a bank's command asks for, where it asks for one.
+/// Sets the limit or the total that a command asks for, or gives back the units, where it asks for any of them.
 pub(crate) fn set_asked(lines: &mut CreditLines, bank: BankId, command: &Command)
     requires valid { IsCredit lines.old }
     requires can { CanSet lines.old bank command.now }
     ensures value { lines.new ≡ line_set lines.old bank command.now }
     ensures valid { IsCredit lines.new }
 {
-    if let Command::Line { bank: other, limit } = *command {
-        lines.set(bank, other, limit);
+    match *command {
+        Command::Line { bank: other, limit } => {
+            lines.set(bank, other, limit);
+        }
+        Command::Total { limit } => {
+            lines.set_total(bank, limit);
+        }
+        Command::Settle { a, b, units } => {
+            lines.give_back(a, b, units);
+        }
+        _ => {}
     }
 }
 

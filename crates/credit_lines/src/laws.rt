@@ -11,8 +11,8 @@ pub fn turns_are_paid()
     ensures paid { TurnsArePaid }
 {}
 
-/// The lines pay for the fills of each step of the market, in order, once the limit is set that its command asks for. One take
-/// for each of them leaves the lines of the state after the step.
+/// The lines pay for the fills of each step of the market, in order, once its command has set the limit or the total, or given back
+/// the units, that it asks for. One take for each of them leaves the lines of the state after the step.
 pub fn steps_are_paid()
     ensures paid { StepsArePaid }
 {}

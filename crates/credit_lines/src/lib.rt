@@ -1,7 +1,8 @@
 //! The credit lines between a session's banks.
 //!
-//! Each bank sets a limit on each other bank, in credit units. What two banks trade with each other uses credit, and
-//! the line between them is the lesser of their two limits less what they have used. No line is ever exceeded.
+//! Each bank sets a limit on each other bank, in credit units, and may set a total over all others. What two banks trade with each
+//! other uses credit. The line between them is the lesser of their two limits less what they have used, and no more than the total of
+//! either leaves of what it has spent. No line is ever exceeded.
 #![tactic(auto)]
 
 mod amounts;

@@ -1,10 +1,12 @@
-ghost use Rattle.std.specs.Prelude.{◌≡◌, ◌≢◌, ◌≤◌, ◌<◌, ◌*◌, ◌^◌, IfOk, length, max};
+ghost use Rattle.std.specs.Prelude.{ℕ, ◌≡◌, ◌≢◌, ◌≤◌, ◌<◌, ◌+◌, ◌-◌, ◌*◌, ◌^◌, IfOk, None, false, length, map, max, min, slice_index, slice_index_or};
 ghost use Rattle.fx_amounts.specs.Quantity.{IsWeight};
-ghost use Rattle.credit_lines.specs.Credit.{IsCredit, limit_in, used_in, line_in, reach_in, opened, taken, limited};
-ghost use Rattle.credit_lines.specs.inside.Credit.{AreLines, lined};
+ghost use Rattle.fx_rules.specs.Lists.{below};
+ghost use Rattle.fx_rules.specs.Session.{bank_count, opening_total};
+ghost use Rattle.credit_lines.specs.Credit.{IsCredit, limit_in, used_in, total_in, spent_in, room_in, line_in, reach_in, opened, taken, given_back, limited, totalled};
+ghost use Rattle.credit_lines.specs.inside.Credit.{AreLines, lined, both_set};
 ghost use Rattle.credit_lines.specs.Market.{followed, IsNextOf, FollowsOn};
 
-use crate::amounts::{difference, greater, lesser, sum};
+use crate::amounts::{at_most, difference, greater, lesser, sum};
 use crate::following::{set_asked, take_all};
 use crate::places::{banks_at, place, shared_place};
 use fx_amounts::{BankId, Memory, Units};
@@ -12,8 +14,9 @@ use fx_rules::{Entry, Session};
 use std::alloc::Global;
 use std::marker::Model;
 
-/// The limits that a session's banks set on each other, and what each two of them have used, in credit units. No line is
-/// ever exceeded: what two banks have used is at most the limit that each sets on the other.
+/// The limits that a session's banks set on each other, what each two of them have used, and the total that a bank may have over all
+/// others, in credit units. No line is ever exceeded: what two banks have used is at most the limit that each sets on the other,
+/// and what a bank has spent, which is what it has used with all others, is at most its total.
 #[derive(Debug, Drop)]
 pub struct CreditLines {
     banks: usize,
@@ -21,36 +24,64 @@ pub struct CreditLines {
     limits: Vec<Units>,
     /// At the shared place of two banks, what they have used.
     uses: Vec<Units>,
-    /// At a place of two banks, the line between them: each bank's lines lie in its row.
+    /// At a place of two banks, what their limits leave between them: what a bank has with each other lies in its row.
     lines: Vec<Units>,
+    /// Each bank's total, or that it has none.
+    totals: Vec<Option<u64>>,
+    /// What each bank has spent.
+    spent: Vec<u64>,
+    /// Whether any bank has a total. Where none has, a line is what the limits leave.
+    bounded: bool,
 }
 
 impl Model for CreditLines {
-    ghost use Rattle.credit_lines.specs.Credit.{Credit, IsCredit};
-    ghost use Rattle.credit_lines.specs.inside.Credit.{AreLines};
+    ghost use Rattle.credit_lines.specs.Credit.{Credit};
+    ghost use Rattle.credit_lines.specs.inside.Credit.{AreKept};
 
     ghost Value = { Credit };
 
-    ghost view = { λ l. record { banks = l.banks; limits = l.limits.items; uses = l.uses.items } };
+    ghost view = { λ l. record { banks = l.banks; limits = l.limits.items; uses = l.uses.items; totals = l.totals.items } };
 
-    ghost invariant = { λ l. let credit : Credit = record { banks = l.banks; limits = l.limits.items; uses = l.uses.items } in
-        IsCredit credit × AreLines credit l.lines.items };
+    ghost invariant = { λ l. let credit : Credit = record { banks = l.banks; limits = l.limits.items; uses = l.uses.items; totals = l.totals.items } in
+        AreKept credit l.lines.items l.spent.items l.bounded };
 }
 
 impl CreditLines {
-    /// The lines with which a session opens: its opening limits, and no use. `Memory` when out of memory; no other call
-    /// takes any.
+    /// The lines with which a session opens: its opening limits and totals, and no use. `Memory` when out of memory; no other
+    /// call but a copy takes any.
     pub fn open(alloc: Global, session: &Session) -> Result<CreditLines, Memory>
         ensures value { IfOk result (λ lines. lines ≡ opened session.now) }
         ensures valid { IfOk result IsCredit }
     {
         let banks = session.banks().len();
         let unused = Units::new(0).unwrap();
+        let totals = opening_totals(alloc, session)?;
+        let bounded = is_any_total(&totals);
         Ok(CreditLines {
             banks,
             limits: opening_limits(alloc, session)?,
             uses: vec![in alloc; unused; banks * banks]?,
             lines: opening_lines(alloc, session)?,
+            totals,
+            spent: vec![in alloc; 0; banks]?,
+            bounded,
+        })
+    }
+
+    /// Equal lines, in memory of their own. At `Memory` there are no new lines, and these are as they were.
+    pub fn copy(&self) -> Result<CreditLines, Memory>
+        ensures equal { IfOk result (λ lines. lines ≡ self.now) }
+        ensures valid { IfOk result IsCredit }
+    {
+        let alloc = *self.limits.allocator();
+        Ok(CreditLines {
+            banks: self.banks,
+            limits: Vec::from_slice(alloc, &self.limits)?,
+            uses: Vec::from_slice(alloc, &self.uses)?,
+            lines: Vec::from_slice(alloc, &self.lines)?,
+            totals: Vec::from_slice(alloc, &self.totals)?,
+            spent: Vec::from_slice(alloc, &self.spent)?,
+            bounded: self.bounded,
         })
     }
 
@@ -76,7 +107,39 @@ impl CreditLines {
         self.uses[shared_place(self.banks, i, j)]
     }
 
-    /// The line between banks `i` and `j`, in credit units: the lesser of their two limits, less what they have used.
+    /// The total that bank `i` has over all others, in credit units; `None` exactly where it has none.
+    pub fn total(&self, i: BankId) -> Option<u64>
+        requires { i < self.now.banks }
+        ensures value { result ≡ total_in self.now i }
+        ensures valid { IsCredit self.now }
+    {
+        self.totals[i.index()]
+    }
+
+    /// What bank `i` has spent, in credit units: what it has used with all others.
+    pub fn spent(&self, i: BankId) -> u64
+        requires { i < self.now.banks }
+        ensures value { result ≡ spent_in self.now i }
+        ensures most { result ≤ 64 * 10 ^ 15 }
+        ensures valid { IsCredit self.now }
+    {
+        self.spent[i.index()]
+    }
+
+    /// What the total of bank `i` leaves of what it has spent, in credit units; `None` exactly where it has no total.
+    pub fn room(&self, i: BankId) -> Option<u64>
+        requires { i < self.now.banks }
+        ensures value { result ≡ room_in self.now i }
+        ensures valid { IsCredit self.now }
+    {
+        match self.total(i) {
+            Some(most) => Some(most - self.spent(i)),
+            None => None,
+        }
+    }
+
+    /// The line between banks `i` and `j`, in credit units: the lesser of their two limits, less what they have used, and no more
+    /// than the total of either leaves.
     pub fn eff(&self, i: BankId, j: BankId) -> Units
         requires first { i < self.now.banks }
         requires second { j < self.now.banks }
@@ -84,7 +147,12 @@ impl CreditLines {
         ensures value { result ≡ line_in self.now i j }
         ensures valid { IsCredit self.now }
     {
-        self.lines[place(self.banks, i, j)]
+        let left = self.lines[place(self.banks, i, j)];
+        if self.bounded {
+            at_most(self.room(i), at_most(self.room(j), left))
+        } else {
+            left
+        }
     }
 
     /// The lots that the line between banks `i` and `j` allows, 0 to 10^15, at `weight` credit units a lot, 1 to 10^6.
@@ -113,6 +181,26 @@ impl CreditLines {
         self.uses[at] = sum(self.uses[at], units);
         let line = difference(self.lines[place(self.banks, i, j)], units);
         set_line(&mut self.lines, self.banks, i, j, line);
+        raise_spent(&mut self.spent, i, j, units);
+    }
+
+    /// Gives back so many credit units of what banks `i` and `j` have used, or all of it where that is less. Answers how many.
+    pub fn give_back(&mut self, i: BankId, j: BankId, units: Units) -> Units
+        requires first { i < self.old.banks }
+        requires second { j < self.old.banks }
+        requires differ { i ≢ j }
+        ensures given { result ≡ min units (used_in self.old i j) }
+        ensures value { self.new ≡ given_back self.old i j result }
+        ensures valid { IsCredit self.new }
+    {
+        let at = shared_place(self.banks, i, j);
+        let used = self.uses[at];
+        let given = lesser(units, used);
+        self.uses[at] = difference(used, given);
+        let line = sum(self.lines[place(self.banks, i, j)], given);
+        set_line(&mut self.lines, self.banks, i, j, line);
+        lower_spent(&mut self.spent, i, j, given);
+        given
     }
 
     /// Bank `i` sets its limit on bank `j`, in credit units. Answers the limit set: the greater of what is asked and what
@@ -135,9 +223,24 @@ impl CreditLines {
         set
     }
 
-    /// Follows an entry of a history of the session: sets the limit that its command asks for, and then takes what each of
-    /// its fills uses. The entry is the next step of a state that the lines stand for; then they stand for the state
-    /// after it. It takes no memory.
+    /// Bank `i` sets its total over all others, in credit units. Answers the total set: the greater of what is asked and what the bank
+    /// has spent.
+    pub fn set_total(&mut self, i: BankId, limit: Units) -> u64
+        requires { i < self.old.banks }
+        ensures limit { result ≡ max limit (spent_in self.old i) }
+        ensures most { result ≤ 64 * 10 ^ 15 }
+        ensures value { self.new ≡ totalled self.old i result }
+        ensures valid { IsCredit self.new }
+    {
+        let set = limit.get().max(self.spent(i));
+        self.totals[i.index()] = Some(set);
+        self.bounded = true;
+        set
+    }
+
+    /// Follows an entry of a history of the session: sets the limit or the total that its command asks for, or gives back the units,
+    /// and then takes what each of its fills uses. The entry is the next step of a state that the lines stand for; then they stand
+    /// for the state after it. It takes no memory.
     pub fn follow(&mut self, session: &Session, entry: &Entry)
         requires next { IsNextOf session.now self.old entry.now }
         ensures value { self.new ≡ followed session.now self.old entry.now }
@@ -160,6 +263,34 @@ fn set_line(lines: &mut Vec<Units>, banks: usize, i: BankId, j: BankId, line: Un
 {
     lines[place(banks, i, j)] = line;
     lines[place(banks, j, i)] = line;
+}
+
+/// Each of two banks has spent so many credit units more.
+fn raise_spent(spent: &mut Vec<u64>, i: BankId, j: BankId, units: Units)
+    requires first { i < length spent.old.items }
+    requires second { j < length spent.old.items }
+    requires most { slice_index spent.old.items i ≤ 64 * 10 ^ 15 }
+    requires most_second { slice_index spent.old.items j ≤ 64 * 10 ^ 15 }
+    ensures { spent.new.items ≡ both_set spent.old.items i j (slice_index spent.old.items i + units) (slice_index spent.old.items j + units) }
+{
+    let first = spent[i.index()] + units.get();
+    let second = spent[j.index()] + units.get();
+    spent[i.index()] = first;
+    spent[j.index()] = second;
+}
+
+/// Each of two banks has spent so many credit units less.
+fn lower_spent(spent: &mut Vec<u64>, i: BankId, j: BankId, units: Units)
+    requires first { i < length spent.old.items }
+    requires second { j < length spent.old.items }
+    requires least { units ≤ slice_index spent.old.items i }
+    requires least_second { units ≤ slice_index spent.old.items j }
+    ensures { spent.new.items ≡ both_set spent.old.items i j (slice_index spent.old.items i - units) (slice_index spent.old.items j - units) }
+{
+    let first = spent[i.index()] - units.get();
+    let second = spent[j.index()] - units.get();
+    spent[i.index()] = first;
+    spent[j.index()] = second;
 }
 
 /// The limits that a session opens with, each at the place of its two banks.
@@ -188,4 +319,29 @@ fn opening_lines(alloc: Global, session: &Session) -> Result<Vec<Units>, Memory>
         lines.push_reserved(lesser(session.limit(i, j), session.limit(j, i)));
     }
     Ok(lines)
+}
+
+/// The total that each bank opens with, or that it has none.
+fn opening_totals(alloc: Global, session: &Session) -> Result<Vec<Option<u64>>, Memory>
+    ensures { IfOk result (λ totals. totals.items ≡ map (opening_total session.now) (below (bank_count session.now))) }
+{
+    let banks = session.banks().len();
+    let mut totals = Vec::new(alloc);
+    totals.reserve(banks)?;
+    for bank in 0..banks {
+        totals.push_reserved(session.total(BankId::at(bank)).map(|most| most.get()));
+    }
+    Ok(totals)
+}
+
+/// Whether any bank has a total.
+fn is_any_total(totals: &[Option<u64>]) -> bool
+    ensures none { result ≡ false → (i : ℕ) → i < length totals.now → slice_index_or totals.now i None ≡ None }
+{
+    for total in totals {
+        if total.is_some() {
+            return true;
+        }
+    }
+    false
 }

@@ -27,7 +27,7 @@ use Rattle.credit_raise.proofs.Facing.{live-turns}
 -- ---- what is gathered
 
 -- a test that is passed where one of two others is, which are never passed together
-abbrev IsEither : (p q r : Resting → Bool) → Type 0
+abbrev pub IsEither : (p q r : Resting → Bool) → Type 0
 IsEither p q r = (o : Resting) → ((p o && q o) ≡ false) × (r o ≡ (p o || q o))
 
 filter_either : (p q r : Resting → Bool) → IsEither p q r → (xs : List Resting) → IsPermutation (filter r xs) (filter p xs ++ filter q xs)
@@ -51,7 +51,7 @@ filter_either p q r either (x ∷ xs) =
     ]
 
 -- what is gathered in two goes
-gathers-both : (p q r : Resting → Bool) (orders a b c : List Resting) → IsEither p q r → Gathers p orders a b → Gathers q orders b c → Gathers r orders a c
+pub gathers-both : (p q r : Resting → Bool) (orders a b c : List Resting) → IsEither p q r → Gathers p orders a b → Gathers q orders b c → Gathers r orders a c
 gathers-both p q r orders a b c either one two = record {
   gathered = one.gathered ++ two.gathered;
   behind = two.behind ∙ ap (λ (os : List Resting). os ++ two.gathered) one.behind ∙ append_assoc a one.gathered two.gathered;
@@ -88,7 +88,7 @@ gathers-sides bank tops orders a b c =
 -- ---- in the order of their arrivals
 
 -- an order arrived before another
-abbrev Earlier : Resting → Resting → Type 0
+abbrev pub Earlier : Resting → Resting → Type 0
 Earlier a b = a.arrival < b.arrival
 
 -- two lists by arrival that have the same orders
@@ -116,7 +116,7 @@ same_rising (x ∷ xs) (y ∷ ys) r s there back =
       | inr behind ↦ behind
     ]))
 
-pairs_weaker : (P Q : Resting → Resting → Type 0) → ((a b : Resting) → P a b → Q a b) → (xs : List Resting) → EachPair P xs → EachPair Q xs
+pub pairs_weaker : (P Q : Resting → Resting → Type 0) → ((a b : Resting) → P a b → Q a b) → (xs : List Resting) → EachPair P xs → EachPair Q xs
 pairs_weaker P Q weaker [] pairs = tt
 pairs_weaker P Q weaker (x ∷ xs) pairs = (Each-weaker (P x) (Q x) (weaker x) xs pairs.0, pairs_weaker P Q weaker xs pairs.1)
 
@@ -183,7 +183,7 @@ among_permutation xs ys o same there =
     Each-among In ys o (recursion_from_All In ys (All-permutation In xs ys same (All-from_recursion In xs (Each-of In xs (λ q here. here))))) there
 
 -- orders that arrived one after the other, once they are sorted
-sorted-back : (orders sorted : List Resting) → EachPair Earlier orders → IsPermutation orders sorted → IsNonDecreasingBy (λ (o : Resting). o.arrival) sorted → sorted ≡ orders
+pub sorted-back : (orders sorted : List Resting) → EachPair Earlier orders → IsPermutation orders sorted → IsNonDecreasingBy (λ (o : Resting). o.arrival) sorted → sorted ≡ orders
 sorted-back orders sorted rising same falls_not =
     same_rising sorted orders
     (rises sorted falls_not (λ arrival. omega (arith, once_arrived arrival orders rising, sum_by-IsPermutation (arrived arrival) orders sorted same)))

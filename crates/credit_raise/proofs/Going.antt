@@ -12,9 +12,9 @@ use Rattle.fx_rules.specs.Sweep.{filled, filled_all}
 use Rattle.fx_rules.specs.Raise.{limit_set, limited, Turned}
 use Rattle.fx_rules.specs.History.{IsLegal, state}
 use Rattle.fx_rules.specs.NoCross.{NoCross}
-use Rattle.fx_rules.specs.Sound.{IsPlain}
+use Rattle.fx_rules.specs.Sound.{IsCovered}
 use Rattle.fx_rules.proofs.Following.{filled_all-follows}
-use Rattle.fx_rules.proofs.Plain.{only_one-sound, plain-filled}
+use Rattle.fx_rules.proofs.Credit.{covered-filled}
 use Rattle.fx_rules.proofs.Staying.{turned-stays}
 use Rattle.fx_rules.proofs.RaiseSound.{turned-sound, limited-sound}
 use Rattle.fx_rules.proofs.Soundness.{legal-sound}
@@ -53,11 +53,11 @@ limited-apart h S pair i j limit uncrossed buy sell b_rests s_rests buys sells o
 -- ---- the line
 
 -- what the fills between two banks leave of their line
-pub line-fills : (h : Header) (S : State) (pair weight i j : ℕ) (fills : List Fill) → weight_of h pair ≡ weight → Each (IsFillOf pair i j) fills → IsPlain S → line h (filled_all S fills) i j ≡ line h S i j - lots_of fills * weight
-line-fills h S pair weight i j [] weight_is all plain = omega arith
-line-fills h S pair weight i j (f ∷ fills) weight_is all plain =
-    let first : line h (filled S f) i j ≡ line h S i j - f.lots * weight = line-filled h S f pair weight i j (line h S i j) weight_is refl all.0.pair_is all.0.between plain in
-    let rest : line h (filled_all (filled S f) fills) i j ≡ line h (filled S f) i j - lots_of fills * weight = line-fills h (filled S f) pair weight i j fills weight_is all.1 (plain-filled S f plain) in
+pub line-fills : (h : Header) (S : State) (pair weight i j : ℕ) (fills : List Fill) → i < bank_count h → j < bank_count h → i ≢ j → weight_of h pair ≡ weight → Each (IsFillOf pair i j) fills → IsCovered h S → line h (filled_all S fills) i j ≡ line h S i j - lots_of fills * weight
+line-fills h S pair weight i j [] i_in j_in differ weight_is all covered = omega arith
+line-fills h S pair weight i j (f ∷ fills) i_in j_in differ weight_is all covered =
+    let first : line h (filled S f) i j ≡ line h S i j - f.lots * weight = line-filled h S f pair weight i j (line h S i j) i_in j_in differ weight_is refl all.0.pair_is all.0.between covered in
+    let rest : line h (filled_all (filled S f) fills) i j ≡ line h (filled S f) i j - lots_of fills * weight = line-fills h (filled S f) pair weight i j fills i_in j_in differ weight_is all.1 (covered-filled h S f covered) in
     omega (arith, first, rest, add-mul f.lots (lots_of fills) weight)
 
 -- ---- the first pair
@@ -80,16 +80,16 @@ raised-first h entries book weight i j asked eff legal i_in j_in differ units or
 -- ---- the next pair
 
 -- With the fills of one pair's plan added, the state is one in which the next pair's turn comes, with what they leave of the line.
-pub raised-next : (h : Header) (S : State) (book next : Book) (weight next_weight i j eff : ℕ) (fills : List Fill) → book.pair ≢ next.pair → 1 ≤ weight → 1 ≤ next_weight
+pub raised-next : (h : Header) (S : State) (book next : Book) (weight next_weight i j eff : ℕ) (fills : List Fill) → i < bank_count h → j < bank_count h → i ≢ j → book.pair ≢ next.pair → 1 ≤ weight → 1 ≤ next_weight
     → IsRaised h S book weight i j eff → Turned h book.pair S book.orders fills → Each (IsFillOf book.pair i j) fills
     → orders_in next.pair S.orders ≡ next.orders → weight_of h next.pair ≡ next_weight → NoCrossBut h S next.pair i j
     → IsRaised h (filled_all S fills) next next_weight i j (eff - lots_of fills * weight)
-raised-next h S book next weight next_weight i j eff fills differ some next_some raised turned parties next_orders next_weight_is apart =
+raised-next h S book next weight next_weight i j eff fills i_in j_in apart_banks differ some next_some raised turned parties next_orders next_weight_is apart =
     let heavy : 0 < weight_of h book.pair = omega (arith, some, raised.weight_is) in
     record {
       sound = turned-sound h book.pair S book.orders fills heavy raised.sound turned;
       orders = turned-stays h book.pair S book.orders fills next.pair differ heavy raised.sound turned ∙ next_orders;
       weight_is = next_weight_is;
-      line_is = line-fills h S book.pair weight i j fills raised.weight_is parties (raised.sound.plain (only_one-sound h S raised.sound)) ∙ ap (λ n. n - lots_of fills * weight) raised.line_is;
+      line_is = line-fills h S book.pair weight i j fills i_in j_in apart_banks raised.weight_is parties raised.sound.covered ∙ ap (λ n. n - lots_of fills * weight) raised.line_is;
       apart = apart-follows h S (filled_all S fills) next.pair i j (omega (arith, next_some, next_weight_is)) (filled_all-follows h S fills) apart;
     }

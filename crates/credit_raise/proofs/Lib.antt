@@ -13,3 +13,8 @@ pub mod Gathering
 pub mod Quiet
 pub mod Pairs
 pub mod Changes
+pub mod Turning
+pub mod Uncrossed
+pub mod Crossing
+pub mod Copying
+pub mod Opening

@@ -1,5 +1,5 @@
 -- Two banks' orders, played out by themselves, make the fills that the whole market makes.
-use Rattle.std.proofs.Common.{ℕ, ◌≡◌, ◌≢◌, ◌+◌, ◌-◌, ◌*◌, ◌/◌, ◌≤◌, ◌<◌, Bool, true, false, ◌&&◌, ◌||◌, cond, eqb, ltb, List, [], ◌∷◌, ◌++◌, Option, Some, None, ◌⊎◌, inl, inr, refl, ap, sym, subst, ◌∙◌, arith, append_assoc, append-nil, find}
+use Rattle.std.proofs.Common.{ℕ, ◌≡◌, ◌≢◌, ◌-◌, ◌*◌, ◌/◌, ◌≤◌, ◌<◌, Bool, true, false, ◌&&◌, ◌||◌, cond, eqb, ltb, List, [], ◌∷◌, ◌++◌, Option, Some, None, ◌⊎◌, inl, inr, refl, ap, sym, subst, ◌∙◌, arith, append_assoc, append-nil, find}
 use Rattle.std.proofs.lemmas.Bool.{cases_Bool, cases_eq, cases_lt, cond_both, cond-true, cond-false, eq-eqb, ne_eqb, lt-ltb, le-ltb, le-leb, and_from, or_left, or_right, false_from_ne_true}
 use Rattle.std.proofs.lemmas.List.Elements.{filter-append}
 use Rattle.std.specs.List.{filter}
@@ -8,15 +8,14 @@ use Rattle.fx_rules.specs.declared.orders.Resting.{Resting}
 use Rattle.fx_rules.specs.declared.orders.Fill.{Fill}
 use Rattle.fx_rules.specs.Lists.{Among, Each, EachPair}
 use Rattle.fx_rules.specs.Session.{Header, bank_count, weight_of}
-use Rattle.fx_rules.specs.State.{State, orders_in, line, reach, cost_between, is_between}
+use Rattle.fx_rules.specs.State.{State, orders_in, line, reach, cost, is_between}
 use Rattle.fx_rules.specs.Sweep.{Taker, Swept, is_open, open_in, open_orders, IsBest, amount, fill_with, is_order, lowered, filled, filled_all, less}
 use Rattle.fx_rules.specs.Raise.{order_of, taker_of_resting, Turned}
-use Rattle.fx_rules.specs.Sound.{IsSound, IsPlain, IsKept, ArrivesBefore}
+use Rattle.fx_rules.specs.Sound.{IsSound, IsCovered, IsKept, ArrivesBefore}
 use Rattle.fx_rules.proofs.ListLemmas.{Each-among, Each-of, Each-weaker, Among-filter, among_filter, filter_agree_on, filter_filter, filter_cons_true, filter_cons_false, EachPair-filter}
 use Rattle.fx_rules.proofs.Lowering.{Each-lowered, is_order-says}
-use Rattle.fx_rules.proofs.Credit.{IsAllowed, cost_between-one}
+use Rattle.fx_rules.proofs.Credit.{IsAllowed, line-pays}
 use Rattle.fx_rules.proofs.Opens.{is_open-says, orders_in-among, allowed-open}
-use Rattle.fx_rules.proofs.Plain.{only_one-sound, plain-line_filled}
 use Rattle.fx_rules.proofs.Planning.{orders_in-rising, open_none}
 use Rattle.fx_rules.proofs.Staying.{active_same, and_where}
 use Rattle.fx_rules.proofs.SweepSound.{filled-sound, swept-sound}
@@ -227,11 +226,22 @@ fill-between i j bank f (inr is) differ taker maker =
     (eq-eqb f.maker i (maker ∙ cond-false (eqb bank i) j i (ne_eqb bank i (λ same. differ (sym same ∙ is))))))
 
 -- the line between the two falls by what a fill between them costs
-pub line-filled : (h : Header) (X : State) (f : Fill) (pair weight i j credit : ℕ) → weight_of h pair ≡ weight → line h X i j ≡ credit → f.pair ≡ pair → is_between i j f ≡ true → IsPlain X → line h (filled X f) i j ≡ credit - f.lots * weight
-line-filled h X f pair weight i j credit weight_is line_is pair_is between plain =
-    plain-line_filled h X f i j plain
-    ∙ ap (λ n. n - cost_between h i j (f ∷ [])) line_is
-    ∙ ap (λ n. credit - n) (cost_between-one h i j f between ∙ ap (λ n. f.lots * n) (ap (weight_of h) pair_is ∙ weight_is))
+pub line-filled : (h : Header) (X : State) (f : Fill) (pair weight i j credit : ℕ) → i < bank_count h → j < bank_count h → i ≢ j → weight_of h pair ≡ weight → line h X i j ≡ credit → f.pair ≡ pair → is_between i j f ≡ true → IsCovered h X → line h (filled X f) i j ≡ credit - f.lots * weight
+line-filled h X f pair weight i j credit i_in j_in differ weight_is line_is pair_is between covered =
+    line-pays h X f i j covered i_in j_in differ between
+    ∙ ap (λ n. n - cost h f) line_is
+    ∙ ap (λ n. credit - f.lots * n) (ap (weight_of h) pair_is ∙ weight_is)
+
+-- both are banks of the session, where an owner and the other one are
+both_within : (banks i j bank : ℕ) → i ≢ j → (bank ≡ i) ⊎ (bank ≡ j) → bank < banks → other_of i j bank < banks → (i < banks) × (j < banks)
+both_within banks i j bank differ (inl is) own other = (
+  omega (arith, own, is),
+  omega (arith, other, cond-true (eqb bank i) j i (eq-eqb bank i is)),
+)
+both_within banks i j bank differ (inr is) own other = (
+  omega (arith, other, cond-false (eqb bank i) j i (ne_eqb bank i (λ same. differ (sym same ∙ is)))),
+  omega (arith, own, is),
+)
 
 -- the orders of the two banks after a fill of an order with one that waits
 orders-filled : (h : Header) (X : State) (pair weight i j credit : ℕ) (waiting rest : List Resting) (order best : Resting) (left lots : ℕ) → i ≢ j
@@ -320,11 +330,12 @@ swept-among h X pair weight i j credit waiting rest order left (f ∷ fills) end
     let lots_are : amount t best (reach h X order.bank best.bank pair) ≡ lots = ap (amount t best) reached in
     let allowed : IsAllowed h X g = subst (λ n. IsAllowed h X (fill_with t best n)) lots_are
     (allowed-open h X t best here.sound (sender h X pair now here.sound rests.0) heavy swept.1 is_best.there) in
+    let within = both_within (bank_count h) i j order.bank differ owner allowed.taker (omega (arith, allowed.maker, maker_is)) in
     let next : Meets h (filled X g) pair weight i j (credit - lots * weight) (lessened best.bank best.number lots waiting) (entry order (left - lots) rest) = record {
       sound = filled-sound h X g here.sound allowed;
       weight_is = here.weight_is;
-      line_is = line-filled h X g pair weight i j credit here.weight_is here.line_is refl (fill-between i j order.bank g owner differ refl maker_is)
-          (here.sound.plain (only_one-sound h X here.sound));
+      line_is = line-filled h X g pair weight i j credit within.0 within.1 differ here.weight_is here.line_is refl (fill-between i j order.bank g owner differ refl maker_is)
+          here.sound.covered;
       apart = apart-follows h X (filled X g) pair i j heavy (filled-follows h X g) here.apart;
       orders = orders-filled h X pair weight i j credit waiting rest order best left lots differ here maker.waits;
     } in

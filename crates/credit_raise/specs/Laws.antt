@@ -36,7 +36,7 @@ RaisesBegin =
 -- With the fills of one pair added, the state is one in which the next pair's turn comes, with what they leave of the line.
 abbrev pub RaisesGoOn : Type 0
 RaisesGoOn =
-    (h : Header) (S : State) (book next : Book) (weight next_weight i j eff : ℕ) (fills : List Fill) → book.pair ≢ next.pair →
-    1 ≤ weight → 1 ≤ next_weight → IsRaised h S book weight i j eff → Turned h book.pair S book.orders fills →
+    (h : Header) (S : State) (book next : Book) (weight next_weight i j eff : ℕ) (fills : List Fill) → i < bank_count h → j < bank_count h →
+    i ≢ j → book.pair ≢ next.pair → 1 ≤ weight → 1 ≤ next_weight → IsRaised h S book weight i j eff → Turned h book.pair S book.orders fills →
     Each (IsFillOf book.pair i j) fills → orders_in next.pair S.orders ≡ next.orders → weight_of h next.pair ≡ next_weight →
     NoCrossBut h S next.pair i j → IsRaised h (filled_all S fills) next next_weight i j (eff - lots_of fills * weight)

@@ -3,12 +3,16 @@
 #![tactic(auto)]
 
 mod change;
+mod course;
 mod laws;
+mod pay;
 mod prices;
 mod raise;
 mod replay;
+mod sweep;
 mod walk;
 
 pub use change::{CreditChange, is_change};
 pub use laws::{limits_set_others_apart, raises_begin, raises_go_on, two_banks_turn};
 pub use raise::plan_raise;
+pub use sweep::plan_sweep;

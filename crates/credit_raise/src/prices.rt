@@ -1,5 +1,7 @@
-ghost use Rattle.std.specs.Prelude.{◌≡◌};
-ghost use Rattle.credit_raise.specs.inside.Prices.{AreTops, IsTop, is_crossed, top_of, tops_meet};
+ghost use Rattle.std.specs.Prelude.{◌≡◌, ℕ, true, Some, None, slice_index_or};
+ghost use Rattle.fx_amounts.specs.Price.{IsPrice};
+ghost use Rattle.fx_rules.specs.declared.orders.Resting.{Resting};
+ghost use Rattle.credit_raise.specs.inside.Prices.{AreTops, AreTopsOfAll, IsTop, IsWithin, crosses_tops, is_crossed, top_of, tops_meet};
 
 use fx_amounts::{BankId, Price, Side};
 use global_book::PairBook;
@@ -22,6 +24,33 @@ impl Tops {
             buy: top_of(book, bank, Side::Buy, steps),
             sell: top_of(book, bank, Side::Sell, steps),
         }
+    }
+
+    /// Those of all banks together in a book. Two steps.
+    pub(crate) fn of_book<L: Ledger>(book: &PairBook, steps: &mut Steps<L>) -> Tops
+        ensures tops { AreTopsOfAll book.now.orders result }
+    {
+        Tops {
+            buy: best_of(Side::Buy, book.best_prices(Side::Buy, steps)),
+            sell: best_of(Side::Sell, book.best_prices(Side::Sell, steps)),
+        }
+    }
+
+    /// The best prices that there are: each order crosses them.
+    pub(crate) fn widest() -> Tops
+        ensures all { (order : Resting) → IsPrice order.price → crosses_tops result order ≡ true }
+    {
+        Tops {
+            buy: Price::new(Price::MOST),
+            sell: Price::new(Price::LEAST),
+        }
+    }
+
+    /// Whether they cross each other.
+    pub(crate) fn cross(&self) -> bool
+        ensures { result ≡ is_crossed self.now.buy self.now.sell }
+    {
+        is_crossed(self.buy, self.sell)
     }
 
     /// The best price of a side.
@@ -62,4 +91,28 @@ fn top_of<L: Ledger>(
     ensures top { IsTop bank side book.now.orders result }
 {
     book.next_price(bank, side, None, steps)
+}
+
+/// The best of some prices of a side; `None` where there is none.
+fn best_of(side: Side, prices: &[Option<Price>]) -> Option<Price>
+    ensures best { (k : ℕ) → IsWithin side (slice_index_or prices.now k None) result }
+{
+    let mut best = None;
+    for price in prices {
+        best = better_of(side, best, *price);
+    }
+    best
+}
+
+/// The better of two prices of a side, where there are both.
+fn better_of(side: Side, first: Option<Price>, second: Option<Price>) -> Option<Price>
+    ensures first { IsWithin side first result }
+    ensures second { IsWithin side second result }
+    ensures keeps { (price : ℕ) → IsWithin side (Some price) first → IsWithin side (Some price) result }
+{
+    match (first, second) {
+        (Some(top), Some(price)) if !top.crosses(price, side) => second,
+        (Some(_), _) => first,
+        (None, _) => second,
+    }
 }

@@ -1,7 +1,7 @@
-ghost use Rattle.std.specs.Prelude.{◌≡◌, ◌≢◌, ◌+◌, ◌≤◌, length, IfOk, OnOk};
+ghost use Rattle.std.specs.Prelude.{◌≡◌, ◌≢◌, ◌+◌, ◌≤◌, filter, length, IfOk, OnOk};
 ghost use Rattle.fx_amounts.specs.Side.{opposite};
 ghost use Rattle.global_book.specs.Book.{IsBook};
-ghost use Rattle.credit_raise.specs.inside.Prices.{Gathers, is_live_of, is_live_on, live_turns, top_of};
+ghost use Rattle.credit_raise.specs.inside.Prices.{Gathers, crosses_tops, is_live_of, is_live_on, live_turns, top_of};
 
 use crate::prices::Tops;
 use fx_amounts::{BankId, Memory, Side};
@@ -32,6 +32,24 @@ pub(crate) fn live_turns<L: Ledger>(
     gather(book, j, tops_i, &mut turns, steps)?;
     turns.sort_unstable_by_key(|order| order.arrival);
     Ok(turns)
+}
+
+/// Of the orders of all banks those that cross these best prices, in arrival order. `Memory` when out of memory.
+pub(crate) fn crossing_orders<L: Ledger>(
+    alloc: Global,
+    book: &PairBook,
+    tops: &Tops,
+    steps: &mut Steps<L>,
+) -> Result<Vec<Resting>, Memory>
+    ensures orders { IfOk result (λ orders. orders.items ≡ filter (crosses_tops tops.now) book.now.orders) }
+{
+    let owners = book.owners();
+    let mut orders = Vec::new(alloc);
+    for bank in owners {
+        gather(book, *bank, tops, &mut orders, steps)?;
+    }
+    orders.sort_unstable_by_key(|order| order.arrival);
+    Ok(orders)
 }
 
 /// Gathers the orders of a bank that cross another bank's best price, behind those that are there.

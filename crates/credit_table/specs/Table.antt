@@ -15,13 +15,14 @@ use Rattle.credit_lines.specs.Market as lines
 use Rattle.fx_rules.specs.declared.sender.Sender.{Sender}
 use Rattle.fx_rules.specs.Sending.{IsNextIn}
 
--- the session, the limits and uses between its banks, and how many commands each sender has sent
+-- the session, the limits, uses and totals of its banks, and how many commands each sender has sent
 pub record Table : Type 0 where
   pub session : Header
   pub lines : Credit
   pub counts : List ℕ
 
--- The table is of a state of a session: it has the session's weights, and the limits, the uses and the counts of the state.
+-- The table is of a state of a session: it has the session's weights, and the limits, the uses, the totals and the counts of the
+-- state.
 pub record Stands (h : Header) (S : State) (table : Table) : Type 0 where
   pub session : table.session ≡ h
   pub lines : lines.StandsFor h S table.lines
@@ -33,7 +34,7 @@ is_of_no_pair (Show bank) = true
 is_of_no_pair (Bad reason) = true
 is_of_no_pair _ = false
 
--- a bank's next command, by the counts: its number, and its place among all commands
+-- a sender's next command, by the counts: its number, and its place among all commands
 abbrev pub next_sender : Table → ℕ → Sender
 next_sender table bank = record {
   bank = bank;
@@ -49,7 +50,7 @@ IsNextInEach table sender = (h : Header) (S : State) → Stands h S table → Is
 abbrev pub AnswersEach : Table → ℕ → Command → Outcome → Type 0
 AnswersEach table bank command outcome = (h : Header) (S : State) → Stands h S table → IsOutcome h S bank command outcome
 
--- the table that an entry leaves: its limit and its fills are in the lines, and its bank has one more command
+-- the table that an entry leaves: what its command asks for and its fills are in the lines, and its sender has one more command
 abbrev pub followed : Table → Entry → Table
 followed table entry = record {
   session = table.session;

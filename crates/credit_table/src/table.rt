@@ -5,22 +5,22 @@ ghost use Rattle.fx_rules.specs.State.{opening};
 ghost use Rattle.fx_rules.specs.Step.{IsCommand};
 ghost use Rattle.credit_table.specs.Table.{Stands, IsNextInEach, IsNextOf, AnswersEach, FollowsOn, followed, is_of_no_pair, next_sender};
 
-use crate::sessions::copy_of;
+use crate::sessions::{copy_of, sender_places};
 use credit_lines::CreditLines;
 use fx_amounts::{BankId, Memory, PairId};
 use fx_rules::{Command, Entry, Outcome, Sender, Session};
 use std::alloc::Global;
 use std::marker::Model;
 
-/// The credit side of the market: the lines between a session's banks, and how many commands each bank has sent. Contracts see
-/// it as its session, limits, uses and counts: it stands for each state of the market that has these. No call but `open`
+/// The credit side of the market: the lines between a session's banks, and how many commands each sender has sent. Contracts see
+/// it as its session, limits, uses, totals and counts: it stands for each state of the market that has these. No call but `open`
 /// takes memory.
 #[derive(Drop)]
 pub struct CreditTable {
     /// The session is kept for what a lot costs in each of its pairs.
     session: Session,
     lines: CreditLines,
-    /// The commands of each bank.
+    /// The commands of each sender.
     counts: Vec<u32>,
     /// All of them: the arrival of the next.
     arrivals: u64,
@@ -43,15 +43,15 @@ impl Model for CreditTable {
 }
 
 impl CreditTable {
-    /// The table with which a session opens: its opening limits, no use, and no commands sent. `Memory` when out of memory.
+    /// The table with which a session opens: its opening limits and totals, no use, and no commands sent. `Memory` when out of memory.
     pub fn open(alloc: Global, session: &Session) -> Result<CreditTable, Memory>
         ensures stands { IfOk result (Stands session.now (opening session.now)) }
     {
-        let banks = session.banks().len();
+        let places = sender_places(session);
         Ok(CreditTable {
             session: copy_of(alloc, session)?,
             lines: CreditLines::open(alloc, session)?,
-            counts: vec![in alloc; 0; banks]?,
+            counts: vec![in alloc; 0; places]?,
             arrivals: 0,
         })
     }
@@ -72,7 +72,7 @@ impl CreditTable {
         &self.lines
     }
 
-    /// How many commands a bank has sent; 0 for any other than the session's.
+    /// How many commands a sender has sent; 0 for any other than the session's.
     pub fn count(&self, bank: BankId) -> u32
         ensures value { result ≡ slice_index self.now.counts bank }
         ensures session { IsSession self.now.session }
@@ -93,7 +93,7 @@ impl CreditTable {
         self.session.weight(pair)
     }
 
-    /// A bank's next command: its number, and its place among all commands. The bank has sent fewer than 2^32 - 1.
+    /// A sender's next command: its number, and its place among all commands. The sender has sent fewer than 2^32 - 1.
     pub fn sender(&self, bank: BankId) -> Sender
         requires sender { bank < sender_places self.now.session }
         requires few { slice_index self.now.counts bank < 2 ^ 32 - 1 }
@@ -108,7 +108,7 @@ impl CreditTable {
         }
     }
 
-    /// The market's answer to a bank's command that is about no pair: a show command, or a line that could not be read. Nothing
+    /// The market's answer to a sender's command that is about no pair: a show command, or a line that could not be read. Nothing
     /// changes.
     pub fn answer(&self, bank: BankId, command: &Command) -> Outcome
         requires sender { bank < sender_places self.now.session }
@@ -128,8 +128,8 @@ impl CreditTable {
         }
     }
 
-    /// Follows an entry of a history of the session: the limit that its command asks for, what its fills use, and one command more
-    /// of its bank. The entry is the next step of a state that the table stands for; then it stands for the state after
+    /// Follows an entry of a history of the session: the limit or the total that its command asks for, or the units that it gives
+    /// back, what its fills use, and one command more of its sender. The entry is the next step of a state that the table stands for; then it stands for the state after
     /// it.
     pub fn follow(&mut self, entry: &Entry)
         requires next { IsNextOf self.old entry.now }
@@ -140,7 +140,7 @@ impl CreditTable {
         self.count_command(entry.bank);
     }
 
-    /// Counts a command of a bank.
+    /// Counts a command of a sender.
     fn count_command(&mut self, bank: BankId)
         requires sender { bank < sender_places self.old.session }
         requires few { slice_index self.old.counts bank < 2 ^ 32 - 1 }

@@ -11,7 +11,7 @@ use Rattle.std.specs.List.{filter, flat_map, prefix_len}
 use Rattle.fx_rules.specs.declared.session.PairRule.{PairRule}
 use Rattle.fx_rules.specs.Lists.{Each, EachPair}
 use Rattle.fx_rules.specs.Session.{Header, IsSession}
-use Rattle.fx_rules.proofs.ListLemmas.{EachPair-filter, filter_cons_true, filter_cons_false}
+use Rattle.fx_rules.proofs.ListLemmas.{Each-at, EachPair-filter, filter_cons_true, filter_cons_false}
 use Rattle.day_report.specs.declared.currencies.Columns.{Columns}
 use Rattle.day_report.specs.Report.{firsts, currencies, base_code, quote_code}
 use Rattle.day_report.specs.inside.Parts.{with_code}
@@ -151,16 +151,11 @@ pub firsts-apart : (xs : List (List ℕ)) → EachPair (λ a b. a ≢ b) (firsts
 firsts-apart [] = tt
 firsts-apart (x ∷ xs) = (not_kept x (firsts xs), EachPair-filter (λ a b. a ≢ b) (λ other. not (bytes_eq other x)) (firsts xs) (firsts-apart xs))
 
-pub each_at : (P : List ℕ → Type 0) (codes : List (List ℕ)) (i : ℕ) → Each P codes → i < length codes → P (code_at codes i)
-each_at P [] i all within = absurd (omega arith)
-each_at P (c ∷ codes) zero all within = all.0
-each_at P (c ∷ codes) (suc i) all within = each_at P codes i all.1 (omega arith)
-
 pub column_one : (codes : List (List ℕ)) (i j : ℕ) → EachPair (λ a b. a ≢ b) codes → i < length codes → j < length codes → code_at codes i ≡ code_at codes j → i ≡ j
 column_one [] i j apart p q same = absurd (omega arith)
 column_one (c ∷ codes) zero zero apart p q same = refl
-column_one (c ∷ codes) zero (suc j) apart p q same = absurd (each_at (λ other. c ≢ other) codes j apart.0 (omega arith) same)
-column_one (c ∷ codes) (suc i) zero apart p q same = absurd (each_at (λ other. c ≢ other) codes i apart.0 (omega arith) (sym same))
+column_one (c ∷ codes) zero (suc j) apart p q same = absurd (Each-at (λ other. c ≢ other) codes j [] apart.0 (omega arith) same)
+column_one (c ∷ codes) (suc i) zero apart p q same = absurd (Each-at (λ other. c ≢ other) codes i [] apart.0 (omega arith) (sym same))
 column_one (c ∷ codes) (suc i) (suc j) apart p q same = ap suc (column_one codes i j apart.1 (omega arith) (omega arith) same)
 
 -- to ask for a code's column is to ask for the code

@@ -1,5 +1,4 @@
 pub mod Sums
-pub mod LotsFit
 pub mod Balance
 pub mod Codes
 pub mod Bounds

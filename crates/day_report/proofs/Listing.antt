@@ -1,8 +1,7 @@
 -- The lists of a report, as they are read off the tables, are those of the state.
-use Rattle.std.proofs.Common.{ℕ, zero, suc, ◌≡◌, ◌≢◌, ◌+◌, ◌*◌, ◌^◌, ◌≤◌, ◌<◌, Bool, true, nat_lt, ℤ, pos, ◌-ℤ◌, List, [], ◌∷◌, ◌++◌, map, length, get_or, inl, inr, refl, ap, sym, subst, ◌∙◌, arith, add-one}
-use Rattle.std.proofs.lemmas.Bool.{cases_Bool, cases_order, ltb-true, lt-ltb, le-ltb}
-use Rattle.std.proofs.lemmas.List.{same_lists, length-map, get_or-map, map_push, get_or_push, get_or_append_left, append-nil, append_assoc}
-use Rattle.std.proofs.lemmas.List.Concat.{flat_map-append}
+use Rattle.std.proofs.Common.{ℕ, zero, suc, ◌≡◌, ◌≢◌, ◌+◌, ◌*◌, ◌^◌, ◌≤◌, ◌<◌, Bool, true, nat_lt, ℤ, pos, ◌-ℤ◌, List, [], ◌∷◌, ◌++◌, map, length, get_or, inl, inr, refl, ap, sym, subst, ◌∙◌, arith}
+use Rattle.std.proofs.lemmas.Bool.{cases_Bool, ltb-true, lt-ltb, le-ltb}
+use Rattle.std.proofs.lemmas.List.{same_lists, length-map, get_or-map, map_push, append-nil, append_assoc}
 use Rattle.std.proofs.lemmas.List.Elements.{filter-append}
 use Rattle.std.specs.List.{filter, flat_map}
 use Rattle.fx_rules.specs.declared.orders.Fill.{Fill}
@@ -10,7 +9,7 @@ use Rattle.fx_rules.specs.Lists.{Each}
 use Rattle.fx_rules.specs.Session.{Header, bank_count, pair_count}
 use Rattle.fx_rules.specs.State.{State}
 use Rattle.fx_rules.specs.Lists.{below}
-use Rattle.fx_rules.proofs.Below.{below_more, flat_map-more, map-more, length_below, get_or_below}
+use Rattle.fx_rules.proofs.Below.{below_more, map-more, length_below, get_or_below}
 use Rattle.fx_rules.proofs.ListLemmas.{filter_cons_true, filter_cons_false, Each-append}
 use Rattle.credit_lines.specs.Credit.{Credit, limit_in, used_in, line_in}
 use Rattle.credit_lines.specs.Market.{StandsFor}

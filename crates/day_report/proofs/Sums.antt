@@ -1,10 +1,8 @@
 -- Sums over lists, and over the numbers below one.
-use Rattle.std.proofs.Common.{ℕ, zero, suc, ◌≡◌, ◌+◌, ◌*◌, ◌≤◌, ◌<◌, Bool, true, false, eqb, cond, List, [], ◌∷◌, ◌++◌, length, inl, inr, refl, ap, sym, ◌∙◌, arith, add-one}
+use Rattle.std.proofs.Common.{ℕ, zero, suc, ◌≡◌, ◌+◌, ◌*◌, ◌≤◌, ◌<◌, Bool, true, false, ◌&&◌, eqb, cond, List, [], ◌∷◌, ◌++◌, inl, inr, refl, ap, sym, ◌∙◌, arith}
 use Rattle.std.proofs.lemmas.Bool.{cases_Bool, cases_eq, eq-eqb, ne_eqb}
-use Rattle.std.proofs.lemmas.List.{length_push}
 use Rattle.std.specs.List.{filter}
-use Rattle.fx_rules.specs.Lists.{Each, total}
-use Rattle.fx_rules.specs.Lists.{below}
+use Rattle.fx_rules.specs.Lists.{Each, total, below}
 use Rattle.fx_rules.proofs.ListLemmas.{total-append, filter_cons_true, filter_cons_false}
 
 -- a number where a test holds
@@ -85,11 +83,17 @@ pick_below (suc n) v a within =
           omega arith
     ]
 
--- a sum over the numbers below n of what is at most m
-pub total_most_below : (f : ℕ → ℕ) (m n : ℕ) → ((k : ℕ) → k < n → f k ≤ m) → total f (below n) ≤ n * m
-total_most_below f m zero most = omega arith
-total_most_below f m (suc n) most =
-    let here : f n ≤ m = most n (omega arith) in
-    let rest : total f (below n) ≤ n * m = total_most_below f m n (λ k within. most k (omega arith)) in
-    let push : total f (below (suc n)) ≡ total f (below n) + f n = total_push f (below n) n in
-    omega arith
+-- a number that two others name is in one cell
+pub cells : (n c a b : ℕ) → a < n → b < n → total (λ i. total (λ j. when (eqb a i && eqb b j) c) (below n)) (below n) ≡ c
+cells n c a b p q =
+    let row : (i : ℕ) → total (λ j. when (eqb a i && eqb b j) c) (below n) ≡ when (eqb a i) c = λ i.
+    elim (cases_Bool (eqb a i)) [
+      | inl is ↦
+          total_agree (λ j. when (eqb a i && eqb b j) c) (λ j. when (eqb b j) c) (below n) (λ j. ap (λ t. when (t && eqb b j) c) is)
+          ∙ pick_below n b c q ∙ ap (λ t. when t c) (sym is)
+      | inr other ↦
+          total_agree (λ j. when (eqb a i && eqb b j) c) (λ _. 0) (below n) (λ j. ap (λ t. when (t && eqb b j) c) other)
+          ∙ total_zero (below n) ∙ ap (λ t. when t c) (sym other)
+    ] in
+    total_agree (λ i. total (λ j. when (eqb a i && eqb b j) c) (below n)) (λ i. when (eqb a i) c) (below n) row
+    ∙ pick_below n a c p

@@ -1,17 +1,20 @@
 -- The fills of a legal history fit, and so do those of its beginnings.
-use Rattle.std.proofs.Common.{ℕ, zero, suc, ◌<◌, ◌+◌, ◌≡◌, List, [], ◌∷◌, ◌++◌, ap, sym, subst, ◌∙◌, take, length, get_or}
+use Rattle.std.proofs.Common.{ℕ, zero, suc, ◌<◌, ◌+◌, ◌≡◌, List, [], ◌∷◌, ◌++◌, ap, sym, subst, ◌∙◌, take, length, get_or, arith}
 use Rattle.std.proofs.lemmas.List.{take_more}
 use Rattle.fx_rules.specs.declared.outcome.Entry.{Entry}
 use Rattle.fx_rules.specs.Session.{Header}
 use Rattle.fx_rules.specs.State.{State, opening}
 use Rattle.fx_rules.specs.History.{Steps, IsLegal, after_entry, state}
-use Rattle.fx_rules.proofs.Soundness.{legal-sound}
 use Rattle.fx_rules.proofs.Trading.{legal-trades}
+use Rattle.fx_rules.proofs.Traded.{traded-most}
 use Rattle.day_report.specs.inside.Trades.{AreTrades}
-use Rattle.day_report.proofs.LotsFit.{trades-fit}
 
 pub legal-fits : (h : Header) (entries : List Entry) → IsLegal h entries → AreTrades h (state h entries).fills
-legal-fits h entries legal = trades-fit h (state h entries) legal.session (legal-sound h entries legal) (legal-trades h entries legal)
+legal-fits h entries legal = record {
+  session = legal.session;
+  each = legal-trades h entries legal;
+  lots = omega (arith, traded-most h entries legal);
+}
 
 -- The beginnings of a legal history.
 

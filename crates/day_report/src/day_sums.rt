@@ -40,7 +40,8 @@ impl DaySums {
         })
     }
 
-    /// Follows the next entry of a legal history: the limit that it set, and then its fills. It takes no memory.
+    /// Follows the next entry of a legal history: the limit or the total that it set or the units that it gave back, and
+    /// then its fills. It takes no memory.
     pub fn follow(&mut self, session: &Session, entry: &Entry)
         requires next { (entries : List Entry) × IsLegal session.now (entries ++ entry.now ∷ []) × AreSumsOf session.now (state session.now entries) self.old }
         ensures follows { (entries : List Entry) → IsLegal session.now (entries ++ entry.now ∷ []) → AreSumsOf session.now (state session.now entries) self.old → AreSumsOf session.now (state session.now (entries ++ entry.now ∷ [])) self.new }

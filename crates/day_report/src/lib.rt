@@ -2,9 +2,8 @@
 //! currency by its fills.
 //!
 //! It comes from one walk along the history, which adds each fill to tables of sums. No sum is tested: that each fits
-//! follows from the limits. A lot uses at least one credit unit, and no two banks use more than the lesser of their
-//! limits, 10^15 at most; so all fills of a day together have fewer than 2^63 lots. The argument holds as long as use
-//! only rises.
+//! follows from the law that no more is traded than was sent. Each of at most 65 senders sends fewer than 2^32 commands of
+//! at most 10^6 lots; so all fills of a day together have fewer than 2^63 lots. A settlement changes nothing in that.
 #![tactic(auto)]
 
 mod amounts;

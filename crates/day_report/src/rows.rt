@@ -27,9 +27,9 @@ pub struct Use {
     pub limit_ab: Units,
     /// The limit that `b` sets on `a`.
     pub limit_ba: Units,
-    /// What the two have used by their fills with each other, at most either limit.
+    /// What the two have used by their fills with each other, less what was given back, at most either limit.
     pub used: Units,
-    /// The line between them: what the lesser limit leaves.
+    /// The line between them: what the lesser limit leaves, and no more than the total of either leaves.
     pub eff: Units,
 }
 

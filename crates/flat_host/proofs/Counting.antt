@@ -17,12 +17,7 @@ each-set (c ∷ counts) (suc i) n below all = (all.0, each-set counts i n below 
 -- one more command counted
 pub counted-state : (l : FlatState) (bank : ℕ) → IsFlatState l → get_or l.counts bank 0 < 2 ^ 32 - 1 → IsFlatState (record l { counts = set l.counts bank (get_or l.counts bank 0 + 1) })
 counted-state l bank is below = record {
-  limits_full = is.limits_full;
-  uses_full = is.uses_full;
-  within = is.within;
-  banks = is.banks;
   senders = omega (arith, is.senders, length-set l.counts bank (get_or l.counts bank 0 + 1));
-  counted = omega (arith, is.counted, length-set l.counts bank (get_or l.counts bank 0 + 1));
   counts = each-set l.counts bank (get_or l.counts bank 0 + 1) (omega (arith, below)) is.counts;
   pairs = is.pairs;
   weights = is.weights;

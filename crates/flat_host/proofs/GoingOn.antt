@@ -8,11 +8,11 @@ use Rattle.fx_rules.specs.Session.{Header}
 use Rattle.fx_rules.specs.State.{State, opening}
 use Rattle.fx_rules.specs.History.{IsStep, Steps, IsLegal, after_entry, after_all, state}
 use Rattle.fx_rules.specs.Sound.{IsSound}
+use Rattle.fx_rules.specs.Step.{IsCommand}
 use Rattle.fx_rules.specs.Market.{InSome, InEach, MaySend, MayAsk, HasSent, IsDepthOf, GoesOn, next_entry}
-use Rattle.fx_rules.proofs.Plain.{only_one, first-command}
 use Rattle.fx_rules.proofs.Soundness.{legal-sound, legal-push, after_all-push}
 use Rattle.fx_rules.proofs.Uncrossed.{legal-uncrossed}
-use Rattle.flat_host.proofs.Sendable.{sendable, sendable-of, pairs_of}
+use Rattle.flat_host.proofs.Sendable.{sendable, sendable-of, sender-place, pairs_of}
 use Rattle.flat_host.specs.FlatState.{FlatState, StandsFor}
 use Rattle.flat_host.specs.Steps.{IsCommandOf, StepsEach, KeepsLines, StaysUncrossed, FollowsOn, IsNextOf, ShowsEach, stands}
 use Rattle.flat_host.specs.inside.Steps.{FollowsEach}
@@ -26,7 +26,7 @@ goes-on old new bank command outcome count command_in steps h H legal stood =
     let both = steps h S legal.session sound stood in
     let counted : get_or old.counts bank 0 ≡ get_or S.counts bank 0 = ap (λ (cs : List ℕ). get_or cs bank 0) stood.counts in
     let step : IsStep h S e = record {
-      command = sendable h S old bank command stood command_in;
+      command = sendable h S old bank command legal.session sound stood command_in;
       number = refl;
       number_most = omega (arith, count, counted);
       outcome = both.0;
@@ -59,7 +59,7 @@ last h H e legal = (steps_last h (opening h) H e legal.steps).1
 
 -- what is known of an entry that comes next
 pub record IsDue (l : FlatState) (e : Entry) : Type 0 where
-  pub sender : e.bank < l.banks
+  pub sender : e.bank < length l.counts
   pub count : get_or l.counts e.bank 0 < 2 ^ 32 - 1
   pub command : IsCommandOf l e.bank e.command
   pub number : e.number ≡ get_or l.counts e.bank 0 + 1
@@ -71,11 +71,12 @@ due l e next =
     let S : State = state h H in
     let stands : StandsFor h S l = next.3 in
     let step : IsStep h S e = last h H e next.2 in
+    let of : IsCommandOf l e.bank e.command = sendable-of h S l e.bank e.command next.2.session (legal-sound h H (before h H e next.2)) stands step.command in
     let same : get_or l.counts e.bank 0 ≡ get_or S.counts e.bank 0 = ap (λ (cs : List ℕ). get_or cs e.bank 0) stands.counts in
     record {
-      sender = omega (arith, stands.banks, first-command h e.bank e.command (only_one h next.2.session) step.command);
+      sender = sender-place l e.bank e.command of;
       count = omega (arith, same, step.number, step.number_most);
-      command = sendable-of h S l e.bank e.command next.2.session stands step.command;
+      command = of;
       number = omega (arith, same, step.number);
     }
 
@@ -98,8 +99,10 @@ legal_taken h entries n legal = record { session = legal.session; steps = steps_
 -- What is asked of a market, and what it answers, in the words of the host.
 
 -- a command that may be sent in a state to which a legal history led
+pub legal-command : (h : Header) (H : List Entry) (l : FlatState) (bank : ℕ) (command : Command) → IsLegal h H → StandsFor h (state h H) l → IsCommand h bank command → IsCommandOf l bank command
+legal-command h H l bank command legal stood = sendable-of h (state h H) l bank command legal.session (legal-sound h H legal) stood
+
 pub record MayApply (l : FlatState) (bank : ℕ) (command : Command) : Type 0 where
-  pub sender : bank < l.banks
   pub count : get_or l.counts bank 0 < 2 ^ 32 - 1
   pub of : IsCommandOf l bank command
 
@@ -110,12 +113,11 @@ may-apply l bank command some =
     let stood : StandsFor h S l = some.3 in
     let may : MaySend bank command h S = some.4 in
     record {
-      sender = omega (arith, stood.banks, first-command h bank command (only_one h some.2.session) may.allowed);
       count = omega (arith, ap (λ (cs : List ℕ). get_or cs bank 0) stood.counts, may.number);
-      of = sendable-of h S l bank command some.2.session stood may.allowed;
+      of = legal-command h some.1 l bank command some.2 stood may.allowed;
     }
 
-pub may-ask : (l : FlatState) (bank pair : ℕ) → InSome (stands l) (MayAsk bank pair) → (bank < l.banks) × (pair < length l.weights)
+pub may-ask : (l : FlatState) (bank pair : ℕ) → InSome (stands l) (MayAsk bank pair) → (bank < l.credit.banks) × (pair < length l.weights)
 may-ask l bank pair some =
     let stood : StandsFor some.0 (state some.0 some.1) l = some.3 in
     let may : MayAsk bank pair some.0 (state some.0 some.1) = some.4 in

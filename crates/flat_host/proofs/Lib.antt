@@ -4,6 +4,8 @@ pub mod Walking
 pub mod Against
 pub mod Lowered
 pub mod Carrying
+pub mod Spending
+pub mod Within
 pub mod Tables
 pub mod Pairs
 pub mod Market
@@ -15,5 +17,5 @@ pub mod Pulling
 pub mod Sendable
 pub mod Stepping
 pub mod GoingOn
-pub mod Unsent
 pub mod Viewing
+pub mod Examples

@@ -1,17 +1,17 @@
 -- The flat state as a day opens.
-use Rattle.std.proofs.Common.{ℕ, zero, suc, ◌≡◌, ◌+◌, ◌*◌, ◌/◌, ◌%◌, ◌≤◌, ◌<◌, ◌^◌, min, max, List, [], ◌∷◌, ◌&&◌, ltb, refl, ap, sym, subst, ◌∙◌, arith, length, get_or, map, replicate}
+use Rattle.std.proofs.Common.{ℕ, zero, suc, ◌≡◌, ◌/◌, ◌%◌, ◌≤◌, ◌<◌, ◌^◌, List, [], ◌∷◌, ◌&&◌, ltb, refl, ap, sym, subst, ◌∙◌, arith, length, map, replicate}
 use Rattle.std.proofs.lemmas.Bool.{and_from, lt-ltb, cond-true}
 use Rattle.std.proofs.lemmas.List.{length-map, length-replicate}
 use Rattle.std.proofs.lemmas.List.Elements.{recursion_from_All}
 use Rattle.fx_rules.specs.declared.session.PairRule.{PairRule}
 use Rattle.fx_rules.specs.Lists.{Each, total}
-use Rattle.fx_rules.specs.Session.{Header, IsSession, IsPairRule, bank_count, opening_limit}
+use Rattle.fx_rules.specs.Session.{Header, IsSession, IsPairRule, bank_count, sender_places, opening_limit}
 use Rattle.fx_rules.specs.State.{opening}
-use Rattle.fx_rules.proofs.Plain.{only_one, first-places}
-use Rattle.fx_rules.proofs.Soundness.{opening-sound}
-use Rattle.flat_host.specs.FlatState.{FlatState, StandsFor, limit_place}
-use Rattle.flat_host.specs.inside.FlatState.{IsFlatState}
+use Rattle.fx_rules.proofs.Senders.{places-most}
+use Rattle.flat_host.specs.FlatState.{FlatCredit, FlatState, StandsFor, limit_place, use_place, use_in, others_of}
+use Rattle.flat_host.specs.inside.FlatState.{IsCredit, IsFlatState}
 use Rattle.flat_host.specs.inside.Opening.{limit_at, OpensWith}
+use Rattle.flat_host.proofs.Spending.{total_none}
 
 each_zero : (n : ℕ) → Each (λ count. count < 2 ^ 32) (replicate n 0)
 each_zero zero = tt
@@ -25,27 +25,31 @@ weights_in : (rules : List PairRule) → Each IsPairRule rules → Each (λ weig
 weights_in [] all = tt
 weights_in (rule ∷ rules) all = ((all.0.weight_least, all.0.weight_most), weights_in rules all.1)
 
+-- tables of credit as they open
+pub opening-credit : (h : Header) (credit : FlatCredit) → IsSession h → OpensWith h credit → length credit.limits ≡ 4225 → length credit.uses ≡ 4225 → length credit.totals ≡ 65 → IsCredit credit
+opening-credit h credit session opens limits_full uses_full totals_full = record {
+  limits_full = limits_full;
+  uses_full = uses_full;
+  totals_full = totals_full;
+  banks = omega (arith, opens.banks, session.banks_most);
+  within = record {
+    lines = λ i j _ _ _. omega (arith, opens.uses (use_place i j));
+    totals = λ bank most _ _. omega (arith, total_none (use_in credit.uses bank) (others_of credit.banks bank) (λ other. opens.uses (use_place bank other)));
+  };
+}
+
 -- a flat state as it opens
 pub record IsOpening (h : Header) (l : FlatState) : Type 0 where
   pub session : IsSession h
-  pub banks : l.banks ≡ bank_count h
   pub orders : l.orders ≡ []
-  pub limits_full : length l.limits ≡ 4225
-  pub limits : OpensWith h l.limits
-  pub uses_full : length l.uses ≡ 4225
-  pub uses : (place : ℕ) → get_or l.uses place 0 ≡ 0
-  pub counts : l.counts ≡ replicate (bank_count h) 0
+  pub credit : OpensWith h l.credit
+  pub counts : l.counts ≡ replicate (sender_places h) 0
   pub weights : l.weights ≡ map (λ rule. rule.weight) h.pairs
 
 pub opening-state : (h : Header) (l : FlatState) → IsOpening h l → IsFlatState l
 opening-state h l is = record {
-  limits_full = is.limits_full;
-  uses_full = is.uses_full;
-  within = λ i j _ _ _. omega (arith, is.uses (65 * min i j + max i j));
-  banks = omega (arith, is.banks, is.session.banks_most);
-  senders = omega (arith, ap length is.counts, length-replicate {A = ℕ} (bank_count h) 0, is.session.banks_most);
-  counted = omega (arith, is.banks, ap length is.counts, length-replicate {A = ℕ} (bank_count h) 0);
-  counts = subst (Each (λ count. count < 2 ^ 32)) (sym is.counts) (each_zero (bank_count h));
+  senders = omega (arith, ap length is.counts, length-replicate {A = ℕ} (sender_places h) 0, places-most h is.session);
+  counts = subst (Each (λ count. count < 2 ^ 32)) (sym is.counts) (each_zero (sender_places h));
   pairs = omega (arith, ap length is.weights, length-map h.pairs (λ (rule : PairRule). rule.weight), is.session.pairs_most);
   weights = subst (Each (λ weight. (1 ≤ weight) × (weight ≤ 10 ^ 6))) (sym is.weights)
       (weights_in h.pairs (recursion_from_All IsPairRule h.pairs is.session.rules));
@@ -62,11 +66,11 @@ limit_at-place h i j i_in j_in most =
 
 pub opening-stands : (h : Header) (l : FlatState) → IsOpening h l → StandsFor h (opening h) l
 opening-stands h l is = record {
-  banks = is.banks;
+  banks = is.credit.banks;
   orders = is.orders;
-  counts = is.counts ∙ ap (λ n. replicate n 0) (sym (first-places h (only_one h is.session)));
+  counts = is.counts;
   weights = is.weights;
-  limits = λ i j i_in j_in _. is.limits (limit_place i j) (omega (arith, is.session.banks_most)) ∙ limit_at-place h i j i_in j_in is.session.banks_most;
-  uses = λ i j _ _ _. is.uses (65 * min i j + max i j);
-  plain = (opening-sound h is.session).plain (only_one h is.session);
+  limits = λ i j i_in j_in _. is.credit.limits (limit_place i j) (omega (arith, is.session.banks_most)) ∙ limit_at-place h i j i_in j_in is.session.banks_most;
+  uses = λ i j _ _ _. is.credit.uses (use_place i j);
+  totals = λ bank bank_in. is.credit.totals bank (omega (arith, bank_in, is.session.banks_most));
 }

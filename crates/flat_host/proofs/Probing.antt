@@ -13,8 +13,8 @@ use Rattle.fx_rules.specs.Sweep.{Taker, less, is_opposite}
 use Rattle.fx_rules.specs.Plan.{Planned, spend}
 use Rattle.fx_rules.specs.Depth.{any_price, unlimited, with_fill, levels_of, Shows}
 use Rattle.fx_rules.specs.Sound.{IsSound}
-use Rattle.flat_host.specs.FlatState.{FlatState, StandsFor}
-use Rattle.flat_host.specs.Parts.{PlannedOver}
+use Rattle.flat_host.specs.FlatState.{FlatState, room_in, StandsFor}
+use Rattle.flat_host.specs.Parts.{PlannedBy, affordable}
 use Rattle.flat_host.specs.inside.Levels.{unlimited_in, ProbedIn}
 use Rattle.flat_host.proofs.Tables.{tables_of}
 use Rattle.flat_host.proofs.Market.{swept-planned}
@@ -62,16 +62,19 @@ shows-probed h S l bank pair side levels session sound stands bank_in pair_in pr
     let left : ℕ = probed.1 in
     let taker : unlimited_in l bank pair side ≡ over bank pair side S.orders S.counts =
     ap (λ (os : List ActiveOrder). over bank pair side os l.counts) stands.orders ∙ ap (over bank pair side S.orders) stands.counts in
-    let here : PlannedOver l.weights l.limits l.uses (orders_in pair S.orders) (over bank pair side S.orders S.counts) fills left =
-    subst (λ (t : Taker). PlannedOver l.weights l.limits l.uses (orders_in pair S.orders) t fills left) taker
-    (subst (λ (os : List ActiveOrder). PlannedOver l.weights l.limits l.uses (orders_in pair os) (unlimited_in l bank pair side) fills left) stands.orders probed.2) in
-    let planned : PlannedOver l.weights l.limits l.uses (orders_in pair S.orders) (unlimited S bank pair side) (map (renumbered number) fills) left = record {
+    let here : PlannedBy (get_or l.weights pair 0) l.credit (orders_in pair S.orders) (over bank pair side S.orders S.counts) fills left =
+    subst (λ (t : Taker). PlannedBy (get_or l.weights pair 0) l.credit (orders_in pair S.orders) t fills left) taker
+    (subst (λ (os : List ActiveOrder). PlannedBy (get_or l.weights pair 0) l.credit (orders_in pair os) (unlimited_in l bank pair side) fills left) stands.orders probed.2) in
+    let planned : PlannedBy (get_or l.weights pair 0) l.credit (orders_in pair S.orders) (unlimited S bank pair side) (map (renumbered number) fills) left = record {
       lines = here.lines;
       lines_are = here.lines_are;
-      planned = planned-renumbered number (get_or l.weights pair 0) here.lines (orders_in pair S.orders) (over bank pair side S.orders S.counts) None fills left here.planned;
+      rest = here.rest;
+      sum = here.sum;
+      planned = planned-renumbered number (get_or l.weights pair 0) here.lines (orders_in pair S.orders)
+          (affordable (room_in l.credit bank) (get_or l.weights pair 0) (over bank pair side S.orders S.counts)) None fills here.rest here.planned;
     } in (
       map (renumbered number) fills,
       left,
-      swept-planned h S l.weights l.limits l.uses (unlimited S bank pair side) (map (renumbered number) fills) left session sound (tables_of h S l stands) bank_in pair_in planned,
+      swept-planned h S l.weights l.credit (unlimited S bank pair side) (map (renumbered number) fills) left session sound (tables_of h S l stands) bank_in pair_in planned,
       probed.3 ∙ ap (take 10) (sym (levels_of-renumbered number fills)),
     )

@@ -1,5 +1,6 @@
--- What a bank may send in the session of the host.
-use Rattle.std.proofs.Common.{ℕ, ◌≡◌, ◌<◌, inl, sym, subst, ap, ◌∙◌, arith, length, map}
+-- What a sender may send in the session of the host.
+use Rattle.std.proofs.Common.{ℕ, ◌≡◌, ◌+◌, ◌<◌, eqb, List, inl, inr, sym, subst, ap, ◌∙◌, arith, length, map}
+use Rattle.std.proofs.lemmas.Bool.{cases_eq, cond-true, cond-false, eq-eqb, ne_eqb}
 use Rattle.std.proofs.lemmas.List.{length-map}
 use Rattle.fx_amounts.specs.declared.side.Side.{Side}
 use Rattle.fx_rules.specs.declared.command.Command.{Command}
@@ -7,20 +8,39 @@ use Rattle.fx_rules.specs.declared.command.Command.TheVariants.{Order, Cancel, R
 use Rattle.fx_rules.specs.declared.command.Life.{Life}
 use Rattle.fx_rules.specs.declared.session.PairRule.{PairRule}
 use Rattle.fx_rules.specs.declared.command.Reject.TheVariants.{Units}
-use Rattle.fx_rules.specs.Session.{Header, IsSession, bank_count, pair_count}
+use Rattle.fx_rules.specs.Session.{Header, IsSession, IsSender, bank_count, host, pair_count, sender_places}
 use Rattle.fx_rules.specs.State.{State}
-use Rattle.fx_rules.proofs.Plain.{only_one, first-sender, no_total, no_settlement, no_units_fault}
+use Rattle.fx_rules.specs.Sound.{IsSound}
+use Rattle.fx_rules.proofs.Senders.{command-place}
 use Rattle.fx_rules.specs.Step.{IsCommand, Suits, AreValues}
 use Rattle.flat_host.specs.FlatState.{FlatState, StandsFor}
 use Rattle.flat_host.specs.Steps.{IsCommandOf}
 
--- what may be sent rests on the session's banks and pairs, in version 1
-same-suits : (h g : Header) (bank : ℕ) (command : Command) → h.version ≡ 1 → bank_count h ≡ bank_count g → IsCommand h bank command → Suits g bank command
-same-suits h g bank (Total limit) first banks is = absurd (no_total h bank limit first is)
-same-suits h g bank (Settle a b units) first banks is = absurd (no_settlement h bank a b units first is)
-same-suits h g bank (Bad Units) first banks is = absurd (no_units_fault h bank first is)
-same-suits h g bank (Bad reason) first banks is = inl (omega (arith, banks, first-sender h bank first is.sends))
-same-suits h g bank command first banks is = omega (arith, banks, is.sends)
+-- what may be sent rests on how many banks, senders and pairs the session has; where two have as many senders' places, both are of
+-- version 2 or neither is
+two-same : (h g : Header) → IsSession g → sender_places h ≡ sender_places g → h.version ≡ 2 → g.version ≡ 2
+two-same h g session places second =
+    elim (cases_eq g.version 2) [
+      | inl same ↦ same
+      | inr other ↦ absurd (omega (
+        arith,
+        places,
+        session.banks_most,
+        cond-true (eqb h.version 2) (host + 1) (bank_count h) (eq-eqb h.version 2 second),
+        cond-false (eqb g.version 2) (host + 1) (bank_count g) (ne_eqb g.version 2 other),
+      ))
+    ]
+
+same-sender : (h g : Header) (sender : ℕ) → IsSession g → bank_count h ≡ bank_count g → sender_places h ≡ sender_places g → IsSender h sender → IsSender g sender
+same-sender h g sender session banks places (inl bank) = inl (omega (arith, banks, bank))
+same-sender h g sender session banks places (inr operator) = inr (two-same h g session places operator.0, operator.1)
+
+same-suits : (h g : Header) (sender : ℕ) (command : Command) → IsSession g → bank_count h ≡ bank_count g → sender_places h ≡ sender_places g → Suits h sender command → Suits g sender command
+same-suits h g sender (Total limit) session banks places is = (two-same h g session places is.0, omega (arith, banks, is.1))
+same-suits h g sender (Settle a b units) session banks places is = (two-same h g session places is.0, is.1)
+same-suits h g sender (Bad Units) session banks places is = (two-same h g session places is.0, is.1)
+same-suits h g sender (Bad reason) session banks places is = same-sender h g sender session banks places is
+same-suits h g sender command session banks places is = omega (arith, banks, is)
 
 same-values : (h g : Header) (bank : ℕ) (command : Command) → bank_count h ≡ bank_count g → pair_count h ≡ pair_count g → AreValues h bank command → AreValues g bank command
 same-values h g bank (Order side pair price lots life) banks pairs is = (omega (arith, pairs, is.0), is.1, is.2)
@@ -34,31 +54,40 @@ same-values h g bank (Show other) banks pairs is = (omega (arith, banks, is.0), 
 same-values h g bank (Book pair) banks pairs is = omega (arith, pairs, is)
 same-values h g bank (Bad reason) banks pairs is = is
 
-same-session : (h g : Header) (bank : ℕ) (command : Command) → h.version ≡ 1 → bank_count h ≡ bank_count g → pair_count h ≡ pair_count g → IsCommand h bank command → IsCommand g bank command
-same-session h g bank command first banks pairs is = record {
-  sends = same-suits h g bank command first banks is;
-  values = same-values h g bank command banks pairs is.values;
+same-session : (h g : Header) (sender : ℕ) (command : Command) → IsSession g → bank_count h ≡ bank_count g → sender_places h ≡ sender_places g → pair_count h ≡ pair_count g → IsCommand h sender command → IsCommand g sender command
+same-session h g sender command session banks places pairs is = record {
+  sends = same-suits h g sender command session banks places is.sends;
+  values = same-values h g sender command banks pairs is.values;
 }
 
 pub pairs_of : (h : Header) (l : FlatState) → l.weights ≡ map (λ rule. rule.weight) h.pairs → length l.weights ≡ pair_count h
 pairs_of h l weights = ap length weights ∙ length-map h.pairs (λ (rule : PairRule). rule.weight)
 
+-- there is a place for each sender of a sound state
+pub places_of : (h : Header) (S : State) (l : FlatState) → IsSound h S → StandsFor h S l → length l.counts ≡ sender_places h
+places_of h S l sound stands = ap (λ (cs : List ℕ). length cs) stands.counts ∙ sound.counts
+
 -- in the session of each state that the host stands for
-pub sendable : (h : Header) (S : State) (l : FlatState) (bank : ℕ) (command : Command) → StandsFor h S l → IsCommandOf l bank command → IsCommand h bank command
-sendable h S l bank command stands of =
-    same-session of.session h bank command (only_one of.session of.valid) (sym of.banks ∙ stands.banks) (sym (pairs_of of.session l of.weights) ∙ pairs_of h l stands.weights) of.may_send
+pub sendable : (h : Header) (S : State) (l : FlatState) (bank : ℕ) (command : Command) → IsSession h → IsSound h S → StandsFor h S l → IsCommandOf l bank command → IsCommand h bank command
+sendable h S l bank command session sound stands of =
+    same-session of.session h bank command session (sym of.banks ∙ stands.banks) (sym of.senders ∙ places_of h S l sound stands)
+    (sym (pairs_of of.session l of.weights) ∙ pairs_of h l stands.weights) of.may_send
 
-pub sendable-of : (h : Header) (S : State) (l : FlatState) (bank : ℕ) (command : Command) → IsSession h → StandsFor h S l → IsCommand h bank command → IsCommandOf l bank command
-sendable-of h S l bank command session stands is = record { session = h; banks = stands.banks; weights = stands.weights; valid = session; may_send = is }
+pub sendable-of : (h : Header) (S : State) (l : FlatState) (bank : ℕ) (command : Command) → IsSession h → IsSound h S → StandsFor h S l → IsCommand h bank command → IsCommandOf l bank command
+sendable-of h S l bank command session sound stands is = record {
+  session = h;
+  banks = stands.banks;
+  senders = places_of h S l sound stands;
+  weights = stands.weights;
+  valid = session;
+  may_send = is;
+}
 
--- no bank asks for a total, and nobody for a settlement, while there is one version
-pub none-total : (l : FlatState) (bank : ℕ) (command : Command) (limit : ℕ) → IsCommandOf l bank command → command ≡ Total limit → ⊥
-none-total l bank command limit of is = no_total of.session bank limit (only_one of.session of.valid) (subst (IsCommand of.session bank) is of.may_send)
+-- the sender has a place
+pub sender-place : (l : FlatState) (bank : ℕ) (command : Command) → IsCommandOf l bank command → bank < length l.counts
+sender-place l bank command of = omega (arith, of.senders, command-place of.session bank command of.valid of.may_send)
 
-pub none-settle : (l : FlatState) (bank : ℕ) (command : Command) (a b units : ℕ) → IsCommandOf l bank command → command ≡ Settle a b units → ⊥
-none-settle l bank command a b units of is = no_settlement of.session bank a b units (only_one of.session of.valid) (subst (IsCommand of.session bank) is of.may_send)
-
--- a command's pair and its other bank are the host's
+-- a command's bank and its pair are the host's
 pub order-pair : (l : FlatState) (bank : ℕ) (command : Command) (side : Side) (pair price lots : ℕ) (life : Life) → IsCommandOf l bank command → command ≡ Order side pair price lots life → pair < length l.weights
 order-pair l bank command side pair price lots life of is =
     let sent : IsCommand of.session bank (Order side pair price lots life) = subst (IsCommand of.session bank) is of.may_send in
@@ -69,7 +98,7 @@ book-pair l bank command pair of is =
     let sent : IsCommand of.session bank (Book pair) = subst (IsCommand of.session bank) is of.may_send in
     omega (arith, pairs_of of.session l of.weights, sent.values)
 
-pub line-other : (l : FlatState) (bank : ℕ) (command : Command) (other limit : ℕ) → IsCommandOf l bank command → command ≡ Line other limit → other < l.banks
-line-other l bank command other limit of is =
-    let sent : IsCommand of.session bank (Line other limit) = subst (IsCommand of.session bank) is of.may_send in
-    omega (arith, of.banks, sent.values.0)
+pub book-bank : (l : FlatState) (bank : ℕ) (command : Command) (pair : ℕ) → IsCommandOf l bank command → command ≡ Book pair → bank < l.credit.banks
+book-bank l bank command pair of is =
+    let sent : IsCommand of.session bank (Book pair) = subst (IsCommand of.session bank) is of.may_send in
+    omega (arith, of.banks, sent.sends)

@@ -1,10 +1,10 @@
 -- What a call of the plain host does to each state that the host stands for.
-use Rattle.std.specs.Prelude.{ℕ, ◌≡◌, List, [], ◌∷◌, ◌++◌, map}
+use Rattle.std.specs.Prelude.{ℕ, ◌≡◌, List, [], ◌∷◌, ◌++◌, length, map}
 use Rattle.fx_rules.specs.declared.command.Command.{Command}
 use Rattle.fx_rules.specs.declared.outcome.Outcome.{Outcome}
 use Rattle.fx_rules.specs.declared.outcome.Outcome.TheVariants.{Depth}
 use Rattle.fx_rules.specs.declared.outcome.Entry.{Entry}
-use Rattle.fx_rules.specs.Session.{Header, IsSession, bank_count}
+use Rattle.fx_rules.specs.Session.{Header, IsSession, bank_count, sender_places}
 use Rattle.fx_rules.specs.State.{State, Within}
 use Rattle.fx_rules.specs.NoCross.{NoCross}
 use Rattle.fx_rules.specs.Depth.{IsDepth}
@@ -14,10 +14,11 @@ use Rattle.fx_rules.specs.Sound.{IsSound}
 use Rattle.fx_rules.specs.Market.{next_entry}
 use Rattle.flat_host.specs.FlatState.{FlatState, StandsFor}
 
--- the command is one that a bank may send in a valid session of the host's banks and weights
+-- the command is one that a sender may send in a valid session of the host's banks, senders and weights
 pub record IsCommandOf (l : FlatState) (bank : ℕ) (command : Command) : Type 0 where
   pub session : Header
-  pub banks : l.banks ≡ bank_count session
+  pub banks : l.credit.banks ≡ bank_count session
+  pub senders : length l.counts ≡ sender_places session
   pub weights : l.weights ≡ map (λ rule. rule.weight) session.pairs
   pub valid : IsSession session
   pub may_send : IsCommand session bank command

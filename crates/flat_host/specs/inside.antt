@@ -1,3 +1,4 @@
+pub mod Credit
 pub mod FlatState
 pub mod Host
 pub mod Levels

@@ -1,16 +1,15 @@
 ghost use Rattle.std.specs.Prelude.{ℕ, ◌≡◌, ◌≢◌, ◌<◌, ◌≤◌, ◌+◌, ◌-◌, ◌*◌, ◌^◌, [], length, slice_index, slice_set, OnOk, OnErr, IfOk, map, replicate, vec_len, max, min, take, filter, ◌==◌};
 ghost use Rattle.fx_rules.specs.Lists.{total};
-ghost use Rattle.fx_rules.specs.Session.{IsSession, bank_count};
+ghost use Rattle.fx_rules.specs.Session.{IsSession, bank_count, sender_places};
 ghost use Rattle.fx_rules.specs.State.{opening, orders_in};
 ghost use Rattle.fx_rules.specs.Step.{without_orders};
 ghost use Rattle.fx_rules.specs.History.{IsLegal, state};
 ghost use Rattle.fx_rules.specs.Market.{GoesOn};
-ghost use Rattle.flat_host.specs.FlatState.{FlatState, IsWithin, StandsFor, limit_in, use_in, line_in};
-ghost use Rattle.flat_host.specs.inside.FlatState.{IsFlatState};
+ghost use Rattle.flat_host.specs.FlatState.{FlatState, StandsFor};
+ghost use Rattle.flat_host.specs.inside.FlatState.{IsFlatState, IsCredit};
 ghost use Rattle.flat_host.specs.inside.Parts.{taker_from, PlannedIn, OrderedIn, order_carried, filled_in, counted_in, cancelled_in, reduced_in, shown_in};
-ghost use Rattle.flat_host.specs.inside.Turns.{LineSetIn, limited_in, raised_in};
+ghost use Rattle.flat_host.specs.inside.Turns.{LineSetIn, TotalSetIn, SettledIn, line_raised_in, total_raised_in, settled_raised_in};
 ghost use Rattle.flat_host.specs.inside.Levels.{ProbedIn};
-ghost use Rattle.flat_host.specs.inside.Opening.{OpensWith, limit_at};
 ghost use Rattle.flat_host.specs.Steps.{IsCommandOf, AnswersEach, StepsEach, KeepsLines, StaysUncrossed, ShowsEach, IsNextOf, FollowsOn, stands};
 ghost use Rattle.flat_host.specs.inside.Steps.{ChangesEach, FollowsEach};
 ghost use Rattle.flat_host.specs.Views.{TellsByView, FillsByView, ShowsByView, ShowsTruly};
@@ -19,10 +18,10 @@ use crate::changes::{
     cancel_answer, count_of, is_done, leave_lots, order_of, reduce_answer, rests_of, take_out,
     take_out_all,
 };
-use crate::credit::{limit_place, line, lines_of, make_fills, use_place};
+use crate::credit::{Credit, affordable, lines_of, make_fills};
 use crate::depth::{first_levels, lots_against};
-use crate::raise::{Terms, raised_fills};
-use crate::sweep::{Sweep, plan_sweep};
+use crate::raise::raised_fills;
+use crate::sweep::{Sweep, paid_sweep};
 use fx_amounts::{BankId, Lots, Memory, PairId, Price, Side, Units};
 use fx_rules::{
     ActiveOrder, Command, Entry, Fill, LevelList, Life, Outcome, PairRule, Plan, Session,
@@ -32,17 +31,14 @@ use std::alloc::Global;
 use std::marker::Model;
 
 /// The market on one thread, over one flat list of resting orders. Contracts see it as its flat state: it stands for each
-/// state of the market that has these orders, limits, uses and counts.
+/// state of the market that has these orders, limits, totals, uses and counts.
 #[derive(Drop)]
 pub struct FlatHost {
-    banks: usize,
     /// In arrival order.
     orders: Vec<ActiveOrder>,
-    /// By two banks, in rows of 65.
-    limits: Vec<Units>,
-    /// By two banks, the lesser number first, in rows of 65.
-    uses: Vec<Units>,
-    /// The commands of each sender.
+    /// What the banks can trade on.
+    credit: Credit,
+    /// The commands of each sender, at its number.
     counts: Vec<u32>,
     /// All of them: the arrival of the next.
     arrivals: u64,
@@ -62,42 +58,16 @@ impl Model for FlatHost {
     ghost invariant = { IsHost };
 }
 
-/// The limits that the banks open with, in rows of 65.
-fn opening_limits(alloc: Global, session: &Session) -> Result<Vec<Units>, Memory>
-    ensures full { IfOk result (λ limits. vec_len limits ≡ 4225) }
-    ensures limits { IfOk result (λ limits. OpensWith session.now limits.items) }
-{
-    let mut limits = Vec::new(alloc);
-    for place in 0..4225u32 {
-        limits.push(opening_limit_at(session, place))?;
-    }
-    Ok(limits)
-}
-
-/// A table in which nothing is used.
-fn no_uses(alloc: Global) -> Result<Vec<Units>, Memory>
-    ensures full { IfOk result (λ uses. vec_len uses ≡ 4225) }
-    ensures uses { IfOk result (λ uses. (place : ℕ) → slice_index uses.items place ≡ 0) }
-{
-    let mut uses = Vec::new(alloc);
-    for _place in 0..4225u32 {
-        uses.push(Units::new(0).unwrap())?;
-    }
-    Ok(uses)
-}
-
-/// The limit that stands at a place of the table; 0 where no two banks of the session have it.
-fn opening_limit_at(session: &Session, place: u32) -> Units
-    requires { place < 4225 }
-    ensures value { result ≡ limit_at session.now place }
+/// How many places a table of senders has.
+fn places_of(session: &Session) -> usize
+    ensures value { result ≡ sender_places session.now }
+    ensures valid { IsSession session.now }
 {
     let banks = session.banks().len();
-    let i = BankId::at((place / 65) as usize);
-    let j = BankId::at((place % 65) as usize);
-    if i.index() < banks && j.index() < banks {
-        session.limit(i, j)
+    if session.version() == 2 {
+        BankId::SENDERS
     } else {
-        Units::new(0).unwrap()
+        banks
     }
 }
 
@@ -113,30 +83,27 @@ fn weights_of(alloc: Global, pairs: &[PairRule]) -> Result<Vec<u32>, Memory>
 }
 
 impl FlatHost {
-    /// The host as a session's day opens: no orders rest, nothing is used, and the limits are the opening ones.
+    /// The host as a session's day opens: no orders rest, nothing is used, and the limits and totals are the opening ones.
     pub fn open(alloc: Global, session: &Session) -> Result<FlatHost, Memory>
         ensures opens { IfOk result (StandsFor session.now (opening session.now)) }
-        ensures banks { IfOk result (λ host. host.banks ≡ bank_count session.now) }
-        ensures counts { IfOk result (λ host. host.counts ≡ replicate (bank_count session.now) 0) }
+        ensures banks { IfOk result (λ host. host.credit.banks ≡ bank_count session.now) }
+        ensures counts { IfOk result (λ host. host.counts ≡ replicate (sender_places session.now) 0) }
         ensures weights { IfOk result (λ host. host.weights ≡ map (λ rule. rule.weight) session.now.pairs) }
     {
-        let banks = session.banks().len();
+        let places = places_of(session);
         Ok(FlatHost {
-            banks,
             orders: Vec::new(alloc),
-            limits: opening_limits(alloc, session)?,
-            uses: no_uses(alloc)?,
-            counts: vec![in alloc; 0; banks]?,
+            credit: Credit::open(alloc, session)?,
+            counts: vec![in alloc; 0; places]?,
             arrivals: 0,
             weights: weights_of(alloc, session.pairs())?,
         })
     }
 
-    /// Carries out a bank's next command.
+    /// Carries out a sender's next command.
     ///
     /// The answer is the market's, in each state that the host stands for. After `Memory` the host is as it was.
     pub fn apply(&mut self, bank: BankId, command: &Command) -> Result<Outcome, Memory>
-        requires sender { bank < self.old.banks }
         requires count { slice_index self.old.counts bank < 2 ^ 32 - 1 }
         requires command { IsCommandOf self.old bank command.now }
         ensures steps { IfOk result (StepsEach self.old self.new bank command.now) }
@@ -151,7 +118,7 @@ impl FlatHost {
         ensures fills { IfOk result (FillsByView self.old bank command.now) }
 
         ensures counts { OnOk result (self.new.counts ≡ slice_set self.old.counts bank (slice_index self.old.counts bank + 1)) }
-        ensures banks { OnOk result (self.new.banks ≡ self.old.banks) }
+        ensures banks { OnOk result (self.new.credit.banks ≡ self.old.credit.banks) }
         ensures weights { OnOk result (self.new.weights ≡ self.old.weights) }
         ensures memory { OnErr result (self.new ≡ self.old) }
     {
@@ -160,9 +127,8 @@ impl FlatHost {
         Ok(outcome)
     }
 
-    /// What `apply` would answer to a bank's next command; nothing changes.
+    /// What `apply` would answer to a sender's next command; nothing changes.
     pub fn answer(&self, bank: BankId, command: &Command) -> Result<Outcome, Memory>
-        requires sender { bank < self.now.banks }
         requires count { slice_index self.now.counts bank < 2 ^ 32 - 1 }
         requires command { IsCommandOf self.now bank command.now }
         ensures answers { IfOk result (AnswersEach self.now bank command.now) }
@@ -173,9 +139,8 @@ impl FlatHost {
         Ok(outcome)
     }
 
-    /// The market's answer to a bank's next command.
+    /// The market's answer to a sender's next command.
     fn find_answer(&self, bank: BankId, command: &Command) -> Result<Outcome, Memory>
-        requires sender { bank < self.now.banks }
         requires count { slice_index self.now.counts bank < 2 ^ 32 - 1 }
         requires command { IsCommandOf self.now bank command.now }
         ensures answers { IfOk result (AnswersEach self.now bank command.now) }
@@ -202,7 +167,8 @@ impl FlatHost {
                 count: count_of(&self.orders, pair, bank),
             }),
             Command::Line { bank: other, limit } => self.line_set(bank, other, limit),
-            Command::Total { .. } | Command::Settle { .. } => unreachable!(),
+            Command::Total { limit } => self.total_set(bank, limit),
+            Command::Settle { a, b, units } => self.settled(a, b, units),
             Command::Show { bank: other } => Ok(self.shown(bank, other)),
             Command::Book { pair } => self.depth(bank, pair),
             Command::Bad { reason } => Ok(Outcome::Rejected { reason }),
@@ -212,7 +178,7 @@ impl FlatHost {
     /// The bank's local book of the pair: what it could take now, by price. It is truthful, and rests on what the bank sees
     /// alone.
     pub fn depth(&self, bank: BankId, pair: PairId) -> Result<Outcome, Memory>
-        requires bank { bank < self.now.banks }
+        requires bank { bank < self.now.credit.banks }
         requires pair { pair < length self.now.weights }
         ensures shows { IfOk result (ShowsEach self.now bank pair) }
         ensures view { IfOk result (ShowsByView self.now bank pair) }
@@ -238,11 +204,12 @@ impl FlatHost {
             arrival: self.arrivals,
         };
         let weight = self.weights[pair.index()];
-        let lines = lines_of(&self.limits, &self.uses, bank);
+        let lesser = affordable(self.credit.room(bank), weight, &unlimited);
+        let lines = lines_of(&self.credit, bank);
         first_levels(
             *self.orders.allocator(),
             &self.orders,
-            &unlimited,
+            &lesser,
             lines,
             weight,
         )
@@ -257,7 +224,7 @@ impl FlatHost {
         price: Price,
         lots: Lots,
     ) -> SweptOrder
-        requires sender { bank < self.now.banks }
+        requires sender { bank < length self.now.counts }
         requires count { slice_index self.now.counts bank < 2 ^ 32 - 1 }
         ensures taker { result ≡ taker_from self.now bank side pair price lots }
     {
@@ -310,53 +277,65 @@ impl FlatHost {
     fn sweep(&self, incoming: &SweptOrder) -> Result<Sweep, Memory>
         requires pair { incoming.now.pair < length self.now.weights }
         ensures planned { IfOk result (λ sweep. PlannedIn self.now incoming.now sweep.fills sweep.left) }
-        ensures lots { IfOk result (λ sweep. total (λ fill. fill.lots) sweep.fills ≤ 65 * 10 ^ 15) }
         ensures left { IfOk result (λ sweep. sweep.left ≤ incoming.now.left) }
     {
         let weight = self.weights[incoming.pair.index()];
-        let lines = lines_of(&self.limits, &self.uses, incoming.bank);
-        plan_sweep(
+        paid_sweep(
             *self.orders.allocator(),
             &self.orders,
             incoming,
-            lines,
+            &self.credit,
             weight,
         )
     }
 
-    /// The limit that a bank which asks for one gets on another: never below what the two have used.
-    fn limit_for(&self, bank: BankId, other: BankId, asked: Units) -> Units
-        ensures value { result ≡ max asked (use_in self.now.uses bank other) }
-    {
-        asked.max(self.uses[use_place(bank, other)])
-    }
-
     /// What a bank's asking for a limit answers.
     fn line_set(&self, bank: BankId, other: BankId, asked: Units) -> Result<Outcome, Memory>
-        requires bank { bank < 65 }
-        requires other { other < 65 }
         ensures set { IfOk result (LineSetIn self.now bank other asked) }
+        ensures valid { IsCredit self.now.credit }
     {
         let alloc = *self.orders.allocator();
-        let limit = self.limit_for(bank, other, asked);
-        let mut limits = Vec::from_slice(alloc, &self.limits)?;
-        limits[limit_place(bank, other)] = limit;
-        let terms = Terms {
-            limits: &limits,
-            weights: &self.weights,
-        };
-        let fills = raised_fills(alloc, &self.orders, terms, &self.uses)?;
+        self.credit.told();
+        let mut credit = self.credit.copy(alloc)?;
+        let limit = credit.set_limit(bank, other, asked);
+        let fills = raised_fills(alloc, &self.orders, &mut credit, &self.weights)?;
         Ok(Outcome::LineSet { limit, fills })
+    }
+
+    /// What a bank's asking for a total answers.
+    fn total_set(&self, bank: BankId, asked: Units) -> Result<Outcome, Memory>
+        ensures set { IfOk result (TotalSetIn self.now bank asked) }
+        ensures valid { IsCredit self.now.credit }
+    {
+        let alloc = *self.orders.allocator();
+        self.credit.told();
+        let mut credit = self.credit.copy(alloc)?;
+        let limit = credit.set_total(bank, asked);
+        let fills = raised_fills(alloc, &self.orders, &mut credit, &self.weights)?;
+        Ok(Outcome::TotalSet { limit, fills })
+    }
+
+    /// What a settlement between two banks answers.
+    fn settled(&self, a: BankId, b: BankId, asked: Units) -> Result<Outcome, Memory>
+        ensures settled { IfOk result (SettledIn self.now a b asked) }
+        ensures valid { IsCredit self.now.credit }
+    {
+        let alloc = *self.orders.allocator();
+        self.credit.told();
+        let mut credit = self.credit.copy(alloc)?;
+        let given = credit.give_back(a, b, asked);
+        let fills = raised_fills(alloc, &self.orders, &mut credit, &self.weights)?;
+        Ok(Outcome::Settled { given, fills })
     }
 
     /// The line of a bank with another.
     fn shown(&self, bank: BankId, other: BankId) -> Outcome
         ensures shown { result ≡ shown_in self.now bank other }
     {
-        let eff = line(&self.limits, &self.uses, bank, other);
+        let eff = self.credit.line(bank, other);
         Outcome::Shown {
-            limit: self.limits[limit_place(bank, other)],
-            used: self.uses[use_place(bank, other)],
+            limit: self.credit.limit(bank, other),
+            used: self.credit.used(bank, other),
             eff: Units::new(eff).unwrap(),
         }
     }
@@ -368,7 +347,7 @@ impl FlatHost {
         requires next { IsNextOf self.old entry.now }
         ensures follows { OnOk result (FollowsOn self.old self.new entry.now) }
         ensures counts { OnOk result (self.new.counts ≡ slice_set self.old.counts entry.now.bank entry.now.number) }
-        ensures banks { OnOk result (self.new.banks ≡ self.old.banks) }
+        ensures banks { OnOk result (self.new.credit.banks ≡ self.old.credit.banks) }
         ensures weights { OnOk result (self.new.weights ≡ self.old.weights) }
         ensures memory { OnErr result (self.new ≡ self.old) }
     {
@@ -399,12 +378,12 @@ impl FlatHost {
         command: &Command,
         outcome: &Outcome,
     ) -> Result<(), Memory>
-        requires sender { bank < self.old.banks }
+        requires sender { bank < length self.old.counts }
         requires count { slice_index self.old.counts bank < 2 ^ 32 - 1 }
         requires command { IsCommandOf self.old bank command.now }
         ensures follows { OnOk result (FollowsEach self.old self.new bank command.now outcome.now) }
         ensures counts { OnOk result (self.new.counts ≡ slice_set self.old.counts bank (slice_index self.old.counts bank + 1)) }
-        ensures banks { OnOk result (self.new.banks ≡ self.old.banks) }
+        ensures banks { OnOk result (self.new.credit.banks ≡ self.old.credit.banks) }
         ensures weights { OnOk result (self.new.weights ≡ self.old.weights) }
         ensures memory { OnErr result (self.new ≡ self.old) }
     {
@@ -415,12 +394,12 @@ impl FlatHost {
 
     /// Makes what came of a command, which is not counted yet.
     fn change(&mut self, bank: BankId, command: &Command, outcome: &Outcome) -> Result<(), Memory>
-        requires sender { bank < self.old.banks }
+        requires sender { bank < length self.old.counts }
         requires count { slice_index self.old.counts bank < 2 ^ 32 - 1 }
         requires command { IsCommandOf self.old bank command.now }
         ensures changes { OnOk result (ChangesEach self.old self.new bank command.now outcome.now) }
         ensures counts { self.new.counts ≡ self.old.counts }
-        ensures banks { self.new.banks ≡ self.old.banks }
+        ensures banks { self.new.credit.banks ≡ self.old.credit.banks }
         ensures weights { self.new.weights ≡ self.old.weights }
         ensures memory { OnErr result (self.new ≡ self.old) }
     {
@@ -441,9 +420,10 @@ impl FlatHost {
             }
             Command::Pull { pair } => self.pull(bank, pair),
             Command::Line { bank: other, limit } => {
-                self.raise(bank, other, limit, outcome.fills())
+                self.raise_line(bank, other, limit, outcome.fills())
             }
-            Command::Total { .. } | Command::Settle { .. } => unreachable!(),
+            Command::Total { limit } => self.raise_total(bank, limit, outcome.fills()),
+            Command::Settle { a, b, units } => self.settle(a, b, units, outcome.fills()),
             Command::Show { .. } | Command::Book { .. } | Command::Bad { .. } => {}
         }
         Ok(())
@@ -451,21 +431,16 @@ impl FlatHost {
 
     /// Makes the fills of a sweep, and lets `rests` lots of its taker rest.
     fn carry(&mut self, incoming: &SweptOrder, fills: &[Fill], rests: u32) -> Result<(), Memory>
-        ensures kept { IsFlatState self.old }
+        ensures valid { IsCredit self.old.credit }
         ensures carried { rests ≤ 10 ^ 6 → OnOk result (self.new ≡ order_carried self.old incoming.now rests fills.now) }
         ensures counts { self.new.counts ≡ self.old.counts }
-        ensures banks { self.new.banks ≡ self.old.banks }
+        ensures banks { self.new.credit.banks ≡ self.old.credit.banks }
         ensures weights { self.new.weights ≡ self.old.weights }
         ensures memory { OnErr result (self.new ≡ self.old) }
     {
+        self.credit.told();
         self.orders.reserve(1)?;
-        make_fills(
-            &mut self.orders,
-            &self.limits,
-            &mut self.uses,
-            &self.weights,
-            fills,
-        );
+        make_fills(&mut self.orders, &mut self.credit, &self.weights, fills);
         if let Some(left) = Lots::new(rests) {
             self.orders.push_reserved(incoming.at_rest(left));
         }
@@ -498,38 +473,42 @@ impl FlatHost {
     }
 
     /// Sets the limit that a bank asks for on another, and makes the fills of that credit change.
-    fn raise(&mut self, bank: BankId, other: BankId, asked: Units, fills: &[Fill])
-        ensures kept { IsFlatState self.old }
-        ensures raised { self.new ≡ raised_in self.old bank other asked fills.now }
+    fn raise_line(&mut self, bank: BankId, other: BankId, asked: Units, fills: &[Fill])
+        ensures valid { IsCredit self.old.credit }
+        ensures raised { self.new ≡ line_raised_in self.old bank other asked fills.now }
     {
-        self.set_limit(bank, other, asked);
+        self.credit.set_limit(bank, other, asked);
         self.fill(fills);
     }
 
-    /// Sets the limit that a bank asks for on another.
-    fn set_limit(&mut self, bank: BankId, other: BankId, asked: Units)
-        ensures kept { IsFlatState self.old }
-        ensures limited { self.new ≡ limited_in self.old bank other asked }
+    /// Sets the total that a bank asks for, and makes the fills of that credit change.
+    fn raise_total(&mut self, bank: BankId, asked: Units, fills: &[Fill])
+        ensures valid { IsCredit self.old.credit }
+        ensures raised { self.new ≡ total_raised_in self.old bank asked fills.now }
     {
-        self.limits[limit_place(bank, other)] = self.limit_for(bank, other, asked);
+        self.credit.set_total(bank, asked);
+        self.fill(fills);
+    }
+
+    /// Gives back between two banks, and makes the fills of that credit change.
+    fn settle(&mut self, a: BankId, b: BankId, asked: Units, fills: &[Fill])
+        ensures valid { IsCredit self.old.credit }
+        ensures raised { self.new ≡ settled_raised_in self.old a b asked fills.now }
+    {
+        self.credit.give_back(a, b, asked);
+        self.fill(fills);
     }
 
     /// Makes these fills.
     fn fill(&mut self, fills: &[Fill])
         ensures filled { self.new ≡ filled_in self.old fills.now }
     {
-        make_fills(
-            &mut self.orders,
-            &self.limits,
-            &mut self.uses,
-            &self.weights,
-            fills,
-        );
+        make_fills(&mut self.orders, &mut self.credit, &self.weights, fills);
     }
 
-    /// Counts a command of a bank.
+    /// Counts a command of a sender.
     fn count_command(&mut self, bank: BankId)
-        requires sender { bank < self.old.banks }
+        requires sender { bank < length self.old.counts }
         requires count { slice_index self.old.counts bank < 2 ^ 32 - 1 }
         ensures counts { self.new ≡ counted_in self.old bank }
     {

@@ -4,8 +4,10 @@ ghost use Rattle.fx_rules.specs.State.{orders_in};
 ghost use Rattle.fx_rules.specs.Sweep.{is_open, is_preferred};
 ghost use Rattle.fx_rules.specs.Plan.{Planned, is_behind};
 ghost use Rattle.flat_host.specs.inside.Search.{is_candidate, candidates, preferred_of, IsBestOf};
+ghost use Rattle.flat_host.specs.Parts.{PlannedBy};
 ghost use Rattle.flat_host.specs.Walks.{StepsOn};
 
+use crate::credit::{Credit, affordable, lines_of};
 use fx_amounts::{BankId, Memory, Side};
 use fx_rules::{ActiveOrder, Fill, FillList, Resting, SweptOrder};
 use std::alloc::Global;
@@ -167,5 +169,28 @@ pub fn plan_sweep(
     Ok(Sweep {
         fills: FillList::from_vec(fills),
         left: walk.taker.left,
+    })
+}
+
+/// The sweep of a taker over the orders as they rest, on the credit of its bank, where a lot costs `weight` credit units. Where its bank
+/// has a total, it takes no more lots than what the total leaves pays for.
+pub fn paid_sweep(
+    alloc: Global,
+    orders: &[ActiveOrder],
+    taker: &SweptOrder,
+    credit: &Credit,
+    weight: u32,
+) -> Result<Sweep, Memory>
+    requires weight { 1 ≤ weight }
+    ensures planned { IfOk result (λ sweep.
+        PlannedBy weight credit.now (orders_in taker.now.pair orders.now) taker.now sweep.fills sweep.left) }
+    ensures left { IfOk result (λ sweep. sweep.left ≤ taker.now.left) }
+{
+    let lesser = affordable(credit.room(taker.bank), weight, taker);
+    let lines = lines_of(credit, taker.bank);
+    let sweep = plan_sweep(alloc, orders, &lesser, lines, weight)?;
+    Ok(Sweep {
+        fills: sweep.fills,
+        left: taker.left - lesser.left + sweep.left,
     })
 }

@@ -5,17 +5,17 @@ use Rattle.net_settle.specs.declared.form.Form.{Form}
 use Rattle.program_words.specs.Forms.{task_of}
 use Rattle.program_words.specs.declared.task.Task.{Task}
 use Rattle.program_words.specs.declared.task.Task.TheVariants.{Run, Serial, Check, Load, Clients, Payments, Watch}
-use Rattle.fx_cli.specs.TopCall.{EndsExactly, IsOutputOf, ToldErr}
-use Rattle.fx_cli.specs.Headline.{IsHeadline, IsSerial}
-use Rattle.fx_cli.specs.SessionCall.{DidSession}
-use Rattle.fx_cli.specs.Check.{SaysYes}
-use Rattle.fx_cli.specs.CheckCall.{DidCheck}
-use Rattle.fx_cli.specs.Payments.{IsPaymentsOf}
-use Rattle.fx_cli.specs.LoadCall.{DidLoad}
-use Rattle.fx_cli.specs.Clients.{IsClientsTextOf}
-use Rattle.fx_cli.specs.Watch.{IsWatchedOf}
-use Rattle.fx_cli.specs.declared.status.Status.{Status}
-use Rattle.fx_cli.specs.declared.status.Status.TheVariants.{Usage}
+use Rattle.program_calls.specs.TopCall.{EndsExactly, IsOutputOf, ToldErr}
+use Rattle.program_calls.specs.Headline.{IsHeadline, IsSerial}
+use Rattle.program_calls.specs.SessionCall.{DidSession}
+use Rattle.program_calls.specs.Check.{SaysYes}
+use Rattle.program_calls.specs.CheckCall.{DidCheck}
+use Rattle.program_calls.specs.Payments.{IsPaymentsOf}
+use Rattle.program_calls.specs.LoadCall.{DidLoad}
+use Rattle.program_calls.specs.Clients.{IsClientsTextOf}
+use Rattle.program_calls.specs.Watch.{IsWatchedOf}
+use Rattle.program_calls.specs.declared.status.Status.{Status}
+use Rattle.program_calls.specs.declared.status.Status.TheVariants.{Usage}
 
 -- what the words ask for, if anything
 abbrev pub asked : List (String Global) → Option Task

@@ -1,29 +1,18 @@
 -- What the top call does with the words `keep` and `restart`, and with all others.
-use Rattle.std.specs.Prelude.{ℕ, ◌≡◌, List, [], ◌∷◌, map, Option, Some, None, Result, String, string_bytes}
+use Rattle.std.specs.Prelude.{ℕ, ◌≡◌, List, map, Option, Some, None, String, string_bytes}
 use Rattle.std.specs.declared.alloc.Global.{Global}
-use Rattle.fx_amounts.specs.OutOfMemory.{refused}
-use Rattle.fx_rules.specs.Lists.{Among}
 use Rattle.kept_call.specs.Call.{DidKeep, DidRestart}
-use Rattle.kept_call.specs.declared.fault.KeptFault.{KeptFault}
 use Rattle.program_words.specs.Forms.{kept_task_of}
 use Rattle.program_words.specs.declared.kept.KeptTask.{KeptTask}
 use Rattle.program_words.specs.declared.kept.KeptTask.TheVariants.{Keep, Restart}
-use Rattle.session_script.specs.declared.ends.TextEnd.{TextEnd}
 use Rattle.fx_cli.specs.Answered.{Answered}
-use Rattle.fx_cli.specs.Status.{kept_status}
-use Rattle.fx_cli.specs.TopCall.{ToldErr}
-use Rattle.fx_cli.specs.declared.status.Status.{Status}
-use Rattle.fx_cli.specs.declared.status.Status.TheVariants.{Memory}
+use Rattle.program_calls.specs.KeptCall.{DidKept}
+use Rattle.program_calls.specs.TopCall.{ToldErr}
+use Rattle.program_calls.specs.declared.status.Status.{Status}
 
 -- what the words ask for of a kept session, if anything
 abbrev pub asked_kept : List (String Global) → Option KeptTask
 asked_kept words = kept_task_of (map string_bytes words)
-
--- A call that keeps a session did this, and the status is that of its answer, or out of memory for the line on standard error.
-pub record DidKept (Did : Result TextEnd KeptFault → Type 0) (status : Status) : Type 0 where
-  pub answer : Result TextEnd KeptFault
-  pub did : Did answer
-  pub status_is : Among status (kept_status answer ∷ Memory refused ∷ [])
 
 -- the words were answered with this status
 pub record AnsweredTop {D S K E : Type 0} (bytes : D → Option (List ℕ)) (may_leave : D → List ℕ → Type 0) (moment : D → ℕ) (left_since : D → ℕ → List ℕ → Type 0) (disk_faults : D → ℕ)

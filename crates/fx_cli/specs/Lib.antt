@@ -1,15 +1,3 @@
-pub mod Status
-pub mod Headline
-pub mod Run
-pub mod Check
-pub mod TopCall
-pub mod SessionCall
-pub mod Load
-pub mod LoadCall
-pub mod CheckCall
-pub mod Payments
-pub mod Clients
-pub mod Watch
 pub mod Answered
 pub mod KeptCall
 pub mod Process

@@ -5,9 +5,9 @@ use Rattle.std.specs.declared.io.ErrorKind.{ErrorKind}
 use Rattle.std.specs.declared.io.ErrorKind.TheVariants.{OutOfMemory}
 use Rattle.fx_amounts.specs.OutOfMemory.{refused}
 use Rattle.fx_cli.specs.KeptCall.{AnsweredTop}
-use Rattle.fx_cli.specs.Status.{status_code}
-use Rattle.fx_cli.specs.declared.status.Status.{Status}
-use Rattle.fx_cli.specs.declared.status.Status.TheVariants.{Usage, Memory}
+use Rattle.program_calls.specs.Status.{status_code}
+use Rattle.program_calls.specs.declared.status.Status.{Status}
+use Rattle.program_calls.specs.declared.status.Status.TheVariants.{Usage, Memory}
 
 -- it ended before it began
 pub record IsUntouched {D S K E : Type 0} (disk disk' : D) (source source' : S) (out out' : K) (err err' : E) : Type 0 where

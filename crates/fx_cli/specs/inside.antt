@@ -1,4 +1,1 @@
-pub mod Check
-pub mod Rounds
-pub mod Status
 pub mod TopCall

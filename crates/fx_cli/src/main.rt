@@ -1,23 +1,13 @@
 //! The program: sessions of the market from bytes to bytes.
 #![tactic(auto)]
 
-mod check;
-mod clients;
-mod ending;
-mod kept;
-mod load;
-mod payments;
 mod process;
-mod run;
-mod serial;
-mod status;
 mod top;
-mod watch;
 
 use fx_disk::FileDisk;
 use fx_edges::{StdSink, StdSource};
 use process::serve;
-pub use status::Status;
+pub use program_calls::Status;
 use std::env;
 use std::process::ExitCode;
 pub use top::{fx_main, fx_top};

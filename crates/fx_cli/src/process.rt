@@ -6,12 +6,12 @@ ghost use Rattle.std.specs.Vec.Iter.{into_iter_items};
 ghost use Rattle.fx_amounts.specs.OutOfMemory.{refused};
 ghost use Rattle.fx_cli.specs.Process.{EndsBy, EndsUnread};
 
-use crate::status::Status;
 use crate::top::fx_top;
 use fx_amounts::Memory;
 use fx_disk::Disk;
 use fx_edges::{Sink, Source};
 use fx_rules::OpenGate;
+use program_calls::Status;
 use std::alloc::Global;
 use std::env::Args;
 use std::io;

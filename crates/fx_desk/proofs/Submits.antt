@@ -1,19 +1,18 @@
 -- What a submit owes, from the history that it made.
-use Rattle.std.proofs.Common.{ℕ, ◌≡◌, ◌<◌, ◌+◌, List, [], ◌∷◌, ◌++◌, length, Result, Ok, Err, OnErr, ap, subst, ◌∙◌}
+use Rattle.std.proofs.Common.{ℕ, ◌≡◌, ◌+◌, List, [], ◌∷◌, ◌++◌, length, Result, Ok, Err, OnErr, ap, subst, ◌∙◌}
 use mathlib.Core.List.{IsPrefix}
 use Rattle.fx_rules.specs.declared.command.Command.{Command}
-use Rattle.fx_rules.specs.declared.command.Command.TheVariants.{Line, Book}
+use Rattle.fx_rules.specs.declared.command.Command.TheVariants.{Line, Total, Book}
 use Rattle.fx_rules.specs.declared.outcome.Outcome.{Outcome}
-use Rattle.fx_rules.specs.declared.outcome.Outcome.TheVariants.{LineSet, Depth}
+use Rattle.fx_rules.specs.declared.outcome.Outcome.TheVariants.{LineSet, TotalSet, Depth}
 use Rattle.fx_rules.specs.declared.outcome.Entry.{Entry}
-use Rattle.fx_rules.specs.Session.{Header, bank_count}
+use Rattle.fx_rules.specs.Session.{Header}
 use Rattle.fx_rules.specs.History.{IsStep, IsLegal, state, own}
-use Rattle.fx_rules.proofs.Plain.{only_one, first-command}
 use Rattle.fx_rules.proofs.Soundness.{legal-sound}
 use Rattle.fx_rules.proofs.Uncrossed.{legal-uncrossed}
 use Rattle.fx_rules.proofs.Continuing.{legal-last}
 use Rattle.fx_rules.proofs.ViewCommands.{views-told, books-alike}
-use Rattle.fx_rules.proofs.ViewRaise.{views-fill}
+use Rattle.fx_rules.proofs.ViewRaise.{views-fill, views-fill-total}
 use Rattle.fx_rules.proofs.Truth.{books-truthful}
 use Rattle.fx_desk.specs.Submitting.{next_own, IsToldByView, IsShownByView, IsFilledByView, IsTruthfulBook, Submitted, Refused}
 use Rattle.fx_desk.proofs.Orderly.{legal-orderly}
@@ -25,14 +24,10 @@ module _ (h : Header) (before : List Entry) (bank number : ℕ) where
   abbrev Steps_on : Command → Outcome → Type 0
   Steps_on command outcome = IsLegal h before × IsStep h (state h before) (record { bank = bank; number = number; command = command; outcome = outcome })
 
-  -- while there is one version the sender is a bank
-  is-bank : (command : Command) (outcome : Outcome) → Steps_on command outcome → bank < bank_count h
-  is-bank command outcome on = first-command h bank command (only_one h on.0.session) on.1.command
-
   told-by_view : (command : Command) (outcome : Outcome) → Steps_on command outcome → IsToldByView h before bank command outcome
-  told-by_view command outcome on others other legal same is =
+  told-by_view command outcome on others other legal same bank_is is =
       views-told h (state h before) (state h others) bank command outcome other on.0.session
-      (legal-sound h before on.0) (legal-sound h others legal) (is-bank command outcome on) on.1.command same on.1.outcome is
+      (legal-sound h before on.0) (legal-sound h others legal) bank_is on.1.command same on.1.outcome is
 
   shown-by_view : IsLegal h before → IsShownByView h before bank
   shown-by_view legal others pair bids asks bids' asks' other same bank_is pair_is one two =
@@ -42,6 +37,10 @@ module _ (h : Header) (before : List Entry) (bank number : ℕ) where
   filled-by_view : (command : Command) (outcome : Outcome) → Steps_on command outcome → IsFilledByView h before bank command outcome
   filled-by_view (Line other asked) (LineSet limit fills) on = λ others theirs legal same is.
       views-fill h (state h before) (state h others) bank other asked limit fills theirs on.0.session
+      (legal-sound h before on.0) (legal-sound h others legal) (legal-uncrossed h before on.0) (legal-uncrossed h others legal)
+      on.1.command same on.1.outcome is
+  filled-by_view (Total asked) (TotalSet most fills) on = λ others theirs legal same is.
+      views-fill-total h (state h before) (state h others) bank asked most fills theirs on.0.session
       (legal-sound h before on.0) (legal-sound h others legal) (legal-uncrossed h before on.0) (legal-uncrossed h others legal)
       on.1.command same on.1.outcome is
   filled-by_view _ _ on = tt

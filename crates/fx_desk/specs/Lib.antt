@@ -1,4 +1,5 @@
 pub mod Along
 pub mod Submitting
 pub mod Streams
+pub mod Passes
 pub mod inside

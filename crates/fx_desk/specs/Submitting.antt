@@ -3,14 +3,14 @@ use Rattle.std.specs.Prelude.{ℕ, ◌≡◌, ◌+◌, ◌<◌, List, [], ◌∷
 use mathlib.Core.List.{IsPrefix}
 use Rattle.fx_amounts.specs.declared.side.Side.TheVariants.{Buy, Sell}
 use Rattle.fx_rules.specs.declared.command.Command.{Command}
-use Rattle.fx_rules.specs.declared.command.Command.TheVariants.{Line, Book}
+use Rattle.fx_rules.specs.declared.command.Command.TheVariants.{Line, Total, Book}
 use Rattle.fx_rules.specs.declared.orders.Fill.{Fill}
 use Rattle.fx_rules.specs.declared.orders.Level.{Level}
 use Rattle.fx_rules.specs.declared.outcome.Outcome.{Outcome}
-use Rattle.fx_rules.specs.declared.outcome.Outcome.TheVariants.{LineSet, Depth}
+use Rattle.fx_rules.specs.declared.outcome.Outcome.TheVariants.{LineSet, TotalSet, Depth}
 use Rattle.fx_rules.specs.declared.outcome.Entry.{Entry}
 use Rattle.fx_rules.specs.Session.{Header, bank_count, pair_count}
-use Rattle.fx_rules.specs.Raise.{limited}
+use Rattle.fx_rules.specs.Raise.{limited, totalled}
 use Rattle.fx_rules.specs.Depth.{IsDepth}
 use Rattle.fx_rules.specs.Step.{IsOutcome}
 use Rattle.fx_rules.specs.History.{IsLegal, state, own}
@@ -23,19 +23,23 @@ abbrev pub next_own : ℕ → List Entry → Command → Outcome → Entry
 next_own bank mine command outcome = record { bank = bank; number = length mine + 1; command = command; outcome = outcome }
 
 -- Wherever a legal history leaves a market that looks to the bank as it does after `before`, the bank is told the same of the
--- command.
+-- command. (The operator has no view.)
 abbrev pub IsToldByView : Header → List Entry → ℕ → Command → Outcome → Type 0
 IsToldByView h before bank command outcome =
     (others : List Entry) (other : Outcome) → IsLegal h others → view h (state h before) bank ≡ view h (state h others) bank →
-    IsOutcome h (state h others) bank command other → told outcome ≡ told other
+    bank < bank_count h → IsOutcome h (state h others) bank command other → told outcome ≡ told other
 
--- The same of the fills of a credit change, where the two markets look alike once its limit is set: they are the same, but
--- for the numbers of the other bank's orders.
+-- The same of the fills of a bank's credit change, where the two markets look alike once its limit or its total is set: they are
+-- the same, but for the numbers of the other banks' orders.
 abbrev pub IsFilledByView : Header → List Entry → ℕ → Command → Outcome → Type 0
 IsFilledByView h before bank (Line other asked) (LineSet limit fills) =
     (others : List Entry) (theirs : List Fill) → IsLegal h others →
     view h (limited bank other limit (state h before)) bank ≡ view h (limited bank other limit (state h others)) bank →
     IsOutcome h (state h others) bank (Line other asked) (LineSet limit theirs) → map (fill_seen bank) fills ≡ map (fill_seen bank) theirs
+IsFilledByView h before bank (Total asked) (TotalSet most fills) =
+    (others : List Entry) (theirs : List Fill) → IsLegal h others →
+    view h (totalled bank most (state h before)) bank ≡ view h (totalled bank most (state h others)) bank →
+    IsOutcome h (state h others) bank (Total asked) (TotalSet most theirs) → map (fill_seen bank) fills ≡ map (fill_seen bank) theirs
 IsFilledByView _ _ _ _ _ = Unit {0}
 
 -- Wherever a legal history leaves a market that looks to the bank as it does after `before`, the bank's local book of each pair

@@ -8,4 +8,4 @@ mod desk;
 mod pass;
 
 pub use desk::Desk;
-pub use pass::{Note, Pass, open_passes};
+pub use pass::{Note, Pass, open_passes, place_among};

@@ -4,10 +4,11 @@ ghost use Rattle.fx_rules.specs.Session.{IsSession, sender_places};
 ghost use Rattle.fx_rules.specs.History.{IsLegal, own};
 ghost use Rattle.fx_chronicle.specs.Touching.{pends, without, but_last};
 ghost use Rattle.fx_chronicle.specs.Faces.{AreNew, witness, longer};
+ghost use Rattle.fx_desk.specs.Passes.{new_passes, place_among};
 
 use fx_amounts::{BankId, Memory};
 use fx_chronicle::{Front, Naming, Slip, Writer};
-use fx_rules::Entry;
+use fx_rules::{Entry, Session};
 use std::alloc::Global;
 use std::marker::Model;
 
@@ -121,22 +122,35 @@ impl<N: Naming> Model for Note<N> {
     ghost invariant = { λ n. IsLegal N.session n.slip };
 }
 
-/// The passes of the first so many senders of the session, over the fronts of their keys, which have seen nothing yet.
+/// One new pass for each sender of the session, in order, over the fronts of their keys. The other fronts are dropped.
 pub fn open_passes<N: Naming>(
     alloc: Global,
-    banks: usize,
-    mut fronts: Vec<Front<N, Entry>>,
+    session: &Session,
+    fronts: Vec<Front<N, Entry>>,
 ) -> Result<Vec<Pass<N>>, Memory>
-    requires session { IsSession N.session }
+    requires session { session.now ≡ N.session }
     requires fronts { AreNew 65 fronts.items }
-    requires banks { banks ≡ sender_places N.session }
-    ensures passes { IfOk result (λ passes. AreNew banks passes.items) }
+    ensures passes { IfOk result (λ passes. passes.items ≡ new_passes N.session) }
+    ensures valid { IsSession N.session }
 {
-    fronts.truncate(banks);
+    let banks = session.banks().len();
+    let has_operator = session.version() == 2;
     let mut passes = Vec::new(alloc);
     for front in fronts {
-        let bank = BankId::at(front.key() as usize);
-        passes.push(Pass::open(bank, front))?;
+        let sender = BankId::at(front.key() as usize);
+        if sender.index() < banks || (has_operator && sender == BankId::HOST) {
+            passes.push(Pass::open(sender, front))?;
+        }
     }
     Ok(passes)
+}
+
+/// The place of a sender's pass among those of all senders of a session, who are so many and at least 1.
+pub fn place_among(senders: usize, sender: BankId) -> usize
+    requires some { 0 < senders }
+    ensures place { result ≡ place_among senders sender }
+    ensures within { result < senders }
+{
+    // The operator's, which has the highest number, is the last.
+    sender.index().min(senders - 1)
 }

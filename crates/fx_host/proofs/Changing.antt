@@ -28,14 +28,14 @@ use Rattle.fx_host.specs.inside.Changing.{IsLast, IsPlanned}
 -- ---- planned
 
 -- the answer of a change for which all pairs had their turns is the market's
-answered : (h : Header) (S : State) (bank : ℕ) (command : Command) (change : Change) (answer : Outcome) → IsUnderWay h S change → length change.plans ≡ pair_count h → change.command ≡ command → change.bank ≡ bank
-    → ((g : Header) (T : State) → IsUnderWay g T change → length change.plans ≡ pair_count g → IsOutcome g T change.bank change.command answer) → IsOutcome h S bank command answer
+answered : (h : Header) (S : State) (bank : ℕ) (command : Command) (change : Change) (answer : Outcome) → IsUnderWay h S change → length change.plans ≡ pair_count h → change.command ≡ command → change.sender ≡ bank
+    → ((g : Header) (T : State) → IsUnderWay g T change → length change.plans ≡ pair_count g → IsOutcome g T change.sender change.command answer) → IsOutcome h S bank command answer
 answered h S bank command change answer under_way all command_is bank_is answers =
-    subst (λ b. IsOutcome h S b command answer) bank_is (subst (λ (c : Command). IsOutcome h S change.bank c answer) command_is (answers h S under_way all))
+    subst (λ b. IsOutcome h S b command answer) bank_is (subst (λ (c : Command). IsOutcome h S change.sender c answer) command_is (answers h S under_way all))
 
 pub planned : (h : Header) (first : Recorded) (sender : Sender) (command : Command) (change : Change) (answer copy : Outcome) → IsCreditBook h first → IsNextIn (state h first.history.entries) sender → sender.number < 2 ^ 32 → IsCommand h sender.bank command → is_change command ≡ true
-    → IsUnderWay h (state h first.history.entries) change → length change.plans ≡ pair_count h → change.command ≡ command → change.bank ≡ sender.bank → answer ≡ outcome_of change
-    → ((g : Header) (T : State) → IsUnderWay g T change → length change.plans ≡ pair_count g → IsOutcome g T change.bank change.command answer) → copy ≡ answer
+    → IsUnderWay h (state h first.history.entries) change → length change.plans ≡ pair_count h → change.command ≡ command → change.sender ≡ sender.bank → answer ≡ outcome_of change
+    → ((g : Header) (T : State) → IsUnderWay g T change → length change.plans ≡ pair_count g → IsOutcome g T change.sender change.command answer) → copy ≡ answer
     → IsPlanned h first.history.entries sender.bank command change (entry_of sender command copy) answer
 planned h first sender command change answer copy kept next most valid changes under_way all command_is bank_is value answers copied =
     let before : List Entry = first.history.entries in

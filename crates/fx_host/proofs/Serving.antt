@@ -27,15 +27,15 @@ pub same_bank : (h : Header) (before : List Entry) (pass : Witness Entry) (comma
 same_bank h before pass command after pass' (Ok outcome) served kept = ap (λ (w : Witness Entry). w.key) served.meets
 same_bank h before pass command after pass' (Err e) served kept = ap (λ (w : Witness Entry). w.key) kept
 
--- A command that is about no pair and changes no credit is a show command or a line that could not be read, while there is one version.
+-- A command that is about no pair and changes no credit is a show command or a line that could not be read.
 pub left-over : (h : Header) (bank : ℕ) (command : Command) → IsSession h → IsCommand h bank command → pair_of command ≡ None → is_change command ≡ false → is_of_no_pair command ≡ true
 left-over h bank (Order side pair price lots life) session valid none stays = cc
 left-over h bank (Cancel pair number) session valid none stays = cc
 left-over h bank (Reduce pair number lots) session valid none stays = cc
 left-over h bank (Pull pair) session valid none stays = cc
 left-over h bank (Line other limit) session valid none stays = cc
-left-over h bank (Total limit) session valid none stays = absurd (no_total h bank limit (only_one h session) valid)
-left-over h bank (Settle a b units) session valid none stays = absurd (no_settlement h bank a b units (only_one h session) valid)
+left-over h bank (Total limit) session valid none stays = cc
+left-over h bank (Settle a b units) session valid none stays = cc
 left-over h bank (Show other) session valid none stays = refl
 left-over h bank (Book pair) session valid none stays = cc
 left-over h bank (Bad reason) session valid none stays = refl

@@ -33,7 +33,7 @@ struct Planned {
     answer: Outcome,
 }
 
-/// Serves a bank's credit change with all locks that it needs. After `Memory` the credit book and the pass are as they were, and so
+/// Serves a sender's credit change with all locks that it needs. After `Memory` the credit book and the pass are as they were, and so
 /// are the pairs' books.
 pub(crate) fn change_all<R: Wait, N: Naming>(
     rt: &R,
@@ -102,7 +102,7 @@ fn plan_change<R: Wait, N: Naming>(
     ensures planned { IfOk result (λ planned. IsPlanned N.session credit.old.history.entries sender.bank command.now planned.change planned.entry planned.answer) }
     ensures same { credit.new ≡ credit.old }
 {
-    let mut change = CreditChange::open(alloc, credit.lines(), sender.bank, command);
+    let mut change = CreditChange::open(alloc, credit.lines(), sender.bank, command)?;
     plan_all(rt, alloc, pairs, credit, &mut change)?;
     let answer = change.outcome(alloc)?;
     let entry = Entry {
@@ -118,7 +118,7 @@ fn plan_change<R: Wait, N: Naming>(
     })
 }
 
-/// Each pair has its turn in a credit change that has just begun, by the line that the pairs before it left.
+/// Each pair has its turn in a credit change that has just begun, by the lines that the pairs before it left.
 fn plan_all<R: Wait, N: Naming>(
     rt: &R,
     alloc: Global,
@@ -133,7 +133,7 @@ fn plan_all<R: Wait, N: Naming>(
     ensures goes_on { OnOk result (IsUnderWay N.session (state N.session credit.old.history.entries) change.new) }
     ensures turns { OnOk result (length change.new.plans ≡ pair_count N.session) }
     ensures command { change.new.command ≡ change.old.command }
-    ensures bank { change.new.bank ≡ change.old.bank }
+    ensures sender { change.new.sender ≡ change.old.sender }
     ensures same { credit.new ≡ credit.old }
 {
     for place in 0..pairs.count() {
@@ -158,7 +158,7 @@ fn plan_pair<R: Wait, N: Naming>(
     ensures goes_on { OnOk result (IsUnderWay N.session (state N.session credit.old.history.entries) change.new) }
     ensures turns { OnOk result (length change.new.plans ≡ length change.old.plans + 1) }
     ensures command { change.new.command ≡ change.old.command }
-    ensures bank { change.new.bank ≡ change.old.bank }
+    ensures sender { change.new.sender ≡ change.old.sender }
     ensures same { credit.new ≡ credit.old }
 {
     let mut shard = pairs.lock(rt, pair);

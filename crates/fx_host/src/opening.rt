@@ -1,6 +1,6 @@
 ghost use Rattle.std.specs.Prelude.{◌≡◌, ◌+◌, length, map, vec_len, IfOk};
-ghost use Rattle.fx_rules.specs.Session.{IsSession, pair_count, sender_places, senders};
-ghost use Rattle.fx_chronicle.specs.Faces.{AreNew};
+ghost use Rattle.fx_rules.specs.Session.{IsSession, pair_count, senders};
+ghost use Rattle.fx_desk.specs.Passes.{new_passes};
 ghost use Rattle.credit_book.specs.Recorded.{key_count};
 ghost use Rattle.fx_host.specs.inside.Locking.{AreInOrder};
 ghost use Rattle.fx_host.specs.inside.Opening.{ArePairFronts};
@@ -35,12 +35,12 @@ pub fn open_host<N: Naming>(
     requires table { blank.table ≡ N.table }
     requires keys { blank.keys ≡ key_count N.session }
     requires session { session.now ≡ N.session }
-    ensures passes { IfOk result (λ opened. AreNew (sender_places N.session) opened.1.items) }
+    ensures passes { IfOk result (λ opened. opened.1.items ≡ new_passes N.session) }
     ensures senders { IfOk result (λ opened. map (λ pass. pass.key) opened.1.items ≡ senders N.session) }
 {
     let (writer, mut fronts) = open::<N, Entry>(alloc, blank)?;
     let pair_fronts = fronts.split_off(65)?;
-    let passes = open_passes(alloc, session.banks().len(), fronts)?;
+    let passes = open_passes(alloc, session, fronts)?;
     let locks = locks_of(alloc, session, pair_fronts)?;
     let book = CreditBook::open(alloc, session, writer)?;
     let mut closed = Vec::new(alloc);

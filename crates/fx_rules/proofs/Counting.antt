@@ -51,10 +51,13 @@ unfolding Few
 total-few [] few = omega arith
 total-few (c ∷ counts) few = omega (arith, few.0, total-few counts few.1)
 
-pub arrivals-few : (h : Header) (entries : List Entry) → IsLegal h entries → arrivals (state h entries) < 2 ^ 64
-arrivals-few h entries legal =
+pub arrivals-most : (h : Header) (entries : List Entry) → IsLegal h entries → arrivals (state h entries) ≤ 65 * 2 ^ 32
+arrivals-most h entries legal =
     let senders : length (state h entries).counts ≡ sender_places h = (legal-sound h entries legal).counts in
     omega (arith, total-few (state h entries).counts (few-legal h entries legal), senders, places-most h legal.session)
+
+pub arrivals-few : (h : Header) (entries : List Entry) → IsLegal h entries → arrivals (state h entries) < 2 ^ 64
+arrivals-few h entries legal = omega (arith, arrivals-most h entries legal)
 
 -- ---- a sender's count
 

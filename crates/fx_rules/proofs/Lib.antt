@@ -44,4 +44,5 @@ pub mod Truth
 mod KeyedExamples
 pub mod KeyedLemmas
 pub mod Counting
+pub mod Traded
 pub mod Trading

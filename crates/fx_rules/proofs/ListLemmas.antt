@@ -18,6 +18,11 @@ Each-among P [] x all there = absurd there
 Each-among P (y ∷ xs) x all (inl is) = subst P (sym is) all.0
 Each-among P (y ∷ xs) x all (inr there) = Each-among P xs x all.1 there
 
+pub Each-at : {X : Type 0} (P : X → Type 0) (xs : List X) (i : ℕ) (fallback : X) → Each P xs → i < length xs → P (get_or xs i fallback)
+Each-at P [] i fallback all within = absurd (omega arith)
+Each-at P (x ∷ xs) zero fallback all within = all.0
+Each-at P (x ∷ xs) (suc i) fallback all within = Each-at P xs i fallback all.1 (omega arith)
+
 pub Each-filter : {X : Type 0} (P : X → Type 0) (test : X → Bool) (xs : List X) → Each P xs → Each P (filter test xs)
 Each-filter P test [] all = tt
 Each-filter P test (x ∷ xs) all =

@@ -14,13 +14,13 @@ use Rattle.fx_rules.specs.Session.{IsPairRule, pair_text}
 use Rattle.fx_rules.specs.declared.session.PairRule.{PairRule}
 use Rattle.fx_rules.proofs.NameTexts.{HasCodeBytes-code, HasPairBytes-pair_text}
 
-same_test : (a b : Bool) → (a ≡ true → b ≡ true) → (b ≡ true → a ≡ true) → a ≡ b
+pub same_test : (a b : Bool) → (a ≡ true → b ≡ true) → (b ≡ true → a ≡ true) → a ≡ b
 same_test true b there back = sym (there refl)
 same_test false true there back = back refl
 same_test false false there back = refl
 
 -- two tests that agree on each element find the same place
-position_agrees : {X : Type 0} (p q : X → Bool) (xs : List X) → All (λ x. p x ≡ q x) xs → position p xs ≡ position q xs
+pub position_agrees : {X : Type 0} (p q : X → Bool) (xs : List X) → All (λ x. p x ≡ q x) xs → position p xs ≡ position q xs
 position_agrees p q [] agree = refl
 position_agrees p q (x ∷ xs) agree =
     let all = x ∷ xs in
@@ -32,7 +32,7 @@ position_agrees p q (x ∷ xs) agree =
     ap (λ n. cond (nat_lt n (length all)) (Some n) None) same
 
 -- a test that no element passes finds none
-position_none : {X : Type 0} (p : X → Bool) (xs : List X) → All (λ x. p x ≡ false) xs → None ≡ position p xs
+pub position_none : {X : Type 0} (p : X → Bool) (xs : List X) → All (λ x. p x ≡ false) xs → None ≡ position p xs
 position_none p [] fails = refl
 position_none p (x ∷ xs) fails =
     let all = x ∷ xs in

@@ -1,5 +1,5 @@
 -- Laws that hold of the definitions themselves.
-use Rattle.std.specs.Prelude.{ℕ, ◌≡◌, ◌≢◌, ◌<◌, ◌^◌, false, List, [], ◌∷◌, ◌++◌, map, length, take}
+use Rattle.std.specs.Prelude.{ℕ, ◌≡◌, ◌≢◌, ◌<◌, ◌≤◌, ◌*◌, ◌^◌, false, List, [], ◌∷◌, ◌++◌, map, length, take}
 use Rattle.fx_rules.specs.declared.command.Command.{Command}
 use Rattle.fx_amounts.specs.declared.side.Side.TheVariants.{Buy, Sell}
 use Rattle.fx_rules.specs.declared.command.Command.TheVariants.{Line, Total}
@@ -8,6 +8,7 @@ use Rattle.fx_rules.specs.declared.orders.Fill.{Fill}
 use Rattle.fx_rules.specs.declared.orders.Level.{Level}
 use Rattle.fx_rules.specs.declared.outcome.Outcome.{Outcome}
 use Rattle.fx_rules.specs.declared.outcome.Entry.{Entry}
+use Rattle.fx_rules.specs.Lists.{total}
 use Rattle.fx_rules.specs.Session.{Header, IsSession, bank_count, pair_count}
 use Rattle.fx_rules.specs.State.{State, Within, orders_in, count_of, arrivals, left_of_limits, line}
 use Rattle.fx_rules.specs.Sweep.{Taker, Swept}
@@ -79,6 +80,12 @@ CountsAreOwn = (h : Header) (entries : List Entry) (bank : ℕ) → IsLegal h en
 -- The next arrival in the state of a legal history fits 64 bits.
 abbrev pub ArrivalsFit : Type 0
 ArrivalsFit = (h : Header) (entries : List Entry) → IsLegal h entries → arrivals (state h entries) < 2 ^ 64
+
+-- In the state of a legal history the lots of all fills are at most 10^6 times the commands that were sent.
+abbrev pub TradedIsSent : Type 0
+TradedIsSent =
+    (h : Header) (entries : List Entry) → IsLegal h entries →
+    total (λ fill. fill.lots) (state h entries).fills ≤ 10 ^ 6 * arrivals (state h entries)
 
 -- A bank's local book of a pair in a sound state is truthful on both sides.
 abbrev pub LocalBooksAreTruthful : Type 0

@@ -1,4 +1,4 @@
-ghost use Rattle.fx_rules.specs.Laws.{SweepsAgree, OutcomesAgree, NextEntriesAgree, LegalIsSound, LegalIsUncrossed, LegalGoesOn, LinesFall, LinesArePlain, OtherPairsStay, OtherCountsStay, CountsAreOwn, ArrivalsFit, LocalBooksAreTruthful, FullBooksStay, ViewsTellAll, ViewsShowAll, ViewsFillAll, ViewsFillTotals};
+ghost use Rattle.fx_rules.specs.Laws.{SweepsAgree, OutcomesAgree, NextEntriesAgree, LegalIsSound, LegalIsUncrossed, LegalGoesOn, LinesFall, LinesArePlain, OtherPairsStay, OtherCountsStay, CountsAreOwn, ArrivalsFit, TradedIsSent, LocalBooksAreTruthful, FullBooksStay, ViewsTellAll, ViewsShowAll, ViewsFillAll, ViewsFillTotals};
 
 /// State and taker determine a sweep: two sweeps of one taker in one sound state have the same fills in the same order,
 /// and leave the taker the same lots.
@@ -66,6 +66,12 @@ pub fn counts_are_own()
 /// The next arrival in the state of every legal history is below 2^64.
 pub fn arrivals_fit()
     ensures fit { ArrivalsFit }
+{}
+
+/// In the state of every legal history the lots of all fills are at most 10^6 for each command that was sent: a fill takes
+/// its lots from an order that rests, and no command lets the lots that are filled and those that rest grow together by more.
+pub fn traded_is_sent()
+    ensures sent { TradedIsSent }
 {}
 
 /// A local book in a sound state is truthful: where a side is not empty and its lots are no more than 10^6, an

@@ -26,8 +26,8 @@ pub use keyed::Keyed;
 pub use laws::{
     arrivals_fit, counts_are_own, full_books_stay, legal_goes_on, legal_is_sound,
     legal_is_uncrossed, lines_are_plain, lines_fall, local_books_are_truthful, next_entries_agree,
-    other_counts_stay, other_pairs_stay, outcomes_agree, sweeps_agree, views_fill_all,
-    views_fill_totals, views_show_all, views_tell_all,
+    other_counts_stay, other_pairs_stay, outcomes_agree, sweeps_agree, traded_is_sent,
+    views_fill_all, views_fill_totals, views_show_all, views_tell_all,
 };
 pub use lists::ListOf;
 pub use market::Market;

@@ -1,4 +1,5 @@
 pub mod CutFields
+pub mod DigitTexts
 pub mod FieldLemmas
 pub mod FieldTexts
 pub mod FirstLines

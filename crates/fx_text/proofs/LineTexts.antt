@@ -22,6 +22,12 @@ extended_within room bytes old more len count size_is within is all =
     let full : length old + (room - len) ≡ room = omega arith in
     ap₂ (λ (front back : List ℕ). front ++ back) is (shorter_take more (room - len) count all) ∙ sym seam ∙ ap (λ (n : ℕ). take n (old ++ more)) full
 
+-- digits written behind the first `len`
+pub put_within : (room : ℕ) (bytes new old digits : List ℕ) (len end : ℕ) → take len bytes ≡ old → take end new ≡ take len bytes ++ digits → end ≤ room → take end new ≡ take room (old ++ digits)
+put_within room bytes new old digits len end is written fits =
+    let all : take end new ≡ old ++ digits = written ∙ ap (λ (xs : List ℕ). xs ++ digits) is in
+    all ∙ sym (take_all room (old ++ digits) (omega (arith, ap length all, length-take end new)))
+
 -- a full room takes nothing more
 pub full_room : (room : ℕ) (old more : List ℕ) → length old ≡ room → old ≡ take room (old ++ more)
 full_room room old more full = sym (take-append-le room old more (omega arith) ∙ take_all room old (omega arith))

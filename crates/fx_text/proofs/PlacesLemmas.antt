@@ -140,7 +140,7 @@ pub price_read_back : (decimals ticks : ℕ) → IsPrice ticks → price_of deci
 price_read_back decimals ticks is = price_of-price_text decimals ticks ∙ price_of_ticks-in ticks is
 
 -- a number of more than `count` digits ends in the last `count`
-numeral-split : (count t : ℕ) → 10 ^ count ≤ t → numeral t ≡ numeral (t / 10 ^ count) ++ last_digits count t
+pub numeral-split : (count t : ℕ) → 10 ^ count ≤ t → numeral t ≡ numeral (t / 10 ^ count) ++ last_digits count t
 numeral-split zero t large =
     let whole : t / 1 ≡ t = omega arith in
     ap numeral (sym whole) ∙ sym (append-nil (numeral (t / 1)))
@@ -152,38 +152,3 @@ numeral-split (suc count) t large =
     ∙ ap (λ (front : List ℕ). front ++ (48 + t % 10) ∷ []) (numeral-split count (t / 10) (omega arith))
     ∙ append_assoc (numeral (t / 10 / 10 ^ count)) (last_digits count (t / 10)) ((48 + t % 10) ∷ [])
     ∙ ap (λ (n : ℕ). numeral n ++ last_digits (suc count) t) quotient
-
--- what itoa writes of a price of 1 or more, cut where its point stands
-pub record AtPoint (decimals ticks : ℕ) (text : List ℕ) : Type 0 where
-  pub some : decimals ≤ length text
-  pub whole : take (length text - decimals) text ≡ numeral (ticks / 10 ^ decimals)
-  pub places : drop (length text - decimals) text ≡ last_digits decimals ticks
-
-at_point : (decimals ticks : ℕ) (whole places text : List ℕ) → whole ≡ numeral (ticks / 10 ^ decimals) → places ≡ last_digits decimals ticks → text ≡ whole ++ places → AtPoint decimals ticks text
-at_point decimals ticks whole places text front last is =
-    let size : length places ≡ decimals = ap (λ (t : List ℕ). length t) last ∙ (EndsIn-last_digits decimals ticks).len in
-    let sum : length text ≡ length whole + length places = ap (λ (t : List ℕ). length t) is ∙ length-append whole places in
-    let point : length text - decimals ≡ length whole = omega arith in
-    record {
-      some = omega arith;
-      whole = ap₂ take point is ∙ take_at whole places (length whole) refl ∙ front;
-      places = ap₂ drop point is ∙ drop_at whole places (length whole) refl ∙ last;
-    }
-
-pub AtPoint-decimal : (decimals ticks unit : ℕ) (text : List ℕ) → unit ≡ 10 ^ decimals → unit ≤ ticks → ticks < 10 ^ 10 → text ≡ decimal ticks → AtPoint decimals ticks text
-AtPoint-decimal decimals ticks unit text is large fits written =
-    at_point decimals ticks (numeral (ticks / 10 ^ decimals)) (last_digits decimals ticks) text refl refl
-    (written ∙ decimal-numeral ticks (omega arith) ∙ numeral-split decimals ticks (omega arith))
-
--- what itoa writes of a price below 1 behind a leading one
-pub BehindOne-below : (decimals ticks unit : ℕ) (text : List ℕ) → unit ≡ 10 ^ decimals → ticks < unit → unit ≤ 10 ^ 10 → text ≡ decimal (unit + ticks) → BehindOne decimals ticks text
-BehindOne-below decimals ticks unit text is below most written =
-    BehindOne-decimal decimals ticks unit text is (omega arith) most (written ∙ ap (λ (rest : ℕ). decimal (unit + rest)) (sym (mod-eq_of_lt below)))
-
--- the two pieces of a price below 1, and the three of a larger one
-pub price_text-below : (decimals ticks unit : ℕ) (places : List ℕ) → 0 < decimals → unit ≡ 10 ^ decimals → ticks < unit → places ≡ last_digits decimals ticks
-    → price_text decimals ticks ≡ (48 ∷ 46 ∷ []) ++ places
-price_text-below decimals ticks unit places some is below digits =
-    price_text-places decimals ticks some (48 ∷ []) places
-    (sym (ap numeral (ap (λ (u : ℕ). ticks / u) (sym is) ∙ div-eq_of_lt below) ∙ numeral-digit 0 (omega arith)))
-    digits

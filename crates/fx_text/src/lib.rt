@@ -3,6 +3,7 @@
 #![tactic(auto)]
 
 mod cutter;
+mod digits;
 mod field;
 mod line;
 mod line_text;
@@ -11,6 +12,7 @@ mod push;
 mod split;
 
 pub use cutter::{LineCutter, first_line};
+pub use digits::{put_byte, put_field, put_number_field, put_text, put_wide, put_word_field};
 pub use field::Fields;
 pub use line::{Bytes, Line, LineView};
 pub use line_text::LineText;

@@ -1,9 +1,10 @@
-ghost use Rattle.std.specs.Prelude.{◌≡◌, [], ◌∷◌, ◌<◌, ◌≤◌, ◌^◌, ◌++◌, length, take};
+ghost use Rattle.std.specs.Prelude.{◌≡◌, [], ◌∷◌, ◌<◌, ◌≤◌, ◌++◌, length, take};
 ghost use Rattle.fx_amounts.specs.Numeral.{numeral};
 ghost use Rattle.fx_amounts.specs.PriceText.{price_text};
 ghost use Rattle.fx_amounts.specs.Quantity.{IsDecimals};
 ghost use Rattle.fx_text.specs.Number.{signed_numeral};
 
+use crate::digits::{put_number, put_price};
 use fx_amounts::Price;
 use itoa::Buffer;
 use std::marker::Model;
@@ -65,6 +66,19 @@ impl LineText {
         self.len += count;
     }
 
+    /// Appends a word, as much of it as there is room for. Its length is fixed, so that it is written without a call.
+    #[inline(always)]
+    pub fn push_word<const N: usize>(&mut self, word: &[u8; N])
+        ensures { self.new ≡ take 256 (self.old ++ word.now) }
+    {
+        if N <= ROOM - self.len {
+            self.bytes[self.len..self.len + N].copy_from_slice(word);
+            self.len += N;
+        } else {
+            self.push(word);
+        }
+    }
+
     /// Appends a byte, where there is room for it.
     #[inline(always)]
     pub fn push_byte(&mut self, byte: u8)
@@ -77,25 +91,37 @@ impl LineText {
     }
 
     /// Appends a number's decimal digits.
+    #[inline(always)]
     pub fn push_number(&mut self, value: u64)
         ensures { self.new ≡ take 256 (self.old ++ numeral value) }
     {
-        let mut buffer = Buffer::new();
-        self.push(buffer.format(value).as_bytes());
+        if self.len <= ROOM - 20 {
+            let end = put_number(value, &mut self.bytes, self.len);
+            self.len = end;
+        } else {
+            let mut buffer = Buffer::new();
+            self.push(buffer.format(value).as_bytes());
+        }
     }
 
     /// Appends a large number's decimal digits.
+    #[inline(always)]
     pub fn push_wide(&mut self, value: u128)
         ensures text { self.new ≡ take 256 (self.old ++ numeral value) }
         ensures few { length (numeral value) ≤ 39 }
     {
         match u64::try_from(value) {
             Ok(small) => self.push_number(small),
-            Err(_) => {
-                let mut buffer = Buffer::new();
-                self.push(buffer.format(value).as_bytes());
-            }
+            Err(_) => self.push_widest(value),
         }
+    }
+
+    /// Appends a number of more than 64 bits.
+    fn push_widest(&mut self, value: u128)
+        ensures { self.new ≡ take 256 (self.old ++ numeral value) }
+    {
+        let mut buffer = Buffer::new();
+        self.push(buffer.format(value).as_bytes());
     }
 
     /// Appends a price's one spelling, where a tick is the last of `decimals` decimal places.
@@ -104,23 +130,9 @@ impl LineText {
         ensures text { self.new ≡ take 256 (self.old ++ price_text decimals price) }
         ensures few { length (price_text decimals price) ≤ 40 }
     {
-        let ticks = u64::from(price.ticks());
-        let unit = unit_of(decimals);
-        let mut buffer = Buffer::new();
-        if decimals == 0 {
-            self.push_number(ticks);
-        } else if ticks < unit {
-            // A leading one, which is left out, keeps the zeros in front of the other digits.
-            let (_, places) = buffer.format(unit + ticks).as_bytes().split_at(1);
-            self.push(b"0.");
-            self.push(places);
-        } else {
-            let digits = buffer.format(ticks).as_bytes();
-            let (whole, places) = digits.split_at(digits.len() - usize::from(decimals));
-            self.push(whole);
-            self.push_byte(b'.');
-            self.push(places);
-        }
+        let mut room = [0; 27];
+        let end = put_price(price, decimals, &mut room, 0);
+        self.push(&room[..end]);
     }
 
     /// Appends a field behind a space.
@@ -132,7 +144,17 @@ impl LineText {
         self.push(text);
     }
 
+    /// Appends a word behind a space. Its length is fixed, as that of `push_word`.
+    #[inline(always)]
+    pub fn push_word_field<const N: usize>(&mut self, word: &[u8; N])
+        ensures { self.new ≡ take 256 (self.old ++ 32 ∷ word.now) }
+    {
+        self.push_byte(b' ');
+        self.push_word(word);
+    }
+
     /// Appends a number behind a space.
+    #[inline(always)]
     pub fn push_number_field(&mut self, value: u64)
         ensures text { self.new ≡ take 256 (self.old ++ 32 ∷ numeral value) }
         ensures few { length (numeral value) ≤ 20 }
@@ -167,21 +189,5 @@ impl LineText {
     {
         self.push_byte(b' ');
         self.push_price(price, decimals);
-    }
-}
-
-// The ticks of a price of 1.
-fn unit_of(decimals: u8) -> u64
-    requires { IsDecimals decimals }
-    ensures value { result ≡ 10 ^ decimals }
-{
-    match decimals {
-        0 => 1,
-        1 => 10,
-        2 => 100,
-        3 => 1_000,
-        4 => 10_000,
-        5 => 100_000,
-        _ => 1_000_000,
     }
 }

@@ -4,13 +4,13 @@ ghost use Rattle.credit_book.specs.Recorded.{key_count};
 ghost use Rattle.fx_desk.specs.Submitting.{Submitted};
 ghost use Rattle.fx_rules.specs.Lists.{Each};
 ghost use Rattle.fx_rules.specs.Sending.{IsSentOf};
-ghost use Rattle.fx_rules.specs.Session.{IsSession, sender_places};
+ghost use Rattle.fx_rules.specs.Session.{IsSession, senders};
 ghost use Rattle.fx_rules.specs.Step.{IsCommand};
-ghost use Rattle.host_trials.specs.inside.Passes.{AreOfBanks};
+ghost use Rattle.host_trials.specs.inside.Passes.{AreOfSenders};
 
 use fx_amounts::Memory;
 use fx_chronicle::{Blank, Naming};
-use fx_desk::{Desk, Pass};
+use fx_desk::{Desk, Pass, place_among};
 use fx_host::{Closed, Host, close_host, keys_of, open_host};
 use fx_rules::{Command, Entry, EntryList, OpenGate, Outcome, Sent, Session};
 use one_lock_host::{close_one, open_one};
@@ -157,7 +157,7 @@ fn room<R: AllocGlobal>(rt: &R, sent: &[Sent]) -> Result<Vec<Outcome>, Refused> 
     }
 }
 
-/// Submits commands one after another, each by its bank's pass, which learns before what the last one has seen. Adds what the
+/// Submits commands one after another, each by its sender's pass, which learns before what the last one has seen. Adds what the
 /// banks are told.
 fn submit_all<D: Desk, R: Wait>(
     rt: &R,
@@ -167,14 +167,15 @@ fn submit_all<D: Desk, R: Wait>(
     told: &mut Vec<Outcome>,
 ) -> Result<(), Refused>
     requires session { IsSession D.session }
-    requires count { length passes.old ≡ sender_places D.session }
-    requires passes { AreOfBanks D.bank D.mine 0 passes.old }
+    requires count { length passes.old ≡ length (senders D.session) }
+    requires passes { AreOfSenders D.session D.bank D.mine 0 passes.old }
     requires valid { Each (IsSentOf D.session) sent.now }
     requires few { length sent.now ≤ 100000 }
 {
     let mut note = None;
     for next in sent {
-        let pass = &mut passes[next.bank.index()];
+        let place = place_among(passes.len(), next.bank);
+        let pass = &mut passes[place];
         if let Some(note) = note.take() {
             desk.learn(pass, note);
         }

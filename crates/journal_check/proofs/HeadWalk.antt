@@ -1,8 +1,9 @@
 -- The text of a session's header is read as that session.
-use Rattle.std.proofs.Common.{◌≡◌, ℕ, zero, suc, ◌+◌, ◌*◌, ◌<◌, ◌≤◌, Bool, true, false, ◌||◌, List, [], ◌∷◌, ◌++◌, length, map, drop, slice_index_or, codes, Option, Some, None, Result, Ok, refl, sym, ap, ◌∙◌, subst, arith, ◌⊎◌, inl, inr, eqb, leb, nat_lt, if◌then◌else◌, append_assoc, length-append}
+use Rattle.std.proofs.Common.{◌≡◌, ℕ, zero, suc, ◌+◌, ◌*◌, ◌<◌, ◌≤◌, Bool, true, false, ◌||◌, List, [], ◌∷◌, ◌++◌, length, map, drop, slice_index_or, codes, Option, Some, None, Result, Ok, refl, sym, ap, ap₂, ◌∙◌, subst, arith, ◌⊎◌, inl, inr, eqb, leb, nat_lt, if◌then◌else◌, append_assoc, length-append}
+use Rattle.std.specs.Prelude.{IfSome}
 use Rattle.std.specs.List.{All, AllByRecursion, join_with_byte, flat_map}
-use Rattle.std.proofs.lemmas.Bool.{cases_Bool}
-use Rattle.std.proofs.lemmas.List.{map-append, get_or_default}
+use Rattle.std.proofs.lemmas.Bool.{cases_Bool, cases_lt}
+use Rattle.std.proofs.lemmas.List.{map-append, get_or_default, get_or_past}
 use Rattle.std.proofs.lemmas.List.Elements.{All-head, All-tail, All-get_or}
 use Rattle.std.proofs.lemmas.List.Folds.{flat_map-map}
 use Rattle.std.proofs.lemmas.Nat.{mul-add-lt}
@@ -12,7 +13,7 @@ use Rattle.fx_text.specs.Lines.{parts_of, all_but_last, lines_of, line_of}
 use Rattle.fx_text.specs.Number.{number_of}
 use Rattle.fx_text.specs.declared.line.Line.{Line}
 use Rattle.fx_text.specs.declared.line.Line.TheVariants.{Whole}
-use Rattle.fx_rules.specs.Session.{Header, IsSession, IsPairRule, bank_count, opening_limit, pair_text, bank_named}
+use Rattle.fx_rules.specs.Session.{Header, IsSession, IsPairRule, bank_count, opening_limit, opening_total, pair_text, bank_named}
 use Rattle.fx_rules.specs.declared.session.PairRule.{PairRule}
 use Rattle.fx_rules.specs.Lists.{Each, below}
 use Rattle.fx_rules.proofs.ListLemmas.{Each-append}
@@ -21,12 +22,12 @@ use Rattle.fx_text.proofs.FieldTexts.{IsField-tested, IsField-numeral}
 use Rattle.fx_text.proofs.JoinedFields.{IsField, fields_of-join, join-visible, length-join}
 use Rattle.order_lines.proofs.FieldTexts.{IsField-bank, IsField-pair_text}
 use Rattle.session_head.specs.Draft.{Draft, empty_draft}
-use Rattle.session_head.specs.Statement.{new_name, new_pair, lot_said, bank_statement, pair_statement, line_statement, statement_of, spelling}
+use Rattle.session_head.specs.Statement.{new_name, new_pair, lot_said, bank_statement, pair_statement, line_statement, total_statement, statement_of, spelling, version_fields}
 use Rattle.session_head.specs.Head.{Head, Begun, Drafting, Started, Faulted, next, judged, with_line, with_lines, read_head, session_of}
-use Rattle.session_head.specs.HeadText.{limit_statement, statements_of, line_text, lines_text, head_text_of}
+use Rattle.session_head.specs.HeadText.{limit_statement, total_stated, totals_of, statements_of, line_text, lines_text, head_text_of}
 use Rattle.session_head.specs.inside.HeadText.{limits_of}
 use Rattle.session_head.specs.declared.reason.HeadReason.{HeadReason}
-use Rattle.session_head.proofs.RoundLemmas.{head_text-read}
+use Rattle.session_head.proofs.RoundLemmas.{version_line, version_read, total_most, head_text-read}
 use Rattle.journal_check.specs.Lines.{LineAt, behind, lines_from}
 use Rattle.journal_check.specs.Listed.{headed, header_among}
 use Rattle.journal_check.specs.declared.header.Headed.{Headed}
@@ -88,12 +89,22 @@ limit_rows h from to = if nat_lt 0 (opening_limit h from to) then limit_row h fr
 abbrev all_limits : Header → List (List (List ℕ))
 all_limits h = flat_map (λ from. flat_map (limit_rows h from) (below (bank_count h))) (below (bank_count h))
 
+abbrev total_row : Header → ℕ → ℕ → List (List ℕ)
+total_row h bank limit = codes "TOTAL" ∷ field_at h.banks bank ∷ numeral limit ∷ []
+
+abbrev total_rows : Header → ℕ → Option ℕ → List (List (List ℕ))
+total_rows h bank (Some limit) = total_row h bank limit ∷ []
+total_rows h bank None = []
+
+abbrev all_totals : Header → List (List (List ℕ))
+all_totals h = flat_map (λ bank. total_rows h bank (opening_total h bank)) (below (bank_count h))
+
 abbrev start_row : List (List ℕ)
 start_row = codes "START" ∷ []
 
 -- those in front of START
 fronts : Header → List (List (List ℕ))
-fronts h = map bank_row h.banks ++ map pair_row h.pairs ++ all_limits h
+fronts h = map bank_row h.banks ++ map pair_row h.pairs ++ all_limits h ++ all_totals h
 
 map_each : {X Y Z : Type 0} (g : Y → Z) (f : X → List Y) (xs : List X) → map g (flat_map f xs) ≡ flat_map (λ x. map g (f x)) xs
 map_each g f [] = refl
@@ -118,10 +129,22 @@ limits_spelled h =
     ∙ each_same (λ to. map (spelling h.banks) (limit_statement h from to)) (limit_rows h from) (below (bank_count h))
     (λ to. map_if (spelling h.banks) (nat_lt 0 (opening_limit h from to)) _))
 
+total_spelled : (h : Header) (bank : ℕ) (total : Option ℕ) → map (spelling h.banks) (total_stated bank total) ≡ total_rows h bank total
+total_spelled h bank (Some limit) = refl
+total_spelled h bank None = refl
+
+totals_spelled : (h : Header) → map (spelling h.banks) (totals_of h (bank_count h)) ≡ all_totals h
+totals_spelled h =
+    map_each (spelling h.banks) (λ bank. total_stated bank (opening_total h bank)) (below (bank_count h))
+    ∙ each_same (λ bank. map (spelling h.banks) (total_stated bank (opening_total h bank))) (λ bank. total_rows h bank (opening_total h bank)) (below (bank_count h))
+    (λ bank. total_spelled h bank (opening_total h bank))
+
 spelled : (h : Header) → map (spelling h.banks) (statements_of h) ≡ fronts h ++ start_row ∷ []
 unfolding fronts
-spelled h = rw (map-append, map-append, map-append, map_twice, map_twice, map_each)
-    (ap (λ (limits : List (List (List ℕ))). (map bank_row h.banks ++ map pair_row h.pairs ++ limits) ++ start_row ∷ []) (limits_spelled h))
+spelled h =
+    rw (map-append, map-append, map-append, map-append, map_twice, map_twice)
+    (ap₂ (λ (limits totals : List (List (List ℕ))). map bank_row h.banks ++ map pair_row h.pairs ++ limits ++ totals ++ start_row ∷ [])
+    (map_each (spelling h.banks) (λ from. limits_of h from (bank_count h)) (below (bank_count h)) ∙ limits_spelled h) (totals_spelled h))
 
 text-rows : (h : Header) → lines_text h.banks (statements_of h) ≡ flat_map line_text (fronts h ++ start_row ∷ [])
 text-rows h = sym (flat_map-map line_text (spelling h.banks) (statements_of h)) ∙ ap (flat_map line_text) (spelled h)
@@ -187,6 +210,19 @@ line_goes number d from to limit = elim (found (bank_named d.banks from)) [
   ]
 ]
 
+total_goes : (number : ℕ) (d : Draft) (bank limit : List ℕ) → GoesOn (judged number d (statement_of d (codes "TOTAL" ∷ bank ∷ limit ∷ [])))
+unfolding statement_of total_statement
+total_goes number d bank limit = elim (cases_Bool (eqb d.version 2)) [
+  | inl second ↦ elim (found (bank_named d.banks bank)) [
+    | inl none ↦ rw (second, none) tt
+    | inr named ↦ elim (found (number_of 0 1000000000000000 limit)) [
+      | inl none ↦ rw (second, named.1, none) tt
+      | inr number ↦ rw (second, named.1, number.1) tt
+    ]
+  ]
+  | inr first ↦ rw first tt
+]
+
 goes : (n : ℕ) (d : Draft) (row : List (List ℕ)) → IsRow row → (eqb (length row) 0 || is_comment (slice_index_or row 0 [])) ≡ false → GoesOn (judged (next n) d (statement_of d row)) → GoesOn (with_line (Drafting n d) (Whole (row_text row)))
 goes n d row is told on = rw (row-fields row is, told) on
 
@@ -215,6 +251,15 @@ limit_front h from to session first second =
     } in
     record { is_row = row; goes_on = λ n d. goes n d (limit_row h from to) row refl (line_goes (next n) d (field_at h.banks from) (field_at h.banks to) (numeral (opening_limit h from to))) }
 
+total_front : (h : Header) (bank limit : ℕ) → IsSession h → bank < bank_count h → limit ≤ 1000000000000000 → IsFront (total_row h bank limit)
+total_front h bank limit session within most =
+    let row : IsRow (total_row h bank limit) = record {
+      some = omega arith;
+      few = omega arith;
+      fields = (IsField-tested (codes "TOTAL") refl, (IsField-bank h bank session within, (IsField-numeral limit (omega (arith, most)), tt)));
+    } in
+    record { is_row = row; goes_on = λ n d. goes n d (total_row h bank limit) row refl (total_goes (next n) d (field_at h.banks bank) (numeral limit)) }
+
 start_is_row : IsRow start_row
 start_is_row = record { some = omega arith; few = omega arith; fields = (IsField-tested (codes "START") refl, tt) }
 
@@ -236,15 +281,21 @@ limit_fronts h from to session first second = elim (cases_Bool (nat_lt 0 (openin
   | inr none ↦ rw none tt
 ]
 
+total_fronts : (h : Header) (bank : ℕ) (total : Option ℕ) → IsSession h → bank < bank_count h → IfSome total (λ units. units ≤ 1000000000000000) → Each IsFront (total_rows h bank total)
+total_fronts h bank (Some limit) session within most = (total_front h bank limit session within most, tt)
+total_fronts h bank None session within most = tt
+
 fronts-are : (h : Header) → IsSession h → Each IsFront (fronts h)
 unfolding fronts
 fronts-are h session =
-    Each-append IsFront (map bank_row h.banks ++ map pair_row h.pairs) (all_limits h)
+    Each-append IsFront (map bank_row h.banks ++ map pair_row h.pairs ++ all_limits h) (all_totals h)
+    (Each-append IsFront (map bank_row h.banks ++ map pair_row h.pairs) (all_limits h)
     (Each-append IsFront (map bank_row h.banks) (map pair_row h.pairs)
     (each_map IsFront bank_row IsField h.banks bank_front (names h session))
     (each_map IsFront pair_row IsPairRule h.pairs pair_front session.rules))
     (each_of IsFront (λ from. flat_map (limit_rows h from) (below (bank_count h))) (bank_count h)
-    (λ from first. each_of IsFront (limit_rows h from) (bank_count h) (λ to second. limit_fronts h from to session first second)))
+    (λ from first. each_of IsFront (limit_rows h from) (bank_count h) (λ to second. limit_fronts h from to session first second))))
+    (each_of IsFront (λ bank. total_rows h bank (opening_total h bank)) (bank_count h) (λ bank within. total_fronts h bank (opening_total h bank) session within (total_most h bank session)))
 
 rows-are : (fronts : List (List (List ℕ))) → Each IsFront fronts → Each IsRow (fronts ++ start_row ∷ [])
 rows-are [] are = (start_is_row, tt)
@@ -306,22 +357,17 @@ walk h end text more (row ∷ rows) at n d are there whole =
 
 -- The first line
 
-abbrev version_row : List (List ℕ)
-version_row = codes "FXBOOK" ∷ codes "1" ∷ []
-
-version_is_row : IsRow version_row
-version_is_row = record { some = omega arith; few = omega arith; fields = (IsField-tested (codes "FXBOOK") refl, (IsField-tested (codes "1") refl, tt)) }
-
-version_read : with_line (Begun 0) (Whole (row_text version_row)) ≡ Drafting 1 empty_draft
-version_read = rw (row-fields version_row version_is_row) refl
+version_is_row : (h : Header) → IsSession h → IsRow (version_fields h.version)
+version_is_row h session = let is = version_line h.version session.version_most in record { some = is.some; few = is.few; fields = is.fields_are }
 
 -- what the lines behind the first lead to
-whole : (h : Header) → IsSession h → session_of (with_lines (Drafting 1 empty_draft) (lines (fronts h ++ start_row ∷ []))) ≡ Some h
+whole : (h : Header) → IsSession h → session_of (with_lines (Drafting 1 (empty_draft h.version)) (lines (fronts h ++ start_row ∷ []))) ≡ Some h
 whole h session =
+    let first : List (List ℕ) = version_fields h.version in
     let rows : List (List (List ℕ)) = fronts h ++ start_row ∷ [] in
-    let all : lines_of (head_text_of h) ≡ Whole (row_text version_row) ∷ lines rows =
-    ap (λ (text : List ℕ). lines_of (codes "FXBOOK 1\n" ++ text)) (text-rows h) ∙ lines_of-rows (version_row ∷ rows) (version_is_row, rows-are (fronts h) (fronts-are h session)) in
-    ap (λ (head : Head). session_of (with_lines head (lines rows))) (sym version_read)
+    let all : lines_of (head_text_of h) ≡ Whole (row_text first) ∷ lines rows =
+    ap (λ (text : List ℕ). lines_of (line_text first ++ text)) (text-rows h) ∙ lines_of-rows (first ∷ rows) (version_is_row h session, rows-are (fronts h) (fronts-are h session)) in
+    ap (λ (head : Head). session_of (with_lines head (lines rows))) (sym (version_read h.version session.version_least session.version_most))
     ∙ ap (λ (ls : List Line). session_of (read_head ls)) (sym all)
     ∙ head_text-read h session
 
@@ -329,13 +375,17 @@ whole h session =
 pub header_among-head_text : (h : Header) (end : ℕ) (text more : List ℕ) → IsSession h → text ≡ head_text_of h ++ more
     → header_among end (Begun 0) (lines_from text 0) ≡ Ok (record { session = h; next = length (head_text_of h) })
 header_among-head_text h end text more session is =
-    let part : List ℕ = row_text version_row in
+    let first : List (List ℕ) = version_fields h.version in
+    let row : IsRow first = version_is_row h session in
+    let part : List ℕ = row_text first in
+    let stated : List ℕ = lines_text h.banks (statements_of h) in
     let rest : List ℕ = flat_map line_text (fronts h ++ start_row ∷ []) in
-    let there : text ≡ part ++ 10 ∷ (rest ++ more) = is ∙ ap (λ (t : List ℕ). (codes "FXBOOK 1\n" ++ t) ++ more) (text-rows h) in
-    let on = IsAt-plain text 0 part (rest ++ more) there (row-plain version_row version_is_row) in
-    let same : length (lines_text h.banks (statements_of h)) ≡ length rest = ap length (text-rows h) in
-    let size : 0 + length part + 1 + length rest ≡ length (head_text_of h) = omega (arith, same, length-append (codes "FXBOOK 1\n") (lines_text h.banks (statements_of h))) in
-    step end 0 text (rest ++ more) (Begun 0) version_row version_is_row there
-    ∙ ap (λ (head : Head). headed (record { at = 0; part = part }) head (header_among end head (lines_from text (0 + length part + 1)))) version_read
-    ∙ walk h end text more (fronts h) (0 + length part + 1) 1 empty_draft (fronts-are h session) on.rest (whole h session)
+    let there : text ≡ part ++ 10 ∷ (rest ++ more) =
+    is ∙ ap (λ (t : List ℕ). (line_text first ++ t) ++ more) (text-rows h) ∙ append_assoc (line_text first) rest more ∙ row_in_front first (rest ++ more) in
+    let on = IsAt-plain text 0 part (rest ++ more) there (row-plain first row) in
+    let same : length stated ≡ length rest = ap length (text-rows h) in
+    let size : 0 + length part + 1 + length rest ≡ length (head_text_of h) = omega (arith, same, size_is first stated) in
+    step end 0 text (rest ++ more) (Begun 0) first row there
+    ∙ ap (λ (head : Head). headed (record { at = 0; part = part }) head (header_among end head (lines_from text (0 + length part + 1)))) (version_read h.version session.version_least session.version_most)
+    ∙ walk h end text more (fronts h) (0 + length part + 1) 1 (empty_draft h.version) (fronts-are h session) on.rest (whole h session)
     ∙ ap (λ (n : ℕ). Ok (record { session = h; next = n })) size

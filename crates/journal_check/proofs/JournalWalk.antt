@@ -18,7 +18,6 @@ use Rattle.order_lines.proofs.WrittenCommands.{IsWritten-command}
 use Rattle.reply_lines.specs.inside.Journals.{count_line}
 use Rattle.reply_lines.specs.Output.{entry_line}
 use Rattle.std.specs.List.{flat_map, join_with_byte, AllByRecursion}
-use Rattle.fx_rules.proofs.Plain.{only_one, first-command}
 use Rattle.journal_check.specs.Lines.{LineAt, lines_from}
 use Rattle.fx_rules.specs.declared.command.Command.{Command}
 use Rattle.fx_rules.specs.declared.command.Sent.{Sent}
@@ -109,7 +108,7 @@ pub sent_at_line : (h : Header) (end : ℕ) (text rest : List ℕ) (at : ℕ) (b
     → commands_among h end before (suc count) (lines_from text at) ≡ commands_among h end (before ++ sent ∷ []) count (lines_from text (at + length (command_text_of h sent.bank sent.command) + 1))
 sent_at_line h end text rest at before count sent session valid here =
     let part : List ℕ = command_text_of h sent.bank sent.command in
-    let written = IsWritten-command h sent.bank sent.command session (first-command h sent.bank sent.command (only_one h session) valid.command) valid.command in
+    let written = IsWritten-command h sent.bank sent.command session valid.command in
     let on = IsAt-plain text at part rest here written.visible in
     let line : LineAt = record { at = at; part = part } in
     ap (commands_among h end before (suc count)) on.line
@@ -123,7 +122,7 @@ entries_at h end text more (e ∷ es) at before session are there =
     let part : List ℕ = command_text_of h e.bank e.command in
     let rest : List ℕ = flat_map (entry_line h) es ++ more in
     let here : drop at text ≡ part ++ 10 ∷ rest = there ∙ append_assoc (part ++ 10 ∷ []) (flat_map (entry_line h) es) more ∙ ended part rest in
-    let written = IsWritten-command h e.bank e.command session (first-command h e.bank e.command (only_one h session) are.0.command) are.0.command in
+    let written = IsWritten-command h e.bank e.command session are.0.command in
     sent_at_line h end text rest at before (length es) (sent_by e) session are.0 here
     ∙ entries_at h end text more es (at + length part + 1) (before ++ sent_by e ∷ []) session are.1 (IsAt-plain text at part rest here written.visible).rest
     ∙ ap (λ (s : List Sent). Ok s) (append_assoc before (sent_by e ∷ []) (map sent_by es))

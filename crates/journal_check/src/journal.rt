@@ -134,8 +134,6 @@ fn add_line(
     ensures count { OnOk result (journal.new.count ≡ journal.old.count + 1) }
     ensures lines { OnOk result (journal.new.lines.items ≡ journal.old.lines.items ++ sent_line session.now read.now.sent) }
 {
-    // The clauses on the line rest on a valid session, as each is.
-    let _banks = session.banks();
     if read.spelled {
         return journal.add_lines(1, read.line);
     }

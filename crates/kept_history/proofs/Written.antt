@@ -10,7 +10,6 @@ use Rattle.fx_rules.specs.Lists.{Each}
 use Rattle.fx_rules.specs.Session.{Header, IsSession}
 use Rattle.fx_rules.specs.Sending.{sent_by}
 use Rattle.fx_rules.specs.Step.{IsCommand}
-use Rattle.fx_rules.proofs.Plain.{only_one, first-command}
 use Rattle.fx_rules.specs.declared.command.Sent.{Sent}
 use Rattle.fx_rules.specs.declared.outcome.Entry.{Entry}
 use Rattle.session_head.specs.Draft.{Draft}
@@ -73,7 +72,7 @@ written_on h before [] more session all = ap (λ (sent : List Sent). behind sent
 written_on h before (e ∷ entries) more session all =
     let text : List ℕ = command_text_of h e.bank e.command in
     let rest : List ℕ = lines_written h entries in
-    let is = IsWritten-command h e.bank e.command session (first-command h e.bank e.command (only_one h session) all.0) all.0 in
+    let is = IsWritten-command h e.bank e.command session all.0 in
     let first : IsFirstLine (text ++ 10 ∷ (rest ++ more)) (line_of text) (rest ++ more) = record { lines = lines_of-line text (rest ++ more) is.visible; rest = rest_of-line text (rest ++ more) is.visible } in
     ap (λ (t : List ℕ). behind before (commands_in h t)) (append_assoc (text ++ 10 ∷ []) rest more ∙ append_assoc text (10 ∷ []) (rest ++ more))
     ∙ commands_more h before (before ++ sent_by e ∷ []) (text ++ 10 ∷ (rest ++ more)) (line_of text) (rest ++ more) (e.bank, e.command) first (sym is.read_back) refl

@@ -55,8 +55,6 @@ fn push_lines(session: &Session, entries: &[Entry], body: &mut Vec<u8>) -> Resul
     requires commands { Each (λ entry. IsCommand session.now entry.bank entry.command) entries.now }
     ensures lines { OnOk result (body.new.items ≡ body.old.items ++ block_of session.now entries.now) }
 {
-    // That an entry's sender is a bank rests on a valid session, as each is.
-    let _banks = session.banks();
     let mut line = LineText::new();
     for entry in entries {
         make_command(session, entry.bank, &entry.command, &mut line);

@@ -1,7 +1,9 @@
 -- The sweep of an order that wants more than its lines allow, and the local book.
 use Rattle.std.proofs.Common.{ℕ, ◌≡◌, ◌+◌, ◌-◌, ◌/◌, ◌^◌, ◌*◌, ◌≤◌, ◌<◌, min, true, false, not, ◌&&◌, eqb, leb, ltb, cond, List, [], ◌∷◌, ◌⊎◌, inl, inr, refl, ap, sym, subst, ◌∙◌, arith, map, take}
+use Rattle.std.proofs.Math.Path.{fun_ext}
 use Rattle.std.proofs.lemmas.Bool.{cond-false, false_from_ne_true, le-leb, lt-ltb}
 use Rattle.std.specs.List.{filter}
+use Rattle.std.specs.Option.{option_map}
 use Rattle.std.specs.Prelude.{slice_index}
 use Rattle.fx_amounts.specs.Price.{IsPrice, crosses}
 use Rattle.fx_amounts.specs.declared.side.Side.{Side}
@@ -10,16 +12,16 @@ use Rattle.fx_rules.specs.declared.orders.ActiveOrder.{ActiveOrder}
 use Rattle.fx_rules.specs.declared.orders.Resting.{Resting}
 use Rattle.fx_rules.specs.declared.orders.Fill.{Fill}
 use Rattle.fx_rules.specs.declared.orders.Level.{Level}
-use Rattle.fx_rules.specs.Lists.{Among, Each}
+use Rattle.fx_rules.specs.Lists.{Among, Each, total}
 use Rattle.fx_rules.specs.Session.{Header, bank_count, weight_of}
-use Rattle.fx_rules.specs.State.{State, orders_in, count_of, arrivals, line, reach, cost_between}
+use Rattle.fx_rules.specs.State.{State, orders_in, count_of, arrivals, at_most, headroom, left_of_limits, line, others, reach, cost_between, settled_between, spent, used}
 use Rattle.fx_rules.specs.Sweep.{Taker, Swept, is_opposite, is_open, open_orders, is_order, IsBest, amount, fill_with, lowered, with_left, filled, less}
 use Rattle.fx_rules.specs.Depth.{any_price, lots_against, with_fill, levels_of}
-use Rattle.fx_rules.specs.Sound.{IsSound, IsKept, IsPlain}
+use Rattle.fx_rules.specs.Sound.{IsSound, IsKept}
 use Rattle.fx_rules.proofs.ListLemmas.{Each-of, Each-among, Each-weaker, filter_agree_on}
-use Rattle.fx_rules.proofs.Credit.{IsAllowed}
+use Rattle.fx_rules.proofs.Credit.{IsAllowed, cost_between-append}
+use Rattle.fx_rules.proofs.Falling.{Terms, terms}
 use Rattle.fx_rules.proofs.Opens.{orders_in-among, IsMaker, maker_of, allowed-open}
-use Rattle.fx_rules.proofs.Plain.{plain-filled, plain-line_filled}
 use Rattle.fx_rules.proofs.Planning.{orders_in-rising}
 use Rattle.fx_rules.proofs.SweepSound.{filled-sound}
 use Rattle.fx_rules.proofs.Lowering.{Each-lowered, is_order-says}
@@ -75,11 +77,31 @@ maker_alone h S f sound fresh =
 abbrev renumbered : ℕ → Fill → Fill
 renumbered number fill = record fill { taker_number = number }
 
--- the same orders rest, the same was sent, and the lines are the same; there are no totals and no settlements
+-- the same orders rest, the terms of credit are the same, and the fills between any two banks cost as much
 record IsLike (h : Header) (S T : State) : Type 0 where
   pub orders : S.orders ≡ T.orders
-  pub lines : (i k : ℕ) → line h S i k ≡ line h T i k
-  pub plain : IsPlain S × IsPlain T
+  pub same_terms : terms S ≡ terms T
+  pub costs : (i k : ℕ) → cost_between h i k S.fills ≡ cost_between h i k T.fills
+
+-- so each line is the same
+module _ (h : Header) (S T : State) (like : IsLike h S T) where
+  like_used : (i k : ℕ) → used h S i k ≡ used h T i k
+  like_used i k =
+      ap (λ n. n - settled_between i k S.settlements) (like.costs i k)
+      ∙ ap (λ (t : Terms). cost_between h i k T.fills - settled_between i k t.2) like.same_terms
+
+  like_room : (i : ℕ) → headroom h S i ≡ headroom h T i
+  like_room i =
+      ap (λ (u : ℕ → ℕ). option_map (λ most. most - total u (others h i)) (S.totals i)) (fun_ext (like_used i))
+      ∙ ap (λ (t : Terms). option_map (λ most. most - spent h T i) (t.1 i)) like.same_terms
+
+  like_line : (i k : ℕ) → line h S i k ≡ line h T i k
+  like_line i k =
+      let left : left_of_limits h S i k ≡ left_of_limits h T i k =
+      ap (λ n. min (S.limits i k) (S.limits k i) - n) (like_used i k) ∙ ap (λ (t : Terms). min (t.0 i k) (t.0 k i) - used h T i k) like.same_terms in
+      ap (λ o. at_most o (at_most (headroom h S k) (left_of_limits h S i k))) (like_room i)
+      ∙ ap (λ o. at_most (headroom h T i) (at_most o (left_of_limits h S i k))) (like_room k)
+      ∙ ap (λ n. at_most (headroom h T i) (at_most (headroom h T k) n)) left
 
 -- to a bank that is not its taker it looks the same
 renumbered_same : (number : ℕ) (f : Fill) → SameFill (f.taker + 1) f (renumbered number f)
@@ -100,9 +122,9 @@ like_filled h S T f number sound like fresh other =
     record {
       orders = maker_alone h S f sound fresh ∙ sym (maker_alone h S g sound other)
           ∙ ap (λ os. lowered f.taker number f.lots (lowered f.maker f.maker_number f.lots os)) like.orders;
-      lines = λ i k. plain-line_filled h S f i k like.plain.0 ∙ ap (λ l. l - cost_between h i k (f ∷ [])) (like.lines i k)
-          ∙ ap (λ n. line h T i k - n) (cost_same h (f.taker + 1) i k f g (renumbered_same number f)) ∙ sym (plain-line_filled h T g i k like.plain.1);
-      plain = (plain-filled S f like.plain.0, plain-filled T g like.plain.1);
+      same_terms = like.same_terms;
+      costs = λ i k. cost_between-append h i k S.fills (f ∷ []) ∙ ap (λ n. n + cost_between h i k (f ∷ [])) (like.costs i k)
+          ∙ ap (λ n. cost_between h i k T.fills + n) (cost_same h (f.taker + 1) i k f g (renumbered_same number f)) ∙ sym (cost_between-append h i k T.fills (g ∷ []));
     }
 
 -- ---- the order with another number, as many lots as there are, and another arrival
@@ -133,7 +155,7 @@ open_instead h S T t number left arrival instead =
     let came : o.arrival < arrivals S = subst (λ (p : Resting). p.arrival < arrivals S) (sym found.3) kept.arrival in
     let here : o.arrival < t.arrival = omega (arith, came, instead.here) in
     let there : o.arrival < arrival = omega (arith, came, instead.there) in
-    ap (λ l. is_open t (l / weight_of h t.pair) o) (instead.like.lines t.bank o.bank)
+    ap (λ l. is_open t (l / weight_of h t.pair) o) (like_line h S T instead.like t.bank o.bank)
     ∙ arrived t number left arrival (reach h T t.bank o.bank t.pair) o here there)
     ∙ ap (λ os. filter test (orders_in t.pair os)) instead.like.orders
 
@@ -193,7 +215,7 @@ swept-instead h S T t number n arrival (f ∷ fills) left instead more swept =
     let against : best.left ≤ lots_against S t.pair t.side = against_most h S t best instead.sound best_is.there in
     let all : best.left ≤ n = omega (arith, against, instead.enough) in
     let one : 1 ≤ best.left = omega (arith, m.kept.left.0, ap (λ (o : Resting). o.left) m.order) in
-    let reach_is : r ≡ reach h T t.bank best.bank t.pair = ap (λ l. l / weight_of h t.pair) (instead.like.lines t.bank best.bank) in
+    let reach_is : r ≡ reach h T t.bank best.bank t.pair = ap (λ l. l / weight_of h t.pair) (like_line h S T instead.like t.bank best.bank) in
     let same : f.lots ≡ amount u best (reach h T t.bank best.bank t.pair) = same_amount t.left best.left r n f.lots lots_are below all ∙ ap (amount u best) reach_is in
     let is_fill : f ≡ fill_with t best f.lots = swept.3 ∙ ap (fill_with t best) (sym lots_are) in
     let taker : f.taker ≡ t.bank = ap (λ (g : Fill). g.taker) is_fill in
@@ -279,7 +301,7 @@ shown-levelled book credit weight bank side levels bank_in some levelled h S sou
     let swept : Swept h S t fills levelled.left = levelled.sweep h S sound fits in
     let instead : Instead h S S t number n (arrivals S) = record {
       sound = sound;
-      like = record { orders = refl; lines = λ i k. refl; plain = (fits.lines.plain, fits.lines.plain) };
+      like = record { orders = refl; same_terms = refl; costs = λ i k. refl };
       sender = omega (arith, bank_in, fits.lines.banks);
       weight = omega (arith, some, fits.weighs);
       fresh = inl refl;

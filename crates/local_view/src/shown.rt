@@ -13,7 +13,7 @@ use std::marker::Brand;
 use std::sync::ledger::{Blank, Ledger};
 
 /// The local book of a bank in a pair: `Depth` with, for bids, what an order of it would sell now at any price and, for
-/// asks, what one would buy, each capped by the bank's lines, summed by price and cut to ten levels. Both sides are of
+/// asks, what one would buy, each capped by the bank's lines and its total, summed by price and cut to ten levels. Both sides are of
 /// the book and the lines as they stand: they are the market's in the state of every legal history that the two are of
 /// (`depth`), and in every other sound state before the 2^64th command (`sound`), as those in the midst of a command are.
 ///

@@ -16,13 +16,12 @@ use Rattle.fx_rules.proofs.Planning.{div_none}
 use Rattle.fx_rules.proofs.Preference.{preferred_trans}
 use Rattle.global_book.specs.Book.{AreOwners, Book, IsBook}
 use Rattle.credit_lines.specs.Credit.{Credit, line_in}
-use Rattle.match_sweep.specs.Sweeps.{IsSweep}
 use Rattle.match_sweep.specs.inside.Heads.{IsFound, IsOpenHead, IsOpening, IsShut, OpensAt, better_head, first_open, opening_of, to_come}
-use Rattle.match_sweep.specs.inside.Walks.{WholeWalk, AgreeInBook, AgreeOn, AreOpened, Begins, IsBare, IsMarked, OpensBank, first_fill, head_of, reach_of}
+use Rattle.match_sweep.specs.inside.Walks.{WholeWalk, AgreeInBook, AgreeOn, AreOpened, Begins, IsBare, IsByLines, IsMarked, OpensBank, first_fill, head_of, reach_of}
 use Rattle.match_sweep.specs.declared.opening.Opening.{Opening}
 use Rattle.match_sweep.proofs.Picking.{none_among, open-to_come, among_to_come, to_come-open, not_before_first}
 use Rattle.match_sweep.proofs.Passed.{contains_or}
-use Rattle.match_sweep.proofs.Planning.{agrees-behind, planned-sweep}
+use Rattle.match_sweep.proofs.Planning.{agrees-behind}
 use Rattle.match_sweep.proofs.Stepping.{Chosen, IsNearSet, owners, paid_for}
 use Rattle.match_sweep.proofs.Tables.{total-most}
 
@@ -43,13 +42,11 @@ module _ (book : Book) (credit : Credit) (weight : ℕ) (t : Taker) where
   listed owners_now o are there = Each-among (λ (q : Resting). Contains owners_now q.bank) book.orders o are.all (in_book o there)
 
   -- where nothing may be taken of any bank, the sweep fills nothing
-  pub shut-sweep : (owners_now : List ℕ) → IsBook book → AreOwners book owners_now → book.banks ≡ credit.banks → t.bank < credit.banks → t.pair ≡ book.pair → 1 ≤ weight
-      → ((bank : ℕ) → Contains owners_now bank → IsShut book credit weight t bank) → IsSweep book credit weight t [] t.left
-  shut-sweep owners_now is are banks bank pair some shut =
-      planned-sweep book credit weight t (line_in credit t.bank) [] t.left is banks bank pair some (λ other below differ. refl) (
-        refl,
-        inr (none_among (first_open book credit weight t) (λ o there. shut-closed o (shut o.bank (listed owners_now o are there)) there)),
-      )
+  pub shut-sweep : (owners_now : List ℕ) → AreOwners book owners_now → ((bank : ℕ) → Contains owners_now bank → IsShut book credit weight t bank) → IsByLines book credit weight t [] t.left
+  shut-sweep owners_now are shut = (
+    refl,
+    inr (none_among (first_open book credit weight t) (λ o there. shut-closed o (shut o.bank (listed owners_now o are there)) there)),
+  )
 
   -- One more bank.
 
@@ -163,16 +160,8 @@ module _ (book : Book) (credit : Credit) (weight : ℕ) (t : Taker) where
     first_listed = Each-among (λ (q : Resting). Contains owners_now q.bank) book.orders opening.first are.all first_there
 
     -- where the first fill is all that the order wants, it is the sweep
-    pub first-sweep : book.banks ≡ credit.banks → t.bank < credit.banks → t.pair ≡ book.pair → 1 ≤ weight → 1 ≤ t.left → t.left - (first_fill credit weight t opening.first).lots ≡ 0
-        → IsSweep book credit weight t (first_fill credit weight t opening.first ∷ []) 0
-    first-sweep banks bank pair some wants whole =
-        planned-sweep book credit weight t (line_in credit t.bank) (first_fill credit weight t opening.first ∷ []) 0 is banks bank pair some (λ other below differ. refl) (
-          opening.first,
-          wants,
-          first_best,
-          refl,
-          (sym whole, inl whole),
-        )
+    pub first-sweep : 1 ≤ t.left → t.left - (first_fill credit weight t opening.first).lots ≡ 0 → IsByLines book credit weight t (first_fill credit weight t opening.first ∷ []) 0
+    first-sweep wants whole = (opening.first, wants, first_best, refl, (sym whole, inl whole))
 
     -- the same by a table of the lines with the banks of which something may be taken
     module _ (old walk : WholeWalk) (order_is : old.order ≡ t) (opened : AreOpened book credit owners_now opening old walk) where
@@ -228,9 +217,10 @@ module _ (book : Book) (credit : Credit) (weight : ℕ) (t : Taker) where
         most = omega (arith, total-most walk.lines (10 ^ 15) opened.most, opened.keeps.long, ap length bare.lines);
       }
 
-      pub opened-near : IsWeight weight → t.bank < book.banks → Begins book credit weight t walk → IsNearSet book walk opening.first.bank
-      opened-near weighs within begins = record {
+      pub opened-near : IsWeight weight → book.banks ≤ 64 → t.bank < book.banks → Begins book credit weight t walk → IsNearSet book walk opening.first.bank
+      opened-near weighs few within begins = record {
         valid = is;
+        few = few;
         bank = subst (λ (u : Taker). u.bank < book.banks) (sym begins.order) within;
         weight = subst IsWeight (sym begins.weighs) weighs;
         own = subst (λ (u : Taker). slice_index walk.lines u.bank ≡ 0) (sym begins.order) opened-own;

@@ -1,8 +1,8 @@
 -- The levels of the walk from price to price are those of the sweep of an order that takes all that its lines allow.
-use Rattle.std.proofs.Common.{ℕ, suc, ◌≡◌, ◌≢◌, ◌+◌, ◌*◌, ◌/◌, ◌^◌, ◌≤◌, ◌<◌, true, false, ◌&&◌, if◌then◌else◌, eqb, ltb, List, [], ◌∷◌, ◌++◌, length, inl, inr, refl, ap, sym, subst, ◌∙◌, arith, Option, Some, None, get_or, slice_index, take, append_assoc, append-nil, length-append}
+use Rattle.std.proofs.Common.{ℕ, suc, ◌≡◌, ◌≢◌, ◌+◌, ◌-◌, ◌*◌, ◌/◌, ◌^◌, ◌≤◌, ◌<◌, true, false, ◌&&◌, if◌then◌else◌, eqb, ltb, List, [], ◌∷◌, ◌++◌, length, ◌⊎◌, inl, inr, refl, ap, sym, subst, ◌∙◌, arith, Option, Some, None, get_or, slice_index, take, append_assoc, append-nil, length-append}
 use Rattle.std.proofs.Math.Nat.{div-le_self, le_of_mul-le-mul_right}
 use Rattle.std.proofs.lemmas.Bool.{cases_Bool, cases_eq, cases_lt, and_parts, and_from, both_ways, or_left, or_cases, false_from_ne_true, eqb-true, eq-eqb, ne_eqb, ltb-true}
-use Rattle.std.proofs.lemmas.List.{get_or_past, take_all, take_at}
+use Rattle.std.proofs.lemmas.List.{get_or_past}
 use Rattle.fx_amounts.specs.Price.{crosses}
 use Rattle.fx_amounts.specs.Quantity.{IsWeight}
 use Rattle.fx_amounts.specs.declared.side.Side.{Side}
@@ -13,17 +13,19 @@ use Rattle.fx_rules.specs.Lists.{Among, Each, total}
 use Rattle.fx_rules.specs.Sweep.{Taker, is_open, is_opposite, is_better, less}
 use Rattle.fx_rules.specs.Plan.{Planned, is_behind, open_behind}
 use Rattle.fx_rules.specs.Depth.{with_fill, levels_of}
+use Rattle.fx_rules.proofs.Capped.{affordable}
 use Rattle.fx_rules.proofs.Existing.{planned-exists}
 use Rattle.fx_rules.proofs.ListLemmas.{Among-filter, Each-among, total-append}
 use Rattle.fx_rules.proofs.Opens.{IsOpen, is_open-says}
 use Rattle.fx_rules.proofs.Planning.{open_own, open_parts}
 use Rattle.global_book.specs.Book.{Book, IsBook, IsHeld, IsPriceOf, is_of, is_worse, is_worse_of}
-use Rattle.credit_lines.specs.Credit.{Credit, line_in}
+use Rattle.credit_lines.specs.Credit.{Credit, line_in, room_in}
 use Rattle.match_sweep.specs.declared.reached.LevelWalk.{LevelWalk}
 use Rattle.match_sweep.specs.Reaches.{IsReached, IsUnlimited}
-use Rattle.match_sweep.specs.inside.Reaches.{AreTaken, BeginsAt, HaveLevels, IsBestPrice, TakesLevel, at_end, head_of, line_behind, past_order, price_in, price_of}
+use Rattle.match_sweep.specs.inside.Reaches.{AreTaken, BeginsAt, HaveLevels, IsBestPrice, IsMost, TakesLevel, at_end, cut, head_of, line_behind, past_order, price_in, price_of}
 use Rattle.match_sweep.specs.inside.Walks.{AgreeInBook}
 use Rattle.match_sweep.specs.Sweeps.{IsLevelled}
+use Rattle.match_sweep.proofs.Cutting.{AreCut, WithinTotal, cut-ended, cut-first, within-total}
 use Rattle.match_sweep.proofs.Levelling.{Going, IsEager, Taken, lots_of, less_less, less_none, once_more, takes}
 use Rattle.match_sweep.proofs.Picking.{none_among}
 use Rattle.match_sweep.proofs.Planning.{planned-agrees, planned-paid, planned-sweep}
@@ -384,7 +386,7 @@ module _ (book : Book) (valid : IsBook book) where
 
 -- The levels of an order that takes all that its lines allow.
 
-module _ (book : Book) (credit : Credit) (weight bank : ℕ) (side : Side) (first now : LevelWalk) (begins : BeginsAt book credit weight bank side first) (banks : book.banks ≡ credit.banks) (bank_in : bank < credit.banks) (some : 1 ≤ weight) where
+module _ (book : Book) (credit : Credit) (weight bank most : ℕ) (side : Side) (first now : LevelWalk) (begins : BeginsAt book credit weight bank side first) (banks : book.banks ≡ credit.banks) (bank_in : bank < credit.banks) (some : 1 ≤ weight) (most_is : IsMost (room_in credit bank) weight most) where
   first_weight : first.weight ≡ weight
   first_weight = ap (λ (w : LevelWalk). w.weight) begins.is
 
@@ -400,17 +402,34 @@ module _ (book : Book) (credit : Credit) (weight bank : ℕ) (side : Side) (firs
             ∙ ap (λ (b : ℕ). line_in credit b o.bank) (sym mine))
       ]
 
+  -- an order that wants no more lots than what its bank's total pays for
+  lesser : Taker → Taker
+  lesser t = affordable (room_in credit t.bank) weight t
+
+  lesser_least : (purse : Option ℕ) (t : Taker) → (affordable purse weight t).left ≤ t.left
+  lesser_least None t = omega arith
+  lesser_least (Some room) t = omega arith
+
+  taken_off : (a b rest : ℕ) → b ≤ a → a - b + rest + b ≡ a + rest
+  taken_off a b rest within = omega (arith, within)
+
   levelled_by : (t : Taker) (fills : List Fill) (left : ℕ) (levels : List Level) → t.bank ≡ bank → t.pair ≡ book.pair → Planned first.weight (slice_index first.lines) book.orders t None fills left
-      → levels ≡ take 10 (levels_of fills) → IsLevelled book credit weight t levels
+      → levels ≡ take 10 (cut most (levels_of fills)) → IsLevelled book credit weight t levels
+  unfolding lesser
   levelled_by t fills left levels mine pair planned is =
       let planned' : Planned weight (slice_index first.lines) book.orders t None fills left = subst (λ w. Planned w (slice_index first.lines) book.orders t None fills left) first_weight planned in
+      let few : lots_of fills ≤ 65 * 10 ^ 15 = omega (arith, planned-paid weight first.lines book.orders t None fills left some planned', begins.most) in
+      let u : Taker = lesser t in
+      let within : WithinTotal weight (slice_index first.lines) book.orders t (room_in credit t.bank) most fills =
+      within-total weight (slice_index first.lines) book.orders t (room_in credit t.bank) most fills left (subst (λ (b : ℕ). IsMost (room_in credit b) weight most) (sym mine) most_is) few planned' in
       record {
-        fills = fills;
-        left = left;
-        sweep = planned-sweep book credit weight t (line_in credit t.bank) fills left begins.valid banks (subst (λ (b : ℕ). b < credit.banks) (sym mine) bank_in) pair some (λ other below differ. refl)
-            (planned-agrees weight (slice_index first.lines) (line_in credit t.bank) book.orders t None fills left (lines_agree t mine) planned');
-        lots = omega (arith, planned-paid weight first.lines book.orders t None fills left some planned', begins.most);
-        first = is;
+        fills = within.made;
+        left = t.left - u.left + within.rest;
+        sweep = planned-sweep book credit weight t within.made within.rest (t.left - u.left + within.rest) begins.valid banks (subst (λ (b : ℕ). b < credit.banks) (sym mine) bank_in) pair some
+            (taken_off t.left u.left within.rest (lesser_least (room_in credit t.bank) t))
+            (planned-agrees weight (slice_index first.lines) (line_in credit t.bank) book.orders u None within.made within.rest (lines_agree u mine) within.planned);
+        lots = omega (arith, planned-paid weight first.lines book.orders u None within.made within.rest some within.planned, begins.most);
+        first = is ∙ ap (take 10) within.levels;
       }
 
   went_of : (t : Taker) (levels : List Level) → OnTheWay book begins.valid first now bank levels → t.bank ≡ bank → t.side ≡ side → IsUnlimited book t → WentLevels book begins.valid first now t levels
@@ -418,21 +437,21 @@ module _ (book : Book) (credit : Credit) (weight bank : ℕ) (side : Side) (firs
       way.went t mine (side_is ∙ sym first_taker) (record { crosses = unlimited.crosses; came = unlimited.came }) (omega (arith, begins.most, unlimited.wants))
 
   -- nothing more can be reached
-  pub reached-whole : (levels : List Level) → OnTheWay book begins.valid first now bank levels → IsBestPrice now 65 None → IsReached book credit weight bank side levels
-  reached-whole levels way best t mine pair side_is unlimited =
-      let w = went_of t levels way mine side_is unlimited in
+  pub reached-whole : (left : ℕ) (whole levels : List Level) → OnTheWay book begins.valid first now bank whole → AreCut most left whole levels → IsBestPrice now 65 None → IsReached book credit weight bank side levels
+  reached-whole left whole levels way are best t mine pair side_is unlimited =
+      let w = went_of t whole way mine side_is unlimited in
       let u : Taker = less t (lots_of w.fills) in
       let none = none_left book begins.valid now u (subst IsWeight (sym way.weight) way.weighs) begins.few (side_is ∙ sym first_taker ∙ sym way.taker) way.have best in
       let planned : Planned first.weight (slice_index now.lines) book.orders u (past_order now.last) [] u.left
       = subst (λ n. Planned n (slice_index now.lines) book.orders u (past_order now.last) [] u.left) way.weight (refl, inr none) in
       levelled_by t (w.fills ++ []) u.left levels mine pair (w.goes_on [] u.left planned)
-      (sym (ap (take 10) (w.levels_are [] u.left planned ∙ append-nil levels) ∙ take_all 10 levels way.few))
+      (cut-ended most left whole levels are way.few ∙ sym (ap (λ (ls : List Level). take 10 (cut most ls)) (w.levels_are [] u.left planned ∙ append-nil whole)))
 
-  -- ten levels are there
-  pub reached-full : (levels : List Level) → OnTheWay book begins.valid first now bank levels → 10 ≤ length levels → IsReached book credit weight bank side levels
-  reached-full levels way full t mine pair side_is unlimited =
-      let w = went_of t levels way mine side_is unlimited in
+  -- ten levels are there, or the total pays for no more lots
+  pub reached-full : (left : ℕ) (whole levels : List Level) → OnTheWay book begins.valid first now bank whole → AreCut most left whole levels → (10 ≤ length levels) ⊎ (left ≡ 0) → IsReached book credit weight bank side levels
+  reached-full left whole levels way are ended t mine pair side_is unlimited =
+      let w = went_of t whole way mine side_is unlimited in
       let u : Taker = less t (lots_of w.fills) in
       let rest = planned-exists first.weight (slice_index now.lines) book.orders u (past_order now.last) in
       levelled_by t (w.fills ++ rest.0) rest.1 levels mine pair (w.goes_on rest.0 rest.1 rest.2)
-      (sym (ap (take 10) (w.levels_are rest.0 rest.1 rest.2) ∙ take_at levels (levels_of rest.0) 10 (omega (arith, full, way.few))))
+      (cut-first most left whole levels are (levels_of rest.0) way.few ended ∙ sym (ap (λ (ls : List Level). take 10 (cut most ls)) (w.levels_are rest.0 rest.1 rest.2)))

@@ -7,6 +7,7 @@ pub mod Picking
 pub mod Levelling
 pub mod Stepping
 pub mod Reaching
+pub mod Cutting
 pub mod LevelSteps
 mod LevelOpening
 mod Ranking

@@ -10,19 +10,19 @@ use Rattle.fx_rules.specs.declared.orders.Resting.{Resting}
 use Rattle.fx_rules.specs.declared.orders.Fill.{Fill}
 use Rattle.fx_rules.specs.Lists.{Among, total}
 use Rattle.fx_rules.specs.Session.{Header, bank_count, weight_of}
-use Rattle.fx_rules.specs.State.{State, orders_in, line, reach}
+use Rattle.fx_rules.specs.State.{State, orders_in, at_most, line, reach}
 use Rattle.fx_rules.specs.Sweep.{Taker, is_open, open_orders, IsBest, amount, fill_with, less}
 use Rattle.fx_rules.specs.Plan.{Planned, is_behind, open_behind, spend}
 use Rattle.fx_rules.proofs.ListLemmas.{Each-among, Among-filter, filter_agree_on}
 use Rattle.fx_rules.proofs.Opens.{is_open-says}
-use Rattle.fx_rules.proofs.Plain.{plain-room}
+use Rattle.fx_rules.proofs.Capped.{affordable}
 use Rattle.fx_rules.proofs.Planning.{open_own, Agrees}
 use Rattle.fx_rules.proofs.PlanSwept.{planned-swept}
 use Rattle.global_book.specs.Book.{Book, IsBook, IsHeld}
-use Rattle.credit_lines.specs.Credit.{Credit, line_in}
-use Rattle.credit_lines.proofs.MarketLemmas.{line_in-line}
+use Rattle.credit_lines.specs.Credit.{Credit, left_in, line_in, room_in}
+use Rattle.credit_lines.proofs.MarketLemmas.{line_in-line, room_in-headroom}
 use Rattle.match_sweep.specs.Sweeps.{IsSweep}
-use Rattle.match_sweep.specs.inside.Walks.{AgreeInBook, AgreeOn}
+use Rattle.match_sweep.specs.inside.Walks.{AgreeInBook, AgreeOn, IsByLines}
 use Rattle.match_sweep.proofs.Tables.{total-changed}
 
 -- One step.
@@ -181,30 +181,60 @@ opens_first h S t lines book is owners agrees =
     ])
     ∙ ap (filter (λ o. is_open t (reach h S t.bank o.bank t.pair) o)) is
 
-sum_swap : (m n : ℕ) → m + n ≡ n + m
-sum_swap m n = omega arith
+most_twice : (room : Option ℕ) (n : ℕ) → at_most room (at_most room n) ≡ at_most room n
+most_twice None n = refl
+most_twice (Some most) n = omega arith
 
--- a sweep planned over a book and lines is the sweep of each state that they are of
-pub planned-sweep : (book : Book) (credit : Credit) (weight : ℕ) (t : Taker) (lines : ℕ → ℕ) (fills : List Fill) (left : ℕ) → IsBook book → book.banks ≡ credit.banks → t.bank < credit.banks → t.pair ≡ book.pair → 0 < weight → ((other : ℕ) → other < book.banks → other ≢ t.bank → lines other ≡ line_in credit t.bank other) → Planned weight lines book.orders t None fills left → IsSweep book credit weight t fills left
-planned-sweep book credit weight t lines fills left is banks bank pair some lines_are planned h S sound fits =
+-- A sweep of no more lots than the total of the order's bank pays for, as the lines allow it, is the sweep of each state that the book
+-- and the lines are of. What it leaves is what the lesser order leaves and what the total took off.
+pub planned-sweep : (book : Book) (credit : Credit) (weight : ℕ) (t : Taker) (fills : List Fill) (rest left : ℕ) → IsBook book → book.banks ≡ credit.banks → t.bank < credit.banks → t.pair ≡ book.pair → 0 < weight
+    → left + (affordable (room_in credit t.bank) weight t).left ≡ t.left + rest → IsByLines book credit weight (affordable (room_in credit t.bank) weight t) fills rest → IsSweep book credit weight t fills left
+planned-sweep book credit weight t fills rest left is banks bank pair some sum planned h S sound fits =
     let same : credit.banks ≡ bank_count h = fits.lines.banks in
-    let agrees : Agrees h S t.bank None lines = λ other other_in not_own.
-    let within : other < credit.banks = omega (arith, same, other_in) in
-    lines_are other (omega (arith, within, banks)) not_own
-    ∙ line_in-line h S credit t.bank other fits.lines (omega (arith, same, bank)) other_in (λ e. not_own (sym e)) in
+    let sender : t.bank < bank_count h = omega (arith, same, bank) in
+    let purse : Option ℕ = room_in credit t.bank in
+    let lines : ℕ → ℕ = line_in credit t.bank in
+    let agrees : Agrees h S t.bank purse lines = λ other other_in not_own.
+    most_twice purse (at_most (room_in credit other) (left_in credit t.bank other))
+    ∙ line_in-line h S credit t.bank other fits.lines sender other_in (λ e. not_own (sym e)) in
     let owners : (o : Resting) → Among o book.orders → o.bank < bank_count h = λ o there.
     let held : IsHeld book.banks o = Each-among (IsHeld book.banks) book.orders o is.held there in
     omega (arith, held.bank, banks, same) in
     let weighs : weight ≡ weight_of h t.pair = fits.weighs ∙ ap (weight_of h) (sym pair) in
-    planned-swept h S t lines None book.orders None fills left left
+    planned-swept h S t lines purse book.orders None fills rest left
     (record {
       sound = sound;
-      bank = omega (arith, same, bank);
+      bank = sender;
       weight = omega (arith, weighs, some);
-      purse_is = sym (plain-room h S t.bank fits.lines.plain);
+      purse_is = room_in-headroom h S credit t.bank fits.lines sender;
       agrees = agrees;
       rising = is.rising;
       owners = owners;
-      opens = λ _. opens_first h S t lines book.orders (fits.orders ∙ ap (λ p. orders_in p S.orders) (sym pair)) owners agrees;
+      opens = λ _. opens_first h S t (λ b. at_most purse (lines b)) book.orders (fits.orders ∙ ap (λ p. orders_in p S.orders) (sym pair)) owners agrees;
     })
-    (sum_swap left t.left) (subst (λ w. Planned w lines book.orders t None fills left) weighs planned)
+    (subst (λ w. left + (affordable purse w t).left ≡ t.left + rest) weighs sum)
+    (subst (λ w. Planned w lines book.orders (affordable purse w t) None fills rest) weighs planned)
+
+sum_swap : (m n : ℕ) → m + n ≡ n + m
+sum_swap m n = omega arith
+
+-- where the order's bank has no total
+pub unbounded-sweep : (book : Book) (credit : Credit) (weight : ℕ) (t : Taker) (fills : List Fill) (left : ℕ) → IsBook book → book.banks ≡ credit.banks → t.bank < credit.banks → t.pair ≡ book.pair → 0 < weight
+    → room_in credit t.bank ≡ None → IsByLines book credit weight t fills left → IsSweep book credit weight t fills left
+unbounded-sweep book credit weight t fills left is banks bank pair some none planned =
+    planned-sweep book credit weight t fills left left is banks bank pair some
+    (subst (λ (purse : Option ℕ). left + (affordable purse weight t).left ≡ t.left + left) (sym none) (sum_swap left t.left))
+    (subst (λ (purse : Option ℕ). IsByLines book credit weight (affordable purse weight t) fills left) (sym none) planned)
+
+cut_sum : (a n rest left reach : ℕ) → n ≡ min a reach → left ≡ rest + (a - n) → left + min reach a ≡ a + rest
+cut_sum a n rest left reach least sum = omega (arith, least, sum)
+
+-- where it has one, which leaves so much room
+pub bounded-sweep : (book : Book) (credit : Credit) (weight : ℕ) (t : Taker) (fills : List Fill) (room lots rest left : ℕ) → IsBook book → book.banks ≡ credit.banks → t.bank < credit.banks → t.pair ≡ book.pair → 0 < weight
+    → room_in credit t.bank ≡ Some room → lots ≡ min t.left (room / weight) → IsByLines book credit weight (record t { left = lots }) fills rest → left ≡ rest + (t.left - lots) → IsSweep book credit weight t fills left
+bounded-sweep book credit weight t fills room lots rest left is banks bank pair some has least planned sum =
+    let same : lots ≡ min (room / weight) t.left = omega (arith, least) in
+    planned-sweep book credit weight t fills rest left is banks bank pair some
+    (subst (λ (purse : Option ℕ). left + (affordable purse weight t).left ≡ t.left + rest) (sym has) (cut_sum t.left lots rest left (room / weight) least sum))
+    (subst (λ (purse : Option ℕ). IsByLines book credit weight (affordable purse weight t) fills rest) (sym has)
+    (subst (λ n. IsByLines book credit weight (record t { left = n }) fills rest) same planned))

@@ -1,5 +1,5 @@
 -- A walk's step: all heads are found, the best of them that may be taken is taken, and the other heads stay.
-use Rattle.std.proofs.Common.{ℕ, ◌≡◌, ◌≢◌, ◌-◌, ◌*◌, ◌/◌, ◌≤◌, ◌<◌, min, true, false, leb, List, [], ◌∷◌, ◌++◌, inl, inr, refl, ap, sym, subst, ◌∙◌, arith, length, get_or, slice_index, Option, Some, None, get_or-set_other}
+use Rattle.std.proofs.Common.{ℕ, ◌≡◌, ◌≢◌, ◌-◌, ◌*◌, ◌/◌, ◌≤◌, ◌<◌, min, true, false, ◌&&◌, leb, List, [], ◌∷◌, ◌++◌, inl, inr, refl, ap, sym, subst, ◌∙◌, arith, length, get_or, slice_index, Option, Some, None, get_or-set_other}
 use Rattle.std.proofs.Math.ListN.{set}
 use Rattle.std.proofs.Math.Nat.{le-div_iff_mul-le}
 use Rattle.std.proofs.lemmas.Bool.{and_parts, and_cases, and_from, both_ways, false_from_ne_true, leb-true, le-leb}
@@ -11,9 +11,9 @@ use Rattle.fx_amounts.specs.Quantity.{IsWeight}
 use Rattle.fx_rules.specs.declared.orders.Resting.{Resting}
 use Rattle.fx_rules.specs.declared.orders.Fill.{Fill}
 use Rattle.fx_rules.specs.Lists.{Among}
-use Rattle.fx_rules.specs.Sweep.{IsBest, is_preferred, amount, fill_with, less}
-use Rattle.fx_rules.specs.Plan.{open_behind}
-use Rattle.fx_rules.proofs.ListLemmas.{Each-among}
+use Rattle.fx_rules.specs.Sweep.{IsBest, is_open, is_preferred, amount, fill_with, less}
+use Rattle.fx_rules.specs.Plan.{is_behind, open_behind}
+use Rattle.fx_rules.proofs.ListLemmas.{Among-filter, Each-among}
 use Rattle.fx_rules.proofs.Planning.{div_none}
 use Rattle.fx_rules.proofs.Preference.{preferred_self, preferred_trans}
 use Rattle.global_book.specs.Book.{AreOwners, Book, IsBook, IsHeld}
@@ -40,7 +40,7 @@ not_ahead_self walk n bank same =
     subst (λ (b : ℕ). is_ahead walk.order.side (head_of walk b) (head_of walk n) ≡ false) (sym same) (ahead_self walk.order.side (head_of walk n))
 
 -- the next bank leads
-pub picked-lead : (walk : WholeWalk) (banks : List ℕ) (n : ℕ) (best : Option ℕ) → n < 65 → IsPickedAt walk banks best → leads walk n best ≡ true → IsPickedAt walk (banks ++ n ∷ []) (Some n)
+pub picked-lead : (walk : WholeWalk) (banks : List ℕ) (n : ℕ) (best : Option ℕ) → n < 64 → IsPickedAt walk banks best → leads walk n best ≡ true → IsPickedAt walk (banks ++ n ∷ []) (Some n)
 picked-lead walk banks n None within picked lead = (
   Contains-push banks n,
   within,
@@ -89,6 +89,7 @@ picked-stay walk banks n (Some best) picked stay = (
 -- A walk with all its heads.
 
 pub record IsSet (book : Book) (walk : WholeWalk) : Type 0 where
+  pub few : book.banks ≤ 64
   pub bank : walk.order.bank < book.banks
   pub weight : IsWeight walk.weight
   pub own : slice_index walk.lines walk.order.bank ≡ 0
@@ -96,6 +97,7 @@ pub record IsSet (book : Book) (walk : WholeWalk) : Type 0 where
 
 pub renewed-set : (book : Book) (old new : WholeWalk) → IsReady book old → IsRenewed book old new → IsSet book new
 renewed-set book old new ready renewed = record {
+  few = ready.few;
   bank = subst (λ (w : WholeWalk). w.order.bank < book.banks) (sym renewed.same) ready.bank;
   weight = subst (λ (w : WholeWalk). IsWeight w.weight) (sym renewed.same) ready.weight;
   own = subst (λ (w : WholeWalk). slice_index w.lines w.order.bank ≡ 0) (sym renewed.same) ready.own;
@@ -191,6 +193,7 @@ least_reach a b r lots is = omega arith
 -- A walk of which all heads are known but for that of a bank, from which it takes the best order.
 pub record IsNearSet (book : Book) (walk : WholeWalk) (apart : ℕ) : Type 0 where
   pub valid : IsBook book
+  pub few : book.banks ≤ 64
   pub bank : walk.order.bank < book.banks
   pub weight : IsWeight walk.weight
   pub own : slice_index walk.lines walk.order.bank ≡ 0
@@ -200,6 +203,7 @@ pub record IsNearSet (book : Book) (walk : WholeWalk) (apart : ℕ) : Type 0 whe
 pub set-near : (book : Book) (walk : WholeWalk) (apart : ℕ) → IsBook book → IsSet book walk → IsNearSet book walk apart
 set-near book walk apart is set_is = record {
   valid = is;
+  few = set_is.few;
   bank = set_is.bank;
   weight = set_is.weight;
   own = set_is.own;
@@ -215,7 +219,10 @@ taken-ready book walk new found fill near chosen takes =
     let none : reach_of walk walk.order.bank ≡ 0 = ap (λ n. n / walk.weight) near.own ∙ div_none 0 walk.weight (omega (arith, near.weight.0)) in
     subst (IsReady book) (sym takes.now)
     (record {
+      few = near.few;
       bank = near.bank;
+      taken = owners book near.valid best
+          (Among-filter (λ (o : Resting). is_open walk.order (reach_of walk o.bank) o && is_behind walk.order.side walk.last o) book.orders best chosen.best.there).0;
       weight = near.weight;
       own = none-kept walk.lines best.bank walk.order.bank rest within (omega arith) near.own;
       heads = λ bank below other reach.
@@ -239,14 +246,3 @@ renewed-ends book old walk step renewed from none =
 
 pub renewed-left : (book : Book) (old walk : WholeWalk) → IsRenewed book old walk → walk.order.left ≡ old.order.left
 renewed-left book old walk renewed = ap (λ (w : WholeWalk). w.order.left) renewed.same
-
--- a walk whose heads are all found is one of which that of one bank may be out of date
-pub set-ready : (book : Book) (old walk : WholeWalk) → IsReady book old → IsRenewed book old walk → IsReady book walk
-set-ready book old walk ready renewed =
-    let set_is = renewed-set book old walk ready renewed in
-    record {
-      bank = set_is.bank;
-      weight = set_is.weight;
-      own = set_is.own;
-      heads = λ bank below _ reach. set_is.heads bank below reach;
-    }

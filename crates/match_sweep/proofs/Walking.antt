@@ -1,14 +1,13 @@
 -- The fills of a walk so far, and what they come to at its end.
-use Rattle.std.proofs.Common.{ℕ, ◌≡◌, ◌+◌, ◌*◌, ◌^◌, ◌≤◌, ◌<◌, List, [], ◌∷◌, ◌++◌, None, ap, refl, slice_index, sym, subst, ◌∙◌, arith, append_assoc, append-nil}
+use Rattle.std.proofs.Common.{ℕ, ◌≡◌, ◌+◌, ◌*◌, ◌^◌, ◌≤◌, List, [], ◌∷◌, ◌++◌, None, ap, refl, slice_index, sym, subst, ◌∙◌, arith, append_assoc, append-nil}
 use Rattle.fx_rules.specs.declared.orders.Fill.{Fill}
 use Rattle.fx_rules.specs.Lists.{total}
 use Rattle.fx_rules.specs.Sweep.{Taker}
 use Rattle.fx_rules.specs.Plan.{Planned}
 use Rattle.global_book.specs.Book.{Book}
 use Rattle.credit_lines.specs.Credit.{Credit, line_in}
-use Rattle.match_sweep.specs.Sweeps.{IsSweep}
-use Rattle.match_sweep.specs.inside.Walks.{WholeWalk, FromHere, LeadsOn, StepsOn, IsReady, Begins, BeginsBehind}
-use Rattle.match_sweep.proofs.Planning.{planned-agrees, planned-sum, planned-paid, planned-sweep}
+use Rattle.match_sweep.specs.inside.Walks.{WholeWalk, FromHere, LeadsOn, StepsOn, IsByLines, IsReady, Begins, BeginsBehind}
+use Rattle.match_sweep.proofs.Planning.{planned-agrees, planned-sum, planned-paid}
 
 -- A walk made these fills since it was another: whatever it makes from here the other makes, behind them.
 pub record Went (book : Book) (first now : WholeWalk) (fills : List Fill) : Type 0 where
@@ -63,7 +62,7 @@ gone-whole book credit weight t now new fills made gone step is =
 pub gone-arrival : (book : Book) (credit : Credit) (weight : ℕ) (t : Taker) (now : WholeWalk) (fills : List Fill) → Gone book credit weight t now fills → now.order.arrival ≡ t.arrival
 gone-arrival book credit weight t now fills gone = gone.went.arrival ∙ ap (λ (u : Taker). u.arrival) gone.begins.order
 
--- What a walk makes from its beginning is the sweep of its order.
+-- What a walk makes from its beginning is the sweep of its order by the lines.
 
 begun : (book : Book) (credit : Credit) (weight : ℕ) (t : Taker) (walk : WholeWalk) (fills : List Fill) (left : ℕ) → Begins book credit weight t walk → FromHere book walk fills left → Planned weight (slice_index walk.lines) book.orders t None fills left
 begun book credit weight t walk fills left begins from =
@@ -79,7 +78,6 @@ pub begun-lots : (book : Book) (credit : Credit) (weight : ℕ) (t : Taker) (wal
 begun-lots book credit weight t walk fills left some begins from =
     omega (arith, planned-paid weight walk.lines book.orders t None fills left some (begun book credit weight t walk fills left begins from), begins.most)
 
-pub begun-sweep : (book : Book) (credit : Credit) (weight : ℕ) (t : Taker) (walk : WholeWalk) (fills : List Fill) (left : ℕ) → book.banks ≡ credit.banks → t.bank < credit.banks → t.pair ≡ book.pair → 1 ≤ weight → Begins book credit weight t walk → FromHere book walk fills left → IsSweep book credit weight t fills left
-begun-sweep book credit weight t walk fills left banks bank pair some begins from =
-    planned-sweep book credit weight t (line_in credit t.bank) fills left begins.valid banks bank pair some (λ other below differ. refl)
-    (planned-agrees weight (slice_index walk.lines) (line_in credit t.bank) book.orders t None fills left begins.agrees (begun book credit weight t walk fills left begins from))
+pub begun-sweep : (book : Book) (credit : Credit) (weight : ℕ) (t : Taker) (walk : WholeWalk) (fills : List Fill) (left : ℕ) → Begins book credit weight t walk → FromHere book walk fills left → IsByLines book credit weight t fills left
+begun-sweep book credit weight t walk fills left begins from =
+    planned-agrees weight (slice_index walk.lines) (line_in credit t.bank) book.orders t None fills left begins.agrees (begun book credit weight t walk fills left begins from)

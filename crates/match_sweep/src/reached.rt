@@ -2,9 +2,10 @@ ghost use Rattle.std.specs.Prelude.{ℕ, Option, ◌≡◌, ◌≢◌, ◌+◌, 
 ghost use Rattle.fx_amounts.specs.Quantity.{IsWeight};
 ghost use Rattle.fx_rules.specs.Lists.{total};
 ghost use Rattle.fx_rules.specs.Sweep.{is_better};
+ghost use Rattle.credit_lines.specs.Credit.{room_in};
 ghost use Rattle.global_book.specs.Book.{is_worse};
 ghost use Rattle.match_sweep.specs.Reaches.{IsReached};
-ghost use Rattle.match_sweep.specs.inside.Reaches.{AreRanked, AreTaken, BeginsAt, HaveLevels, IsBareLevel, IsBestAmong, IsBestPrice, IsHead, IsRank, OpensLevel, Puts, TakesLevel, TakesOf, bank_level, head_of, price_of};
+ghost use Rattle.match_sweep.specs.inside.Reaches.{AreRanked, AreTaken, BeginsAt, HaveLevels, IsBareLevel, IsBestAmong, IsBestPrice, IsHead, IsMost, IsRank, OpensLevel, Puts, TakesLevel, TakesOf, bank_level, head_of, price_of};
 
 use credit_lines::CreditLines;
 use fx_amounts::{BankId, Memory, Price, Side};
@@ -15,8 +16,8 @@ use std::alloc::Global;
 use std::sync::ledger::Ledger;
 
 /// The first ten levels of what a bank reaches with an order of this side, at any price and for as many lots as there are, by
-/// its lines, where a lot costs `weight` credit units, 1 to 10^6. It walks from price to price over what each bank has at
-/// it, and not from order to order. It changes nothing but the counter of its steps, of which it takes one for each bank at most
+/// its lines and its total, where a lot costs `weight` credit units, 1 to 10^6. It walks from price to price over what each bank has at
+/// it, and not from order to order, until the total pays for no more lots. It changes nothing but the counter of its steps, of which it takes one for each bank at most
 /// as it begins, and as many for each level. The book was made for as many banks as the lines have, and the bank is one of them. At
 /// `Memory` there was none for the levels.
 pub fn levels_in_reach<L: Ledger>(
@@ -43,15 +44,33 @@ pub fn levels_in_reach<L: Ledger>(
         last: None,
     };
     walk.open_banks(book, lines, bank, steps);
+    let mut most = lots_by_total(lines, bank, weight);
     let mut levels = Vec::new(alloc);
     levels.reserve_exact(SHOWN_LEVELS)?;
-    while levels.len() < SHOWN_LEVELS {
+    while levels.len() < SHOWN_LEVELS && most > 0 {
         let Some(level) = walk.next_level(book, steps) else {
             break;
         };
-        levels.push(level)?;
+        let lots = level.lots.min(most);
+        most -= lots;
+        levels.push(Level {
+            price: level.price,
+            lots,
+        })?;
     }
     Ok(LevelList::from_vec(levels))
+}
+
+/// The lots that a bank's total pays for, where it has one; else as many as no lines allow.
+fn lots_by_total(lines: &CreditLines, bank: BankId, weight: u32) -> u64
+    requires bank { bank < lines.now.banks }
+    requires weight { IsWeight weight }
+    ensures { IsMost (room_in lines.now bank) weight result }
+{
+    match lines.room(bank) {
+        Some(room) => room / u64::from(weight),
+        None => u64::MAX,
+    }
 }
 
 /// The rank of a bank of which nothing can be taken. All others are lower: the better a price, the lower its rank.

@@ -6,7 +6,7 @@ ghost use Rattle.global_book.specs.Book.{AreOwners, IsBook};
 ghost use Rattle.match_sweep.specs.Takers.{swept_in};
 ghost use Rattle.match_sweep.specs.Sweeps.{IsSweep};
 ghost use Rattle.match_sweep.specs.inside.Heads.{CameBefore, IsOpening};
-ghost use Rattle.match_sweep.specs.inside.Walks.{first_fill};
+ghost use Rattle.match_sweep.specs.inside.Walks.{IsByLines, first_fill};
 
 use crate::opening::{Opening, find_opening};
 use crate::taker::Taker;
@@ -69,7 +69,8 @@ pub fn plan<L: Ledger>(
 }
 
 /// The sweep of an order of the book's pair, which may want more lots than an order can have, as `plan` finds that of a taker.
-/// The lots of its fills are at most all that the lines of its bank allow.
+/// The lots of its fills are at most all that the lines of its bank allow. What the total of its bank, where it has one, does not pay for is
+/// left.
 pub fn sweep<L: Ledger>(
     alloc: Global,
     book: &PairBook,
@@ -86,6 +87,36 @@ pub fn sweep<L: Ledger>(
     ensures sum { IfOk result (λ sweep. total (λ fill. fill.lots) sweep.fills + sweep.left ≡ order.now.left) }
     ensures lots { IfOk result (λ sweep. total (λ fill. fill.lots) sweep.fills ≤ 65 * 10 ^ 15) }
     ensures steps { Each (λ other. other.arrival < order.now.arrival) book.now.orders → IfOk result (λ sweep. steps.new ≤ steps.old + (length sweep.fills + 1) * book.now.banks) }
+    ensures valid { IsBook book.now }
+{
+    let Some(room) = lines.room(order.bank) else {
+        return sweep_by_lines(alloc, book, lines, weight, order, steps);
+    };
+    let mut lesser = *order;
+    lesser.left = order.left.min(u128::from(room / u64::from(weight)));
+    let cut_off = order.left - lesser.left;
+    let mut sweep = sweep_by_lines(alloc, book, lines, weight, &lesser, steps)?;
+    sweep.left += cut_off;
+    Ok(sweep)
+}
+
+/// The sweep of an order as the lines of its bank allow it, whatever the bank's total leaves.
+fn sweep_by_lines<L: Ledger>(
+    alloc: Global,
+    book: &PairBook,
+    lines: &CreditLines,
+    weight: u32,
+    order: &SweptOrder,
+    steps: &mut Steps<L>,
+) -> Result<SweepPlan, Memory>
+    requires banks { book.now.banks ≡ lines.now.banks }
+    requires bank { order.now.bank < lines.now.banks }
+    requires pair { order.now.pair ≡ book.now.pair }
+    requires weight { IsWeight weight }
+    ensures sweep { IfOk result (λ sweep. IsByLines book.now lines.now weight order.now sweep.fills sweep.left) }
+    ensures sum { IfOk result (λ sweep. total (λ fill. fill.lots) sweep.fills + sweep.left ≡ order.now.left) }
+    ensures lots { IfOk result (λ sweep. total (λ fill. fill.lots) sweep.fills ≤ 65 * 10 ^ 15) }
+    ensures steps { CameBefore book.now.orders order.now.arrival → IfOk result (λ sweep. steps.new ≤ steps.old + (length sweep.fills + 1) * book.now.banks) }
     ensures valid { IsBook book.now }
 {
     let owners = book.owners();
@@ -124,12 +155,13 @@ fn walk_on<L: Ledger>(
     requires valid { IsBook book.now }
     requires opening { IsOpening book.now lines.now weight order.now owners.now opening.now }
     requires banks { book.now.banks ≡ lines.now.banks }
+    requires few { book.now.banks ≤ 64 }
     requires bank { order.now.bank < lines.now.banks }
     requires pair { order.now.pair ≡ book.now.pair }
     requires weight { IsWeight weight }
     requires left { 1 ≤ order.now.left }
     requires first { fills.items ≡ first_fill lines.now weight order.now opening.now.first ∷ [] }
-    ensures sweep { IfOk result (λ sweep. IsSweep book.now lines.now weight order.now sweep.fills sweep.left) }
+    ensures sweep { IfOk result (λ sweep. IsByLines book.now lines.now weight order.now sweep.fills sweep.left) }
     ensures sum { IfOk result (λ sweep. total (λ fill. fill.lots) sweep.fills + sweep.left ≡ order.now.left) }
     ensures lots { IfOk result (λ sweep. total (λ fill. fill.lots) sweep.fills ≤ 65 * 10 ^ 15) }
     ensures steps { CameBefore book.now.orders order.now.arrival → IfOk result (λ sweep. steps.new + 1 ≤ steps.old + length owners.now + length sweep.fills) }
@@ -141,7 +173,7 @@ fn walk_on<L: Ledger>(
         lines: [0; BankId::SENDERS],
         last: None,
     };
-    let mut heads = [None; BankId::SENDERS];
+    let mut heads = [None; BankId::COUNT];
     walk.take_first(&mut heads, book, owners, lines, opening, steps);
     while let Some(fill) = walk.next_fill(&mut heads, book, steps) {
         fills.push(fill)?;
@@ -162,6 +194,7 @@ fn first_fill(lines: &CreditLines, weight: u32, order: &SweptOrder, maker: &Rest
     requires left { 1 ≤ order.now.left }
     requires reach { 1 ≤ line_in lines.now order.now.bank maker.now.bank / weight }
     ensures value { result ≡ first_fill lines.now weight order.now maker.now }
+    ensures few { lines.now.banks ≤ 64 }
 {
     let line = lines.eff(order.bank, maker.bank).get();
     let lots = order.amount_by_line(maker, line, weight);

@@ -17,9 +17,9 @@ use price_levels::Steps;
 use std::sync::ledger::Ledger;
 
 /// Of each bank of which a sweep may take something the best order that it may still come to, where it takes its price. That of
-/// the bank that was taken from last is out of date. The heads stand apart from their walk, since a table of more than 2,048 bytes
-/// is cleared slowly.
-pub(crate) type Heads = [Option<Resting>; BankId::SENDERS];
+/// the bank that was taken from last is out of date. A table of more than 2,048 bytes is cleared slowly: so the heads have a place for
+/// each bank and none for the operator, and stand apart from their walk.
+pub(crate) type Heads = [Option<Resting>; BankId::COUNT];
 
 /// A sweep as it goes from best order to best order, beside its `Heads`. It changes no book. It is large, and stays where it was made.
 #[derive(Drop)]
@@ -51,6 +51,7 @@ impl Walk {
         requires valid { IsBook book.now }
         requires opening { IsOpening book.now lines.now self.old.weight self.old.order owners.now opening.now }
         requires banks { book.now.banks ≡ lines.now.banks }
+        requires few { book.now.banks ≤ 64 }
         requires bank { self.old.order.bank < lines.now.banks }
         requires weight { IsWeight self.old.weight }
         requires left { 1 ≤ self.old.order.left }
@@ -152,7 +153,7 @@ impl Walk {
 
     /// Whether the bank of this number has a head that may be taken: the line pays for a lot, and the order takes its price.
     fn may_take(&self, heads: &Heads, number: usize) -> bool
-        requires { number < 65 }
+        requires { number < 64 }
         ensures value { let walk = whole self.now heads.now in result ≡ may_take_head walk number (head_of walk number) }
     {
         let Some(head) = heads[number] else {
@@ -164,8 +165,8 @@ impl Walk {
 
     /// Whether the order prefers the head of the first bank to that of the second.
     fn is_ahead(&self, heads: &Heads, number: usize, other: usize) -> bool
-        requires first { number < 65 }
-        requires second { other < 65 }
+        requires first { number < 64 }
+        requires second { other < 64 }
         ensures value { let walk = whole self.now heads.now in result ≡ is_ahead self.now.order.side (head_of walk number) (head_of walk other) }
     {
         let (Some(head), Some(other)) = (heads[number], heads[other]) else {
@@ -176,8 +177,8 @@ impl Walk {
 
     /// Whether the head of the bank of this number may be taken, and is preferred to that of the best bank so far.
     fn leads(&self, heads: &Heads, number: usize, best: Option<usize>) -> bool
-        requires number { number < 65 }
-        requires best { IfSome best (λ at. at < 65) }
+        requires number { number < 64 }
+        requires best { IfSome best (λ at. at < 64) }
         ensures value { result ≡ leads (whole self.now heads.now) number best }
     {
         match best {
@@ -188,6 +189,7 @@ impl Walk {
 
     /// The best of the heads of these banks that may be taken.
     fn best_head(&self, heads: &Heads, owners: &[BankId]) -> Option<Resting>
+        requires few { (bank : ℕ) → Contains owners.now bank → bank < 64 }
         ensures picked { IsPicked (whole self.now heads.now) owners.now result }
     {
         let mut best = None;

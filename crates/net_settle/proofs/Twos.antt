@@ -1,13 +1,11 @@
 -- Sums over each two banks, and over what they pay each other.
 use Rattle.std.proofs.Common.{ℕ, zero, suc, ◌≡◌, ◌+◌, ◌-◌, ◌≤◌, ◌<◌, Bool, true, false, ◌&&◌, ◌||◌, nat_lt, eqb, cond, List, [], ◌∷◌, map, inl, inr, refl, ap, sym, ◌∙◌, arith}
-use Rattle.std.specs.Prelude.{◌⊎◌}
 use Rattle.std.specs.List.{filter, flat_map}
 use Rattle.std.proofs.lemmas.Bool.{cases_lt, cases_Bool, cases_eq, cases_order, eq-eqb, ne_eqb, lt-ltb, le-ltb}
 use Rattle.fx_rules.specs.Lists.{total, below}
 use Rattle.fx_rules.proofs.ListLemmas.{total-append}
-use Rattle.day_report.proofs.Sums.{when, when_most, total_push, total_agree, total_add, total_swap, total_zero, total_filter, none_below, pick_below}
+use Rattle.day_report.proofs.Sums.{when, when_most, total_push, total_agree, total_add, total_swap, total_zero, total_filter, none_below, pick_below, cells}
 use Rattle.day_report.proofs.Balance.{when_total}
-use Rattle.day_report.proofs.LotsFit.{cells}
 use Rattle.net_settle.specs.declared.payment.Payment.{Payment}
 use Rattle.net_settle.specs.Payments.{pay, pay_two, got_by, paid_by, moves}
 

@@ -1,9 +1,10 @@
 ghost use Rattle.std.specs.Prelude.{◌≡◌, List, map, IfOk};
 ghost use Rattle.fx_rules.specs.declared.outcome.Entry.{Entry};
-ghost use Rattle.fx_rules.specs.Session.{Header, sender_places, senders};
+ghost use Rattle.fx_rules.specs.Session.{Header, senders};
 ghost use Rattle.fx_rules.specs.Lists.{Among};
 ghost use Rattle.fx_rules.specs.History.{IsLegal, own};
-ghost use Rattle.fx_chronicle.specs.Faces.{AreNew, Witness};
+ghost use Rattle.fx_chronicle.specs.Faces.{Witness};
+ghost use Rattle.fx_desk.specs.Passes.{new_passes};
 ghost use Rattle.fx_desk.specs.Submitting.{IsWholeOf};
 
 use crate::floor::Floor;
@@ -34,11 +35,11 @@ pub fn open_one<N: Naming>(
     requires table { blank.table ≡ N.table }
     requires keys { blank.keys ≡ 65 }
     requires session { session.now ≡ N.session }
-    ensures passes { IfOk result (λ opened. AreNew (sender_places N.session) opened.1.items) }
+    ensures passes { IfOk result (λ opened. opened.1.items ≡ new_passes N.session) }
     ensures senders { IfOk result (λ opened. map (λ pass. pass.key) opened.1.items ≡ senders N.session) }
 {
     let (writer, fronts) = open::<N, Entry>(alloc, blank)?;
-    let passes = open_passes(alloc, session.banks().len(), fronts)?;
+    let passes = open_passes(alloc, session, fronts)?;
     let floor = Floor::open(FlatHost::open(alloc, session)?, writer);
     Ok((
         OneLockHost {

@@ -11,7 +11,7 @@ use Rattle.fx_rules.specs.declared.command.Life.TheVariants.{Day, Ioc, Fok}
 use Rattle.fx_rules.proofs.NameTexts.{HasNameBytes-name, HasPairBytes-pair_text}
 use Rattle.order_lines.specs.Words.{word_text, life_text, bad_word}
 use Rattle.order_lines.specs.declared.word.Word.{Word}
-use Rattle.order_lines.specs.declared.word.Word.TheVariants.{Buy, Sell, Cancel, Reduce, Pull, Line, Show, Book}
+use Rattle.order_lines.specs.declared.word.Word.TheVariants.{Buy, Sell, Cancel, Reduce, Pull, Line, Show, Book, Total, Settle}
 
 -- words
 pub IsField-word : (word : Word) → IsField (word_text word)
@@ -23,6 +23,8 @@ IsField-word Pull = IsField-tested (word_text Pull) refl
 IsField-word Line = IsField-tested (word_text Line) refl
 IsField-word Show = IsField-tested (word_text Show) refl
 IsField-word Book = IsField-tested (word_text Book) refl
+IsField-word Total = IsField-tested (word_text Total) refl
+IsField-word Settle = IsField-tested (word_text Settle) refl
 
 pub IsField-life : (life : Life) → IsField (life_text life)
 IsField-life Day = IsField-tested (life_text Day) refl

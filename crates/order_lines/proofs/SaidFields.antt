@@ -14,6 +14,7 @@ use Rattle.fx_amounts.specs.declared.price_text.PriceFault.{PriceFault}
 use Rattle.fx_amounts.specs.declared.price_text.PriceFault.TheVariants.{Form, Range}
 use Rattle.fx_amounts.proofs.PriceTextLemmas.{Says, Says-price_of, price_of-price_text, price_of_ticks-in, price_of_ticks-out}
 use Rattle.fx_text.specs.Faults.{◌>>=◌}
+use Rattle.fx_text.specs.Fields.{field_at}
 use Rattle.fx_text.specs.Number.{number_of}
 use Rattle.fx_text.proofs.NumberLemmas.{Reads, Reads-number_of, number_of-numeral}
 use Rattle.fx_rules.specs.Reject.{code_of}
@@ -23,15 +24,13 @@ use Rattle.fx_rules.specs.declared.command.Life.{Life}
 use Rattle.fx_rules.specs.declared.command.Life.TheVariants.{Day, Ioc, Fok}
 use Rattle.fx_rules.specs.declared.command.Reject.{Reject}
 use Rattle.fx_rules.specs.declared.command.Reject.TheVariants as reject
-use Rattle.fx_rules.specs.declared.command.Command.TheVariants as command
 use Rattle.fx_rules.specs.declared.session.PairRule.{PairRule}
-use Rattle.fx_rules.proofs.Senders.{IsPlainCommand}
 use Rattle.fx_rules.proofs.SessionLemmas.{found_from_place}
-use Rattle.order_lines.specs.Words.{word_text, word_of, life_text, life_of, fault_of, faults}
-use Rattle.order_lines.specs.Reading.{pair_said, price_said, price_or_fault, lots_said, life_said, number_said, other_said, limit_said}
+use Rattle.order_lines.specs.Words.{word_text, word_of, has_word, life_text, life_of, fault_of, faults}
+use Rattle.order_lines.specs.Reading.{pair_said, price_said, price_or_fault, lots_said, life_said, number_said, bank_said, other_said, limit_said, units_said, word_said}
 use Rattle.order_lines.specs.inside.Printing.{price_spelled}
 use Rattle.order_lines.specs.declared.word.Word.{Word}
-use Rattle.order_lines.specs.declared.word.Word.TheVariants.{Buy, Sell, Cancel, Reduce, Pull, Line, Show, Book}
+use Rattle.order_lines.specs.declared.word.Word.TheVariants.{Buy, Sell, Cancel, Reduce, Pull, Line, Show, Book, Total, Settle}
 use Rattle.fx_rules.proofs.NameTexts.{HasCodeBytes-code}
 use Rattle.order_lines.proofs.FieldTexts.{no_rule, pair_name-is}
 
@@ -166,9 +165,17 @@ pub limit_said-numeral : (limit : ℕ) → IsUnits limit → limit_said (numeral
 unfolding limit_said
 limit_said-numeral limit is = number-numeral 0 1000000000000000 reject.Limit limit (omega arith) is
 
+pub units_said-ok : (text : List ℕ) (units : ℕ) → units_said text ≡ Ok units → (1 ≤ units) × IsUnits units × (text ≡ numeral units)
+unfolding units_said
+units_said-ok text units said = number-ok 1 1000000000000000 text reject.Units units said
+
+pub units_said-numeral : (units : ℕ) → 1 ≤ units → IsUnits units → units_said (numeral units) ≡ Ok units
+unfolding units_said
+units_said-numeral units some is = number-numeral 1 1000000000000000 reject.Units units some is
+
 -- words
 pub word_of-ok : (text : List ℕ) (word : Word) → word_of text ≡ Some word → text ≡ word_text word
-word_of-ok text word found = sym ((bytes_decides (word_text word) text).0 (find-passes (λ word. bytes_eq (word_text word) text) (Buy ∷ Sell ∷ Cancel ∷ Reduce ∷ Pull ∷ Line ∷ Show ∷ Book ∷ []) word found))
+word_of-ok text word found = sym ((bytes_decides (word_text word) text).0 (find-passes (λ word. bytes_eq (word_text word) text) (Buy ∷ Sell ∷ Cancel ∷ Reduce ∷ Pull ∷ Line ∷ Show ∷ Book ∷ Total ∷ Settle ∷ []) word found))
 
 pub word_of-text : (word : Word) → word_of (word_text word) ≡ Some word
 word_of-text Buy = refl
@@ -179,6 +186,32 @@ word_of-text Pull = refl
 word_of-text Line = refl
 word_of-text Show = refl
 word_of-text Book = refl
+word_of-text Total = refl
+word_of-text Settle = refl
+
+-- a word that its sender has
+if_had-ok : (has : Bool) (found word : Word) → cond has (Ok found) (Err reject.Word) ≡ Ok word → (has ≡ true) × (found ≡ word)
+if_had-ok true found word said = (refl, cc)
+if_had-ok false found word said = absurd (cc)
+
+had-ok : (h : Header) (sender : ℕ) (found : Option Word) (word : Word) → (ok_or found reject.Word >>= (λ one. cond (has_word h sender one) (Ok one) (Err reject.Word))) ≡ Ok word
+    → (found ≡ Some word) × (has_word h sender word ≡ true)
+had-ok h sender None word said = absurd (cc)
+had-ok h sender (Some one) word said =
+    let had = if_had-ok (has_word h sender one) one word said in
+    (ap Some had.1, subst (λ (w : Word). has_word h sender w ≡ true) had.1 had.0)
+
+pub word_said-ok : (h : Header) (sender : ℕ) (fields : List (List ℕ)) (word : Word) → word_said h sender fields ≡ Ok word → (field_at fields 1 ≡ word_text word) × (has_word h sender word ≡ true)
+unfolding word_said
+word_said-ok h sender fields word said =
+    let had = had-ok h sender (word_of (field_at fields 1)) word said in
+    (word_of-ok (field_at fields 1) word had.0, had.1)
+
+pub word_said-text : (h : Header) (sender : ℕ) (fields : List (List ℕ)) (word : Word) → field_at fields 1 ≡ word_text word → has_word h sender word ≡ true → word_said h sender fields ≡ Ok word
+unfolding word_said
+word_said-text h sender fields word is has =
+    ap (λ (found : Option Word). ok_or found reject.Word >>= (λ one. cond (has_word h sender one) (Ok one) (Err reject.Word))) (ap word_of is ∙ word_of-text word)
+    ∙ cond-true (has_word h sender word) (Ok word) (Err reject.Word) has
 
 pub life_said-ok : (text : List ℕ) (life : Life) → life_said text ≡ Ok life → text ≡ life_text life
 unfolding life_said
@@ -190,6 +223,15 @@ unfolding life_said
 life_said-text Day = refl
 life_said-text Ioc = refl
 life_said-text Fok = refl
+
+-- a bank
+pub bank_said-ok : (h : Header) (text : List ℕ) (bank : ℕ) → bank_said h text ≡ Ok bank → (bank < bank_count h) × (text ≡ bank_name h bank)
+unfolding bank_said
+bank_said-ok h text bank said = bank_named-ok h text bank (ok_or-ok (bank_named h.banks text) reject.Bank bank said)
+
+pub bank_said-name : (h : Header) (bank : ℕ) → IsSession h → bank < bank_count h → bank_said h (bank_name h bank) ≡ Ok bank
+unfolding bank_said
+bank_said-name h bank session within = ap (λ (option : Option ℕ). ok_or option reject.Bank) (bank_named-name h bank session within)
 
 -- another bank
 abbrev other_than : ℕ → Option ℕ → Result ℕ Reject
@@ -206,31 +248,31 @@ other_than-ok sender (Some bank) other said = ⊎_elim
     (cases_Bool (eqb bank sender))
 
 pub other_said-ok : (h : Header) (sender : ℕ) (text : List ℕ) (other : ℕ) → other_said h sender text ≡ Ok other → (other < bank_count h) × (other ≢ sender) × (text ≡ bank_name h other)
-unfolding other_said
+unfolding other_said bank_said
 other_said-ok h sender text other said =
     let found = other_than-ok sender (bank_named h.banks text) other said in
     let named = bank_named-ok h text other found.0 in
     (named.0, found.1, named.1)
 
 pub other_said-name : (h : Header) (sender other : ℕ) → IsSession h → other < bank_count h → other ≢ sender → other_said h sender (bank_name h other) ≡ Ok other
-unfolding other_said
+unfolding other_said bank_said
 other_said-name h sender other session within another =
     ap (other_than sender) (bank_named-name h other session within) ∙ cond-false _ _ _ (ne_eqb other sender another)
 
 -- faults
-pub fault_of-code : (fault : Reject) → IsPlainCommand (command.Bad fault) → fault_of (code_of fault) ≡ Some fault
-fault_of-code reject.Units plain = absurd plain
-fault_of-code reject.Word plain = refl
-fault_of-code reject.Count plain = refl
-fault_of-code reject.Pair plain = refl
-fault_of-code reject.PriceForm plain = refl
-fault_of-code reject.PriceRange plain = refl
-fault_of-code reject.Lots plain = refl
-fault_of-code reject.Bank plain = refl
-fault_of-code reject.Limit plain = refl
-fault_of-code reject.Number plain = refl
-fault_of-code reject.Life plain = refl
-fault_of-code reject.Long plain = refl
+pub fault_of-code : (fault : Reject) → fault_of (code_of fault) ≡ Some fault
+fault_of-code reject.Units = refl
+fault_of-code reject.Word = refl
+fault_of-code reject.Count = refl
+fault_of-code reject.Pair = refl
+fault_of-code reject.PriceForm = refl
+fault_of-code reject.PriceRange = refl
+fault_of-code reject.Lots = refl
+fault_of-code reject.Bank = refl
+fault_of-code reject.Limit = refl
+fault_of-code reject.Number = refl
+fault_of-code reject.Life = refl
+fault_of-code reject.Long = refl
 
 pub fault_of-ok : (number : ℕ) (fault : Reject) → fault_of number ≡ Some fault → number ≡ code_of fault
 fault_of-ok number fault found = sym (eqb-true (code_of fault) number (find-passes (λ fault. eqb (code_of fault) number) faults fault found))

@@ -1,5 +1,5 @@
 -- A command's line in its one spelling, as it is read from its front, field by field.
-use Rattle.std.proofs.Common.{◌≡◌, ◌≢◌, ℕ, ◌+◌, ◌<◌, false, List, ◌∷◌, ◌++◌, length, take, drop, get_or, refl, sym, ap, ap₂, ◌∙◌, arith, append_assoc, length-append}
+use Rattle.std.proofs.Common.{◌≡◌, ◌≢◌, ℕ, ◌+◌, ◌<◌, List, ◌∷◌, ◌++◌, length, take, drop, get_or, refl, sym, ap, ap₂, ◌∙◌, arith, append_assoc, length-append}
 use Rattle.std.proofs.lemmas.List.{take-append-drop, drop_more, drop-drop}
 use Rattle.std.specs.List.{join_with_byte}
 use Rattle.fx_amounts.specs.Numeral.{numeral}
@@ -15,17 +15,17 @@ use Rattle.fx_rules.specs.Step.{IsCommand, IsNumber}
 use Rattle.fx_rules.specs.declared.command.Command.{Command}
 use Rattle.fx_rules.specs.declared.command.Command.TheVariants as command
 use Rattle.fx_rules.specs.declared.command.Life.{Life}
-use Rattle.fx_rules.proofs.Senders.{IsPlainCommand, bank-suits}
-use Rattle.order_lines.specs.Grammar.{command_line, is_bad}
+use Rattle.order_lines.specs.Grammar.{command_line}
 use Rattle.order_lines.specs.Spelling.{command_text_of}
-use Rattle.order_lines.specs.Words.{word_text, side_word, life_text, total_word, settle_word}
+use Rattle.order_lines.specs.Words.{word_text, side_word, life_text, sender_name}
 use Rattle.order_lines.specs.declared.spoken.Spoken.TheVariants.{Of}
 use Rattle.order_lines.specs.declared.word.Word.{Word}
-use Rattle.order_lines.specs.declared.word.Word.TheVariants.{Buy, Sell, Cancel, Reduce, Pull, Line as LineWord, Show, Book}
+use Rattle.order_lines.specs.declared.word.Word.TheVariants.{Cancel, Reduce, Pull, Line as LineWord, Show, Book}
 use Rattle.order_lines.specs.inside.Printing.{price_spelled, word_field, subject_field, details}
 use Rattle.order_lines.specs.inside.Spelled.{EndsWith}
 use Rattle.order_lines.proofs.Printed.{command_fields-named}
 use Rattle.order_lines.proofs.SaidLines.{command_line-spelled}
+use Rattle.order_lines.proofs.SenderNames.{bank-operates_not, bank-name}
 use Rattle.order_lines.proofs.WrittenCommands.{IsWritten, IsWritten-command}
 
 -- a text around one of its bytes
@@ -47,6 +47,7 @@ pub EndsWith-order : (h : Header) (sender : ℕ) (side : Side) (pair price lots 
 EndsWith-order h sender side pair price lots life text one two three behind first second third last = record {
   spelled = field_onto text (pair_name h pair) one _ behind first.1 (field_onto one (price_spelled h pair price) two _ behind second.1 (field_onto two (numeral lots) three (life_text life) behind third.1 last));
   is_word = refl;
+  sends = λ within. within;
   values = (first.0, second.0, third.0);
   good = refl;
 }
@@ -56,6 +57,7 @@ pub EndsWith-cancel : (h : Header) (sender pair number : ℕ) (text one behind :
 EndsWith-cancel h sender pair number text one behind first last = record {
   spelled = field_onto text (pair_name h pair) one (numeral number) behind first.1 last.1;
   is_word = refl;
+  sends = λ within. within;
   values = (first.0, last.0);
   good = refl;
 }
@@ -65,6 +67,7 @@ pub EndsWith-reduce : (h : Header) (sender pair number lots : ℕ) (text one two
 EndsWith-reduce h sender pair number lots text one two behind first second last = record {
   spelled = field_onto text (pair_name h pair) one _ behind first.1 (field_onto one (numeral number) two (numeral lots) behind second.1 last.1);
   is_word = refl;
+  sends = λ within. within;
   values = (first.0, second.0, last.0);
   good = refl;
 }
@@ -74,18 +77,19 @@ pub EndsWith-line : (h : Header) (sender other limit : ℕ) (text one behind : L
 EndsWith-line h sender other limit text one behind first last = record {
   spelled = field_onto text (bank_name h other) one (numeral limit) behind first.2 last.1;
   is_word = refl;
+  sends = λ within. within;
   values = (first.0, first.1, last.0);
   good = refl;
 }
 
 pub EndsWith-pull : (h : Header) (sender pair : ℕ) (text behind : List ℕ) → (pair < pair_count h) × (text ≡ pair_name h pair ++ 10 ∷ behind) → EndsWith h sender Pull text (command.Pull pair) behind
-EndsWith-pull h sender pair text behind says = record { spelled = says.1; is_word = refl; values = says.0; good = refl }
+EndsWith-pull h sender pair text behind says = record { spelled = says.1; is_word = refl; sends = λ within. within; values = says.0; good = refl }
 
 pub EndsWith-book : (h : Header) (sender pair : ℕ) (text behind : List ℕ) → (pair < pair_count h) × (text ≡ pair_name h pair ++ 10 ∷ behind) → EndsWith h sender Book text (command.Book pair) behind
-EndsWith-book h sender pair text behind says = record { spelled = says.1; is_word = refl; values = says.0; good = refl }
+EndsWith-book h sender pair text behind says = record { spelled = says.1; is_word = refl; sends = λ within. within; values = says.0; good = refl }
 
 pub EndsWith-show : (h : Header) (sender other : ℕ) (text behind : List ℕ) → (other < bank_count h) × (other ≢ sender) × (text ≡ bank_name h other ++ 10 ∷ behind) → EndsWith h sender Show text (command.Show other) behind
-EndsWith-show h sender other text behind says = record { spelled = says.2; is_word = refl; values = (says.0, says.1); good = refl }
+EndsWith-show h sender other text behind says = record { spelled = says.2; is_word = refl; sends = λ within. within; values = (says.0, says.1); good = refl }
 
 -- a text begins with the line of a command of a bank in its one spelling: it is the text's first line, and says that command
 pub record BeginsWith (h : Header) (text : List ℕ) (bank : ℕ) (said : Command) (behind : List ℕ) : Type 0 where
@@ -110,51 +114,19 @@ begins h text bank said behind session is written reads valid =
       shorter = omega (arith, ap (λ (xs : List ℕ). length xs) is, length-append line (10 ∷ behind));
     }
 
--- the words of version 2 alone are none of a bank's
-total_apart : (word : Word) → total_word ≡ word_text word → ⊥
-total_apart Buy same = omega (arith, ap (λ (t : List ℕ). get_or t 0 0) same)
-total_apart Sell same = omega (arith, ap (λ (t : List ℕ). get_or t 0 0) same)
-total_apart Cancel same = omega (arith, ap (λ (t : List ℕ). get_or t 0 0) same)
-total_apart Reduce same = omega (arith, ap (λ (t : List ℕ). get_or t 0 0) same)
-total_apart Pull same = omega (arith, ap (λ (t : List ℕ). get_or t 0 0) same)
-total_apart LineWord same = omega (arith, ap (λ (t : List ℕ). get_or t 0 0) same)
-total_apart Show same = omega (arith, ap (λ (t : List ℕ). get_or t 0 0) same)
-total_apart Book same = omega (arith, ap (λ (t : List ℕ). get_or t 0 0) same)
-
-settle_apart : (word : Word) → settle_word ≡ word_text word → ⊥
-settle_apart Buy same = omega (arith, ap (λ (t : List ℕ). get_or t 0 0) same)
-settle_apart Sell same = omega (arith, ap (λ (t : List ℕ). get_or t 2 0) same)
-settle_apart Cancel same = omega (arith, ap (λ (t : List ℕ). get_or t 0 0) same)
-settle_apart Reduce same = omega (arith, ap (λ (t : List ℕ). get_or t 0 0) same)
-settle_apart Pull same = omega (arith, ap (λ (t : List ℕ). get_or t 0 0) same)
-settle_apart LineWord same = omega (arith, ap (λ (t : List ℕ). get_or t 0 0) same)
-settle_apart Show same = omega (arith, ap (λ (t : List ℕ). get_or t 1 0) same)
-settle_apart Book same = omega (arith, ap (λ (t : List ℕ). get_or t 0 0) same)
-
-plain-said : (said : Command) (word : Word) → word_field said ≡ word_text word → is_bad said ≡ false → IsPlainCommand said
-plain-said (command.Total limit) word same good = total_apart word same
-plain-said (command.Settle a b units) word same good = settle_apart word same
-plain-said (command.Bad fault) word same good = absurd (cc)
-plain-said (command.Order side pair price lots life) word same good = tt
-plain-said (command.Cancel pair number) word same good = tt
-plain-said (command.Reduce pair number lots) word same good = tt
-plain-said (command.Pull pair) word same good = tt
-plain-said (command.Line other limit) word same good = tt
-plain-said (command.Show other) word same good = tt
-plain-said (command.Book pair) word same good = tt
-
-spelled_whole : (h : Header) (bank : ℕ) (word : Word) (text one two : List ℕ) (said : Command) (behind : List ℕ) → text ≡ bank_name h bank ++ 32 ∷ one → one ≡ word_text word ++ 32 ∷ two → EndsWith h bank word two said behind
+spelled_whole : (h : Header) (bank : ℕ) (word : Word) (text one two : List ℕ) (said : Command) (behind : List ℕ) → text ≡ sender_name h bank ++ 32 ∷ one → one ≡ word_text word ++ 32 ∷ two → EndsWith h bank word two said behind
     → text ≡ command_text_of h bank said ++ 10 ∷ behind
 unfolding command_text_of
 spelled_whole h bank word text one two said behind first second ends =
-    field_onto text (bank_name h bank) one _ behind first
+    field_onto text (sender_name h bank) one _ behind first
     (field_onto one (word_field said) two (join_with_byte 32 (subject_field h said ∷ details h said)) behind (second ∙ ap (λ (w : List ℕ). w ++ 32 ∷ two) (sym ends.is_word)) ends.spelled)
-    ∙ ap (λ (fields : List (List ℕ)). join_with_byte 32 fields ++ 10 ∷ behind) (sym (command_fields-named h bank said (plain-said said word ends.is_word ends.good)))
+    ∙ ap (λ (fields : List (List ℕ)). join_with_byte 32 fields ++ 10 ∷ behind) (sym (command_fields-named h bank said))
 
 pub BeginsWith-fields : (h : Header) (bank : ℕ) (word : Word) (text one two : List ℕ) (said : Command) (behind : List ℕ) → IsSession h → bank < bank_count h
     → text ≡ bank_name h bank ++ 32 ∷ one → one ≡ word_text word ++ 32 ∷ two → EndsWith h bank word two said behind → BeginsWith h text bank said behind
 BeginsWith-fields h bank word text one two said behind session within first second ends =
-    let valid : IsCommand h bank said = record { sends = bank-suits h bank said (plain-said said word ends.is_word ends.good) within; values = ends.values } in
-    let written : IsWritten h bank said = IsWritten-command h bank said session within valid in
-    begins h text bank said behind session (spelled_whole h bank word text one two said behind first second ends) written
-    (command_line-spelled h (Whole (command_text_of h bank said)) bank said session within valid ends.good written.fields) valid
+    let valid : IsCommand h bank said = record { sends = ends.sends within; values = ends.values } in
+    let written : IsWritten h bank said = IsWritten-command h bank said session valid in
+    let named : text ≡ sender_name h bank ++ 32 ∷ one = first ∙ ap (λ (name : List ℕ). name ++ 32 ∷ one) (sym (bank-name h bank (bank-operates_not h bank session within))) in
+    begins h text bank said behind session (spelled_whole h bank word text one two said behind named second ends) written
+    (command_line-spelled h (Whole (command_text_of h bank said)) bank said session valid ends.good written.fields) valid

@@ -6,8 +6,8 @@ use Rattle.fx_text.specs.Fields.{fields_of}
 use Rattle.fx_text.specs.Lines.{line_of}
 use Rattle.fx_text.specs.declared.line.Line.TheVariants.{Whole}
 use Rattle.fx_rules.specs.Reject.{code_of}
-use Rattle.fx_rules.specs.Session.{Header, IsSession, bank_count, pair_count, decimals_of}
-use Rattle.fx_rules.specs.Step.{IsCommand, AreValues}
+use Rattle.fx_rules.specs.Session.{Header, IsSession, IsSender, pair_count, decimals_of}
+use Rattle.fx_rules.specs.Step.{IsCommand}
 use Rattle.fx_rules.specs.declared.command.Command.{Command}
 use Rattle.fx_rules.specs.declared.command.Command.TheVariants as command
 use Rattle.order_lines.specs.Grammar.{journal_line}
@@ -18,9 +18,10 @@ use Rattle.order_lines.specs.declared.word.Word.TheVariants as word
 use Rattle.fx_text.proofs.FieldTexts.{IsField-numeral, IsField-price_text}
 use Rattle.fx_text.proofs.JoinedFields.{IsField, fields_of-join, join-visible, length-join, line_of-join}
 use Rattle.order_lines.proofs.FieldTexts.{IsField-bank, IsField-pair, IsField-word, IsField-life, IsField-bad, no_rule}
-use Rattle.fx_rules.proofs.Plain.{only_one, first-plain}
-use Rattle.fx_rules.proofs.Senders.{IsPlainCommand}
-use Rattle.order_lines.proofs.SaidLines.{journal_line-spelled, code_range}
+use Rattle.order_lines.proofs.SaidFaults.{code_within, last_fault-most}
+use Rattle.order_lines.proofs.SaidLines.{journal_line-spelled}
+use Rattle.order_lines.proofs.SenderNames.{IsField-sender}
+use Rattle.fx_rules.proofs.Senders.{suits-sender}
 
 IsField-price : (h : Header) (pair price : ℕ) → IsSession h → pair < pair_count h → price ≤ 10 ^ 9 → IsField (price_spelled h pair price)
 IsField-price h pair price session within most =
@@ -28,53 +29,55 @@ IsField-price h pair price session within most =
     let few : decimals_of h pair ≤ 6 = omega (arith, (session.rules pair no_rule within).decimals) in
     IsField-price_text (decimals_of h pair) price few (omega arith)
 
-are_fields : (h : Header) (bank : ℕ) (said : Command) → IsSession h → bank < bank_count h → IsPlainCommand said → AreValues h bank said → AllByRecursion IsField (command_fields h bank said)
-are_fields h bank (command.Order side pair price lots life) session within plain is =
-    (IsField-bank h bank session within, (IsField-word (side_word side), (IsField-pair h pair session is.0, (IsField-price h pair price session is.0 is.1.1, (IsField-numeral lots (omega (arith, is.2.1)), (IsField-life life, tt))))))
-are_fields h bank (command.Cancel pair number) session within plain is =
-    (IsField-bank h bank session within, (IsField-word word.Cancel, (IsField-pair h pair session is.0, (IsField-numeral number (omega (arith, is.1.1)), tt))))
-are_fields h bank (command.Reduce pair number lots) session within plain is =
-    (IsField-bank h bank session within, (IsField-word word.Reduce, (IsField-pair h pair session is.0, (IsField-numeral number (omega (arith, is.1.1)), (IsField-numeral lots (omega (arith, is.2.1)), tt)))))
-are_fields h bank (command.Pull pair) session within plain is = (IsField-bank h bank session within, (IsField-word word.Pull, (IsField-pair h pair session is, tt)))
-are_fields h bank (command.Line other limit) session within plain is =
-    (IsField-bank h bank session within, (IsField-word word.Line, (IsField-bank h other session is.0, (IsField-numeral limit (omega (arith, is.2)), tt))))
-are_fields h bank (command.Total limit) session within plain is = absurd plain
-are_fields h bank (command.Settle a b units) session within plain is = absurd plain
-are_fields h bank (command.Show other) session within plain is = (IsField-bank h bank session within, (IsField-word word.Show, (IsField-bank h other session is.0, tt)))
-are_fields h bank (command.Book pair) session within plain is = (IsField-bank h bank session within, (IsField-word word.Book, (IsField-pair h pair session is, tt)))
-are_fields h bank (command.Bad fault) session within plain is = (IsField-bank h bank session within, (IsField-bad, (IsField-numeral (code_of fault) (omega (arith, (code_range fault).1)), tt)))
+are_fields : (h : Header) (sender : ℕ) (said : Command) → IsSession h → IsSender h sender → IsCommand h sender said → AllByRecursion IsField (command_fields h sender said)
+are_fields h sender (command.Order side pair price lots life) session sends is =
+    (IsField-sender h sender session sends, (IsField-word (side_word side), (IsField-pair h pair session is.values.0, (IsField-price h pair price session is.values.0 is.values.1.1, (IsField-numeral lots (omega (arith, is.values.2.1)), (IsField-life life, tt))))))
+are_fields h sender (command.Cancel pair number) session sends is =
+    (IsField-sender h sender session sends, (IsField-word word.Cancel, (IsField-pair h pair session is.values.0, (IsField-numeral number (omega (arith, is.values.1.1)), tt))))
+are_fields h sender (command.Reduce pair number lots) session sends is =
+    (IsField-sender h sender session sends, (IsField-word word.Reduce, (IsField-pair h pair session is.values.0, (IsField-numeral number (omega (arith, is.values.1.1)), (IsField-numeral lots (omega (arith, is.values.2.1)), tt)))))
+are_fields h sender (command.Pull pair) session sends is = (IsField-sender h sender session sends, (IsField-word word.Pull, (IsField-pair h pair session is.values, tt)))
+are_fields h sender (command.Line other limit) session sends is =
+    (IsField-sender h sender session sends, (IsField-word word.Line, (IsField-bank h other session is.values.0, (IsField-numeral limit (omega (arith, is.values.2)), tt))))
+are_fields h sender (command.Total limit) session sends is = (IsField-sender h sender session sends, (IsField-word word.Total, (IsField-numeral limit (omega (arith, is.values)), tt)))
+are_fields h sender (command.Settle a b units) session sends is =
+    (IsField-sender h sender session sends, (IsField-word word.Settle, (IsField-bank h a session is.values.0, (IsField-bank h b session is.values.1, (IsField-numeral units (omega (arith, is.values.4)), tt)))))
+are_fields h sender (command.Show other) session sends is = (IsField-sender h sender session sends, (IsField-word word.Show, (IsField-bank h other session is.values.0, tt)))
+are_fields h sender (command.Book pair) session sends is = (IsField-sender h sender session sends, (IsField-word word.Book, (IsField-pair h pair session is.values, tt)))
+are_fields h sender (command.Bad fault) session sends is =
+    (IsField-sender h sender session sends, (IsField-bad, (IsField-numeral (code_of fault) (omega (arith, (code_within h sender fault is.sends).1, last_fault-most h sender)), tt)))
 
-few_fields : (h : Header) (bank : ℕ) (said : Command) → (0 < length (command_fields h bank said)) × (length (command_fields h bank said) ≤ 6)
-few_fields h bank (command.Order side pair price lots life) = (omega arith, omega arith)
-few_fields h bank (command.Cancel pair number) = (omega arith, omega arith)
-few_fields h bank (command.Reduce pair number lots) = (omega arith, omega arith)
-few_fields h bank (command.Pull pair) = (omega arith, omega arith)
-few_fields h bank (command.Line other limit) = (omega arith, omega arith)
-few_fields h bank (command.Total limit) = (omega arith, omega arith)
-few_fields h bank (command.Settle a b units) = (omega arith, omega arith)
-few_fields h bank (command.Show other) = (omega arith, omega arith)
-few_fields h bank (command.Book pair) = (omega arith, omega arith)
-few_fields h bank (command.Bad fault) = (omega arith, omega arith)
+few_fields : (h : Header) (sender : ℕ) (said : Command) → (0 < length (command_fields h sender said)) × (length (command_fields h sender said) ≤ 6)
+few_fields h sender (command.Order side pair price lots life) = (omega arith, omega arith)
+few_fields h sender (command.Cancel pair number) = (omega arith, omega arith)
+few_fields h sender (command.Reduce pair number lots) = (omega arith, omega arith)
+few_fields h sender (command.Pull pair) = (omega arith, omega arith)
+few_fields h sender (command.Line other limit) = (omega arith, omega arith)
+few_fields h sender (command.Total limit) = (omega arith, omega arith)
+few_fields h sender (command.Settle a b units) = (omega arith, omega arith)
+few_fields h sender (command.Show other) = (omega arith, omega arith)
+few_fields h sender (command.Book pair) = (omega arith, omega arith)
+few_fields h sender (command.Bad fault) = (omega arith, omega arith)
 
 -- the line of a command has its fields, no byte below the space and at most 246 bytes, and cut out of a text it is whole and read back
-pub record IsWritten (h : Header) (bank : ℕ) (said : Command) : Type 0 where
-  pub fields : fields_of (command_text_of h bank said) ≡ command_fields h bank said
-  pub visible : All (λ byte. 32 ≤ byte) (command_text_of h bank said)
-  pub short : length (command_text_of h bank said) ≤ 246
-  pub whole : line_of (command_text_of h bank said) ≡ Whole (command_text_of h bank said)
-  pub read_back : journal_line h (line_of (command_text_of h bank said)) ≡ Some (bank, said)
+pub record IsWritten (h : Header) (sender : ℕ) (said : Command) : Type 0 where
+  pub fields : fields_of (command_text_of h sender said) ≡ command_fields h sender said
+  pub visible : All (λ byte. 32 ≤ byte) (command_text_of h sender said)
+  pub short : length (command_text_of h sender said) ≤ 246
+  pub whole : line_of (command_text_of h sender said) ≡ Whole (command_text_of h sender said)
+  pub read_back : journal_line h (line_of (command_text_of h sender said)) ≡ Some (sender, said)
 
-pub IsWritten-command : (h : Header) (bank : ℕ) (said : Command) → IsSession h → bank < bank_count h → IsCommand h bank said → IsWritten h bank said
+pub IsWritten-command : (h : Header) (sender : ℕ) (said : Command) → IsSession h → IsCommand h sender said → IsWritten h sender said
 unfolding command_text_of
-IsWritten-command h bank said session within is =
-    let all : AllByRecursion IsField (command_fields h bank said) = are_fields h bank said session within (first-plain h bank said (only_one h session) is) is.values in
-    let few = few_fields h bank said in
-    let fields : fields_of (command_text_of h bank said) ≡ command_fields h bank said = fields_of-join (command_fields h bank said) few.0 all in
-    let whole : line_of (command_text_of h bank said) ≡ Whole (command_text_of h bank said) = line_of-join (command_fields h bank said) few.1 all in
+IsWritten-command h sender said session is =
+    let all : AllByRecursion IsField (command_fields h sender said) = are_fields h sender said session (suits-sender h sender said is.sends) is in
+    let few = few_fields h sender said in
+    let fields : fields_of (command_text_of h sender said) ≡ command_fields h sender said = fields_of-join (command_fields h sender said) few.0 all in
+    let whole : line_of (command_text_of h sender said) ≡ Whole (command_text_of h sender said) = line_of-join (command_fields h sender said) few.1 all in
     record {
       fields = fields;
-      visible = join-visible (command_fields h bank said) all;
-      short = omega (arith, few.1, length-join (command_fields h bank said) all);
+      visible = join-visible (command_fields h sender said) all;
+      short = omega (arith, few.1, length-join (command_fields h sender said) all);
       whole = whole;
-      read_back = ap (journal_line h) whole ∙ journal_line-spelled h (Whole (command_text_of h bank said)) bank said session within is fields;
+      read_back = ap (journal_line h) whole ∙ journal_line-spelled h (Whole (command_text_of h sender said)) sender said session is fields;
     }

@@ -14,9 +14,9 @@ use Rattle.fx_rules.specs.declared.command.Command.TheVariants as command
 use Rattle.fx_rules.specs.declared.command.Life.{Life}
 use Rattle.fx_rules.specs.declared.command.Reject.{Reject}
 use Rattle.fx_rules.specs.declared.command.Reject.TheVariants as reject
-use Rattle.order_lines.specs.Words.{word_of, field_count, life_of}
+use Rattle.order_lines.specs.Words.{word_of, has_word, field_count, life_of}
 use Rattle.order_lines.specs.declared.word.Word.{Word}
-use Rattle.order_lines.specs.declared.word.Word.TheVariants.{Buy, Sell, Cancel, Reduce, Pull, Line, Show, Book}
+use Rattle.order_lines.specs.declared.word.Word.TheVariants.{Buy, Sell, Cancel, Reduce, Pull, Line, Show, Book, Total, Settle}
 
 -- a field that names a pair
 unfoldable pub pair_said : Header → List ℕ → Result ℕ Reject
@@ -43,13 +43,21 @@ life_said text = ok_or (life_of text) reject.Life
 unfoldable pub number_said : List ℕ → Result ℕ Reject
 number_said text = ok_or (number_of 1 4294967295 text) reject.Number
 
--- a field that names another bank than the sender
+-- a field that names a bank
+unfoldable pub bank_said : Header → List ℕ → Result ℕ Reject
+bank_said h text = ok_or (bank_named h.banks text) reject.Bank
+
+-- a field that names another bank than this one, as the sender or the first bank of a settlement
 unfoldable pub other_said : Header → ℕ → List ℕ → Result ℕ Reject
-other_said h sender text = ok_or (bank_named h.banks text) reject.Bank >>= (λ other. if other == sender then Err reject.Bank else Ok other)
+other_said h bank text = bank_said h text >>= (λ other. if other == bank then Err reject.Bank else Ok other)
 
 -- a field that is a limit in credit units
 unfoldable pub limit_said : List ℕ → Result ℕ Reject
 limit_said text = ok_or (number_of 0 1000000000000000 text) reject.Limit
+
+-- a field that is a number of credit units to be given back
+unfoldable pub units_said : List ℕ → Result ℕ Reject
+units_said text = ok_or (number_of 1 1000000000000000 text) reject.Units
 
 -- the longer commands by their fields, of which there are as many as the word asks for
 unfoldable pub order_said : Header → Side → List (List ℕ) → Result Command Reject
@@ -70,6 +78,11 @@ unfoldable pub line_said : Header → ℕ → List (List ℕ) → Result Command
 line_said h sender fields =
     other_said h sender (field_at fields 2) >>= (λ other. limit_said (field_at fields 3) >>= (λ limit. Ok (command.Line other limit)))
 
+unfoldable pub settle_said : Header → List (List ℕ) → Result Command Reject
+settle_said h fields =
+    bank_said h (field_at fields 2) >>= (λ a. other_said h a (field_at fields 3) >>= (λ b.
+    units_said (field_at fields 4) >>= (λ units. Ok (command.Settle a b units))))
+
 -- what the fields behind a word say
 abbrev pub said_after : Header → ℕ → Word → List (List ℕ) → Result Command Reject
 said_after h sender Buy fields = order_said h side.Buy fields
@@ -80,13 +93,15 @@ said_after h sender Pull fields = pair_said h (field_at fields 2) >>= (λ pair. 
 said_after h sender Line fields = line_said h sender fields
 said_after h sender Show fields = other_said h sender (field_at fields 2) >>= (λ other. Ok (command.Show other))
 said_after h sender Book fields = pair_said h (field_at fields 2) >>= (λ pair. Ok (command.Book pair))
+said_after h sender Total fields = limit_said (field_at fields 2) >>= (λ limit. Ok (command.Total limit))
+said_after h sender Settle fields = settle_said h fields
 
--- the second field as a word; a line of one field has none
-unfoldable pub word_said : List (List ℕ) → Result Word Reject
-word_said fields = ok_or (word_of (field_at fields 1)) reject.Word
+-- the second field as a word that the sender has; a line of one field has none
+unfoldable pub word_said : Header → ℕ → List (List ℕ) → Result Word Reject
+word_said h sender fields = ok_or (word_of (field_at fields 1)) reject.Word >>= (λ word. if has_word h sender word then Ok word else Err reject.Word)
 
 -- a command line: first its word, then the number of its fields, then the fields from left to right
 unfoldable pub command_said : Header → ℕ → List (List ℕ) → Result Command Reject
 command_said h sender fields = do
-  word ← word_said fields
+  word ← word_said h sender fields
   if length fields == field_count word then said_after h sender word fields else Err reject.Count

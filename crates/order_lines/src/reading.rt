@@ -2,14 +2,15 @@ ghost use Rattle.std.specs.Prelude.{◌≡◌, ◌<◌, length, IfOk};
 ghost use Rattle.fx_amounts.specs.Quantity.{IsDecimals};
 ghost use Rattle.fx_rules.specs.Session.{pair_count, decimals_of};
 ghost use Rattle.order_lines.specs.Words.{field_count};
-ghost use Rattle.order_lines.specs.Reading.{pair_said, price_said, lots_said, life_said, number_said, other_said, limit_said, order_said, cancel_said, reduce_said, line_said, word_said, command_said, said_after};
+ghost use Rattle.order_lines.specs.Reading.{pair_said, price_said, lots_said, life_said, number_said, bank_said, other_said, limit_said, units_said, order_said, cancel_said, reduce_said, line_said, settle_said, word_said, command_said, said_after};
 
+use crate::sender::has_word;
 use crate::word::{Word, life_from};
 use fx_amounts::{BankId, Lots, PairId, Price, PriceFault, Side, Units, price_from};
 use fx_rules::{Command, Life, Reject, Session};
 use fx_text::{Fields, number};
 
-/// The command of a line of a bank, or the first fault: the word, then the number of fields, then the fields from
+/// The command of a line of a sender, or the first fault: the word, then the number of fields, then the fields from
 /// left to right.
 #[tactic(auto, unfolding(crate::specs::Reading::command_said))]
 pub(crate) fn read_command(
@@ -19,7 +20,7 @@ pub(crate) fn read_command(
 ) -> Result<Command, Reject>
     ensures { result ≡ command_said session.now sender fields.now }
 {
-    let word = read_word(fields)?;
+    let word = read_word(session, sender, fields)?;
     if fields.count() != word.field_count() {
         return Err(Reject::Count);
     }
@@ -38,17 +39,24 @@ pub(crate) fn read_command(
         Word::Book => Ok(Command::Book {
             pair: read_pair(session, fields.field(2))?,
         }),
+        Word::Total => Ok(Command::Total {
+            limit: read_limit(fields.field(2))?,
+        }),
+        Word::Settle => read_settle(session, fields),
     }
 }
 
 #[tactic(auto, unfolding(crate::specs::Reading::word_said))]
-fn read_word(fields: &Fields<'_>) -> Result<Word, Reject>
-    ensures { result ≡ word_said fields.now }
+fn read_word(session: &Session, sender: BankId, fields: &Fields<'_>) -> Result<Word, Reject>
+    ensures { result ≡ word_said session.now sender fields.now }
 {
     if fields.count() < 2 {
         return Err(Reject::Word);
     }
-    Word::from_bytes(fields.field(1)).ok_or(Reject::Word)
+    match Word::from_bytes(fields.field(1)) {
+        Some(word) if has_word(session, sender, word) => Ok(word),
+        _ => Err(Reject::Word),
+    }
 }
 
 #[tactic(auto, unfolding(crate::specs::Reading::order_said))]
@@ -98,6 +106,17 @@ fn read_line(session: &Session, sender: BankId, fields: &Fields<'_>) -> Result<C
     let bank = read_other(session, sender, fields.field(2))?;
     let limit = read_limit(fields.field(3))?;
     Ok(Command::Line { bank, limit })
+}
+
+#[tactic(auto, unfolding(crate::specs::Reading::settle_said))]
+fn read_settle(session: &Session, fields: &Fields<'_>) -> Result<Command, Reject>
+    requires { length fields.now ≡ 5 }
+    ensures { result ≡ settle_said session.now fields.now }
+{
+    let a = read_bank(session, fields.field(2))?;
+    let b = read_other(session, a, fields.field(3))?;
+    let units = read_units(fields.field(4))?;
+    Ok(Command::Settle { a, b, units })
 }
 
 #[tactic(auto, unfolding(crate::specs::Reading::pair_said))]
@@ -152,13 +171,20 @@ fn read_number(text: &[u8]) -> Result<u32, Reject>
     Ok(number as u32)
 }
 
-/// The bank of that name, where it is another than the sender.
-#[tactic(auto, unfolding(crate::specs::Reading::other_said))]
-pub(crate) fn read_other(session: &Session, sender: BankId, text: &[u8]) -> Result<BankId, Reject>
-    ensures { result ≡ other_said session.now sender text.now }
+#[tactic(auto, unfolding(crate::specs::Reading::bank_said))]
+fn read_bank(session: &Session, text: &[u8]) -> Result<BankId, Reject>
+    ensures { result ≡ bank_said session.now text.now }
+{
+    session.bank_named(text).ok_or(Reject::Bank)
+}
+
+/// The bank of that name, where it is another than this one.
+#[tactic(auto, unfolding(crate::specs::Reading::other_said, crate::specs::Reading::bank_said))]
+pub(crate) fn read_other(session: &Session, bank: BankId, text: &[u8]) -> Result<BankId, Reject>
+    ensures { result ≡ other_said session.now bank text.now }
 {
     match session.bank_named(text) {
-        Some(other) if other != sender => Ok(other),
+        Some(other) if other != bank => Ok(other),
         _ => Err(Reject::Bank),
     }
 }
@@ -169,4 +195,12 @@ fn read_limit(text: &[u8]) -> Result<Units, Reject>
 {
     let units = number(text, 0, Units::MOST).ok_or(Reject::Limit)?;
     Units::new(units).ok_or(Reject::Limit)
+}
+
+#[tactic(auto, unfolding(crate::specs::Reading::units_said))]
+fn read_units(text: &[u8]) -> Result<Units, Reject>
+    ensures { result ≡ units_said text.now }
+{
+    let units = number(text, 1, Units::MOST).ok_or(Reject::Units)?;
+    Units::new(units).ok_or(Reject::Units)
 }

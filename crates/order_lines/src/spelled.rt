@@ -52,6 +52,8 @@ fn command_behind<'p>(
     ensures { IfSome result (λ found. EndsWith session.now sender word text.now found.0 found.1.now) }
 {
     match word {
+        // They are read field by field, as any other line.
+        Word::Total | Word::Settle => None,
         Word::Buy => order_behind(session, sender, Side::Buy, text),
         Word::Sell => order_behind(session, sender, Side::Sell, text),
         Word::Cancel => cancel_behind(session, sender, text),

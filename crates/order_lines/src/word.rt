@@ -4,7 +4,7 @@ ghost use Rattle.order_lines.specs.Words.{word_text, word_of, field_count, side_
 use fx_amounts::Side;
 use fx_rules::{Life, Reject};
 
-/// The second field of a command line: what the bank wants.
+/// The second field of a command line: what the sender wants.
 #[derive(Clone, Copy, Debug, PartialEq, Eq)]
 pub(crate) enum Word {
     Buy,
@@ -15,18 +15,14 @@ pub(crate) enum Word {
     Line,
     Show,
     Book,
+    Total,
+    Settle,
 }
-
-/// The word of a total. In a session's text of version 1 it is no word.
-pub(crate) const TOTAL: &[u8] = b"TOTAL";
-
-/// The word of a settlement. In a session's text of version 1 it is no word.
-pub(crate) const SETTLE: &[u8] = b"SETTLE";
 
 /// The word of a bad line in a journal. In a session's text it is no word.
 pub(crate) const BAD: &[u8] = b"BAD";
 
-const FAULTS: [Reject; 11] = [
+const FAULTS: [Reject; 12] = [
     Reject::Word,
     Reject::Count,
     Reject::Pair,
@@ -38,6 +34,7 @@ const FAULTS: [Reject; 11] = [
     Reject::Number,
     Reject::Life,
     Reject::Long,
+    Reject::Units,
 ];
 
 impl Word {
@@ -54,6 +51,8 @@ impl Word {
             b"LINE" => Some(Word::Line),
             b"SHOW" => Some(Word::Show),
             b"BOOK" => Some(Word::Book),
+            b"TOTAL" => Some(Word::Total),
+            b"SETTLE" => Some(Word::Settle),
             _ => None,
         }
     }
@@ -81,6 +80,8 @@ impl Word {
             Word::Line => b"LINE",
             Word::Show => b"SHOW",
             Word::Book => b"BOOK",
+            Word::Total => b"TOTAL",
+            Word::Settle => b"SETTLE",
         }
     }
 
@@ -90,9 +91,9 @@ impl Word {
     {
         match self {
             Word::Buy | Word::Sell => 6,
-            Word::Reduce => 5,
+            Word::Reduce | Word::Settle => 5,
             Word::Cancel | Word::Line => 4,
-            Word::Pull | Word::Show | Word::Book => 3,
+            Word::Pull | Word::Show | Word::Book | Word::Total => 3,
         }
     }
 }

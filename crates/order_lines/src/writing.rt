@@ -1,5 +1,5 @@
 ghost use Rattle.std.specs.Prelude.{◌≡◌, [], ◌∷◌, ◌<◌, ◌≤◌, ◌++◌, length, take, All, OnOk, OnErr};
-ghost use Rattle.fx_rules.specs.Session.{bank_count, pair_count, pair_name};
+ghost use Rattle.fx_rules.specs.Session.{pair_count, pair_name};
 ghost use Rattle.fx_rules.specs.Step.{IsCommand};
 ghost use Rattle.order_lines.specs.inside.Printing.{word_field, subject_field, details, IsSubjectOf};
 ghost use Rattle.fx_text.specs.Fields.{fields_of, fields_text};
@@ -8,81 +8,77 @@ ghost use Rattle.order_lines.specs.Grammar.{journal_line};
 ghost use Rattle.order_lines.specs.Spelling.{command_fields, command_text_of};
 
 use crate::reading::decimals;
-use crate::word::{BAD, SETTLE, TOTAL, Word, life_text};
+use crate::sender::sender_name;
+use crate::word::{BAD, Word, life_text};
 use fx_amounts::{BankId, Memory, PairId};
 use fx_rules::{Command, Session};
 use fx_text::{Line, LineText};
 
-/// Appends the journal's line of a command of a bank, without a line feed. After `Err` the list is as it was.
+/// Appends the journal's line of a sender's command, without a line feed. After `Err` the list is as it was.
 pub fn command_text(
     session: &Session,
-    bank: BankId,
+    sender: BankId,
     command: &Command,
     out: &mut Vec<u8>,
 ) -> Result<(), Memory>
-    requires bank { bank < bank_count session.now }
-    requires command { IsCommand session.now bank command.now }
-    ensures ok { OnOk result (out.new.items ≡ out.old.items ++ command_text_of session.now bank command.now) }
+    requires { IsCommand session.now sender command.now }
+    ensures ok { OnOk result (out.new.items ≡ out.old.items ++ command_text_of session.now sender command.now) }
     ensures err { OnErr result (out.new.items ≡ out.old.items) }
 
     // The line has the command's fields and no byte below the space. Cut out of a text it is whole and read back.
-    ensures fields { fields_of (command_text_of session.now bank command.now) ≡ command_fields session.now bank command.now }
-    ensures visible { All (λ byte. 32 ≤ byte) (command_text_of session.now bank command.now) }
-    ensures whole { let text = command_text_of session.now bank command.now in line_of text ≡ Line.Whole text }
-    ensures read_back { journal_line session.now (line_of (command_text_of session.now bank command.now)) ≡ Some (bank, command.now) }
+    ensures fields { fields_of (command_text_of session.now sender command.now) ≡ command_fields session.now sender command.now }
+    ensures visible { All (λ byte. 32 ≤ byte) (command_text_of session.now sender command.now) }
+    ensures whole { let text = command_text_of session.now sender command.now in line_of text ≡ Line.Whole text }
+    ensures read_back { journal_line session.now (line_of (command_text_of session.now sender command.now)) ≡ Some (sender, command.now) }
 {
     // The clauses on the line rest on a valid session, as each is.
     let _banks = session.banks();
-    append_command(session, bank, command, out)
+    append_command(session, sender, command, out)
 }
 
-/// Makes the journal's line of a command of a bank, with its line feed, in place of what there was. It takes no memory.
-pub fn make_command(session: &Session, bank: BankId, command: &Command, line: &mut LineText)
-    requires bank { bank < bank_count session.now }
-    requires command { IsCommand session.now bank command.now }
-    ensures { line.new ≡ command_text_of session.now bank command.now ++ 10 ∷ [] }
+/// Makes the journal's line of a sender's command, with its line feed, in place of what there was. It takes no memory.
+pub fn make_command(session: &Session, sender: BankId, command: &Command, line: &mut LineText)
+    requires { IsCommand session.now sender command.now }
+    ensures { line.new ≡ command_text_of session.now sender command.now ++ 10 ∷ [] }
 {
-    make_text(session, bank, command, line);
+    make_text(session, sender, command, line);
     line.push_byte(b'\n');
 }
 
 fn append_command(
     session: &Session,
-    bank: BankId,
+    sender: BankId,
     command: &Command,
     out: &mut Vec<u8>,
 ) -> Result<(), Memory>
-    requires bank { bank < bank_count session.now }
-    requires command { IsCommand session.now bank command.now }
-    ensures ok { OnOk result (out.new.items ≡ out.old.items ++ command_text_of session.now bank command.now) }
+    requires { IsCommand session.now sender command.now }
+    ensures ok { OnOk result (out.new.items ≡ out.old.items ++ command_text_of session.now sender command.now) }
     ensures err { OnErr result (out.new.items ≡ out.old.items) }
 {
     let mut line = LineText::new();
-    make_text(session, bank, command, &mut line);
+    make_text(session, sender, command, &mut line);
     out.extend_from_slice(line.as_slice())?;
     Ok(())
 }
 
 // Makes the text of a command's line, without a line feed, which leaves room for more bytes.
-fn make_text(session: &Session, bank: BankId, command: &Command, line: &mut LineText)
-    requires bank { bank < bank_count session.now }
-    requires command { IsCommand session.now bank command.now }
-    ensures made { line.new ≡ command_text_of session.now bank command.now }
-    ensures short { length (command_text_of session.now bank command.now) ≤ 246 }
+fn make_text(session: &Session, sender: BankId, command: &Command, line: &mut LineText)
+    requires { IsCommand session.now sender command.now }
+    ensures made { line.new ≡ command_text_of session.now sender command.now }
+    ensures short { length (command_text_of session.now sender command.now) ≤ 246 }
 {
     // The bound on the line rests on a valid session, as each is.
     let _banks = session.banks();
     line.clear();
-    push_command(session, bank, command, line);
+    push_command(session, sender, command, line);
 }
 
 // Appends the line of a command.
-fn push_command(session: &Session, bank: BankId, command: &Command, line: &mut LineText)
-    requires bank { bank < bank_count session.now }
-    requires command { IsCommand session.now bank command.now }
-    ensures { line.new ≡ take 256 (line.old ++ command_text_of session.now bank command.now) }
+fn push_command(session: &Session, sender: BankId, command: &Command, line: &mut LineText)
+    requires { IsCommand session.now sender command.now }
+    ensures { line.new ≡ take 256 (line.old ++ command_text_of session.now sender command.now) }
 {
-    line.push(session.name(bank));
+    line.push(sender_name(session, sender));
     line.push_field(word_of(command));
     push_subject(session, command, line);
     push_details(session, command, line);
@@ -98,8 +94,8 @@ fn word_of(command: &Command) -> &'static [u8]
         Command::Reduce { .. } => Word::Reduce.as_bytes(),
         Command::Pull { .. } => Word::Pull.as_bytes(),
         Command::Line { .. } => Word::Line.as_bytes(),
-        Command::Total { .. } => TOTAL,
-        Command::Settle { .. } => SETTLE,
+        Command::Total { .. } => Word::Total.as_bytes(),
+        Command::Settle { .. } => Word::Settle.as_bytes(),
         Command::Show { .. } => Word::Show.as_bytes(),
         Command::Book { .. } => Word::Book.as_bytes(),
         Command::Bad { .. } => BAD,

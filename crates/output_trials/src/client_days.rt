@@ -9,11 +9,11 @@ ghost use Rattle.output_trials.specs.inside.ClientDays.{IsClientDay, IsClientOf}
 
 use crate::clients::read;
 use crate::fixture::TRADING;
-use client_desk::{Ask, Client, ClientBook, ClientId, ClientLine, client_line};
+use client_desk::{Ask, ClientBook, ClientId, ClientLine, Clients, client_line_with};
 use flat_host::FlatHost;
 use fx_amounts::{BankId, Memory};
 use fx_rules::{Command, Entry, Market, Sent, Session, is_command};
-use fx_text::{Bytes, Line, push_number};
+use fx_text::{Bytes, Line, LineText, push_number};
 use order_lines::Spoken;
 use std::alloc::Global;
 use std::test::Fail;
@@ -254,7 +254,7 @@ fn answer<M: Market>(
 fn played<M: Market>(
     alloc: Global,
     session: &Session,
-    clients: &[Client],
+    clients: &Clients,
     market: &mut M,
     book: &mut ClientBook,
     line: &[u8],
@@ -264,7 +264,7 @@ fn played<M: Market>(
     ensures day { OnOk result (IsClientDay M.stands session.now market.new book.new) }
 {
     let line = Line::Whole(Bytes::from_vec(Vec::from_slice(alloc, line)?));
-    let said = client_line(session, clients, &line);
+    let said = client_line_with(session, clients, &line, &mut LineText::new());
     let mut text = Vec::new(alloc);
     answer(session, market, book, &said, &mut text)?;
     push_sums(alloc, book, &mut text)?;
@@ -285,10 +285,10 @@ fn push_sums(alloc: Global, book: &ClientBook, text: &mut Vec<u8>) -> Result<(),
 }
 
 /// The clients that lines declare.
-fn declared(alloc: Global, session: &Session, lines: &[&[u8]]) -> Result<Vec<Client>, Memory>
-    ensures clients { IfOk result (λ clients. AreClients session.now clients.items) }
+fn declared(alloc: Global, session: &Session, lines: &[&[u8]]) -> Result<Clients, Memory>
+    ensures clients { IfOk result (AreClients session.now) }
 {
-    let mut clients = Vec::new(alloc);
+    let mut clients = Clients::new(alloc);
     for line in lines {
         read(alloc, session, &mut clients, line)?;
     }
@@ -334,7 +334,8 @@ fn first_owner(alloc: Global, day: &ClientDay, book: &ClientBook) -> Result<Opti
 fn first_wrong(alloc: Global, day: &ClientDay) -> Result<Option<String>, Fail> {
     let session = session_of(alloc, day.header)?;
     let mut host = FlatHost::open(alloc, &session)?;
-    let mut book = ClientBook::open(&session, declared(alloc, &session, day.clients)?)?;
+    let clients = declared(alloc, &session, day.clients)?;
+    let mut book = ClientBook::open(&session, Vec::from_slice(alloc, clients.as_slice())?)?;
     let wrong = first_answer(alloc, &session, day, &mut host, &mut book)?;
     if wrong.is_some() {
         return Ok(wrong);

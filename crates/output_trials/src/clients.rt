@@ -1,7 +1,7 @@
 ghost use Rattle.client_desk.specs.Clients.{AreClients};
 
 use crate::fixture::TRADING;
-use client_desk::{Client, ClientBook, ClientLine, client_line};
+use client_desk::{ClientBook, ClientLine, Clients, client_line};
 use fx_amounts::Memory;
 use fx_rules::{Command, Session};
 use fx_text::{Bytes, Line};
@@ -67,11 +67,11 @@ fn said(alloc: Global, line: &ClientLine) -> Result<String, Memory> {
 pub(crate) fn read(
     alloc: Global,
     session: &Session,
-    clients: &mut Vec<Client>,
+    clients: &mut Clients,
     text: &[u8],
 ) -> Result<String, Memory>
-    requires clients { AreClients session.now clients.old.items }
-    ensures clients { AreClients session.now clients.new.items }
+    requires clients { AreClients session.now clients.old }
+    ensures clients { AreClients session.now clients.new }
 {
     let line = Line::Whole(Bytes::from_vec(Vec::from_slice(alloc, text)?));
     let what = client_line(session, clients, &line);
@@ -83,7 +83,7 @@ pub(crate) fn read(
 
 /// The first line that says another thing, counted from 0, and what it says.
 fn first_wrong(alloc: Global, session: &Session) -> Result<Option<String>, Memory> {
-    let mut clients = Vec::new(alloc);
+    let mut clients = Clients::new(alloc);
     for (at, (line, want)) in LINES.iter().enumerate() {
         let got = read(alloc, session, &mut clients, line)?;
         if got.as_str() != *want {
@@ -105,9 +105,9 @@ fn lines_speak_of_clients(rt: HostRuntime) -> Result<(), Fail> {
 fn a_book_opens_with_all_limits_free(rt: HostRuntime) -> Result<(), Fail> {
     let alloc = rt.alloc();
     let session = session_of(alloc, TRADING)?;
-    let mut clients = Vec::new(alloc);
+    let mut clients = Clients::new(alloc);
     let _ann = read(alloc, &session, &mut clients, b"CLIENT: ALFA ANN 250")?;
-    let book = ClientBook::open(&session, clients)?;
+    let book = ClientBook::open(&session, Vec::from_slice(alloc, clients.as_slice())?)?;
     assert!(rt; book.clients().len() == 1);
     Ok(())
 }

@@ -7,7 +7,6 @@ use Rattle.fx_rules.specs.Session.{Header, bank_count, pair_count, sender_places
 use Rattle.fx_rules.specs.State.{State, orders_in, count_of}
 use Rattle.fx_rules.specs.History.{IsStep}
 use Rattle.fx_rules.specs.Market.{MaySend, next_entry}
-use Rattle.fx_rules.proofs.Plain.{only_one, first-command}
 use Rattle.fx_rules.proofs.Senders.{command-place}
 use Rattle.global_book.specs.Book.{Book}
 use Rattle.credit_table.specs.Table.{Table, next_sender}
@@ -16,6 +15,7 @@ use Rattle.fx_rules.specs.declared.sender.Sender.{Sender}
 use Rattle.fx_rules.specs.Sending.{IsNextIn, pair_of, entry_of}
 use Rattle.pair_steps.specs.Answers.{AnswersEach}
 use Rattle.pair_steps.specs.Carries.{IsStepOf}
+use Rattle.pair_steps.proofs.Sent.{sent-by_bank}
 use Rattle.pair_host.specs.inside.OnePair.{AreOf, MayServe, IsFollowed}
 use Rattle.fx_rules.proofs.Senders.{pair-within}
 
@@ -34,7 +34,7 @@ can-send h S book table bank command of may about =
     let back : h ≡ table.session = sym of.credit.session in
     record {
       sender = subst (λ (g : Header). bank < sender_places g) back (command-place h bank command of.valid may.allowed);
-      owner = subst (λ (g : Header). bank < bank_count g) back (first-command h bank command (only_one h of.valid) may.allowed);
+      owner = subst (λ (g : Header). bank < bank_count g) back (sent-by_bank h bank book.pair command may.allowed about);
       few = omega (arith, count, may.number);
       pair = subst (λ (g : Header). book.pair < pair_count g) back (pair-within h bank command book.pair may.allowed.values about);
     }

@@ -9,7 +9,6 @@ use Rattle.fx_rules.specs.Step.{IsCommand, may_change}
 use Rattle.fx_rules.specs.History.{state}
 use Rattle.fx_rules.specs.Market.{InSome, MaySend}
 use Rattle.fx_rules.specs.Sending.{pair_of}
-use Rattle.fx_rules.proofs.Plain.{only_one, no_total, no_settlement}
 use Rattle.fx_rules.proofs.Senders.{one_pair}
 use Rattle.credit_raise.specs.UnderWay.{is_change}
 use Rattle.credit_table.specs.Table.{is_of_no_pair}
@@ -44,15 +43,15 @@ changes_none (Show to) pair other is differ = refl
 changes_none (Book its) pair other is differ = refl
 changes_none (Bad reason) pair other is differ = refl
 
--- what may be sent and is neither about one pair nor a credit change is about no pair
-pub told_by-table : (host : HostState) (bank : ℕ) (command : Command) → InSome (stands host) (MaySend bank command) → pair_of command ≡ None → is_change command ≡ false → is_of_no_pair command ≡ true
-told_by-table host bank (Order side its price lots life) some about other = cc
-told_by-table host bank (Cancel its number) some about other = cc
-told_by-table host bank (Reduce its number lots) some about other = cc
-told_by-table host bank (Pull its) some about other = cc
-told_by-table host bank (Line to asked) some about other = cc
-told_by-table host bank (Total asked) some about other = absurd (no_total some.0 bank asked (only_one some.0 some.2.session) some.4.allowed)
-told_by-table host bank (Settle a b asked) some about other = absurd (no_settlement some.0 bank a b asked (only_one some.0 some.2.session) some.4.allowed)
-told_by-table host bank (Show to) some about other = refl
-told_by-table host bank (Book its) some about other = cc
-told_by-table host bank (Bad reason) some about other = refl
+-- what is neither about one pair nor a credit change is about no pair
+pub told_by-table : (command : Command) → pair_of command ≡ None → is_change command ≡ false → is_of_no_pair command ≡ true
+told_by-table (Order side its price lots life) about other = cc
+told_by-table (Cancel its number) about other = cc
+told_by-table (Reduce its number lots) about other = cc
+told_by-table (Pull its) about other = cc
+told_by-table (Line to asked) about other = cc
+told_by-table (Total asked) about other = cc
+told_by-table (Settle a b asked) about other = cc
+told_by-table (Show to) about other = refl
+told_by-table (Book its) about other = cc
+told_by-table (Bad reason) about other = refl

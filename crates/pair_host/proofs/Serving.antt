@@ -6,23 +6,22 @@ use Rattle.fx_rules.specs.declared.command.Command.TheVariants.{Order, Cancel, R
 use Rattle.fx_rules.specs.declared.orders.Fill.{Fill}
 use Rattle.fx_rules.specs.declared.outcome.Entry.{Entry}
 use Rattle.fx_rules.specs.declared.outcome.Outcome.{Outcome}
-use Rattle.fx_rules.specs.declared.outcome.Outcome.TheVariants.{LineSet}
-use Rattle.fx_rules.specs.Session.{Header, IsSession, bank_count, pair_count}
+use Rattle.fx_rules.specs.declared.outcome.Outcome.TheVariants.{LineSet, TotalSet, Settled}
+use Rattle.fx_rules.specs.Session.{Header, IsSession, bank_count, pair_count, sender_places}
 use Rattle.fx_rules.specs.State.{State, opening, orders_in, count_of}
-use Rattle.fx_rules.specs.Raise.{limited}
+use Rattle.fx_rules.specs.Raise.{limited, totalled, settled}
 use Rattle.fx_rules.specs.Step.{IsCommand, IsOutcome, after, fills_of, may_change}
 use Rattle.fx_rules.specs.History.{IsStep, IsLegal, after_entry, state}
 use Rattle.fx_rules.specs.Sound.{IsSound}
 use Rattle.fx_rules.specs.Market.{InSome, MaySend, GoesOn, next_entry}
 use Rattle.fx_rules.proofs.Soundness.{legal-sound, legal-push, after_all-push}
-use Rattle.fx_rules.proofs.RaiseSound.{limited-sound}
-use Rattle.fx_rules.proofs.Plain.{only_one, first-command, no_total, no_settlement}
+use Rattle.fx_rules.proofs.RaiseSound.{limited-sound, totalled-sound, settled-sound}
 use Rattle.fx_rules.proofs.Staying.{other_pairs-stay}
 use Rattle.global_book.specs.Book.{Book}
 use Rattle.credit_lines.specs.Credit.{Credit}
 use Rattle.credit_lines.specs.Market as lines
-use Rattle.credit_raise.specs.UnderWay.{Change, IsChange, IsOpened, IsUnderWay, is_change, outcome_of, reached}
-use Rattle.credit_raise.proofs.Changes.{opened-bank, opened-command, reached-orders, values-change}
+use Rattle.credit_raise.specs.UnderWay.{Change, HasBanks, IsChange, IsUnderWay, is_change, opened, outcome_of, reached}
+use Rattle.credit_raise.proofs.Changes.{command-change, opened-banks, opened-command, opened-sender, reached-orders}
 use Rattle.match_sweep.specs.Carries.{carried}
 use Rattle.credit_table.specs.Table as table
 use Rattle.credit_table.specs.Table.{Table, Stands}
@@ -32,7 +31,7 @@ use Rattle.pair_host.specs.Standing.{HostState, StandsFor, IsNextOf, FollowsOn, 
 use Rattle.pair_host.specs.inside.Books.{AreBooks, HaveOrders, EachBook, IsCarried, IsRecorded, PlansEach, host_of}
 use Rattle.pair_host.specs.inside.OnePair.{AreOf, MayServe, ServesEach, FollowsEach}
 use Rattle.pair_host.proofs.Holding.{BooksOf, books-of, stands-by, have-orders-set}
-use Rattle.fx_rules.proofs.Senders.{pair-within}
+use Rattle.fx_rules.proofs.Senders.{pair-within, command-place}
 use Rattle.pair_host.proofs.Sending.{changes_none}
 
 -- ---- from a step to the histories that it goes on
@@ -132,37 +131,48 @@ one-follows_on banks books at book new table table' e are within is about same f
 
 -- ---- all pairs
 
+-- who may send a command has a place among the senders
+pub sends-from : (books : List Book) (table : Table) (bank : ℕ) (command : Command) → InSome (stands (host_of books table)) (MaySend bank command) → bank < sender_places table.session
+sends-from books table bank command some =
+    subst (λ (h : Header). bank < sender_places h) (sym some.3.credit.session) (command-place some.0 bank command some.2.session some.4.allowed)
+
 -- a bank may open a credit change that it may send
 pub opens-change : (books : List Book) (table : Table) (bank : ℕ) (command : Command) → InSome (stands (host_of books table)) (MaySend bank command) → is_change command ≡ true → IsChange table.lines.banks bank command
 opens-change books table bank command some changes =
-    let h : Header = some.0 in
-    let banks : table.lines.banks ≡ bank_count h = some.3.credit.lines.banks in
-    values-change h table.lines.banks bank command changes banks (omega (arith, banks, first-command h bank command (only_one h some.2.session) some.4.allowed)) some.4.allowed.values
+    command-change some.0 table.lines.banks bank command changes some.3.credit.lines.banks some.4.allowed
+
+-- its books have as many banks as its lines
+pub opens-banks : (books : List Book) (table : Table) (bank : ℕ) (command : Command) (credit : Credit) (change : Change) → InSome (stands (host_of books table)) (MaySend bank command) → credit ≡ table.lines → change ≡ opened credit bank command → HasBanks change.course (bank_count table.session)
+opens-banks books table bank command credit change some same opens =
+    let its = some.3.credit in
+    subst (λ (c : Change). HasBanks c.course (bank_count table.session)) (sym opens)
+    (opened-banks credit bank command (bank_count table.session) (ap bank_count its.session ∙ sym its.lines.banks ∙ ap (λ (l : Credit). l.banks) (sym same)))
 
 -- what is told of a credit change that is planned in all pairs
 pub record IsPlanned (books : List Book) (table : Table) (change : Change) (bank : ℕ) (command : Command) (outcome : Outcome) : Type 0 where
   pub under_way : (h : Header) (H : List Entry) → IsLegal h H → StandsFor h (state h H) (host_of books table) → IsUnderWay h (state h H) change
   pub turns : length change.plans ≡ length books
-  pub bank_is : change.bank ≡ bank
+  pub bank_is : change.sender ≡ bank
   pub command_is : change.command ≡ command
   pub value : outcome ≡ outcome_of change
-  pub answers : (h : Header) (S : State) → IsUnderWay h S change → length change.plans ≡ pair_count h → IsOutcome h S change.bank change.command outcome
+  pub answers : (h : Header) (S : State) → IsUnderWay h S change → length change.plans ≡ pair_count h → IsOutcome h S change.sender change.command outcome
 
 -- it is planned by the books and the lines, pair by pair
 pub planned-by : (books now : List Book) (table : Table) (credit : Credit) (begun change : Change) (bank : ℕ) (command : Command) (outcome : Outcome) → now ≡ books → credit ≡ table.lines
-    → IsOpened credit bank command begun
-    → ((h : Header) (H : List Entry) → IsLegal h H → lines.StandsFor h (state h H) credit → IsUnderWay h (state h H) begun)
-    → PlansEach now table begun change → length change.plans ≡ length now → change.command ≡ begun.command → change.bank ≡ begun.bank → outcome ≡ outcome_of change
-    → ((h : Header) (S : State) → IsUnderWay h S change → length change.plans ≡ pair_count h → IsOutcome h S change.bank change.command outcome)
+    → ((h : Header) (S : State) → StandsFor h S (host_of books table) → MaySend bank command h S)
+    → begun ≡ opened credit bank command
+    → ((h : Header) (H : List Entry) → IsLegal h H → lines.StandsFor h (state h H) credit → IsCommand h bank command → IsUnderWay h (state h H) begun)
+    → PlansEach now table begun change → length change.plans ≡ length now → change.command ≡ begun.command → change.sender ≡ begun.sender → outcome ≡ outcome_of change
+    → ((h : Header) (S : State) → IsUnderWay h S change → length change.plans ≡ pair_count h → IsOutcome h S change.sender change.command outcome)
     → IsPlanned books table change bank command outcome
-planned-by books now table credit begun change bank command outcome same paid opens begins plans turns command_is bank_is value answers = record {
+planned-by books now table credit begun change bank command outcome same paid may opens begins plans turns command_is bank_is value answers = record {
   under_way = λ h H legal stood.
       let S : State = state h H in
       let of : BooksOf h S books table = books-of h S books table stood in
       plans h S legal.session (subst (HaveOrders S) (sym same) of.orders) of.credit
-      (begins h H legal (subst (λ (its : Credit). lines.StandsFor h S its) (sym paid) of.credit.lines));
+      (begins h H legal (subst (λ (its : Credit). lines.StandsFor h S its) (sym paid) of.credit.lines) (may h S stood).allowed);
   turns = turns ∙ ap (λ (bs : List Book). length bs) same;
-  bank_is = bank_is ∙ opened-bank credit bank command begun opens;
+  bank_is = bank_is ∙ opened-sender credit bank command begun opens;
   command_is = command_is ∙ opened-command credit bank command begun opens;
   value = value;
   answers = answers;
@@ -176,7 +186,7 @@ planned-answers books table change bank command outcome planned h H legal stood 
     (subst (λ b. IsOutcome h S b change.command outcome) planned.bank_is
     (planned.answers h S (planned.under_way h H legal stood) (planned.turns ∙ (books-of h S books table stood).count)))
 
-changed_orders : (h : Header) (S : State) (change : Change) (bank pair : ℕ) (command : Command) (outcome : Outcome) → IsUnderWay h S change → change.bank ≡ bank → change.command ≡ command → outcome ≡ outcome_of change
+changed_orders : (h : Header) (S : State) (change : Change) (bank pair : ℕ) (command : Command) (outcome : Outcome) → IsUnderWay h S change → change.sender ≡ bank → change.command ≡ command → outcome ≡ outcome_of change
     → orders_in pair (reached change S).orders ≡ orders_in pair (after S bank command outcome).orders
 changed_orders h S change bank pair command outcome under bank_is command_is value =
     ap (orders_in pair) (sym (reached-orders h S change under))
@@ -224,6 +234,22 @@ line_recorded h S bank other asked (LineSet limit fills) old new session sound v
     recorded.follows h (limited bank other limit S) session limit_sound is.1 orders
 line_recorded h S bank other asked outcome old new session sound valid is orders recorded = absurd is
 
+total_recorded : (h : Header) (S : State) (bank asked : ℕ) (outcome : Outcome) (old new : Book) → IsSession h → IsSound h S → IsCommand h bank (Total asked)
+    → IsOutcome h S bank (Total asked) outcome → old.orders ≡ orders_in old.pair S.orders → IsRecorded (fills_of outcome) old new
+    → new.orders ≡ orders_in new.pair (after S bank (Total asked) outcome).orders
+total_recorded h S bank asked (TotalSet most fills) old new session sound valid is orders recorded =
+    let total_sound : IsSound h (totalled bank most S) = totalled-sound h S bank asked most session sound valid.sends.0 valid.sends.1 valid.values is.0 in
+    recorded.follows h (totalled bank most S) session total_sound is.1 orders
+total_recorded h S bank asked outcome old new session sound valid is orders recorded = absurd is
+
+settle_recorded : (h : Header) (S : State) (sender a b asked : ℕ) (outcome : Outcome) (old new : Book) → IsSession h → IsSound h S → IsCommand h sender (Settle a b asked)
+    → IsOutcome h S sender (Settle a b asked) outcome → old.orders ≡ orders_in old.pair S.orders → IsRecorded (fills_of outcome) old new
+    → new.orders ≡ orders_in new.pair (after S sender (Settle a b asked) outcome).orders
+settle_recorded h S sender a b asked (Settled given fills) old new session sound valid is orders recorded =
+    let given_sound : IsSound h (settled a b given S) = settled-sound h S a b asked given sound valid.sends.0 is.0 in
+    recorded.follows h (settled a b given S) session given_sound is.1 orders
+settle_recorded h S sender a b asked outcome old new session sound valid is orders recorded = absurd is
+
 -- where there are no fills, nothing is made
 none_recorded : (S : State) (old new : Book) (fills : List Fill) → fills ≡ [] → old.orders ≡ orders_in old.pair S.orders → IsRecorded fills old new → new.orders ≡ orders_in new.pair S.orders
 none_recorded S old new fills none orders recorded =
@@ -243,9 +269,9 @@ recorded_orders h S bank (BookOf pair) outcome old new session sound valid is ab
 recorded_orders h S bank (Line other asked) outcome old new session sound valid is about orders recorded =
     line_recorded h S bank other asked outcome old new session sound valid is orders recorded
 recorded_orders h S bank (Total asked) outcome old new session sound valid is about orders recorded =
-    absurd (no_total h bank asked (only_one h session) valid)
+    total_recorded h S bank asked outcome old new session sound valid is orders recorded
 recorded_orders h S bank (Settle a b asked) outcome old new session sound valid is about orders recorded =
-    absurd (no_settlement h bank a b asked (only_one h session) valid)
+    settle_recorded h S bank a b asked outcome old new session sound valid is orders recorded
 recorded_orders h S bank (Show other) outcome old new session sound valid is about orders recorded =
     none_recorded S old new (fills_of outcome) (ap fills_of is) orders recorded
 recorded_orders h S bank (Bad reason) outcome old new session sound valid is about orders recorded =

@@ -1,6 +1,7 @@
 //! What a credit change does in every pair, in the order of the header.
 ghost use Rattle.std.specs.Prelude.{◌≡◌, ◌<◌, ◌≤◌, [], length, All, IfOk, OnOk};
 ghost use Rattle.fx_rules.specs.Session.{bank_count, pair_count};
+ghost use Rattle.credit_raise.specs.UnderWay.{HasBanks};
 ghost use Rattle.pair_host.specs.inside.Books.{AreBooks, AreEmpty, EachBook, IsCarried, IsRecorded, PlansEach, RestsIn};
 
 use credit_raise::CreditChange;
@@ -35,10 +36,11 @@ pub(crate) fn plan_turns(
     requires books { AreBooks (bank_count table.now.session) books.now }
     requires pairs { length books.now ≡ pair_count table.now.session }
     requires begins { change.old.plans ≡ [] }
+    requires banks { HasBanks change.old.course (bank_count table.now.session) }
     ensures under_way { OnOk result (PlansEach books.now table.now change.old change.new) }
     ensures turns { OnOk result (length change.new.plans ≡ length books.now) }
     ensures command { change.new.command ≡ change.old.command }
-    ensures bank { change.new.bank ≡ change.old.bank }
+    ensures sender { change.new.sender ≡ change.old.sender }
 {
     for book in books {
         change.pair(alloc, book, table.weight(book.pair()))?;

@@ -99,7 +99,7 @@ impl PairHost {
         serve_in_pair(alloc, book, &mut self.table, bank, command)
     }
 
-    /// A bank's credit change: each pair's turn is planned, and then all is made.
+    /// A sender's credit change: each pair's turn is planned, and then all is made.
     fn change(&mut self, bank: BankId, command: &Command) -> Result<Outcome, Memory>
         requires may_send { InSome (stands self.old) (MaySend bank command.now) }
         requires change { is_change command.now ≡ true }
@@ -107,7 +107,7 @@ impl PairHost {
         ensures memory { OnErr result (self.new ≡ self.old) }
     {
         let alloc = *self.books.allocator();
-        let mut change = CreditChange::open(alloc, self.table.lines(), bank, command);
+        let mut change = CreditChange::open(alloc, self.table.lines(), bank, command)?;
         plan_turns(alloc, &self.books, &self.table, &mut change)?;
         let outcome = change.outcome(alloc)?;
         let entry = Entry {

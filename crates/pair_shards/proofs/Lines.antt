@@ -92,14 +92,14 @@ all_signed h pending pend = nothing_pends pending (λ key. pend.no_others key (�
 -- ---- a pair's part
 
 -- the fills that a pair's plan has are those of the command's entry
-pub of_last : (h : Header) (before entries : List Entry) (change : Change) (entry : Entry) (pair : ℕ) (fills : List Fill) → entries ≡ before ++ entry ∷ [] → entry.bank ≡ change.bank → entry.command ≡ change.command → entry.outcome ≡ outcome_of change
+pub of_last : (h : Header) (before entries : List Entry) (change : Change) (entry : Entry) (pair : ℕ) (fills : List Fill) → entries ≡ before ++ entry ∷ [] → entry.bank ≡ change.sender → entry.command ≡ change.command → entry.outcome ≡ outcome_of change
     → IsUnderWay h (state h before) change → Makes (state h before) (reached change (state h before)) pair fills → AreOfLast h entries pair fills
 of_last h before entries change entry pair fills ends bank_is command_is outcome_is under makes =
     let S : State = state h before in
     let then' : (after_entry S entry).orders ≡ (reached change S).orders =
     ap (λ b. (after S b entry.command entry.outcome).orders) bank_is
-    ∙ ap (λ (c : Command). (after S change.bank c entry.outcome).orders) command_is
-    ∙ ap (λ (o : Outcome). (after S change.bank change.command o).orders) outcome_is
+    ∙ ap (λ (c : Command). (after S change.sender c entry.outcome).orders) command_is
+    ∙ ap (λ (o : Outcome). (after S change.sender change.command o).orders) outcome_is
     ∙ reached-orders h S change under in
     let whole : (state h entries).orders ≡ (reached change S).orders =
     ap (λ (T : State). T.orders) (ap (state h) ends ∙ after_all-push (opening h) before entry) ∙ then' in

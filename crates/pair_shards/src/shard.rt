@@ -1,6 +1,6 @@
 ghost use Rattle.std.specs.Prelude.{◌≡◌, ◌<◌, ◌+◌, ◌-◌, ◌^◌, ◌++◌, [], ◌∷◌, true, Some, length, IfOk, OnOk, OnErr};
 ghost use Rattle.std.specs.Sync.Mutex.{mutex_guard_value};
-ghost use Rattle.fx_rules.specs.Session.{pair_count, sender_places};
+ghost use Rattle.fx_rules.specs.Session.{bank_count, pair_count};
 ghost use Rattle.fx_rules.specs.Keyed.{pair_key};
 ghost use Rattle.fx_rules.specs.Step.{IsCommand, IsOutcome};
 ghost use Rattle.fx_rules.specs.History.{own, state};
@@ -101,7 +101,7 @@ impl<N: Naming> Shard<N> {
     /// Makes room in the book for what may come to rest of a bank's command. The book's orders stay as they are. At `Memory` there
     /// may be none.
     pub fn make_room(&mut self, bank: BankId, command: &Command) -> Result<(), Memory>
-        requires bank { bank < sender_places N.session }
+        requires bank { bank < bank_count N.session }
         ensures has_room { OnOk result (HasRoomFor self.new.book bank command.now) }
         ensures orders { self.new.book.orders ≡ self.old.book.orders }
         ensures pair { self.new.book.pair ≡ self.old.book.pair }
@@ -193,7 +193,7 @@ impl<N: Naming> Shard<N> {
     ) -> Result<Outcome, Memory>
         requires caught_up { self.now.front.seen ≡ credit.now.history.entries }
         requires pair { pair_of command.now ≡ Some self.now.book.pair }
-        requires sender { sender.now.bank < sender_places N.session }
+        requires sender { sender.now.bank < bank_count N.session }
         requires next { IsNextIn (state N.session credit.now.history.entries) sender.now }
         ensures answers { IfOk result (IsOutcome N.session (state N.session credit.now.history.entries) sender.now.bank command.now) }
     {
@@ -201,8 +201,8 @@ impl<N: Naming> Shard<N> {
         pair_steps::answer(alloc, &self.book, credit.lines(), weight, sender, command)
     }
 
-    /// Has its turn in a credit change under way, as the next pair: it catches up, and what the orders of the command's two banks make in
-    /// its book is planned. The book stays as it is. After `Memory` the command is as before.
+    /// Has its turn in a credit change under way, as the next pair: it catches up, and what the change makes in its book is planned. The
+    /// book stays as it is. After `Memory` the command is as before.
     pub fn turn(
         &mut self,
         alloc: Global,
@@ -215,7 +215,7 @@ impl<N: Naming> Shard<N> {
         ensures goes_on { OnOk result (IsUnderWay N.session (state N.session credit.old.history.entries) change.new) }
         ensures turns { OnOk result (length change.new.plans ≡ length change.old.plans + 1) }
         ensures command { change.new.command ≡ change.old.command }
-        ensures bank { change.new.bank ≡ change.old.bank }
+        ensures sender { change.new.sender ≡ change.old.sender }
         ensures memory { OnErr result (change.new ≡ change.old) }
         ensures front { self.new.front ≡ witness self.old.front.key credit.old.history.entries }
         ensures book { self.new.book ≡ self.old.book }

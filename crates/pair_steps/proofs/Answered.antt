@@ -1,6 +1,5 @@
 -- What is found in the book is the market's answer.
-use Rattle.std.proofs.Common.{ℕ, ◌≡◌, ◌<◌, ◌^◌, Bool, List, [], ◌∷◌, find, Some, inl, inr, refl, ap, sym, subst, ◌∙◌, arith}
-use Rattle.std.proofs.lemmas.Bool.{cases_Bool, cond-true, cond-false}
+use Rattle.std.proofs.Common.{ℕ, ◌≡◌, ◌<◌, ◌^◌, List, [], find, Some, ap, sym, subst, ◌∙◌, arith}
 use Rattle.std.specs.List.{filter}
 use Rattle.fx_rules.specs.declared.command.Command.{Command}
 use Rattle.fx_rules.specs.declared.command.Command.TheVariants.{Cancel, Reduce, Book as BookCommand}
@@ -10,23 +9,15 @@ use Rattle.fx_rules.specs.Session.{Header}
 use Rattle.fx_rules.specs.State.{State, orders_in}
 use Rattle.fx_rules.specs.Sweep.{is_order}
 use Rattle.fx_rules.specs.Step.{IsOutcome, cancel_answer, reduce_answer}
-use Rattle.fx_rules.proofs.ListLemmas.{filter_cons_true, filter_cons_false}
 use Rattle.global_book.specs.Book.{Book, first}
 use Rattle.credit_lines.specs.Credit.{Credit}
 use Rattle.match_sweep.specs.Sweeps.{Fits}
 use Rattle.local_view.specs.LocalBook.{IsLocalBook}
+use Rattle.credit_raise.proofs.Turning.{find-first}
 use Rattle.fx_rules.specs.declared.sender.Sender.{Sender}
 use Rattle.fx_rules.specs.Sending.{pair_of}
 use Rattle.fx_rules.proofs.Senders.{one_pair}
 use Rattle.pair_steps.specs.Answers.{AnswersEach}
-
-pub find-first : {X : Type 0} (test : X → Bool) (xs : List X) → first (filter test xs) ≡ find test xs
-find-first test [] = refl
-find-first test (x ∷ xs) =
-    elim (cases_Bool (test x)) [
-      | inl is ↦ ap (λ ys. first ys) (filter_cons_true test x xs is) ∙ sym (cond-true (test x) (Some x) (find test xs) is)
-      | inr is_not ↦ ap (λ ys. first ys) (filter_cons_false test x xs is_not) ∙ find-first test xs ∙ sym (cond-false (test x) (Some x) (find test xs) is_not)
-    ]
 
 -- a command's pair is the book's
 

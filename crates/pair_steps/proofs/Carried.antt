@@ -33,7 +33,7 @@ use Rattle.fx_rules.specs.declared.sender.Sender.{Sender}
 use Rattle.fx_rules.specs.Sending.{pair_of, IsNextIn}
 use Rattle.pair_steps.specs.Carries.{HasRoomFor, IsStepOf, IsStepOfSome, FollowsOn, order_at_rest, with_rest, orders_after}
 use Rattle.fx_rules.proofs.Senders.{one_pair}
-use Rattle.pair_steps.proofs.Answered.{find-first}
+use Rattle.credit_raise.proofs.Turning.{find-first}
 
 -- ---- the orders of one pair
 

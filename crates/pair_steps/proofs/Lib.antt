@@ -1,3 +1,4 @@
+pub mod Sent
 pub mod Counted
 pub mod Answered
 pub mod Carried

@@ -9,8 +9,8 @@ use Rattle.fx_rules.specs.Sound.{IsSound}
 use Rattle.global_book.specs.Book.{Book}
 use Rattle.credit_raise.specs.UnderWay.{Change, IsUnderWay, reached}
 
--- Each state of which the credit change is under way and whose book it was: it is the pair's book with the limit set and the
--- fills so far made.
+-- Each state of which the credit change is under way and whose book it was: it is the pair's book with the change and the fills so
+-- far made.
 abbrev pub ReachesEach : Change → Book → Book → Type 0
 ReachesEach change old new =
     (h : Header) (S : State) → IsUnderWay h S change → old.orders ≡ orders_in old.pair S.orders →
@@ -20,8 +20,8 @@ ReachesEach change old new =
 abbrev pub fills_in : ℕ → List Fill → List Fill
 fills_in pair fills = filter (λ fill. fill.pair == pair) fills
 
--- Each sound state with a limit set in which a credit change makes these fills and whose book it was: it is the pair's book
--- with the fills made.
+-- Each sound state with a credit change made, in which it makes these fills, and whose book it was: it is the pair's book with the
+-- fills made.
 abbrev pub FollowsRaise : Book → Book → List Fill → Type 0
 FollowsRaise old new fills =
     (h : Header) (S : State) → IsSession h → IsSound h S → Raised h S fills → old.orders ≡ orders_in old.pair S.orders →

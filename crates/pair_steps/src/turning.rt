@@ -10,8 +10,8 @@ use match_sweep::{carry, carry_fills};
 
 /// Makes what a credit change brings about in the book's pair, whose turn has been planned. It takes no memory.
 ///
-/// In each state of which the credit change is under way and whose book it was, it is then the pair's book with the limit set
-/// and the fills so far made.
+/// In each state of which the credit change is under way and whose book it was, it is then the pair's book with the change and
+/// the fills so far made.
 pub fn carry_turn(book: &mut PairBook, change: &CreditChange)
     requires turned { book.old.pair < length change.now.plans }
     ensures reaches { ReachesEach change.now book.old book.new }

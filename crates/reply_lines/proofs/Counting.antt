@@ -1,30 +1,37 @@
 -- What the counts of a telling stand for, and how far they reach.
-use Rattle.std.proofs.Common.{ℕ, zero, suc, ◌≡◌, ◌≢◌, ◌+◌, ◌*◌, ◌≤◌, ◌<◌, ◌^◌, eqb, List, [], ◌∷◌, ◌++◌, inl, inr, length, take, drop, get_or, refl, ap, ap₂, sym, subst, ◌∙◌, arith, append_assoc, append-nil, add-one, length-append, flat_map, replicate}
+use Rattle.std.proofs.Common.{ℕ, zero, suc, ◌≡◌, ◌≢◌, ◌+◌, ◌*◌, ◌≤◌, ◌<◌, ◌^◌, eqb, List, [], ◌∷◌, ◌++◌, inl, inr, length, take, drop, get_or, refl, ap, ap₂, sym, subst, ◌∙◌, arith, append_assoc, append-nil, add-one, length-append, flat_map, replicate, Result, Ok, Err, OnOk, OnErr}
 use Rattle.std.proofs.Math.Seq.{drop-cons}
 use Rattle.std.proofs.lemmas.Bool.{cases_eq, eq-eqb, ne_eqb}
 use Rattle.std.proofs.lemmas.List.{get_or-set_same, get_or-set_other, get_or-replicate, length-set}
 use Rattle.fx_edges.specs.Writing.{IsPrefixOf}
+use Rattle.fx_edges.proofs.Writing.{IsPrefixOf-trans}
 use Rattle.fx_rules.specs.declared.orders.Fill.{Fill}
 use Rattle.fx_rules.specs.declared.outcome.Entry.{Entry}
 use Rattle.fx_rules.specs.History.{IsLegal, IsStep, Steps, after_all, after_entry, own, state}
 use Rattle.fx_rules.specs.Lists.{Each, total}
-use Rattle.fx_rules.specs.Session.{Header, IsSession, bank_count}
+use Rattle.fx_rules.specs.Session.{Header, IsSession, bank_count, sender_places}
 use Rattle.fx_rules.specs.Sound.{IsSound}
 use Rattle.fx_rules.specs.State.{State, opening}
 use Rattle.fx_rules.specs.Step.{fills_of}
 use Rattle.fx_rules.proofs.Counting.{arrivals-few, counts-own}
+use Rattle.fx_rules.proofs.Senders.{command-place}
 use Rattle.fx_rules.proofs.ListLemmas.{Each-append, Each-first, filter_cons_true, filter_cons_false}
 use Rattle.fx_rules.proofs.Soundness.{after-sound, opening-sound}
 use Rattle.fx_rules.proofs.Trading.{step-fills}
 use Rattle.day_report.proofs.Bounds.{all-fit}
 use Rattle.day_report.proofs.Trading.{legal-fits}
+use Rattle.order_lines.specs.Words.{sender_name}
+use Rattle.reply_lines.specs.Notices.{notice_line}
 use Rattle.reply_lines.specs.Notices.Notice.{Replied, Took, Gave}
 use Rattle.reply_lines.specs.Prints.{IsFillOf}
 use Rattle.reply_lines.specs.Telling.{Addressed, HasCounted, addressed, addressed_in, addressed_to, count_to, fill_addressed, numbered, told_line}
 use Rattle.reply_lines.specs.inside.Prints.{IsEntryOf}
-use Rattle.reply_lines.specs.inside.Telling.{CanCount, HasTold, counts_behind, lines_behind, next_of, with_one}
+use Rattle.reply_lines.specs.declared.notices.FillPart.{FillPart}
+use Rattle.reply_lines.specs.declared.notices.FillPart.TheVariants.{Taker, Maker}
+use Rattle.reply_lines.specs.inside.Telling.{bank_of, CanCount, HasTold, counts_behind, lines_behind, next_of, with_one}
 use Rattle.reply_lines.proofs.Items.{flat_more}
 use Rattle.reply_lines.proofs.Printable.{step-prints}
+use Rattle.reply_lines.proofs.Placing.{banks-placed}
 use Rattle.reply_lines.proofs.ToldTexts.{addressed-append, count_to-append, count-elsewhere, count-here, count-notices}
 
 -- each notice is to a sender that has a count
@@ -102,13 +109,20 @@ can-behind {counts = counts} (a ∷ xs) ys can = can-behind {counts = with_one c
 pub told-none : (h : Header) (counts text : List ℕ) → HasTold h [] counts counts text text
 told-none h counts text = record { counted = refl; lines = sym (append-nil text) }
 
--- one notice is told: its sender's name, and its line
-pub told-one : (h : Header) (a : Addressed) {counts counts' : List ℕ} (text name line text' : List ℕ) → counts' ≡ with_one counts a.sender → text' ≡ (text ++ name) ++ line
-    → name ++ line ≡ told_line h (record { sender = a.sender; number = next_of counts a.sender; notice = a.notice }) → HasTold h (a ∷ []) counts counts' text text'
-told-one h a text name line text' counted is told = record {
+-- one notice is told: behind a text its sender's name and a space, and then its line
+pub told-one : (h : Header) (a : Addressed) {counts counts' : List ℕ} (number : ℕ) {text name named text' : List ℕ} → number ≡ next_of counts a.sender → counts' ≡ with_one counts a.sender → name ≡ sender_name h a.sender
+    → named ≡ text ++ (name ++ 32 ∷ []) → text' ≡ named ++ notice_line h number a.notice → HasTold h (a ∷ []) counts counts' text text'
+told-one h a {counts} number {text} {name} {named} numbers counted is begun put = record {
   counted = counted;
-  lines = is ∙ append_assoc text name line ∙ ap (λ (all : List ℕ). text ++ all) (told ∙ sym (append-nil _));
+  lines = put ∙ ap₂ (λ (front : List ℕ) (n : ℕ). front ++ notice_line h n a.notice) (begun ∙ ap (λ (its : List ℕ). text ++ (its ++ 32 ∷ [])) is) numbers
+      ∙ append_assoc text (sender_name h a.sender ++ 32 ∷ []) (notice_line h (next_of counts a.sender) a.notice)
+      ∙ ap (λ (all : List ℕ). text ++ all) (append_assoc (sender_name h a.sender) (32 ∷ []) (notice_line h (next_of counts a.sender) a.notice) ∙ sym (append-nil _));
 }
+
+-- a fill's two banks are the session's
+pub part-within : (h : Header) (part : FillPart) (fill : Fill) → IsFillOf h fill → bank_of part fill < bank_count h
+part-within h Taker fill is = is.taker
+part-within h Maker fill is = is.maker
 
 -- some are told, and then others
 pub told-then : (h : Header) (xs ys : List Addressed) {c0 c1 c2 t0 t1 t2 : List ℕ} → HasTold h xs c0 c1 t0 t1 → HasTold h ys c1 c2 t1 t2 → HasTold h (xs ++ ys) c0 c2 t0 t2
@@ -123,6 +137,11 @@ told-then h xs ys {c0 = c0} {t0 = t0} one other = record {
 -- what is told was put behind the text
 pub told-begins : {h : Header} {more : List Addressed} {counts counts' text text' : List ℕ} → HasTold h more counts counts' text text' → IsPrefixOf text text'
 told-begins {h = h} {more = more} {counts = counts} has = record { rest = lines_behind h counts more; joined = has.lines }
+
+-- a text that something was put behind, or nothing, begins as it did
+pub begins-put : {T E : Type 0} (result : Result T E) (line : List ℕ) {first before after : List ℕ} → OnOk result (after ≡ before ++ line) → OnErr result (after ≡ before) → IsPrefixOf first before → IsPrefixOf first after
+begins-put (Ok value) line put kept begins = IsPrefixOf-trans begins (record { rest = line; joined = put })
+begins-put (Err e) line {first = first} put kept begins = subst (λ (text : List ℕ). IsPrefixOf first text) (sym kept) begins
 
 -- ---- a loop's turns
 
@@ -177,13 +196,13 @@ lines-told h all counts (a ∷ more) have are =
     (lines-told h (all ++ a ∷ []) (with_one counts a.sender) more (have-more counts a.sender more have.1) (counts-one all counts a have.0 are))
 
 counts-of : {h : Header} (entries : List Entry) {counts : List ℕ} → HasCounted h entries counts → AreCounts (addressed entries) counts
-counts-of entries has = record { each = λ sender within. has.each sender (omega (arith, within, has.senders)) ∙ sym (count-notices sender entries) }
+counts-of entries has = record { each = λ sender within. has.each sender (omega (arith, within, has.places)) ∙ sym (count-notices sender entries) }
 
 -- the counts of a history
-pub counted-none : (h : Header) (counts : List ℕ) (n : ℕ) → n ≡ bank_count h → counts ≡ replicate n 0 → length counts ≡ n → HasCounted h [] counts
-counted-none h counts n banks none long = record {
-  senders = long ∙ banks;
-  each = λ sender within. ap (λ (cs : List ℕ). get_or cs sender 0) none ∙ get_or-replicate n sender 0 0 (omega (arith, within, banks));
+pub counted-none : (h : Header) (counts : List ℕ) (n : ℕ) → n ≡ sender_places h → counts ≡ replicate n 0 → length counts ≡ n → HasCounted h [] counts
+counted-none h counts n places none long = record {
+  places = long ∙ places;
+  each = λ sender within. ap (λ (cs : List ℕ). get_or cs sender 0) none ∙ get_or-replicate n sender 0 0 (omega (arith, within, places));
 }
 
 pub counted-behind : (h : Header) (before more : List Entry) (counts counts' : List ℕ) → HaveCounts (addressed more) counts → counts' ≡ counts_behind counts (addressed more) → HasCounted h before counts → HasCounted h (before ++ more) counts'
@@ -191,10 +210,10 @@ counted-behind h before more counts counts' have is has =
     let long : length counts' ≡ length counts = ap length is ∙ length-behind counts (addressed more) in
     let are : AreCounts (addressed before ++ addressed more) (counts_behind counts (addressed more)) = counts-more (addressed before) counts (addressed more) have (counts-of before has) in
     record {
-      senders = long ∙ has.senders;
+      places = long ∙ has.places;
       each = λ sender within.
           ap (λ (cs : List ℕ). get_or cs sender 0) is
-          ∙ are.each sender (omega (arith, within, has.senders, length-behind counts (addressed more)))
+          ∙ are.each sender (omega (arith, within, has.places, length-behind counts (addressed more)))
           ∙ ap (count_to sender) (sym (addressed-append before more)) ∙ count-notices sender (before ++ more);
     }
 
@@ -221,19 +240,20 @@ pub next-print : (h : Header) (before more : List Entry) → IsLegal h (before +
 next-print h before more legal =
     Each-last (IsEntryOf h) before more (steps-print h (opening h) (before ++ more) legal.session (opening-sound h legal.session) legal.steps)
 
-fills-have : (h : Header) (counts : List ℕ) (fills : List Fill) → length counts ≡ bank_count h → Each (IsFillOf h) fills → HaveCounts (flat_map fill_addressed fills) counts
-fills-have h counts [] senders are = tt
-fills-have h counts (fill ∷ fills) senders are =
-    let taker : fill.taker < length counts = omega (arith, are.0.taker) in
-    let maker : fill.maker < length counts = omega (arith, are.0.maker) in
-    (taker, (maker, fills-have h counts fills senders are.1))
+fills-have : (h : Header) (counts : List ℕ) (fills : List Fill) → bank_count h ≤ length counts → Each (IsFillOf h) fills → HaveCounts (flat_map fill_addressed fills) counts
+fills-have h counts [] banks are = tt
+fills-have h counts (fill ∷ fills) banks are =
+    let taker : fill.taker < length counts = omega (arith, banks, are.0.taker) in
+    let maker : fill.maker < length counts = omega (arith, banks, are.0.maker) in
+    (taker, (maker, fills-have h counts fills banks are.1))
 
-entries-have : (h : Header) (counts : List ℕ) (entries : List Entry) → length counts ≡ bank_count h → Each (IsEntryOf h) entries → HaveCounts (addressed entries) counts
-entries-have h counts [] senders are = tt
-entries-have h counts (e ∷ entries) senders are =
-    let sender : e.bank < length counts = omega (arith, are.0.sender) in
-    Each-append (λ (a : Addressed). a.sender < length counts) (addressed_in e) (addressed entries) (sender, fills-have h counts (fills_of e.outcome) senders are.0.fills)
-    (entries-have h counts entries senders are.1)
+entries-have : (h : Header) (counts : List ℕ) (entries : List Entry) → IsSession h → length counts ≡ sender_places h → Each (IsEntryOf h) entries → HaveCounts (addressed entries) counts
+entries-have h counts [] session places are = tt
+entries-have h counts (e ∷ entries) session places are =
+    let sender : e.bank < length counts = omega (arith, places, command-place h e.bank e.command session are.0.command) in
+    let banks : bank_count h ≤ length counts = omega (arith, places, banks-placed h session) in
+    Each-append (λ (a : Addressed). a.sender < length counts) (addressed_in e) (addressed entries) (sender, fills-have h counts (fills_of e.outcome) banks are.0.fills)
+    (entries-have h counts entries session places are.1)
 
 -- ---- how many notices there are
 
@@ -298,11 +318,11 @@ told-few h entries sender legal =
 -- the notices of a legal history's next entries can be counted
 pub can-count : (h : Header) (before more : List Entry) (counts : List ℕ) → IsLegal h (before ++ more) → HasCounted h before counts → CanCount (addressed more) counts
 can-count h before more counts legal has = record {
-  senders = entries-have h counts more has.senders (next-print h before more legal);
+  senders = entries-have h counts more legal.session has.places (next-print h before more legal);
   few = λ sender within.
       omega (
         arith,
-        has.each sender (omega (arith, within, has.senders)),
+        has.each sender (omega (arith, within, has.places)),
         count-notices sender before,
         ap (count_to sender) (addressed-append before more),
         count_to-append sender (addressed before) (addressed more),

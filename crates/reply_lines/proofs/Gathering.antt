@@ -1,15 +1,18 @@
--- Notices added one after another to the desks of their banks.
-use Rattle.std.proofs.Common.{ℕ, zero, suc, ◌≡◌, ◌+◌, ◌<◌, eqb, cond, List, [], ◌∷◌, ◌++◌, inl, inr, length, take, refl, ap, ap₂, sym, subst, ◌∙◌, arith, append_assoc, append-nil, add-zero, length-append, get_or, set, replicate}
+-- Notices added one after another to the desks of their senders.
+use Rattle.std.proofs.Common.{ℕ, zero, suc, ◌≡◌, ◌+◌, ◌<◌, eqb, cond, List, [], ◌∷◌, ◌++◌, inl, inr, length, take, refl, ◌≢◌, ap, ap₂, sym, subst, ◌∙◌, arith, append_assoc, append-nil, add-zero, length-append, get_or, set, replicate}
 use Rattle.std.proofs.lemmas.Bool.{cases_eq, cond-true, cond-false, eq-eqb, ne_eqb}
 use Rattle.std.proofs.lemmas.List.{get_or-set_same, get_or-set_other, get_or_read, length-set}
+use Rattle.std.proofs.lemmas.List.Concat.{flat_map-append}
 use Rattle.std.specs.List.{flat_map}
 use Rattle.fx_rules.specs.declared.outcome.Entry.{Entry}
-use Rattle.fx_rules.specs.Session.{Header, bank_count}
+use Rattle.fx_rules.specs.Lists.{below}
+use Rattle.fx_rules.specs.Session.{Header, bank_count, host, sender_places}
 use Rattle.fx_text.specs.Fields.{fields_text}
 use Rattle.reply_lines.specs.Rows.{row}
 use Rattle.reply_lines.specs.Desks.{DeskSoFar, desk_with, nothing_yet, with_notice, AreDesksOf}
-use Rattle.reply_lines.specs.inside.Desks.{with_notices, HaveGot}
-use Rattle.reply_lines.specs.Notices.{Notice, notice_line, notice_lines, notices_in, notices}
+use Rattle.reply_lines.specs.inside.Desks.{bank_desks, host_desk, with_notices, HaveGot}
+use Rattle.reply_lines.specs.Output.{desks_text}
+use Rattle.reply_lines.specs.Notices.{Notice, desk_text, notice_line, notice_lines, notices_in, notices}
 use Rattle.reply_lines.proofs.Items.{flat_more, flat_last}
 
 -- a line has its line feed at least
@@ -94,20 +97,34 @@ desk-of h ns =
     with_notices-is h nothing_yet ns ∙ ap (λ n. desk_with n (notice_lines h 0 ns)) all
 
 -- desks without a notice are those of a session before its first command
-pub desks-none : (h : Header) (desks : List DeskSoFar) → desks ≡ replicate (bank_count h) nothing_yet → AreDesksOf h [] desks
+pub desks-none : (h : Header) (desks : List DeskSoFar) → desks ≡ replicate (sender_places h) nothing_yet → AreDesksOf h [] desks
 desks-none h desks none = record {
-  banks = ap length none ∙ length-replicate (bank_count h);
-  each = λ bank within. ap (λ all. get_or all bank nothing_yet) none ∙ get_or-replicate (bank_count h) bank;
+  places = ap length none ∙ length-replicate (sender_places h);
+  each = λ sender within. ap (λ all. get_or all sender nothing_yet) none ∙ get_or-replicate (sender_places h) sender;
 }
 
 -- the desks of a history, with the notices of one entry more
 pub desks-more : (h : Header) (entries : List Entry) (e : Entry) (before after : List DeskSoFar) → AreDesksOf h entries before → HaveGot h (λ bank. notices_in bank e) before after → AreDesksOf h (entries ++ e ∷ []) after
 desks-more h entries e before after are got = record {
-  banks = got.count ∙ are.banks;
-  each = λ bank within.
-      got.each bank (subst (λ n. bank < n) (sym are.banks) within)
-      ∙ ap (λ desk. with_notices h desk (notices_in bank e)) (are.each bank within ∙ sym (desk-of h (notices bank entries)))
-      ∙ sym (with_notices-append h nothing_yet (notices bank entries) (notices_in bank e))
-      ∙ ap (with_notices h nothing_yet) (sym (flat_last (notices_in bank) entries e))
-      ∙ desk-of h (notices bank (entries ++ e ∷ []));
+  places = got.count ∙ are.places;
+  each = λ sender within.
+      got.each sender (subst (λ n. sender < n) (sym are.places) within)
+      ∙ ap (λ desk. with_notices h desk (notices_in sender e)) (are.each sender within ∙ sym (desk-of h (notices sender entries)))
+      ∙ sym (with_notices-append h nothing_yet (notices sender entries) (notices_in sender e))
+      ∙ ap (with_notices h nothing_yet) (sym (flat_last (notices_in sender) entries e))
+      ∙ desk-of h (notices sender (entries ++ e ∷ []));
 }
+
+-- What is written of them
+
+-- the banks' desks, and the operator's behind them
+pub desks-parts : (h : Header) (entries : List Entry) → bank_desks h entries ++ host_desk h entries ≡ desks_text h entries
+unfolding desks_text
+desks-parts h entries = sym (flat_map-append (desk_text h entries) (below (bank_count h)) (cond (eqb h.version 2) (host ∷ []) []))
+
+pub host_desk-second : (h : Header) (entries : List Entry) → h.version ≡ 2 → desk_text h entries host ≡ host_desk h entries
+host_desk-second h entries second =
+    sym (ap (flat_map (desk_text h entries)) (cond-true (eqb h.version 2) (host ∷ []) [] (eq-eqb h.version 2 second)) ∙ append-nil (desk_text h entries host))
+
+pub host_desk-first : (h : Header) (entries : List Entry) → h.version ≢ 2 → [] ≡ host_desk h entries
+host_desk-first h entries other = sym (ap (flat_map (desk_text h entries)) (cond-false (eqb h.version 2) (host ∷ []) [] (ne_eqb h.version 2 other)))

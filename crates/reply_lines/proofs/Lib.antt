@@ -1,4 +1,6 @@
 pub mod Items
+mod Placing
+mod Examples
 pub mod Parts
 pub mod Printable
 pub mod Existing

@@ -1,16 +1,18 @@
 -- A legal history has an output; what was written of a text tells how the writing of the output ended.
-use Rattle.std.proofs.Common.{ℕ, ◌≡◌, List, [], ◌++◌, Option, Result, Ok, Err, OnOk, IsErrAnd, refl, ap, sym, subst, ◌∙◌, arith}
+use Rattle.std.proofs.Common.{ℕ, ◌+◌, ◌≡◌, ◌<◌, List, [], ◌++◌, Option, Result, Ok, Err, OnOk, IsErrAnd, refl, ap, sym, subst, ◌∙◌, arith}
 use Rattle.std.specs.List.{flat_map}
 use Rattle.fx_amounts.specs.declared.memory.Memory.{Memory as OutOfMemory}
 use Rattle.fx_edges.specs.Writing.{IsPrefixOf, Wrote}
 use Rattle.fx_edges.specs.Gathered.{Kept, Gathered}
 use Rattle.fx_edges.proofs.Writing.{IsPrefixOf-append, IsPrefixOf-nil, append_known-nil}
-use Rattle.fx_edges.proofs.Gathering.{Gathered-cut, Gathered-of_longer, Gathered-wanting, Wrote-from_Gathered, Wrote-from_none}
+use Rattle.fx_edges.proofs.Gathering.{Gathered-from_Kept, Kept-append, Gathered-cut, Gathered-of_longer, Gathered-wanting, Wrote-from_Gathered, Wrote-from_none}
 use Rattle.fx_edges.specs.declared.sink.SinkFault.{SinkFault}
 use Rattle.fx_edges.specs.declared.sink.SinkFault.TheVariants as sinks
 use Rattle.fx_rules.specs.declared.outcome.Entry.{Entry}
 use Rattle.fx_rules.specs.Session.{Header}
 use Rattle.fx_rules.specs.History.{IsLegal, state}
+use Rattle.fx_rules.specs.Lists.{below}
+use Rattle.fx_rules.proofs.Below.{flat_map-more}
 use Rattle.fx_rules.proofs.Soundness.{legal-sound}
 use Rattle.reply_lines.specs.Books.{LocalBook, AreBooks}
 use Rattle.reply_lines.specs.Faults.{WroteOutput, fault_of}
@@ -19,6 +21,7 @@ use Rattle.reply_lines.specs.declared.output.Ending.{Ending}
 use Rattle.reply_lines.specs.declared.output.OutFault.{OutFault}
 use Rattle.reply_lines.specs.declared.output.OutFault.TheVariants.{Write, Memory}
 use Rattle.reply_lines.proofs.Existing.{books-exist}
+use Rattle.reply_lines.proofs.Parts.{places-prefix}
 
 -- what is known of a result that is Ok holds of what follows from it
 pub on_ok : {T E P Q : Type 0} (result : Result T E) → (P → Q) → OnOk result P → OnOk result Q
@@ -66,6 +69,18 @@ cut_off {T = T} {U = U} {written = written} {faults = faults} {a = a} {b = b} {t
 pub of_text : {K T : Type 0} {written : K → Option (List ℕ)} {faults : K → ℕ} {held : List ℕ} {a : K} {rest : List ℕ} {b : K} {text same : List ℕ} {result : Result T SinkFault} → text ≡ same → Gathered {T = T} written faults held a rest b text result → Gathered {T = T} written faults held a rest b same result
 of_text {T = T} {written = written} {faults = faults} {held = held} {a = a} {rest = rest} {b = b} {result = result} is wrote =
     subst (λ (text : List ℕ). Gathered {T = T} written faults held a rest b text result) is wrote
+
+-- a text that is written place by place: one place more, all places, and a fault at one of them
+pub place_kept : {K T : Type 0} {written : K → Option (List ℕ)} {faults : K → ℕ} {held : List ℕ} {a : K} {rest : List ℕ} {b : K} {last : List ℕ} {c : K} {at : ℕ} {value : T} (f : ℕ → List ℕ) (place : ℕ) → at ≡ place → Kept written faults held a rest b (flat_map f (below place)) → Gathered {T = T} written faults rest b last c (f at) (Ok value) → Kept written faults held a last c (flat_map f (below (place + 1)))
+place_kept {T = T} {written = written} {faults = faults} {held = held} {a = a} {last = last} {c = c} f place is kept wrote =
+    subst (λ (text : List ℕ). Kept written faults held a last c text) (sym (flat_map-more f place)) (Kept-append kept (of_text {T = T} (ap f is) wrote).ok)
+
+pub places_written : {K : Type 0} {written : K → Option (List ℕ)} {faults : K → ℕ} {held : List ℕ} {a : K} {rest : List ℕ} {b : K} (f : ℕ → List ℕ) (place places : ℕ) → place ≡ places → Kept written faults held a rest b (flat_map f (below place)) → Gathered {T = Unit {0}} written faults held a rest b (flat_map f (below places)) (Ok tt)
+places_written {written = written} {faults = faults} {held = held} {a = a} {rest = rest} {b = b} f place places end kept =
+    Gathered-from_Kept tt (subst (λ (n : ℕ). Kept written faults held a rest b (flat_map f (below n))) end kept)
+
+pub places_cut : {K T U : Type 0} {written : K → Option (List ℕ)} {faults : K → ℕ} {held : List ℕ} {a : K} {rest : List ℕ} {b : K} {last : List ℕ} {c : K} {at : ℕ} {e : SinkFault} (f : ℕ → List ℕ) (place places : ℕ) (result : Result U SinkFault) → IsErrAnd result (λ fault. fault ≡ e) → at ≡ place → place < places → Kept written faults held a rest b (flat_map f (below place)) → Gathered {T = T} written faults rest b last c (f at) (Err e) → Gathered {T = U} written faults held a last c (flat_map f (below places)) result
+places_cut {T = T} f place places result same is within kept wrote = cut_at {T = T} result same kept (of_text {T = T} (ap f is) wrote) (places-prefix f place places within)
 
 -- lines of the items of a list that is this one
 pub of_items : {K T X : Type 0} {written : K → Option (List ℕ)} {faults : K → ℕ} {held : List ℕ} {a : K} {rest : List ℕ} {b : K} {xs ys : List X} (print : X → List ℕ) (result : Result T SinkFault) → xs ≡ ys → Gathered {T = T} written faults held a rest b (flat_map print xs) result → Gathered {T = T} written faults held a rest b (flat_map print ys) result

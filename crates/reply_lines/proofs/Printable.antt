@@ -20,7 +20,6 @@ use Rattle.fx_rules.specs.Sound.{IsSound}
 use Rattle.fx_rules.specs.inside.Trade.{IsTrade}
 use Rattle.fx_rules.proofs.ListLemmas.{Each-weaker}
 use Rattle.fx_rules.proofs.Continuing.{legal-last}
-use Rattle.fx_rules.proofs.Plain.{only_one, first-command}
 use Rattle.fx_rules.proofs.Soundness.{legal-sound}
 use Rattle.fx_rules.proofs.Trading.{step-trades}
 use Rattle.reply_lines.specs.Prints.{IsAnswerOf, IsFillOf}
@@ -81,7 +80,6 @@ fill-of h fill is = record { pair = is.pair; taker = is.taker; maker = is.maker 
 -- an entry that is a step of a sound state
 pub step-prints : (h : Header) (S : State) (e : Entry) → IsSession h → IsSound h S → IsStep h S e → IsEntryOf h e
 step-prints h S e session sound step = record {
-  sender = first-command h e.bank e.command (only_one h session) step.command;
   command = step.command;
   answer = outcome-answer h S e.bank e.command e.outcome step.command.values step.outcome;
   fills = Each-weaker (IsTrade h) (IsFillOf h) (fill-of h) (fills_of e.outcome) (step-trades h S e session sound step);

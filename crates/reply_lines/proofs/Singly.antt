@@ -1,5 +1,5 @@
 -- A legal history has one output.
-use Rattle.std.proofs.Common.{ℕ, ◌≡◌, ◌<◌, List, ◌++◌, refl, ap, ap₂, sym, ◌∙◌, flat_map, codes, append_assoc}
+use Rattle.std.proofs.Common.{ℕ, ◌≡◌, ◌<◌, List, ◌++◌, ap, ap₂, sym, ◌∙◌, flat_map, codes, append_assoc}
 use Rattle.fx_amounts.specs.declared.side.Side.TheVariants.{Buy, Sell}
 use Rattle.fx_rules.specs.declared.orders.Level.{Level}
 use Rattle.fx_rules.specs.declared.outcome.Entry.{Entry}

@@ -11,7 +11,7 @@ use Rattle.reply_lines.specs.declared.day.DayText.{DayText}
 use Rattle.reply_lines.specs.declared.day_notices.DayNotices.{DayNotices}
 use Rattle.reply_lines.specs.declared.journal.JournalText.{JournalText}
 
--- each bank's desk has its notices of these entries, and the sums are those of the state after them
+-- each sender's desk has its notices of these entries, and the sums are those of the state after them
 pub record AreNoticesOf (h : Header) (entries : List Entry) (told : DayNotices) : Type 0 where
   pub desks : AreDesksOf h entries told.desks.items
   pub sums : AreSumsOf h (state h entries) told.sums

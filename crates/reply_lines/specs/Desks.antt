@@ -1,7 +1,7 @@
--- Each bank's desk, as it is gathered in one walk over a history.
+-- Each sender's desk, as it is gathered in one walk over a history.
 use Rattle.std.specs.Prelude.{ℕ, ◌≡◌, ◌<◌, ◌+◌, List, [], ◌++◌, length, slice_index_or}
 use Rattle.fx_rules.specs.declared.outcome.Entry.{Entry}
-use Rattle.fx_rules.specs.Session.{Header, bank_count}
+use Rattle.fx_rules.specs.Session.{Header, sender_places}
 use Rattle.reply_lines.specs.Notices.{Notice, notice_line, notice_lines, notices}
 
 -- how many notices a desk has so far, and their lines
@@ -20,8 +20,8 @@ nothing_yet = desk_with 0 []
 abbrev pub with_notice : Header → DeskSoFar → Notice → DeskSoFar
 with_notice h desk notice = desk_with (desk.count + 1) (desk.lines ++ notice_line h (desk.count + 1) notice)
 
--- each bank's desk has its notices of a history
+-- each sender's desk has its notices of a history, and stands at its number
 pub record AreDesksOf (h : Header) (entries : List Entry) (desks : List DeskSoFar) : Type 0 where
-  pub banks : length desks ≡ bank_count h
-  pub each : (bank : ℕ) → bank < bank_count h →
-      slice_index_or desks bank nothing_yet ≡ desk_with (length (notices bank entries)) (notice_lines h 0 (notices bank entries))
+  pub places : length desks ≡ sender_places h
+  pub each : (sender : ℕ) → sender < sender_places h →
+      slice_index_or desks sender nothing_yet ≡ desk_with (length (notices sender entries)) (notice_lines h 0 (notices sender entries))

@@ -1,4 +1,4 @@
--- The notices that each bank gets of a history.
+-- The notices that each sender gets of a history.
 use Rattle.std.specs.Prelude.{ℕ, ◌==◌, ◌+◌, if◌then◌else◌, List, [], ◌∷◌, ◌++◌, length, codes}
 use Rattle.std.specs.List.{flat_map}
 use Rattle.fx_amounts.specs.Numeral.{numeral}
@@ -16,10 +16,10 @@ use Rattle.fx_rules.specs.Reject.{code_of}
 use Rattle.fx_rules.specs.Session.{Header, bank_name, decimals_of, pair_name}
 use Rattle.fx_rules.specs.Step.{fills_of}
 use Rattle.day_report.specs.Report.{base_of, quote_of}
-use Rattle.order_lines.specs.Words.{word_text, side_word}
+use Rattle.order_lines.specs.Words.{word_text, side_word, sender_name}
 use Rattle.reply_lines.specs.Rows.{row}
 
--- a bank's reply to a command of its own; a fill in which it was the taker; one in which it was the maker
+-- a sender's reply to a command of its own; to a bank a fill in which it was the taker; one in which it was the maker
 pub data Notice : Type 0 where
   Replied : Entry → Notice
   Took : Fill → Notice
@@ -31,11 +31,11 @@ fill_notices bank fill = (if fill.taker == bank then Took fill ∷ [] else []) +
 
 -- of an entry its sender gets the reply, and then the fills give theirs in order
 abbrev pub notices_in : ℕ → Entry → List Notice
-notices_in bank entry = (if entry.bank == bank then Replied entry ∷ [] else []) ++ flat_map (fill_notices bank) (fills_of entry.outcome)
+notices_in sender entry = (if entry.bank == sender then Replied entry ∷ [] else []) ++ flat_map (fill_notices sender) (fills_of entry.outcome)
 
--- a bank's notices of a history
+-- a sender's notices of a history
 abbrev pub notices : ℕ → List Entry → List Notice
-notices bank entries = flat_map (notices_in bank) entries
+notices sender entries = flat_map (notices_in sender) entries
 
 -- the pair whose book a command asks for
 abbrev pub booked_pair : Command → ℕ
@@ -85,10 +85,10 @@ abbrev pub notice_lines : Header → ℕ → List Notice → List ℕ
 notice_lines h before [] = []
 notice_lines h before (notice ∷ rest) = notice_line h (before + 1) notice ++ notice_lines h (before + 1) rest
 
--- the line that begins a bank's desk
+-- the line that begins a sender's desk
 abbrev pub desk_line : Header → ℕ → ℕ → List ℕ
-desk_line h bank count = row (codes "DESK") (bank_name h bank ∷ numeral count ∷ [])
+desk_line h sender count = row (codes "DESK") (sender_name h sender ∷ numeral count ∷ [])
 
--- a bank's desk: how many notices it has, and these
+-- a sender's desk: how many notices it has, and these
 abbrev pub desk_text : Header → List Entry → ℕ → List ℕ
-desk_text h entries bank = desk_line h bank (length (notices bank entries)) ++ notice_lines h 0 (notices bank entries)
+desk_text h entries sender = desk_line h sender (length (notices sender entries)) ++ notice_lines h 0 (notices sender entries)

@@ -3,8 +3,7 @@ use Rattle.std.specs.Prelude.{ℕ, ◌≡◌, List, [], ◌∷◌, ◌++◌, len
 use Rattle.std.specs.List.{flat_map}
 use Rattle.fx_amounts.specs.Numeral.{numeral}
 use Rattle.fx_rules.specs.declared.outcome.Entry.{Entry}
-use Rattle.fx_rules.specs.Lists.{below}
-use Rattle.fx_rules.specs.Session.{Header, bank_count}
+use Rattle.fx_rules.specs.Session.{Header, senders}
 use Rattle.fx_rules.specs.History.{state}
 use Rattle.session_head.specs.HeadText.{head_text_of}
 use Rattle.order_lines.specs.Spelling.{command_text_of}
@@ -23,9 +22,9 @@ entry_line h entry = command_text_of h entry.bank entry.command ++ 10 ∷ []
 unfoldable pub journal_text : Header → List Entry → List ℕ
 journal_text h entries = row (codes "JOURNAL") (numeral (length entries) ∷ []) ++ flat_map (entry_line h) entries
 
--- the desks of all banks, in header order
+-- the desks of all senders: those of the banks in header order, and in version 2 then the operator's
 unfoldable pub desks_text : Header → List Entry → List ℕ
-desks_text h entries = flat_map (desk_text h entries) (below (bank_count h))
+desks_text h entries = flat_map (desk_text h entries) (senders h)
 
 -- all but the last lines, which a history has no part in: header, journal, desks, the local books at the end, and the report
 unfoldable pub day_text : Header → List Entry → (ℕ → ℕ → LocalBook) → List ℕ

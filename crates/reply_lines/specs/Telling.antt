@@ -3,8 +3,9 @@ use Rattle.std.specs.Prelude.{ℕ, ◌≡◌, ◌<◌, ◌+◌, ◌==◌, List, 
 use Rattle.std.specs.List.{flat_map}
 use Rattle.fx_rules.specs.declared.orders.Fill.{Fill}
 use Rattle.fx_rules.specs.declared.outcome.Entry.{Entry}
-use Rattle.fx_rules.specs.Session.{Header, bank_count, bank_name}
+use Rattle.fx_rules.specs.Session.{Header, sender_places}
 use Rattle.fx_rules.specs.Step.{fills_of}
+use Rattle.order_lines.specs.Words.{sender_name}
 use Rattle.reply_lines.specs.Notices.{Notice, notice_line, notices}
 use Rattle.reply_lines.specs.Notices.Notice.{Replied, Took, Gave}
 
@@ -50,13 +51,13 @@ told before more = numbered (addressed before) (addressed more)
 
 -- the line of one: behind the sender's name and a space it is the line that stands on the sender's desk
 abbrev pub told_line : Header → Told → List ℕ
-told_line h t = bank_name h t.sender ++ 32 ∷ notice_line h t.number t.notice
+told_line h t = sender_name h t.sender ++ 32 ∷ notice_line h t.number t.notice
 
 -- the lines of a history's next entries
 abbrev pub told_text : Header → List Entry → List Entry → List ℕ
 told_text h before more = flat_map (told_line h) (told before more)
 
--- each sender's count is the number of its notices of a history
+-- each sender's count is the number of its notices of a history, and stands at its number
 pub record HasCounted (h : Header) (entries : List Entry) (counts : List ℕ) : Type 0 where
-  pub senders : length counts ≡ bank_count h
-  pub each : (sender : ℕ) → sender < bank_count h → slice_index_or counts sender 0 ≡ length (notices sender entries)
+  pub places : length counts ≡ sender_places h
+  pub each : (sender : ℕ) → sender < sender_places h → slice_index_or counts sender 0 ≡ length (notices sender entries)

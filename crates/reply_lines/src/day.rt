@@ -20,7 +20,7 @@ use fx_rules::{Entry, Market, Session};
 use fx_text::LineText;
 use std::alloc::Global;
 
-/// What the output tells of a day so far: the journal's lines, each bank's desk, and the sums over the fills. It keeps no entry.
+/// What the output tells of a day so far: the journal's lines, each sender's desk, and the sums over the fills. It keeps no entry.
 #[derive(Drop)]
 pub struct DayText {
     journal: JournalText,

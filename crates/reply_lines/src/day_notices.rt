@@ -12,7 +12,7 @@ use fx_rules::{Entry, Session};
 use market_run::Observer;
 use std::alloc::Global;
 
-/// What the entries of a day so far give notice of: to each bank on its desk, and by the sums to all. It is told each entry and
+/// What the entries of a day so far give notice of: to each sender on its desk, and by the sums to all. It is told each entry and
 /// keeps none.
 #[derive(Drop)]
 pub struct DayNotices {
@@ -26,7 +26,7 @@ pub struct DayNotices {
 pub(crate) struct Findings {
     /// The sums of its fills.
     pub report: Report,
-    /// The desks of the banks.
+    /// The desks of the senders.
     pub desks: Vec<NoticeDesk>,
 }
 
@@ -36,7 +36,7 @@ impl DayNotices {
         ensures opens { IfOk result (AreNoticesOf session.now []) }
     {
         Ok(DayNotices {
-            desks: no_desks(alloc, session.banks().len())?,
+            desks: no_desks(alloc, session)?,
             sums: DaySums::open(alloc, session)?,
             writer: NoticeWriter::new(alloc),
         })

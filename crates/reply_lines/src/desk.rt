@@ -1,12 +1,12 @@
-ghost use Rattle.std.specs.Prelude.{◌≡◌, ◌==◌, if◌then◌else◌, List, [], ◌∷◌, ◌<◌, ◌+◌, ◌++◌, length, replicate, IfOk, OnOk, OnErr};
+ghost use Rattle.std.specs.Prelude.{◌≡◌, ◌==◌, if◌then◌else◌, List, [], ◌∷◌, ◌<◌, ◌≤◌, ◌+◌, ◌++◌, length, replicate, IfOk, OnOk, OnErr};
 ghost use Rattle.std.specs.List.{flat_map};
 ghost use Rattle.fx_edges.specs.Gathered.{Gathered};
 ghost use Rattle.fx_rules.specs.declared.outcome.Entry.{Entry};
 ghost use Rattle.fx_rules.specs.Lists.{Each};
-ghost use Rattle.fx_rules.specs.Session.{bank_count};
+ghost use Rattle.fx_rules.specs.Session.{IsSender, bank_count, sender_places};
 ghost use Rattle.reply_lines.specs.Desks.{nothing_yet, with_notice, AreDesksOf};
 ghost use Rattle.reply_lines.specs.Fills.{AreTextsOf, notice_to};
-ghost use Rattle.reply_lines.specs.inside.Desks.{HaveGot};
+ghost use Rattle.reply_lines.specs.inside.Desks.{bank_desks, host_desk, HaveGot};
 ghost use Rattle.reply_lines.specs.Notices.{fill_notices, notices_in, desk_line, desk_text};
 ghost use Rattle.reply_lines.specs.Notices.Notice.{Replied};
 ghost use Rattle.reply_lines.specs.Output.{desks_text};
@@ -15,6 +15,7 @@ ghost use Rattle.reply_lines.specs.inside.Prints.{IsEntryOf};
 
 use crate::notice_writer::NoticeWriter;
 use crate::notices::{FillPart, make_desk};
+use crate::senders::sender_places;
 use fx_amounts::{BankId, Memory};
 use fx_edges::{Pieces, Sink, SinkFault};
 use fx_rules::{Entry, Fill, Session};
@@ -113,12 +114,12 @@ impl NoticeDesk {
     }
 }
 
-/// So many banks' desks, without a notice yet.
-pub(crate) fn no_desks(alloc: Global, banks: usize) -> Result<Vec<NoticeDesk>, Memory>
-    ensures none { IfOk result (λ desks. desks.items ≡ replicate banks nothing_yet) }
+/// The desks of a session's senders, without a notice yet. Each stands at its sender's number.
+pub(crate) fn no_desks(alloc: Global, session: &Session) -> Result<Vec<NoticeDesk>, Memory>
+    ensures none { IfOk result (λ desks. desks.items ≡ replicate (sender_places session.now) nothing_yet) }
 {
     let mut desks = Vec::new(alloc);
-    for _bank in 0..banks {
+    for _place in 0..sender_places(session) {
         desks.push(NoticeDesk::new(alloc))?;
     }
     Ok(desks)
@@ -132,8 +133,9 @@ pub(crate) fn add_entry(
     writer: &mut NoticeWriter,
 ) -> Result<(), Memory>
     requires entry { IsEntryOf session.now entry.now }
-    requires desks { length desks.old.items ≡ bank_count session.now }
-    ensures ok { OnOk result (HaveGot session.now (λ bank. notices_in bank entry.now) desks.old.items desks.new.items) }
+    requires sender { entry.now.bank < length desks.old.items }
+    requires banks { bank_count session.now ≤ length desks.old.items }
+    ensures ok { OnOk result (HaveGot session.now (λ sender. notices_in sender entry.now) desks.old.items desks.new.items) }
 {
     add_reply(session, entry, desks, writer)?;
     add_fills(session, entry.outcome.fills(), desks, writer)
@@ -148,7 +150,7 @@ fn add_reply(
 ) -> Result<(), Memory>
     requires answer { IsAnswerOf session.now entry.now.command entry.now.outcome }
     requires sender { entry.now.bank < length desks.old.items }
-    ensures ok { OnOk result (HaveGot session.now (λ bank. if entry.now.bank == bank then Replied entry.now ∷ [] else []) desks.old.items desks.new.items) }
+    ensures ok { OnOk result (HaveGot session.now (λ sender. if entry.now.bank == sender then Replied entry.now ∷ [] else []) desks.old.items desks.new.items) }
 {
     desks[entry.bank.index()].reply(session, entry, writer)
 }
@@ -161,7 +163,7 @@ fn add_fills(
     writer: &mut NoticeWriter,
 ) -> Result<(), Memory>
     requires fills { Each (IsFillOf session.now) fills.now }
-    requires desks { length desks.old.items ≡ bank_count session.now }
+    requires banks { bank_count session.now ≤ length desks.old.items }
     ensures ok { OnOk result (HaveGot session.now (λ bank. flat_map (fill_notices bank) fills.now) desks.old.items desks.new.items) }
 {
     for fill in fills {
@@ -178,7 +180,7 @@ fn add_fill(
     writer: &mut NoticeWriter,
 ) -> Result<(), Memory>
     requires fill { IsFillOf session.now fill.now }
-    requires desks { length desks.old.items ≡ bank_count session.now }
+    requires banks { bank_count session.now ≤ length desks.old.items }
     ensures ok { OnOk result (HaveGot session.now (λ bank. fill_notices bank fill.now) desks.old.items desks.new.items) }
 {
     writer.begin_fill(session, fill);
@@ -186,7 +188,7 @@ fn add_fill(
     desks[fill.maker.index()].fill(session, FillPart::Maker, fill, writer)
 }
 
-/// Writes the desks of all banks.
+/// Writes the desks of all senders.
 #[tactic(auto, unfolding(crate::specs::Output::desks_text))]
 pub(crate) fn write_desks<K: Sink>(
     session: &Session,
@@ -194,47 +196,80 @@ pub(crate) fn write_desks<K: Sink>(
     pieces: &mut Pieces,
     out: &mut K,
 ) -> Result<(), SinkFault>
-    requires desks { length desks.now ≡ bank_count session.now }
+    requires desks { length desks.now ≡ sender_places session.now }
     ensures wrote { (entries : List Entry) → AreDesksOf session.now entries desks.now →
         Gathered K.written K.faults pieces.old out.old pieces.new out.new (desks_text session.now entries) result }
 {
-    for place in 0..session.banks().len() {
-        write_bank(session, BankId::at(place), desks, pieces, out)?;
-    }
-    Ok(())
+    write_bank_desks(session, desks, pieces, out)?;
+    write_host_desk(session, desks, pieces, out)
 }
 
-/// Writes the desk of one of the banks.
-fn write_bank<K: Sink>(
+/// Writes the desks of the banks.
+fn write_bank_desks<K: Sink>(
     session: &Session,
-    bank: BankId,
     desks: &[NoticeDesk],
     pieces: &mut Pieces,
     out: &mut K,
 ) -> Result<(), SinkFault>
-    requires bank { bank < bank_count session.now }
-    requires desks { length desks.now ≡ bank_count session.now }
+    requires desks { length desks.now ≡ sender_places session.now }
     ensures wrote { (entries : List Entry) → AreDesksOf session.now entries desks.now →
-        Gathered K.written K.faults pieces.old out.old pieces.new out.new (desk_text session.now entries bank) result }
+        Gathered K.written K.faults pieces.old out.old pieces.new out.new (bank_desks session.now entries) result }
 {
-    let desk = &desks[bank.index()];
-    write_desk(session, bank, desk.count(), desk.lines(), pieces, out)
+    for place in 0..session.banks().len() {
+        write_sender(session, BankId::at(place), desks, pieces, out)?;
+    }
+    Ok(())
 }
 
-/// Writes a bank's desk: how many notices it has, and their lines.
+/// Writes the operator's desk, where the session has one.
+fn write_host_desk<K: Sink>(
+    session: &Session,
+    desks: &[NoticeDesk],
+    pieces: &mut Pieces,
+    out: &mut K,
+) -> Result<(), SinkFault>
+    requires desks { length desks.now ≡ sender_places session.now }
+    ensures wrote { (entries : List Entry) → AreDesksOf session.now entries desks.now →
+        Gathered K.written K.faults pieces.old out.old pieces.new out.new (host_desk session.now entries) result }
+{
+    if session.version() == 2 {
+        write_sender(session, BankId::HOST, desks, pieces, out)
+    } else {
+        Ok(())
+    }
+}
+
+/// Writes the desk of one of the senders.
+fn write_sender<K: Sink>(
+    session: &Session,
+    sender: BankId,
+    desks: &[NoticeDesk],
+    pieces: &mut Pieces,
+    out: &mut K,
+) -> Result<(), SinkFault>
+    requires sender { IsSender session.now sender }
+    requires place { sender < length desks.now }
+    ensures wrote { (entries : List Entry) → AreDesksOf session.now entries desks.now →
+        Gathered K.written K.faults pieces.old out.old pieces.new out.new (desk_text session.now entries sender) result }
+{
+    let desk = &desks[sender.index()];
+    write_desk(session, sender, desk.count(), desk.lines(), pieces, out)
+}
+
+/// Writes a sender's desk: how many notices it has, and their lines.
 fn write_desk<K: Sink>(
     session: &Session,
-    bank: BankId,
+    sender: BankId,
     count: usize,
     lines: &[u8],
     pieces: &mut Pieces,
     out: &mut K,
 ) -> Result<(), SinkFault>
-    requires bank { bank < bank_count session.now }
-    ensures wrote { Gathered K.written K.faults pieces.old out.old pieces.new out.new (desk_line session.now bank count ++ lines.now) result }
+    requires sender { IsSender session.now sender }
+    ensures wrote { Gathered K.written K.faults pieces.old out.old pieces.new out.new (desk_line session.now sender count ++ lines.now) result }
 {
     let mut line = LineText::new();
-    make_desk(session, bank, count as u128, &mut line);
+    make_desk(session, sender, count as u128, &mut line);
     pieces.put(line.as_slice(), out)?;
     pieces.put(lines, out)
 }

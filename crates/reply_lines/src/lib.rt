@@ -1,4 +1,4 @@
-//! The text of an output: header, journal, each bank's desk with its replies and fills, local books and report.
+//! The text of an output: header, journal, each sender's desk with its replies and fills, local books and report.
 #![tactic(auto)]
 
 mod books;
@@ -13,6 +13,7 @@ mod notices;
 mod output;
 mod report;
 mod row;
+mod senders;
 mod telling;
 
 pub use day::{DayText, write_output_from};

@@ -5,8 +5,8 @@ ghost use Rattle.fx_amounts.specs.Quantity.{IsDecimals};
 ghost use Rattle.fx_text.specs.Fields.{fields_text};
 ghost use Rattle.order_lines.specs.Words.{word_text, side_word};
 ghost use Rattle.reply_lines.specs.Rows.{row};
-ghost use Rattle.fx_rules.specs.Session.{bank_count, pair_count, bank_name};
-ghost use Rattle.reply_lines.specs.Notices.{booked_pair, level_fields, book_fields};
+ghost use Rattle.fx_rules.specs.Session.{IsSender, bank_count, pair_count};
+ghost use Rattle.reply_lines.specs.Notices.{booked_pair, level_fields, book_fields, desk_line};
 ghost use Rattle.reply_lines.specs.Fills.{trade_fields, amount_fields, AreTextsOf, AreShort};
 ghost use Rattle.reply_lines.specs.inside.Fills.{party_of, fill_line};
 ghost use Rattle.reply_lines.specs.inside.Replies.{plain_fields};
@@ -16,6 +16,7 @@ use crate::row::{begin_row, end_row, push_field, push_number_field, push_text};
 use fx_amounts::{BankId, Memory, PairId, Side, Units, base_amount, quote_amount};
 use fx_rules::{Command, Fill, Level, Outcome, Session};
 use fx_text::LineText;
+use order_lines::sender_name;
 
 // At `Memory` a call leaves the line empty, as those of `row.rt` do.
 
@@ -62,11 +63,11 @@ fn push_outcome(outcome: &Outcome, line: &mut LineText)
 {
     match outcome {
         Outcome::Ordered { filled, rests, .. } => push_counts(b"ORDERED", *filled, *rests, line),
-        Outcome::Killed => line.push_field(b"KILLED"),
+        Outcome::Killed => line.push_word_field(b"KILLED"),
         Outcome::Cancelled { left } => push_count(b"CANCELLED", *left, line),
         Outcome::Reduced { left } => push_count(b"REDUCED", *left, line),
         Outcome::NotLess { left } => push_count(b"NOTLESS", *left, line),
-        Outcome::Nothing => line.push_field(b"NOTHING"),
+        Outcome::Nothing => line.push_word_field(b"NOTHING"),
         Outcome::Pulled { count } => push_count(b"PULLED", *count, line),
         Outcome::LineSet { limit, .. } => push_units(b"LIMIT", limit.get(), line),
         Outcome::TotalSet { limit, .. } => push_units(b"TOTAL", *limit, line),
@@ -78,33 +79,36 @@ fn push_outcome(outcome: &Outcome, line: &mut LineText)
 }
 
 /// Appends a word and a number.
-fn push_count(word: &[u8], count: u32, line: &mut LineText)
+#[inline(always)]
+fn push_count<const N: usize>(word: &[u8; N], count: u32, line: &mut LineText)
     requires { length word.now ≤ 20 }
     ensures text { line.new ≡ take 256 (line.old ++ fields_text (word.now ∷ numeral count ∷ [])) }
     ensures few { length (fields_text (word.now ∷ numeral count ∷ [])) ≤ 84 }
 {
-    line.push_field(word);
+    line.push_word_field(word);
     line.push_number_field(u64::from(count));
 }
 
 /// Appends a word and two numbers.
-fn push_counts(word: &[u8], first: u32, second: u32, line: &mut LineText)
+#[inline(always)]
+fn push_counts<const N: usize>(word: &[u8; N], first: u32, second: u32, line: &mut LineText)
     requires { length word.now ≤ 20 }
     ensures text { line.new ≡ take 256 (line.old ++ fields_text (word.now ∷ numeral first ∷ numeral second ∷ [])) }
     ensures few { length (fields_text (word.now ∷ numeral first ∷ numeral second ∷ [])) ≤ 84 }
 {
-    line.push_field(word);
+    line.push_word_field(word);
     line.push_number_field(u64::from(first));
     line.push_number_field(u64::from(second));
 }
 
 /// Appends a word and credit units.
-fn push_units(word: &[u8], units: u64, line: &mut LineText)
+#[inline(always)]
+fn push_units<const N: usize>(word: &[u8; N], units: u64, line: &mut LineText)
     requires { length word.now ≤ 20 }
     ensures text { line.new ≡ take 256 (line.old ++ fields_text (word.now ∷ numeral units ∷ [])) }
     ensures few { length (fields_text (word.now ∷ numeral units ∷ [])) ≤ 84 }
 {
-    line.push_field(word);
+    line.push_word_field(word);
     line.push_number_field(units);
 }
 
@@ -113,7 +117,7 @@ fn push_line(limit: Units, used: Units, eff: Units, line: &mut LineText)
     ensures text { line.new ≡ take 256 (line.old ++ fields_text (codes "SHOWN" ∷ numeral limit ∷ numeral used ∷ numeral eff ∷ [])) }
     ensures few { length (fields_text (codes "SHOWN" ∷ numeral limit ∷ numeral used ∷ numeral eff ∷ [])) ≤ 84 }
 {
-    line.push_field(b"SHOWN");
+    line.push_word_field(b"SHOWN");
     line.push_number_field(limit.get());
     line.push_number_field(used.get());
     line.push_number_field(eff.get());
@@ -276,9 +280,18 @@ fn push_own_side(own_number: u32, side: Side, line: &mut LineText)
     ensures text { line.new ≡ take 256 (line.old ++ fields_text (codes "FILL" ∷ numeral own_number ∷ word_text (side_word side) ∷ [])) }
     ensures few { length (fields_text (codes "FILL" ∷ numeral own_number ∷ word_text (side_word side) ∷ [])) ≤ 63 }
 {
-    line.push_field(b"FILL");
+    line.push_word_field(b"FILL");
     line.push_number_field(u64::from(own_number));
-    line.push_field(side_word(side));
+    push_side(side, line);
+}
+
+fn push_side(side: Side, line: &mut LineText)
+    ensures { line.new ≡ take 256 (line.old ++ 32 ∷ word_text (side_word side)) }
+{
+    match side {
+        Side::Buy => line.push_word_field(b"BUY"),
+        Side::Sell => line.push_word_field(b"SELL"),
+    }
 }
 
 /// Makes the text of a fill's pair, lots and price.
@@ -306,23 +319,14 @@ fn make_amounts(session: &Session, fill: &Fill, text: &mut LineText)
     text.push_wide_field(quote_amount(fill.lots, rule.lot, fill.price, rule.decimals));
 }
 
-fn side_word(side: Side) -> &'static [u8]
-    ensures { result.now ≡ word_text (side_word side) }
-{
-    match side {
-        Side::Buy => b"BUY",
-        Side::Sell => b"SELL",
-    }
-}
-
-/// Makes the line that begins a bank's desk.
-pub(crate) fn make_desk(session: &Session, bank: BankId, count: u128, line: &mut LineText)
-    requires { bank < bank_count session.now }
-    ensures { line.new ≡ row (codes "DESK") (bank_name session.now bank ∷ numeral count ∷ []) }
+/// Makes the line that begins a sender's desk.
+pub(crate) fn make_desk(session: &Session, sender: BankId, count: u128, line: &mut LineText)
+    requires { IsSender session.now sender }
+    ensures { line.new ≡ desk_line session.now sender count }
 {
     line.clear();
     line.push(b"DESK");
-    line.push_field(session.name(bank));
+    line.push_field(sender_name(session, sender));
     line.push_wide_field(count);
     line.push_byte(b'\n');
 }

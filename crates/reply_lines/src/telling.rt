@@ -4,7 +4,7 @@ ghost use Rattle.fx_edges.specs.Writing.{IsPrefixOf};
 ghost use Rattle.fx_rules.specs.declared.outcome.Entry.{Entry as HistoryEntry};
 ghost use Rattle.fx_rules.specs.History.{IsLegal};
 ghost use Rattle.fx_rules.specs.Lists.{Each};
-ghost use Rattle.fx_rules.specs.Session.{Header, bank_count, bank_name};
+ghost use Rattle.fx_rules.specs.Session.{Header, IsSender};
 ghost use Rattle.reply_lines.specs.Fills.{AreTextsOf, notice_to};
 ghost use Rattle.reply_lines.specs.Notices.Notice.{Replied};
 ghost use Rattle.reply_lines.specs.Prints.{IsAnswerOf, IsFillOf};
@@ -14,8 +14,10 @@ ghost use Rattle.reply_lines.specs.inside.Telling.{bank_of, counts_behind, next_
 
 use crate::notice_writer::NoticeWriter;
 use crate::notices::FillPart;
+use crate::senders::sender_places;
 use fx_amounts::{BankId, Memory};
 use fx_rules::{Entry, Fill, Session};
+use order_lines::sender_name;
 use std::alloc::Global;
 
 /// Tells the notices of a history one by one in its order, each in a line behind the name of the sender that gets it. It counts each
@@ -33,7 +35,7 @@ impl Telling {
         ensures opens { IfOk result (λ telling. HasCounted session.now [] telling.counts.items) }
     {
         Ok(Telling {
-            counts: vec![in alloc; 0; session.banks().len()]?,
+            counts: vec![in alloc; 0; sender_places(session)]?,
             writer: NoticeWriter::new(alloc),
         })
     }
@@ -148,12 +150,12 @@ impl Telling {
         text: &mut Vec<u8>,
     ) -> Result<(), Memory>
         requires answer { IsAnswerOf session.now entry.now.command entry.now.outcome }
-        requires sender { entry.now.bank < bank_count session.now }
+        requires sender { IsSender session.now entry.now.bank }
         requires can { CanCount (addressed_to entry.now.bank (Replied entry.now) ∷ []) self.old.counts.items }
         ensures ok { OnOk result (HasTold session.now (addressed_to entry.now.bank (Replied entry.now) ∷ []) self.old.counts.items self.new.counts.items text.old.items text.new.items) }
         ensures begins { IsPrefixOf text.old.items text.new.items }
     {
-        let number = self.address(session, entry.bank, text)?;
+        let number = self.address(sender_name(session, entry.bank), entry.bank, text)?;
         self.writer.reply(session, number, entry, text)
     }
 
@@ -207,28 +209,23 @@ impl Telling {
         ensures begun { self.new.writer ≡ self.old.writer }
         ensures begins { IsPrefixOf text.old.items text.new.items }
     {
-        let number = self.address(session, part.bank(fill), text)?;
+        let bank = part.bank(fill);
+        let number = self.address(session.name(bank), bank, text)?;
         self.writer.fill(session, number, part, fill, text)
     }
 
     /// Begins the line of a sender's next notice with the sender's name, and answers the number of the notice.
-    fn address(
-        &mut self,
-        session: &Session,
-        sender: BankId,
-        text: &mut Vec<u8>,
-    ) -> Result<u128, Memory>
-        requires name { sender < bank_count session.now }
+    fn address(&mut self, name: &[u8], sender: BankId, text: &mut Vec<u8>) -> Result<u128, Memory>
         requires sender { sender < length self.old.counts.items }
         requires few { next_of self.old.counts.items sender < 2 ^ 128 }
         ensures number { IfOk result (λ number. number ≡ next_of self.old.counts.items sender) }
-        ensures named { OnOk result (text.new.items ≡ text.old.items ++ (bank_name session.now sender ++ 32 ∷ [])) }
+        ensures named { OnOk result (text.new.items ≡ text.old.items ++ (name.now ++ 32 ∷ [])) }
         ensures counted { self.new.counts.items ≡ with_one self.old.counts.items sender }
         ensures begun { self.new.writer ≡ self.old.writer }
         ensures begins { IsPrefixOf text.old.items text.new.items }
     {
         let number = self.count_one(sender);
-        text.extend_from_slice(session.name(sender))?;
+        text.extend_from_slice(name)?;
         text.push(b' ')?;
         Ok(number)
     }

@@ -2,7 +2,7 @@
 use Rattle.std.proofs.Common.{◌≡◌, ◌≢◌, ℕ, ◌%◌, ◌^◌, ◌<◌, ◌≤◌, Bool, true, false, ◌&&◌, List, [], ◌∷◌, ◌++◌, length, get_or, bytes_eq, position, Some, None, Ok, refl, arith, IsTrue, inl, inr}
 use Rattle.std.specs.List.{All, AllPairs, position_or_len}
 use Rattle.std.specs.Cmp.Lexicographic.{bytes_decides}
-use Rattle.std.proofs.lemmas.Bool.{cases_Bool, false≢true, lt-leb, le-ltb, lt-ltb, ne_eqb}
+use Rattle.std.proofs.lemmas.Bool.{cases_Bool, false≢true, lt-leb, le-ltb, lt-ltb, ne_eqb, eq-eqb}
 use Rattle.std.proofs.lemmas.List.Sums.{position_or_len_is}
 use Rattle.std.proofs.lemmas.List.Elements.{All-weaker}
 use Rattle.fx_amounts.specs.Numeral.{numeral}
@@ -13,7 +13,7 @@ use Rattle.fx_rules.specs.declared.session.PairRule.{PairRule}
 use Rattle.session_head.specs.Draft.{Draft}
 use Rattle.session_head.specs.inside.Draft.{IsDraft}
 use Rattle.fx_text.specs.Fields.{field_at}
-use Rattle.session_head.specs.Statement.{new_name, pair_codes, is_new_pair, new_pair, lot_said, bank_statement, pair_statement, line_statement, start_statement, statement_of, spelling}
+use Rattle.session_head.specs.Statement.{new_name, pair_codes, is_new_pair, new_pair, lot_said, bank_statement, pair_statement, line_statement, total_statement, start_statement, statement_of, spelling}
 use Rattle.session_head.specs.inside.Statement.{CanState}
 use Rattle.session_head.specs.declared.statement.Statement.{Statement}
 use Rattle.session_head.specs.declared.statement.Statement.TheVariants as statements
@@ -111,6 +111,15 @@ line_again d from to limit valid can =
       number_of-numeral 0 1000000000000000 limit (omega arith) can.3,
     ) refl
 
+total_again : (d : Draft) (bank limit : ℕ) → IsDraft d → CanState d (statements.Total bank limit) → statement_of d (spelling d.banks (statements.Total bank limit)) ≡ Ok (statements.Total bank limit)
+unfolding statement_of total_statement
+total_again d bank limit valid can =
+    rw (
+      eq-eqb d.version 2 can.0,
+      bank_named-place d.banks bank valid.names_differ can.1,
+      number_of-numeral 0 1000000000000000 limit (omega arith) can.2,
+    ) refl
+
 start_again : (d : Draft) → CanState d statements.Start → statement_of d (spelling d.banks statements.Start) ≡ Ok statements.Start
 unfolding statement_of start_statement
 start_again d can = rw (le-ltb (length d.banks) 2 can.0, le-ltb (length d.pairs) 1 can.1) refl
@@ -120,4 +129,5 @@ pub statement_again : (d : Draft) (statement : Statement) → IsDraft d → CanS
 statement_again d (statements.Bank name) valid can = bank_again d name can
 statement_again d (statements.Pair rule) valid can = pair_again d rule can
 statement_again d (statements.Line from to limit) valid can = line_again d from to limit valid can
+statement_again d (statements.Total bank limit) valid can = total_again d bank limit valid can
 statement_again d statements.Start valid can = start_again d can

@@ -1,20 +1,18 @@
 -- Each statement that can be made of a draft leaves a draft, and START makes a session of it.
-use Rattle.std.proofs.Common.{◌≡◌, ◌≢◌, ℕ, zero, suc, ◌+◌, ◌*◌, ◌/◌, ◌%◌, ◌<◌, ◌≤◌, List, [], ◌∷◌, ◌++◌, map, length, replicate, get_or, slice_index, slice_set, refl, sym, ap, ◌∙◌, subst, arith, IsTrue, inl, inr, Option, Some, None, SomeIff, IsSome}
+use Rattle.std.proofs.Common.{◌≡◌, ◌≢◌, ℕ, ◌+◌, ◌*◌, ◌/◌, ◌%◌, ◌<◌, ◌≤◌, List, [], ◌∷◌, ◌++◌, map, length, replicate, slice_index, slice_set, take, cond, eqb, length-take-le, refl, sym, ap, ◌∙◌, subst, arith, IsTrue, inl, inr, Option, Some, None, SomeIff, IsSome}
 use Rattle.std.specs.List.{All, AllPairs}
-use Rattle.std.proofs.lemmas.Bool.{cases_lt}
-use Rattle.std.proofs.lemmas.List.{get_or-replicate, length-replicate, length-set, get_or-set_other, length_push, get_or_append_left, get_or_past}
-use Rattle.std.proofs.Math.Seq.{get_or-append_seam}
-use Rattle.std.proofs.lemmas.List.Elements.{All-push, All-set, All-nil, All-replicate, All-get_or}
+use Rattle.std.proofs.lemmas.Bool.{cases_lt, cases_Bool, cond-false, ne_eqb}
+use Rattle.std.proofs.lemmas.List.{get_or-replicate, length-replicate, length-set, get_or-set_other, length_push, get_or_past}
+use Rattle.std.proofs.lemmas.List.Elements.{All-push, All-set, All-nil, All-replicate, All-take, All-get_or}
 use Rattle.std.proofs.lemmas.List.Quantifiers.{all_pairs_push}
 use Rattle.std.proofs.lemmas.Nat.{mul-add-lt, mod-mul-add, div-mul-add}
 use Rattle.fx_rules.specs.Lists.{below}
 use Rattle.fx_rules.specs.Names.{is_name}
-use Rattle.fx_rules.specs.Session.{Header, IsSession, IsPairRule, AreSamePair}
+use Rattle.fx_rules.specs.Session.{Header, IsSession, IsPairRule, AreSamePair, newest}
 use Rattle.fx_rules.specs.declared.session.PairRule.{PairRule}
 use Rattle.std.specs.Prelude.{IfSome}
-use Rattle.fx_rules.proofs.Plain.{first-known}
 use Rattle.fx_rules.proofs.Below.{map-more, length-map_below, get_or_below, all-below}
-use Rattle.session_head.specs.Draft.{Draft, limit_place, no_limits, square, header_of}
+use Rattle.session_head.specs.Draft.{Draft, limit_place, no_limits, no_totals, square, totals_kept, header_of}
 use Rattle.session_head.specs.inside.Draft.{IsDraft}
 use Rattle.session_head.specs.inside.Statement.{CanState}
 use Rattle.session_head.specs.declared.statement.Statement.{Statement}
@@ -23,11 +21,15 @@ use Rattle.session_head.specs.declared.statement.Statement.TheVariants as statem
 no_pairs : {X : Type 0} (R : X → X → Type 0) → AllPairs R []
 no_pairs R i j d less within = absurd (omega arith)
 
+-- a total in its range, where there is one
+abbrev IsMost : Option ℕ → Type 0
+IsMost most = IfSome most (λ units. units ≤ 1000000000000000)
+
 -- nothing is declared
-declares_nothing : (banks : List (List ℕ)) (pairs : List PairRule) (limits : List ℕ) → banks ≡ [] → pairs ≡ [] → length limits ≡ 4096
-    → All (λ limit. limit ≤ 1000000000000000) limits → ((i : ℕ) → i < 64 → slice_index limits (limit_place i i) ≡ 0)
-    → IsDraft (record { banks = banks; pairs = pairs; limits = limits })
-declares_nothing banks pairs limits no_banks none full most own = record {
+declares_nothing : (version : ℕ) (banks : List (List ℕ)) (pairs : List PairRule) (limits : List ℕ) (totals : List (Option ℕ)) → 1 ≤ version → version ≤ newest → banks ≡ [] → pairs ≡ [] → length limits ≡ 4096
+    → All (λ limit. limit ≤ 1000000000000000) limits → ((i : ℕ) → i < 64 → slice_index limits (limit_place i i) ≡ 0) → length totals ≡ 64 → All IsMost totals
+    → IsDraft (record { version = version; banks = banks; pairs = pairs; limits = limits; totals = totals })
+declares_nothing version banks pairs limits totals least newest_most no_banks none full most own places totals_most = record {
   banks_most = rw no_banks (omega arith);
   names = rw no_banks (All-nil (λ name. IsTrue (is_name name)));
   names_differ = rw no_banks (no_pairs (λ a b. a ≢ b));
@@ -37,22 +39,30 @@ declares_nothing banks pairs limits no_banks none full most own = record {
   limits_full = full;
   limits_most = most;
   own_limits = own;
+  version_least = least;
+  version_most = newest_most;
+  totals_full = places;
+  totals_most = totals_most;
 }
 
 zeros_own : (n : ℕ) → 4096 ≤ n → (i : ℕ) → i < 64 → slice_index (replicate n 0) (limit_place i i) ≡ 0
 zeros_own n room i within = get_or-replicate n (64 * i + i) 0 0 (omega arith)
 
-pub IsDraft-empty : (banks : List (List ℕ)) (pairs : List PairRule) (limits : List ℕ) → banks ≡ [] → pairs ≡ [] → limits ≡ no_limits → IsDraft (record { banks = banks; pairs = pairs; limits = limits })
-unfolding no_limits
-IsDraft-empty banks pairs limits no_banks none zeros =
-    declares_nothing banks pairs limits no_banks none
+pub IsDraft-empty : (version : ℕ) (banks : List (List ℕ)) (pairs : List PairRule) (limits : List ℕ) (totals : List (Option ℕ)) → 1 ≤ version → version ≤ newest → banks ≡ [] → pairs ≡ [] → limits ≡ no_limits → totals ≡ no_totals
+    → IsDraft (record { version = version; banks = banks; pairs = pairs; limits = limits; totals = totals })
+unfolding no_limits no_totals
+IsDraft-empty version banks pairs limits totals least most no_banks none zeros nones =
+    declares_nothing version banks pairs limits totals least most no_banks none
     (ap (λ (xs : List ℕ). length xs) zeros ∙ length-replicate {A = ℕ} 4096 0)
     (subst (λ (xs : List ℕ). All (λ limit. limit ≤ 1000000000000000) xs) (sym zeros) (All-replicate (λ limit. limit ≤ 1000000000000000) 4096 0 (omega arith)))
     (λ i within. ap (λ (xs : List ℕ). slice_index xs (limit_place i i)) zeros ∙ zeros_own 4096 (omega arith) i within)
+    (ap (λ (xs : List (Option ℕ)). length xs) nones ∙ length-replicate {A = Option ℕ} 64 None)
+    (subst (λ (xs : List (Option ℕ)). All IsMost xs) (sym nones) (All-replicate IsMost 64 None tt))
 
 -- the draft of which the session was taken
-pub IsDraft-taken : (d : Draft) (banks : List (List ℕ)) (pairs : List PairRule) → IsDraft d → banks ≡ [] → pairs ≡ [] → IsDraft (record { banks = banks; pairs = pairs; limits = d.limits })
-IsDraft-taken d banks pairs valid no_banks none = declares_nothing banks pairs d.limits no_banks none valid.limits_full valid.limits_most valid.own_limits
+pub IsDraft-taken : (d : Draft) (banks : List (List ℕ)) (pairs : List PairRule) → IsDraft d → banks ≡ [] → pairs ≡ [] → IsDraft (record { version = d.version; banks = banks; pairs = pairs; limits = d.limits; totals = d.totals })
+IsDraft-taken d banks pairs valid no_banks none =
+    declares_nothing d.version banks pairs d.limits d.totals valid.version_least valid.version_most no_banks none valid.limits_full valid.limits_most valid.own_limits valid.totals_full valid.totals_most
 
 -- a bank more
 pub IsDraft-bank : (d : Draft) (name : List ℕ) → IsDraft d → CanState d (statements.Bank name) → IsDraft (record d { banks = d.banks ++ name ∷ [] })
@@ -66,6 +76,10 @@ IsDraft-bank d name valid can = record {
   limits_full = valid.limits_full;
   limits_most = valid.limits_most;
   own_limits = valid.own_limits;
+  version_least = valid.version_least;
+  version_most = valid.version_most;
+  totals_full = valid.totals_full;
+  totals_most = valid.totals_most;
 }
 
 -- the same of a draft that is another's fields, by a statement that is this one
@@ -88,6 +102,10 @@ IsDraft-pair d rule valid can = record {
   limits_full = valid.limits_full;
   limits_most = valid.limits_most;
   own_limits = valid.own_limits;
+  version_least = valid.version_least;
+  version_most = valid.version_most;
+  totals_full = valid.totals_full;
+  totals_most = valid.totals_most;
 }
 
 pub pair_added : (before d : Draft) (statement : Statement) (rule : PairRule) (pairs : List PairRule) → IsDraft before → before ≡ d → statement ≡ statements.Pair rule
@@ -110,6 +128,28 @@ IsDraft-limit d from to limit valid from_within to_within apart most = record {
   limits_most = All-set (λ l. l ≤ 1000000000000000) d.limits (limit_place from to) limit most valid.limits_most;
   own_limits = λ i within.
       get_or-set_other d.limits (limit_place from to) (limit_place i i) limit 0 (λ same. apart (omega arith)) ∙ valid.own_limits i within;
+  version_least = valid.version_least;
+  version_most = valid.version_most;
+  totals_full = valid.totals_full;
+  totals_most = valid.totals_most;
+}
+
+-- a total set
+pub IsDraft-total : (d : Draft) (bank limit : ℕ) → IsDraft d → limit ≤ 1000000000000000 → IsDraft (record d { totals = slice_set d.totals bank (Some limit) })
+IsDraft-total d bank limit valid most = record {
+  banks_most = valid.banks_most;
+  names = valid.names;
+  names_differ = valid.names_differ;
+  pairs_most = valid.pairs_most;
+  rules = valid.rules;
+  pairs_differ = valid.pairs_differ;
+  limits_full = valid.limits_full;
+  limits_most = valid.limits_most;
+  own_limits = valid.own_limits;
+  version_least = valid.version_least;
+  version_most = valid.version_most;
+  totals_full = length-set d.totals bank (Some limit) ∙ valid.totals_full;
+  totals_most = All-set IsMost d.totals bank (Some limit) most valid.totals_most;
 }
 
 -- one place more
@@ -129,6 +169,24 @@ any_at_most limits most at = elim (cases_lt at (length limits)) [
   | inr past ↦ subst (λ limit. limit ≤ 1000000000000000) (sym (get_or_past limits at 0 past)) (omega arith)
 ]
 
+-- the totals that are kept are one for each bank in version 2
+kept_full : (version banks : ℕ) (totals : List (Option ℕ)) → banks ≤ length totals → length (totals_kept version banks totals) ≡ cond (eqb version 2) banks 0
+kept_full version banks totals within = elim (cases_Bool (eqb version 2)) [
+  | inl second ↦ rw second (length-take-le banks totals within)
+  | inr other ↦ rw other refl
+]
+
+kept_most : (version banks : ℕ) (totals : List (Option ℕ)) → All IsMost totals → All IsMost (totals_kept version banks totals)
+kept_most version banks totals most = elim (cases_Bool (eqb version 2)) [
+  | inl second ↦ rw second (All-take IsMost banks totals most)
+  | inr other ↦ rw other (All-nil IsMost)
+]
+
+-- there are no versions but 1 and 2
+pub first_or_second : (version : ℕ) → 1 ≤ version → version ≤ newest → version ≢ 2 → version ≡ 1
+unfolding newest
+first_or_second version least most other = omega (arith, least, most, other)
+
 -- a draft with two banks and a pair is a session
 pub IsSession-header_of : (d : Draft) → IsDraft d → 2 ≤ length d.banks → 1 ≤ length d.pairs → IsSession (header_of d)
 IsSession-header_of d valid two one = record {
@@ -143,19 +201,23 @@ IsSession-header_of d valid two one = record {
   limits_full = length-map_below (λ at. slice_index d.limits (limit_place (at / length d.banks) (at % length d.banks))) (length d.banks * length d.banks);
   limits_most = all-below (λ limit. limit ≤ 1000000000000000) (λ at. slice_index d.limits (limit_place (at / length d.banks) (at % length d.banks))) (length d.banks * length d.banks) (λ at within. any_at_most d.limits valid.limits_most _);
   own_limits = λ i within. square-at (length d.banks) d.limits i i within within ∙ valid.own_limits i (omega (arith, valid.banks_most));
-  version_least = omega arith;
-  version_most = first-known;
-  totals_full = refl;
-  totals_most = All-nil (λ most. IfSome most (λ units. units ≤ 1000000000000000));
+  version_least = valid.version_least;
+  version_most = valid.version_most;
+  totals_full = kept_full d.version (length d.banks) d.totals (omega (arith, valid.banks_most, valid.totals_full));
+  totals_most = kept_most d.version (length d.banks) d.totals valid.totals_most;
 }
 
 -- the session that is built of a draft's parts
-pub session_built : (d inside : Draft) (banks : List (List ℕ)) (pairs : List PairRule) (limits : List ℕ) → IsDraft inside → inside ≡ d → 2 ≤ length d.banks → 1 ≤ length d.pairs
-    → banks ≡ inside.banks → pairs ≡ inside.pairs → limits ≡ square (length inside.banks) inside.limits
-    → IsSession (record { version = 1; banks = banks; pairs = pairs; limits = limits; totals = [] })
-session_built d inside banks pairs limits valid same two one banks_are pairs_are limits_are =
-    rw (banks_are, pairs_are, limits_are)
+pub session_built : (d inside : Draft) (version : ℕ) (banks : List (List ℕ)) (pairs : List PairRule) (limits : List ℕ) (totals : List (Option ℕ)) → IsDraft inside → inside ≡ d → 2 ≤ length d.banks → 1 ≤ length d.pairs
+    → version ≡ inside.version → banks ≡ inside.banks → pairs ≡ inside.pairs → limits ≡ square (length inside.banks) inside.limits → totals ≡ totals_kept inside.version (length inside.banks) inside.totals
+    → IsSession (record { version = version; banks = banks; pairs = pairs; limits = limits; totals = totals })
+session_built d inside version banks pairs limits totals valid same two one version_is banks_are pairs_are limits_are totals_are =
+    rw (version_is, banks_are, pairs_are, limits_are, totals_are)
     (IsSession-header_of inside valid (subst (λ (x : Draft). 2 ≤ length x.banks) (sym same) two) (subst (λ (x : Draft). 1 ≤ length x.pairs) (sym same) one))
+
+-- of version 1, in which no total is kept
+pub first_kept : (version banks : ℕ) (totals : List (Option ℕ)) → version ≢ 2 → totals_kept version banks totals ≡ []
+first_kept version banks totals other = cond-false (eqb version 2) (take banks totals) [] (ne_eqb version 2 other)
 
 pub is_built : (made : Option Header) (fact : Type 0) (header : Header) → SomeIff made fact header → fact → IsSome made
 is_built None fact header none holds = absurd (none holds)

@@ -1,35 +1,35 @@
 -- A session's header is read back from its lines.
-use Rattle.std.proofs.Common.{◌≡◌, ◌≢◌, ℕ, zero, suc, ◌+◌, ◌*◌, ◌/◌, ◌%◌, ◌<◌, ◌≤◌, List, [], ◌∷◌, ◌++◌, length, map, flat_map, replicate, get_or, slice_index, slice_set, codes, Option, Some, Ok, refl, sym, ap, ◌∙◌, subst, arith, IsTrue, inl, inr, nat_lt, append_assoc, append-nil, length-append}
+use Rattle.std.proofs.Common.{◌≡◌, ◌≢◌, ℕ, zero, suc, ◌+◌, ◌*◌, ◌/◌, ◌%◌, ◌<◌, ◌≤◌, List, [], ◌∷◌, ◌++◌, length, map, flat_map, replicate, get_or, slice_index, slice_set, codes, Option, Some, None, Ok, Bool, false, ◌||◌, cond, eqb, slice_index_or, take, length-take-le, get_or-take, IfSome, refl, sym, ap, ap₂, ◌∙◌, subst, arith, IsTrue, inl, inr, nat_lt, append_assoc, append-nil, length-append}
 use Rattle.std.specs.List.{All, AllPairs, join_with_byte}
-use Rattle.std.proofs.lemmas.Bool.{cases_eq, cases_Bool, cond-true, cond-false}
+use Rattle.std.proofs.lemmas.Bool.{cases_eq, cases_lt, cases_Bool, cond-true, cond-false, eq-eqb, ne_eqb}
 use Rattle.std.proofs.lemmas.Bool.Decides.{nat_tests}
-use Rattle.std.proofs.lemmas.List.{ext_get_or, get_or_append_left, get_or-set_same, get_or-set_other, map-append, get_or-replicate}
+use Rattle.std.proofs.lemmas.List.{ext_get_or, get_or_append_left, get_or-set_same, get_or-set_other, get_or_past, length-replicate, map-append, get_or-replicate}
 use Rattle.std.proofs.lemmas.List.Elements.{All-get_or}
 use Rattle.std.proofs.lemmas.Nat.{div_below, mod_below, div-add-mod', mul-add-lt}
 use Rattle.std.proofs.Math.Seq.{get_or-append_seam}
-use Rattle.fx_text.specs.Fields.{fields_of}
+use Rattle.fx_text.specs.Fields.{fields_of, is_comment}
 use Rattle.fx_text.specs.Lines.{lines_of, rest_of}
 use Rattle.fx_text.specs.declared.line.Line.{Line}
 use Rattle.fx_text.specs.declared.line.Line.TheVariants.{Whole}
-use Rattle.fx_text.proofs.FieldTexts.{IsField-tested}
+use Rattle.fx_text.proofs.FieldTexts.{IsField-tested, IsField-numeral}
+use Rattle.fx_text.proofs.NumberLemmas.{number_of-numeral}
 use Rattle.fx_text.proofs.JoinedFields.{fields_of-join}
 use Rattle.fx_rules.specs.Names.{is_name}
-use Rattle.fx_rules.specs.Session.{Header, IsSession, IsPairRule, AreSamePair, bank_count, opening_limit}
+use Rattle.fx_rules.specs.Session.{Header, IsSession, IsPairRule, AreSamePair, bank_count, newest, opening_limit, opening_total}
 use Rattle.fx_rules.specs.declared.session.PairRule.{PairRule}
 use Rattle.fx_rules.specs.Lists.{Each, below}
 use Rattle.fx_rules.proofs.ListLemmas.{Each-append}
-use Rattle.fx_rules.proofs.Plain.{only_one, first-totals}
 use Rattle.fx_rules.proofs.Below.{length-map_below, get_or_below, flat_map-suc}
-use Rattle.session_head.specs.Draft.{Draft, empty_draft, no_limits, limit_place, square}
+use Rattle.session_head.specs.Draft.{Draft, empty_draft, no_limits, no_totals, limit_place, square, totals_kept}
 use Rattle.session_head.specs.inside.Draft.{IsDraft}
-use Rattle.session_head.specs.Statement.{statement_of, spelling}
+use Rattle.session_head.specs.Statement.{statement_of, spelling, version_of, version_fields}
 use Rattle.session_head.specs.inside.Statement.{CanState}
-use Rattle.session_head.specs.Head.{Head, Begun, Drafting, Started, next, judged, with_line, with_lines, read_head, session_of}
-use Rattle.session_head.specs.HeadText.{limit_statement, statements_of, lines_text, head_text_of}
+use Rattle.session_head.specs.Head.{Head, Begun, Drafting, Started, next, begun, judged, with_line, with_lines, read_head, session_of}
+use Rattle.session_head.specs.HeadText.{limit_statement, total_stated, totals_of, statements_of, lines_text, head_text_of}
 use Rattle.session_head.specs.inside.HeadText.{limits_of}
 use Rattle.session_head.specs.declared.statement.Statement.{Statement}
 use Rattle.session_head.specs.declared.statement.Statement.TheVariants as statements
-use Rattle.session_head.proofs.DraftLemmas.{IsDraft-empty, IsDraft-bank, IsDraft-pair, IsDraft-limit}
+use Rattle.session_head.proofs.DraftLemmas.{IsDraft-empty, IsDraft-bank, IsDraft-pair, IsDraft-limit, IsDraft-total}
 use Rattle.session_head.proofs.AgainLemmas.{statement_again}
 use Rattle.session_head.proofs.LineTexts.{IsLine, lines_of-line_text, rest_of-line_text}
 use Rattle.session_head.proofs.SpellingLemmas.{spelling_line, spelling_taken}
@@ -153,9 +153,12 @@ pairs_lead n banks (rule ∷ rest) d valid few rules differ =
         let it = one_leads n d (statements.Pair rule) (record d { pairs = d.pairs ++ rule ∷ [] }) valid can refl (IsDraft-pair d rule valid can) in
         record { count = it.count; leads = it.leads; valid = it.valid; lines = (it.lines.0, tt) }
 
--- a header's banks and pairs with these limits
+-- a header's version, banks and pairs with these limits and totals, and with these limits alone
+abbrev with_totals : Header → List ℕ → List (Option ℕ) → Draft
+with_totals h limits totals = record { version = h.version; banks = h.banks; pairs = h.pairs; limits = limits; totals = totals }
+
 abbrev with_limits : Header → List ℕ → Draft
-with_limits h limits = record { banks = h.banks; pairs = h.pairs; limits = limits }
+with_limits h limits = with_totals h limits no_totals
 
 -- the statement of one limit, where it is above 0
 record CellLeads (n : ℕ) (h : Header) (from to : ℕ) (limits : List ℕ) : Type 0 where
@@ -294,16 +297,124 @@ no_limits-at : (from to : ℕ) → from < 64 → to < 64 → slice_index no_limi
 unfolding no_limits
 no_limits-at from to first second = zeros_at 4096 (omega arith) from to first second
 
+-- the statements of the totals of the first so many banks
+record TotalsLead (n : ℕ) (h : Header) (count : ℕ) (limits : List ℕ) : Type 0 where
+  after : List (Option ℕ)
+  leads : Leads n h.banks (with_limits h limits) (totals_of h count) (with_totals h limits after)
+  totals : (bank : ℕ) → bank < count → get_or after bank None ≡ opening_total h bank
+  rest : (bank : ℕ) → count ≤ bank → get_or after bank None ≡ None
+
+-- a bank has a total in version 2 alone
+total_second : (h : Header) (bank limit : ℕ) → IsSession h → opening_total h bank ≡ Some limit → h.version ≡ 2
+total_second h bank limit session has = elim (cases_eq h.version 2) [
+  | inl second ↦ second
+  | inr other ↦
+      let none : length h.totals ≡ 0 = session.totals_full ∙ cond-false (eqb h.version 2) (bank_count h) 0 (ne_eqb h.version 2 other) in
+      absurd (let wrong : None ≡ Some limit = sym (get_or_past h.totals bank None (omega (arith, none))) ∙ has in cc)
+]
+
+-- a total that a bank opens with is in its range
+pub total_most : (h : Header) (bank : ℕ) → IsSession h → IfSome (opening_total h bank) (λ units. units ≤ 1000000000000000)
+total_most h bank session = elim (cases_lt bank (length h.totals)) [
+  | inl inside ↦ All-get_or (λ most. IfSome most (λ units. units ≤ 1000000000000000)) h.totals bank None inside session.totals_most
+  | inr past ↦ subst (λ (o : Option ℕ). IfSome o (λ units. units ≤ 1000000000000000)) (sym (get_or_past h.totals bank None past)) tt
+]
+
+-- the statement of one bank's total, where it has one
+record TotalLeads (n : ℕ) (h : Header) (bank : ℕ) (limits : List ℕ) (totals : List (Option ℕ)) : Type 0 where
+  after : List (Option ℕ)
+  leads : Leads n h.banks (with_totals h limits totals) (total_stated bank (opening_total h bank)) (with_totals h limits after)
+  here : get_or after bank None ≡ opening_total h bank
+  others : (at : ℕ) → at ≢ bank → get_or after at None ≡ get_or totals at None
+
+total_leads : (n : ℕ) (h : Header) (bank : ℕ) (limits : List ℕ) (totals : List (Option ℕ)) (total : Option ℕ) → IsSession h → IsDraft (with_totals h limits totals) → bank < bank_count h
+    → get_or totals bank None ≡ None → opening_total h bank ≡ total → TotalLeads n h bank limits totals
+total_leads n h bank limits totals None session valid within none has = record {
+  after = totals;
+  leads = subst (λ (o : Option ℕ). Leads n h.banks (with_totals h limits totals) (total_stated bank o) (with_totals h limits totals)) (sym has) (none_leads n h.banks (with_totals h limits totals) valid);
+  here = none ∙ sym has;
+  others = λ at other. refl;
+}
+total_leads n h bank limits totals (Some limit) session valid within none has =
+    let most : IfSome (opening_total h bank) (λ units. units ≤ 1000000000000000) = total_most h bank session in
+    let few : limit ≤ 1000000000000000 = subst (λ (o : Option ℕ). IfSome o (λ units. units ≤ 1000000000000000)) has most in
+    let can : CanState (with_totals h limits totals) (statements.Total bank limit) = (total_second h bank limit session has, within, few) in
+    let after : List (Option ℕ) = slice_set totals bank (Some limit) in
+    let valid_after : IsDraft (with_totals h limits after) = IsDraft-total (with_totals h limits totals) bank limit valid few in
+    record {
+      after = after;
+      leads = subst (λ (o : Option ℕ). Leads n h.banks (with_totals h limits totals) (total_stated bank o) (with_totals h limits after)) (sym has)
+          (one_leads n (with_totals h limits totals) (statements.Total bank limit) (with_totals h limits after) valid can refl valid_after);
+      here = get_or-set_same totals bank (Some limit) None (omega (arith, valid.totals_full, session.banks_most)) ∙ sym has;
+      others = λ at other. get_or-set_other totals bank at (Some limit) None other;
+    }
+
+totals_lead : (n : ℕ) (h : Header) (count : ℕ) (limits : List ℕ) → IsSession h → IsDraft (with_limits h limits) → count ≤ bank_count h
+    → ((bank : ℕ) → get_or no_totals bank None ≡ None) → TotalsLead n h count limits
+totals_lead n h zero limits session valid within nones = record {
+  after = no_totals;
+  leads = none_leads n h.banks (with_limits h limits) valid;
+  totals = λ bank none. absurd (omega arith);
+  rest = λ bank past. nones bank;
+}
+totals_lead n h (suc count) limits session valid within nones =
+    let before = totals_lead n h count limits session valid (omega arith) nones in
+    let stated : ℕ → List Statement = λ bank. total_stated bank (opening_total h bank) in
+    let last = total_leads before.leads.count h count limits before.after (opening_total h count) session before.leads.valid (omega arith) (before.rest count (omega arith)) refl in
+    let step = last.leads in
+    let joined : Leads n h.banks (with_limits h limits) (totals_of h count ++ stated count) (with_totals h limits last.after) = record {
+      count = step.count;
+      leads = lead_on n h.banks (with_limits h limits) (with_totals h limits before.after) (totals_of h count) (stated count) before.leads ∙ step.leads;
+      valid = step.valid;
+      lines = Each-append (λ statement. IsLine (spelling h.banks statement)) (totals_of h count) (stated count) before.leads.lines step.lines;
+    } in
+    record {
+      after = last.after;
+      leads = subst (λ (all : List Statement). Leads n h.banks (with_limits h limits) all (with_totals h limits last.after)) (sym (flat_map-suc stated count)) joined;
+      totals = λ bank less. elim (cases_eq bank count) [
+        | inl same ↦ subst (λ k. get_or last.after k None ≡ opening_total h k) (sym same) last.here
+        | inr other ↦ last.others bank other ∙ before.totals bank (omega arith)
+      ];
+      rest = λ bank past. last.others bank (λ same. absurd (omega arith)) ∙ before.rest bank (omega arith);
+    }
+
+no_totals-at : (bank : ℕ) → get_or no_totals bank None ≡ None
+unfolding no_totals
+no_totals-at bank = elim (cases_lt bank 64) [
+  | inl within ↦ get_or-replicate 64 bank None None within
+  | inr past ↦ get_or_past (replicate 64 None) bank None (omega (arith, length-replicate {A = Option ℕ} 64 None))
+]
+
+-- what is kept of these totals is the header's
+totals_are : (h : Header) (totals : List (Option ℕ)) → IsSession h → length totals ≡ 64 → ((bank : ℕ) → bank < bank_count h → get_or totals bank None ≡ opening_total h bank)
+    → totals_kept h.version (bank_count h) totals ≡ h.totals
+totals_are h totals session places same = elim (cases_eq h.version 2) [
+  | inl second ↦
+      let full : length h.totals ≡ bank_count h = session.totals_full ∙ cond-true (eqb h.version 2) (bank_count h) 0 (eq-eqb h.version 2 second) in
+      let size : length (take (bank_count h) totals) ≡ bank_count h = length-take-le (bank_count h) totals (omega (arith, places, session.banks_most)) in
+      cond-true (eqb h.version 2) (take (bank_count h) totals) [] (eq-eqb h.version 2 second)
+      ∙ ext_get_or None (take (bank_count h) totals) h.totals (size ∙ sym full) (λ at within.
+      let inside : at < bank_count h = omega (arith, within, size) in
+      get_or-take (bank_count h) totals at None inside ∙ same at inside)
+  | inr other ↦
+      let none : length h.totals ≡ 0 = session.totals_full ∙ cond-false (eqb h.version 2) (bank_count h) 0 (ne_eqb h.version 2 other) in
+      cond-false (eqb h.version 2) (take (bank_count h) totals) [] (ne_eqb h.version 2 other) ∙ sym (nothing_in h.totals none)
+]
+  where
+    nothing_in : (totals : List (Option ℕ)) → length totals ≡ 0 → totals ≡ []
+    nothing_in [] none = refl
+    nothing_in (total ∷ totals) none = absurd (omega (arith, none))
+
 -- the lines of a session's statements start that session
 record Starts (n : ℕ) (h : Header) : Type 0 where
   count : ℕ
-  starts : with_lines (Drafting n empty_draft) (lines_for h.banks (statements_of h)) ≡ Started count h
+  starts : with_lines (Drafting n (empty_draft h.version)) (lines_for h.banks (statements_of h)) ≡ Started count h
   -- all statements before START
   front : List Statement
   all_are : statements_of h ≡ front ++ statements.Start ∷ []
   draft : Draft
   drafted : ℕ
-  before : with_lines (Drafting n empty_draft) (lines_for h.banks front) ≡ Drafting drafted draft
+  before : with_lines (Drafting n (empty_draft h.version)) (lines_for h.banks front) ≡ Drafting drafted draft
   lines : Each (λ statement. IsLine (spelling h.banks statement)) (statements_of h)
 
 starts : (n : ℕ) (h : Header) → IsSession h → Starts n h
@@ -311,38 +422,46 @@ starts n h session =
     let named : List Statement = map statements.Bank h.banks in
     let paired : List Statement = map statements.Pair h.pairs in
     let limited : List Statement = flat_map (λ from. limits_of h from (bank_count h)) (below (bank_count h)) in
+    let totalled : List Statement = totals_of h (bank_count h) in
     let last : List Statement = statements.Start ∷ [] in
     let is_line : Statement → Type 0 = λ statement. IsLine (spelling h.banks statement) in
-    let with_banks : Draft = record empty_draft { banks = h.banks } in
-    let empty_valid : IsDraft empty_draft = IsDraft-empty [] [] no_limits refl refl refl in
-    let banks : Leads n h.banks empty_draft named with_banks = banks_lead n h.banks h.banks empty_draft empty_valid session.banks_most session.names session.names_differ in
-    let front : Leads n h.banks empty_draft (named ++ paired) (with_limits h no_limits) =
-    both_lead n h.banks empty_draft with_banks (with_limits h no_limits) named paired banks
+    let empty : Draft = empty_draft h.version in
+    let with_banks : Draft = record empty { banks = h.banks } in
+    let empty_valid : IsDraft empty = IsDraft-empty h.version [] [] no_limits no_totals session.version_least session.version_most refl refl refl refl in
+    let banks : Leads n h.banks empty named with_banks = banks_lead n h.banks h.banks empty empty_valid session.banks_most session.names session.names_differ in
+    let front : Leads n h.banks empty (named ++ paired) (with_limits h no_limits) =
+    both_lead n h.banks empty with_banks (with_limits h no_limits) named paired banks
     (λ m. pairs_lead m h.banks h.pairs with_banks banks.valid session.pairs_most session.rules session.pairs_differ) in
     let rows = rows_lead front.count h (bank_count h) no_limits session front.valid (omega arith) no_limits-at in
+    let tops = totals_lead rows.leads.count h (bank_count h) rows.after session rows.leads.valid (omega arith) no_totals-at in
+    let made : Draft = with_totals h rows.after tops.after in
     let table_is : square (bank_count h) rows.after ≡ h.limits = square_is h rows.after session rows.rows in
-    let can : CanState (with_limits h rows.after) statements.Start = (session.banks_least, session.pairs_least) in
-    let read_last : with_lines (Drafting rows.leads.count (with_limits h rows.after)) (lines_for h.banks last) ≡ Started (next rows.leads.count) h =
-    line_read rows.leads.count (with_limits h rows.after) statements.Start rows.leads.valid can
-    ∙ ap (λ (limits : List ℕ). Started (next rows.leads.count) (record { version = 1; banks = h.banks; pairs = h.pairs; limits = limits; totals = [] })) table_is
-    ∙ ap (λ (v : ℕ). Started (next rows.leads.count) (record { version = v; banks = h.banks; pairs = h.pairs; limits = h.limits; totals = [] })) (sym (only_one h session))
-    ∙ ap (λ (totals : List (Option ℕ)). Started (next rows.leads.count) (record { version = h.version; banks = h.banks; pairs = h.pairs; limits = h.limits; totals = totals }))
-    (sym (first-totals h session (only_one h session))) in
-    let all : Leads n h.banks empty_draft (named ++ paired ++ limited) (with_limits h rows.after) = record {
+    let totals_is : totals_kept h.version (bank_count h) tops.after ≡ h.totals = totals_are h tops.after session tops.leads.valid.totals_full tops.totals in
+    let can : CanState made statements.Start = (session.banks_least, session.pairs_least) in
+    let read_last : with_lines (Drafting tops.leads.count made) (lines_for h.banks last) ≡ Started (next tops.leads.count) h =
+    line_read tops.leads.count made statements.Start tops.leads.valid can
+    ∙ ap₂ (λ (limits : List ℕ) (totals : List (Option ℕ)). Started (next tops.leads.count) (record { version = h.version; banks = h.banks; pairs = h.pairs; limits = limits; totals = totals })) table_is totals_is in
+    let with_rows : Leads n h.banks empty (named ++ paired ++ limited) (with_limits h rows.after) = record {
       count = rows.leads.count;
-      leads = lead_on n h.banks empty_draft (with_limits h no_limits) (named ++ paired) limited front ∙ rows.leads.leads;
+      leads = lead_on n h.banks empty (with_limits h no_limits) (named ++ paired) limited front ∙ rows.leads.leads;
       valid = rows.leads.valid;
       lines = Each-append is_line (named ++ paired) limited front.lines rows.leads.lines;
     } in
+    let all : Leads n h.banks empty (named ++ paired ++ limited ++ totalled) made = record {
+      count = tops.leads.count;
+      leads = lead_on n h.banks empty (with_limits h rows.after) (named ++ paired ++ limited) totalled with_rows ∙ tops.leads.leads;
+      valid = tops.leads.valid;
+      lines = Each-append is_line (named ++ paired ++ limited) totalled with_rows.lines tops.leads.lines;
+    } in
     record {
-      count = next rows.leads.count;
-      starts = lead_on n h.banks empty_draft (with_limits h rows.after) (named ++ paired ++ limited) last all ∙ read_last;
-      front = named ++ paired ++ limited;
+      count = next tops.leads.count;
+      starts = lead_on n h.banks empty made (named ++ paired ++ limited ++ totalled) last all ∙ read_last;
+      front = named ++ paired ++ limited ++ totalled;
       all_are = refl;
-      draft = with_limits h rows.after;
+      draft = made;
       drafted = all.count;
       before = all.leads;
-      lines = Each-append is_line (named ++ paired ++ limited) last all.lines (spelling_line (with_limits h rows.after) statements.Start rows.leads.valid can, tt);
+      lines = Each-append is_line (named ++ paired ++ limited ++ totalled) last all.lines (spelling_line made statements.Start tops.leads.valid can, tt);
     }
 
 -- the lines of a text of statements
@@ -359,28 +478,38 @@ rest_of-statements banks [] are = refl
 rest_of-statements banks (statement ∷ rest) are = rest_of-line_text (spelling banks statement) (lines_text banks rest) are.0 ∙ rest_of-statements banks rest are.1
 
 -- the first line
-abbrev version_fields : List (List ℕ)
-version_fields = codes "FXBOOK" ∷ codes "1" ∷ []
+pub version_line : (version : ℕ) → version ≤ newest → IsLine (version_fields version)
+unfolding newest
+version_line version most = record { some = omega arith; few = omega arith; fields_are = (IsField-tested (codes "FXBOOK") refl, (IsField-numeral version (omega (arith, most)), tt)) }
 
-version_line : IsLine version_fields
-version_line = record { some = omega arith; few = omega arith; fields_are = (IsField-tested (codes "FXBOOK") refl, (IsField-tested (codes "1") refl, tt)) }
+version_said : (version : ℕ) → 1 ≤ version → version ≤ newest → version_of (version_fields version) ≡ Some version
+unfolding version_of
+version_said version least most = number_of-numeral 1 newest version least most
 
-version_read : with_line (Begun 0) (Whole (join_with_byte 32 version_fields)) ≡ Drafting 1 empty_draft
-version_read = rw (fields_of-join version_fields version_line.some version_line.fields_are) refl
+version_told : (version : ℕ) → (eqb (length (version_fields version)) 0 || is_comment (slice_index_or (version_fields version) 0 [])) ≡ false
+version_told version = refl
+
+pub version_read : (version : ℕ) → 1 ≤ version → version ≤ newest → with_line (Begun 0) (Whole (join_with_byte 32 (version_fields version))) ≡ Drafting 1 (empty_draft version)
+version_read version least most =
+    let line : IsLine (version_fields version) = version_line version most in
+    let fields : fields_of (join_with_byte 32 (version_fields version)) ≡ version_fields version = fields_of-join (version_fields version) line.some line.fields_are in
+    ap₂ (λ (passed : Bool) (head : Head). cond passed (Begun (next 0)) head)
+    (ap (λ (fields : List (List ℕ)). eqb (length fields) 0 || is_comment (slice_index_or fields 0 [])) fields ∙ version_told version)
+    (ap (begun (next 0)) (ap version_of fields ∙ version_said version least most))
 
 -- the text of a session's header is whole lines, and their reading starts that session
 pub head_text-read : (h : Header) → IsSession h → session_of (read_head (lines_of (head_text_of h))) ≡ Some h
 head_text-read h session =
     let it = starts 1 h session in
-    ap (λ (lines : List Line). session_of (read_head lines)) (lines_of-line_text version_fields (lines_text h.banks (statements_of h)) version_line)
-    ∙ ap (λ (lines : List Line). session_of (with_lines (with_line (Begun 0) (Whole (join_with_byte 32 version_fields))) lines)) (lines_of-statements h.banks (statements_of h) it.lines)
-    ∙ ap (λ (head : Head). session_of (with_lines head (lines_for h.banks (statements_of h)))) version_read
+    ap (λ (lines : List Line). session_of (read_head lines)) (lines_of-line_text (version_fields h.version) (lines_text h.banks (statements_of h)) (version_line h.version session.version_most))
+    ∙ ap (λ (lines : List Line). session_of (with_lines (with_line (Begun 0) (Whole (join_with_byte 32 (version_fields h.version)))) lines)) (lines_of-statements h.banks (statements_of h) it.lines)
+    ∙ ap (λ (head : Head). session_of (with_lines head (lines_for h.banks (statements_of h)))) (version_read h.version session.version_least session.version_most)
     ∙ ap session_of it.starts
 
 pub head_text-whole : (h : Header) → IsSession h → rest_of (head_text_of h) ≡ []
 head_text-whole h session =
     let it = starts 1 h session in
-    rest_of-line_text version_fields (lines_text h.banks (statements_of h)) version_line ∙ rest_of-statements h.banks (statements_of h) it.lines
+    rest_of-line_text (version_fields h.version) (lines_text h.banks (statements_of h)) (version_line h.version session.version_most) ∙ rest_of-statements h.banks (statements_of h) it.lines
 
 -- its last line is START, and the lines before it do not end the header
 pub record EndsAtStart (h : Header) : Type 0 where
@@ -394,15 +523,15 @@ pub record EndsAtStart (h : Header) : Type 0 where
 pub head_text-ends : (h : Header) → IsSession h → EndsAtStart h
 head_text-ends h session =
     let it = starts 1 h session in
-    let first : Line = Whole (join_with_byte 32 version_fields) in
+    let first : Line = Whole (join_with_byte 32 (version_fields h.version)) in
     let cut : lines_for h.banks (statements_of h) ≡ lines_for h.banks it.front ++ line_for h.banks statements.Start ∷ [] =
     ap (lines_for h.banks) it.all_are ∙ map-append (line_for h.banks) it.front (statements.Start ∷ []) in
     record {
       lines = first ∷ lines_for h.banks it.front;
       last = line_for h.banks statements.Start;
-      all_are = lines_of-line_text version_fields (lines_text h.banks (statements_of h)) version_line
+      all_are = lines_of-line_text (version_fields h.version) (lines_text h.banks (statements_of h)) (version_line h.version session.version_most)
           ∙ ap (λ (lines : List Line). first ∷ lines) (lines_of-statements h.banks (statements_of h) it.lines ∙ cut);
       draft = it.draft;
       drafted = it.drafted;
-      before = ap (λ (head : Head). with_lines head (lines_for h.banks it.front)) version_read ∙ it.before;
+      before = ap (λ (head : Head). with_lines head (lines_for h.banks it.front)) (version_read h.version session.version_least session.version_most) ∙ it.before;
     }

@@ -39,12 +39,16 @@ spelling_line d (statements.Line from to limit) valid can =
     let first = name_field (field_at d.banks from) (All-get_or (λ name. IsTrue (is_name name)) d.banks from [] can.0 valid.names) in
     let second = name_field (field_at d.banks to) (All-get_or (λ name. IsTrue (is_name name)) d.banks to [] can.1 valid.names) in
     record { some = omega arith; few = omega arith; fields_are = (IsField-tested (codes "LINE") refl, (first, (second, (IsField-numeral limit (omega (arith, can.3)), tt)))) }
+spelling_line d (statements.Total bank limit) valid can =
+    let name = name_field (field_at d.banks bank) (All-get_or (λ name. IsTrue (is_name name)) d.banks bank [] can.1 valid.names) in
+    record { some = omega arith; few = omega arith; fields_are = (IsField-tested (codes "TOTAL") refl, (name, (IsField-numeral limit (omega (arith, can.2)), tt))) }
 spelling_line d statements.Start valid can = record { some = omega arith; few = omega arith; fields_are = (IsField-tested (codes "START") refl, tt) }
 
 word_told : (banks : List (List ℕ)) (statement : Statement) → (eqb (length (spelling banks statement)) 0 || is_comment (slice_index_or (spelling banks statement) 0 [])) ≡ false
 word_told banks (statements.Bank name) = refl
 word_told banks (statements.Pair rule) = refl
 word_told banks (statements.Line from to limit) = refl
+word_told banks (statements.Total bank limit) = refl
 word_told banks statements.Start = refl
 
 pub spelling_taken : (banks : List (List ℕ)) (statement : Statement) → IsLine (spelling banks statement) → is_passed_over (Whole (join_with_byte 32 (spelling banks statement))) ≡ false

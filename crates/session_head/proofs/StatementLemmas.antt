@@ -17,7 +17,7 @@ use Rattle.fx_rules.proofs.SessionLemmas.{missing_from_place}
 use Rattle.session_head.specs.Draft.{Draft}
 use Rattle.fx_text.specs.Fields.{field_at}
 use Rattle.fx_text.specs.Faults.{◌>>=◌}
-use Rattle.session_head.specs.Statement.{new_name, pair_codes, is_new_pair, new_pair, lot_said, bank_statement, pair_statement, line_statement, start_statement, statement_of, spelling}
+use Rattle.session_head.specs.Statement.{new_name, pair_codes, is_new_pair, new_pair, lot_said, bank_statement, pair_statement, line_statement, total_statement, start_statement, statement_of, spelling}
 use Rattle.session_head.specs.inside.Statement.{CanState}
 use Rattle.session_head.specs.declared.reason.HeadReason.{HeadReason}
 use Rattle.session_head.specs.declared.reason.HeadReason.TheVariants as reasons
@@ -77,6 +77,10 @@ one_field (a ∷ b ∷ rest) size = absurd (omega arith)
 two_fields : (fields : List (List ℕ)) → length fields ≡ 2 → fields ≡ field_at fields 0 ∷ field_at fields 1 ∷ []
 two_fields [] size = absurd (omega arith)
 two_fields (a ∷ rest) size = ap (λ (xs : List (List ℕ)). a ∷ xs) (one_field rest (omega arith))
+
+three_fields : (fields : List (List ℕ)) → length fields ≡ 3 → fields ≡ field_at fields 0 ∷ field_at fields 1 ∷ field_at fields 2 ∷ []
+three_fields [] size = absurd (omega arith)
+three_fields (a ∷ rest) size = ap (λ (xs : List (List ℕ)). a ∷ xs) (two_fields rest (omega arith))
 
 four_fields : (fields : List (List ℕ)) → length fields ≡ 4 → fields ≡ field_at fields 0 ∷ field_at fields 1 ∷ field_at fields 2 ∷ field_at fields 3 ∷ []
 four_fields [] size = absurd (omega arith)
@@ -176,6 +180,23 @@ line_found draft fields statement word read =
       spelled = four_fields fields size
           ∙ ap₂ (λ (a b : List ℕ). a ∷ b ∷ field_at fields 2 ∷ field_at fields 3 ∷ []) word first.1
           ∙ ap₂ (λ (c d : List ℕ). codes "LINE" ∷ field_at draft.banks from.0 ∷ c ∷ d ∷ []) second.1 number.2;
+    })
+
+total_found : (draft : Draft) (fields : List (List ℕ)) (statement : Statement) → draft.version ≡ 2 → field_at fields 0 ≡ codes "TOTAL" → total_statement draft fields ≡ Ok statement → IsFound draft fields statement
+unfolding total_statement
+total_found draft fields statement second word read =
+    let counted = guard_ok (not (eqb (length fields) 3)) reasons.Count _ statement read in
+    let bank = bind_ok (bank_named draft.banks (field_at fields 1)) reasons.Banks _ statement counted.1 in
+    let limit = bind_ok (number_of 0 1000000000000000 (field_at fields 2)) reasons.Limit _ statement bank.2 in
+    let number = number_of-Some 0 1000000000000000 (field_at fields 2) limit.0 limit.1 in
+    let name = bank_named-Some draft.banks (field_at fields 1) bank.0 bank.1 in
+    let is : statements.Total bank.0 limit.0 ≡ statement = let last = limit.2 in cc in
+    let size : length fields ≡ 3 = number_is (length fields) 3 (not_false _ counted.0) in
+    subst (λ (s : Statement). IsFound draft fields s) is (record {
+      can = (second, name.0, number.1);
+      spelled = three_fields fields size
+          ∙ ap₂ (λ (a b : List ℕ). a ∷ b ∷ field_at fields 2 ∷ []) word name.1
+          ∙ ap (λ (c : List ℕ). codes "TOTAL" ∷ field_at draft.banks bank.0 ∷ c ∷ []) number.2;
     })
 
 regrouped : (text : List ℕ) → 3 < length text → text ≡ take 3 text ++ get_or text 3 0 ∷ drop 4 text
@@ -297,7 +318,12 @@ statement_found draft fields statement read =
           | inl line ↦ line_found draft fields statement (word (codes "LINE") line.0) line.1
           | inr fourth ↦ elim (chosen (bytes_eq (field_at fields 0) (codes "START")) _ _ (Ok statement) fourth.1) [
             | inl start ↦ start_found draft fields statement (word (codes "START") start.0) start.1
-            | inr other ↦ absurd (let wrong : ◌≡◌ {A = Result Statement HeadReason} (Err reasons.Word) (Ok statement) = other.1 in cc)
+            | inr fifth ↦ elim (chosen (eqb draft.version 2 && bytes_eq (field_at fields 0) (codes "TOTAL")) _ _ (Ok statement) fifth.1) [
+              | inl total ↦
+                  let parts = both_parts (eqb draft.version 2) (bytes_eq (field_at fields 0) (codes "TOTAL")) total.0 in
+                  total_found draft fields statement (number_is draft.version 2 parts.0) (word (codes "TOTAL") parts.1) total.1
+              | inr other ↦ absurd (let wrong : ◌≡◌ {A = Result Statement HeadReason} (Err reasons.Word) (Ok statement) = other.1 in cc)
+            ]
           ]
         ]
       ]

@@ -6,7 +6,7 @@ use Rattle.fx_text.specs.Lines.{is_passed_over}
 use Rattle.fx_text.specs.declared.line.Line.{Line}
 use Rattle.fx_text.specs.declared.line.Line.TheVariants.{Whole, Long}
 use Rattle.session_head.specs.Draft.{Draft, empty_draft, header_of}
-use Rattle.session_head.specs.Statement.{is_version, statement_of, with_statement}
+use Rattle.session_head.specs.Statement.{version_of, statement_of, with_statement}
 use Rattle.session_head.specs.declared.reason.HeadReason.{HeadReason}
 use Rattle.session_head.specs.declared.reason.HeadReason.TheVariants as reasons
 use Rattle.session_head.specs.declared.reason.HeadStep.{HeadStep}
@@ -36,9 +36,14 @@ judged number draft (Ok statements.Start) = Started number (header_of draft)
 judged number draft (Ok statement) = Drafting number (with_statement draft statement)
 judged number draft (Err reason) = Faulted number reason
 
+-- the header begins with a version, or with a line that names none
+abbrev pub begun : ℕ → Option ℕ → Head
+begun number (Some version) = Drafting number (empty_draft version)
+begun number None = Faulted number reasons.Version
+
 -- the first line that is not ignored
 abbrev pub first_line : ℕ → Line → Head
-first_line number (Whole text) = if is_version (fields_of text) then Drafting number empty_draft else Faulted number reasons.Version
+first_line number (Whole text) = begun number (version_of (fields_of text))
 first_line number (Long field) = Faulted number reasons.Long
 
 -- a further line that is not ignored

@@ -1,11 +1,11 @@
 -- What a line of a header says, by its fields and what was declared above it: a statement, or the line's first fault.
-use Rattle.std.specs.Prelude.{ℕ, ◌%◌, ◌^◌, Bool, not, ◌&&◌, ◌||◌, ◌==◌, nat_lt, nat_le, is_none, if◌then◌else◌, List, [], ◌∷◌, ◌++◌, length, take, drop, slice_index, slice_index_or, slice_set, position, codes, bytes_eq, Option, Some, None, ok_or, option_and_then, Result, Ok, Err}
+use Rattle.std.specs.Prelude.{ℕ, ◌%◌, ◌^◌, Bool, not, ◌&&◌, ◌||◌, ◌==◌, nat_lt, nat_le, is_none, if◌then◌else◌, List, [], ◌∷◌, ◌++◌, length, take, drop, slice_index, slice_set, position, codes, bytes_eq, Option, Some, None, ok_or, option_and_then, Result, Ok, Err}
 use Rattle.fx_amounts.specs.Numeral.{numeral}
 use Rattle.fx_text.specs.Faults.{◌>>=◌}
 use Rattle.fx_text.specs.Fields.{field_at}
 use Rattle.fx_text.specs.Number.{number_of}
 use Rattle.fx_rules.specs.Names.{is_name, is_code}
-use Rattle.fx_rules.specs.Session.{bank_named, pair_text}
+use Rattle.fx_rules.specs.Session.{bank_named, newest, pair_text}
 use Rattle.fx_rules.specs.declared.session.PairRule.{PairRule}
 use Rattle.session_head.specs.Draft.{Draft, limit_place}
 use Rattle.session_head.specs.declared.reason.HeadReason.{HeadReason}
@@ -13,9 +13,13 @@ use Rattle.session_head.specs.declared.reason.HeadReason.TheVariants as reasons
 use Rattle.session_head.specs.declared.statement.Statement.{Statement}
 use Rattle.session_head.specs.declared.statement.Statement.TheVariants as statements
 
--- whether the fields are those of the first line
-abbrev pub is_version : List (List ℕ) → Bool
-is_version fields = (length fields == 2) && bytes_eq (field_at fields 0) (codes "FXBOOK") && bytes_eq (field_at fields 1) (codes "1")
+-- the version that the first line's fields name, where there is such a version
+unfoldable pub version_of : List (List ℕ) → Option ℕ
+version_of fields = if (length fields == 2) && bytes_eq (field_at fields 0) (codes "FXBOOK") then number_of 1 newest (field_at fields 1) else None
+
+-- the fields of the first line, in their one spelling
+abbrev pub version_fields : ℕ → List (List ℕ)
+version_fields version = codes "FXBOOK" ∷ numeral version ∷ []
 
 -- the text as a name that no bank has
 unfoldable pub new_name : List (List ℕ) → List ℕ → Option (List ℕ)
@@ -64,6 +68,14 @@ line_statement draft fields =
       limit ← (if from == to then Err reasons.Banks else ok_or (number_of 0 1000000000000000 (field_at fields 3)) reasons.Limit)
       Ok (statements.Line from to limit)
 
+-- a TOTAL line
+unfoldable pub total_statement : Draft → List (List ℕ) → Result Statement HeadReason
+total_statement draft fields =
+    if not (length fields == 3) then Err reasons.Count else do
+      bank ← ok_or (bank_named draft.banks (field_at fields 1)) reasons.Banks
+      limit ← ok_or (number_of 0 1000000000000000 (field_at fields 2)) reasons.Limit
+      Ok (statements.Total bank limit)
+
 -- a START line
 unfoldable pub start_statement : Draft → List (List ℕ) → Result Statement HeadReason
 start_statement draft fields =
@@ -71,13 +83,14 @@ start_statement draft fields =
     else if nat_lt (length draft.banks) 2 || nat_lt (length draft.pairs) 1 then Err reasons.Start
     else Ok statements.Start
 
--- what a line behind the first says
+-- what a line behind the first says. Version 1 has no word TOTAL
 unfoldable pub statement_of : Draft → List (List ℕ) → Result Statement HeadReason
 statement_of draft fields =
     if bytes_eq (field_at fields 0) (codes "BANK") then bank_statement draft fields
     else if bytes_eq (field_at fields 0) (codes "PAIR") then pair_statement draft fields
     else if bytes_eq (field_at fields 0) (codes "LINE") then line_statement draft fields
     else if bytes_eq (field_at fields 0) (codes "START") then start_statement draft fields
+    else if draft.version == 2 && bytes_eq (field_at fields 0) (codes "TOTAL") then total_statement draft fields
     else Err reasons.Word
 
 -- the fields of a statement in their one spelling, where these banks are declared
@@ -85,11 +98,14 @@ abbrev pub spelling : List (List ℕ) → Statement → List (List ℕ)
 spelling banks (statements.Bank name) = codes "BANK" ∷ name ∷ []
 spelling banks (statements.Pair rule) = codes "PAIR" ∷ pair_text rule ∷ numeral rule.decimals ∷ numeral rule.lot ∷ numeral rule.weight ∷ []
 spelling banks (statements.Line from to limit) = codes "LINE" ∷ field_at banks from ∷ field_at banks to ∷ numeral limit ∷ []
+spelling banks (statements.Total bank limit) = codes "TOTAL" ∷ field_at banks bank ∷ numeral limit ∷ []
 spelling banks statements.Start = codes "START" ∷ []
 
--- the draft with what a statement declares. A later limit of the same two banks stands in place of the former
+-- the draft with what a statement declares. A later limit of the same two banks stands in place of the former, and so does a later
+-- total of the same bank
 abbrev pub with_statement : Draft → Statement → Draft
 with_statement draft (statements.Bank name) = record draft { banks = draft.banks ++ name ∷ [] }
 with_statement draft (statements.Pair rule) = record draft { pairs = draft.pairs ++ rule ∷ [] }
 with_statement draft (statements.Line from to limit) = record draft { limits = slice_set draft.limits (limit_place from to) limit }
+with_statement draft (statements.Total bank limit) = record draft { totals = slice_set draft.totals bank (Some limit) }
 with_statement draft statements.Start = draft

@@ -1,6 +1,6 @@
-ghost use Rattle.std.specs.Prelude.{◌≡◌, ◌≢◌, ◌<◌, ◌≤◌, ◌&&◌, length, bytes_eq, position, slice_set, IfOk, IfSome, OnOk, OnErr};
-ghost use Rattle.session_head.specs.Draft.{no_limits, empty_draft, header_of, square, limit_place};
-ghost use Rattle.fx_rules.specs.Session.{bank_named};
+ghost use Rattle.std.specs.Prelude.{◌≡◌, ◌≢◌, ◌<◌, ◌≤◌, ◌&&◌, length, bytes_eq, position, slice_set, [], Some, SomeIff, IfOk, IfSome, OnOk, OnErr};
+ghost use Rattle.session_head.specs.Draft.{no_limits, no_totals, empty_draft, header_of, square, totals_kept, limit_place};
+ghost use Rattle.fx_rules.specs.Session.{Header, IsSession, bank_named, newest};
 ghost use Rattle.session_head.specs.Statement.{new_name, with_statement, is_new_pair};
 ghost use Rattle.session_head.specs.inside.Statement.{CanState};
 
@@ -14,13 +14,16 @@ use std::mem;
 /// A row of the table of limits, one for each bank that there can be.
 const ROW: usize = BankId::COUNT;
 
-/// The banks, pairs and limits that the lines of a header have declared.
+/// The version, banks, pairs, limits and totals that the lines of a header have declared.
 #[derive(Drop)]
 pub(crate) struct Draft {
+    version: u8,
     banks: Vec<Name>,
     pairs: Vec<PairRule>,
     /// The limit that bank i sets on bank j stands at `ROW * i + j`, whether or not they are declared yet.
     limits: Vec<Units>,
+    /// Each bank's total, or that it has none, whether or not it is declared yet.
+    totals: Vec<Option<Units>>,
 }
 
 impl Model for Draft {
@@ -29,22 +32,33 @@ impl Model for Draft {
 
     ghost Value = { Draft };
 
-    ghost view = { λ d. record { banks = d.banks.items; pairs = d.pairs.items; limits = d.limits.items } };
+    ghost view = { λ d. record { version = d.version; banks = d.banks.items; pairs = d.pairs.items; limits = d.limits.items; totals = d.totals.items } };
 
-    ghost invariant = { λ d. IsDraft (record { banks = d.banks.items; pairs = d.pairs.items; limits = d.limits.items }) };
+    ghost invariant = { λ d. IsDraft (record { version = d.version; banks = d.banks.items; pairs = d.pairs.items; limits = d.limits.items; totals = d.totals.items }) };
 }
 
 impl Draft {
-    /// A draft that declares nothing, with its table of limits.
-    pub(crate) fn new(alloc: Global) -> Result<Draft, Memory>
-        ensures { IfOk result (λ draft. draft ≡ empty_draft) }
+    /// A draft of a version that declares nothing, with its tables of limits and of totals.
+    pub(crate) fn new(alloc: Global, version: u8) -> Result<Draft, Memory>
+        requires least { 1 ≤ version }
+        requires most { version ≤ newest }
+        ensures { IfOk result (λ draft. draft ≡ empty_draft version) }
     {
         let limits = no_limits(alloc)?;
+        let totals = no_totals(alloc)?;
         Ok(Draft {
+            version,
             banks: Vec::new(alloc),
             pairs: Vec::new(alloc),
             limits,
+            totals,
         })
+    }
+
+    pub(crate) fn version(&self) -> u8
+        ensures { result ≡ self.now.version }
+    {
+        self.version
     }
 
     pub(crate) fn bank_count(&self) -> usize
@@ -101,6 +115,7 @@ impl Draft {
             Statement::Bank(name) => self.banks.push(name)?,
             Statement::Pair(rule) => self.pairs.push(rule)?,
             Statement::Line { from, to, limit } => self.set_limit(from, to, limit),
+            Statement::Total { bank, limit } => self.set_total(bank, limit),
             Statement::Start => {}
         }
         Ok(())
@@ -115,6 +130,13 @@ impl Draft {
         self.limits[ROW * from.index() + to.index()] = limit;
     }
 
+    fn set_total(&mut self, bank: BankId, limit: Units)
+        requires { bank < length self.old.banks }
+        ensures { self.new ≡ record self.old { totals = slice_set self.old.totals bank (Some limit) } }
+    {
+        self.totals[bank.index()] = Some(limit);
+    }
+
     /// Takes the session that the draft declares out of it. After `Err` the draft is as it was.
     pub(crate) fn take_session(&mut self) -> Result<Session, Memory>
         requires banks { 2 ≤ length self.old.banks }
@@ -124,9 +146,29 @@ impl Draft {
     {
         let alloc = *self.limits.allocator();
         let limits = square(alloc, self.banks.len(), &self.limits)?;
+        let totals = totals_kept(alloc, self.version, self.banks.len(), &self.totals)?;
         let banks = mem::replace(&mut self.banks, Vec::new(alloc));
         let pairs = mem::replace(&mut self.pairs, Vec::new(alloc));
-        Ok(Session::build(banks, pairs, limits).unwrap())
+        Ok(session_of(self.version, banks, pairs, limits, totals).unwrap())
+    }
+}
+
+// The session of a version that has these parts; version 1 has no totals.
+fn session_of(
+    version: u8,
+    banks: Vec<Name>,
+    pairs: Vec<PairRule>,
+    limits: Vec<Units>,
+    totals: Vec<Option<Units>>,
+) -> Option<Session>
+    requires { version ≢ 2 → (version ≡ 1) × (totals.items ≡ []) }
+    ensures value { let header : Header = record { version = version; banks = banks.items; pairs = pairs.items; limits = limits.items; totals = totals.items } in
+        SomeIff result (IsSession header) header }
+{
+    if version == 2 {
+        Session::build_two(banks, pairs, limits, totals)
+    } else {
+        Session::build(banks, pairs, limits)
     }
 }
 
@@ -137,6 +179,32 @@ fn no_limits(alloc: Global) -> Result<Vec<Units>, Memory>
 {
     let zero = Units::new(0).unwrap();
     Ok(vec![in alloc; zero; ROW * ROW]?)
+}
+
+// A table of totals in which no bank has one.
+#[tactic(auto, unfolding(crate::specs::Draft::no_totals))]
+fn no_totals(alloc: Global) -> Result<Vec<Option<Units>>, Memory>
+    ensures { IfOk result (λ totals. totals.items ≡ no_totals) }
+{
+    let none: Option<Units> = None;
+    Ok(vec![in alloc; none; BankId::COUNT]?)
+}
+
+// The totals of so many banks in version 2, without those of banks that are not declared; of version 1 none.
+fn totals_kept(
+    alloc: Global,
+    version: u8,
+    banks: usize,
+    totals: &[Option<Units>],
+) -> Result<Vec<Option<Units>>, Memory>
+    requires { banks ≤ length totals.now }
+    ensures { IfOk result (λ kept. kept.items ≡ totals_kept version banks totals.now) }
+{
+    let mut kept = Vec::new(alloc);
+    if version == 2 {
+        kept.extend_from_slice(&totals[..banks])?;
+    }
+    Ok(kept)
 }
 
 // The limits of so many banks row by row, without those of banks that are not declared.

@@ -7,7 +7,7 @@ ghost use Rattle.session_head.specs.declared.reason.HeadReason.{HeadReason};
 
 use crate::draft::Draft;
 use crate::reason::{HeadReason, HeadStep, HeadStop};
-use crate::statement::{Statement, is_version, statement_from};
+use crate::statement::{Statement, statement_from, version_from};
 use fx_rules::Session;
 use fx_text::{Line, LineView, fields};
 use std::alloc::Global;
@@ -168,13 +168,13 @@ impl Stage {
             draft.add(statement)?;
             return Ok(HeadStep::More);
         }
-        if !is_version(&fields) {
+        let Some(version) = version_from(&fields) else {
             return Err(HeadStop::Fault {
                 line: number,
                 reason: HeadReason::Version,
             });
-        }
-        *self = Stage::Drafting(Draft::new(alloc)?);
+        };
+        *self = Stage::Drafting(Draft::new(alloc, version)?);
         Ok(HeadStep::More)
     }
 }

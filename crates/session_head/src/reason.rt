@@ -6,7 +6,7 @@ use fx_amounts::Memory;
 /// Why a line is no line of a header.
 #[derive(Clone, Copy, Debug, PartialEq, Eq)]
 pub enum HeadReason {
-    /// The first line is not `FXBOOK 1`.
+    /// The first line is not `FXBOOK` with a version that there is.
     Version,
     /// The first field is no word of a header.
     Word,
@@ -22,9 +22,9 @@ pub enum HeadReason {
     Lot,
     /// A weight that is not a number from 1 to 10^6.
     Weight,
-    /// A limit between banks that are not both declared above, or are one.
+    /// A limit or a total of banks that are not all declared above, or a limit of a bank on itself.
     Banks,
-    /// A limit that is not a number from 0 to 10^15.
+    /// A limit or a total that is not a number from 0 to 10^15.
     Limit,
     /// `START` with fewer than two banks, or no pair.
     Start,

@@ -1,8 +1,9 @@
 ghost use Rattle.std.specs.Prelude.{◌≡◌, ◌≤◌, Ok, IfOk, IfSome};
 ghost use Rattle.fx_text.specs.Number.{number_of};
+ghost use Rattle.fx_rules.specs.Session.{newest};
 ghost use Rattle.session_head.specs.inside.Draft.{IsDraft};
 ghost use Rattle.session_head.specs.declared.statement.Statement.{Statement as Declared};
-ghost use Rattle.session_head.specs.Statement.{statement_of, bank_statement, pair_statement, line_statement, start_statement, is_version, pair_codes, new_pair, lot_said, spelling};
+ghost use Rattle.session_head.specs.Statement.{statement_of, bank_statement, pair_statement, line_statement, total_statement, start_statement, version_of, pair_codes, new_pair, lot_said, spelling};
 ghost use Rattle.session_head.specs.inside.Statement.{CanState};
 
 use crate::draft::Draft;
@@ -24,17 +25,30 @@ pub(crate) enum Statement {
         to: BankId,
         limit: Units,
     },
+    /// The total that a bank opens with, in version 2.
+    Total {
+        bank: BankId,
+        limit: Units,
+    },
     /// The header is whole.
     Start,
 }
 
-/// Whether the fields are those of the first line.
-pub(crate) fn is_version(fields: &Fields) -> bool
-    ensures { result ≡ is_version fields.now }
+/// The newest version of a session's text.
+const NEWEST: u64 = 1;
+
+/// The version that the first line's fields name, where there is such a version.
+#[tactic(auto, unfolding(crate::specs::Statement::version_of, fx_rules::specs::Session::newest))]
+pub(crate) fn version_from(fields: &Fields) -> Option<u8>
+    ensures value { result ≡ version_of fields.now }
+    ensures least { IfSome result (λ version. 1 ≤ version) }
+    ensures most { IfSome result (λ version. version ≤ newest) }
 {
-    fields.count() == 2
-        && fields.field(0) == b"FXBOOK".as_slice()
-        && fields.field(1) == b"1".as_slice()
+    if fields.count() != 2 || fields.field(0) != b"FXBOOK".as_slice() {
+        return None;
+    }
+    let version = number(fields.field(1), 1, NEWEST)?;
+    Some(version as u8)
 }
 
 /// What a line behind the first says of a draft, or its first fault.
@@ -62,6 +76,8 @@ fn statement_by_word(draft: &Draft, fields: &Fields) -> Result<Statement, HeadRe
         line_statement(draft, fields)
     } else if word == b"START".as_slice() {
         start_statement(draft, fields)
+    } else if draft.version() == 2 && word == b"TOTAL".as_slice() {
+        total_statement(draft, fields)
     } else {
         Err(HeadReason::Word)
     }
@@ -159,6 +175,18 @@ fn line_statement(draft: &Draft, fields: &Fields) -> Result<Statement, HeadReaso
     }
     let limit = limit_from(fields.field(3)).ok_or(HeadReason::Limit)?;
     Ok(Statement::Line { from, to, limit })
+}
+
+#[tactic(auto, unfolding(crate::specs::Statement::total_statement))]
+fn total_statement(draft: &Draft, fields: &Fields) -> Result<Statement, HeadReason>
+    ensures { result ≡ total_statement draft.now fields.now }
+{
+    if fields.count() != 3 {
+        return Err(HeadReason::Count);
+    }
+    let bank = draft.bank_named(fields.field(1)).ok_or(HeadReason::Banks)?;
+    let limit = limit_from(fields.field(2)).ok_or(HeadReason::Limit)?;
+    Ok(Statement::Total { bank, limit })
 }
 
 // The limit that a text writes: 0 to 10^15.

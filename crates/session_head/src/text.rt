@@ -1,11 +1,11 @@
 ghost use Rattle.std.specs.Prelude.{◌≡◌, ◌<◌, ◌++◌, ◌∷◌, [], OnOk, OnErr, Some, map, flat_map, length};
 ghost use Rattle.fx_rules.specs.Lists.{below};
 ghost use Rattle.fx_rules.specs.Session.{IsSession, bank_count};
-ghost use Rattle.session_head.specs.HeadText.{head_text_of, lines_text, line_text};
+ghost use Rattle.session_head.specs.HeadText.{head_text_of, lines_text, line_text, totals_of};
 ghost use Rattle.session_head.specs.inside.HeadText.{AreNamed, limits_of};
 ghost use Rattle.fx_text.specs.Lines.{lines_of, rest_of};
 ghost use Rattle.session_head.specs.Head.{read_head, session_of};
-ghost use Rattle.session_head.specs.Statement.{spelling};
+ghost use Rattle.session_head.specs.Statement.{spelling, version_fields};
 ghost use Rattle.session_head.specs.declared.statement.Statement.TheVariants as statements;
 
 use crate::statement::Statement;
@@ -13,8 +13,8 @@ use fx_amounts::{BankId, Memory};
 use fx_rules::{Name, PairRule, Session};
 use fx_text::push_number;
 
-/// Appends a session's header: its banks, its pairs and its opening limits above 0, a line each between the lines
-/// `FXBOOK 1` and `START`. After `Err` the list is as it was.
+/// Appends a session's header: its banks, its pairs, its opening limits above 0 and its opening totals, a line each between the
+/// line of its version, as `FXBOOK 1`, and `START`. After `Err` the list is as it was.
 pub fn head_text(session: &Session, out: &mut Vec<u8>) -> Result<(), Memory>
     ensures ok { OnOk result (out.new.items ≡ out.old.items ++ head_text_of session.now) }
     ensures err { OnErr result (out.new.items ≡ out.old.items) }
@@ -43,11 +43,21 @@ fn push_head(session: &Session, out: &mut Vec<u8>) -> Result<(), Memory>
     ensures valid { IsSession session.now }
 {
     let banks = session.banks();
-    out.extend_from_slice(b"FXBOOK 1\n")?;
+    push_version(session.version(), out)?;
     push_banks(banks, out)?;
     push_pairs(banks, session.pairs(), out)?;
     push_limits(session, out)?;
+    push_totals(session, out)?;
     push_statement(banks, &Statement::Start, out)
+}
+
+fn push_version(version: u8, out: &mut Vec<u8>) -> Result<(), Memory>
+    ensures { OnOk result (out.new.items ≡ out.old.items ++ line_text (version_fields version)) }
+{
+    out.extend_from_slice(b"FXBOOK ")?;
+    push_number(u128::from(version), out)?;
+    out.push(b'\n')?;
+    Ok(())
 }
 
 fn push_banks(banks: &[Name], out: &mut Vec<u8>) -> Result<(), Memory>
@@ -93,6 +103,20 @@ fn push_limits_of(session: &Session, from: BankId, out: &mut Vec<u8>) -> Result<
     Ok(())
 }
 
+// The totals of the banks that have one.
+fn push_totals(session: &Session, out: &mut Vec<u8>) -> Result<(), Memory>
+    ensures { OnOk result (out.new.items ≡ out.old.items ++ lines_text session.now.banks (totals_of session.now (bank_count session.now))) }
+{
+    let banks = session.banks();
+    for bank in 0..banks.len() {
+        let bank = BankId::at(bank);
+        if let Some(limit) = session.total(bank) {
+            push_statement(banks, &Statement::Total { bank, limit }, out)?;
+        }
+    }
+    Ok(())
+}
+
 // Appends the line of a statement, whose banks are among these.
 fn push_statement(banks: &[Name], statement: &Statement, out: &mut Vec<u8>) -> Result<(), Memory>
     requires { AreNamed (length banks.now) statement.now }
@@ -109,6 +133,12 @@ fn push_statement(banks: &[Name], statement: &Statement, out: &mut Vec<u8>) -> R
             out.extend_from_slice(banks[from.index()].as_bytes())?;
             out.push(b' ')?;
             out.extend_from_slice(banks[to.index()].as_bytes())?;
+            out.push(b' ')?;
+            push_number(u128::from(limit.get()), out)?;
+        }
+        Statement::Total { bank, limit } => {
+            out.extend_from_slice(b"TOTAL ")?;
+            out.extend_from_slice(banks[bank.index()].as_bytes())?;
             out.push(b' ')?;
             push_number(u128::from(limit.get()), out)?;
         }

@@ -7,3 +7,4 @@ pub mod Feeding
 pub mod Closing
 pub mod ScriptReading
 pub mod RoundLaws
+pub mod Colons

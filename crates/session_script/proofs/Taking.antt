@@ -5,7 +5,7 @@ use Rattle.fx_rules.specs.Session.{Header}
 use Rattle.fx_rules.proofs.ListLemmas.{Each-append}
 use Rattle.fx_text.specs.declared.line.Line.{Line}
 use Rattle.session_head.specs.Head as heads
-use Rattle.session_head.specs.Head.{Head, read_head, with_line, with_lines, session_of}
+use Rattle.session_head.specs.Head.{Head, read_head, session_of}
 use Rattle.order_lines.specs.Grammar.{command_line}
 use Rattle.order_lines.specs.declared.spoken.Spoken.{Spoken}
 use Rattle.order_lines.specs.declared.spoken.Spoken.TheVariants.{Of, Stray, End, Passed}

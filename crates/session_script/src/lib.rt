@@ -2,6 +2,7 @@
 //! strays.
 #![tactic(auto)]
 
+mod aside;
 mod ends;
 mod front;
 mod heard;

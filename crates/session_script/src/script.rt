@@ -5,12 +5,13 @@ ghost use Rattle.order_lines.specs.Grammar.{command_line};
 ghost use Rattle.session_script.specs.Journal.{sent_lines};
 ghost use Rattle.session_script.specs.declared.heard.Heard.TheVariants.{Command as HeardCommand, Stray as HeardStray};
 
+use crate::aside::spoken_of;
 use crate::front::push_spelled;
 use crate::heard::{Heard, kept_line};
 use fx_amounts::{BankId, Memory};
 use fx_rules::{Command, Sent, Session};
 use fx_text::{LineText, LineView};
-use order_lines::{Spoken, command_in, make_command};
+use order_lines::{Spoken, make_command};
 use std::alloc::Global;
 
 /// What the text of a session says: the session of its header, the commands of the last round in the order of their lines,
@@ -71,7 +72,7 @@ impl Script {
             (λ ended. Adds self.old self.new (line_seen line.now) (command_line self.old.session (line_seen line.now)) ended) }
         ensures session { self.new.session ≡ self.old.session }
     {
-        match command_in(&self.session, line) {
+        match spoken_of(&self.session, line) {
             Spoken::Of(bank, command) => {
                 self.hear_command(bank, &command)?;
                 self.add_sent(Sent { bank, command })?;
@@ -94,8 +95,6 @@ impl Script {
         ensures strays { self.new.strays ≡ self.old.strays }
         ensures heard { (self.new.keeps ≡ self.old.keeps) × (self.new.heard.items ≡ self.old.heard.items) }
     {
-        // The clauses on the line rest on a valid session, as each is.
-        let _banks = self.session.banks();
         let mut line = LineText::new();
         make_command(&self.session, sent.bank, &sent.command, &mut line);
         self.sent.reserve(1)?;

@@ -17,7 +17,7 @@ START
 ";
 
 /// Lines of a journal in their one spelling, and what each says; and lines that are in none.
-const RECORDED: [(&[u8], &str); 38] = [
+const RECORDED: [(&[u8], &str); 40] = [
     (
         b"BETA BUY EUR/USD 1.08420 3 DAY",
         "Some(Order { side: Buy, pair: PairId(0), price: Price { ticks: 108420 }, lots: Lots { count: 3 }, life: Day })",
@@ -68,6 +68,8 @@ const RECORDED: [(&[u8], &str); 38] = [
     (b"END now", "None"),
     (b"ALFABUY", "None"),
     (b"HOST BUY", "None"),
+    (b"HOST BAD 12", "None"),
+    (b"ALFA TOTAL 400", "None"),
     (b"END", "None"),
     (b" \tEND\t", "None"),
     (b"", "None"),
@@ -80,12 +82,13 @@ const RECORDED: [(&[u8], &str); 38] = [
 const COMMANDS: usize = 9;
 
 /// Lines of ALFA's bad commands, and the fault of each.
-const BAD: [(&[u8], Reject); 57] = [
+const BAD: [(&[u8], Reject); 58] = [
     (b"ALFA", Reject::Word),
     (b"ALFA BAD 3", Reject::Word),
     (b"ALFA buy EUR/USD 1.08420 3 DAY", Reject::Word),
     (b"ALFA ALFA SHOW", Reject::Word),
     (b"ALFA TOTAL 5", Reject::Word),
+    (b"ALFA SETTLE ALFA BETA 5", Reject::Word),
     (b"ALFA BUY EUR/USD 1.08420 3", Reject::Count),
     (b"ALFA BUY EUR/USD 1.08420 3 DAY now", Reject::Count),
     (b"ALFA SELL", Reject::Count),
@@ -142,11 +145,12 @@ const BAD: [(&[u8], Reject); 57] = [
 ];
 
 /// Lines with so many letters behind them, and what each says.
-const SAID: [(&[u8], usize, &str); 18] = [
+const SAID: [(&[u8], usize, &str); 19] = [
     (b"DELT SHOW ALFA", 0, "Stray"),
     (b"END now", 0, "Stray"),
     (b"ALFABUY", 0, "Stray"),
     (b"HOST BUY", 0, "Stray"),
+    (b"HOST SETTLE BETA ALFA 1000", 0, "Stray"),
     (b"DELT ", 300, "Stray"),
     (b"END ", 300, "Stray"),
     (b"END", 0, "End"),

@@ -7,8 +7,9 @@ use std::test::Fail;
 use trial_days::session_of;
 
 /// Headers with a fault: the line in which it is, counted with those that are ignored, and the number of its reason.
-const FAULTS: [(&[u8], u64, u8); 17] = [
+const FAULTS: [(&[u8], u64, u8); 18] = [
     (b"FXBOOK 9\n", 1, 1),
+    (b"FXBOOK 01\n", 1, 1),
     (b"BANC ALFA\n", 1, 1),
     (b"# morning\n\n \t\nFXBOOK 2\n", 4, 1),
     (b"FXBOOK 1\nBANC ALFA\n", 2, 2),
@@ -40,7 +41,7 @@ const FAULTS: [(&[u8], u64, u8); 17] = [
 ];
 
 /// Faults of a line behind two banks, the fourth.
-const FOURTH: [(&[u8], u8); 23] = [
+const FOURTH: [(&[u8], u8); 24] = [
     (b"LINE ALFA BETA 05\n", 10),
     (b"BANK ALFA\n", 4),
     (b"BANK HOST\n", 4),
@@ -54,6 +55,7 @@ const FOURTH: [(&[u8], u8); 23] = [
     (b"LINE ALFA GAMA 5\n", 9),
     (b"LINE ALFA BETA 1000000000000001\n", 10),
     (b"START\n", 11),
+    (b"TOTAL ALFA 250\n", 2),
     // Each of these has more faults than one, and the first of the order is told.
     (b"BANC ALFA 1 2\n", 2),
     (b"BANK A B\n", 3),

@@ -5,23 +5,25 @@ use Rattle.std.specs.Prelude.{Some, None, Result, Ok, Err, OnOk, OnErr, IfOk}
 use Rattle.std.proofs.Math.ListN.{drop_of_length-le}
 use Rattle.std.proofs.Math.Seq.{take-length}
 use Rattle.std.proofs.lemmas.List.{take_all, length-map, map-append, length-append, length-take-le}
-use Rattle.std.proofs.lemmas.Bool.{cases_lt, cases_Bool, eqb-true}
+use Rattle.std.proofs.lemmas.Bool.{cases_Bool, eqb-true}
 use Rattle.std.proofs.lemmas.List.Elements.{AllZip-get_or, All-get_or, length_all_zip, filter-append}
 use Rattle.std.proofs.lemmas.Option.{slice_get-get_or, slice_get_within, get_or_from_slice_get}
 use Rattle.fx_rules.specs.declared.command.Command.{Command}
 use Rattle.fx_rules.specs.declared.command.Sent.{Sent}
 use Rattle.fx_rules.specs.declared.outcome.Entry.{Entry}
 use Rattle.fx_rules.specs.Lists.{Among, Each}
-use Rattle.fx_rules.specs.Session.{Header, IsSession, bank_count, sender_places}
+use Rattle.fx_rules.specs.Session.{Header, IsSender, senders}
 use Rattle.fx_rules.specs.Sending.{IsSentOf}
 use Rattle.fx_rules.specs.State.{State, opening}
 use Rattle.fx_rules.specs.Step.{IsCommand}
 use Rattle.fx_rules.specs.History.{Steps, IsLegal, after_entry, own}
-use Rattle.fx_rules.proofs.Senders.{bank-sender, command-place, sender-place}
-use Rattle.fx_rules.proofs.ListLemmas.{Each-append, Each-weaker, filter_cons_true, filter_cons_false}
+use Rattle.fx_rules.proofs.Senders.{suits-sender}
+use Rattle.fx_rules.proofs.ListLemmas.{Each-append, filter_cons_true, filter_cons_false}
 use Rattle.fx_chronicle.specs.Faces.{Witness, witness}
 use Rattle.fx_desk.specs.Submitting.{IsWholeOf}
+use Rattle.fx_desk.specs.Passes.{sender_at, place_among}
 use Rattle.fx_desk.specs.Streams.{stream_of, HasStreams}
+use Rattle.fx_desk.proofs.Places.{some-senders, sender-or-not, sender-there, place-within}
 use Rattle.gateway_workers.specs.declared.lane.Lane.{Lane}
 use Rattle.gateway_workers.specs.Lanes.{IsReadyLane, LaneRan, IsDone}
 use Rattle.threaded_run.proofs.Making.{AreFilledTo}
@@ -43,20 +45,20 @@ pub no_lane : Lane (Witness Entry)
 no_lane = record { pass = witness 0 []; bank = 0; sent = 0; stream = []; done = 0; stopped = None }
 
 -- who is no sender of the session has no entry, and sends nothing
-own_none : (h : Header) (S : State) (bank : ℕ) (entries : List Entry) → IsSession h → sender_places h ≤ bank → Steps h S entries → own bank entries ≡ []
-own_none h S bank [] session beyond steps = refl
-own_none h S bank (e ∷ es) session beyond steps =
+own_none : (h : Header) (S : State) (bank : ℕ) (entries : List Entry) → (IsSender h bank → ⊥) → Steps h S entries → own bank entries ≡ []
+own_none h S bank [] none steps = refl
+own_none h S bank (e ∷ es) none steps =
     elim (cases_Bool (eqb e.bank bank)) [
-      | inl is ↦ absurd (omega (arith, beyond, command-place h e.bank e.command session steps.0.command, eqb-true e.bank bank is))
-      | inr other ↦ filter_cons_false (λ (d : Entry). eqb d.bank bank) e es other ∙ own_none h (after_entry S e) bank es session beyond steps.1
+      | inl is ↦ absurd (none (subst (IsSender h) (eqb-true e.bank bank is) (suits-sender h e.bank e.command steps.0.command.sends)))
+      | inr other ↦ filter_cons_false (λ (d : Entry). eqb d.bank bank) e es other ∙ own_none h (after_entry S e) bank es none steps.1
     ]
 
-stream_none : (h : Header) (bank : ℕ) (sent : List Sent) → IsSession h → sender_places h ≤ bank → Each (IsSentOf h) sent → stream_of bank sent ≡ []
-stream_none h bank [] session beyond valid = refl
-stream_none h bank (s ∷ sent) session beyond valid =
+stream_none : (h : Header) (bank : ℕ) (sent : List Sent) → (IsSender h bank → ⊥) → Each (IsSentOf h) sent → stream_of bank sent ≡ []
+stream_none h bank [] none valid = refl
+stream_none h bank (s ∷ sent) none valid =
     elim (cases_Bool (eqb s.bank bank)) [
-      | inl is ↦ absurd (omega (arith, beyond, command-place h s.bank s.command session valid.0.command, eqb-true s.bank bank is))
-      | inr other ↦ ap (map (λ (t : Sent). t.command)) (filter_cons_false (λ (t : Sent). eqb t.bank bank) s sent other) ∙ stream_none h bank sent session beyond valid.1
+      | inl is ↦ absurd (none (subst (IsSender h) (eqb-true s.bank bank is) (suits-sender h s.bank s.command valid.0.command.sends)))
+      | inr other ↦ ap (map (λ (t : Sent). t.command)) (filter_cons_false (λ (t : Sent). eqb t.bank bank) s sent other) ∙ stream_none h bank sent none valid.1
     ]
 
 abbrev pub key_of : Witness Entry → ℕ
@@ -80,14 +82,16 @@ own_stream bank sent lane history is whole =
 pub streams-of : (h : Header) (sent : List Sent) (lanes : List (Lane (Witness Entry))) (history : List Entry) → IsLegal h history → HaveServed h sent lanes
     → ((place : ℕ) (lane : Lane (Witness Entry)) → slice_get lanes place ≡ Some lane → IsWholeOf lane.pass.key lane.pass.seen (mine_of lane.pass) history) → HasStreams sent history
 streams-of h sent lanes history legal served whole = λ bank.
-    elim (cases_lt bank (sender_places h)) [
-      | inl below ↦
-          let lane : Lane (Witness Entry) = get_or lanes bank no_lane in
-          let here : slice_get lanes bank ≡ Some lane = slice_get-get_or lanes bank no_lane (omega (arith, below, served.all)) in
-          own_stream bank sent lane history (served.each bank lane here) (whole bank lane here)
-      | inr beyond ↦
-          ap (map (λ (e : Entry). e.command)) (own_none h (opening h) bank history legal.session beyond legal.steps)
-          ∙ sym (stream_none h bank sent served.session beyond served.valid)
+    elim (sender-or-not h bank) [
+      | inl sends ↦
+          let place : ℕ = place_among (length (senders h)) bank in
+          let lane : Lane (Witness Entry) = get_or lanes place no_lane in
+          let here : slice_get lanes place ≡ Some lane = slice_get-get_or lanes place no_lane (omega (arith, place-within h bank served.session, served.all)) in
+          let its : IsLaneOf bank sent lane = subst (λ (b : ℕ). IsLaneOf b sent lane) (sender-there h bank served.session sends) (served.each place lane here) in
+          own_stream bank sent lane history its (whole place lane here)
+      | inr none ↦
+          ap (map (λ (e : Entry). e.command)) (own_none h (opening h) bank history none legal.steps)
+          ∙ sym (stream_none h bank sent none served.valid)
     ]
 
 -- what holds of the passes of lanes holds of each
@@ -100,11 +104,6 @@ each-lane P lanes passes passes_are holds place lane is =
     holds lane.pass (subst (Among lane.pass) (sym passes_are) (among_mapped (λ (l : Lane (Witness Entry)). l.pass) lanes lane among))
 
 -- ---- the lanes of a round as they begin
-
--- each sender of what is to be served has a lane
-pub senders-below : (h : Header) (banks : ℕ) (lanes : List (Lane (Witness Entry))) (more : List Sent) → banks ≡ length lanes → CanServe h lanes more → Each (λ (s : Sent). s.bank < banks) more
-senders-below h banks lanes more banks_is can =
-    Each-weaker (IsSentOf h) (λ (s : Sent). s.bank < banks) (λ s is. omega (arith, banks_is, can.served.all, command-place h s.bank s.command can.served.session is.command)) more can.valid
 
 may_send : (h : Header) (bank : ℕ) (sent : List Sent) → Each (IsSentOf h) sent → Each (IsCommand h bank) (stream_of bank sent)
 may_send h bank [] valid = tt
@@ -139,34 +138,28 @@ ready_lane h bank sent more lane is valid few =
       numbers = omega (arith, few, is.counted, as_many, stream_shorter bank sent, stream_shorter bank more);
     }
 
-pub ready-lanes : (h : Header) (more : List Sent) (was now : List (Lane (Witness Entry))) → CanServe h was more → AreFilled more was now → All (IsReadyLane h key_of mine_of) now
+pub ready-lanes : (h : Header) (more : List Sent) (was now : List (Lane (Witness Entry))) → CanServe h was more → AreFilled h more was now → All (IsReadyLane h key_of mine_of) now
 ready-lanes h more was now can filled = λ k d within.
     let within' : k < length was = omega (arith, within, filled.long) in
     let lane : Lane (Witness Entry) = get_or was k d in
     let there : slice_get was k ≡ Some lane = slice_get-get_or was k d within' in
-    let next : slice_get now k ≡ Some (next_lane lane (stream_of k more)) = filled.each k lane there in
-    subst (IsReadyLane h key_of mine_of) (sym (get_or_from_slice_get now k (next_lane lane (stream_of k more)) d next))
-    (ready_lane h k can.sent more lane (can.served.each k lane there) can.valid can.few)
+    let next : slice_get now k ≡ Some (next_lane lane (stream_of (sender_at h k) more)) = filled.each k lane there in
+    subst (IsReadyLane h key_of mine_of) (sym (get_or_from_slice_get now k (next_lane lane (stream_of (sender_at h k) more)) d next))
+    (ready_lane h (sender_at h k) can.sent more lane (can.served.each k lane there) can.valid can.few)
 
 -- the numbers of a lane's round fit
-pub next-numbers : (h : Header) (more : List Sent) (was now : List (Lane (Witness Entry))) (n : ℕ) (d : Lane (Witness Entry)) → CanServe h was more → AreFilledTo more was now n → n < length now
+pub next-numbers : (h : Header) (more : List Sent) (was now : List (Lane (Witness Entry))) (n : ℕ) (d : Lane (Witness Entry)) → CanServe h was more → AreFilledTo h more was now n → n < length now
     → (get_or now n d).sent + (get_or now n d).done < 2 ^ 32
 next-numbers h more was now n d can filled within =
     let lane : Lane (Witness Entry) = get_or was n d in
     let there : slice_get was n ≡ Some lane = slice_get-get_or was n d (omega (arith, within, filled.long)) in
     let lane_is : get_or now n d ≡ lane = get_or_from_slice_get now n lane d (filled.to_come n lane (omega arith) there) in
     let its = can.served.each n lane there in
-    let as_many : length (mine_of lane.pass) ≡ length (stream_of n can.sent) = sym (length-map (mine_of lane.pass) (λ (e : Entry). e.command)) ∙ ap (λ (cs : List Command). length cs) its.commands in
-    subst (λ (l : Lane (Witness Entry)). l.sent + l.done < 2 ^ 32) (sym lane_is) (omega (arith, its.counted, as_many, stream_shorter n can.sent, can.few))
+    let as_many : length (mine_of lane.pass) ≡ length (stream_of (sender_at h n) can.sent) = sym (length-map (mine_of lane.pass) (λ (e : Entry). e.command)) ∙ ap (λ (cs : List Command). length cs) its.commands in
+    subst (λ (l : Lane (Witness Entry)). l.sent + l.done < 2 ^ 32) (sym lane_is) (omega (arith, its.counted, as_many, stream_shorter (sender_at h n) can.sent, can.few))
 
--- the first bank has a place
-pub some-places : (h : Header) → IsSession h → 0 < sender_places h
-some-places h session =
-    let first : 0 < bank_count h = omega (arith, session.banks_least) in
-    sender-place h 0 session (bank-sender h 0 first)
-
-pub some-lanes : (h : Header) (more : List Sent) (was now : List (Lane (Witness Entry))) → CanServe h was more → AreFilled more was now → 0 < length now
-some-lanes h more was now can filled = omega (arith, filled.long, can.served.all, some-places h can.served.session)
+pub some-lanes : (h : Header) (more : List Sent) (was now : List (Lane (Witness Entry))) → CanServe h was more → AreFilled h more was now → 0 < length now
+some-lanes h more was now can filled = omega (arith, filled.long, can.served.all, some-senders h can.served.session)
 
 -- ---- the lanes of a round that is done
 
@@ -192,7 +185,7 @@ ran_lane h bank sent more lane now is ran done =
           ∙ ap₂ (λ (front back : List Command). front ++ back) is.commands new ∙ sym (stream_joined bank sent more);
     }
 
-pub served-on : (h : Header) (so_far more : List Sent) (was mid now : List (Lane (Witness Entry))) → HaveServed h so_far was → Each (IsSentOf h) more → AreFilled more was mid → AllZip (LaneRan h key_of seen_by mine_of) mid now → All IsDone now
+pub served-on : (h : Header) (so_far more : List Sent) (was mid now : List (Lane (Witness Entry))) → HaveServed h so_far was → Each (IsSentOf h) more → AreFilled h more was mid → AllZip (LaneRan h key_of seen_by mine_of) mid now → All IsDone now
     → HaveServed h (so_far ++ more) now
 served-on h so_far more was mid now served valid filled ran done =
     let long : length mid ≡ length now = length_all_zip (LaneRan h key_of seen_by mine_of) mid now ran in
@@ -205,10 +198,10 @@ served-on h so_far more was mid now served valid filled ran done =
           let within' : k < length was = omega (arith, within, long, filled.long) in
           let old : Lane (Witness Entry) = get_or was k lane in
           let there : slice_get was k ≡ Some old = slice_get-get_or was k lane within' in
-          let next : get_or mid k lane ≡ next_lane old (stream_of k more) = get_or_from_slice_get mid k (next_lane old (stream_of k more)) lane (filled.each k old there) in
+          let next : get_or mid k lane ≡ next_lane old (stream_of (sender_at h k) more) = get_or_from_slice_get mid k (next_lane old (stream_of (sender_at h k) more)) lane (filled.each k old there) in
           let here : get_or now k lane ≡ lane = get_or_from_slice_get now k lane lane is in
           let its = AllZip-get_or (LaneRan h key_of seen_by mine_of) mid now k lane lane ran (omega (arith, within, long)) in
-          ran_lane h k so_far more old lane (served.each k old there)
+          ran_lane h (sender_at h k) so_far more old lane (served.each k old there)
           (subst (λ (l : Lane (Witness Entry)). LaneRan h key_of seen_by mine_of l lane) next (subst (λ (l : Lane (Witness Entry)). LaneRan h key_of seen_by mine_of (get_or mid k lane) l) here its))
           (subst IsDone here (All-get_or IsDone now k lane within done));
     }
@@ -246,7 +239,7 @@ ran_part h bank sent more lane now is ran =
           ∙ ap₂ (λ (front back : List Command). front ++ back) is.commands ran.in_order;
     }
 
-pub served-part : (h : Header) (so_far more : List Sent) (was mid now : List (Lane (Witness Entry))) → HaveServed h so_far was → AreFilled more was mid → AllZip (LaneRan h key_of seen_by mine_of) mid now
+pub served-part : (h : Header) (so_far more : List Sent) (was mid now : List (Lane (Witness Entry))) → HaveServed h so_far was → AreFilled h more was mid → AllZip (LaneRan h key_of seen_by mine_of) mid now
     → HaveServedPart h so_far more now
 served-part h so_far more was mid now served filled ran =
     let long : length mid ≡ length now = length_all_zip (LaneRan h key_of seen_by mine_of) mid now ran in
@@ -256,10 +249,10 @@ served-part h so_far more was mid now served filled ran =
           let within : k < length now = slice_get_within now k lane is in
           let old : Lane (Witness Entry) = get_or was k lane in
           let there : slice_get was k ≡ Some old = slice_get-get_or was k lane (omega (arith, within, long, filled.long)) in
-          let next : get_or mid k lane ≡ next_lane old (stream_of k more) = get_or_from_slice_get mid k (next_lane old (stream_of k more)) lane (filled.each k old there) in
+          let next : get_or mid k lane ≡ next_lane old (stream_of (sender_at h k) more) = get_or_from_slice_get mid k (next_lane old (stream_of (sender_at h k) more)) lane (filled.each k old there) in
           let here : get_or now k lane ≡ lane = get_or_from_slice_get now k lane lane is in
           let its = AllZip-get_or (LaneRan h key_of seen_by mine_of) mid now k lane lane ran (omega (arith, within, long)) in
-          ran_part h k so_far more old lane (served.each k old there)
+          ran_part h (sender_at h k) so_far more old lane (served.each k old there)
           (subst (λ (l : Lane (Witness Entry)). LaneRan h key_of seen_by mine_of l lane) next (subst (λ (l : Lane (Witness Entry)). LaneRan h key_of seen_by mine_of (get_or mid k lane) l) here its));
     }
 
@@ -274,7 +267,7 @@ none-part h so_far more was now served same = subst (HaveServedPart h so_far mor
         key_is = its.key_is;
         counted = its.counted;
         count = 0;
-        commands = its.commands ∙ sym (append-nil (stream_of k so_far));
+        commands = its.commands ∙ sym (append-nil (stream_of (sender_at h k) so_far));
       };
 })
 

@@ -17,13 +17,15 @@ use Rattle.fx_rules.proofs.ListLemmas.{Each-append, Each-weaker}
 use Rattle.fx_chronicle.specs.Faces.{Witness}
 use Rattle.fx_chronicle.proofs.Prefixes.{prefix_self, prefix_trans}
 use Rattle.fx_desk.specs.Submitting.{IsWholeOf}
+use Rattle.fx_desk.specs.Passes.{sender_at}
 use Rattle.fx_desk.specs.Streams.{stream_of, HasStreams}
 use Rattle.fx_desk.proofs.Owning.{own-append}
+use Rattle.fx_desk.proofs.Places.{some-senders}
 use Rattle.fx_desk.proofs.Streams.{streams-length}
 use Rattle.gateway_workers.specs.declared.lane.Lane.{Lane}
 use Rattle.gateway_workers.specs.Lanes.{LaneRan}
 use Rattle.threaded_run.proofs.Making.{some_is, set_here, set_there, Each-at}
-use Rattle.threaded_run.proofs.Closing.{no_lane, came_back, key_of, seen_by, mine_of, some-places, streams-of}
+use Rattle.threaded_run.proofs.Closing.{no_lane, came_back, key_of, seen_by, mine_of, streams-of}
 use Rattle.threaded_run.specs.Lanes.{HaveServed, IsLaneOf}
 use Rattle.threaded_run.specs.Gathering.{HasSeen, HaveGathered, HaveGatheredAll}
 use Rattle.threaded_run.specs.inside.Lanes.{AreFilled, next_lane}
@@ -165,7 +167,7 @@ still-served h sent was now served each = record {
   session = served.session;
   valid = served.valid;
   all = each.long ∙ served.all;
-  each = λ place lane is. let old = each-made IsStill was now place lane each is in still_lane place sent old.0 lane (served.each place old.0 old.1) old.2;
+  each = λ place lane is. let old = each-made IsStill was now place lane each is in still_lane (sender_at h place) sent old.0 lane (served.each place old.0 old.1) old.2;
 }
 
 -- ---- all is gathered
@@ -188,7 +190,7 @@ gathered-served h sent history was now served gathered = still-served h sent was
 
 -- the first lane is one
 pub some-lane : (h : Header) (sent : List Sent) (lanes : List (Lane (Witness Entry))) → HaveServed h sent lanes → 0 < length lanes
-some-lane h sent lanes served = omega (arith, served.all, some-places h served.session)
+some-lane h sent lanes served = omega (arith, served.all, some-senders h served.session)
 
 pub gathered-all : (h : Header) (sent : List Sent) (so_far history : List Entry) (count : ℕ) (was now : List (Lane (Witness Entry))) → HaveServed h sent was → HaveGathered so_far count was → AreGathered h history was now
     → (so_far ++ drop count history ≡ history) × HaveGatheredAll h sent history (length history) now
@@ -251,7 +253,7 @@ ran_seen h so_far was mid now seen bank pass_is bank_is ran = record {
   ];
 }
 
-pub gathered-ran : (h : Header) (sent more : List Sent) (so_far : List Entry) (count : ℕ) (was mid now : List (Lane (Witness Entry))) → HaveServed h sent was → HaveGathered so_far count was → AreFilled more was mid → AllZip (LaneRan h key_of seen_by mine_of) mid now
+pub gathered-ran : (h : Header) (sent more : List Sent) (so_far : List Entry) (count : ℕ) (was mid now : List (Lane (Witness Entry))) → HaveServed h sent was → HaveGathered so_far count was → AreFilled h more was mid → AllZip (LaneRan h key_of seen_by mine_of) mid now
     → HaveGathered so_far count now
 gathered-ran h sent more so_far count was mid now served gathered filled ran =
     let long : length mid ≡ length now = length_all_zip (LaneRan h key_of seen_by mine_of) mid now ran in
@@ -261,7 +263,7 @@ gathered-ran h sent more so_far count was mid now served gathered filled ran =
           let within : k < length now = slice_get_within now k lane is in
           let old : Lane (Witness Entry) = get_or was k lane in
           let there : slice_get was k ≡ Some old = slice_get-get_or was k lane (omega (arith, within, long, filled.long)) in
-          let next : get_or mid k lane ≡ next_lane old (stream_of k more) = get_or_from_slice_get mid k (next_lane old (stream_of k more)) lane (filled.each k old there) in
+          let next : get_or mid k lane ≡ next_lane old (stream_of (sender_at h k) more) = get_or_from_slice_get mid k (next_lane old (stream_of (sender_at h k) more)) lane (filled.each k old there) in
           let here : get_or now k lane ≡ lane = get_or_from_slice_get now k lane lane is in
           let its = AllZip-get_or (LaneRan h key_of seen_by mine_of) mid now k lane lane ran (omega (arith, within, long)) in
           let lane_is = served.each k old there in

@@ -12,18 +12,20 @@ use Rattle.fx_rules.specs.declared.command.Sent.{Sent}
 use Rattle.fx_rules.specs.declared.outcome.Entry.{Entry}
 use Rattle.fx_rules.specs.declared.outcome.Outcome.{Outcome}
 use Rattle.fx_rules.specs.Lists.{Each}
-use Rattle.fx_rules.specs.Session.{Header}
+use Rattle.fx_rules.specs.Session.{Header, senders}
 use Rattle.fx_rules.specs.Sending.{IsSentOf, sent_by}
 use Rattle.fx_rules.specs.State.{State, opening}
 use Rattle.fx_rules.specs.Step.{IsCommand}
 use Rattle.fx_rules.specs.History.{Steps, IsLegal, after_entry, own}
 use Rattle.fx_rules.proofs.Continuing.{histories_agree}
 use Rattle.fx_rules.proofs.ListLemmas.{Each-append}
-use Rattle.fx_rules.proofs.Senders.{command-place}
+use Rattle.fx_rules.proofs.Senders.{suits-sender}
 use Rattle.fx_chronicle.specs.Faces.{Witness}
 use Rattle.fx_chronicle.proofs.Prefixes.{prefix_length, prefix_trans}
 use Rattle.fx_desk.specs.Submitting.{Submitted, next_own}
+use Rattle.fx_desk.specs.Passes.{sender_at, place_among}
 use Rattle.fx_desk.specs.Streams.{stream_of}
+use Rattle.fx_desk.proofs.Places.{sender-there, place-back}
 use Rattle.fx_desk.proofs.Streams.{streams-length}
 use Rattle.gateway_workers.specs.declared.lane.Lane.{Lane}
 use Rattle.threaded_run.proofs.Making.{Each-at, own_pushed, other_pushed, set_here, set_there}
@@ -60,9 +62,9 @@ resubmitted-none h note lanes d after served gathered after_is note_is =
       exact = λ none. ap (map sent_by) (nil_from_length note (omega (arith, none)));
     })
 
--- the lane of a bank that has submitted one command more
-next_lane_of : (place : ℕ) (sent : List Sent) (s : Sent) (note : List Entry) (was now : Lane (Witness Entry)) → s.bank ≡ place → IsLaneOf place sent was → HasSubmitted note s.command was now → IsLaneOf place (sent ++ s ∷ []) now
-next_lane_of place sent s note was now bank is submitted =
+-- the lane of a sender that has submitted one command more
+next_lane_of : (sender : ℕ) (sent : List Sent) (s : Sent) (note : List Entry) (was now : Lane (Witness Entry)) → s.bank ≡ sender → IsLaneOf sender sent was → HasSubmitted note s.command was now → IsLaneOf sender (sent ++ s ∷ []) now
+next_lane_of sender sent s note was now its is submitted =
     let sent_is : now.sent ≡ was.sent = ap (λ (l : Lane (Witness Entry)). l.sent) submitted.same_lane in
     let done_is : now.done ≡ was.done + 1 = ap (λ (l : Lane (Witness Entry)). l.done) submitted.same_lane in
     let mine : List Entry = own was.pass.key was.pass.met in
@@ -74,23 +76,23 @@ next_lane_of place sent s note was now bank is submitted =
       commands = ap (map (λ (e : Entry). e.command)) submitted.mine
           ∙ map-append (λ (e : Entry). e.command) mine one
           ∙ ap (λ (cs : List Command). cs ++ submitted.entry.command ∷ []) is.commands
-          ∙ ap (λ (c : Command). stream_of place sent ++ c ∷ []) submitted.command_is
-          ∙ sym (own_pushed place sent s bank);
+          ∙ ap (λ (c : Command). stream_of sender sent ++ c ∷ []) submitted.command_is
+          ∙ sym (own_pushed sender sent s its);
     }
 
-other_lane_of : (place : ℕ) (sent : List Sent) (s : Sent) (lane : Lane (Witness Entry)) → (s.bank ≡ place → ⊥) → IsLaneOf place sent lane → IsLaneOf place (sent ++ s ∷ []) lane
-other_lane_of place sent s lane other is = record {
+other_lane_of : (sender : ℕ) (sent : List Sent) (s : Sent) (lane : Lane (Witness Entry)) → (s.bank ≡ sender → ⊥) → IsLaneOf sender sent lane → IsLaneOf sender (sent ++ s ∷ []) lane
+other_lane_of sender sent s lane other is = record {
   bank_is = is.bank_is;
   key_is = is.key_is;
   counted = is.counted;
-  commands = is.commands ∙ sym (other_pushed place sent s other);
+  commands = is.commands ∙ sym (other_pushed sender sent s other);
 }
 
 sent_same : (a b : Entry) → a.bank ≡ b.bank → a.command ≡ b.command → sent_by a ≡ sent_by b
 sent_same a b bank command = cc
 
 module _ (h : Header) (before note : List Entry) (e : Entry) (lanes : List (Lane (Witness Entry))) (place : ℕ) (lane new : Lane (Witness Entry))
-    (re : AreResubmitted h before note lanes) (may : IsCommand h e.bank e.command) (place_is : place ≡ e.bank) (within : place < length lanes) (lane_is : lane ≡ get_or lanes place lane) (submitted : HasSubmitted note e.command lane new) where
+    (re : AreResubmitted h before note lanes) (may : IsCommand h e.bank e.command) (place_is : place ≡ place_among (length lanes) e.bank) (within : place < length lanes) (lane_is : lane ≡ get_or lanes place lane) (submitted : HasSubmitted note e.command lane new) where
   here : slice_get lanes place ≡ Some lane
   here = slice_get_read lanes (length lanes) place lane refl within lane_is
 
@@ -100,8 +102,14 @@ module _ (h : Header) (before note : List Entry) (e : Entry) (lanes : List (Lane
   abbrev sent : List Sent
   sent = map sent_by before
 
-  its : IsLaneOf place sent lane
+  its : IsLaneOf (sender_at h place) sent lane
   its = re.served.each place lane here
+
+  its_place : place ≡ place_among (length (senders h)) e.bank
+  its_place = place_is ∙ ap (λ n. place_among n e.bank) re.served.all
+
+  sender : sender_at h place ≡ e.bank
+  sender = ap (sender_at h) its_place ∙ sender-there h e.bank re.served.session (suits-sender h e.bank e.command may.sends)
 
   -- a lane is the one that submitted, or another
   at_each : (P : ℕ → Lane (Witness Entry) → Type 0) → P place new → ((k : ℕ) (other : Lane (Witness Entry)) → (k ≡ place → ⊥) → slice_get lanes k ≡ Some other → P k other)
@@ -118,9 +126,13 @@ module _ (h : Header) (before note : List Entry) (e : Entry) (lanes : List (Lane
     session = re.served.session;
     valid = Each-append (IsSentOf h) sent (sent_by e ∷ []) re.served.valid (record { command = may }, tt);
     all = length-set lanes place new ∙ re.served.all;
-    each = at_each (λ (k : ℕ) (l : Lane (Witness Entry)). IsLaneOf k (sent ++ sent_by e ∷ []) l)
-        (next_lane_of place sent (sent_by e) note lane new (sym place_is) its submitted)
-        (λ k other apart is. other_lane_of k sent (sent_by e) other (λ same. apart (sym same ∙ sym place_is)) (re.served.each k other is));
+    each = at_each (λ (k : ℕ) (l : Lane (Witness Entry)). IsLaneOf (sender_at h k) (sent ++ sent_by e ∷ []) l)
+        (next_lane_of (sender_at h place) sent (sent_by e) note lane new (sym sender) its submitted)
+        (λ k other apart is.
+        let below : k < length (senders h) = omega (arith, slice_get_within lanes k other is, re.served.all) in
+        other_lane_of (sender_at h k) sent (sent_by e) other
+        (λ also. apart (sym (place-back h k re.served.session below) ∙ ap (place_among (length (senders h))) (sym also) ∙ sym its_place))
+        (re.served.each k other is));
   }
 
   gathered_next : HaveGathered [] 0 after
@@ -149,7 +161,7 @@ module _ (h : Header) (before note : List Entry) (e : Entry) (lanes : List (Lane
       ∙ map-append sent_by submitted.before (submitted.entry ∷ [])
       ∙ ap (λ (es : List Entry). map sent_by es ++ sent_by submitted.entry ∷ []) same
       ∙ ap (λ (ss : List Sent). ss ++ sent_by submitted.entry ∷ []) (re.exact short)
-      ∙ ap (λ (s : Sent). sent ++ s ∷ []) (sent_same submitted.entry e (submitted.sender ∙ its.key_is ∙ place_is) submitted.command_is)
+      ∙ ap (λ (s : Sent). sent ++ s ∷ []) (sent_same submitted.entry e (submitted.sender ∙ its.key_is ∙ sender) submitted.command_is)
 
   pub resubmitted-one : AreResubmitted h (before ++ e ∷ []) new.pass.seen after
   resubmitted-one =
@@ -168,7 +180,7 @@ module _ (h : Header) (before note : List Entry) (e : Entry) (lanes : List (Lane
 
 -- the next entry of a legal history is submitted
 pub resubmitted-next : (h : Header) (entries note told : List Entry) (n place : ℕ) (e : Entry) (lanes : List (Lane (Witness Entry))) (d new : Lane (Witness Entry)) → IsLegal h entries → n < length entries → e ≡ get_or entries n e
-    → AreResubmitted h (take n entries) note lanes → place ≡ e.bank → place < length lanes → HasSubmitted note e.command (get_or lanes place d) new → told ≡ new.pass.seen → AreResubmitted h (take (n + 1) entries) told (set lanes place new)
+    → AreResubmitted h (take n entries) note lanes → place ≡ place_among (length lanes) e.bank → place < length lanes → HasSubmitted note e.command (get_or lanes place d) new → told ≡ new.pass.seen → AreResubmitted h (take (n + 1) entries) told (set lanes place new)
 resubmitted-next h entries note told n place e lanes d new legal within e_is re place_is place_within submitted told_is =
     let lane : Lane (Witness Entry) = get_or lanes place d in
     let lane_is : lane ≡ get_or lanes place lane = sym (get_or_from_slice_get lanes place lane lane (slice_get-get_or lanes place d place_within)) in
@@ -180,18 +192,23 @@ resubmitted-next h entries note told n place e lanes d new legal within e_is re 
 -- ---- what the next submit asks for
 
 module _ (h : Header) (entries note : List Entry) (n : ℕ) (e : Entry) (lanes : List (Lane (Witness Entry))) (legal : IsLegal h entries) (within : n < length entries) (e_is : e ≡ get_or entries n e) (re : AreResubmitted h (take n entries) note lanes) where
-  pub place-within : e.bank < length lanes
-  place-within = omega (arith, command-place h e.bank e.command legal.session (next-may h entries n e legal within e_is), re.served.all)
-
-  module _ (place : ℕ) (d : Lane (Witness Entry)) (place_is : place ≡ e.bank) where
+  module _ (place : ℕ) (d : Lane (Witness Entry)) (place_is : place ≡ place_among (length lanes) e.bank) (there : place < length lanes) where
     abbrev lane : Lane (Witness Entry)
     lane = get_or lanes place d
 
-    lane_of : IsLaneOf place (map sent_by (take n entries)) lane
-    lane_of = re.served.each place lane (slice_get-get_or lanes place d (omega (arith, place-within, place_is)))
+    may : IsCommand h e.bank e.command
+    may = next-may h entries n e legal within e_is
+
+    sender_is : sender_at h place ≡ e.bank
+    sender_is =
+        ap (sender_at h) (place_is ∙ ap (λ count. place_among count e.bank) re.served.all)
+        ∙ sender-there h e.bank re.served.session (suits-sender h e.bank e.command may.sends)
+
+    lane_of : IsLaneOf (sender_at h place) (map sent_by (take n entries)) lane
+    lane_of = re.served.each place lane (slice_get-get_or lanes place d there)
 
     pub next-command : IsCommand h lane.pass.key e.command
-    next-command = subst (λ (k : ℕ). IsCommand h k e.command) (sym (lane_of.key_is ∙ place_is)) (next-may h entries n e legal within e_is)
+    next-command = subst (λ (k : ℕ). IsCommand h k e.command) (sym (lane_of.key_is ∙ sender_is)) may
 
     pub next-counted : lane.sent + lane.done ≡ length (own lane.pass.key lane.pass.met)
     next-counted = lane_of.counted
@@ -199,7 +216,7 @@ module _ (h : Header) (entries note : List Entry) (n : ℕ) (e : Entry) (lanes :
     pub next-few : length entries < 2 ^ 32 → length (own lane.pass.key lane.pass.met) < 2 ^ 32 - 1
     next-few few =
         let as_many = sym (length-map (own lane.pass.key lane.pass.met) (λ (x : Entry). x.command)) ∙ ap (λ (cs : List Command). length cs) lane_of.commands in
-        omega (arith, few, within, as_many, stream_shorter place (map sent_by (take n entries)), length-map (take n entries) sent_by, length-take n entries)
+        omega (arith, few, within, as_many, stream_shorter (sender_at h place) (map sent_by (take n entries)), length-map (take n entries) sent_by, length-take n entries)
 
 -- a lane whose pass was told, and then submitted
 pub submitted-lane : (h : Header) (note : List Entry) (command : Command) (was now : Lane (Witness Entry)) (heard : Witness Entry) (outcome : Outcome) → heard.key ≡ was.pass.key → heard.met ≡ was.pass.met → IsPrefix note heard.seen

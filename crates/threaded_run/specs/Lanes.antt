@@ -1,42 +1,43 @@
--- The lanes of a session's banks, from round to round.
+-- The lanes of a session's senders, from round to round.
 use Rattle.std.specs.Prelude.{ℕ, ◌≡◌, ◌+◌, ◌<◌, ◌^◌, List, ◌++◌, length, map, take, slice_get, Some}
 use Rattle.fx_rules.specs.declared.command.Sent.{Sent}
 use Rattle.fx_rules.specs.declared.outcome.Entry.{Entry}
 use Rattle.fx_rules.specs.Lists.{Each}
-use Rattle.fx_rules.specs.Session.{Header, IsSession, sender_places}
+use Rattle.fx_rules.specs.Session.{Header, IsSession, senders}
 use Rattle.fx_rules.specs.Sending.{IsSentOf}
 use Rattle.fx_rules.specs.History.{own}
 use Rattle.fx_chronicle.specs.Faces.{Witness}
+use Rattle.fx_desk.specs.Passes.{sender_at}
 use Rattle.fx_desk.specs.Streams.{stream_of}
 use Rattle.gateway_workers.specs.declared.lane.Lane.{Lane}
 
--- a bank's lane: its pass has submitted just what the bank was to send of all this, in its order
-pub record IsLaneOf (bank : ℕ) (sent : List Sent) (lane : Lane (Witness Entry)) : Type 0 where
-  pub bank_is : lane.bank ≡ bank
-  pub key_is : lane.pass.key ≡ bank
+-- a sender's lane: its pass has submitted just what the sender was to send of all this, in its order
+pub record IsLaneOf (sender : ℕ) (sent : List Sent) (lane : Lane (Witness Entry)) : Type 0 where
+  pub bank_is : lane.bank ≡ sender
+  pub key_is : lane.pass.key ≡ sender
   pub counted : lane.sent + lane.done ≡ length (own lane.pass.key lane.pass.met)
-  pub commands : map (λ e. e.command) (own lane.pass.key lane.pass.met) ≡ stream_of bank sent
+  pub commands : map (λ e. e.command) (own lane.pass.key lane.pass.met) ≡ stream_of sender sent
 
--- the lanes of a session's banks, in order, which have served these commands of them
+-- the lanes of a session's senders, in order, which have served these commands of them
 pub record HaveServed (h : Header) (sent : List Sent) (lanes : List (Lane (Witness Entry))) : Type 0 where
   pub session : IsSession h
   pub valid : Each (IsSentOf h) sent
-  pub all : length lanes ≡ sender_places h
-  pub each : (place : ℕ) (lane : Lane (Witness Entry)) → slice_get lanes place ≡ Some lane → IsLaneOf place sent lane
+  pub all : length lanes ≡ length (senders h)
+  pub each : (place : ℕ) (lane : Lane (Witness Entry)) → slice_get lanes place ≡ Some lane → IsLaneOf (sender_at h place) sent lane
 
--- a bank's lane after a round that came to no end: its pass has submitted what the bank was to send before the round, and of
+-- a sender's lane after a round that came to no end: its pass has submitted what the sender was to send before the round, and of
 -- what it was to send in the round the first so many
-pub record IsPartOf (bank : ℕ) (sent more : List Sent) (lane : Lane (Witness Entry)) : Type 0 where
-  pub bank_is : lane.bank ≡ bank
-  pub key_is : lane.pass.key ≡ bank
+pub record IsPartOf (sender : ℕ) (sent more : List Sent) (lane : Lane (Witness Entry)) : Type 0 where
+  pub bank_is : lane.bank ≡ sender
+  pub key_is : lane.pass.key ≡ sender
   pub counted : lane.sent + lane.done ≡ length (own lane.pass.key lane.pass.met)
   pub count : ℕ
-  pub commands : map (λ e. e.command) (own lane.pass.key lane.pass.met) ≡ stream_of bank sent ++ take count (stream_of bank more)
+  pub commands : map (λ e. e.command) (own lane.pass.key lane.pass.met) ≡ stream_of sender sent ++ take count (stream_of sender more)
 
--- the lanes of a session's banks, in order, after such a round
+-- the lanes of a session's senders, in order, after such a round
 pub record HaveServedPart (h : Header) (sent more : List Sent) (lanes : List (Lane (Witness Entry))) : Type 0 where
-  pub all : length lanes ≡ sender_places h
-  pub each : (place : ℕ) (lane : Lane (Witness Entry)) → slice_get lanes place ≡ Some lane → IsPartOf place sent more lane
+  pub all : length lanes ≡ length (senders h)
+  pub each : (place : ℕ) (lane : Lane (Witness Entry)) → slice_get lanes place ≡ Some lane → IsPartOf (sender_at h place) sent more lane
 
 -- further commands can be served: their senders may send them, and there are numbers for them
 pub record CanServe (h : Header) (lanes : List (Lane (Witness Entry))) (more : List Sent) : Type 0 where

@@ -1,14 +1,15 @@
-ghost use Rattle.std.specs.Prelude.{◌≡◌, ◌<◌, [], map, IfOk, OnOk, OnErr};
+ghost use Rattle.std.specs.Prelude.{◌≡◌, [], map, length, IfOk, OnOk, OnErr};
 ghost use Rattle.fx_rules.specs.Lists.{Each};
-ghost use Rattle.fx_rules.specs.Session.{IsSession, sender_places};
-ghost use Rattle.fx_chronicle.specs.Faces.{AreNew};
+ghost use Rattle.fx_rules.specs.Session.{IsSession, senders};
+ghost use Rattle.fx_rules.specs.Sending.{IsSentOf};
+ghost use Rattle.fx_desk.specs.Passes.{new_passes};
 ghost use Rattle.threaded_run.specs.Lanes.{CanServe, HaveServed};
 ghost use Rattle.threaded_run.specs.Gathering.{HaveGathered};
 ghost use Rattle.threaded_run.specs.inside.Lanes.{AreFilled, AreStreams};
 
 use fx_amounts::Memory;
 use fx_chronicle::Naming;
-use fx_desk::Pass;
+use fx_desk::{Pass, place_among};
 use fx_rules::{Command, CommandList, Sent};
 use gateway_workers::Lane;
 use std::alloc::Global;
@@ -18,7 +19,7 @@ pub(crate) fn lanes_of<N: Naming>(
     alloc: Global,
     passes: Vec<Pass<N>>,
 ) -> Result<Vec<Lane<Pass<N>>>, Memory>
-    requires passes { AreNew (sender_places N.session) passes.items }
+    requires passes { passes.items ≡ new_passes N.session }
     requires session { IsSession N.session }
     ensures lanes { IfOk result (λ lanes. HaveServed N.session [] lanes.items) }
     ensures gathered { IfOk result (λ lanes. HaveGathered [] 0 lanes.items) }
@@ -37,17 +38,17 @@ pub(crate) fn lanes_of<N: Naming>(
     Ok(lanes)
 }
 
-/// Gives each lane what its bank sends in the next round.
+/// Gives each lane what its sender sends in the next round.
 pub(crate) fn fill_lanes<N: Naming>(
     alloc: Global,
     lanes: &mut [Lane<Pass<N>>],
     sent: &[Sent],
 ) -> Result<(), Memory>
     requires can_serve { CanServe N.session lanes.old sent.now }
-    ensures filled { OnOk result (AreFilled sent.now lanes.old lanes.new) }
+    ensures filled { OnOk result (AreFilled N.session sent.now lanes.old lanes.new) }
     ensures memory { OnErr result (lanes.new ≡ lanes.old) }
 {
-    let mut streams = streams_of(alloc, lanes.len(), sent)?.into_iter();
+    let mut streams = streams_of::<N>(alloc, lanes.len(), sent)?.into_iter();
     for lane in lanes.iter_mut() {
         let stream = streams.next().unwrap();
         lane.next_round(CommandList::from_vec(stream));
@@ -55,17 +56,23 @@ pub(crate) fn fill_lanes<N: Naming>(
     Ok(())
 }
 
-/// What each of so many banks sends, in its order.
-fn streams_of(alloc: Global, banks: usize, sent: &[Sent]) -> Result<Vec<Vec<Command>>, Memory>
-    requires senders { Each (λ s. s.bank < banks) sent.now }
-    ensures streams { IfOk result (λ streams. AreStreams banks sent.now streams.items) }
+/// What each sender of the session sends, in its order. They are so many.
+fn streams_of<N: Naming>(
+    alloc: Global,
+    count: usize,
+    sent: &[Sent],
+) -> Result<Vec<Vec<Command>>, Memory>
+    requires session { IsSession N.session }
+    requires count { count ≡ length (senders N.session) }
+    requires valid { Each (IsSentOf N.session) sent.now }
+    ensures streams { IfOk result (λ streams. AreStreams N.session count sent.now streams.items) }
 {
     let mut streams = Vec::new(alloc);
-    for _bank in 0..banks {
+    for _sender in 0..count {
         streams.push(Vec::new(alloc))?;
     }
     for next in sent {
-        let stream = &mut streams[next.bank.index()];
+        let stream = &mut streams[place_among(count, next.bank)];
         stream.push(next.command)?;
     }
     Ok(streams)

@@ -1,4 +1,4 @@
-//! A session's commands run on threads, round by round: one lane for each bank, in workers, at the host with a lock for each pair.
+//! A session's commands run on threads, round by round: one lane for each sender, in workers, at the host with a lock for each pair.
 #![tactic(auto)]
 
 mod gathering;

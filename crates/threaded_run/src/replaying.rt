@@ -9,13 +9,13 @@ ghost use Rattle.threaded_run.specs.inside.Gathering.{AreResubmitted, HasSubmitt
 
 use fx_amounts::Memory;
 use fx_chronicle::Naming;
-use fx_desk::{Desk, Note, Pass};
+use fx_desk::{Desk, Note, Pass, place_among};
 use fx_host::Host;
 use fx_rules::{Command, Entry, OpenGate};
 use gateway_workers::Lane;
 use std::sync::Wait;
 
-/// Submits the commands of entries in their order, each in its bank's lane, whose pass first learns a note of the pass before. The
+/// Submits the commands of entries in their order, each in its sender's lane, whose pass first learns a note of the pass before. The
 /// lanes have served nothing. After `Memory` the first so many are submitted.
 pub(crate) fn submit_again<N: Naming + Send, R: Wait>(
     rt: &R,
@@ -31,13 +31,14 @@ pub(crate) fn submit_again<N: Naming + Send, R: Wait>(
 {
     let mut note = lanes[0].pass.note();
     for entry in entries {
-        let lane = &mut lanes[entry.bank.index()];
+        let place = place_among(lanes.len(), entry.bank);
+        let lane = &mut lanes[place];
         note = submit_behind(rt, host, lane, note, &entry.command)?;
     }
     Ok(())
 }
 
-/// Submits the next command of the lane's bank, behind what the note tells and all that the pass had seen, and answers a note of
+/// Submits the next command of the lane's sender, behind what the note tells and all that the pass had seen, and answers a note of
 /// what the pass has then seen.
 fn submit_behind<N: Naming + Send, R: Wait>(
     rt: &R,

@@ -1,5 +1,5 @@
 -- The best prices of two banks, and the orders that cross the other bank's.
-use Rattle.std.specs.Prelude.{ℕ, ◌≡◌, ◌==◌, ◌&&◌, ◌||◌, ◌++◌, if◌then◌else◌, Bool, false, List, filter, Option, Some, None}
+use Rattle.std.specs.Prelude.{ℕ, ◌≡◌, ◌==◌, ◌&&◌, ◌||◌, ◌++◌, if◌then◌else◌, Bool, true, false, List, filter, Option, Some, None}
 use Rattle.std.specs.List.Sorted.{IsPermutation}
 use Rattle.fx_amounts.specs.Price.{crosses}
 use Rattle.fx_amounts.specs.Side.{opposite}
@@ -27,6 +27,17 @@ IsTop bank side orders (Some top) = (order : Resting) → IsOf bank side orders 
 pub record AreTops (bank : ℕ) (orders : List Resting) (tops : Tops) : Type 0 where
   pub buy : IsTop bank Buy orders tops.buy
   pub sell : IsTop bank Sell orders tops.sell
+
+-- the first price of a side is no better than the second: it rests behind it, or at it
+abbrev pub IsWithin : Side → Option ℕ → Option ℕ → Type 0
+IsWithin side None top = Unit {0}
+IsWithin side (Some price) None = ⊥
+IsWithin side (Some price) (Some top) = crosses side top price ≡ true
+
+-- no order is of a better price than the best one of its side
+pub record AreTopsOfAll (orders : List Resting) (tops : Tops) : Type 0 where
+  pub buy : (order : Resting) → Among order orders → order.side ≡ Buy → IsWithin Buy (Some order.price) tops.buy
+  pub sell : (order : Resting) → Among order orders → order.side ≡ Sell → IsWithin Sell (Some order.price) tops.sell
 
 -- the best price of a side
 abbrev pub top_of : Tops → Side → Option ℕ

@@ -10,9 +10,8 @@ use Rattle.day_report.specs.Trades.{lots_in}
 abbrev pub fills_in : ℕ → List Fill → List Fill
 fills_in pair fills = filter (λ fill. fill.pair == pair) fills
 
--- Fills of a session's day. Their lots fit: each lot uses a credit unit at least, use only rises, and between each two of
--- 64 banks it is at most the greatest limit, 10^15. So all sums fit: fills are no more than lots, a lot is at most 10^9
--- units of base and 10^18 of quote.
+-- Fills of a session's day. Their lots fit: no more is traded than was sent, and each of 65 senders sends fewer than 2^32 commands
+-- of at most 10^6 lots. So all sums fit: fills are no more than lots, a lot is at most 10^9 units of base and 10^18 of quote.
 pub record AreTrades (h : Header) (fills : List Fill) : Type 0 where
   pub session : IsSession h
   pub each : Each (IsTrade h) fills

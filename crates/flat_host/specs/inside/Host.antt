@@ -7,10 +7,8 @@ use Rattle.flat_host.specs.declared.host.FlatHost.TheInside.{Inside}
 
 abbrev pub flat_state_of : Inside → FlatState
 flat_state_of a = record {
-  banks = a.banks;
   orders = a.orders.items;
-  limits = a.limits.items;
-  uses = a.uses.items;
+  credit = a.credit;
   counts = a.counts.items;
   weights = a.weights.items;
 }

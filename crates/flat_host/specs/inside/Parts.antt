@@ -1,5 +1,5 @@
 -- What private functions and proofs alone say of it, beside `specs/Parts.antt`.
-use Rattle.std.specs.Prelude.{ℕ, Bool, ◌≡◌, ◌≤◌, ◌<◌, ◌+◌, ◌-◌, List, [], ◌∷◌, slice_index, slice_index_or, slice_set, length, true, false, nat_lt, if◌then◌else◌, ◌++◌}
+use Rattle.std.specs.Prelude.{ℕ, Bool, ◌≡◌, ◌≤◌, ◌<◌, ◌+◌, ◌-◌, List, [], ◌∷◌, slice_index, slice_index_or, slice_set, length, true, false, nat_lt, if◌then◌else◌, ◌++◌, Some}
 use Rattle.fx_amounts.specs.declared.side.Side.{Side}
 use Rattle.fx_rules.specs.declared.command.Life.{Life}
 use Rattle.fx_rules.specs.declared.command.Life.TheVariants.{Day, Ioc, Fok}
@@ -11,8 +11,20 @@ use Rattle.fx_rules.specs.Lists.{total}
 use Rattle.fx_rules.specs.State.{orders_in}
 use Rattle.fx_rules.specs.Sweep.{Taker, is_order, at_rest}
 use Rattle.fx_rules.specs.Step.{without_order, reduced}
-use Rattle.flat_host.specs.FlatState.{FlatState, limit_place, limit_in, use_in, line_in}
-use Rattle.flat_host.specs.Parts.{both_lowered, uses_after, PlannedOver}
+use Rattle.flat_host.specs.FlatState.{FlatCredit, FlatState, limit_place, use_place, limit_in, use_in, line_in}
+use Rattle.flat_host.specs.Parts.{both_lowered, credit_after, PlannedBy}
+
+-- the credit with a bank's limit on another set
+abbrev pub limited_in : FlatCredit → ℕ → ℕ → ℕ → FlatCredit
+limited_in credit bank other limit = record credit { limits = slice_set credit.limits (limit_place bank other) limit }
+
+-- with a bank's total set
+abbrev pub totalled_in : FlatCredit → ℕ → ℕ → FlatCredit
+totalled_in credit bank most = record credit { totals = slice_set credit.totals bank (Some most) }
+
+-- with so many units of what two banks have used given back
+abbrev pub settled_in : FlatCredit → ℕ → ℕ → ℕ → FlatCredit
+settled_in credit a b units = record credit { uses = slice_set credit.uses (use_place a b) (use_in credit.uses a b - units) }
 
 -- the first order of a command stands at a place
 pub record StandsAt (bank number : ℕ) (orders : List ActiveOrder) (i : ℕ) (a : ActiveOrder) : Type 0 where
@@ -34,7 +46,7 @@ taker_from l bank side pair price lots = record {
 
 -- a sweep planned over a flat state
 abbrev pub PlannedIn : FlatState → Taker → List Fill → ℕ → Type 0
-PlannedIn l t fills left = PlannedOver l.weights l.limits l.uses (orders_in t.pair l.orders) t fills left
+PlannedIn l t fills left = PlannedBy (slice_index l.weights t.pair) l.credit (orders_in t.pair l.orders) t fills left
 
 -- an order's outcome by its life, of the sweep that was planned in the flat state
 abbrev pub OrderedIn : FlatState → Taker → Life → Outcome → Type 0
@@ -52,18 +64,14 @@ with_rest t rests orders = if nat_lt 0 rests then orders ++ at_rest t rests ∷ 
 abbrev pub filled_in : FlatState → List Fill → FlatState
 filled_in l fills = record l {
   orders = both_lowered l.orders fills;
-  uses = uses_after l.weights l.limits l.uses fills;
+  credit = credit_after l.weights l.credit fills;
 }
 
 -- the flat state after an order: its fills are made, and its rest stands
 abbrev pub order_carried : FlatState → Taker → ℕ → List Fill → FlatState
 order_carried l t rests fills = record (filled_in l fills) { orders = with_rest t rests (both_lowered l.orders fills) }
 
--- the limits with one set
-abbrev pub limits_with : List ℕ → ℕ → ℕ → ℕ → List ℕ
-limits_with limits bank other limit = slice_set limits (limit_place bank other) limit
-
--- the flat state with one more command of a bank
+-- the flat state with one more command of a sender
 abbrev pub counted_in : FlatState → ℕ → FlatState
 counted_in l bank = record l { counts = slice_set l.counts bank (slice_index l.counts bank + 1) }
 
@@ -77,4 +85,4 @@ reduced_in l bank number left done = record l { orders = if done then reduced ba
 
 -- the line of a bank with another
 abbrev pub shown_in : FlatState → ℕ → ℕ → Outcome
-shown_in l bank other = Shown (limit_in l.limits bank other) (use_in l.uses bank other) (line_in l.limits l.uses bank other)
+shown_in l bank other = Shown (limit_in l.credit.limits bank other) (use_in l.credit.uses bank other) (line_in l.credit bank other)

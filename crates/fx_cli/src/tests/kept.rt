@@ -1,12 +1,12 @@
 //! Sessions that are kept, by the words `keep` and `restart`.
 
 use crate::fx_top;
-use crate::status::Status;
 use crate::tests::{owned, samples};
 use fx_amounts::Memory;
 use fx_disk::{Disk, MemoryDisk, SteadyDisk};
 use fx_edges::{MemorySink, SteadySink, SteadySource};
 use fx_rules::OpenGate;
+use program_calls::Status;
 use std::alloc::Global;
 use std::process::Abort;
 use std::sync::Wait;

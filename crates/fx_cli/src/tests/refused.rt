@@ -185,6 +185,7 @@ fn refused_history<N: Naming + Send + Sync, R: AllocGlobal + Threads + Wait + Sy
     requires keys { blank.keys ≡ 65 }
     requires session { session.now ≡ N.session }
     requires valid { IsSession session.now }
+    requires version { session.now.version ≡ 1 }
     requires banks { bank_count session.now ≡ 2 }
 {
     let alloc = rt.alloc();
@@ -233,7 +234,7 @@ fn a_refused_submit_may_be_made_again(rt: HostRuntime) -> Result<(), Fail> {
         return Err("no session".into());
     };
     let session = &reading.script().session;
-    assert!(&rt; session.banks().len() == 2);
+    assert!(&rt; session.version() == 1 && session.banks().len() == 2);
     let blank = Blank::new(alloc, 65)?;
     let history = refused_history::<Brand, _>(&rt, blank, session)?;
     let plain = plain_history(alloc, session)?;

@@ -15,12 +15,12 @@ pub record IsLast (h : Header) (entries : List Entry) (change : Change) : Type 0
   pub ends : entries ≡ before ++ last ∷ []
   pub under_way : IsUnderWay h (state h before) change
   pub all_turned : length change.plans ≡ pair_count h
-  pub sender : last.bank ≡ change.bank
+  pub sender : last.bank ≡ change.sender
   pub command : last.command ≡ change.command
   pub outcome : last.outcome ≡ outcome_of change
 
--- A bank's command, a credit change, may go behind a history as this entry. It is then the last, and its bank is told the entry's
--- outcome.
+-- A sender's command, a credit change, may go behind a history as this entry. It is then the last, and its sender is told the
+-- entry's outcome.
 pub record IsPlanned (h : Header) (before : List Entry) (bank : ℕ) (command : Command) (change : Change) (entry : Entry) (answer : Outcome) : Type 0 where
   pub legal : IsLegal h (before ++ entry ∷ [])
   pub sender : entry.bank ≡ bank

@@ -1,5 +1,5 @@
 -- What private functions and proofs alone say of it, beside `specs/Reaches.antt`.
-use Rattle.std.specs.Prelude.{ℕ, ◌≡◌, ◌≢◌, ◌≤◌, ◌<◌, ◌+◌, ◌-◌, ◌*◌, ◌/◌, ◌^◌, min, false, nat_eq, nat_le, if◌then◌else◌, List, length, replicate, Option, Some, None, IfSome, slice_get, slice_index, slice_index_or, slice_set, option_map}
+use Rattle.std.specs.Prelude.{ℕ, zero, suc, ◌≡◌, ◌≢◌, ◌≤◌, ◌<◌, ◌+◌, ◌-◌, ◌*◌, ◌/◌, ◌^◌, min, false, nat_eq, nat_le, if◌then◌else◌, List, [], ◌∷◌, length, replicate, Option, Some, None, IfSome, slice_get, slice_index, slice_index_or, slice_set, option_map}
 use Rattle.std.specs.List.{Contains}
 use Rattle.fx_amounts.specs.Price.{IsPrice}
 use Rattle.fx_amounts.specs.declared.side.Side.{Side}
@@ -13,6 +13,17 @@ use Rattle.credit_lines.specs.Credit.{Credit, line_in}
 use Rattle.match_sweep.specs.declared.reached.BankLevel.{BankLevel}
 use Rattle.match_sweep.specs.declared.reached.HeadRow.{HeadRow}
 use Rattle.match_sweep.specs.declared.reached.LevelWalk.{LevelWalk}
+
+-- the lots that a bank's total pays for, of which this is left, where it has one; else more than 65 lines can allow
+abbrev pub IsMost : Option ℕ → ℕ → ℕ → Type 0
+IsMost None weight most = 65 * 10 ^ 15 < most
+IsMost (Some room) weight most = most ≡ room / weight
+
+-- the first levels, up to so many lots in all
+abbrev pub cut : ℕ → List Level → List Level
+cut zero levels = []
+cut (suc most) [] = []
+cut (suc most) (level ∷ levels) = record { price = level.price; lots = min (suc most) level.lots } ∷ cut (suc most - level.lots) levels
 
 -- an order behind all others of a price
 abbrev pub at_end : ℕ → Resting

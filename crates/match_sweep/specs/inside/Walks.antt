@@ -56,10 +56,12 @@ abbrev pub StepsOn : Book → WholeWalk → WholeWalk → Option Fill → Type 0
 StepsOn book old new None = (new.order ≡ old.order) × FromHere book old [] old.order.left
 StepsOn book old new (Some fill) = LeadsOn book old new fill
 
--- The bank of a walk's order is one of the book's, and there is no line with it. The heads are those
--- behind the order that was taken last, but for that of its bank.
+-- The bank of a walk's order is one of the book's, which are 64 at most, and so is that of the order that was taken last. There is no
+-- line with the order's own. The heads are those behind the order that was taken last, but for that of its bank.
 pub record IsReady (book : Book) (walk : WholeWalk) : Type 0 where
+  pub few : book.banks ≤ 64
   pub bank : walk.order.bank < book.banks
+  pub taken : IfSome walk.last (λ taken. taken.bank < book.banks)
   pub weight : IsWeight walk.weight
   pub own : slice_index walk.lines walk.order.bank ≡ 0
   pub heads : (bank : ℕ) → bank < book.banks → IfSome walk.last (λ taken. bank ≢ taken.bank) → 1 ≤ reach_of walk bank →
@@ -111,7 +113,7 @@ leads walk bank (Some best) =
 abbrev pub IsPickedAt : WholeWalk → List ℕ → Option ℕ → Type 0
 IsPickedAt walk banks None = (bank : ℕ) → Contains banks bank → may_take_head walk bank (head_of walk bank) ≡ false
 IsPickedAt walk banks (Some best) =
-    Contains banks best × (best < 65) × (may_take_head walk best (head_of walk best) ≡ true)
+    Contains banks best × (best < 64) × (may_take_head walk best (head_of walk best) ≡ true)
     × ((bank : ℕ) → Contains banks bank → may_take_head walk bank (head_of walk bank) ≡ true →
     is_ahead walk.order.side (head_of walk bank) (head_of walk best) ≡ false)
 
@@ -135,6 +137,10 @@ AgreeOn weight t lines others order =
 abbrev pub AgreeInBook : ℕ → Taker → (ℕ → ℕ) → (ℕ → ℕ) → List Resting → Type 0
 AgreeInBook weight t lines others orders = (order : Resting) → Among order orders → AgreeOn weight t lines others order
 
+-- the sweep of an order as the lines of its bank allow it, whatever the bank's total leaves
+abbrev pub IsByLines : Book → Credit → ℕ → Taker → List Fill → ℕ → Type 0
+IsByLines book credit weight t fills left = Planned weight (line_in credit t.bank) book.orders t None fills left
+
 -- a walk of an order before its first fill, by the lines of the order's bank
 pub record Begins (book : Book) (credit : Credit) (weight : ℕ) (taker : Taker) (walk : WholeWalk) : Type 0 where
   pub valid : IsBook book
@@ -147,7 +153,7 @@ pub record Begins (book : Book) (credit : Credit) (weight : ℕ) (taker : Taker)
 -- a walk that has found no line and no head
 pub record IsBare (walk : WholeWalk) : Type 0 where
   pub lines : walk.lines ≡ replicate 65 0
-  pub heads : walk.heads ≡ replicate 65 None
+  pub heads : walk.heads ≡ replicate 64 None
   pub last : walk.last ≡ None
 
 -- nothing but lines and heads changed

@@ -6,7 +6,7 @@ use Rattle.fx_rules.specs.Reject.{code_of}
 use Rattle.fx_rules.specs.Session.{Header, bank_count, pair_count, bank_name, decimals_of, pair_name}
 use Rattle.fx_rules.specs.declared.command.Command.{Command}
 use Rattle.fx_rules.specs.declared.command.Command.TheVariants.{Order, Cancel, Reduce, Pull, Line, Total, Settle, Show, Book, Bad}
-use Rattle.order_lines.specs.Words.{word_text, side_word, life_text, total_word, settle_word, bad_word}
+use Rattle.order_lines.specs.Words.{word_text, side_word, life_text, bad_word}
 use Rattle.order_lines.specs.declared.word.Word.TheVariants as word
 
 -- a price of a pair, in its one spelling
@@ -20,8 +20,8 @@ word_field (Cancel pair number) = word_text word.Cancel
 word_field (Reduce pair number lots) = word_text word.Reduce
 word_field (Pull pair) = word_text word.Pull
 word_field (Line other limit) = word_text word.Line
-word_field (Total limit) = total_word
-word_field (Settle a b units) = settle_word
+word_field (Total limit) = word_text word.Total
+word_field (Settle a b units) = word_text word.Settle
 word_field (Show other) = word_text word.Show
 word_field (Book pair) = word_text word.Book
 word_field (Bad fault) = bad_word

@@ -21,7 +21,7 @@ pub record IsReportAt (h : Header) (entries : List Entry) (report : Report) : Ty
   pub uses : report.uses ≡ uses_of h (state h entries)
   pub nets : report.nets ≡ nets_of h (state h entries)
 
--- and each bank's desk has its notices
+-- and each sender's desk has its notices
 pub record AreFindingsOf (h : Header) (entries : List Entry) (found : Findings) : Type 0 where
   pub report : IsReportAt h entries found.report
   pub desks : AreDesksOf h entries found.desks.items

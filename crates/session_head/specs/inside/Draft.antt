@@ -1,7 +1,7 @@
 -- What private functions and proofs alone say of it, beside `specs/Draft.antt`.
-use Rattle.std.specs.Prelude.{ℕ, ◌≡◌, ◌≢◌, ◌<◌, ◌≤◌, length, slice_index, IsTrue, All, AllPairs}
+use Rattle.std.specs.Prelude.{ℕ, ◌≡◌, ◌≢◌, ◌<◌, ◌≤◌, length, slice_index, IsTrue, IfSome, All, AllPairs}
 use Rattle.fx_rules.specs.Names.{is_name}
-use Rattle.fx_rules.specs.Session.{IsPairRule, AreSamePair}
+use Rattle.fx_rules.specs.Session.{IsPairRule, AreSamePair, newest}
 use Rattle.session_head.specs.Draft.{Draft, limit_place}
 
 -- a draft can become a session as soon as it has two banks and a pair
@@ -15,3 +15,7 @@ pub record IsDraft (d : Draft) : Type 0 where
   pub limits_full : length d.limits ≡ 4096
   pub limits_most : All (λ limit. limit ≤ 1000000000000000) d.limits
   pub own_limits : (i : ℕ) → i < 64 → slice_index d.limits (limit_place i i) ≡ 0
+  pub version_least : 1 ≤ d.version
+  pub version_most : d.version ≤ newest
+  pub totals_full : length d.totals ≡ 64
+  pub totals_most : All (λ most. IfSome most (λ units. units ≤ 1000000000000000)) d.totals

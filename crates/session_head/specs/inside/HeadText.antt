@@ -13,4 +13,5 @@ limits_of h from count = flat_map (limit_statement h from) (below count)
 -- the banks that a statement names by their places are among so many
 abbrev pub AreNamed : ℕ → Statement → Type 0
 AreNamed count (statements.Line from to limit) = (from < count) × (to < count)
+AreNamed count (statements.Total bank limit) = bank < count
 AreNamed count _ = Unit {0}

@@ -1,12 +1,11 @@
 -- After each fill, what is left to carry out leads where it led before.
-use Rattle.std.proofs.Common.{ℕ, suc, ◌≡◌, ◌<◌, ◌+◌, ◌*◌, List, ◌∷◌, arith, sym, ap, ◌∙◌, drop, get_or, length, add-one, leb, cond}
+use Rattle.std.proofs.Common.{ℕ, suc, ◌≡◌, ◌<◌, ◌+◌, ◌*◌, List, ◌∷◌, arith, sym, ap, ◌∙◌, drop, get_or, length, add-one}
 use Rattle.std.proofs.Math.Seq.{drop-cons}
 use Rattle.fx_rules.specs.declared.orders.Fill.{Fill}
 use Rattle.fx_rules.specs.declared.orders.ActiveOrder.{ActiveOrder}
 use Rattle.fx_rules.specs.Sweep.{lowered}
-use Rattle.flat_host.specs.FlatState.{line_in}
-use Rattle.flat_host.specs.Parts.{both_lowered, use_added, uses_after}
-use Rattle.flat_host.proofs.Carrying.{raised, length-added}
+use Rattle.flat_host.specs.FlatState.{FlatCredit}
+use Rattle.flat_host.specs.Parts.{both_lowered, use_raised, credit_after}
 use Rattle.flat_host.proofs.credit.make_fills.Goals as goal
 
 pub dropped : (fills : List Fill) (i : ℕ) (fill : Fill) → i < length fills → fill ≡ get_or fills i fill → drop i fills ≡ fill ∷ drop (i + 1) fills
@@ -19,15 +18,13 @@ loop-fill-preserved c =
     let fill : Fill = c.fill-item.result in
     let rest : List Fill = drop (i + 1) c.args.fills.now in
     let weights : List ℕ = c.args.weights.now in
-    let limits : List ℕ = c.args.limits.now in
-    let uses : List ℕ = c.loop-fill.uses in
+    let credit : FlatCredit = c.loop-fill.credit in
     let here : drop i c.args.fills.now ≡ fill ∷ rest = dropped c.args.fills.now i fill c.loop-fill-test.true c.fill-item.is in
     let units : c.from.result * c.from-in-loop-fill.result ≡ fill.lots * get_or weights fill.pair 0 =
     ap (λ n. n * c.from-in-loop-fill.result) (c.from.ensures ∙ c.count.ensures.value)
     ∙ ap (λ n. fill.lots * n) (c.from-in-loop-fill.ensures ∙ c.weight_of-weight.ensures.value) in
-    let new : c.raise_use.new.uses ≡ use_added weights limits uses fill =
-    c.raise_use.ensures.uses
-    ∙ ap (λ n. cond (leb n (line_in limits uses fill.taker fill.maker)) (raised uses fill.taker fill.maker n) uses) units in
+    let new : c.raise_use.new.self ≡ use_raised credit fill.taker fill.maker (fill.lots * get_or weights fill.pair 0) =
+    c.raise_use.ensures.raised ∙ ap (use_raised credit fill.taker fill.maker) units in
     record {
       orders =
           ap (λ (os : List ActiveOrder). both_lowered os rest)
@@ -35,9 +32,7 @@ loop-fill-preserved c =
           ∙ ap (both_lowered c.loop-fill.orders.items) (sym here) ∙ c.loop-fill.invariant.orders;
       len = omega (arith, c.lower.ensures.len, c.lower-in-loop-fill.ensures.len, c.loop-fill.invariant.len);
       room = c.lower-in-loop-fill.ensures.room ∙ c.lower.ensures.room ∙ c.loop-fill.invariant.room;
-      uses =
-          ap (λ (us : List ℕ). uses_after weights limits us rest) new
-          ∙ ap (uses_after weights limits uses) (sym here) ∙ c.loop-fill.invariant.uses;
-      within = λ start. c.raise_use.ensures.within (c.loop-fill.invariant.within start);
-      full = ap length new ∙ length-added weights limits uses fill ∙ c.loop-fill.invariant.full;
+      credit =
+          ap (λ (after : FlatCredit). credit_after weights after rest) new
+          ∙ ap (credit_after weights credit) (sym here) ∙ c.loop-fill.invariant.credit;
     }

@@ -1,7 +1,7 @@
-use Rattle.std.proofs.Common.{◌≡◌, List, ◌++◌, drop, length}
+use Rattle.std.proofs.Common.{◌≡◌, List, ◌++◌, drop}
 use Rattle.fx_rules.specs.declared.orders.Fill.{Fill}
 use Rattle.fx_rules.specs.State.{orders_in}
-use Rattle.flat_host.specs.Parts.{uses_after}
+use Rattle.flat_host.specs.Parts.{credit_after}
 use Rattle.fx_rules.specs.inside.Orders.{in_pair}
 use Rattle.flat_host.specs.Turns.{TurnedIn}
 use Rattle.flat_host.proofs.raise.pair_turns.Given as goal
@@ -10,8 +10,7 @@ use Rattle.flat_host.proofs.raise.pair_turns.Given as goal
 abbrev pub invariant-loop-active : goal.invariant-loop-active
 invariant-loop-active l = record {
   goes_on : (more : List Fill) →
-      TurnedIn l.terms.weights.now l.terms.limits.now l.pair l.book.items l.uses (orders_in l.pair (drop l.active-index l.orders)) more →
-      TurnedIn l.terms.weights.now l.terms.limits.now l.pair (in_pair l.pair l.orders) l.initial.uses (orders_in l.pair l.orders) (l.fills.items ++ more);
-  uses : l.uses ≡ uses_after l.terms.weights.now l.terms.limits.now l.initial.uses l.fills.items;
-  full : length l.uses ≡ 4225;
+      TurnedIn l.weights l.pair l.book.items l.credit (orders_in l.pair (drop l.active-index l.orders)) more →
+      TurnedIn l.weights l.pair (in_pair l.pair l.orders) l.initial.credit (orders_in l.pair l.orders) (l.fills.items ++ more);
+  credit : l.credit ≡ credit_after l.weights l.initial.credit l.fills.items;
 }

@@ -1,13 +1,13 @@
 -- Where there is no memory for the words, nothing was begun.
 use Rattle.std.proofs.Common.{refl}
-use Rattle.fx_cli.specs.Headline.{IsHeadline, IsSerial}
-use Rattle.fx_cli.specs.TopCall.{IsOutputOf}
-use Rattle.fx_cli.proofs.TopCallLaws.{not_begun}
-use Rattle.fx_cli.proofs.CheckLaws.{check_not_begun}
-use Rattle.fx_cli.specs.Check.{SaysYes}
-use Rattle.fx_cli.specs.Payments.{IsPaymentsOf}
-use Rattle.fx_cli.specs.Clients.{IsClientsTextOf}
-use Rattle.fx_cli.specs.Watch.{IsWatchedOf}
+use Rattle.program_calls.specs.Headline.{IsHeadline, IsSerial}
+use Rattle.program_calls.specs.TopCall.{IsOutputOf}
+use Rattle.program_calls.proofs.TopCallLaws.{not_begun}
+use Rattle.program_calls.proofs.CheckLaws.{check_not_begun}
+use Rattle.program_calls.specs.Check.{SaysYes}
+use Rattle.program_calls.specs.Payments.{IsPaymentsOf}
+use Rattle.program_calls.specs.Clients.{IsClientsTextOf}
+use Rattle.program_calls.specs.Watch.{IsWatchedOf}
 use Rattle.fx_cli.proofs.top.follow.Goals as goal
 
 pub returns-in-Err-Memory-clause-run : goal.returns-in-Err-Memory-clause-run

@@ -1,13 +1,13 @@
 -- What the words asked for was done, and the status told.
-use Rattle.fx_cli.specs.Headline.{IsHeadline, IsSerial}
-use Rattle.fx_cli.specs.TopCall.{IsOutputOf}
-use Rattle.fx_cli.proofs.TopCallLaws.{session_did, told_usage}
-use Rattle.fx_cli.proofs.CheckLaws.{check_did}
-use Rattle.fx_cli.proofs.LoadLaws.{load_did}
-use Rattle.fx_cli.specs.Check.{SaysYes}
-use Rattle.fx_cli.specs.Payments.{IsPaymentsOf}
-use Rattle.fx_cli.specs.Clients.{IsClientsTextOf}
-use Rattle.fx_cli.specs.Watch.{IsWatchedOf}
+use Rattle.program_calls.specs.Headline.{IsHeadline, IsSerial}
+use Rattle.program_calls.specs.TopCall.{IsOutputOf}
+use Rattle.program_calls.proofs.TopCallLaws.{session_did, told_usage}
+use Rattle.program_calls.proofs.CheckLaws.{check_did}
+use Rattle.program_calls.proofs.LoadLaws.{load_did}
+use Rattle.program_calls.specs.Check.{SaysYes}
+use Rattle.program_calls.specs.Payments.{IsPaymentsOf}
+use Rattle.program_calls.specs.Clients.{IsClientsTextOf}
+use Rattle.program_calls.specs.Watch.{IsWatchedOf}
 use Rattle.fx_cli.proofs.top.fx_main.Goals as goal
 
 pub returns : goal.returns

@@ -4,7 +4,7 @@ use Rattle.kept_call.specs.Call.{DidKeep, DidRestart}
 use Rattle.program_words.specs.declared.kept.KeptTask.{KeptTask}
 use Rattle.program_words.specs.declared.kept.KeptTask.TheVariants.{Keep, Restart}
 use Rattle.fx_cli.specs.KeptCall.{asked_kept}
-use Rattle.fx_cli.proofs.KeptLaws.{told_kept}
+use Rattle.program_calls.proofs.KeptLaws.{told_kept}
 use Rattle.fx_cli.proofs.top.fx_top.Goals as goal
 
 same_task : (known : Option KeptTask) (task other : KeptTask) → known ≡ Some task → known ≡ Some other → task ≡ other

@@ -9,6 +9,6 @@ invariant-loop-place g l = record {
   turns : length l.change.plans ≡ l.place;
   under_way : IsUnderWay g.N.Naming.session (state g.N.Naming.session l.credit.history.entries) l.change;
   command : l.change.command ≡ l.fn.change.command;
-  bank : l.change.bank ≡ l.fn.change.bank;
+  sender : l.change.sender ≡ l.fn.change.sender;
   same : l.credit ≡ l.fn.credit;
 }

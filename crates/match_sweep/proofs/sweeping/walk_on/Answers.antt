@@ -41,7 +41,7 @@ pub returns-clause-sweep : goal.returns-clause-sweep
 returns-clause-sweep g c =
     let was = c.loop-fill.invariant.gone in
     begun-sweep c.args.book.now c.args.lines.now c.args.weight c.args.order.now was.first c.from_vec.result c.next_fill.new.self.order.left
-    c.requires.banks c.requires.bank c.requires.pair (omega (arith, c.requires.weight.0)) was.begins
+    was.begins
     (gone-whole c.args.book.now c.args.lines.now c.args.weight c.args.order.now (whole c.loop-fill.walk c.loop-fill.heads) (whole c.next_fill.new.self c.next_fill.new.heads) c.loop-fill.fills.items c.from_vec.result was
     c.in_default.ensures.steps c.from_vec.ensures.items)
 

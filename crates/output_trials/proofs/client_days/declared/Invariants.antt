@@ -3,4 +3,4 @@ use Rattle.output_trials.proofs.client_days.declared.Given as goal
 
 -- the clients so far can stand together
 abbrev pub invariant-loop-line : goal.invariant-loop-line
-invariant-loop-line l = AreClients l.session l.clients.items
+invariant-loop-line l = AreClients l.session l.clients

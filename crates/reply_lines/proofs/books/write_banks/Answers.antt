@@ -1,34 +1,19 @@
 -- Each turn writes one bank's books behind those so far.
-use Rattle.std.proofs.Common.{◌≡◌, ℕ, List, arith, ap, sym, subst, flat_map, length}
-use Rattle.fx_edges.specs.Gathered.{Kept}
-use Rattle.fx_edges.proofs.Gathering.{Gathered-from_Kept, Kept-append}
-use Rattle.fx_rules.specs.Lists.{below}
-use Rattle.fx_rules.proofs.Below.{flat_map-more}
+use Rattle.std.proofs.Common.{◌≡◌, arith, ap, length}
 use Rattle.reply_lines.specs.inside.Books.{book_lines}
-use Rattle.reply_lines.proofs.Outputs.{cut_at, of_text}
-use Rattle.reply_lines.proofs.Parts.{places-prefix}
+use Rattle.reply_lines.proofs.Outputs.{place_kept, places_cut, places_written}
 use Rattle.reply_lines.proofs.books.write_banks.Goals as goal
 
 pub returns-in_err-write_pairs : goal.returns-in_err-write_pairs
-returns-in_err-write_pairs g c =
-    let h = c.args.session.now in
-    record {
-      wrote = λ books are. cut_at c.from_residual.result c.from_residual.ensures.1 (c.loop-place.invariant books are)
-          (of_text (ap (book_lines h books) c.at.ensures.value) (c.in_err-write_pairs.ensures.wrote books are))
-          (places-prefix (book_lines h books) c.loop-place.place (length h.banks) (omega (arith, c.loop-place-test.true, ap length c.banks-place-end.ensures.value)));
-    }
+returns-in_err-write_pairs g c = record {
+  wrote = λ books are. places_cut (book_lines c.args.session.now books) c.loop-place.place (length c.args.session.now.banks) c.from_residual.result c.from_residual.ensures.1 c.at.ensures.value
+      (omega (arith, c.loop-place-test.true, ap length c.banks-place-end.ensures.value)) (c.loop-place.invariant books are) (c.in_err-write_pairs.ensures.wrote books are);
+}
 
 pub loop-place-preserved : goal.loop-place-preserved
-loop-place-preserved g c =
-    let h = c.args.session.now in
-    λ books are. subst (λ (text : List ℕ). Kept g.K.Sink.written g.K.Sink.faults c.args.pieces.now c.args.out.now c.write_pairs.new.pieces c.write_pairs.new.out text) (sym (flat_map-more (book_lines h books) c.loop-place.place))
-    (Kept-append (c.loop-place.invariant books are)
-    (of_text (ap (book_lines h books) c.at.ensures.value) (c.in_ok-write_pairs.ensures.wrote books are)).ok)
+loop-place-preserved g c = λ books are. place_kept (book_lines c.args.session.now books) c.loop-place.place c.at.ensures.value (c.loop-place.invariant books are) (c.in_ok-write_pairs.ensures.wrote books are)
 
 pub returns : goal.returns
 returns g c =
     let end : c.loop-place.place ≡ length c.args.session.now.banks = omega (arith, c.loop-place-test.false, c.loop-place.auto.place-end, ap length c.banks-place-end.ensures.value) in
-    record {
-      wrote = λ books are. Gathered-from_Kept tt
-          (subst (λ n. Kept g.K.Sink.written g.K.Sink.faults c.args.pieces.now c.args.out.now c.loop-place.pieces c.loop-place.out (flat_map (book_lines c.args.session.now books) (below n))) end (c.loop-place.invariant books are));
-    }
+    record { wrote = λ books are. places_written (book_lines c.args.session.now books) c.loop-place.place (length c.args.session.now.banks) end (c.loop-place.invariant books are) }

@@ -13,8 +13,8 @@ returns c =
     let f = c.args.fill.now in
     let desks : List DeskSoFar = c.args.desks.now.items in
     let between : List DeskSoFar = set desks c.index.result c.fill.new.self in
-    let taker_in : f.taker < length desks = omega (arith, c.requires.fill.taker, c.requires.desks) in
-    let maker_in : f.maker < length between = omega (arith, c.requires.fill.maker, c.requires.desks, length-set desks c.index.result c.fill.new.self) in
+    let taker_in : f.taker < length desks = omega (arith, c.requires.fill.taker, c.requires.banks) in
+    let maker_in : f.maker < length between = omega (arith, c.requires.fill.maker, c.requires.banks, length-set desks c.index.result c.fill.new.self) in
     record {
       ok = on_ok c.fill-2.result (λ given.
           got-then h (λ bank. if eqb f.taker bank then Took f ∷ [] else []) (λ bank. if eqb f.maker bank then Gave f ∷ [] else []) desks between (set between c.index-2.result c.fill-2.new.self)

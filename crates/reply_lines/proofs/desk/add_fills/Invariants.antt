@@ -1,4 +1,4 @@
-use Rattle.std.proofs.Common.{◌≡◌, length, take, drop}
+use Rattle.std.proofs.Common.{◌≤◌, length, take, drop}
 use Rattle.std.specs.List.{flat_map}
 use Rattle.fx_rules.specs.Lists.{Each}
 use Rattle.fx_rules.specs.Session.{bank_count}
@@ -11,6 +11,6 @@ use Rattle.reply_lines.proofs.desk.add_fills.Given as goal
 abbrev pub invariant-loop-fill : goal.invariant-loop-fill
 invariant-loop-fill l = record {
   got : HaveGot l.session (λ bank. flat_map (fill_notices bank) (take l.fill-index l.fills)) l.initial.desks.items l.desks.items;
-  banks : length l.desks.items ≡ bank_count l.session;
+  banks : bank_count l.session ≤ length l.desks.items;
   fills : Each (IsFillOf l.session) (drop l.fill-index l.fills);
 }

@@ -8,12 +8,12 @@ use Rattle.reply_lines.proofs.notices.push_own_side.Goals as goal
 
 pub returns-clause-text : goal.returns-clause-text
 returns-clause-text c =
-    let one = c.push_field.new.self in
+    let one = c.push_word_field.new.self in
     let two = c.push_number_field.new.self in
-    let three = c.push_field-2.new.self in
-    one_field c.args.line.now one three (codes "FILL") (numeral c.args.own_number ∷ word_text (side_word c.args.side) ∷ []) c.push_field.ensures
+    let three = c.push_side.new.line in
+    one_field c.args.line.now one three (codes "FILL") (numeral c.args.own_number ∷ word_text (side_word c.args.side) ∷ []) c.push_word_field.ensures
     (one_field one two three (numeral c.args.own_number) (word_text (side_word c.args.side) ∷ []) (c.push_number_field.ensures.text ∙ ap (λ (n : ℕ). take 256 (one ++ 32 ∷ numeral n)) c.from.ensures)
-    (last_field two three (word_text (side_word c.args.side)) (c.push_field-2.ensures ∙ ap (λ (t : List ℕ). take 256 (two ++ 32 ∷ t)) c.side_word.ensures)))
+    (last_field two three (word_text (side_word c.args.side)) c.push_side.ensures))
 
 short_side : (side : Side) → length (word_text (side_word side)) ≤ 20
 short_side Buy = omega arith

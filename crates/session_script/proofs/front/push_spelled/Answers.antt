@@ -1,4 +1,4 @@
-use Rattle.session_script.proofs.Fronts.{AddsLines-none, AddsLines-line, AddsLines-before}
+use Rattle.session_script.proofs.Fronts.{AddsLines-none, AddsLines-line}
 use Rattle.session_script.proofs.front.push_spelled.Goals as goal
 
 pub loop-next-init : goal.loop-next-init

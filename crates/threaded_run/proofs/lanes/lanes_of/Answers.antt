@@ -15,6 +15,6 @@ returns g c =
     let passes : map (λ (lane : Lane (Witness Entry)). lane.pass) c.loop-pass.lanes.items ≡ c.args.passes.items =
     sym (append-nil _) ∙ ap (λ (ps : List (Witness Entry)). map (λ (lane : Lane (Witness Entry)). lane.pass) c.loop-pass.lanes.items ++ ps) (sym none) ∙ before.passes ∙ all in
     record {
-      lanes = lanes_open _ c.args.passes.items _ c.requires.session c.requires.passes passes before.fresh;
-      gathered = none-gathered _ c.args.passes.items _ c.requires.passes passes;
+      lanes = lanes_open g.N.Naming.session c.args.passes.items _ c.requires.session c.requires.passes passes before.fresh;
+      gathered = none-gathered g.N.Naming.session c.args.passes.items _ c.requires.passes passes;
     }

@@ -1,10 +1,14 @@
-use Rattle.threaded_run.proofs.Closing.{ready-lanes, served-on, served-part, none-part, ok_then, err_always}
+use Rattle.threaded_run.proofs.Closing.{ready-lanes, some-lanes, served-on, served-part, none-part, ok_then, err_always}
 use Rattle.threaded_run.proofs.Gathered.{gathered-ran, gathered-same}
 use Rattle.threaded_run.proofs.run.serve_lanes.Goals as goal
 
 pub run_round-requires-clause-ready : goal.run_round-requires-clause-ready
 run_round-requires-clause-ready g c κs within =
     ready-lanes g.N.Naming.session c.args.sent.now c.args.lanes.now c.fill_lanes.new.lanes c.requires.can_serve c.in_ok-fill_lanes.ensures.filled
+
+pub run_round-requires-clause-lanes : goal.run_round-requires-clause-lanes
+run_round-requires-clause-lanes g c κs within =
+    some-lanes g.N.Naming.session c.args.sent.now c.args.lanes.now c.fill_lanes.new.lanes c.requires.can_serve c.in_ok-fill_lanes.ensures.filled
 
 -- where memory was wanting for the streams, the lanes are as they were
 pub returns-in_err-fill_lanes-clause-memory : goal.returns-in_err-fill_lanes-clause-memory

@@ -1,3 +1,5 @@
+use Rattle.std.proofs.Common.{subst, sym}
+use Rattle.access_index.specs.Heads.{IsLeastHead}
 use Rattle.access_index.proofs.Wording.{least_found, least_none}
 use Rattle.access_index.proofs.words.HeadWords.least.Goals as goal
 
@@ -7,5 +9,6 @@ returns-then-least-clause-none c = λ _.
 
 pub returns-clause-found : goal.returns-clause-found
 returns-clause-found c =
-    least_found c.self.inside.words c.args.lines.now c.args.self.now c.args.units c.least_word-least.result c.self.told c.self.view_is c.least_word-least.ensures c.self.invariant c.if-least.false
-    c.at-bank.result c.at-bank.ensures.value
+    subst (IsLeastHead c.args.self.now c.args.lines.now c.args.units c.at-bank.result) (sym c.head_in.ensures)
+    (least_found c.self.inside.words c.args.lines.now c.args.self.now c.args.units c.least_word-least.result c.self.told c.self.view_is c.least_word-least.ensures c.self.invariant c.if-least.false
+    c.at-bank.result c.at-bank.ensures.value)

@@ -1,9 +1,10 @@
 -- The command passes and is served, or it is refused.
-use Rattle.std.proofs.Common.{◌≡◌, ◌≢◌, ◌<◌, ℕ, Some, get_or, ap, sym, subst, ◌∙◌, length}
+use Rattle.std.proofs.Common.{◌≡◌, ◌≢◌, ◌<◌, ◌++◌, ◌∷◌, [], ℕ, Some, get_or, ap, sym, subst, ◌∙◌, length}
 use Rattle.fx_rules.specs.Step.{IsCommand}
 use Rattle.client_desk.specs.Clients.{ask_of, bank_of_client}
 use Rattle.client_desk.specs.declared.client.Client.{Client}
 use Rattle.client_desk.specs.declared.ask.Ask.TheVariants.{Pass, Short, Barred}
+use Rattle.order_lines.specs.Spelling.{command_text_of}
 use Rattle.client_day.specs.inside.Days.{TakesAsked}
 use Rattle.client_day.specs.Script.{asked_for}
 use Rattle.reply_lines.proofs.Outputs.{on_ok}
@@ -35,6 +36,7 @@ serve-requires c =
       next = c.requires.next;
       client = λ k is. (subst (λ n. n < length clients) (some_same c.args.client k is) c.requires.client, bank ∙ ap (bank_of_client clients) (some_same c.args.client k is));
       sent = record { command = subst (λ b. IsCommand c.args.session.now b c.args.command) (sym bank) c.requires.command };
+      line = c.requires.line ∙ ap (λ b. command_text_of c.args.session.now b c.args.command ++ 10 ∷ []) (sym bank);
       passed = λ tagged stands k is.
           ap (λ n. ask_of c.args.session.now clients tagged n c.args.command) (sym (some_same c.args.client k is)) ∙ sym (c.ask.ensures.answers c.args.session.now tagged stands) ∙ c.in-Pass.is;
     }

@@ -1,14 +1,15 @@
 -- The entry is made, recorded and told.
-use Rattle.std.proofs.Common.{◌≡◌, ◌<◌, ◌++◌, ◌∷◌, [], refl, ap, sym, subst, ◌∙◌, arith, length}
+use Rattle.std.proofs.Common.{ℕ, List, ◌≡◌, ◌<◌, ◌++◌, ◌∷◌, [], refl, ap, sym, subst, ◌∙◌, arith, length}
 use Rattle.fx_rules.specs.declared.command.Sent.{Sent}
 use Rattle.fx_rules.specs.declared.outcome.Entry.{Entry}
 use Rattle.fx_rules.specs.Sending.{sent_by}
-use Rattle.fx_rules.specs.Step.{IsCommand}
 use Rattle.client_desk.specs.Clients.{IsTagged, entries_of, tag}
 use Rattle.client_desk.specs.Standing.{StandsFor}
 use Rattle.market_run.specs.Running.{HasServed}
+use Rattle.order_lines.specs.Spelling.{command_text_of}
 use Rattle.pair_host.specs.Standing.{stands}
 use Rattle.reply_lines.specs.Day.{AreNoticesOf}
+use Rattle.reply_lines.specs.Output.{entry_line}
 use Rattle.reply_lines.proofs.Outputs.{on_ok}
 use Rattle.reply_lines.proofs.Printable.{last-prints}
 use Rattle.client_day.specs.Events.{tagged_in}
@@ -28,15 +29,10 @@ serve_entry-requires c =
       };
     }
 
-pub add_line-requires : goal.add_line-requires
-add_line-requires c =
+pub add_lines-requires : goal.add_lines-requires
+add_lines-requires c =
     let next = c.requires.next in
-    let made = c.in_ok-entry.ensures.served in
-    let named : sent_by c.in_ok-entry.entry ≡ c.args.sent = ap sent_by made.left_is ∙ made.sent_is in
-    record {
-      command = subst (λ (s : Sent). IsCommand c.args.session.now s.bank s.command) (sym named) c.requires.sent.command;
-      few = omega (arith, next.1.journal_is.count, entries-few next.0, next.2);
-    }
+    record { few = omega (arith, next.1.journal_is.count, entries-few next.0, next.2) }
 
 pub record-requires : goal.record-requires
 record-requires c =
@@ -78,12 +74,13 @@ returns c = record {
       let made = c.in_ok-entry.ensures.served in
       let e : Entry = c.in_ok-entry.entry in
       let named : sent_by e ≡ c.args.sent = ap sent_by made.left_is ∙ made.sent_is in
+      let written : c.args.line.now ≡ entry_line c.args.session.now e = c.requires.line ∙ ap (λ (s : Sent). command_text_of c.args.session.now s.bank s.command ++ 10 ∷ []) (sym named) in
       takes-entered c.args.session.now c.args.self.now _ c.args.who.now c.args.sent e named c.in_ok-record.ensures.clients refl refl (λ events is.
       let served : HasServed stands AreNoticesOf c.args.session.now (entries_of (tagged_in events) ++ e ∷ []) c.serve_entry.new.self =
       subst (λ (e : Entry). HasServed stands AreNoticesOf c.args.session.now (entries_of (tagged_in events) ++ e ∷ []) c.serve_entry.new.self) (sym made.left_is) (made.goes_on (entries_of (tagged_in events)) is.served) in
       let known : StandsFor c.args.session.now (tagged_in events ++ tag c.args.who.now e ∷ []) c.record.new.book =
       c.in_ok-record.ensures.recorded c.args.session.now (tagged_in events) is.known (goes-tagged c.args.session.now events c.args.self.now c.args.who.now e c.args.sent c.serve_entry.new.self is named served c.requires.client c.requires.passed) in
       behind-entered c.args.session.now events c.args.self.now _ c.args.who.now e is (passed-of c.args.session.now events c.args.self.now c.args.who.now e c.args.sent is named c.requires.passed) served
-      c.in_ok-add_line.ensures.count c.in_ok-add_line.ensures.lines known c.in_ok-record.ensures.clients (noted c.args.session.now (tagged_in events ++ tag c.args.who.now e ∷ []) known)))
+      c.in_ok-add_lines.ensures.count (c.in_ok-add_lines.ensures.lines ∙ ap (λ (line : List ℕ). c.args.self.now.journal.lines.items ++ line) written) known c.in_ok-record.ensures.clients (noted c.args.session.now (tagged_in events ++ tag c.args.who.now e ∷ []) known)))
       c.note_entry.ensures.noted;
 }

@@ -8,17 +8,12 @@ use Rattle.client_day.specs.Script.{asked_for, client_script, with_heard}
 use Rattle.client_day.proofs.Days.{day-asked, events-few}
 use Rattle.client_day.proofs.day.ClientDay.take.Goals as goal
 
-no_client : (c : ℕ) → None ≡ Some c → ⊥
-no_client c is = absurd cc
-
-pub serve-requires : goal.serve-requires
-serve-requires c =
+pub take_command-requires : goal.take_command-requires
+take_command-requires c =
     let next = c.requires.next in
     record {
       next = (next.1.events, next.1.behind, omega (arith, next.2, events-few c.args.session.now next.0 c.args.self.now next.1));
-      client = λ k is. absurd (no_client k is);
       sent = subst (IsHeardOf c.args.session.now) c.in-Command.is c.requires.valid;
-      passed = λ tagged stands k is. absurd (no_client k is);
     }
 
 pub take_line-requires : goal.take_line-requires
@@ -26,10 +21,10 @@ take_line-requires c = record { next = c.requires.next }
 
 pub returns-in-Command : goal.returns-in-Command
 returns-in-Command c = record {
-  taken = on_ok c.serve.result (λ takes before is.
-      day-asked c.args.session.now before c.args.heard.now c.args.self.now c.serve.new.self (asked_for None c.in-Command.sent.bank c.in-Command.sent.command) is takes
+  taken = on_ok c.take_command.result (λ takes before is.
+      day-asked c.args.session.now before c.args.heard.now c.args.self.now c.take_command.new.self (asked_for None c.in-Command.sent.bank c.in-Command.sent.command) is takes
       (ap (with_heard c.args.session.now (client_script c.args.session.now before)) c.in-Command.is))
-      c.serve.ensures.taken;
+      c.take_command.ensures.taken;
 }
 
 pub returns-in-Stray : goal.returns-in-Stray

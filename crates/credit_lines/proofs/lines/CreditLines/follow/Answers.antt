@@ -1,7 +1,10 @@
 use Rattle.std.proofs.Common.{subst}
 use Rattle.credit_lines.specs.Credit.{IsCredit}
-use Rattle.credit_lines.proofs.Paying.{follow_paid, follow_on}
+use Rattle.credit_lines.proofs.Paying.{can_follow, follow_paid, follow_on}
 use Rattle.credit_lines.proofs.lines.CreditLines.follow.Goals as goal
+
+pub set_asked-requires-clause-can : goal.set_asked-requires-clause-can
+set_asked-requires-clause-can c = can_follow c.args.session.now c.args.self.now c.args.entry.now c.requires.next
 
 pub take_all-requires-clause-paid : goal.take_all-requires-clause-paid
 take_all-requires-clause-paid c =

@@ -1,21 +1,17 @@
-use Rattle.std.proofs.Common.{rules, ◌≡◌, sym, subst}
-use Rattle.fx_rules.specs.declared.command.Command.{Command}
-use Rattle.fx_rules.specs.declared.command.Command.TheVariants.{Line}
+-- A credit change with its first course is the one that is opened, and under way.
+use Rattle.std.proofs.Common.{List, ◌≡◌, ap, subst, sym, ◌∙◌}
+use Rattle.fx_rules.specs.declared.orders.Plan.{Plan}
 use Rattle.fx_rules.specs.History.{state}
-use Rattle.credit_raise.specs.UnderWay.{Change, IsChange, IsUnderWay, opened}
+use Rattle.credit_raise.specs.declared.course.Course.{Course}
+use Rattle.credit_raise.specs.UnderWay.{Change, IsUnderWay, course_of, opened}
 use Rattle.credit_raise.proofs.Pairs.{begins}
 use Rattle.credit_raise.proofs.change.CreditChange.open.Goals as goal
 
 pub returns-clause-begins : goal.returns-clause-begins
-returns-clause-begins c h entries legal stands =
-    let its : IsChange c.args.lines.now.banks c.args.bank (Line c.in-Line.other c.in-Line.asked) = subst (IsChange c.args.lines.now.banks c.args.bank) c.in-Line.is c.requires.change in
-    let made : Change = record {
-      bank = c.args.bank;
-      command = Line c.in-Line.other c.in-Line.asked;
-      course = record { other = c.in-Line.other; limit = c.greater-limit.result; line = c.left_of.result };
-      plans = c.new.result.items;
-    } in
-    let is : opened c.args.lines.now c.args.bank c.in-Line.other c.in-Line.asked ≡ made = search rules in
-    subst (λ (command : Command). IsUnderWay h (state h entries) (record made { command = command })) (sym c.in-Line.is)
-    (subst (IsUnderWay h (state h entries)) is
-    (begins h entries c.args.lines.now c.args.bank c.in-Line.other c.in-Line.asked legal stands its.0 its.1 its.2 c.greater-limit.ensures.units))
+returns-clause-begins c h entries legal stands may =
+    let made : Course → List Plan → Change = λ course plans. record { sender = c.args.sender; command = c.args.command.now; course = course; plans = plans } in
+    let is : made c.in_ok-open.field-0 c.new.result.items ≡ opened c.args.lines.now c.args.sender c.args.command.now =
+    ap (λ (course : Course). made course c.new.result.items) c.in_ok-open.ensures.value
+    ∙ ap (made (course_of c.args.lines.now c.args.sender c.args.command.now)) c.new.ensures.items in
+    subst (IsUnderWay h (state h entries)) (sym is)
+    (begins h entries c.args.lines.now c.args.sender c.args.command.now legal c.in_ok-open.ensures.lines stands c.requires.change may)

@@ -15,6 +15,6 @@ if_ok (Err e) P Q step h = tt
 pub returns-clause-answers : goal.returns-clause-answers
 returns-clause-answers c =
     if_ok c.told.result (λ outcome. outcome ≡ outcome_of c.args.self.now)
-    (λ outcome. (h : Header) (S : State) → IsUnderWay h S c.args.self.now → length c.args.self.now.plans ≡ pair_count h → IsOutcome h S c.args.self.now.bank c.args.self.now.command outcome)
-    (λ outcome is h S under all. subst (IsOutcome h S c.args.self.now.bank c.args.self.now.command) (sym is) (answered h S c.args.self.now under all))
+    (λ outcome. (h : Header) (S : State) → IsUnderWay h S c.args.self.now → length c.args.self.now.plans ≡ pair_count h → IsOutcome h S c.args.self.now.sender c.args.self.now.command outcome)
+    (λ outcome is h S under all. subst (IsOutcome h S c.args.self.now.sender c.args.self.now.command) (sym is) (answered h S c.args.self.now under all))
     c.told.ensures.value

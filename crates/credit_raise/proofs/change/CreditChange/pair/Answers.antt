@@ -16,6 +16,6 @@ returns-clause-goes_on c =
     on_ok c.add.result (c.add.new.self ≡ with_plan c.args.self.now c.in_ok-plan.plan c.args.weight)
     ((h : Header) (S : State) → IsUnderWay h S c.args.self.now → IsPairOf h S c.args.book.now c.args.weight → IsUnderWay h S c.add.new.self)
     (λ added h S under of. subst (IsUnderWay h S) (sym added)
-    (goes_on h S c.args.self.now c.args.book.now c.args.weight c.in_ok-plan.plan c.requires.weight.0 c.requires.next
+    (goes_on h S c.args.self.now c.args.book.now c.args.weight c.in_ok-plan.plan c.plan_next.ensures.valid c.requires.weight.0 c.requires.next
     (λ T. c.in_ok-plan.ensures.fills h T) c.in_ok-plan.ensures.parties under of))
     c.add.ensures.added

@@ -10,7 +10,7 @@ pub returns : goal.returns
 returns c = record {
   sums = record {
     credit_is = c.in_ok-open.ensures.valid;
-    lines_are = subst (λ (credit : Credit). StandsFor c.args.session.now (opening c.args.session.now) credit) (sym c.in_ok-open.ensures.value) (StandsFor-opened c.args.session.now c.banks-banks.ensures.valid);
+    lines_are = subst (λ (credit : Credit). StandsFor c.args.session.now (opening c.args.session.now) credit) (sym c.in_ok-open.ensures.value) (StandsFor-opened c.args.session.now);
     volumes_are = c.in_ok-no_volumes.ensures.value;
     flows_are = c.in_ok-open-2.ensures.value;
   };

@@ -4,7 +4,7 @@ use Rattle.flat_host.proofs.host.FlatHost.answer.Goals as goal
 
 pub returns-clause-tells : goal.returns-clause-tells
 returns-clause-tells c =
-    tells-by_view c.args.self.now c.args.bank c.args.command.now c.in_ok-outcome.outcome c.requires.sender c.requires.command c.in_ok-outcome.ensures.answers
+    tells-by_view c.args.self.now c.args.bank c.args.command.now c.in_ok-outcome.outcome c.requires.command c.in_ok-outcome.ensures.answers
 
 pub returns-clause-fills : goal.returns-clause-fills
 returns-clause-fills c =

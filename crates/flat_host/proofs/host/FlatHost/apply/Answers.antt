@@ -2,8 +2,12 @@
 use Rattle.fx_rules.specs.Market.{GoesOn}
 use Rattle.flat_host.specs.Steps.{StepsEach, stands}
 use Rattle.flat_host.proofs.Stepping.{steps-each}
+use Rattle.flat_host.proofs.Sendable.{sender-place}
 use Rattle.flat_host.proofs.GoingOn.{goes-on, keeps-lines, stays-uncrossed}
 use Rattle.flat_host.proofs.host.FlatHost.apply.Goals as goal
+
+pub carry_out-requires-clause-sender : goal.carry_out-requires-clause-sender
+carry_out-requires-clause-sender c = sender-place c.args.self.now c.args.bank c.args.command.now c.requires.command
 
 pub returns : goal.returns
 returns c =

@@ -1,5 +1,5 @@
 -- One more command is counted.
-use Rattle.std.proofs.Common.{ℕ, ◌≡◌, ◌+◌, ◌-◌, ◌<◌, ◌≤◌, ◌^◌, List, arith, sym, ap, subst, ◌∙◌, get_or, length}
+use Rattle.std.proofs.Common.{ℕ, ◌≡◌, ◌+◌, ◌-◌, ◌<◌, ◌^◌, List, arith, sym, ap, subst, ◌∙◌, get_or, length}
 use Rattle.std.proofs.Math.ListN.{set}
 use Rattle.std.proofs.lemmas.List.{get_or_default}
 use Rattle.fx_rules.specs.Lists.{total}
@@ -16,9 +16,6 @@ same_set counts bank place read at' is within =
     ap (λ p. set counts p (get_or counts p 0 + 1)) (sym at')
     ∙ ap (λ n. set counts place (n + 1)) (sym (is ∙ get_or_default counts place read 0 (omega arith)))
 
-within_both : (bank banks senders : ℕ) → bank < banks → banks ≤ senders → bank < senders
-within_both bank banks senders within counted = omega arith
-
 pub overflow_add-self : goal.overflow_add-self
 overflow_add-self c =
     omega (arith, c.self.invariant.arrivals, total-bounded c.self.inside.counts.items c.self.invariant.state.counts, c.self.invariant.state.senders)
@@ -26,8 +23,7 @@ overflow_add-self c =
 pub invariant_of-self : goal.invariant_of-self
 invariant_of-self c =
     let counts : List ℕ = c.self.inside.counts.items in
-    let bank : c.args.bank < c.self.inside.banks = subst (λ (l : FlatState). c.args.bank < l.banks) (sym c.self.view_is) c.requires.sender in
-    let sender : c.args.bank < length counts = within_both c.args.bank c.self.inside.banks (length counts) bank c.self.invariant.state.counted in
+    let sender : c.args.bank < length counts = subst (λ (l : FlatState). c.args.bank < length l.counts) (sym c.self.view_is) c.requires.sender in
     let below : get_or counts c.args.bank 0 < 2 ^ 32 - 1 = subst (λ (l : FlatState). get_or l.counts c.args.bank 0 < 2 ^ 32 - 1) (sym c.self.view_is) c.requires.count in
     let same = same_set counts c.args.bank c.index.result c.index_mut.result.now c.index.ensures.value c.index_mut.ensures.value sender in
     let l : FlatState = flat_state_of c.self.inside in

@@ -1,5 +1,5 @@
 -- Each command's answer is the market's.
-use Rattle.std.proofs.Common.{◌<◌, ◌≤◌, ◌-◌, ◌^◌, min, arith, eqb, List, Result, Ok, Err, IfOk, sym, ap, subst, ◌∙◌, find, length}
+use Rattle.std.proofs.Common.{◌<◌, ◌-◌, ◌^◌, min, eqb, List, Result, Ok, Err, IfOk, sym, ap, subst, ◌∙◌, find, length}
 use Rattle.std.specs.List.{filter}
 use Rattle.fx_amounts.specs.declared.memory.Memory.{Memory}
 use Rattle.fx_rules.specs.declared.orders.ActiveOrder.{ActiveOrder}
@@ -8,13 +8,11 @@ use Rattle.fx_rules.specs.State.{orders_in}
 use Rattle.fx_rules.specs.Sweep.{Taker, is_order}
 use Rattle.fx_rules.specs.Step.{cancel_answer, reduce_answer}
 use Rattle.flat_host.specs.FlatState.{FlatState}
-use Rattle.flat_host.specs.inside.FlatState.{IsFlatState}
 use Rattle.flat_host.specs.inside.Parts.{OrderedIn}
-use Rattle.flat_host.specs.inside.Turns.{LineSetIn}
+use Rattle.flat_host.specs.inside.Turns.{LineSetIn, TotalSetIn, SettledIn}
 use Rattle.flat_host.specs.Steps.{AnswersEach, ShowsEach}
-use Rattle.flat_host.proofs.Stepping.{order-answers, cancel-answers, reduce-answers, pull-answers, line-answers, show-answers, book-answers, bad-answers}
-use Rattle.flat_host.proofs.Sendable.{order-pair, line-other, book-pair}
-use Rattle.flat_host.proofs.Unsent.{neither}
+use Rattle.flat_host.proofs.Stepping.{order-answers, cancel-answers, reduce-answers, pull-answers, line-answers, total-answers, settle-answers, show-answers, book-answers, bad-answers}
+use Rattle.flat_host.proofs.Sendable.{sender-place, order-pair, book-bank, book-pair}
 use Rattle.flat_host.proofs.host.FlatHost.find_answer.Goals as goal
 
 if_ok : (r : Result Outcome Memory) (P Q : Outcome → Type 0) → ((outcome : Outcome) → P outcome → Q outcome) → IfOk r P → IfOk r Q
@@ -26,12 +24,11 @@ ordered-requires-clause-pair c =
     subst (λ n. n < length c.args.self.now.weights) (sym (ap (λ (t : Taker). t.pair) c.incoming-incoming.ensures.taker))
     (order-pair c.args.self.now c.args.bank c.args.command.now c.in-Order.side c.in-Order.pair c.in-Order.price c.in-Order.lots c.in-Order.life c.requires.command c.in-Order.is)
 
-pub line_set-requires-clause-bank : goal.line_set-requires-clause-bank
-line_set-requires-clause-bank c = omega (arith, c.requires.sender, subst (λ (l : FlatState). l.banks ≤ 64) c.self.view_is c.self.invariant.state.banks)
+pub incoming-incoming-requires-clause-sender : goal.incoming-incoming-requires-clause-sender
+incoming-incoming-requires-clause-sender c = sender-place c.args.self.now c.args.bank c.args.command.now c.requires.command
 
-pub line_set-requires-clause-other : goal.line_set-requires-clause-other
-line_set-requires-clause-other c =
-    omega (arith, line-other c.args.self.now c.args.bank c.args.command.now c.in-Line.other c.in-Line.limit c.requires.command c.in-Line.is, subst (λ (l : FlatState). l.banks ≤ 64) c.self.view_is c.self.invariant.state.banks)
+pub depth-requires-clause-bank : goal.depth-requires-clause-bank
+depth-requires-clause-bank c = book-bank c.args.self.now c.args.bank c.args.command.now c.in-Book.pair c.requires.command c.in-Book.is
 
 pub depth-requires-clause-pair : goal.depth-requires-clause-pair
 depth-requires-clause-pair c = book-pair c.args.self.now c.args.bank c.args.command.now c.in-Book.pair c.requires.command c.in-Book.is
@@ -40,7 +37,7 @@ pub returns-in-Order : goal.returns-in-Order
 returns-in-Order c = record {
   answers = if_ok c.ordered.result (OrderedIn c.args.self.now c.incoming-incoming.result c.in-Order.life) (AnswersEach c.args.self.now c.args.bank c.args.command.now)
       (λ outcome is. order-answers c.args.self.now c.args.bank c.in-Order.side c.in-Order.pair c.in-Order.price c.in-Order.lots c.in-Order.life c.args.command.now
-      c.incoming-incoming.result outcome c.in-Order.is c.incoming-incoming.ensures.taker c.requires.sender c.requires.command is)
+      c.incoming-incoming.result outcome c.in-Order.is c.incoming-incoming.ensures.taker c.requires.command is)
       c.ordered.ensures.ordered;
 }
 
@@ -72,13 +69,29 @@ pub returns-in-Line : goal.returns-in-Line
 returns-in-Line c = record {
   answers = if_ok c.line_set.result (LineSetIn c.args.self.now c.args.bank c.in-Line.other c.in-Line.limit) (AnswersEach c.args.self.now c.args.bank c.args.command.now)
       (λ outcome is. line-answers c.args.self.now c.args.bank c.in-Line.other c.in-Line.limit c.args.command.now outcome
-      (subst IsFlatState c.self.view_is c.self.invariant.state) c.in-Line.is c.requires.sender c.requires.command is)
+      c.line_set.ensures.valid c.in-Line.is c.requires.command is)
       c.line_set.ensures.set;
+}
+
+pub returns-in-Total : goal.returns-in-Total
+returns-in-Total c = record {
+  answers = if_ok c.total_set.result (TotalSetIn c.args.self.now c.args.bank c.in-Total.limit) (AnswersEach c.args.self.now c.args.bank c.args.command.now)
+      (λ outcome is. total-answers c.args.self.now c.args.bank c.in-Total.limit c.args.command.now outcome
+      c.total_set.ensures.valid c.in-Total.is c.requires.command is)
+      c.total_set.ensures.set;
+}
+
+pub returns-in-Settle : goal.returns-in-Settle
+returns-in-Settle c = record {
+  answers = if_ok c.settled.result (SettledIn c.args.self.now c.in-Settle.a c.in-Settle.b c.in-Settle.units) (AnswersEach c.args.self.now c.args.bank c.args.command.now)
+      (λ outcome is. settle-answers c.args.self.now c.args.bank c.in-Settle.a c.in-Settle.b c.in-Settle.units c.args.command.now outcome
+      c.settled.ensures.valid c.in-Settle.is c.requires.command is)
+      c.settled.ensures.settled;
 }
 
 pub returns-in-Show : goal.returns-in-Show
 returns-in-Show c = record {
-  answers = show-answers c.args.self.now c.args.bank c.in-Show.other c.args.command.now c.shown.result c.in-Show.is c.requires.sender c.requires.command c.shown.ensures.shown;
+  answers = show-answers c.args.self.now c.args.bank c.in-Show.other c.args.command.now c.shown.result c.in-Show.is c.requires.command c.shown.ensures.shown;
 }
 
 pub returns-in-Book : goal.returns-in-Book
@@ -90,7 +103,3 @@ returns-in-Book c = record {
 
 pub returns-in-Bad : goal.returns-in-Bad
 returns-in-Bad c = record { answers = bad-answers c.args.self.now c.args.bank c.in-Bad.reason c.args.command.now c.in-Bad.is }
-
--- there are no totals and no settlements yet
-pub unreachable-requires : goal.unreachable-requires
-unreachable-requires c = neither c.args.self.now c.args.bank c.args.command.now c.requires.command c.in-Total.is

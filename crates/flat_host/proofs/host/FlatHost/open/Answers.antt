@@ -1,7 +1,8 @@
 -- What was made is the flat state as the day opens.
-use Rattle.std.proofs.Common.{ℕ, List, ◌≡◌, sym, ap, subst, ◌∙◌, length, arith, replicate, map}
+use Rattle.std.proofs.Common.{ℕ, List, ◌≡◌, sym, ap, subst, ◌∙◌, replicate, map}
 use Rattle.fx_rules.specs.declared.session.PairRule.{PairRule}
 use Rattle.fx_rules.specs.Lists.{total}
+use Rattle.fx_rules.specs.Session.{sender_places}
 use Rattle.flat_host.specs.inside.Host.{flat_state_of}
 use Rattle.flat_host.proofs.OpeningLemmas.{IsOpening, opening-state, opening-stands, total_zero}
 use Rattle.flat_host.proofs.host.FlatHost.open.Goals as goal
@@ -10,23 +11,17 @@ zeros_same : (counts : List ℕ) (read banks : ℕ) → read ≡ banks → count
 zeros_same counts read banks same are = subst (λ n. counts ≡ replicate n 0) same are
 
 opened : (c : goal.In_ok-weights_of) → IsOpening c.args.session.now (flat_state_of (record {
-  banks = length c.banks-banks.result.now;
   orders = c.new.result;
-  limits = c.in_ok-opening_limits.field-0;
-  uses = c.in_ok-no_uses.field-0;
+  credit = c.in_ok-open.field-0;
   counts = c.in_ok-vec.field-0;
   arrivals = 0;
   weights = c.in_ok-weights_of.field-0;
 }))
 opened c = record {
-  session = c.banks-banks.ensures.valid;
-  banks = ap length c.banks-banks.ensures.value;
+  session = c.places_of-places.ensures.valid;
   orders = c.new.ensures.items;
-  limits_full = omega (arith, c.in_ok-opening_limits.ensures.full);
-  limits = c.in_ok-opening_limits.ensures.limits;
-  uses_full = omega (arith, c.in_ok-no_uses.ensures.full);
-  uses = c.in_ok-no_uses.ensures.uses;
-  counts = zeros_same c.in_ok-vec.field-0.items (length c.banks-banks.result.now) (length c.args.session.now.banks) (ap length c.banks-banks.ensures.value)
+  credit = c.in_ok-open.ensures.opens;
+  counts = zeros_same c.in_ok-vec.field-0.items c.places_of-places.result (sender_places c.args.session.now) c.places_of-places.ensures.value
       (c.in_ok-vec.ensures.items_if_clones_equal (λ y same. same));
   weights = c.in_ok-weights_of.ensures.weights ∙ ap (map (λ (rule : PairRule). rule.weight)) c.pairs.ensures.value;
 }
@@ -34,12 +29,12 @@ opened c = record {
 pub invariant_of-result : goal.invariant_of-result
 invariant_of-result c = record {
   state = opening-state c.args.session.now _ (opened c);
-  arrivals = sym (ap (total (λ n. n)) (opened c).counts ∙ total_zero (length c.args.session.now.banks));
+  arrivals = sym (ap (total (λ n. n)) (opened c).counts ∙ total_zero (sender_places c.args.session.now));
 }
 
 pub returns : goal.returns
 returns c = record {
-  banks = (opened c).banks;
+  banks = (opened c).credit.banks;
   opens = opening-stands c.args.session.now _ (opened c);
   counts = (opened c).counts;
   weights = (opened c).weights;

@@ -1,8 +1,16 @@
-use Rattle.std.proofs.Common.{sym, subst}
+use Rattle.std.proofs.Common.{◌<◌, sym, subst}
+use Rattle.fx_rules.specs.Session.{bank_count}
 use Rattle.pair_steps.specs.Carries.{HasRoomFor}
+use Rattle.pair_steps.proofs.Sent.{sent-by_bank}
 use Rattle.pair_shards.specs.Shards.{PairState}
 use Rattle.fx_host.proofs.Serving.{serves-submitted}
 use Rattle.fx_host.proofs.host.Host.serve_in.Goals as goal
+
+pub make_room-requires : goal.make_room-requires
+make_room-requires g c = record {
+  bank = subst (λ bank. bank < bank_count g.N.Naming.session) (sym c.bank.ensures.value)
+      (sent-by_bank g.N.Naming.session c.args.pass.now.key _ c.args.command.now c.requires.command c.requires.pair);
+}
 
 pub serve_under-requires-clause-room : goal.serve_under-requires-clause-room
 serve_under-requires-clause-room g c =

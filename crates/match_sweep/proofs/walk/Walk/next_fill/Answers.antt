@@ -3,12 +3,17 @@ use Rattle.std.proofs.Common.{ℕ, List, Some, ap, arith}
 use Rattle.fx_rules.specs.declared.orders.Resting.{Resting}
 use Rattle.global_book.specs.Book.{AreOwners, Book, IsBook}
 use Rattle.match_sweep.specs.inside.Walks.{WholeWalk, whole, IsReady, IsRenewed, IsPicked}
-use Rattle.match_sweep.proofs.Stepping.{Chosen, renewed-set, set-chosen, set-none, set-near, taken-leads, taken-ready, renewed-leads, renewed-ends, renewed-left}
+use Rattle.match_sweep.proofs.Stepping.{Chosen, owner_within, renewed-set, set-chosen, set-none, set-near, taken-leads, taken-ready, renewed-leads, renewed-ends, renewed-left}
 use Rattle.match_sweep.proofs.walk.Walk.next_fill.Goals as goal
 
 chosen : (book : Book) (old walk : WholeWalk) (owners : List ℕ) (found : Resting) → IsBook book → AreOwners book owners → IsReady book old → IsRenewed book old walk → IsPicked walk owners (Some found) → Chosen book walk found
 chosen book old walk owners found is are ready renewed picked =
     set-chosen book walk owners found is are (renewed-set book old walk ready renewed) picked
+
+pub best_head-requires : goal.best_head-requires
+best_head-requires g c = record {
+  few = λ bank there. omega (arith, owner_within c.args.book.now c.owners.result.now bank c.owners.ensures.valid c.owners.ensures.owners there, c.requires.ready.few);
+}
 
 pub returns-in_err-maker-clause-steps : goal.returns-in_err-maker-clause-steps
 returns-in_err-maker-clause-steps g c =

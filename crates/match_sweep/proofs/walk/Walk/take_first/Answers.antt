@@ -44,7 +44,7 @@ returns-clause-begins g c =
           ∙ first_fill-is book c.args.lines.now old.weight t c.args.owners.now c.args.opening.now c.requires.valid c.requires.owners c.requires.opening walk begins)
           (taken-leads book walk (whole c.take.new.self c.open_banks.new.heads) c.args.opening.now.first c.take.result (omega (arith, c.requires.weight.0, begins.weighs)) (omega (arith, c.requires.left, ap (λ (u : Taker). u.left) begins.order)) chosen (c.take.ensures.taken c.open_banks.new.heads));
       ready = taken-ready book walk (whole c.take.new.self c.open_banks.new.heads) c.args.opening.now.first c.take.result
-          (opened-near book c.args.lines.now old.weight t c.args.owners.now c.args.opening.now c.requires.valid c.requires.owners c.requires.opening old walk refl opened c.requires.weight
+          (opened-near book c.args.lines.now old.weight t c.args.owners.now c.args.opening.now c.requires.valid c.requires.owners c.requires.opening old walk refl opened c.requires.weight c.requires.few
           (omega (arith, c.requires.bank, c.requires.banks)) begins)
           chosen (c.take.ensures.taken c.open_banks.new.heads);
     }

@@ -1,8 +1,9 @@
 use Rattle.std.proofs.Common.{◌+◌, ap, sym, subst, ◌∙◌, arith}
 use Rattle.fx_rules.specs.declared.outcome.Entry.{Entry}
-use Rattle.fx_rules.proofs.Plain.{only_one, first-command}
 use Rattle.fx_chronicle.specs.Faces.{Chronicle, Witness}
+use Rattle.fx_rules.specs.Step.{IsCommand}
 use Rattle.fx_rules.specs.History.{IsLegal, own}
+use Rattle.flat_host.proofs.GoingOn.{legal-command}
 use Rattle.one_lock_host.proofs.Serving.{count_is, goes_on, committed, sender_pends, floor_after, entries_after, entry_is}
 use Rattle.one_lock_host.proofs.floor.Floor.serve.Goals as goal
 
@@ -15,14 +16,10 @@ unreachable-requires g c =
       count_is _ _ _ _ _ _ _ c.self.invariant c.bank-bank.ensures.value c.count-count.ensures.value c.catch_up.ensures.own,
     )
 
-pub answer-requires-clause-sender : goal.answer-requires-clause-sender
-answer-requires-clause-sender g c =
-    omega (
-      arith,
-      c.self.invariant.stands.banks,
-      c.bank-bank.ensures.value,
-      first-command g.N.Naming.session c.args.pass.now.key c.args.command.now (only_one g.N.Naming.session c.self.invariant.legal.session) c.requires.command,
-    )
+pub answer-requires-clause-command : goal.answer-requires-clause-command
+answer-requires-clause-command g c =
+    legal-command g.N.Naming.session _ _ _ _ c.self.invariant.legal c.self.invariant.stands
+    (subst (λ bank. IsCommand g.N.Naming.session bank c.args.command.now) (sym c.bank-bank.ensures.value) c.requires.command)
 
 pub follow-requires : goal.follow-requires
 follow-requires g c = record {

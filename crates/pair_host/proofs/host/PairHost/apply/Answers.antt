@@ -4,4 +4,4 @@ use Rattle.pair_host.proofs.Sending.{told_by-table}
 use Rattle.pair_host.proofs.host.PairHost.apply.Goals as goal
 
 pub tell-requires-clause-no_pair : goal.tell-requires-clause-no_pair
-tell-requires-clause-no_pair c = told_by-table c.args.self.now c.args.bank c.args.command.now c.requires.may_send (search rules) (search rules)
+tell-requires-clause-no_pair c = told_by-table c.args.command.now (search rules) (search rules)

@@ -11,28 +11,42 @@ use Rattle.pair_host.specs.Standing.{HostState, stands}
 use Rattle.pair_host.specs.inside.Books.{AreHosted, EachBook, IsCarried, host_of}
 use Rattle.pair_host.proofs.Sending.{may-send}
 use Rattle.pair_host.proofs.Holding.{written, hosted-by}
-use Rattle.pair_host.proofs.Serving.{IsPlanned, opens-change, planned-by, planned-answers, change-goes_on, table-next, table-follows}
+use Rattle.pair_host.proofs.Serving.{IsPlanned, opens-banks, opens-change, sends-from, planned-by, planned-answers, change-goes_on, table-next, table-follows}
 use Rattle.pair_host.proofs.host.PairHost.change.Goals as goal
 
-pub open-change-requires : goal.open-change-requires
-open-change-requires c =
+pub open-requires : goal.open-requires
+open-requires c =
     let books : List Book = c.self.inside.books.items in
     let table : Table = c.self.inside.table in
     let some : InSome (stands (host_of books table)) (MaySend c.args.bank c.args.command.now) =
     subst (λ (host : HostState). InSome (stands host) (MaySend c.args.bank c.args.command.now)) (sym c.self.view_is) c.requires.may_send in
     record { change = subst (λ (credit : Credit). IsChange credit.banks c.args.bank c.args.command.now) (sym c.lines.ensures.value) (opens-change books table c.args.bank c.args.command.now some c.requires.change) }
 
+pub plan_turns-requires-clause-banks : goal.plan_turns-requires-clause-banks
+plan_turns-requires-clause-banks c =
+    let books : List Book = c.self.inside.books.items in
+    let table : Table = c.self.inside.table in
+    let some : InSome (stands (host_of books table)) (MaySend c.args.bank c.args.command.now) =
+    subst (λ (host : HostState). InSome (stands host) (MaySend c.args.bank c.args.command.now)) (sym c.self.view_is) c.requires.may_send in
+    opens-banks books table c.args.bank c.args.command.now c.lines.result.now c.in_ok-change.change some c.lines.ensures.value c.in_ok-change.ensures.opens
+
+pub sender-requires-clause-sender : goal.sender-requires-clause-sender
+sender-requires-clause-sender c =
+    sends-from c.self.inside.books.items c.self.inside.table c.args.bank c.args.command.now
+    (subst (λ (host : HostState). InSome (stands host) (MaySend c.args.bank c.args.command.now)) (sym c.self.view_is) c.requires.may_send)
+
 pub follow-requires : goal.follow-requires
 follow-requires c =
     let books : List Book = c.self.inside.books.items in
     let table : Table = c.self.inside.table in
+    let some : InSome (stands (host_of books table)) (MaySend c.args.bank c.args.command.now) =
+    subst (λ (host : HostState). InSome (stands host) (MaySend c.args.bank c.args.command.now)) (sym c.self.view_is) c.requires.may_send in
     let planned : IsPlanned books table c.plan_turns.new.change c.args.bank c.args.command.now c.in_ok-outcome.outcome =
-    planned-by books c.deref.result.now table c.lines.result.now c.open-change.result c.plan_turns.new.change c.args.bank c.args.command.now c.in_ok-outcome.outcome
-    c.deref.ensures.value c.lines.ensures.value c.open-change.ensures.opens c.open-change.ensures.begins c.in_ok-plan_turns.ensures.under_way c.in_ok-plan_turns.ensures.turns
-    c.in_ok-plan_turns.ensures.command c.in_ok-plan_turns.ensures.bank c.in_ok-outcome.ensures.value c.in_ok-outcome.ensures.answers in
+    planned-by books c.deref.result.now table c.lines.result.now c.in_ok-change.change c.plan_turns.new.change c.args.bank c.args.command.now c.in_ok-outcome.outcome
+    c.deref.ensures.value c.lines.ensures.value (may-send (host_of books table) c.args.bank c.args.command.now some) c.in_ok-change.ensures.opens c.in_ok-change.ensures.begins c.in_ok-plan_turns.ensures.under_way c.in_ok-plan_turns.ensures.turns
+    c.in_ok-plan_turns.ensures.command c.in_ok-plan_turns.ensures.sender c.in_ok-outcome.ensures.value c.in_ok-outcome.ensures.answers in
     record {
-      next = table-next books table c.args.bank c.sender.result.number c.args.command.now c.in_ok-outcome.outcome
-          (subst (λ (host : HostState). InSome (stands host) (MaySend c.args.bank c.args.command.now)) (sym c.self.view_is) c.requires.may_send)
+      next = table-next books table c.args.bank c.sender.result.number c.args.command.now c.in_ok-outcome.outcome some
           (ap (λ (s : Sender). s.number) c.sender.ensures.value)
           (planned-answers books table c.plan_turns.new.change c.args.bank c.args.command.now c.in_ok-outcome.outcome planned);
     }
@@ -57,9 +71,9 @@ returns-clause-goes_on c =
     let some : InSome (stands (host_of books table)) (MaySend c.args.bank c.args.command.now) =
     subst (λ (host : HostState). InSome (stands host) (MaySend c.args.bank c.args.command.now)) (sym c.self.view_is) c.requires.may_send in
     let planned : IsPlanned books table c.plan_turns.new.change c.args.bank c.args.command.now c.in_ok-outcome.outcome =
-    planned-by books c.deref.result.now table c.lines.result.now c.open-change.result c.plan_turns.new.change c.args.bank c.args.command.now c.in_ok-outcome.outcome
-    c.deref.ensures.value c.lines.ensures.value c.open-change.ensures.opens c.open-change.ensures.begins c.in_ok-plan_turns.ensures.under_way c.in_ok-plan_turns.ensures.turns
-    c.in_ok-plan_turns.ensures.command c.in_ok-plan_turns.ensures.bank c.in_ok-outcome.ensures.value c.in_ok-outcome.ensures.answers in
+    planned-by books c.deref.result.now table c.lines.result.now c.in_ok-change.change c.plan_turns.new.change c.args.bank c.args.command.now c.in_ok-outcome.outcome
+    c.deref.ensures.value c.lines.ensures.value (may-send (host_of books table) c.args.bank c.args.command.now some) c.in_ok-change.ensures.opens c.in_ok-change.ensures.begins c.in_ok-plan_turns.ensures.under_way c.in_ok-plan_turns.ensures.turns
+    c.in_ok-plan_turns.ensures.command c.in_ok-plan_turns.ensures.sender c.in_ok-outcome.ensures.value c.in_ok-outcome.ensures.answers in
     let carried : EachBook (IsCarried c.plan_turns.new.change) books new =
     subst (λ (was : List Book). EachBook (IsCarried c.plan_turns.new.change) was new) c.deref_mut.ensures.value c.carry_turns.ensures.carried in
     let cut : take c.self.inside.books.len (new ++ drop (length new) books) ≡ new =

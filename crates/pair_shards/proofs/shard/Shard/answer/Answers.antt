@@ -1,19 +1,11 @@
 use Rattle.std.proofs.Common.{ap, arith}
-use Rattle.fx_rules.proofs.Plain.{only_one, first-places}
 use Rattle.credit_lines.specs.Credit.{Credit}
 use Rattle.pair_shards.proofs.Keeping.{answers}
 use Rattle.pair_shards.proofs.shard.Shard.answer.Goals as goal
 
--- while there is one version the senders are the banks
 pub answer-requires-clause-bank : goal.answer-requires-clause-bank
 answer-requires-clause-bank g c =
-    omega (
-      arith,
-      c.requires.sender,
-      ap (λ (l : Credit). l.banks) c.lines.ensures.value,
-      c.lines.ensures.kept.stands.lines.banks,
-      first-places g.N.Naming.session (only_one g.N.Naming.session c.lines.ensures.kept.legal.session),
-    )
+    omega (arith, c.requires.sender, ap (λ (l : Credit). l.banks) c.lines.ensures.value, c.lines.ensures.kept.stands.lines.banks)
 
 pub returns : goal.returns
 returns g c = record {

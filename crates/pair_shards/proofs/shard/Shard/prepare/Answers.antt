@@ -1,5 +1,13 @@
+use Rattle.std.proofs.Common.{◌<◌, sym, subst}
+use Rattle.fx_rules.specs.Session.{bank_count}
+use Rattle.pair_steps.proofs.Sent.{sent-by_bank}
 use Rattle.pair_shards.proofs.Signing.{prepared}
 use Rattle.pair_shards.proofs.shard.Shard.prepare.Goals as goal
+
+pub answer-requires-clause-sender : goal.answer-requires-clause-sender
+answer-requires-clause-sender g c =
+    subst (λ sender. sender < bank_count g.N.Naming.session) (sym c.sender-sender.ensures.bank)
+    (sent-by_bank g.N.Naming.session c.args.pass.now.key _ c.args.command.now c.requires.command c.requires.pair)
 
 pub returns-clause-prepared : goal.returns-clause-prepared
 returns-clause-prepared g c =

@@ -5,6 +5,7 @@ use Rattle.fx_edges.proofs.Writing.{IsPrefixOf-trans}
 use Rattle.fx_rules.specs.declared.orders.Fill.{Fill}
 use Rattle.fx_rules.specs.Lists.{Each}
 use Rattle.fx_rules.specs.Step.{fills_of}
+use Rattle.fx_rules.proofs.Senders.{suits-sender}
 use Rattle.reply_lines.specs.Notices.Notice.{Replied}
 use Rattle.reply_lines.specs.Prints.{IsFillOf}
 use Rattle.reply_lines.specs.Telling.{Addressed, addressed_to, fill_addressed}
@@ -18,7 +19,7 @@ tell_reply-requires c =
     let e = c.args.entry.now in
     record {
       answer = c.requires.entry.answer;
-      sender = c.requires.entry.sender;
+      sender = suits-sender c.args.session.now e.bank e.command c.requires.entry.command.sends;
       can = can-first (addressed_to e.bank (Replied e) ∷ []) (flat_map fill_addressed (fills_of e.outcome)) c.requires.can;
     }
 

@@ -1,4 +1,4 @@
-use Rattle.std.proofs.Common.{◌-◌, ℕ, ◌≡◌, ◌≤◌, ◌++◌, List, Some}
+use Rattle.std.proofs.Common.{◌-◌, ℕ, ◌≡◌, ◌≤◌, List, Some}
 use Rattle.fx_rules.specs.Session.{Header}
 use Rattle.session_script.specs.Stage.{Past, session_at}
 use Rattle.session_script.specs.inside.Stage.{past_behind}

@@ -1,0 +1,364 @@
+-- The best order of levels, as one of these changes.
+use Rattle.std.proofs.Common.{ℕ, ◌≡◌, ◌≢◌, ◌-◌, ◌≤◌, ◌<◌, ◌==◌, ◌⊎◌, ◌^◌, nat_eq, Bool, true, false, cond, if◌then◌else◌, List, [], length, get_or, replicate, Option, Some, None, inl, inr, refl, ap, sym, subst, ◌∙◌, arith}
+use Rattle.std.proofs.Math.ListN.{set}
+use Rattle.std.proofs.lemmas.List.{get_or-replicate, get_or-set_other, get_or-set_same}
+use Rattle.std.specs.Map.{lookup}
+use Rattle.std.specs.Prelude.{IfSome}
+use Rattle.std.proofs.lemmas.Bool.{cases_eq, cases_lt, eq-eqb, le-leb, lt-leb, ne_eqb}
+use Rattle.price_levels.specs.declared.level.Level.{Level}
+use Rattle.price_levels.specs.Rungs.{Rungs, holds, level_at, with_level_at}
+use Rattle.price_levels.specs.Ticks.{first_left, last_left, no_level, with_order, without_order}
+use Rattle.access_index.specs.declared.words.Head.{Head}
+use Rattle.access_index.specs.Heads.{IsHead, IsLeastHead, IsUpTo}
+use Rattle.access_index.specs.Ranked.{IsBestHead, IsHeadOf, bank_holds, bank_level, holds_in, level_in, with_bank_level}
+use Rattle.access_index.specs.inside.Ranked.{AreRanked, head_with}
+
+-- levels that are the same at each rank have the same best order
+pub head_same : (old new : ℕ → Level) (head : Option Head) → ((rank : ℕ) → new rank ≡ old rank) → IsHeadOf old head → IsHeadOf new head
+head_same old new None same none = λ rank. ap (λ (l : Level). l.lots) (same rank) ∙ none rank
+head_same old new (Some head) same is = (
+  record {
+    from_on = is.0.from_on;
+    some = λ none. is.0.some (sym (ap (λ (l : Level). l.lots) (same head.rank)) ∙ none);
+    first = λ other start before. ap (λ (l : Level). l.lots) (same other) ∙ is.0.first other start before;
+  },
+  is.1 ∙ sym (ap (λ (l : Level). l.first) (same head.rank)),
+)
+
+-- a level of a rank, and those of all others
+at_rank : (old : ℕ → Level) (rank : ℕ) (level : Level) → with_level_at old rank level rank ≡ level
+at_rank old rank level = ap (λ (b : Bool). if b then level else old rank) (eq-eqb rank rank refl)
+
+at_other : (old : ℕ → Level) (rank other : ℕ) (level : Level) → other ≢ rank → with_level_at old rank level other ≡ old other
+at_other old rank other level differ = ap (λ (b : Bool). if b then level else old other) (ne_eqb other rank differ)
+
+-- a level gets other lots, and has some still
+pub head_kept : (old : ℕ → Level) (rank : ℕ) (level : Level) (head : Option Head) → (old rank).lots ≢ 0 → level.lots ≢ 0 → level.first ≡ (old rank).first → IsHeadOf old head
+    → IsHeadOf (with_level_at old rank level) head
+head_kept old rank level None had has same none = absurd (had (none rank))
+head_kept old rank level (Some head) had has same is =
+    let there : ((with_level_at old rank level head.rank).lots ≢ 0) × ((with_level_at old rank level head.rank).first ≡ (old head.rank).first) =
+    elim (cases_eq head.rank rank) [
+      | inl equal ↦
+          let now : with_level_at old rank level head.rank ≡ level = ap (with_level_at old rank level) equal ∙ at_rank old rank level in (
+            λ none. has (sym (ap (λ (l : Level). l.lots) now) ∙ none),
+            ap (λ (l : Level). l.first) now ∙ same ∙ ap (λ (r : ℕ). (old r).first) (sym equal),
+          )
+      | inr differ ↦ (
+        λ none. is.0.some (sym (ap (λ (l : Level). l.lots) (at_other old rank head.rank level differ)) ∙ none),
+        ap (λ (l : Level). l.first) (at_other old rank head.rank level differ),
+      )
+    ] in (
+      record {
+        from_on = is.0.from_on;
+        some = there.0;
+        first = λ other start before. elim (cases_eq other rank) [
+          | inl equal ↦ absurd (had (ap (λ (r : ℕ). (old r).lots) (sym equal) ∙ is.0.first other start before))
+          | inr differ ↦ ap (λ (l : Level). l.lots) (at_other old rank other level differ) ∙ is.0.first other start before
+        ];
+      },
+      is.1 ∙ sym there.1,
+    )
+
+-- an order comes at a rank that had none, before the best one so far
+newly : (old : ℕ → Level) (rank place lots : ℕ) → 0 < lots → ((other : ℕ) → other ≤ rank → (old other).lots ≡ 0)
+    → IsHeadOf (with_level_at old rank (with_order (old rank) place lots)) (Some (record { rank = rank; place = place }))
+newly old rank place lots some none =
+    let now = at_rank old rank (with_order (old rank) place lots) in (
+      record {
+        from_on = omega arith;
+        some = λ no'. absurd (omega (arith, sym (ap (λ (l : Level). l.lots) now) ∙ no', some));
+        first = λ other start before.
+            ap (λ (l : Level). l.lots) (at_other old rank other (with_order (old rank) place lots) (λ equal. omega (arith, before, equal))) ∙ none other (omega (arith, before));
+      },
+      sym (ap (λ (l : Level). l.first) now ∙ ap (λ (n : ℕ). if n == 0 then place else (old rank).first) (none rank (omega arith))),
+    )
+
+pub head_come : (old : ℕ → Level) (rank place lots : ℕ) (head : Option Head) → 0 < lots → IsHeadOf old head
+    → IsHeadOf (with_level_at old rank (with_order (old rank) place lots)) (head_with head rank place)
+head_come old rank place lots None some none = newly old rank place lots some (λ other upto. none other)
+head_come old rank place lots (Some head) some is =
+    elim (cases_lt rank head.rank) [
+      | inl better ↦
+          subst (IsHeadOf (with_level_at old rank (with_order (old rank) place lots)))
+          (sym (ap (λ (b : Bool). if b then Some head else Some (record { rank = rank; place = place })) (lt-leb head.rank rank better)))
+          (newly old rank place lots some (λ other upto. is.0.first other (omega arith) (omega (arith, upto, better))))
+      | inr behind ↦
+          subst (IsHeadOf (with_level_at old rank (with_order (old rank) place lots)))
+          (sym (ap (λ (b : Bool). if b then Some head else Some (record { rank = rank; place = place })) (le-leb head.rank rank behind)))
+          (elim (cases_eq (old rank).lots 0) [
+            | inl empty ↦ beside empty behind
+            | inr has ↦
+                head_kept old rank (with_order (old rank) place lots) (Some head) has (λ none. absurd (omega (arith, none, some)))
+                (ap (λ (b : Bool). if b then place else (old rank).first) (ne_eqb (old rank).lots 0 has)) is
+          ])
+    ]
+  where
+    beside : (old rank).lots ≡ 0 → head.rank ≤ rank → IsHeadOf (with_level_at old rank (with_order (old rank) place lots)) (Some head)
+    beside empty behind =
+        let apart : head.rank ≢ rank = λ equal. is.0.some (ap (λ (r : ℕ). (old r).lots) equal ∙ empty) in
+        let same = at_other old rank head.rank (with_order (old rank) place lots) apart in (
+          record {
+            from_on = is.0.from_on;
+            some = λ none. is.0.some (sym (ap (λ (l : Level). l.lots) same) ∙ none);
+            first = λ other start before.
+                ap (λ (l : Level). l.lots) (at_other old rank other (with_order (old rank) place lots) (λ equal. omega (arith, before, equal, behind))) ∙ is.0.first other start before;
+          },
+          is.1 ∙ sym (ap (λ (l : Level). l.first) same),
+        )
+
+-- One bank's levels are others: its ladder was written.
+abbrev pub Writes : List (ℕ × Rungs) → List (ℕ × Rungs) → ℕ → Rungs → Type 0
+Writes owners owners' bank rungs = (q : ℕ) → lookup (nat_eq q) owners' ≡ cond (nat_eq bank q) (Some rungs) (lookup (nat_eq q) owners)
+
+looked_other : (owners owners' : List (ℕ × Rungs)) (bank : ℕ) (rungs : Rungs) (other : ℕ) → Writes owners owners' bank rungs → other ≢ bank → lookup (nat_eq other) owners' ≡ lookup (nat_eq other) owners
+looked_other owners owners' bank rungs other writes differ =
+    writes other ∙ ap (λ (b : Bool). cond b (Some rungs) (lookup (nat_eq other) owners)) (ne_eqb bank other (λ e. differ (sym e)))
+
+looked_same : (owners owners' : List (ℕ × Rungs)) (bank : ℕ) (rungs : Rungs) → Writes owners owners' bank rungs → lookup (nat_eq bank) owners' ≡ Some rungs
+looked_same owners owners' bank rungs writes = writes bank ∙ ap (λ (b : Bool). cond b (Some rungs) (lookup (nat_eq bank) owners)) (eq-eqb bank bank refl)
+
+pub other_level : (owners owners' : List (ℕ × Rungs)) (bank : ℕ) (rungs : Rungs) (other at : ℕ) → Writes owners owners' bank rungs → other ≢ bank → bank_level owners' other at ≡ bank_level owners other at
+other_level owners owners' bank rungs other at writes differ = ap (λ (o : Option Rungs). level_in o at) (looked_other owners owners' bank rungs other writes differ)
+
+pub own_level : (owners owners' : List (ℕ × Rungs)) (bank : ℕ) (rungs : Rungs) (at : ℕ) → Writes owners owners' bank rungs → bank_level owners' bank at ≡ level_at rungs at
+own_level owners owners' bank rungs at writes = ap (λ (o : Option Rungs). level_in o at) (looked_same owners owners' bank rungs writes)
+
+pub other_holds : (owners owners' : List (ℕ × Rungs)) (bank : ℕ) (rungs : Rungs) (other at : ℕ) → Writes owners owners' bank rungs → other ≢ bank → bank_holds owners' other at ≡ bank_holds owners other at
+other_holds owners owners' bank rungs other at writes differ = ap (λ (o : Option Rungs). holds_in o at) (looked_other owners owners' bank rungs other writes differ)
+
+pub own_holds : (owners owners' : List (ℕ × Rungs)) (bank : ℕ) (rungs : Rungs) (at : ℕ) → Writes owners owners' bank rungs → bank_holds owners' bank at ≡ holds rungs at
+own_holds owners owners' bank rungs at writes = ap (λ (o : Option Rungs). holds_in o at) (looked_same owners owners' bank rungs writes)
+
+-- what a bank had
+pub had_level : (owners : List (ℕ × Rungs)) (bank : ℕ) (rungs : Rungs) (at : ℕ) → lookup (nat_eq bank) owners ≡ Some rungs → bank_level owners bank at ≡ level_at rungs at
+had_level owners bank rungs at is = ap (λ (o : Option Rungs). level_in o at) is
+
+pub had_holds : (owners : List (ℕ × Rungs)) (bank : ℕ) (rungs : Rungs) (at : ℕ) → lookup (nat_eq bank) owners ≡ Some rungs → bank_holds owners bank at ≡ holds rungs at
+had_holds owners bank rungs at is = ap (λ (o : Option Rungs). holds_in o at) is
+
+-- the levels of all banks, once one of one bank is another
+pub levels_written : (owners now owners' : List (ℕ × Rungs)) (bank rank : ℕ) (old new : Rungs) (becomes : Level → Level) → owners ≡ now → lookup (nat_eq bank) owners ≡ Some old
+    → Writes owners owners' bank new → ((at : ℕ) → level_at new at ≡ with_level_at (level_at old) rank (becomes (level_at old rank)) at)
+    → (other at : ℕ) → bank_level owners' other at ≡ with_bank_level (bank_level now) bank rank (becomes (bank_level now bank rank)) other at
+levels_written owners now owners' bank rank old new becomes seen had writes changed =
+    subst (λ (os : List (ℕ × Rungs)). (other at : ℕ) → bank_level owners' other at ≡ with_bank_level (bank_level os) bank rank (becomes (bank_level os bank rank)) other at) seen inside
+  where
+    level : Level
+    level = becomes (bank_level owners bank rank)
+
+    own : (at : ℕ) → level_at new at ≡ with_level_at (level_at old) rank level at
+    own at = changed at ∙ ap (λ (l : Level). with_level_at (level_at old) rank (becomes l) at) (sym (had_level owners bank old rank had))
+
+    inside : (other at : ℕ) → bank_level owners' other at ≡ with_bank_level (bank_level owners) bank rank level other at
+    inside other at =
+        elim (cases_eq other bank) [
+          | inl same ↦
+              ap (λ (k : ℕ). bank_level owners' k at) same ∙ own_level owners owners' bank new at writes ∙ own at
+              ∙ ap (λ (l : Level). if at == rank then level else l) (sym (had_level owners bank old at had) ∙ ap (λ (k : ℕ). bank_level owners k at) (sym same))
+              ∙ sym (ap (λ (b : Bool). if b then with_level_at (bank_level owners other) rank level at else bank_level owners other at) (eq-eqb other bank same))
+          | inr differ ↦
+              other_level owners owners' bank new other at writes differ
+              ∙ sym (ap (λ (b : Bool). if b then with_level_at (bank_level owners other) rank level at else bank_level owners other at) (ne_eqb other bank differ))
+        ]
+
+-- what is ready stays so, but maybe for one rank of one bank
+pub holds_written : (owners now owners' : List (ℕ × Rungs)) (bank : ℕ) (old new : Rungs) (P : ℕ → Type 0) → owners ≡ now → lookup (nat_eq bank) owners ≡ Some old
+    → Writes owners owners' bank new → ((at : ℕ) → P at → holds new at ≡ holds old at)
+    → (other at : ℕ) → (other ≡ bank → P at) → bank_holds owners' other at ≡ bank_holds now other at
+holds_written owners now owners' bank old new P seen had writes kept other at fine =
+    elim (cases_eq other bank) [
+      | inl same ↦
+          ap (λ (k : ℕ). bank_holds owners' k at) same ∙ own_holds owners owners' bank new at writes ∙ kept at (fine same)
+          ∙ sym (had_holds owners bank old at had) ∙ ap (λ (k : ℕ). bank_holds owners k at) (sym same)
+      | inr differ ↦ other_holds owners owners' bank new other at writes differ
+    ]
+    ∙ ap (λ (os : List (ℕ × Rungs)). bank_holds os other at) seen
+
+-- ranks with orders are low, and the places of first orders early
+pub record AreShort (levels : ℕ → Level) : Type 0 where
+  pub low : (rank : ℕ) → (levels rank).lots ≢ 0 → rank ≤ 10 ^ 9
+  pub early : (rank : ℕ) → (levels rank).lots ≢ 0 → (levels rank).first < 2 ^ 28
+
+-- they stay so where one level is another
+pub short_changed : (old new : ℕ → Level) (rank : ℕ) (level : Level) → ((at : ℕ) → new at ≡ with_level_at old rank level at) → AreShort old → (level.lots ≢ 0 → rank ≤ 10 ^ 9)
+    → (level.lots ≢ 0 → level.first < 2 ^ 28) → AreShort new
+short_changed old new rank level changed are low early = record {
+  low = λ at some. elim (cases_eq at rank) [
+    | inl same ↦
+        let now : new at ≡ level = changed at ∙ ap (λ (b : Bool). if b then level else old at) (eq-eqb at rank same) in
+        subst (λ (r : ℕ). r ≤ 10 ^ 9) (sym same) (low (λ none. some (ap (λ (l : Level). l.lots) now ∙ none)))
+    | inr differ ↦ are.low at (λ none. some (ap (λ (l : Level). l.lots) (changed at ∙ at_other old rank at level differ) ∙ none))
+  ];
+  early = λ at some. elim (cases_eq at rank) [
+    | inl same ↦
+        let now : new at ≡ level = changed at ∙ ap (λ (b : Bool). if b then level else old at) (eq-eqb at rank same) in
+        subst (λ (l : Level). l.first < 2 ^ 28) (sym now) (early (λ none. some (ap (λ (l : Level). l.lots) now ∙ none)))
+    | inr differ ↦
+        subst (λ (l : Level). l.first < 2 ^ 28) (sym (changed at ∙ at_other old rank at level differ))
+        (are.early at (λ none. some (ap (λ (l : Level). l.lots) (changed at ∙ at_other old rank at level differ) ∙ none)))
+  ];
+}
+
+-- what is known of a bank's own levels
+pub had_short : (owners : List (ℕ × Rungs)) (heads : List (Option Head)) (bank : ℕ) (old : Rungs) → AreRanked owners heads → bank < 64 → lookup (nat_eq bank) owners ≡ Some old → AreShort (level_at old)
+had_short owners heads bank old are few had = record {
+  low = λ rank some. are.low bank rank few (λ none. some (ap (λ (l : Level). l.lots) (sym (had_level owners bank old rank had)) ∙ none));
+  early = λ rank some.
+      subst (λ (l : Level). l.first < 2 ^ 28) (had_level owners bank old rank had)
+      (are.early bank rank few (λ none. some (ap (λ (l : Level). l.lots) (sym (had_level owners bank old rank had)) ∙ none)));
+}
+
+pub had_head : (owners : List (ℕ × Rungs)) (heads : List (Option Head)) (bank : ℕ) (old : Rungs) → AreRanked owners heads → bank < 64 → lookup (nat_eq bank) owners ≡ Some old
+    → IsHeadOf (level_at old) (get_or heads bank None)
+had_head owners heads bank old are few had =
+    head_same (bank_level owners bank) (level_at old) (get_or heads bank None) (λ rank. sym (had_level owners bank old rank had)) (are.heads_are bank few)
+
+-- the best orders, once one bank's levels are others and its best order was written down
+pub ranked_written : (owners owners' : List (ℕ × Rungs)) (heads heads' : List (Option Head)) (bank : ℕ) (new : Rungs) → AreRanked owners heads
+    → Writes owners owners' bank new → ((other : ℕ) → other ≢ bank → get_or heads' other None ≡ get_or heads other None) → IsHeadOf (level_at new) (get_or heads' bank None)
+    → AreShort (level_at new) → AreRanked owners' heads'
+ranked_written owners owners' heads heads' bank new are writes kept is short = record {
+  heads_are = λ other few. elim (cases_eq other bank) [
+    | inl same ↦
+        subst (λ (k : ℕ). IsHeadOf (bank_level owners' k) (get_or heads' k None)) (sym same)
+        (head_same (level_at new) (bank_level owners' bank) (get_or heads' bank None) (λ rank. own_level owners owners' bank new rank writes) is)
+    | inr differ ↦
+        subst (IsHeadOf (bank_level owners' other)) (sym (kept other differ))
+        (head_same (bank_level owners other) (bank_level owners' other) (get_or heads other None) (λ rank. other_level owners owners' bank new other rank writes differ) (are.heads_are other few))
+  ];
+  low = λ other rank few some. elim (cases_eq other bank) [
+    | inl same ↦
+        let now : bank_level owners' other rank ≡ level_at new rank = ap (λ (k : ℕ). bank_level owners' k rank) same ∙ own_level owners owners' bank new rank writes in
+        short.low rank (λ none. some (ap (λ (l : Level). l.lots) now ∙ none))
+    | inr differ ↦ are.low other rank few (λ none. some (ap (λ (l : Level). l.lots) (other_level owners owners' bank new other rank writes differ) ∙ none))
+  ];
+  early = λ other rank few some. elim (cases_eq other bank) [
+    | inl same ↦
+        let now : bank_level owners' other rank ≡ level_at new rank = ap (λ (k : ℕ). bank_level owners' k rank) same ∙ own_level owners owners' bank new rank writes in
+        subst (λ (l : Level). l.first < 2 ^ 28) (sym now) (short.early rank (λ none. some (ap (λ (l : Level). l.lots) now ∙ none)))
+    | inr differ ↦
+        let now : bank_level owners' other rank ≡ bank_level owners other rank = other_level owners owners' bank new other rank writes differ in
+        subst (λ (l : Level). l.first < 2 ^ 28) (sym now) (are.early other rank few (λ none. some (ap (λ (l : Level). l.lots) now ∙ none)))
+  ];
+}
+
+pub ranked_set : (owners owners' : List (ℕ × Rungs)) (heads : List (Option Head)) (bank : ℕ) (new : Rungs) (head : Option Head) → AreRanked owners heads → length heads ≡ 64 → bank < 64
+    → Writes owners owners' bank new → IsHeadOf (level_at new) head → AreShort (level_at new) → AreRanked owners' (set heads bank head)
+ranked_set owners owners' heads bank new head are count few writes is short =
+    ranked_written owners owners' heads (set heads bank head) bank new are writes (λ other differ. get_or-set_other heads bank other head None differ)
+    (subst (IsHeadOf (level_at new)) (sym (get_or-set_same heads bank head None (omega (arith, count, few)))) is) short
+
+-- no owners
+pub ranked_none : (owners : List (ℕ × Rungs)) (heads : List (Option Head)) → owners ≡ [] → heads ≡ replicate 64 None → AreRanked owners heads
+ranked_none owners heads none are = record {
+  heads_are = λ bank few.
+      subst (λ (hs : List (Option Head)). IsHeadOf (bank_level owners bank) (get_or hs bank None)) (sym are)
+      (subst (IsHeadOf (bank_level owners bank)) (sym (get_or-replicate 64 bank None None few)) (λ rank. ap (λ (os : List (ℕ × Rungs)). (bank_level os bank rank).lots) none));
+  low = λ bank rank few some. absurd (some (ap (λ (os : List (ℕ × Rungs)). (bank_level os bank rank).lots) none));
+  early = λ bank rank few some. absurd (some (ap (λ (os : List (ℕ × Rungs)). (bank_level os bank rank).lots) none));
+}
+
+-- a best order has a word
+pub head_is : (levels : ℕ → Level) (head : Option Head) → AreShort levels → IsHeadOf levels head → IfSome head IsHead
+head_is levels None short none = tt
+head_is levels (Some head) short is = record {
+  rank = short.low head.rank is.0.some;
+  place = subst (λ (n : ℕ). n < 2 ^ 28) (sym is.1) (short.early head.rank is.0.some);
+}
+
+-- no rank before the best order's has orders, also once an order behind it has gone
+pub none_before : (old new : ℕ → Level) (rank : ℕ) (level : Level) (head : Option Head) (from : ℕ) → (old rank).lots ≢ 0 → IsHeadOf old head → ((found : Head) → head ≡ Some found → from ≡ found.rank)
+    → ((at : ℕ) → new at ≡ with_level_at old rank level at) → (at : ℕ) → at < from → (new at).lots ≡ 0
+none_before old new rank level None from some none is changed at before = absurd (some (none rank))
+none_before old new rank level (Some head) from some is_head is changed at before =
+    let early : at < head.rank = omega (arith, before, is head refl) in
+    let empty : (old at).lots ≡ 0 = is_head.0.first at (omega arith) early in
+    elim (cases_eq at rank) [
+      | inl same ↦ absurd (some (ap (λ (r : ℕ). (old r).lots) (sym same) ∙ empty))
+      | inr differ ↦ ap (λ (l : Level). l.lots) (changed at ∙ at_other old rank at level differ) ∙ empty
+    ]
+
+-- the first place of a level that an order left
+pub first_short : (level : Level) (lots : ℕ) (before behind : Option ℕ) → level.first < 2 ^ 28 → IfSome behind (λ place. place < 2 ^ 28) → (without_order level lots before behind).first < 2 ^ 28
+first_short level lots before behind small fits = by_test (level.lots - lots == 0) before behind fits
+  where
+    left : (before behind : Option ℕ) → IfSome behind (λ place. place < 2 ^ 28) → first_left level before behind < 2 ^ 28
+    left None (Some behind) fits = fits
+    left None None fits = small
+    left (Some before) behind fits = small
+
+    by_test : (b : Bool) (before behind : Option ℕ) → IfSome behind (λ place. place < 2 ^ 28)
+        → (if b then no_level else record { lots = level.lots - lots; first = first_left level before behind; last = last_left level before behind }).first < 2 ^ 28
+    by_test true before behind fits = omega arith
+    by_test false before behind fits = left before behind fits
+
+-- and of one to which an order came
+pub first_come : (level : Level) (place lots : ℕ) → place < 2 ^ 28 → (level.lots ≢ 0 → level.first < 2 ^ 28) → (with_order level place lots).first < 2 ^ 28
+first_come level place lots small fits =
+    elim (cases_eq level.lots 0) [
+      | inl none ↦ subst (λ (n : ℕ). n < 2 ^ 28) (sym (ap (λ (b : Bool). if b then place else level.first) (eq-eqb level.lots 0 none))) small
+      | inr some ↦ subst (λ (n : ℕ). n < 2 ^ 28) (sym (ap (λ (b : Bool). if b then place else level.first) (ne_eqb level.lots 0 some))) (fits some)
+    ]
+
+-- the best of the best orders is the best of all that they are the best of
+best_of_one : (levels : ℕ → Level) (own : Option Head) (head : Head) (rank : ℕ) → IsHeadOf levels own → (levels rank).lots ≢ 0 → ((found : Head) → own ≡ Some found → IsUpTo head found)
+    → (head.rank < rank) ⊎ ((head.rank ≡ rank) × (head.place ≤ (levels rank).first))
+best_of_one levels None head rank none some upto = absurd (some (none rank))
+best_of_one levels (Some found) head rank is some upto =
+    let behind : found.rank ≤ rank = elim (cases_lt rank found.rank) [ inl before ↦ absurd (some (is.0.first rank (omega arith) before)) | inr late ↦ late ] in
+    elim (upto found refl) [
+      | inl lower ↦ inl (omega (arith, lower, behind))
+      | inr same ↦
+          elim (cases_lt found.rank rank) [
+            | inl less ↦ inl (omega (arith, same.0, less))
+            | inr no_less ↦
+                let equal : found.rank ≡ rank = omega (arith, behind, no_less) in
+                inr (omega (arith, same.0, equal), omega (arith, same.1, is.1, ap (λ (r : ℕ). (levels r).first) equal))
+          ]
+    ]
+
+pub best_told : (owners now : List (ℕ × Rungs)) (heads : List (Option Head)) (lines : List ℕ) (units : ℕ) (found : Option (ℕ × Head)) → owners ≡ now → AreRanked owners heads
+    → IfSome found (λ one. IsLeastHead heads lines units one.0 one.1) → IfSome found (λ one. IsBestHead now lines units one.0 one.1)
+best_told owners now heads lines units None seen are least = tt
+best_told owners now heads lines units (Some one) seen are least =
+    subst (λ (os : List (ℕ × Rungs)). IsBestHead os lines units one.0 one.1) seen (record {
+      within = least.within;
+      pays = least.pays;
+      there = subst (IsHeadOf (bank_level owners one.0)) least.there (are.heads_are one.0 least.within);
+      best = λ other rank few pays some.
+          best_of_one (bank_level owners other) (get_or heads other None) one.1 rank (are.heads_are other few) some (λ found is. least.first other found few pays is);
+    })
+
+-- a ladder was written whose levels are as they were
+pub same_written : (owners now owners' : List (ℕ × Rungs)) (bank : ℕ) (old new : Rungs) → owners ≡ now → lookup (nat_eq bank) owners ≡ Some old → Writes owners owners' bank new
+    → ((at : ℕ) → level_at new at ≡ level_at old at) → (other at : ℕ) → bank_level owners' other at ≡ bank_level now other at
+same_written owners now owners' bank old new seen had writes same other at =
+    elim (cases_eq other bank) [
+      | inl equal ↦
+          ap (λ (k : ℕ). bank_level owners' k at) equal ∙ own_level owners owners' bank new at writes ∙ same at ∙ sym (had_level owners bank old at had)
+          ∙ ap (λ (k : ℕ). bank_level owners k at) (sym equal)
+      | inr differ ↦ other_level owners owners' bank new other at writes differ
+    ]
+    ∙ ap (λ (os : List (ℕ × Rungs)). bank_level os other at) seen
+
+-- a bank got a ladder without orders
+pub new_written : (owners owners' : List (ℕ × Rungs)) (bank : ℕ) (new : Rungs) → lookup (nat_eq bank) owners ≡ None → Writes owners owners' bank new
+    → ((at : ℕ) → level_at new at ≡ no_level) → (other at : ℕ) → bank_level owners' other at ≡ bank_level owners other at
+new_written owners owners' bank new none writes bare other at =
+    elim (cases_eq other bank) [
+      | inl equal ↦
+          ap (λ (k : ℕ). bank_level owners' k at) equal ∙ own_level owners owners' bank new at writes ∙ bare at
+          ∙ sym (ap (λ (k : ℕ). bank_level owners k at) equal ∙ ap (λ (o : Option Rungs). level_in o at) none)
+      | inr differ ↦ other_level owners owners' bank new other at writes differ
+    ]
+
+-- no level became another one
+pub ranked_same : (owners owners' : List (ℕ × Rungs)) (heads : List (Option Head)) → AreRanked owners heads → ((other at : ℕ) → bank_level owners' other at ≡ bank_level owners other at)
+    → AreRanked owners' heads
+ranked_same owners owners' heads are same = record {
+  heads_are = λ bank few. head_same (bank_level owners bank) (bank_level owners' bank) (get_or heads bank None) (same bank) (are.heads_are bank few);
+  low = λ bank rank few some. are.low bank rank few (λ none. some (ap (λ (l : Level). l.lots) (same bank rank) ∙ none));
+  early = λ bank rank few some.
+      subst (λ (l : Level). l.first < 2 ^ 28) (sym (same bank rank)) (are.early bank rank few (λ none. some (ap (λ (l : Level). l.lots) (same bank rank) ∙ none)));
+}

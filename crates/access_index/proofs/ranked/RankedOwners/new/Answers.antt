@@ -1,0 +1,5 @@
+use Rattle.access_index.proofs.Ranking.{ranked_none}
+use Rattle.access_index.proofs.ranked.RankedOwners.new.Goals as goal
+
+pub invariant_of-result : goal.invariant_of-result
+invariant_of-result c = ranked_none c.in_ok-with_capacity.field-0.entries c.new.result c.in_ok-with_capacity.ensures.empty c.new.ensures

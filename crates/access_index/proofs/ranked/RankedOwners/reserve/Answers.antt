@@ -1,0 +1,20 @@
+use Rattle.std.proofs.Common.{◌≡◌, Some, nat_eq, refl, ap, sym, subst, ◌∙◌}
+use Rattle.std.specs.Map.{lookup}
+use Rattle.std.specs.Option.{IsSome, option_copied_mut}
+use Rattle.access_index.proofs.Ranking.{Writes, ranked_same, same_written}
+use Rattle.access_index.proofs.ranked.RankedOwners.reserve.Goals as goal
+
+pub returns-in-Some-clause-levels : goal.returns-in-Some-clause-levels
+returns-in-Some-clause-levels c =
+    let had : lookup (nat_eq c.args.bank) c.self.inside.ladders.entries ≡ Some c.in-Some.ladder.now = sym c.get_mut.ensures.value ∙ ap option_copied_mut c.in-Some.is in
+    let writes : Writes c.self.inside.ladders.entries (c.get_mut.follows.lender c.reserve.new.self).entries c.args.bank c.reserve.new.self = ((c.get_mut.follows.holds c.reserve.new.self).3 (subst IsSome (sym had) refl)).0 in
+    same_written c.self.inside.ladders.entries c.args.self.now (c.get_mut.follows.lender c.reserve.new.self).entries c.args.bank c.in-Some.ladder.now c.reserve.new.self c.self.view_is had writes
+    c.reserve.ensures.levels
+
+pub invariant_of-self : goal.invariant_of-self
+invariant_of-self c =
+    let had : lookup (nat_eq c.args.bank) c.self.inside.ladders.entries ≡ Some c.in-Some.ladder.now = sym c.get_mut.ensures.value ∙ ap option_copied_mut c.in-Some.is in
+    let writes : Writes c.self.inside.ladders.entries (c.get_mut.follows.lender c.reserve.new.self).entries c.args.bank c.reserve.new.self = ((c.get_mut.follows.holds c.reserve.new.self).3 (subst IsSome (sym had) refl)).0 in
+    ranked_same c.self.inside.ladders.entries (c.get_mut.follows.lender c.reserve.new.self).entries c.self.inside.heads c.self.invariant
+    (same_written c.self.inside.ladders.entries c.self.inside.ladders.entries (c.get_mut.follows.lender c.reserve.new.self).entries c.args.bank c.in-Some.ladder.now c.reserve.new.self refl had writes
+    c.reserve.ensures.levels)

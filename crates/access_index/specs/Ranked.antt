@@ -1,0 +1,40 @@
+-- The levels of all owners of one side, and the best order of each and of those that can be reached.
+use Rattle.std.specs.Prelude.{ℕ, ◌≡◌, ◌≢◌, ◌≤◌, ◌<◌, ◌==◌, ◌⊎◌, if◌then◌else◌, nat_eq, Bool, false, List, Option, Some, None, slice_index}
+use Rattle.std.specs.Map.{lookup}
+use Rattle.price_levels.specs.declared.level.Level.{Level}
+use Rattle.price_levels.specs.Rungs.{IsNextRank, Rungs, holds, level_at, with_level_at}
+use Rattle.price_levels.specs.Ticks.{no_level}
+use Rattle.access_index.specs.declared.words.Head.{Head}
+
+abbrev pub level_in : Option Rungs → ℕ → Level
+level_in None rank = no_level
+level_in (Some rungs) rank = level_at rungs rank
+
+abbrev pub holds_in : Option Rungs → ℕ → Bool
+holds_in None rank = false
+holds_in (Some rungs) rank = holds rungs rank
+
+-- the level of a bank at a rank; one without orders where the bank has none
+abbrev pub bank_level : List (ℕ × Rungs) → ℕ → ℕ → Level
+bank_level owners bank rank = level_in (lookup (nat_eq bank) owners) rank
+
+-- whether an order of a bank can come to rest at a rank without taking memory
+abbrev pub bank_holds : List (ℕ × Rungs) → ℕ → ℕ → Bool
+bank_holds owners bank rank = holds_in (lookup (nat_eq bank) owners) rank
+
+-- the level of a bank at a rank, once that of one bank at one rank is another one
+abbrev pub with_bank_level : (ℕ → ℕ → Level) → ℕ → ℕ → Level → ℕ → ℕ → Level
+with_bank_level levels bank rank level other at = if other == bank then with_level_at (levels other) rank level at else levels other at
+
+-- the best order of levels, if there is one: the first of the first rank that has orders
+abbrev pub IsHeadOf : (ℕ → Level) → Option Head → Type 0
+IsHeadOf levels None = (rank : ℕ) → (levels rank).lots ≡ 0
+IsHeadOf levels (Some head) = IsNextRank levels 0 head.rank × (head.place ≡ (levels head.rank).first)
+
+-- a bank's best order, of those with which a line of so many units at least is left, and no order of theirs is better
+pub record IsBestHead (owners : List (ℕ × Rungs)) (lines : List ℕ) (units bank : ℕ) (head : Head) : Type 0 where
+  pub within : bank < 64
+  pub pays : units ≤ slice_index lines bank
+  pub there : IsHeadOf (bank_level owners bank) (Some head)
+  pub best : (other rank : ℕ) → other < 64 → units ≤ slice_index lines other → (bank_level owners other rank).lots ≢ 0
+      → (head.rank < rank) ⊎ ((head.rank ≡ rank) × (head.place ≤ (bank_level owners other rank).first))

@@ -1,0 +1,89 @@
+ghost use Rattle.std.specs.Prelude.{◌≡◌, ◌<◌, ◌==◌, ◌&&◌, [], ◌∷◌, ◌++◌, length, position, bytes_eq, IfOk, IfSome, OnOk, OnErr};
+ghost use Rattle.fx_rules.specs.Lists.{EachPair};
+ghost use Rattle.client_desk.specs.Clients.{Differ, bank_of_client};
+
+use crate::client::{Client, ClientId};
+use crate::keys::{ClientKey, SoughtKey};
+use fx_amounts::{BankId, Memory};
+use indexmap::IndexSet;
+use std::alloc::Global;
+use std::marker::Model;
+
+/// Clients in the order in which they were declared, no two of one bank and one name. Each is found by its bank and its name at once.
+#[derive(Debug, Drop)]
+pub struct Clients {
+    all: Vec<Client>,
+    /// What each is found by, in the same order.
+    keys: IndexSet<ClientKey>,
+}
+
+impl Model for Clients {
+    ghost use Rattle.std.specs.Prelude.{◌≡◌, List, map};
+    ghost use Rattle.client_desk.specs.declared.client.Client.{Client};
+    ghost use Rattle.client_desk.specs.inside.Keys.{key_of};
+
+    ghost Value = { List Client };
+
+    ghost view = { λ c. c.all.items };
+
+    ghost invariant = { λ c. c.keys.keys ≡ map key_of c.all.items };
+}
+
+impl Clients {
+    /// No clients. It takes no memory.
+    pub fn new(alloc: Global) -> Clients
+        ensures none { result ≡ [] }
+    {
+        Clients {
+            all: Vec::new(alloc),
+            keys: IndexSet::new(alloc),
+        }
+    }
+
+    /// These clients. `Memory` when out of memory.
+    pub fn of(all: &[Client], alloc: Global) -> Result<Clients, Memory>
+        requires differ { EachPair Differ all.now }
+        ensures value { IfOk result (λ clients. clients ≡ all.now) }
+    {
+        let mut clients = Clients::new(alloc);
+        for client in all {
+            clients.push(*client)?;
+        }
+        Ok(clients)
+    }
+
+    /// Adds a client behind the others. After `Memory` they are as they were.
+    pub fn push(&mut self, client: Client) -> Result<(), Memory>
+        requires differ { EachPair Differ (self.old ++ client ∷ []) }
+        ensures pushed { OnOk result (self.new ≡ self.old ++ client ∷ []) }
+        ensures memory { OnErr result (self.new ≡ self.old) }
+    {
+        self.all.reserve(1)?;
+        self.keys.insert(ClientKey::of(&client))?;
+        self.all.push_reserved(client);
+        Ok(())
+    }
+
+    /// All of them. It takes no memory.
+    pub fn as_slice(&self) -> &[Client]
+        ensures value { result.now ≡ self.now }
+    {
+        &self.all
+    }
+
+    /// The bank of a client.
+    pub fn bank_of(&self, client: ClientId) -> BankId
+        requires client { client < length self.now }
+        ensures value { result ≡ bank_of_client self.now client }
+    {
+        self.all[client.index()].bank
+    }
+
+    /// The place of the client of a bank and a name. It takes no memory.
+    pub(crate) fn place_of(&self, bank: BankId, name: &[u8]) -> Option<usize>
+        ensures value { result ≡ position (λ client. (client.bank == bank) && bytes_eq client.name name.now) self.now }
+        ensures within { IfSome result (λ place. place < length self.now) }
+    {
+        self.keys.get_index_of(&SoughtKey::of(bank, name))
+    }
+}

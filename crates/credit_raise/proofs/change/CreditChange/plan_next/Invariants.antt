@@ -1,4 +1,0 @@
-use Rattle.credit_raise.proofs.change.CreditChange.plan_next.Given as goal
-
-abbrev pub ghosts-counted_plan : goal.ghosts-counted_plan
-ghosts-counted_plan a = record { name = a.blank.name; parts = a.blank.parts }

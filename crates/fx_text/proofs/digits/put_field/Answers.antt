@@ -1,0 +1,6 @@
+use Rattle.std.proofs.Common.{◌∷◌, [], take}
+use Rattle.fx_text.proofs.DigitTexts.{then_written}
+use Rattle.fx_text.proofs.digits.put_field.Goals as goal
+
+pub returns-clause-written : goal.returns-clause-written
+returns-clause-written c = then_written (take c.args.at c.args.room.now) (take c.put_byte-end.result c.put_byte-end.new.room) (take c.put_text.result c.put_text.new.room) (32 ∷ []) c.args.text.now c.put_byte-end.ensures.written c.put_text.ensures.written

@@ -1,0 +1,9 @@
+pub mod HeadlineLaws
+pub mod Served
+pub mod ClientTexts
+pub mod Watched
+pub mod TopCallLaws
+pub mod CheckLaws
+pub mod Answering
+pub mod LoadLaws
+pub mod KeptLaws
