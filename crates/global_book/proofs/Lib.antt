@@ -19,4 +19,14 @@ mod Summing
 pub mod Lowered
 mod Moving
 mod Ending
+mod Telling
+mod Preferring
+mod Linking
+mod Listing
+mod Booking
+mod Behind
+mod Draining
+mod Late
+mod Pricing
+mod Owning
 pub mod Cursor

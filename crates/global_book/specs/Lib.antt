@@ -1,3 +1,5 @@
 pub mod Book
 pub mod Lowered
+pub mod Room
+pub mod Behind
 pub mod inside

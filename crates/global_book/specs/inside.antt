@@ -3,3 +3,7 @@ pub mod Moves
 pub mod Rows
 pub mod Search
 pub mod Ends
+pub mod Linked
+pub mod Bests
+pub mod Late
+pub mod Owning

@@ -3,5 +3,9 @@
 
 mod bank_levels;
 mod book;
+mod ladder_book;
+mod linked;
+mod side_ladders;
 
 pub use book::PairBook;
+pub use ladder_book::LadderBook;

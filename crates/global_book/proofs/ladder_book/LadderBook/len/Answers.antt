@@ -1,0 +1,12 @@
+use Rattle.std.proofs.Common.{ap, length, ◌∙◌}
+use Rattle.global_book.specs.Room.{RoomyBook}
+use Rattle.global_book.proofs.Booking.{kept-book}
+use Rattle.global_book.proofs.Listing.{orders-counted}
+use Rattle.global_book.proofs.ladder_book.LadderBook.len.Goals as goal
+
+pub returns-clause-count : goal.returns-clause-count
+returns-clause-count c = c.len.ensures.count ∙ orders-counted c.self.inside.linked.orders.slots ∙ ap (λ (b : RoomyBook). length b.orders) c.self.view_is
+
+pub returns-clause-valid : goal.returns-clause-valid
+returns-clause-valid c =
+    kept-book c.self.inside.banks c.self.inside.linked c.args.self.now c.self.invariant (ap (λ (b : RoomyBook). b.orders) c.self.view_is) (ap (λ (b : RoomyBook). b.banks) c.self.view_is)
