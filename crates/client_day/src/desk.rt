@@ -1,5 +1,5 @@
 //! What one client is told.
-ghost use Rattle.std.specs.Prelude.{◌≡◌, ◌+◌, ◌≤◌, ◌∷◌, ◌++◌, [], length, codes, OnOk};
+ghost use Rattle.std.specs.Prelude.{◌≡◌, ◌+◌, ◌≤◌, ◌∷◌, ◌++◌, [], length, codes, IfOk, OnOk};
 ghost use Rattle.fx_amounts.specs.Numeral.{numeral};
 ghost use Rattle.fx_rules.specs.Session.{Header};
 ghost use Rattle.reply_lines.specs.Desks.{desk_with, nothing_yet};
@@ -18,6 +18,9 @@ use fx_text::LineText;
 use reply_lines::{FillPart, NoticeWriter};
 use std::alloc::Global;
 use std::marker::Model;
+
+/// The bytes that a client's notes have room for at first.
+const FIRST_ROOM: usize = 1024;
 
 /// What a client is told so far: how many notes, and their lines, in which they are numbered from 1.
 #[derive(Debug, Drop)]
@@ -39,14 +42,13 @@ impl Model for ClientDesk {
 }
 
 impl ClientDesk {
-    /// A desk without a note. It takes no memory.
-    pub(crate) fn new(alloc: Global) -> ClientDesk
-        ensures { result ≡ nothing_yet }
+    /// A desk without a note, with room for its first ones, so that many desks do not grow by small steps. `Memory` when out of memory.
+    pub(crate) fn open(alloc: Global) -> Result<ClientDesk, Memory>
+        ensures opens { IfOk result (λ desk. desk ≡ nothing_yet) }
     {
-        ClientDesk {
-            count: 0,
-            lines: Vec::new(alloc),
-        }
+        let mut lines = Vec::new(alloc);
+        lines.reserve(FIRST_ROOM)?;
+        Ok(ClientDesk { count: 0, lines })
     }
 
     /// How many notes it has.
