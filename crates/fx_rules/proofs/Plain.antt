@@ -1,5 +1,4 @@
--- Version 1, in which no bank has a total and nothing is given back: what a line and a use are there, and who sends. What cites
--- `only_one` or `only_one-sound` holds for as long as there is no newer version.
+-- Version 1, in which no bank has a total and nothing is given back: what a line and a use are there, and who sends.
 use Rattle.std.proofs.Common.{ℕ, ◌≡◌, ◌+◌, ◌-◌, ◌≤◌, ◌<◌, min, eqb, List, [], ◌∷◌, ◌++◌, inl, inr, refl, ap, sym, ◌∙◌, arith, length, Option, None}
 use Rattle.std.proofs.lemmas.Bool.{cond-false, ne_eqb}
 use Rattle.std.proofs.lemmas.List.{append-nil}
@@ -16,16 +15,6 @@ use Rattle.fx_rules.specs.Step.{IsCommand}
 use Rattle.fx_rules.specs.Sound.{IsSound, IsCovered, IsPlain}
 use Rattle.fx_rules.proofs.Senders.{IsPlainCommand, suits-sender}
 use Rattle.fx_rules.proofs.Credit.{used-filled}
-
--- ---- while there is one version alone
-
-pub only_one : (h : Header) → IsSession h → h.version ≡ 1
-unfolding newest
-only_one h session = omega (arith, session.version_least, session.version_most)
-
-pub only_one-sound : (h : Header) (S : State) → IsSound h S → h.version ≡ 1
-unfolding newest
-only_one-sound h S sound = omega (arith, sound.version_least, sound.version_most)
 
 -- there is the first version
 pub first-known : 1 ≤ newest

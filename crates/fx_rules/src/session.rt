@@ -64,7 +64,7 @@ impl Model for Session {
 
 impl Session {
     /// The newest version that a session can have.
-    const NEWEST: u8 = 1;
+    pub const NEWEST: u8 = 2;
 
     /// The session of version 1 of these banks and pairs, where `limits` holds, row by row, the limit that each bank sets on
     /// each bank. `None` exactly where they are no valid session; then they are dropped. It takes no memory.
