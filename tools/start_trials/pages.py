@@ -167,7 +167,7 @@ class Pages(Trial):
     def test_vim_words(self) -> None:
         """The words of the syntax are those of the sessions' reader."""
         syntax = read(f"{HERE}/share/vim/syntax/fxbook.vim")
-        for group, words in ((b"Command", session.WORDS), (b"Life", session.LIVES)):
+        for group, words in ((b"Command", (*session.WORDS_OF_TWO, *session.HOST_WORDS)), (b"Life", session.LIVES)):
             told = re.search(rb"^syntax keyword fxbook" + group + rb" ([A-Z ]+)", syntax, re.M)[1].split()
             self.assertEqual(told, list(words))
 

@@ -68,8 +68,8 @@ class Kept(Trial):
             (file.replace(b"FXBOOK 1", b"GXBOOK 1"), "is damaged: line 1 is none of a header"),
             (file.replace(b"START\n", b"START "), "block 0, which"),
             (file.replace(b"PAIR USD/JPY", b"START \nUSD/J", 1), "block 0, which"),
-            (file.replace(b"DELT BAD 3", b"DELT BAD 0"), f"which begins at byte {gate}, is damaged: line {line} is no command of a bank"),
-            (file.replace(b"DELT BAD 3", b"DELTA BAD "), "is no command of a bank"),
+            (file.replace(b"DELT BAD 3", b"DELT BAD 0"), f"which begins at byte {gate}, is damaged: line {line} is no command of a sender"),
+            (file.replace(b"DELT BAD 3", b"DELTA BAD "), "is no command of a sender"),
             (file.replace(b"DELT BAD 3\n", b"DELT BAD 3 "), "is damaged"),
         ):
             status, out, err = ran("kept", self.file("fx.journal", text))
