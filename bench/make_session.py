@@ -5,8 +5,9 @@ KIND is `orders` (DAY orders around one price; the default), `rest` (DAY orders 
 `mixed` (orders of every life, cancels, credit changes, books), `thick` (commands of all kinds, every fourth a credit change
 that orders are waiting for), `raced` (orders in all pairs for lines that are soon used up and raised a little at a time),
 `raise` (a deep book without credit, and then one credit change between the first two banks), or `long` (such a raise with 150
-fills, ten levels of a book, and then orders and a book after each thousand), or `clients` (the orders of `orders`, each sent by one of
-CLIENTS clients, 16 if none is given, whose limits they never meet). The same arguments give the same text.
+fills, ten levels of a book, and then orders and a book after each thousand), `clients` (the orders of `orders`, each sent by one of
+CLIENTS clients, 16 if none is given, whose limits they never meet), or `totals` (a session of version 2: what `mixed` has, every second
+bank with a total that runs out, and of 16 commands one a total and one a settlement). The same arguments give the same text.
 """
 import random
 import sys
@@ -24,12 +25,14 @@ def price(ticks):
     return f"{ticks // 100}.{ticks % 100:02}"
 
 
-def header(out, banks, pairs, limits):
-    out.append("FXBOOK 1")
+def header(out, banks, pairs, limits, totals=None):
+    """Adds the header; of version 2 where there are totals, one for each bank that has one."""
+    out.append("FXBOOK 1" if totals is None else "FXBOOK 2")
     out += [f"BANK {name(bank)}" for bank in range(banks)]
     out += [f"PAIR {pair(index)} 2 1000 {10 + index}" for index in range(pairs)]
     lines = ((i, j, limits(i, j)) for i in range(banks) for j in range(banks) if i != j)
     out += [f"LINE {name(i)} {name(j)} {limit}" for i, j, limit in lines if limit]
+    out += [f"TOTAL {name(bank)} {total}" for bank, total in (totals or {}).items()]
     out.append("START")
 
 
@@ -60,6 +63,17 @@ def mixed(rng, banks, pairs, number):
     if kind == 14:
         return f"{name(bank)} PULL {pair(rng.randrange(pairs))}"
     return f"{name(bank)} BOOK {pair(rng.randrange(pairs))}"
+
+
+def with_totals(rng, banks, pairs, number):
+    kind = rng.randrange(16)
+    bank = rng.randrange(banks)
+    if kind == 0:
+        return f"{name(bank)} TOTAL {20 * number + rng.randrange(20000)}"
+    if kind == 1:
+        other = (bank + 1 + rng.randrange(banks - 1)) % banks
+        return f"HOST SETTLE {name(bank)} {name(other)} {1 + rng.randrange(2000)}"
+    return mixed(rng, banks, pairs, number)
 
 
 def thick(rng, banks, pairs, number):
@@ -126,13 +140,15 @@ def main():
         "thick": lambda i, j: rng.choice([0, 300, 3000]),
         "raced": lambda i, j: 100,
     }.get(kind, lambda i, j: 100 * amounts[i, j])
-    header(out, banks, pairs, limits)
+    header(out, banks, pairs, limits, {bank: 10000 for bank in range(0, banks, 2)} if kind == "totals" else None)
     if kind == "orders":
         out += [order(rng, banks, pairs) for _ in range(commands)]
     elif kind == "rest":
         out += [resting(rng, banks, pairs) for _ in range(commands)]
     elif kind == "mixed":
         out += [mixed(rng, banks, pairs, number) for number in range(commands)]
+    elif kind == "totals":
+        out += [with_totals(rng, banks, pairs, number) for number in range(commands)]
     elif kind == "thick":
         out += [thick(rng, banks, pairs, number) for number in range(commands)]
     elif kind == "raced":

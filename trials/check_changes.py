@@ -1,7 +1,7 @@
 #!/usr/bin/env python3
 """Tries `check` on every small change of an output: check_changes.py OUTPUT [STEP].
 
-OUTPUT is a file with an output that is right. At every place each byte is replaced by others, taken out, and another one
+OUTPUT is a file with an output that is right, of a session whose lines could all be read. At every place each byte is replaced by others, taken out, and another one
 put in front of it (all 256 with STEP 1, else every STEP-th). What `check` has to say is worked out here, from the rules of
 the texts alone: the lines are read, the commands of a changed journal are run by `serial`, and its output is compared with
 the text. It prints how many texts were tried, and each on which the two differ.
@@ -35,7 +35,7 @@ class Header:
     """A header as it is read, line by line."""
 
     def __init__(self):
-        self.begun = False
+        self.version = b""
         self.banks = []
         self.pairs = []
         self.lines = []
@@ -45,10 +45,13 @@ class Header:
         words = fields(line)
         if not words or words[0].startswith(b"#"):
             return "more"
-        if not self.begun:
-            self.begun = True
-            return "more" if words == [b"FXBOOK", b"1"] else "fault"
-        read = {b"BANK": self.bank, b"PAIR": self.pair, b"LINE": self.line, b"START": self.start}.get(words[0])
+        if not self.version:
+            self.version = words[-1]
+            return "more" if words in ([b"FXBOOK", b"1"], [b"FXBOOK", b"2"]) else "fault"
+        reads = {b"BANK": self.bank, b"PAIR": self.pair, b"LINE": self.line, b"START": self.start}
+        if self.version == b"2":
+            reads[b"TOTAL"] = self.total
+        read = reads.get(words[0])
         return read(words[1:]) if read else "fault"
 
     def bank(self, words):
@@ -89,6 +92,12 @@ class Header:
         self.lines.append(b" ".join([b"LINE"] + words))
         return "more"
 
+    def total(self, words):
+        if len(words) != 2 or words[0] not in self.banks or number(words[1], 0, 10**15) is None:
+            return "fault"
+        self.lines.append(b" ".join([b"TOTAL"] + words))
+        return "more"
+
     def start(self, words):
         if words or len(self.banks) < 2 or not self.pairs:
             return "fault"
@@ -97,8 +106,13 @@ class Header:
     def reads_command(self, line):
         """Whether a journal's line is a command that is not bad."""
         words = fields(line)
+        if self.version == b"2" and words[:2] == [b"HOST", b"SETTLE"]:
+            two = set(words[2:4])
+            return len(words) == 5 and len(two) == 2 and two <= set(self.banks) and number(words[4], 1, 10**15) is not None
         if len(words) < 2 or words[0] not in self.banks:
             return False
+        if self.version == b"2" and words[1] == b"TOTAL":
+            return len(words) == 3 and number(words[2], 0, 10**15) is not None
         decimals = dict(self.pairs)
         sizes = {b"BUY": 6, b"SELL": 6, b"CANCEL": 4, b"REDUCE": 5, b"PULL": 3, b"LINE": 4, b"SHOW": 3, b"BOOK": 3}
         if sizes.get(words[1]) != len(words):
@@ -175,7 +189,7 @@ def wanted(text, output):
             return no(at)
         commands.append(stripped(part))
         at += len(part) + 1
-    session = b"\n".join([b"FXBOOK 1"] + header.lines + [b"START"] + commands + [b"END"]) + b"\n"
+    session = b"\n".join([b"FXBOOK " + header.version] + header.lines + [b"START"] + commands + [b"END"]) + b"\n"
     right = output(session)
     day = right[: right.rindex(b"STRAYS ")]
     for place, byte in enumerate(day):

@@ -29,6 +29,10 @@ class CreditPath:
         used = self.fills.setdefault((min(first, second), max(first, second)), [0] * self.parts)
         used[part] += amount
 
+    def give_back(self, first, second, part, amount):
+        """Takes what a settlement gave back of what two banks had used."""
+        self.fill(first, second, part, -amount)
+
     def used_in_all(self):
         """What all lines together have used at the end of each part."""
         return running(map(sum, zip(*self.fills.values()))) if self.fills else [0] * self.parts

@@ -70,6 +70,30 @@ def exposure_table(day):
     return table("exposure", "Credit units over all of a bank's lines; how many of them are used up, over 90% used, or without credit.", heads, rows, "sorts pin")
 
 
+def totals_part(day):
+    """The totals of banks at the end, and what the operator gave back; nothing in version 1."""
+    if day.header.version == 1:
+        return ""
+    return f"<h3>Totals</h3>\n{totals_table(day)}\n<h3>Given back by the operator</h3>\n{settlements_table(day)}\n"
+
+
+def totals_table(day):
+    rows = []
+    for bank, most in sorted(day.totals.items()):
+        opened, used = day.header.totals.get(bank), day.used_by[bank]
+        rows.append((day.banks[bank], "none" if opened is None else grouped(opened), grouped(most), grouped(used), grouped(most - used)))
+    heads = ("Bank", "#Opening total", "#Total", "#Used with all", "#Left")
+    return table("totals", "Credit units; a bank can use no more with all others than its total.", heads, rows) if rows else "<p>No bank has a total.</p>"
+
+
+def settlements_table(day):
+    shown = day.settlements[-day.kept :]
+    rows = [(grouped(one.entry + 1), day.banks[one.first], day.banks[one.second], grouped(one.asked), grouped(one.given)) for one in shown]
+    caption = f"{few(len(shown), 'settlement')} of {grouped(len(day.settlements))}, in credit units."
+    heads = ("#Command", "Bank", "Other", "#Asked", "#Given back")
+    return table("settlements", caption, heads, rows) if rows else "<p>Nothing was given back.</p>"
+
+
 def nets_table(day):
     step = len(day.currencies)
     rows = [(name, *((grouped(amount), "owes" if amount < 0 else "") for amount in day.nets[bank * step : (bank + 1) * step])) for bank, name in enumerate(day.banks)]
@@ -102,7 +126,7 @@ def credit_legend(day, lines):
         f'<li><span class="swatch" style="background: var(--l{at})"></span>{day.banks[first]} and {day.banks[second]}</li>' for at, (first, second) in enumerate(lines)
     )
     cut = "" if day.parts == day.entries else f" The history is cut into {grouped(day.parts)} equal parts, and what stands is as of the end of each."
-    return f'Above, the lines nearest to the limit at the end: <ul class="legend">{items}</ul>A share falls only where a limit is raised.{cut}'
+    return f'Above, the lines nearest to the limit at the end: <ul class="legend">{items}</ul>A share falls only where a limit is raised or use is given back.{cut}'
 
 
 def credit_table(day, lines):
@@ -345,7 +369,7 @@ def made_text(day, source, verdict):
 <li><strong>The text.</strong> <span id="source-name">{safe(source.name)}</span>, {grouped(source.size)} bytes in {grouped(day.lines)} text lines, SHA-256 <span class="hash" id="digest">{source.digest}</span>. {checked_bytes(day, source, verdict)}</li>
 <li><strong>Limits, use, lines, nets and volumes</strong> are those of the text's report, and the local books are its section of that name. The page also adds up the fills of all desks: the sums and the report {agree}.</li>
 <li><strong>What a bank is to receive from another, or owes it,</strong> is the sum over their fills on the bank's desk. There is no clearing house: banks pay one another.</li>
-<li><strong>A fill</strong> is on two desks, and the page puts its two notices together. Its place in the history is the later of the last commands that the two desks had answered before it; its taker is the later of the two orders.</li>
+<li><strong>A fill</strong> is on two desks, and the page puts its two notices together. Its place in the history is the later of the last commands that the two desks had answered before it; its taker is the later of the two orders.{" A fill that a settlement made has its place there too, and not behind the settlement." if day.settlements else ""}</li>
 <li><strong>What is left out.</strong> {kept}</li>
 <li><strong>The ending</strong> {day.ending} says that {ENDINGS[day.ending]}.</li>
 <li><strong>Whom it is for.</strong> The page shows the limits, books and desks of all banks, so it is for the venue alone. No bank may see another's.</li>
@@ -369,7 +393,7 @@ def page(day, source, verdict, session=None, tell=lambda part: None):
         "verdict_class": verdict.kind + (" many" if many else ""), "verdict_role": "status" if verdict.kind == RIGHT else "alert",
         "chip": CHIPS[verdict.kind], "verdict": verdict_text(day, source, verdict), "differences": contradictions("differences", "The output contradicts itself:", day.differences), "figures": figures(day),
         "heat": heat, "heat_left": str(left), "heat_top": str(top), "heat_cell": str(cell), "legend": legend(day),
-        "nearest": nearest_table(day), "exposure": exposure_table(day), "uses": uses_table(day), "credit": credit_part(day, tell), "use_count": few(len(day.uses), "line"),
+        "nearest": nearest_table(day), "exposure": exposure_table(day), "uses": uses_table(day), "totals": totals_part(day), "credit": credit_part(day, tell), "use_count": few(len(day.uses), "line"),
         "clients": clients_section(day), "clients_link": clients_link(day),
         "settlement": settlement_section(day), "nets": nets_table(day), "nets_controls": chosen, "nets_open": "" if many else " open", "net_charts": net_charts(day, tell),
         "volume": charts.volume(day), "volume_bars": volume_bars(day), "volumes": volumes_table(day), "refused": refused_section(day, session), "fill_charts": fill_charts(day, tell),

@@ -53,7 +53,7 @@ def refused_section(day, found):
 def row(day, bad, found):
     notice = day.bad_notices[bad.bank, bad.command]
     fault = f"{bad.fault}: {FAULTS.get(bad.fault, 'no such fault')}"
-    told = [grouped(bad.entry + 1), day.banks[bad.bank], grouped(bad.command), grouped(notice) if notice else "", (fault, "wide")]
+    told = [grouped(bad.entry + 1), day.header.senders[bad.bank], grouped(bad.command), grouped(notice) if notice else "", (fault, "wide")]
     if found is None:
         return told
     number, text, _, meant = found[bad.bank, bad.command]

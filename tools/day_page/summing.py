@@ -4,14 +4,14 @@ What the text tells twice, once in the desks and once in the report, is compared
 """
 import heapq
 from array import array
-from collections import deque
+from collections import Counter, deque
 from dataclasses import dataclass, field
 from functools import cached_property
 from typing import NamedTuple
 
 from reading.clients import read_clients
 from reading.output import (
-    COMMANDS, KINDS, Fill, Lines, Matching, read_books, read_count, read_desk, read_ending, read_entries, read_header, read_nets, read_notices, read_uses, read_volumes,
+    COMMANDS, KINDS, OF_TWO, Fill, Lines, Matching, read_books, read_count, read_desk, read_ending, read_entries, read_header, read_nets, read_notices, read_uses, read_volumes,
 )
 
 from .credit_path import CreditPath
@@ -96,6 +96,17 @@ class Bad(NamedTuple):
     fault: int
 
 
+class Settlement(NamedTuple):
+    """What the operator gave back between two banks: its command's place in the history and its number, the banks, what was asked for and what was given."""
+
+    entry: int
+    command: int
+    first: int
+    second: int
+    asked: int
+    given: int
+
+
 class Day:
     """A day as it is summed up. `kept` is how many of a desk's notices, of a bank's commands, of a pair's fills and of the bad commands
     are held at most; `paid_alike` is whether `./fx payments` tells what the page finds, once it was asked; `clients` are those that stand
@@ -105,6 +116,7 @@ class Day:
         self.kept, self.header = kept, header
         self.banks, self.pairs, self.currencies = header.banks, header.pairs, header.currencies
         self.opening, self.entries, self.kinds = header.opening, 0, dict.fromkeys(KINDS, 0)
+        self.totals, self.settle_lines, self.settlements = dict(header.totals), {}, []
         self.places, self.sent, self.bad, self.bad_notices = [], [], [], {}
         self.credit = None
         self.desks, self.fills, self.books = [], [], []
@@ -125,16 +137,33 @@ class Day:
         return max(1, min(MOST_BINS, self.entries))
 
     @cached_property
+    def used_by(self):
+        """What each bank has used with all others, by the report, once that was read."""
+        used = [0] * len(self.banks)
+        for use in self.uses:
+            used[use.first] += use.used
+            used[use.second] += use.used
+        return used
+
+    @cached_property
+    def given_between(self):
+        """What was given back between two banks, by the set of the two, once all desks were read."""
+        given = Counter()
+        for one in self.settlements:
+            given[frozenset((one.first, one.second))] += one.given
+        return given
+
+    @cached_property
     def scale(self):
         """The steps of how full the day's lines are, once the report was read."""
         return Scale(self.uses)
 
 
 def sum_journal(lines, day):
-    """Counts the commands, and notes for each bank the entries of the history that are its."""
+    """Counts the commands, and notes for each sender the entries of the history that are its."""
     day.entries = read_count(lines)
-    day.places = [array("I") for _ in day.banks]
-    day.sent = [deque(maxlen=day.kept) for _ in day.banks]
+    day.places = [array("I") for _ in day.header.senders]
+    day.sent = [deque(maxlen=day.kept) for _ in day.header.senders]
     day.credit = CreditPath(day.parts, len(day.banks))
     counts = dict.fromkeys(COMMANDS, 0)
     for place, entry in enumerate(read_entries(lines, day.header, day.entries)):
@@ -143,17 +172,19 @@ def sum_journal(lines, day):
         day.sent[entry.bank].append(entry.line)
         if entry.word == b"LINE" and entry.parts[1] in day.header.bank_at:
             day.credit.ask(entry.bank, len(day.places[entry.bank]), day.header.bank_at[entry.parts[1]])
+        elif entry.word == b"SETTLE":
+            day.settle_lines[len(day.places[entry.bank])] = entry.parts[1:]
         elif entry.word == b"BAD" and len(day.bad) < day.kept:
             day.bad.append(Bad(place, entry.bank, len(day.places[entry.bank]), int(entry.parts[1])))
-    day.kinds = {word.decode(): count for word, count in counts.items()}
+    day.kinds = {word.decode(): count for word, count in counts.items() if day.header.version == 2 or word not in OF_TWO}
     day.fills = [PairFills(day.parts, day.kept) for _ in day.pairs]
     day.bad_notices = {(bad.bank, bad.command): 0 for bad in day.bad}
 
 
 def sum_desks(lines, day):
-    """Reads what each bank was told, and sums up its fills."""
+    """Reads what each sender was told, and sums up its fills."""
     matching = Matching(day.places)
-    for bank, name in enumerate(day.banks):
+    for bank, name in enumerate(day.header.senders):
         desk = Desk(read_desk(lines, day.header, bank), deque(maxlen=day.kept))
         day.desks.append(desk)
         matching.open_desk()
@@ -169,14 +200,29 @@ def sum_desks(lines, day):
 
 
 def take_reply(day, desk, bank, reply):
-    """Counts a reply, and notes what a limit was set to and which notice tells of a bad command."""
+    """Counts a reply, and notes what a limit or a total was set to, what was given back, and which notice tells of a bad command."""
     if reply.kind == "LIMIT":
         part = day.part(day.places[bank][reply.command - 1])
         day.credit.limit_told(bank, desk.kinds.get("LIMIT", 0), reply.command, part, reply.numbers[0])
+    elif reply.kind == "TOTAL":
+        day.totals[bank] = reply.numbers[0]
+    elif reply.kind == "SETTLED" and bank == day.header.host:
+        take_settlement(day, day.places[bank][reply.command - 1], reply)
     elif (bank, reply.command) in day.bad_notices:
         day.bad_notices[bank, reply.command] = reply.notice
     desk.commands += 1
     desk.kinds[reply.kind] = desk.kinds.get(reply.kind, 0) + 1
+
+
+def take_settlement(day, entry, reply):
+    """Notes what was given back between the two banks of the command."""
+    names = day.settle_lines.get(reply.command)
+    if names is None or not all(name in day.header.bank_at for name in names[:2]):
+        day.differs(f"the operator's command {reply.command} is no settlement, and is answered as one")
+        return
+    first, second = (day.header.bank_at[name] for name in names[:2])
+    day.settlements.append(Settlement(entry, reply.command, first, second, int(names[2]), reply.numbers[0]))
+    day.credit.give_back(first, second, day.part(entry), reply.numbers[0])
 
 
 def take_fill(lines, day, desk, bank, fill):
@@ -232,11 +278,13 @@ def compare_volumes(day):
 def compare_uses(day):
     for use in day.uses:
         names = day.banks[use.first], day.banks[use.second]
+        given = day.given_between[frozenset((use.first, use.second))]
         for here, there in ((use.first, use.second), (use.second, use.first)):
-            if day.desks[here].used.get(there, 0) != use.used:
+            if day.desks[here].used.get(there, 0) - given != use.used:
                 day.differs(f"what {names[0]} and {names[1]} have used is not what the fills on the desk of {day.banks[here]} cost")
-        if use.left != max(0, min(use.limits) - use.used):
-            day.differs(f"the line of {names[0]} and {names[1]} is not what their limits leave")
+        rooms = [day.totals[bank] - day.used_by[bank] for bank in (use.first, use.second) if bank in day.totals]
+        if use.left != max(0, min([min(use.limits) - use.used, *rooms])):
+            day.differs(f"the line of {names[0]} and {names[1]} is not what their limits and totals leave")
 
 
 def compare_nets(day):

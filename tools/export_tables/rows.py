@@ -45,27 +45,31 @@ class Rows:
         self.header = header = read_header(self.lines)
         for place, bank in enumerate(header.banks, 1):
             self.put("banks", (bank, place))
+        for place, sender in enumerate(header.senders, 1):
+            self.put("senders", (sender, place))
         for place, code in enumerate(header.currencies, 1):
             self.put("currencies", (code, place))
         for place, pair in enumerate(header.pairs, 1):
             self.put("pairs", (pair.name, place, pair.base, pair.quote, pair.decimals, pair.lot, pair.weight))
         for (giver, taker), limit in header.opening.items():
             self.put("opening_limits", (header.banks[giver], header.banks[taker], limit))
+        for bank, total in header.totals.items():
+            self.put("opening_totals", (header.banks[bank], total))
 
     def take_journal(self) -> int:
-        """Makes a row of each command, and notes the entries of each bank; answers how many there are."""
-        header, self.places = self.header, [array("I") for _ in self.header.banks]
+        """Makes a row of each command, and notes the entries of each sender; answers how many there are."""
+        header, self.places = self.header, [array("I") for _ in self.header.senders]
         count = read_count(self.lines)
         for place, entry in enumerate(read_entries(self.lines, header, count)):
             self.places[entry.bank].append(place)
-            self.put("commands", (place + 1, header.banks[entry.bank], len(self.places[entry.bank]), *command_row(self.lines, header, entry)))
+            self.put("commands", (place + 1, header.senders[entry.bank], len(self.places[entry.bank]), *command_row(self.lines, header, entry)))
         return count
 
     def take_desks(self) -> None:
         """Makes a row of each notice, and one of each fill, once both of its notices were read."""
         header, matching = self.header, Matching(self.places)
         self.traded = [[0, 0, 0, 0] for _ in header.pairs]
-        for bank, name in enumerate(header.banks):
+        for bank, name in enumerate(header.senders):
             matching.open_desk()
             count = read_desk(self.lines, header, bank)
             for notice in read_notices(self.lines, header, bank, count, len(self.places[bank])):
@@ -113,7 +117,7 @@ class Rows:
 def command_row(lines: Lines, header: Header, entry: Entry) -> tuple:
     """The columns of a command from its kind on."""
     word, parts = entry.word.decode(), entry.parts
-    pair = price = ticks = lots = life = target = other = amount = fault = None
+    pair = price = ticks = lots = life = target = other = second = amount = fault = None
     if word in ("BUY", "SELL"):
         pair, price, lots, life = parts[1].decode(), parts[2].decode(), int(parts[3]), parts[4].decode()
         ticks = header.pairs[header.pair_at[parts[1]]].ticks(parts[2]) if parts[1] in header.pair_at else None
@@ -125,9 +129,13 @@ def command_row(lines: Lines, header: Header, entry: Entry) -> tuple:
         pair = parts[1].decode()
     elif word in ("LINE", "SHOW"):
         other, amount = parts[1].decode(), int(parts[2]) if word == "LINE" else None
+    elif word == "TOTAL":
+        amount = int(parts[1])
+    elif word == "SETTLE":
+        other, second, amount = parts[1].decode(), parts[2].decode(), int(parts[3])
     else:
         fault = int(parts[1])
-    return word, pair, price, ticks, lots, life, target, other, amount, fault
+    return word, pair, price, ticks, lots, life, target, other, second, amount, fault
 
 
 def reply_row(bank: str, reply: Reply) -> tuple:
@@ -140,7 +148,7 @@ def reply_row(bank: str, reply: Reply) -> tuple:
         left = numbers[0]
     elif kind == "PULLED":
         pulled = numbers[0]
-    elif kind == "LIMIT":
+    elif kind in ("LIMIT", "TOTAL", "SETTLED"):
         amount = numbers[0]
     elif kind == "SHOWN":
         amount, used, line = numbers

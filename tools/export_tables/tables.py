@@ -33,7 +33,7 @@ class Table:
         return f"INSERT INTO {self.name} VALUES ({', '.join('?' * len(self.columns))})"
 
 
-BANK, PAIR = "NOT NULL REFERENCES banks", "NOT NULL REFERENCES pairs"
+BANK, SENDER, PAIR = "NOT NULL REFERENCES banks", "NOT NULL REFERENCES senders", "NOT NULL REFERENCES pairs"
 
 TABLES = [
     Table("day", "one row for the whole text", [
@@ -46,6 +46,10 @@ TABLES = [
     Table("banks", "a bank of the header", [
         Column("bank", "TEXT", "its name", KEY),
         Column("place", "INTEGER", "its place in the header, from 1", NEEDED),
+    ]),
+    Table("senders", "one that sends commands: a bank, or in version 2 the operator", [
+        Column("sender", "TEXT", "the bank's name, or HOST", KEY),
+        Column("place", "INTEGER", "its place among the desks, from 1", NEEDED),
     ]),
     Table("currencies", "a currency of the pairs", [
         Column("currency", "TEXT", "its code", KEY),
@@ -65,33 +69,38 @@ TABLES = [
         Column("other", "TEXT", "the bank on which it is set", BANK),
         Column("amount", "INTEGER", "credit units", NEEDED),
     ], ("PRIMARY KEY (bank, other)",)),
+    Table("opening_totals", "a bank's total at the opening, in version 2", [
+        Column("bank", "TEXT", "the bank", "NOT NULL PRIMARY KEY REFERENCES banks"),
+        Column("amount", "INTEGER", "credit units", NEEDED),
+    ]),
     Table("commands", "a command of the journal", [
         Column("entry", "INTEGER", "its place in the history, from 1", KEY),
-        Column("bank", "TEXT", "the bank that sent it", BANK),
-        Column("command", "INTEGER", "its number in the bank's stream, from 1", NEEDED),
-        Column("kind", "TEXT", "BUY, SELL, CANCEL, REDUCE, PULL, LINE, SHOW, BOOK or BAD", NEEDED),
-        Column("pair", "TEXT", "the pair, of all but LINE, SHOW and BAD", "REFERENCES pairs"),
+        Column("bank", "TEXT", "the bank that sent it, or HOST", SENDER),
+        Column("command", "INTEGER", "its number in the sender's stream, from 1", NEEDED),
+        Column("kind", "TEXT", "BUY, SELL, CANCEL, REDUCE, PULL, LINE, SHOW, BOOK or BAD; in version 2 also TOTAL or SETTLE", NEEDED),
+        Column("pair", "TEXT", "the pair, of all but LINE, SHOW, TOTAL, SETTLE and BAD", "REFERENCES pairs"),
         Column("price", "TEXT", "the price of a BUY or SELL as it is spelled"),
         Column("ticks", "INTEGER", "the same price in ticks, the last decimal of the pair"),
         Column("lots", "INTEGER", "the lots of a BUY, SELL or REDUCE"),
         Column("life", "TEXT", "the life of a BUY or SELL: DAY, IOC or FOK"),
         Column("target", "INTEGER", "the number of the bank's order that a CANCEL or REDUCE is for, whether there is one or not"),
-        Column("other", "TEXT", "the other bank of a LINE or SHOW", "REFERENCES banks"),
-        Column("amount", "INTEGER", "the limit that a LINE sets, in credit units"),
-        Column("fault", "INTEGER", "the fault of a BAD, 1 to 11"),
+        Column("other", "TEXT", "the other bank of a LINE or SHOW, the first one of a SETTLE", "REFERENCES banks"),
+        Column("second", "TEXT", "the second bank of a SETTLE", "REFERENCES banks"),
+        Column("amount", "INTEGER", "the limit that a LINE sets, the total that a TOTAL sets, the units that a SETTLE gives back, in credit units as asked"),
+        Column("fault", "INTEGER", "the fault of a BAD, 1 to 11; of HOST's 1 to 12"),
     ], ("UNIQUE (bank, command)",)),
-    Table("notices", "a text line of a bank's desk: a reply to one of its commands, or a fill", [
-        Column("bank", "TEXT", "the bank whose desk it is on", BANK),
+    Table("notices", "a text line of a desk: a reply to one of its sender's commands, or a fill", [
+        Column("bank", "TEXT", "the bank whose desk it is on, or HOST", SENDER),
         Column("notice", "INTEGER", "the notice's number on the desk, from 1", NEEDED),
-        Column("kind", "TEXT", "FILL, or the reply's word: ORDERED, KILLED, CANCELLED, REDUCED, NOTLESS, NOTHING, PULLED, LIMIT, SHOWN, BOOK or BAD", NEEDED),
+        Column("kind", "TEXT", "FILL, or the reply's word: ORDERED, KILLED, CANCELLED, REDUCED, NOTLESS, NOTHING, PULLED, LIMIT, SHOWN, BOOK, BAD, TOTAL or SETTLED", NEEDED),
         Column("command", "INTEGER", "the number of the bank's own command that it is of", NEEDED),
         Column("filled", "INTEGER", "of ORDERED: the lots that were filled"),
         Column("left_lots", "INTEGER", "of ORDERED, CANCELLED, REDUCED, NOTLESS: the lots that the order has left, or had when it was taken out"),
         Column("pulled", "INTEGER", "of PULLED: how many orders were taken out"),
-        Column("amount", "INTEGER", "of LIMIT, SHOWN: the bank's limit on the other, in credit units"),
+        Column("amount", "INTEGER", "of LIMIT, SHOWN: the bank's limit on the other, in credit units; of TOTAL: its total; of SETTLED: what was given back"),
         Column("used", "INTEGER", "of SHOWN: what the two have used"),
         Column("line", "INTEGER", "of SHOWN: the line between the two"),
-        Column("fault", "INTEGER", "of BAD: the fault, 1 to 11"),
+        Column("fault", "INTEGER", "of BAD: the fault, 1 to 11; of HOST's 1 to 12"),
         Column("pair", "TEXT", "of FILL, BOOK: the pair", "REFERENCES pairs"),
         Column("bids", "TEXT", "of BOOK: price and lots of each bid level by turns, the best first"),
         Column("asks", "TEXT", "of BOOK: price and lots of each ask level by turns, the best first"),
@@ -104,7 +113,7 @@ TABLES = [
         Column("quote_amount", "INTEGER", "of FILL: the amount in quote currency"),
     ], ("PRIMARY KEY (bank, notice)", "FOREIGN KEY (bank, command) REFERENCES commands (bank, command)"), True),
     Table("fills", "a fill, made of its two notices", [
-        Column("entry", "INTEGER", "the command that made it, an order or a LINE", "NOT NULL REFERENCES commands"),
+        Column("entry", "INTEGER", "the command that made it, an order, a LINE or a TOTAL; of a fill that a SETTLE made the last command before it of its two banks", "NOT NULL REFERENCES commands"),
         Column("turn", "INTEGER", "orders the fills of one entry: its notice's number on the desk of the entry's bank", NEEDED),
         Column("pair", "TEXT", "the pair", PAIR),
         Column("lots", "INTEGER", "its lots", NEEDED),
@@ -142,7 +151,7 @@ TABLES = [
         Column("other", "TEXT", "the later one", BANK),
         Column("bank_limit", "INTEGER", "the limit of `bank` on `other`, in credit units", NEEDED),
         Column("other_limit", "INTEGER", "the limit of `other` on `bank`", NEEDED),
-        Column("used", "INTEGER", "what the two have used by their fills", NEEDED),
+        Column("used", "INTEGER", "what the two have used by their fills, less what was given back", NEEDED),
         Column("line", "INTEGER", "the line that is left", NEEDED),
     ], ("PRIMARY KEY (bank, other)",)),
     Table("nets", "what a bank got of a currency by its fills, less what it gave", [

@@ -76,12 +76,12 @@ class Reports:
         """The reports, bank by bank, each bank's in the order of its notices."""
         sent: Counter = Counter()
         for entry in read_entries(self.lines, self.header, read_count(self.lines)):
-            name = self.header.banks[entry.bank]
+            name = self.header.senders[entry.bank]
             sent[name] += 1
             row = self.asked.get((name, sent[name]))
             if row is None or row.line.encode() != entry.line:
                 raise self.other(f"the table does not have this as {name}'s command {sent[name]}")
-        for bank, name in enumerate(self.header.banks):
+        for bank, name in enumerate(self.header.senders):
             self.states = {}
             count = read_desk(self.lines, self.header, bank)
             for notice in read_notices(self.lines, self.header, bank, count, sent[name]):

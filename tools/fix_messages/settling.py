@@ -56,7 +56,7 @@ def filled_before(output: bytes, wanted: dict[tuple[str, int], int]) -> dict[tup
         header = read_header(lines)
         sent = Counter(entry.bank for entry in read_entries(lines, header, read_count(lines)))
         found: dict[tuple[str, int], int] = {}
-        for bank, name in enumerate(header.banks):
+        for bank, name in enumerate(header.senders):
             filled: Counter = Counter()
             for notice in read_notices(lines, header, bank, read_desk(lines, header, bank), sent[bank]):
                 if isinstance(notice, Fill):

@@ -5,12 +5,12 @@ The whole file is held, as the program holds it while it opens it.
 from collections.abc import Iterator
 from dataclasses import dataclass
 
-from .market import Header
+from .market import FAULT_UNITS, Header
 from .session import FIELD, HEADER, LONGEST_LINE, PASSED, Session, command_fault, number_within
 
 OPEN = 1
 LENGTH_BYTES = 8
-MOST_FAULT = 11
+MOST_FAULT, MOST_HOST_FAULT = 11, FAULT_UNITS
 
 
 class Damaged(Exception):
@@ -66,9 +66,10 @@ def kept_header(journal: Journal) -> Header:
     return session.header
 
 
-def kept_fault(fields: list[bytes]) -> int | None:
+def kept_fault(header: Header, sender: int, fields: list[bytes]) -> int | None:
     """The fault that a kept command had where it is a bad one."""
-    return number_within(fields[2], 1, MOST_FAULT) if len(fields) == 3 and fields[1] == b"BAD" else None
+    most = MOST_HOST_FAULT if sender == header.host else MOST_FAULT
+    return number_within(fields[2], 1, most) if len(fields) == 3 and fields[1] == b"BAD" else None
 
 
 def kept_lines(header: Header, journal: Journal) -> Iterator[tuple[list[bytes], bytes]]:
@@ -82,9 +83,9 @@ def kept_lines(header: Header, journal: Journal) -> Iterator[tuple[list[bytes], 
         for number, line in enumerate(lines, 1):
             text = line.removesuffix(b"\r")
             fields = FIELD.findall(text)
-            sender = header.bank_at.get(fields[0], -1) if fields else -1
-            if sender < 0 or len(text) > LONGEST_LINE or kept_fault(fields) is None and command_fault(header, sender, fields):
-                raise journal.damaged(block, f"line {number} is no command of a bank")
+            sender = header.sender_of(fields[0]) if fields else None
+            if sender is None or len(text) > LONGEST_LINE or kept_fault(header, sender, fields) is None and command_fault(header, sender, fields):
+                raise journal.damaged(block, f"line {number} is no command of a sender")
             yield fields, text
 
 
@@ -93,8 +94,23 @@ def least_price(decimals: int) -> bytes:
     return b"1" if not decimals else b"0." + b"0" * (decimals - 1) + b"1"
 
 
+def bad_host_line(header: Header, fault: int) -> bytes:
+    """A line of the operator that has this fault; another fault than these a session of the operator can't have, and a kept one says it of no line."""
+    one, other = (bank.encode() for bank in header.banks[:2])
+    lines = {
+        1: b"BAD",
+        2: b"SETTLE",
+        7: b"SETTLE %b %b 1" % (one, one),
+        11: b"x" * LONGEST_LINE,
+        12: b"SETTLE %b %b 0" % (one, other),
+    }
+    return b"HOST %b" % lines.get(fault, lines[1])
+
+
 def bad_line(header: Header, name: bytes, fault: int) -> bytes:
-    """A line of a bank that has this fault, since a session can't say BAD."""
+    """A line of a sender that has this fault, since a session can't say BAD."""
+    if header.sender_of(name) == header.host:
+        return bad_host_line(header, fault)
     pair = header.pairs[0].name.encode()
     price = least_price(header.pairs[0].decimals)
     other = next(bank.encode() for bank in header.banks if bank.encode() != name)
@@ -119,6 +135,6 @@ def session_of(journal: Journal) -> Iterator[bytes]:
     header = kept_header(journal)
     yield from header.lines()
     for fields, text in kept_lines(header, journal):
-        fault = kept_fault(fields)
+        fault = kept_fault(header, header.sender_of(fields[0]), fields)
         yield text if fault is None else bad_line(header, fields[0], fault)
     yield b"END"

@@ -1,4 +1,4 @@
-"""What the header of a session and that of an output declare: banks, pairs, opening limits."""
+"""What the header of a session and that of an output declare: a version, banks, pairs, opening limits and totals."""
 import re
 from dataclasses import dataclass, field
 
@@ -8,7 +8,7 @@ NUMERAL = re.compile(rb"0|[1-9][0-9]*")
 
 # What a command line can have as its first fault, by the number that a BAD reply tells.
 FAULT_LONG, FAULT_WORD, FAULT_COUNT, FAULT_PAIR, FAULT_PRICE_FORM, FAULT_PRICE_RANGE = 11, 1, 2, 3, 4, 5
-FAULT_LOTS, FAULT_BANK, FAULT_LIMIT, FAULT_NUMBER, FAULT_LIFE = 6, 7, 8, 9, 10
+FAULT_LOTS, FAULT_BANK, FAULT_LIMIT, FAULT_NUMBER, FAULT_LIFE, FAULT_UNITS = 6, 7, 8, 9, 10, 12
 
 FAULTS = {
     FAULT_WORD: "the second field is missing or is not a command's word",
@@ -22,6 +22,7 @@ FAULTS = {
     FAULT_NUMBER: "the order's number is not a number from 1 to 4294967295",
     FAULT_LIFE: "the life is not DAY, IOC or FOK",
     FAULT_LONG: "the line has more than 256 bytes",
+    FAULT_UNITS: "the units are not a number from 1 to 10^15",
 }
 
 
@@ -48,13 +49,19 @@ class Pair:
         return lots * self.lot, lots * self.unit * ticks
 
 
+HOST = "HOST"
+
+
 @dataclass
 class Header:
-    """The banks, the pairs, and the limit that each bank opens with on another, by their places; no limit is 0."""
+    """The version, the banks, the pairs, the limit that each bank opens with on another, by their places, where no limit is 0, and the
+    total of each bank that has one. In version 2 the operator is a sender too, whose place is behind the banks."""
 
+    version: int = 1
     banks: list[str] = field(default_factory=list)
     pairs: list[Pair] = field(default_factory=list)
     opening: dict[tuple[int, int], int] = field(default_factory=dict)
+    totals: dict[int, int] = field(default_factory=dict)
     bank_at: dict[bytes, int] = field(default_factory=dict)
     pair_at: dict[bytes, int] = field(default_factory=dict)
 
@@ -67,6 +74,20 @@ class Header:
         self.pairs.append(pair)
 
     @property
+    def host(self) -> int | None:
+        """The operator's place among the senders, where there is an operator."""
+        return len(self.banks) if self.version == 2 else None
+
+    @property
+    def senders(self) -> list[str]:
+        """The names of all that send commands, in the order of their desks."""
+        return [*self.banks, HOST] if self.version == 2 else self.banks
+
+    def sender_of(self, name: bytes) -> int | None:
+        """The place of the sender of a name."""
+        return self.host if name == HOST.encode() else self.bank_at.get(name)
+
+    @property
     def currencies(self) -> list[str]:
         """The currencies, in the order in which the pairs first name them."""
         return list(dict.fromkeys(code for pair in self.pairs for code in (pair.base, pair.quote)))
@@ -77,4 +98,5 @@ class Header:
         pairs = [f"PAIR {pair.name} {pair.decimals} {pair.lot} {pair.weight}" for pair in self.pairs]
         granted = sorted((places, limit) for places, limit in self.opening.items() if limit)
         limits = [f"LINE {self.banks[giver]} {self.banks[taker]} {limit}" for (giver, taker), limit in granted]
-        return [line.encode() for line in ["FXBOOK 1", *banks, *pairs, *limits, "START"]]
+        totals = [f"TOTAL {self.banks[bank]} {total}" for bank, total in sorted(self.totals.items())]
+        return [line.encode() for line in [f"FXBOOK {self.version}", *banks, *pairs, *limits, *totals, "START"]]

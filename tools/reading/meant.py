@@ -5,7 +5,7 @@ from collections.abc import Iterable
 from . import market
 from .command_line import printable
 from .market import Header
-from .session import FAULT, LIVES, LONGEST_LINE, MOST_LOTS, NUMERAL, REASONS, STATEMENTS, STRAY, WORDS, Said, command_fault
+from .session import FAULT, LIVES, LONGEST_LINE, MOST_LOTS, NUMERAL, REASONS, STRAY, WORDS_OF_TWO, Said, command_fault, statements_of, words_of
 
 MARK = b"\xef\xbb\xbf"
 WIDE_MARKS = (b"\xff\xfe", b"\xfe\xff")
@@ -15,7 +15,7 @@ SAME_WORDS = {
 }
 COMMENTS = (b"//", b";", b"--", b"%", b"'")
 OUTPUT_WORDS = (b"JOURNAL", b"DESK", b"BOOKS", b"REPORT", b"VOLUME", b"USE", b"NET", b"STRAYS")
-NAMES = {"pair": "pair", "price": "price", "lots": "number of lots", "life": "life (DAY, IOC or FOK)", "number": "order's number", "bank": "other bank", "limit": "limit"}
+NAMES = {"pair": "pair", "price": "price", "lots": "number of lots", "life": "life (DAY, IOC or FOK)", "number": "order's number", "bank": "other bank", "limit": "limit", "other": "second bank", "units": "number of units"}
 
 
 def is_one_edit(one: bytes, other: bytes) -> bool:
@@ -76,8 +76,8 @@ def meant_lots(lot: int, text: bytes) -> bytes | None:
 def meant_field(header: Header, sender: int, fields: list[bytes], fault: int) -> tuple[int, bytes | None]:
     """The place of the field that is at fault, and what it was meant to be."""
     if fault == market.FAULT_WORD:
-        return 1, nearest(fields[1], WORDS) if len(fields) > 1 else None
-    shape = WORDS[fields[1]]
+        return 1, nearest(fields[1], words_of(header, sender)) if len(fields) > 1 else None
+    shape = words_of(header, sender)[fields[1]]
     pair = header.pairs[header.pair_at[fields[2]]] if fields[2] in header.pair_at else None
     others = [name for name, bank in header.bank_at.items() if bank != sender]
     kind, guess = {
@@ -89,7 +89,10 @@ def meant_field(header: Header, sender: int, fields: list[bytes], fault: int) ->
         market.FAULT_LIMIT: ("limit", plain_number),
         market.FAULT_NUMBER: ("number", plain_number),
         market.FAULT_LIFE: ("life", lambda text: nearest(text, LIVES)),
+        market.FAULT_UNITS: ("units", plain_number),
     }[fault]
+    if kind == "bank" and "other" in shape and fields[2] in header.bank_at:
+        kind, others = "other", [name for name in header.bank_at if name != fields[2]]
     place = 2 + shape.index(kind)
     return place, guess(fields[place])
 
@@ -117,7 +120,7 @@ def told_line(fields: list[bytes] | None) -> str:
 
 def count_hint(header: Header, sender: int, fields: list[bytes]) -> str:
     """Which field is missing or too many."""
-    word, shape = fields[1], WORDS[fields[1]]
+    word, shape = fields[1], words_of(header, sender)[fields[1]]
     wants = f"{word.decode()} takes {', '.join(NAMES[kind] for kind in shape)}"
     if any(field.startswith(b"#") for field in fields[2:]):
         return f"{wants}; a comment stands on a line of its own"
@@ -134,8 +137,8 @@ def fitting(header: Header, sender: int, fields: list[bytes], kind: str) -> byte
     """A field of that kind that has no fault, to try whether it is the missing one."""
     if kind == "pair":
         return header.pairs[0].name.encode()
-    if kind == "bank":
-        return header.banks[1 if sender == 0 else 0].encode()
+    if kind in ("bank", "other"):
+        return next(bank.encode() for place, bank in enumerate(header.banks) if place != sender and bank.encode() not in fields[2:3])
     if kind == "price" and fields[2] in header.pair_at:
         decimals = header.pairs[header.pair_at[fields[2]]].decimals
         return b"1" + (b"." + b"0" * decimals if decimals else b"")
@@ -151,7 +154,7 @@ def price_hint(header: Header, fields: list[bytes]) -> str:
 
 
 def lots_hint(header: Header, fields: list[bytes]) -> str:
-    text = fields[WORDS[fields[1]].index("lots") + 2]
+    text = fields[WORDS_OF_TWO[fields[1]].index("lots") + 2]
     if plain_number(text) == b"0":
         return "an order has one lot at least; CANCEL takes an order out"
     lot = header.pairs[header.pair_at[fields[2]]].lot
@@ -162,15 +165,19 @@ def lots_hint(header: Header, fields: list[bytes]) -> str:
 
 
 def bank_hint(header: Header, sender: int, fields: list[bytes]) -> str:
+    if sender == header.host:
+        return "a settlement is between two different banks"
     return "a bank sets no limit on itself and has no line with itself" if fields[2] == header.banks[sender].encode() else ""
 
 
 def word_hint(fields: list[bytes]) -> str:
     if len(fields) < 2:
-        return "a bank's name alone: the command after it is missing"
+        return "a sender's name alone: the command after it is missing"
     if fields[1] == b"BAD":
         return "BAD is a word of an output's journal alone"
-    return ""
+    if fields[1] == b"TOTAL":
+        return "a bank sets a total in a session of version 2 alone, whose first line is FXBOOK 2"
+    return "use is given back by the operator alone, in a session of version 2: HOST SETTLE" if fields[1] == b"SETTLE" else ""
 
 
 def bad_hint(header: Header, said: Said) -> str:
@@ -209,10 +216,12 @@ def stray_hint(header: Header, said: Said) -> tuple[str, list[bytes] | None]:
         return "a comment begins with #", None
     if first in (b"FXBOOK", b"BANK", b"PAIR", b"START"):
         return f"{first.decode()} belongs to the header, before START", None
+    if first == market.HOST.encode():
+        return "the operator sends commands in a session of version 2 alone, whose first line is FXBOOK 2", None
     name = nearest(first, header.bank_at)
     if name is not None:
         return f"the name is probably {name.decode()}", mended(header, header.bank_at[name], [name, *said.fields[1:]])
-    if nearest(first, WORDS):
+    if nearest(first, WORDS_OF_TWO):
         return "the bank's name is missing at the start", None
     return "the header has no bank of this name", None
 
@@ -223,7 +232,9 @@ def head_hint(header: Header, said: Said) -> str:
     if code == 1:
         return version_hint(said)
     if code == 2:
-        word = nearest(fields[0], STATEMENTS)
+        word = nearest(fields[0], statements_of(header))
+        if fields[0] == b"TOTAL":
+            return "a header has totals in version 2 alone, whose first line is FXBOOK 2"
         if fields[0] in header.bank_at:
             return "this is a bank's command, and START has not come yet"
         return f"the word is probably {word.decode()}" if word else ""
@@ -234,9 +245,9 @@ def head_hint(header: Header, said: Said) -> str:
         meant = codes[:3] + b"/" + codes[3:]
         return "the pair has been named already" if fields[1] in header.pair_at else f"the pair is probably {meant.decode()}" if len(codes) == 6 and meant != fields[1] else ""
     if code == 9:
-        return limit_banks_hint(header, fields[1:3])
+        return limit_banks_hint(header, fields[1:2] if fields[0] == b"TOTAL" else fields[1:3])
     if code in (6, 7, 8, 10):
-        text = fields[{6: 2, 7: 3, 8: 4, 10: 3}[code]]
+        text = fields[-1 if code == 10 else {6: 2, 7: 3, 8: 4}[code]]
         number = plain_number(text)
         return f"the number is probably {number.decode()}" if number and not NUMERAL.fullmatch(text) else ""
     return ""
@@ -263,7 +274,7 @@ def name_hint(header: Header, name: bytes) -> str:
 
 
 def limit_banks_hint(header: Header, names: list[bytes]) -> str:
-    if names[0] == names[1]:
+    if len(set(names)) < len(names):
         return "a bank sets no limit on itself"
     unknown = next(name for name in names if name not in header.bank_at)
     name = nearest(unknown, header.bank_at)

@@ -8,7 +8,7 @@ from array import array
 from collections.abc import Iterable, Iterator
 from typing import NamedTuple
 
-from .market import MOST_BANKS, MOST_PAIRS, Header, Pair
+from .market import HOST, MOST_BANKS, MOST_PAIRS, Header, Pair
 
 LONGEST_LINE = 4096
 MOST_ENTRIES = 1 << 28
@@ -37,6 +37,7 @@ def form(text: str) -> re.Pattern[bytes]:
 BANK_LINE = form(f"BANK {NAME}")
 PAIR_LINE = form(rf"PAIR ([A-Z]{{3}})/([A-Z]{{3}}) ([0-6]) {NUMBER} {NUMBER}")
 LIMIT_LINE = form(f"LINE {NAME} {NAME} {NUMBER}")
+TOTAL_LINE = form(f"TOTAL {NAME} {NUMBER}")
 JOURNAL_LINE = form(f"JOURNAL {NUMBER}")
 COMMANDS = {
     b"BUY": form(f"{NAME} BUY {CODES} {PRICE} {NUMBER} (DAY|IOC|FOK)"),
@@ -48,12 +49,15 @@ COMMANDS = {
     b"SHOW": form(f"{NAME} SHOW {NAME}"),
     b"BOOK": form(f"{NAME} BOOK {CODES}"),
     b"BAD": form(f"{NAME} BAD {NUMBER}"),
+    b"TOTAL": form(f"{NAME} TOTAL {NUMBER}"),
+    b"SETTLE": form(f"{NAME} SETTLE {NAME} {NAME} {NUMBER}"),
 }
+OF_TWO = (b"TOTAL", b"SETTLE")
 KINDS = tuple(word.decode() for word in COMMANDS)
 DESK_LINE = form(f"DESK {NAME} {NUMBER}")
 FILL = form(rf"{NUMBER} FILL {NUMBER} (BUY|SELL) {CODES} {NUMBER} {PRICE} {NAME} {NUMBER} {NUMBER}")
 REPLY = form(
-    rf"{NUMBER} REPLY {NUMBER} (?=([A-Z]+))(?:ORDERED {NUMBER} {NUMBER}|KILLED|NOTHING|(?:CANCELLED|REDUCED|NOTLESS|PULLED|LIMIT|BAD) {NUMBER}"
+    rf"{NUMBER} REPLY {NUMBER} (?=([A-Z]+))(?:ORDERED {NUMBER} {NUMBER}|KILLED|NOTHING|(?:CANCELLED|REDUCED|NOTLESS|PULLED|LIMIT|TOTAL|SETTLED|BAD) {NUMBER}"
     rf"|SHOWN {NUMBER} {NUMBER} {NUMBER}|BOOK {CODES} {SIDES})"
 )
 BOOK_LINE = form(rf"{NAME} {CODES} {SIDES}")
@@ -131,6 +135,10 @@ def bank_of(lines: Lines, header: Header, name: bytes) -> int:
     return at
 
 
+def sender_of(lines: Lines, header: Header, name: bytes) -> int:
+    return header.host if name == HOST.encode() and header.version == 2 else bank_of(lines, header, name)
+
+
 def pair_of(lines: Lines, header: Header, name: bytes) -> int:
     at = header.pair_at.get(name)
     if at is None:
@@ -142,9 +150,12 @@ def pair_of(lines: Lines, header: Header, name: bytes) -> int:
 
 
 def read_header(lines: Lines) -> Header:
-    """Reads the banks, the pairs and the opening limits."""
+    """Reads the version, the banks, the pairs, the opening limits and the totals."""
     header = Header()
-    lines.take_word("FXBOOK 1")
+    first = lines.next("the line FXBOOK 1 or FXBOOK 2")
+    if first not in (b"FXBOOK 1", b"FXBOOK 2"):
+        raise lines.bad("expected the line FXBOOK 1 or FXBOOK 2")
+    header.version = int(first[-1:])
     line = lines.next("a line BANK")
     while found := BANK_LINE.fullmatch(line):
         header.add_bank(found[1].decode())
@@ -161,6 +172,9 @@ def read_header(lines: Lines) -> Header:
         of, on, limit = found.groups()
         header.opening[bank_of(lines, header, of), bank_of(lines, header, on)] = int(limit)
         line = lines.next("a line LINE or START")
+    while header.version == 2 and (found := TOTAL_LINE.fullmatch(line)):
+        header.totals[bank_of(lines, header, found[1])] = int(found[2])
+        line = lines.next("a line TOTAL or START")
     if line != b"START":
         raise lines.bad("expected a line of the header, or START")
     return header
@@ -170,7 +184,7 @@ def read_header(lines: Lines) -> Header:
 
 
 class Entry(NamedTuple):
-    """A command of the history: its bank, its word, its line, and the parts of the line from the bank's name on."""
+    """A command of the history: its sender, its word, its line, and the parts of the line from the bank's name on."""
 
     bank: int
     word: bytes
@@ -194,9 +208,12 @@ def read_entries(lines: Lines, header: Header, count: int) -> Iterator[Entry]:
         word = behind.partition(b" ")[0]
         shape = COMMANDS.get(word)
         found = shape and shape.fullmatch(line)
-        if not found:
+        if not found or word in OF_TWO and header.version != 2:
             raise lines.bad("expected a command of a bank")
-        yield Entry(bank_of(lines, header, found[1]), word, line, found.groups())
+        sender = sender_of(lines, header, found[1])
+        if word != b"BAD" and (sender == header.host) != (word == b"SETTLE"):
+            raise lines.bad(f"expected a command that {header.senders[sender]} can send")
+        yield Entry(sender, word, line, found.groups())
 
 
 # The desks
@@ -231,8 +248,8 @@ class Fill(NamedTuple):
 
 
 def read_desk(lines: Lines, header: Header, bank: int) -> int:
-    """The head of a bank's desk: how many notices it has."""
-    name = header.banks[bank]
+    """The head of a sender's desk: how many notices it has."""
+    name = header.senders[bank]
     told, count = lines.take(DESK_LINE, f"the line DESK {name} with a number")
     if told != name:
         raise lines.bad(f"expected the desk of {name}")
@@ -240,8 +257,8 @@ def read_desk(lines: Lines, header: Header, bank: int) -> int:
 
 
 def read_notices(lines: Lines, header: Header, bank: int, count: int, sent: int) -> Iterator[Reply | Fill]:
-    """The notices of a bank's desk, in order; the bank sent so many commands."""
-    replied, name = 0, header.banks[bank]
+    """The notices of a sender's desk, in order; it sent so many commands."""
+    replied, name = 0, header.senders[bank]
     for number in range(1, count + 1):
         line = lines.next("notice ", number, " of ", count, " of ", name)
         shape = FILL if b" FILL " in line else REPLY

@@ -7,7 +7,7 @@ from collections.abc import Callable, Iterator
 from dataclasses import dataclass, field
 
 from .market import (
-    FAULT_BANK, FAULT_COUNT, FAULT_LIFE, FAULT_LIMIT, FAULT_LONG, FAULT_LOTS, FAULT_NUMBER, FAULT_PAIR, FAULT_PRICE_FORM, FAULT_PRICE_RANGE, FAULT_WORD,
+    FAULT_BANK, FAULT_COUNT, FAULT_LIFE, FAULT_LIMIT, FAULT_LONG, FAULT_LOTS, FAULT_NUMBER, FAULT_PAIR, FAULT_PRICE_FORM, FAULT_PRICE_RANGE, FAULT_UNITS, FAULT_WORD,
     MOST_BANKS, MOST_PAIRS, NUMERAL, Header, Pair,
 )
 
@@ -24,22 +24,22 @@ HEADER, PASSED, COMMAND, BAD, STRAY, END, FAULT, BEHIND, DROPPED = "header", "ig
 
 # Why a text line is no line of a header, by the number that the program tells.
 REASONS = {
-    1: "the first line is not FXBOOK 1",
-    2: "the first field is none of BANK, PAIR, LINE and START",
+    1: "the first line is neither FXBOOK 1 nor FXBOOK 2",
+    2: "the first field is none of BANK, PAIR, LINE and START, nor TOTAL in version 2",
     3: "the line has the wrong number of fields for its word",
     4: "the name does not have the form of a bank's name (3 to 8 of A to Z and 0 to 9, a letter first), is reserved, or is taken",
     5: "the pair does not have the form AAA/BBB, its two codes are equal, or it has been named already",
     6: "the decimals are not a number from 0 to 6",
     7: "the lot is not a number from 1 to 10^9 that is a multiple of 10^decimals",
     8: "the weight is not a number from 1 to 10^6",
-    9: "one of the two banks has not been named above, or they are equal",
+    9: "a bank has not been named above, or the two are equal",
     10: "the limit is not a number from 0 to 10^15",
     11: "START comes with fewer than two banks or no pair",
     12: "there are 64 banks or 32 pairs already",
     13: "the line has more than 256 bytes",
 }
 
-# The fields behind the word of a command.
+# The fields behind the word of a command of a bank.
 WORDS = {
     b"BUY": ("pair", "price", "lots", "life"),
     b"SELL": ("pair", "price", "lots", "life"),
@@ -50,6 +50,9 @@ WORDS = {
     b"SHOW": ("bank",),
     b"BOOK": ("pair",),
 }
+# The same in version 2, for a bank and for the operator.
+WORDS_OF_TWO = {**WORDS, b"TOTAL": ("limit",)}
+HOST_WORDS = {b"SETTLE": ("bank", "other", "units")}
 LIVES = (b"DAY", b"IOC", b"FOK")
 
 
@@ -81,8 +84,12 @@ def number_within(text: bytes, least: int, most: int) -> int | None:
 # The header
 
 
-def version_reason(fields: list[bytes]) -> int:
-    return 0 if fields == [b"FXBOOK", b"1"] else 1
+def version_reason(header: Header, fields: list[bytes]) -> int:
+    """Takes the first line into the header, or answers its fault."""
+    if fields not in ([b"FXBOOK", b"1"], [b"FXBOOK", b"2"]):
+        return 1
+    header.version = int(fields[1])
+    return 0
 
 
 def bank_reason(header: Header, fields: list[bytes]) -> int:
@@ -131,6 +138,19 @@ def limit_reason(header: Header, fields: list[bytes]) -> int:
     return 0
 
 
+def total_reason(header: Header, fields: list[bytes]) -> int:
+    """Takes a TOTAL line into the header, or answers its first fault."""
+    if len(fields) != 3:
+        return 3
+    bank = header.bank_at.get(fields[1])
+    if bank is None:
+        return 9
+    if (limit := number_within(fields[2], 0, MOST_LIMIT)) is None:
+        return 10
+    header.totals[bank] = limit
+    return 0
+
+
 def start_reason(header: Header, fields: list[bytes]) -> int:
     if len(fields) != 1:
         return 3
@@ -138,6 +158,11 @@ def start_reason(header: Header, fields: list[bytes]) -> int:
 
 
 STATEMENTS: dict[bytes, Callable[[Header, list[bytes]], int]] = {b"BANK": bank_reason, b"PAIR": pair_reason, b"LINE": limit_reason, b"START": start_reason}
+STATEMENTS_OF_TWO = {**STATEMENTS, b"TOTAL": total_reason}
+
+
+def statements_of(header: Header) -> dict[bytes, Callable[[Header, list[bytes]], int]]:
+    return STATEMENTS_OF_TWO if header.version == 2 else STATEMENTS
 
 
 # The commands
@@ -178,12 +203,26 @@ def limit_fault(header: Header, sender: int, fields: list[bytes], text: bytes) -
     return FAULT_LIMIT if number_within(text, 0, MOST_LIMIT) is None else 0
 
 
-FIELDS = {"pair": pair_fault, "price": price_fault, "lots": lots_fault, "number": number_fault, "life": life_fault, "bank": bank_fault, "limit": limit_fault}
+def other_fault(header: Header, sender: int, fields: list[bytes], text: bytes) -> int:
+    """The fault of the second bank of a settlement; the first one stands before it and is one of the header."""
+    return FAULT_BANK if text not in header.bank_at or text == fields[2] else 0
+
+
+def units_fault(header: Header, sender: int, fields: list[bytes], text: bytes) -> int:
+    return FAULT_UNITS if number_within(text, 1, MOST_LIMIT) is None else 0
+
+
+FIELDS = {"pair": pair_fault, "price": price_fault, "lots": lots_fault, "number": number_fault, "life": life_fault, "bank": bank_fault, "limit": limit_fault, "other": other_fault, "units": units_fault}
+
+
+def words_of(header: Header, sender: int) -> dict[bytes, tuple[str, ...]]:
+    """The words of a sender's commands, and the fields behind each."""
+    return HOST_WORDS if sender == header.host else WORDS_OF_TWO if header.version == 2 else WORDS
 
 
 def command_fault(header: Header, sender: int, fields: list[bytes]) -> int:
-    """The first fault of a bank's line, or 0: its word, its number of fields, and then the fields from left to right."""
-    shape = WORDS.get(fields[1]) if len(fields) > 1 else None
+    """The first fault of a sender's line, or 0: its word, its number of fields, and then the fields from left to right."""
+    shape = words_of(header, sender).get(fields[1]) if len(fields) > 1 else None
     if shape is None:
         return FAULT_WORD
     if len(fields) != 2 + len(shape):
@@ -201,7 +240,7 @@ def command_fault(header: Header, sender: int, fields: list[bytes]) -> int:
 class Session:
     """A session text. `begun` and `started` tell that its first line and START were read. `ending` is the last line of its output, END, CUT
     or MUCH, or nothing where it has none: then it has a fault in its header, or ends before START. `more` tells that the text has more
-    bytes than the program takes; `orders` has how many commands each bank sent."""
+    bytes than the program takes; `orders` has how many commands each sender sent."""
 
     text: bytes
     more: bool = False
@@ -256,19 +295,19 @@ class Session:
         if is_long:
             said.code = 13
         elif not self.begun:
-            said.code, self.begun = version_reason(fields), True
+            said.code, self.begun = version_reason(self.header, fields), True
         else:
-            statement = STATEMENTS.get(fields[0])
+            statement = statements_of(self.header).get(fields[0])
             said.code = statement(self.header, fields) if statement else 2
         if said.code:
             said.kind, self.fault = FAULT, said
         elif fields == [b"START"]:
-            self.started, self.orders = True, [0] * len(self.header.banks)
+            self.started, self.orders = True, [0] * len(self.header.senders)
 
     def take_command(self, said: Said, is_long: bool) -> None:
         """Takes a text line behind START."""
         fields = said.fields
-        bank = self.header.bank_at.get(fields[0]) if fields else None
+        bank = self.header.sender_of(fields[0]) if fields else None
         if fields == [b"END"] and not is_long:
             said.kind = END
         elif bank is None:
@@ -296,4 +335,4 @@ def is_session(start: bytes) -> bool:
     """Whether a text that begins so is a session, and not an output, whose journal would stand behind START."""
     lines = (FIELD.findall(line.removesuffix(b"\r")) for line in start.split(b"\n"))
     fields = [found for found in lines if found and not found[0].startswith(b"#")]
-    return fields[:1] == [[b"FXBOOK", b"1"]] and [b"START"] in fields[:-1] and all(line[0] != b"JOURNAL" for line in fields)
+    return fields[:1] in ([[b"FXBOOK", b"1"]], [[b"FXBOOK", b"2"]]) and [b"START"] in fields[:-1] and all(line[0] != b"JOURNAL" for line in fields)

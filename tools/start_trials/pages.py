@@ -18,7 +18,9 @@ BANK ALFA
 PAIR EUR/USD 5 1000000 100
 LINE ALFA BETA 1000
 START
+CLIENT: ALFA ANN 600
 ALFA SELL EUR/USD 1.08420 3 DAY
+ALFA:ANN BUY EUR/USD 1.08420 3 DAY
   ALFA LINE BETA 007
 ALFA TRADE EUR/USD
 nobody
@@ -32,6 +34,8 @@ Header -
 Header Pair Number Number Number
 Header - - Number
 Header
+Header - - Number
+Bank Command Pair Price Number Life
 Bank Command Pair Price Number Life
 Bank Command - BadNumber
 Bank Unknown Pair
@@ -167,7 +171,7 @@ class Pages(Trial):
     def test_vim_words(self) -> None:
         """The words of the syntax are those of the sessions' reader."""
         syntax = read(f"{HERE}/share/vim/syntax/fxbook.vim")
-        for group, words in ((b"Command", session.WORDS), (b"Life", session.LIVES)):
+        for group, words in ((b"Command", (*session.WORDS_OF_TWO, *session.HOST_WORDS)), (b"Life", session.LIVES)):
             told = re.search(rb"^syntax keyword fxbook" + group + rb" ([A-Z ]+)", syntax, re.M)[1].split()
             self.assertEqual(told, list(words))
 

@@ -60,7 +60,7 @@ class Trial(unittest.TestCase):
 # Fields and lines that stand on either side of a rule's edge.
 NUMBERS = b"""0 00 01 1000000 1000001 4294967295 4294967296 1000000000000000 1000000000000001 -1 +1 1.0 99.5 99.50 099.50 0.00 0.01
 10000000.00 10000000.01 .50 99. 99.5a 1e3 99,50 100 1000000000 1000000001 99999999999999999999999999 99999999999999999999.00""".split()
-WORDS = b"BUY SELL LINE SHOW BOOK END START BANK B01 B02 B9 HOST AAA/ZZZ ZZZ/AAA AAAZZZ DAY IOC GTC # #x FXBOOK BAD".split() + [b"\xff", b"\r", b"\0", b"\x0b"]
+WORDS = b"BUY SELL LINE SHOW BOOK TOTAL SETTLE END START BANK B01 B02 B9 HOST AAA/ZZZ ZZZ/AAA AAAZZZ DAY IOC GTC # #x FXBOOK BAD".split() + [b"\xff", b"\r", b"\0", b"\x0b"]
 LINES = [b"", b"  ", b"# hello", b" #", b"\t", b"END x", b"END\r\r", b"\r", b"\r\r", b"#" * 300, b"   #" + b"x" * 300, b"A" * 256, b"A" * 257, b"B01 " + b"x" * 300]
 ENDS = [b"", b"\r", b"  ", b"\nEND", b"\nEND\r", b"\n END\t", b"\nEND" + b" " * 254, b"\nEND" + b" " * 253]
 
@@ -100,7 +100,7 @@ def faulty(seed: int, commands: int = 300) -> bytes:
     """A session with many faults, the same for the same seed; every third has faults in its header too."""
     rng = random.Random(seed)
     decimals = b"PAIR AAB/ZZZ %d" % rng.choice([0, 1, 2, 3])
-    lines = made(4, 3, commands, rng.choice(["mixed", "thick"]), seed).replace(b"PAIR AAB/ZZZ 2", decimals).split(b"\n")
+    lines = made(4, 3, commands, rng.choice(["mixed", "thick", "totals"]), seed).replace(b"PAIR AAB/ZZZ 2", decimals).split(b"\n")
     start = lines.index(b"START")
     out = []
     for place, line in enumerate(lines[:-1]):

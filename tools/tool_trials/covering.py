@@ -1,7 +1,7 @@
 """Trials of tools/covers."""
 import hashlib
 
-from .common import MORNING, Trial, faulty, made, needs_program, program, ran, read
+from .common import HERE, MORNING, Trial, faulty, made, needs_program, program, ran, read
 
 
 class Covers(Trial):
@@ -26,7 +26,16 @@ class Covers(Trial):
         self.no(session.replace(b"BETA BUY EUR/USD 1.08380 3 DAY\n", b""), output, "and the session has only 5 of BETA")
         self.no(session.replace(b"END\n", b"stray\nEND\n"), output, "NO, the session has 1 stray, and the output says 0")
         self.no(session.replace(b"END\n", b""), output, "ends with CUT, and this one with END")
-        self.no(session.replace(b"FXBOOK 1", b"FXBOOK 2"), output, "NO, the session's header has a fault at line 1 (reason 1)")
+        self.no(session.replace(b"FXBOOK 1", b"FXBOOK 3"), output, "NO, the session's header has a fault at line 1 (reason 1)")
+        self.no(session.replace(b"FXBOOK 1", b"FXBOOK 2"), output, "NO, the header differs: the session's is FXBOOK 2 where the output's line 1 is FXBOOK 1")
+
+    def test_totals_and_settlements(self) -> None:
+        """The operator's commands and the totals of the header count as all others."""
+        session, output = (read(f"{HERE}/examples/totals.{end}") for end in ("fx", "out"))
+        self.assertEqual(ran("covers", self.file("in", session), self.file("out", output))[0], 0)
+        self.no(session.replace(b"TOTAL ALFA 350", b"TOTAL ALFA 351"), output, "NO, the header differs: ")
+        self.no(session.replace(b"ALFA BETA 150", b"ALFA BETA 151"), output, "NO, HOST's command 1 is HOST SETTLE ALFA BETA 151 at line 19")
+        self.no(session.replace(b"HOST SETTLE ALFA BETA 0\n", b""), output, "and the session has only 2 of HOST")
         self.no(b"FXBOOK 1\n", output, "NO, the session ends before START")
         self.no(output, output, "NO, the first text is an output, not a session")
 

@@ -31,6 +31,19 @@ CASES = [
     (b"DESK ALFA 2", "is this text an output"),
     (b"end", "only a line that has END alone ends the session"),
     (b"END\nALFA SHOW BETA", "after END, so it is not read"),
+    (b"BETA TOTAL 5", "in a session of version 2 alone"),
+    (b"HOST SETTLE ALFA BETA 5", "in a session of version 2 alone"),
+]
+# The same in version 2.
+CASES_OF_TWO = [
+    (b"BETA TOTAL 1,000", "BAD 8: the limit is not a number from 0 to 10^15\n    BETA TOTAL 1,000\n    probably meant: BETA TOTAL 1000"),
+    (b"BETA TOTALS 5", "probably meant: BETA TOTAL 5"),
+    (b"BETA SETTLE ALFA BETA 5", "use is given back by the operator alone"),
+    (b"HOST SETTLE ALFA BETA 0", "HOST's command 1 gets BAD 12: the units are not a number from 1 to 10^15"),
+    (b"HOST SETTLE ALFA BETTA 5", "probably meant: HOST SETTLE ALFA BETA 5"),
+    (b"HOST SETTLE ALFA ALFA 5", "a settlement is between two different banks"),
+    (b"HOST SETTLE ALFA BETA", "the number of units is missing"),
+    (b"HOST PULL EUR/USD", "BAD 1: the second field is missing or is not a command's word"),
 ]
 HEADS = [
     (b"\xef\xbb\xbfFXBOOK 1\n", "line 1: the header's first fault, reason 1", "byte order mark (EF BB BF)"),
@@ -40,15 +53,18 @@ HEADS = [
     (b"FXBOOK 1\nBANK ALFA\nBANK BETA\nPAIR EURUSD 5 1000000 100\n", "reason 5", "the pair is probably EUR/USD"),
     (b"FXBOOK 1\nBANK ALFA\nBANK BETA\nLINE ALFA BETTA 5\n", "reason 9", "BETTA is probably BETA"),
     (b"FXBOOK 1\nBANK ALFA\nSTART\n", "reason 11", "fewer than two banks"),
+    (b"FXBOOK 1\nBANK ALFA\nTOTAL ALFA 5\n", "reason 2", "in version 2 alone"),
+    (b"FXBOOK 2\nBANK ALFA\nTOTAL BETA 5\n", "reason 9", "no BANK line above has the name BETA"),
 ]
 
 
 class Explain(Trial):
     def test_each_fault_in_words(self) -> None:
-        for line, told in CASES:
-            status, out, err = ran("explain", "-", text=HEAD + line + b"\nEND\n")
-            self.assertEqual((status, err), (1, ""), line)
-            self.assertIn(told, out)
+        for head, cases in ((HEAD, CASES), (HEAD.replace(b"FXBOOK 1", b"FXBOOK 2"), CASES_OF_TWO)):
+            for line, told in cases:
+                status, out, err = ran("explain", "-", text=head + line + b"\nEND\n")
+                self.assertEqual((status, err), (1, ""), line)
+                self.assertIn(told, out)
 
     def test_heads(self) -> None:
         for text, reason, told in HEADS:

@@ -21,7 +21,7 @@ AGREEMENTS = {
     "makers": """SELECT * FROM fills JOIN commands AS order_of ON order_of.entry = maker_entry
         WHERE order_of.price <> fills.price OR order_of.bank <> maker OR order_of.pair <> fills.pair OR order_of.life <> 'DAY' OR maker_entry >= taker_entry""",
     "takers": """SELECT * FROM fills JOIN commands AS order_of ON order_of.entry = taker_entry JOIN commands AS made ON made.entry = fills.entry
-        WHERE order_of.bank <> taker OR (order_of.kind = 'BUY') <> (buyer = taker) OR (made.kind <> 'LINE' AND fills.entry <> taker_entry)""",
+        WHERE order_of.bank <> taker OR (order_of.kind = 'BUY') <> (buyer = taker) OR (made.kind NOT IN ('LINE', 'TOTAL') AND fills.entry <> taker_entry)""",
     "notices": """SELECT * FROM fills JOIN notices AS one ON one.bank = taker AND one.notice = taker_notice JOIN notices AS two ON two.bank = maker AND two.notice = maker_notice
         WHERE (one.lots, one.price, one.quote_amount, one.other, one.side) <> (two.lots, two.price, two.quote_amount, two.bank, CASE two.side WHEN 'BUY' THEN 'SELL' ELSE 'BUY' END)""",
     "filled": """SELECT notices.bank, command, filled FROM notices JOIN commands USING (bank, command) WHERE notices.kind = 'ORDERED'

@@ -139,7 +139,7 @@ class Feed(Trial):
 
     def test_command_lines_alone(self) -> None:
         """Input without a header is filled up from its first line on; a fault of a header too."""
-        for text in (SHOW, b"# hello\n" + SHOW, b"nobody\n", b"FXBOOK 1\nBANK A\n", b"FXBOOK 2\n"):
+        for text in (SHOW, b"# hello\n" + SHOW, b"nobody\n", b"FXBOOK 1\nBANK A\n", b"FXBOOK 3\n"):
             run = Running("--pause", "5")
             run.send(text)
             self.assertEqual(run.got(ROUND)[: len(text)], text)

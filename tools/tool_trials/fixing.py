@@ -155,7 +155,7 @@ class Orders(Trial):
 
     def test_words_and_unreadable_texts(self) -> None:
         head = self.file("head", HEAD)
-        bad = self.file("bad", b"FXBOOK 2\n")
+        bad = self.file("bad", b"FXBOOK 3\n")
         wrong = (("orders", head), ("orders", head, f"{self.folder}/none"), ("orders", bad, "-"), ("orders", "-", "-"), ("else", head, "-"),
                  ("orders", head, "-", "--time", "now"), ("reports", head, MORNING[1]), ("reports", head, "-", "--table", "x"), ("orders", head, "-", "--banks", head))
         for words in wrong:

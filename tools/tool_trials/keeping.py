@@ -68,8 +68,8 @@ class Kept(Trial):
             (file.replace(b"FXBOOK 1", b"GXBOOK 1"), "is damaged: line 1 is none of a header"),
             (file.replace(b"START\n", b"START "), "block 0, which"),
             (file.replace(b"PAIR USD/JPY", b"START \nUSD/J", 1), "block 0, which"),
-            (file.replace(b"DELT BAD 3", b"DELT BAD 0"), f"which begins at byte {gate}, is damaged: line {line} is no command of a bank"),
-            (file.replace(b"DELT BAD 3", b"DELTA BAD "), "is no command of a bank"),
+            (file.replace(b"DELT BAD 3", b"DELT BAD 0"), f"which begins at byte {gate}, is damaged: line {line} is no command of a sender"),
+            (file.replace(b"DELT BAD 3", b"DELTA BAD "), "is no command of a sender"),
             (file.replace(b"DELT BAD 3\n", b"DELT BAD 3 "), "is damaged"),
         ):
             status, out, err = ran("kept", self.file("fx.journal", text))
@@ -100,7 +100,7 @@ class AgainstProgram(Trial):
             again = program("serial", session.encode())
             self.assertEqual((again[0], again[1].rpartition(b"\nSTRAYS ")[0]), (0, output.rpartition(b"\nSTRAYS ")[0]), seed)
             told |= {line.split()[2] for line in output.split(b"\n") if line.split()[1:2] == [b"BAD"]}
-        self.assertEqual(told, {b"%d" % fault for fault in range(1, 12)})
+        self.assertEqual(told, {b"%d" % fault for fault in range(1, 13)})
 
 
 def keeps() -> bool:

@@ -3,7 +3,7 @@ ghost use Rattle.std.specs.Map.{lookup};
 ghost use Rattle.price_levels.specs.Ticks.{last_of_level, no_level, with_order, without_order};
 ghost use Rattle.access_index.specs.Ranked.{IsBestHead, IsHeadOf, bank_holds, bank_level, with_bank_level};
 ghost use Rattle.access_index.specs.inside.Ranked.{head_with};
-ghost use Rattle.price_levels.specs.Rungs.{level_at};
+ghost use Rattle.price_levels.specs.Rungs.{IsNextRank, level_at};
 
 use crate::words::{Head, HeadWords};
 use fx_amounts::{BankId, Lots, Memory};
@@ -55,10 +55,12 @@ impl RankedOwners {
         }
     }
 
-    /// Sees to it that an order of a bank can come to rest at a rank without taking memory. At `Memory` each level is as it was.
+    /// Sees to it that an order of a bank can come to rest at a rank without taking memory, until this is asked for another rank of the
+    /// bank. At `Memory` each level is as it was.
     pub fn reserve(&mut self, bank: BankId, rank: u32) -> Result<(), Memory>
         requires rank { rank ≤ 10 ^ 9 }
         ensures holds { OnOk result (bank_holds self.new bank rank ≡ true) }
+        ensures others { (other at : ℕ) → other ≢ bank → bank_holds self.new other at ≡ bank_holds self.old other at }
         ensures levels { (other at : ℕ) → bank_level self.new other at ≡ bank_level self.old other at }
     {
         match self.ladders.get_mut(&bank) {
@@ -112,7 +114,7 @@ impl RankedOwners {
         requires has { lots ≤ (bank_level self.old bank rank).lots }
         requires behind { IfSome behind (λ place. place < 2 ^ 28) }
         ensures levels { (other at : ℕ) → bank_level self.new other at ≡ with_bank_level (bank_level self.old) bank rank (without_order (bank_level self.old bank rank) lots before behind) other at }
-        ensures holds { (other at : ℕ) → (other ≡ bank → at ≢ rank) → bank_holds self.new other at ≡ bank_holds self.old other at }
+        ensures holds { (other at : ℕ) → bank_holds self.new other at ≡ bank_holds self.old other at }
     {
         prove!(lots.count() > 0);
         let from = match self.heads.of(bank) {
@@ -123,6 +125,15 @@ impl RankedOwners {
         ladder.remove(rank, lots, before, behind);
         let head = head_from(ladder, from);
         self.heads.set(bank, head);
+    }
+
+    /// The first rank with orders of a bank from a rank on; `None` where there is none.
+    pub fn next(&self, bank: BankId, from: u32) -> Option<u32>
+        ensures found { IfSome result (IsNextRank (bank_level self.now bank) from) }
+        ensures none { result ≡ None → (rank : ℕ) → from ≤ rank → (bank_level self.now bank rank).lots ≡ 0 }
+    {
+        let ladder = self.ladders.get(&bank)?;
+        ladder.next(from)
     }
 
     /// The best order of a bank; `None` where it has none.
@@ -148,6 +159,7 @@ fn add_owner(ladders: &mut IndexMap<BankId, Ladder>, bank: BankId, rank: u32) ->
     requires rank { rank ≤ 10 ^ 9 }
     requires absent { lookup (nat_eq bank) ladders.old.entries ≡ None }
     ensures holds { OnOk result (bank_holds ladders.new.entries bank rank ≡ true) }
+    ensures others { (other at : ℕ) → other ≢ bank → bank_holds ladders.new.entries other at ≡ bank_holds ladders.old.entries other at }
     ensures levels { (other at : ℕ) → bank_level ladders.new.entries other at ≡ bank_level ladders.old.entries other at }
 {
     let mut ladder = Ladder::new(*ladders.allocator());

@@ -4,6 +4,7 @@ use Rattle.std.proofs.lemmas.Bool.{cases_eq, cond-true, cond-false, eq-eqb, ne_e
 use Rattle.std.proofs.lemmas.List.{get_or-set_same, get_or-set_other, get_or_read, length-set}
 use Rattle.std.specs.List.{flat_map}
 use Rattle.fx_rules.specs.Session.{Header}
+use Rattle.fx_text.specs.Fields.{fields_text}
 use Rattle.reply_lines.specs.Desks.{DeskSoFar, desk_with, nothing_yet}
 use Rattle.reply_lines.specs.Rows.{row}
 use Rattle.reply_lines.proofs.Items.{flat_more}
@@ -88,4 +89,4 @@ desk-of h notes =
 
 -- a line has its line feed at least
 pub row-some : (first : List ℕ) (rest : List (List ℕ)) → 0 < length (row first rest)
-row-some first rest = omega (arith, length-append (first ++ flat_map (λ field. 32 ∷ field) rest) (10 ∷ []))
+row-some first rest = omega (arith, length-append (first ++ fields_text rest) (10 ∷ []))

@@ -20,7 +20,7 @@ ghost use Rattle.client_day.specs.Events.{Event as DayEvent};
 ghost use Rattle.client_day.specs.Notes.{refusal_notes};
 ghost use Rattle.client_day.specs.Script.{asked_for};
 
-use crate::desk::ClientDesk;
+use crate::desk::tell_refusal;
 use crate::notes::note_entry;
 use client_desk::{Ask, Client, ClientBook, ClientId, ClientLine, client_line_with};
 use fx_amounts::Memory;
@@ -29,7 +29,7 @@ use fx_text::{Line, LineText};
 use market_run::Run;
 use order_lines::make_command;
 use pair_host::PairHost;
-use reply_lines::{DayNotices, JournalText, NoticeWriter};
+use reply_lines::{DayNotices, JournalText, NoticeDesk, NoticeWriter};
 use session_script::Heard;
 use std::alloc::Global;
 
@@ -40,7 +40,7 @@ pub struct ClientDay {
     pub(crate) journal: JournalText,
     pub(crate) book: ClientBook,
     /// By client.
-    pub(crate) desks: Vec<ClientDesk>,
+    pub(crate) desks: Vec<NoticeDesk>,
     pub(crate) writer: NoticeWriter,
     /// How many lines were strays so far.
     pub(crate) strays: u64,
@@ -73,42 +73,56 @@ impl ClientDay {
         requires valid { Each (IsHeardOf session.now) heard.now }
         ensures taken { OnOk result ((before : List HeardLine) → IsDayOf session.now before self.old → IsDayOf session.now (before ++ heard.now) self.new) }
     {
+        let mut line = LineText::new();
         for item in heard {
-            self.take(session, item)?;
+            self.take(session, item, &mut line)?;
         }
         Ok(())
     }
 
-    /// Serves a command, or reads a line that is a stray without clients. After `Memory` the day must not be used any more.
-    fn take(&mut self, session: &Session, heard: &Heard) -> Result<(), Memory>
+    /// Serves a command, or reads a line that is a stray without clients. In `journal` the line of a command is made. After `Memory` the day must not be used any more.
+    fn take(
+        &mut self,
+        session: &Session,
+        heard: &Heard,
+        journal: &mut LineText,
+    ) -> Result<(), Memory>
         requires next { (before : List HeardLine) × IsDayOf session.now before self.old × (length before + 1 < 2 ^ 32) }
         requires valid { IsHeardOf session.now heard.now }
         ensures taken { OnOk result ((before : List HeardLine) → IsDayOf session.now before self.old → IsDayOf session.now (before ++ heard.now ∷ []) self.new) }
     {
         match heard {
-            Heard::Command(sent) => self.take_command(session, *sent),
-            Heard::Stray(line) => self.take_line(session, line),
+            Heard::Command(sent) => self.take_command(session, *sent, journal),
+            Heard::Stray(line) => self.take_line(session, line, journal),
         }
     }
 
     /// Serves a bank's command. After `Memory` the day must not be used any more.
-    fn take_command(&mut self, session: &Session, sent: Sent) -> Result<(), Memory>
+    fn take_command(
+        &mut self,
+        session: &Session,
+        sent: Sent,
+        journal: &mut LineText,
+    ) -> Result<(), Memory>
         requires next { (events : List DayEvent) × IsBehind session.now events self.old × HasRoom events }
         requires sent { IsSentOf session.now sent }
         ensures taken { OnOk result (TakesAsked session.now (asked_for None sent.bank sent.command) self.old self.new) }
     {
-        let mut line = LineText::new();
-        make_command(session, sent.bank, &sent.command, &mut line);
-        self.serve(session, &None, sent, line.as_slice())
+        make_command(session, sent.bank, &sent.command, journal);
+        self.serve(session, &None, sent, journal.as_slice())
     }
 
     /// Reads a line that is a stray without clients.
-    fn take_line(&mut self, session: &Session, line: &Line) -> Result<(), Memory>
+    fn take_line(
+        &mut self,
+        session: &Session,
+        line: &Line,
+        journal: &mut LineText,
+    ) -> Result<(), Memory>
         requires next { (before : List HeardLine) × IsDayOf session.now before self.old × (length before + 1 < 2 ^ 32) }
         ensures taken { OnOk result ((before : List HeardLine) → IsDayOf session.now before self.old → IsDayOf session.now (before ++ HeardStray line.now ∷ []) self.new) }
     {
-        let mut journal = LineText::new();
-        match client_line_with(session, self.book.named_clients(), line, &mut journal) {
+        match client_line_with(session, self.book.named_clients(), line, journal) {
             ClientLine::Declares(client) => self.declare(client),
             ClientLine::Of(client, command) => {
                 self.ask(session, client, command, journal.as_slice())
@@ -129,7 +143,7 @@ impl ClientDay {
             self.strays += 1;
             return Ok(());
         }
-        let desk = ClientDesk::new(*self.desks.allocator());
+        let desk = NoticeDesk::new(*self.desks.allocator());
         self.desks.reserve(1)?;
         self.book.declare(client)?;
         self.desks.push_reserved(desk);
@@ -168,7 +182,7 @@ impl ClientDay {
         ensures noted { OnOk result ((h : Header) → HaveNoted h (λ c. if client == c then refusal_notes answer else []) self.old.desks.items self.new.desks.items) }
     {
         self.trading = true;
-        self.desks[client.index()].refuse(answer)
+        tell_refusal(&mut self.desks[client.index()], answer)
     }
 
     /// Serves a command, of this client where it has one, whose line in the journal this is, and tells the clients what came of it.

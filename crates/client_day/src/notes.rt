@@ -14,11 +14,10 @@ ghost use Rattle.client_day.specs.inside.Desks.{HaveNoted};
 ghost use Rattle.client_day.specs.Notes.{fill_notes, note_for};
 ghost use Rattle.client_day.specs.Notes.Note.{Told};
 
-use crate::desk::ClientDesk;
 use client_desk::{ClientBook, ClientId};
 use fx_amounts::Memory;
 use fx_rules::{Entry, Fill, Session};
-use reply_lines::{FillPart, NoticeWriter};
+use reply_lines::{FillPart, NoticeDesk, NoticeWriter};
 
 /// Adds what an entry tells the clients, of which the book knows already.
 pub(crate) fn note_entry(
@@ -26,7 +25,7 @@ pub(crate) fn note_entry(
     book: &ClientBook,
     who: &Option<ClientId>,
     entry: &Entry,
-    desks: &mut Vec<ClientDesk>,
+    desks: &mut Vec<NoticeDesk>,
     writer: &mut NoticeWriter,
 ) -> Result<(), Memory>
     requires answer { IsAnswerOf session.now entry.now.command entry.now.outcome }
@@ -46,7 +45,7 @@ fn note_reply(
     session: &Session,
     who: &Option<ClientId>,
     entry: &Entry,
-    desks: &mut Vec<ClientDesk>,
+    desks: &mut Vec<NoticeDesk>,
     writer: &mut NoticeWriter,
 ) -> Result<(), Memory>
     requires answer { IsAnswerOf session.now entry.now.command entry.now.outcome }
@@ -64,7 +63,7 @@ fn note_fills(
     session: &Session,
     book: &ClientBook,
     fills: &[Fill],
-    desks: &mut Vec<ClientDesk>,
+    desks: &mut Vec<NoticeDesk>,
     writer: &mut NoticeWriter,
 ) -> Result<(), Memory>
     requires fills { Each (IsFillOf session.now) fills.now }
@@ -84,7 +83,7 @@ fn note_fill(
     session: &Session,
     book: &ClientBook,
     fill: &Fill,
-    desks: &mut Vec<ClientDesk>,
+    desks: &mut Vec<NoticeDesk>,
     writer: &mut NoticeWriter,
 ) -> Result<(), Memory>
     requires fill { IsFillOf session.now fill.now }
@@ -109,7 +108,7 @@ fn note_part(
     who: &Option<ClientId>,
     part: FillPart,
     fill: &Fill,
-    desks: &mut Vec<ClientDesk>,
+    desks: &mut Vec<NoticeDesk>,
     writer: &mut NoticeWriter,
 ) -> Result<(), Memory>
     requires fill { IsFillOf session.now fill.now }

@@ -14,12 +14,11 @@ ghost use Rattle.client_day.specs.Events.{Event as DayEvent};
 ghost use Rattle.client_day.specs.Text.{IsClientsText, client_part, client_row, clients_text};
 
 use crate::day::ClientDay;
-use crate::desk::ClientDesk;
 use client_desk::{ClientBook, ClientId};
 use fx_edges::{Pieces, Sink, SinkFault};
 use fx_rules::Session;
 use fx_text::LineText;
-use reply_lines::{DayText, Ending, OutFault, write_count};
+use reply_lines::{DayText, Ending, NoticeDesk, OutFault, write_count};
 use std::alloc::Global;
 
 /// Writes the output of a session with clients, with this ending, and behind it how many clients there are, and of each what it has
@@ -55,7 +54,7 @@ fn write_part<K: Sink>(
     alloc: Global,
     session: &Session,
     book: &ClientBook,
-    desks: &[ClientDesk],
+    desks: &[NoticeDesk],
     out: &mut K,
 ) -> Result<(), SinkFault>
     requires told { (events : List DayEvent) × AreToldOf session.now events book.now desks.now }
@@ -71,7 +70,7 @@ fn write_part<K: Sink>(
 fn write_lines<K: Sink>(
     session: &Session,
     book: &ClientBook,
-    desks: &[ClientDesk],
+    desks: &[NoticeDesk],
     pieces: &mut Pieces,
     out: &mut K,
 ) -> Result<(), SinkFault>
@@ -86,7 +85,7 @@ fn write_lines<K: Sink>(
 fn write_all_clients<K: Sink>(
     session: &Session,
     book: &ClientBook,
-    desks: &[ClientDesk],
+    desks: &[NoticeDesk],
     pieces: &mut Pieces,
     out: &mut K,
 ) -> Result<(), SinkFault>
@@ -104,7 +103,7 @@ fn write_client<K: Sink>(
     session: &Session,
     book: &ClientBook,
     place: usize,
-    desk: &ClientDesk,
+    desk: &NoticeDesk,
     pieces: &mut Pieces,
     out: &mut K,
 ) -> Result<(), SinkFault>

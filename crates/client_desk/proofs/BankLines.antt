@@ -1,5 +1,5 @@
 -- A client's line as its bank's: the fields behind the first are the same.
-use Rattle.std.proofs.Common.{ℕ, ◌≡◌, ◌≢◌, ◌+◌, ◌<◌, ◌≤◌, true, false, cond, List, [], ◌∷◌, ◌++◌, refl, ap, ap₂, sym, subst, ◌∙◌, arith, eqb, nat_lt, length, take, drop, get_or, filter, position, bytes_eq, Option, Some, ⊎_elim, All}
+use Rattle.std.proofs.Common.{ℕ, ◌≡◌, ◌≢◌, ◌+◌, ◌<◌, true, false, cond, List, [], ◌∷◌, ◌++◌, refl, ap, sym, subst, ◌∙◌, arith, eqb, nat_lt, length, take, drop, get_or, filter, position, bytes_eq, Option, Some, ⊎_elim, All}
 use Rattle.std.specs.List.{position_or_len, slice_split}
 use Rattle.std.proofs.lemmas.Bool.{cases_Bool, cond-true, cond-false, eqb-true, ltb-true, lt-ltb, ne_eqb}
 use Rattle.std.proofs.lemmas.List.{append_cancel_right, length-take, get_or-take}

@@ -1,12 +1,12 @@
 -- How a client's command names it: its bank's name and its own, parted at the first colon.
-use Rattle.std.proofs.Common.{ℕ, zero, suc, ◌≡◌, ◌≢◌, ◌+◌, ◌≤◌, ◌<◌, Bool, true, false, not, ◌&&◌, eqb, nat_lt, cond, List, [], ◌∷◌, ◌++◌, inl, inr, refl, ap, ap₂, sym, subst, ◌∙◌, arith, get_or, length, length-append, take, drop, All, position, bytes_eq, Option, Some, None}
+use Rattle.std.proofs.Common.{ℕ, zero, suc, ◌≡◌, ◌≢◌, ◌+◌, ◌≤◌, ◌<◌, Bool, true, false, not, ◌&&◌, eqb, nat_lt, List, [], ◌∷◌, ◌++◌, inl, inr, refl, ap, ap₂, sym, subst, ◌∙◌, arith, get_or, length, length-append, take, drop, All, position, bytes_eq, Option, Some, None}
 use Rattle.std.specs.Prelude.{IsTrue, is_some}
 use Rattle.std.specs.List.{position_or_len, list_all}
 use Rattle.std.specs.Cmp.Lexicographic.{bytes_decides}
 use Rattle.std.specs.Cmp.Derive.{both_true}
-use Rattle.std.proofs.lemmas.Bool.{cases_Bool, cases_lt, and_parts, cond-false, cond-true, le-ltb, ltb-true, ltb-false, eqb-true, eq-eqb, false_from_ne_true, both_ways, true≢false}
+use Rattle.std.proofs.lemmas.Bool.{cases_Bool, cases_lt, and_parts, cond-true, ltb-true, ltb-false, eqb-true, eq-eqb, false_from_ne_true, both_ways, true≢false}
 use Rattle.std.proofs.lemmas.List.{get_or-take, length-take, get_or-map}
-use Rattle.std.proofs.lemmas.List.Sums.{position_or_len_is, fails_before_first, passes_at_first, split_at_first}
+use Rattle.std.proofs.lemmas.List.Sums.{fails_before_first, passes_at_first, split_at_first}
 use Rattle.std.proofs.lemmas.List.Quantifiers.{position-Some}
 use Rattle.std.proofs.lemmas.List.Elements.{recursion_from_All}
 use Rattle.std.proofs.lemmas.Option.{cond_some}
@@ -95,20 +95,20 @@ clients_within : (h : Header) (clients : List Client) → AreClients h clients �
 clients_within h clients are k d within = Each-at (λ (client : Client). client.bank < bank_count h) clients k d are.banks within
 
 -- a client is named so by its bank and its name
-pub client-parted : (h : Header) (clients : List Client) (text front rest : List ℕ) (bank : ℕ) → IsSession h → AreClients h clients → HasNone front → text ≡ front ++ 58 ∷ rest → bank_named h.banks front ≡ Some bank → client_named h clients text ≡ position (λ client. eqb client.bank bank && bytes_eq client.name rest) clients
+pub client-parted : (h : Header) (clients : List Client) (text front rest : List ℕ) (bank : ℕ) → IsSession h → AreClients h clients → HasNone front → text ≡ front ++ 58 ∷ rest → bank_named h.banks front ≡ Some bank → client_named h clients text ≡ position (λ client. eqb bank client.bank && bytes_eq rest client.name) clients
 client-parted h clients text front rest bank session are none whole named =
-    position_agrees (λ (client : Client). bytes_eq (client_text h client) text) (λ (client : Client). eqb client.bank bank && bytes_eq client.name rest) clients
+    position_agrees (λ (client : Client). bytes_eq (client_text h client) text) (λ (client : Client). eqb bank client.bank && bytes_eq rest client.name) clients
     (λ k d within.
     let client : Client = get_or clients k d in
     let its : client.bank < bank_count h = clients_within h clients are k d within in
-    same_test (bytes_eq (client_text h client) text) (eqb client.bank bank && bytes_eq client.name rest)
+    same_test (bytes_eq (client_text h client) text) (eqb bank client.bank && bytes_eq rest client.name)
     (λ is.
     let parts = same_parts (bank_name h client.bank) client.name front rest (text_apart h client.bank session its) none ((bytes_decides (client_text h client) text).0 is ∙ whole) in
-    both_true (eq-eqb client.bank bank (only_named h bank client.bank front session named its parts.0)) ((bytes_decides client.name rest).1 parts.1))
+    both_true (eq-eqb bank client.bank (sym (only_named h bank client.bank front session named its parts.0))) ((bytes_decides rest client.name).1 (sym parts.1)))
     (λ both.
-    let parts = and_parts (eqb client.bank bank) (bytes_eq client.name rest) both in
+    let parts = and_parts (eqb bank client.bank) (bytes_eq rest client.name) both in
     (bytes_decides (client_text h client) text).1
-    (ap₂ (λ (a b : List ℕ). a ++ 58 ∷ b) (ap (bank_name h) (eqb-true client.bank bank parts.0) ∙ named_is h bank front named) ((bytes_decides client.name rest).0 parts.1) ∙ sym whole)))
+    (ap₂ (λ (a b : List ℕ). a ++ 58 ∷ b) (ap (bank_name h) (sym (eqb-true bank client.bank parts.0)) ∙ named_is h bank front named) (sym ((bytes_decides rest client.name).0 parts.1)) ∙ sym whole)))
 
 -- what no element passes where none is found
 none_passes : {X : Type 0} (p : X → Bool) (xs : List X) → position p xs ≡ None → (k : ℕ) (d : X) → k < length xs → p (get_or xs k d) ≡ false
@@ -160,7 +160,7 @@ new_differs : (clients : List Client) (client : Client) → position (is_same cl
 new_differs clients client missing =
     recursion_from_All (λ (other : Client). Differ other client) clients
     (λ k d within bank name.
-    true≢false (sym (both_true (eq-eqb (get_or clients k d).bank client.bank bank) ((bytes_decides (get_or clients k d).name client.name).1 name)) ∙ none_passes (is_same client) clients missing k d within))
+    true≢false (sym (both_true (eq-eqb client.bank (get_or clients k d).bank (sym bank)) ((bytes_decides client.name (get_or clients k d).name).1 (sym name))) ∙ none_passes (is_same client) clients missing k d within))
 
 -- it can stand behind the others
 pub new-client : (h : Header) (clients : List Client) (client : Client) → AreClients h clients → client.bank < bank_count h → is_new clients client ≡ true → AreClients h (clients ++ client ∷ [])

@@ -56,7 +56,7 @@ client_said h fields = if length fields == 4
 
 -- a client is of that bank and of that name
 abbrev pub is_same : Client → Client → Bool
-is_same client other = other.bank == client.bank && bytes_eq other.name client.name
+is_same client other = client.bank == other.bank && bytes_eq client.name other.name
 
 -- there is room for a client more, and it is not among them
 abbrev pub is_new : List Client → Client → Bool

@@ -50,7 +50,7 @@ impl ClientBook {
         let clients = Clients::of(&clients, alloc)?;
         let weights = weights_of(alloc, session)?;
         let accounts = empty_accounts(alloc, clients.as_slice().len())?;
-        let rows = empty_rows(alloc, sender_places(session))?;
+        let rows = empty_rows(alloc, session.sender_places())?;
         Ok(ClientBook {
             clients,
             weights,
@@ -183,19 +183,6 @@ impl ClientBook {
         ensures value { result ≡ account_of self.now client }
     {
         self.accounts[client.index()]
-    }
-}
-
-/// How many places a list has that a sender's number indexes.
-fn sender_places(session: &Session) -> usize
-    ensures value { result ≡ sender_places session.now }
-    ensures valid { IsSession session.now }
-{
-    let banks = session.banks().len();
-    if session.version() == 2 {
-        BankId::SENDERS
-    } else {
-        banks
     }
 }
 

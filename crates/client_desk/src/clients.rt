@@ -3,7 +3,7 @@ ghost use Rattle.fx_rules.specs.Lists.{EachPair};
 ghost use Rattle.client_desk.specs.Clients.{Differ, bank_of_client};
 
 use crate::client::{Client, ClientId};
-use crate::keys::{ClientKey, SoughtKey};
+use crate::keys::ClientKey;
 use fx_amounts::{BankId, Memory};
 use indexmap::IndexSet;
 use std::alloc::Global;
@@ -18,15 +18,15 @@ pub struct Clients {
 }
 
 impl Model for Clients {
-    ghost use Rattle.std.specs.Prelude.{◌≡◌, List, map};
+    ghost use Rattle.std.specs.Prelude.{List};
     ghost use Rattle.client_desk.specs.declared.client.Client.{Client};
-    ghost use Rattle.client_desk.specs.inside.Keys.{key_of};
+    ghost use Rattle.client_desk.specs.inside.Keys.{AreKeysOf};
 
     ghost Value = { List Client };
 
     ghost view = { λ c. c.all.items };
 
-    ghost invariant = { λ c. c.keys.keys ≡ map key_of c.all.items };
+    ghost invariant = { λ c. AreKeysOf c.all.items c.keys.keys };
 }
 
 impl Clients {
@@ -59,7 +59,8 @@ impl Clients {
         ensures memory { OnErr result (self.new ≡ self.old) }
     {
         self.all.reserve(1)?;
-        self.keys.insert(ClientKey::of(&client))?;
+        let key = ClientKey::of(client.bank, client.name.as_bytes()).unwrap();
+        self.keys.insert(key)?;
         self.all.push_reserved(client);
         Ok(())
     }
@@ -81,9 +82,12 @@ impl Clients {
 
     /// The place of the client of a bank and a name. It takes no memory.
     pub(crate) fn place_of(&self, bank: BankId, name: &[u8]) -> Option<usize>
-        ensures value { result ≡ position (λ client. (client.bank == bank) && bytes_eq client.name name.now) self.now }
+        ensures value { result ≡ position (λ client. (bank == client.bank) && bytes_eq name.now client.name) self.now }
         ensures within { IfSome result (λ place. place < length self.now) }
     {
-        self.keys.get_index_of(&SoughtKey::of(bank, name))
+        // That no client's name is longer than a key's is known once a field is looked at.
+        let _keys = &self.keys;
+        let key = ClientKey::of(bank, name)?;
+        self.keys.get_index_of(&key)
     }
 }

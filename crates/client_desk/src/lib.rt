@@ -22,7 +22,5 @@ pub use ask::Ask;
 pub use book::ClientBook;
 pub use client::{Client, ClientId};
 pub use clients::Clients;
-#[doc(hidden)]
-pub use keys::ClientKey;
 pub use laws::{clients_stay_within, fills_are_drawn, sides_have_one_entry, steps_settle};
 pub use line::{ClientLine, client_line, client_line_with};

@@ -6,11 +6,11 @@ use Rattle.fx_rules.specs.declared.command.Command.TheVariants.{Show}
 use Rattle.fx_rules.specs.declared.outcome.Entry.{Entry}
 use Rattle.fx_rules.specs.declared.outcome.Outcome.TheVariants.{Shown}
 use Rattle.fx_rules.specs.Lists.{Each, total}
-use Rattle.fx_rules.specs.Session.{Header, IsSession, bank_count, newest, sender_places}
+use Rattle.fx_rules.specs.Session.{Header, IsSession, bank_count, sender_places}
 use Rattle.fx_rules.specs.History.{after_entry}
 use Rattle.fx_rules.specs.State.{opening, used}
 use Rattle.fx_rules.specs.Step.{IsCommand, IsOutcome}
-use Rattle.fx_rules.proofs.Plain.{first-totals}
+use Rattle.fx_rules.proofs.Plain.{first_or_second, first-totals}
 use Rattle.fx_rules.proofs.Staying.{changed-counts}
 use Rattle.credit_lines.specs.Credit.{Credit, limit_in, used_in, line_in, opened}
 use Rattle.credit_lines.specs.Market as lines
@@ -61,15 +61,10 @@ counted-table table bank is few = record {
 
 -- ---- the table as a day opens
 
--- there are two versions at most
-first_or_second : (h : Header) → IsSession h → h.version ≢ 2 → h.version ≡ 1
-unfolding newest
-first_or_second h session other = omega (arith, session.version_least, session.version_most, other)
-
 -- a header of version 1 with the banks, the pairs and the limits of another one that is not of version 2 is the other
 pub first_header : (h copy : Header) → IsSession h → h.version ≢ 2 → copy ≡ record { version = 1; banks = h.banks; pairs = h.pairs; limits = h.limits; totals = [] } → copy ≡ h
 first_header h copy session other is =
-    let first : h.version ≡ 1 = first_or_second h session other in
+    let first : h.version ≡ 1 = first_or_second h.version session.version_least session.version_most other in
     is
     ∙ ap (λ (version : ℕ). record h { version = version; totals = [] }) (sym first)
     ∙ ap (λ (totals : List (Option ℕ)). record h { totals = totals }) (sym (first-totals h session first))

@@ -5,7 +5,7 @@ ghost use Rattle.fx_rules.specs.State.{opening};
 ghost use Rattle.fx_rules.specs.Step.{IsCommand};
 ghost use Rattle.credit_table.specs.Table.{Stands, IsNextInEach, IsNextOf, AnswersEach, FollowsOn, followed, is_of_no_pair, next_sender};
 
-use crate::sessions::{copy_of, sender_places};
+use crate::sessions::copy_of;
 use credit_lines::CreditLines;
 use fx_amounts::{BankId, Memory, PairId};
 use fx_rules::{Command, Entry, Outcome, Sender, Session};
@@ -47,7 +47,7 @@ impl CreditTable {
     pub fn open(alloc: Global, session: &Session) -> Result<CreditTable, Memory>
         ensures stands { IfOk result (Stands session.now (opening session.now)) }
     {
-        let places = sender_places(session);
+        let places = session.sender_places();
         Ok(CreditTable {
             session: copy_of(alloc, session)?,
             lines: CreditLines::open(alloc, session)?,

@@ -58,19 +58,6 @@ impl Model for FlatHost {
     ghost invariant = { IsHost };
 }
 
-/// How many places a table of senders has.
-fn places_of(session: &Session) -> usize
-    ensures value { result ≡ sender_places session.now }
-    ensures valid { IsSession session.now }
-{
-    let banks = session.banks().len();
-    if session.version() == 2 {
-        BankId::SENDERS
-    } else {
-        banks
-    }
-}
-
 /// The weights of the pairs.
 fn weights_of(alloc: Global, pairs: &[PairRule]) -> Result<Vec<u32>, Memory>
     ensures weights { IfOk result (λ weights. weights.items ≡ map (λ rule. rule.weight) pairs.now) }
@@ -90,7 +77,7 @@ impl FlatHost {
         ensures counts { IfOk result (λ host. host.counts ≡ replicate (sender_places session.now) 0) }
         ensures weights { IfOk result (λ host. host.weights ≡ map (λ rule. rule.weight) session.now.pairs) }
     {
-        let places = places_of(session);
+        let places = session.sender_places();
         Ok(FlatHost {
             orders: Vec::new(alloc),
             credit: Credit::open(alloc, session)?,

@@ -171,9 +171,13 @@ fn the_exit_status_of_the_process(rt: HostRuntime) -> Result<(), Fail> {
 }
 
 // Headers with a fault, and the line that standard error gets.
-const FAULTS: [(&[u8], &[u8]); 12] = [
+const FAULTS: [(&[u8], &[u8]); 13] = [
     (b"FXBOOK 9\n", b"header line 1 reason 1\n"),
     (b"FXBOOK 1\nBANC ALFA\n", b"header line 2 reason 2\n"),
+    (
+        b"FXBOOK 1\nBANK ALFA\nTOTAL ALFA 250\n",
+        b"header line 3 reason 2\n",
+    ),
     (b"FXBOOK 1\nBANK\n", b"header line 2 reason 3\n"),
     (b"FXBOOK 1\nBANK AB\n", b"header line 2 reason 4\n"),
     (
@@ -226,6 +230,11 @@ fn orders_in_pieces_of_any_size(rt: HostRuntime) -> Result<(), Fail> {
 #[test]
 fn changes_in_pieces_of_any_size(rt: HostRuntime) -> Result<(), Fail> {
     expect_samples(&rt, &samples::CHANGES)
+}
+
+#[test]
+fn totals_in_pieces_of_any_size(rt: HostRuntime) -> Result<(), Fail> {
+    expect_samples(&rt, &samples::TOTALS)
 }
 
 #[test]
@@ -545,6 +554,9 @@ fn the_check_of_each_sample(rt: HostRuntime) -> Result<(), Fail> {
         expect_verdict(&rt, sample.output, b"YES\n")?;
     }
     for sample in samples::CHANGES {
+        expect_verdict(&rt, sample.output, b"YES\n")?;
+    }
+    for sample in samples::TOTALS {
         expect_verdict(&rt, sample.output, b"YES\n")?;
     }
     for sample in samples::BOOKS {

@@ -8,7 +8,6 @@ use Rattle.fx_rules.specs.declared.outcome.Entry.{Entry}
 use Rattle.fx_rules.specs.Session.{Header, IsSession}
 use Rattle.fx_rules.specs.Sending.{pair_of}
 use Rattle.fx_rules.specs.Step.{IsCommand}
-use Rattle.fx_rules.proofs.Plain.{only_one, no_total, no_settlement}
 use Rattle.fx_rules.specs.History.{own}
 use Rattle.fx_chronicle.specs.Faces.{Witness}
 use Rattle.fx_desk.specs.Submitting.{Submitted}

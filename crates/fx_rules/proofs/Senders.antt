@@ -71,3 +71,16 @@ pair-within h bank (Total asked) pair values is = cc
 pair-within h bank (Settle a b asked) pair values is = cc
 pair-within h bank (Show other) pair values is = cc
 pair-within h bank (Bad reason) pair values is = cc
+
+-- a command that is about one pair is sent by a bank
+pub sent-by_bank : (h : Header) (sender pair : ℕ) (command : Command) → IsCommand h sender command → pair_of command ≡ Some pair → sender < bank_count h
+sent-by_bank h sender pair (Order side its price lots life) valid about = valid.sends
+sent-by_bank h sender pair (Cancel its number) valid about = valid.sends
+sent-by_bank h sender pair (Reduce its number lots) valid about = valid.sends
+sent-by_bank h sender pair (Pull its) valid about = valid.sends
+sent-by_bank h sender pair (Book its) valid about = valid.sends
+sent-by_bank h sender pair (Line other asked) valid about = cc
+sent-by_bank h sender pair (Total asked) valid about = cc
+sent-by_bank h sender pair (Settle a b asked) valid about = cc
+sent-by_bank h sender pair (Show other) valid about = cc
+sent-by_bank h sender pair (Bad reason) valid about = cc

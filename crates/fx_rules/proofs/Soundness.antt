@@ -21,7 +21,7 @@ use Rattle.fx_rules.specs.Lists.{total}
 use Rattle.fx_rules.specs.Session.{Header, IsSession, bank_count, pair_count, sender_places, weight_of, opening_limit, opening_total}
 use Rattle.fx_rules.specs.State.{State, opening, arrivals, count_of, used}
 use Rattle.fx_rules.specs.Sweep.{Taker, Swept, filled_all, is_order, taker_of}
-use Rattle.fx_rules.specs.Raise.{limited, totalled, settled, order_of}
+use Rattle.fx_rules.specs.Raise.{Raised, limited, totalled, settled, order_of}
 use Rattle.fx_rules.specs.Step.{IsCommand, IsOrdered, IsOutcome, rested, counted, changed, after}
 use Rattle.fx_rules.specs.History.{IsStep, Steps, IsLegal, after_entry, after_all, state}
 use Rattle.fx_rules.specs.Sound.{IsSound, IsKept, Rises}
@@ -170,24 +170,28 @@ ordered-sound h S bank side pair price lots Fok Killed session sound command ord
     counted-sound h S bank sound (command-place h bank (Order side pair price lots Fok) session command)
 ordered-sound h S bank side pair price lots life outcome session sound command ordered = absurd ordered
 
--- a credit change leaves a sound state
-line-sound : (h : Header) (S : State) (bank other asked : ℕ) (outcome : Outcome) → IsSession h → IsSound h S → IsCommand h bank (Line other asked) → IsOutcome h S bank (Line other asked) outcome → IsSound h (changed S bank (Line other asked) outcome)
-line-sound h S bank other asked (LineSet limit fills) session sound command is =
-    raised-sound h (limited bank other limit S) fills session
-    (limited-sound h S bank other asked limit sound command.sends command.values.0 command.values.1 command.values.2 is.0) is.1
-line-sound h S bank other asked outcome session sound command is = absurd is
+-- what each raise leaves of a sound state, a credit change leaves too
+module _ (h : Header) (P : State → Type 0) (raise : (T : State) (fills : List Fill) → IsSound h T → Raised h T fills → P (filled_all T fills)) where
+  pub after-line : (S : State) (bank other asked : ℕ) (outcome : Outcome) → IsSound h S → IsCommand h bank (Line other asked) → IsOutcome h S bank (Line other asked) outcome → P (changed S bank (Line other asked) outcome)
+  after-line S bank other asked (LineSet limit fills) sound command is =
+      raise (limited bank other limit S) fills
+      (limited-sound h S bank other asked limit sound command.sends command.values.0 command.values.1 command.values.2 is.0) is.1
+  after-line S bank other asked outcome sound command is = absurd is
 
-total-sound : (h : Header) (S : State) (bank asked : ℕ) (outcome : Outcome) → IsSession h → IsSound h S → IsCommand h bank (Total asked) → IsOutcome h S bank (Total asked) outcome → IsSound h (changed S bank (Total asked) outcome)
-total-sound h S bank asked (TotalSet most fills) session sound command is =
-    raised-sound h (totalled bank most S) fills session
-    (totalled-sound h S bank asked most session sound command.sends.0 command.sends.1 command.values is.0) is.1
-total-sound h S bank asked outcome session sound command is = absurd is
+  pub after-total : (S : State) (bank asked : ℕ) (outcome : Outcome) → IsSession h → IsSound h S → IsCommand h bank (Total asked) → IsOutcome h S bank (Total asked) outcome → P (changed S bank (Total asked) outcome)
+  after-total S bank asked (TotalSet most fills) session sound command is =
+      raise (totalled bank most S) fills
+      (totalled-sound h S bank asked most session sound command.sends.0 command.sends.1 command.values is.0) is.1
+  after-total S bank asked outcome session sound command is = absurd is
 
-settle-sound : (h : Header) (S : State) (sender a b asked : ℕ) (outcome : Outcome) → IsSession h → IsSound h S → IsCommand h sender (Settle a b asked) → IsOutcome h S sender (Settle a b asked) outcome → IsSound h (changed S sender (Settle a b asked) outcome)
-settle-sound h S sender a b asked (Settled given fills) session sound command is =
-    raised-sound h (settled a b given S) fills session
-    (settled-sound h S a b asked given sound command.sends.0 is.0) is.1
-settle-sound h S sender a b asked outcome session sound command is = absurd is
+  pub after-settle : (S : State) (sender a b asked : ℕ) (outcome : Outcome) → IsSound h S → IsCommand h sender (Settle a b asked) → IsOutcome h S sender (Settle a b asked) outcome → P (changed S sender (Settle a b asked) outcome)
+  after-settle S sender a b asked (Settled given fills) sound command is =
+      raise (settled a b given S) fills
+      (settled-sound h S a b asked given sound command.sends.0 is.0) is.1
+  after-settle S sender a b asked outcome sound command is = absurd is
+
+raises-sound : (h : Header) → IsSession h → (T : State) (fills : List Fill) → IsSound h T → Raised h T fills → IsSound h (filled_all T fills)
+raises-sound h session T fills sound raised = raised-sound h T fills session sound raised
 
 cancel-sound : (h : Header) (S : State) (bank pair number : ℕ) (outcome : Outcome) → IsSound h S → IsSound h (changed S bank (Cancel pair number) outcome)
 cancel-sound h S bank pair number (Cancelled left) sound = fewer-sound h S (λ active. not (is_order bank number active.order)) sound
@@ -213,11 +217,11 @@ after-sound h S bank (Reduce pair number lots) outcome session sound valid is =
 after-sound h S bank (Pull pair) outcome session sound valid is =
     counted-sound h (changed S bank (Pull pair) outcome) bank (pull-sound h S bank pair outcome sound) (command-place h bank (Pull pair) session valid)
 after-sound h S bank (Line other asked) outcome session sound valid is =
-    counted-sound h (changed S bank (Line other asked) outcome) bank (line-sound h S bank other asked outcome session sound valid is) (command-place h bank (Line other asked) session valid)
+    counted-sound h (changed S bank (Line other asked) outcome) bank (after-line h (IsSound h) (raises-sound h session) S bank other asked outcome sound valid is) (command-place h bank (Line other asked) session valid)
 after-sound h S bank (Total asked) outcome session sound valid is =
-    counted-sound h (changed S bank (Total asked) outcome) bank (total-sound h S bank asked outcome session sound valid is) (command-place h bank (Total asked) session valid)
+    counted-sound h (changed S bank (Total asked) outcome) bank (after-total h (IsSound h) (raises-sound h session) S bank asked outcome session sound valid is) (command-place h bank (Total asked) session valid)
 after-sound h S bank (Settle a b asked) outcome session sound valid is =
-    counted-sound h (changed S bank (Settle a b asked) outcome) bank (settle-sound h S bank a b asked outcome session sound valid is) (command-place h bank (Settle a b asked) session valid)
+    counted-sound h (changed S bank (Settle a b asked) outcome) bank (after-settle h (IsSound h) (raises-sound h session) S bank a b asked outcome sound valid is) (command-place h bank (Settle a b asked) session valid)
 after-sound h S bank (Show other) outcome session sound valid is = counted-sound h S bank sound (command-place h bank (Show other) session valid)
 after-sound h S bank (Book pair) outcome session sound valid is = counted-sound h S bank sound (command-place h bank (Book pair) session valid)
 after-sound h S bank (Bad reason) outcome session sound valid is = counted-sound h S bank sound (command-place h bank (Bad reason) session valid)

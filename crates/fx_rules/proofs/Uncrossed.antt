@@ -13,13 +13,13 @@ use Rattle.fx_rules.specs.declared.command.Command.TheVariants.{Order, Cancel, R
 use Rattle.fx_rules.specs.declared.command.Life.{Life}
 use Rattle.fx_rules.specs.declared.command.Life.TheVariants.{Day, Ioc, Fok}
 use Rattle.fx_rules.specs.declared.outcome.Outcome.{Outcome}
-use Rattle.fx_rules.specs.declared.outcome.Outcome.TheVariants.{Ordered, Killed, Cancelled, Reduced, Pulled, LineSet, TotalSet, Settled}
+use Rattle.fx_rules.specs.declared.outcome.Outcome.TheVariants.{Ordered, Killed, Cancelled, Reduced, Pulled}
 use Rattle.fx_rules.specs.declared.outcome.Entry.{Entry}
 use Rattle.fx_rules.specs.Lists.{Among}
 use Rattle.fx_rules.specs.Session.{Header, IsSession, weight_of}
 use Rattle.fx_rules.specs.State.{State, opening, reach, orders_in}
 use Rattle.fx_rules.specs.Sweep.{Taker, Swept, filled_all, is_order, is_opposite, open_orders, with_left, taker_of}
-use Rattle.fx_rules.specs.Raise.{limited, totalled, settled, Raised}
+use Rattle.fx_rules.specs.Raise.{Raised}
 use Rattle.fx_rules.specs.Step.{IsCommand, IsOrdered, IsOutcome, rested, reduced, counted, changed, after}
 use Rattle.fx_rules.specs.History.{Steps, IsLegal, after_entry, after_all, state}
 use Rattle.fx_rules.specs.Sound.{IsSound, IsKept}
@@ -27,9 +27,9 @@ use Rattle.fx_rules.specs.NoCross.{NoCross}
 use Rattle.fx_rules.proofs.ListLemmas.{Each-among}
 use Rattle.fx_rules.proofs.Opens.{orders_in-among}
 use Rattle.fx_rules.proofs.Following.{Follows, filled_all-follows, fewer-follows, reduced-follows, among_orders_in, pair_known, reach_falls, swept_end, reach_swap, crosses_none}
-use Rattle.fx_rules.proofs.RaiseSound.{limited-sound, totalled-sound, settled-sound, raised-sound}
+use Rattle.fx_rules.proofs.RaiseSound.{raised-sound}
 use Rattle.fx_rules.proofs.Settling.{raised-uncrossed}
-use Rattle.fx_rules.proofs.Soundness.{IsNext, resting_of, swept-sound, next_same, counts-filled_all, taker_of-next, weight_of-least, after-sound, opening-sound}
+use Rattle.fx_rules.proofs.Soundness.{IsNext, resting_of, swept-sound, next_same, counts-filled_all, taker_of-next, weight_of-least, after-line, after-total, after-settle, after-sound, opening-sound}
 
 -- Where nothing rests crossed, nothing does in a state that came of it.
 uncrossed-follows : (h : Header) (S S' : State) → IsSession h → IsSound h S → Follows h S S' → NoCross h S → NoCross h S'
@@ -175,34 +175,17 @@ uncrossed-pull h S bank pair (Pulled count) session sound uncrossed =
     uncrossed-follows h S (record S { orders = filter stays S.orders }) session sound (fewer-follows h S stays) uncrossed
 uncrossed-pull h S bank pair outcome session sound uncrossed = uncrossed
 
-uncrossed-raised : (h : Header) (T : State) (fills : List Fill) → IsSession h → IsSound h T → Raised h T fills → NoCross h (filled_all T fills)
-uncrossed-raised h T fills session sound raised = raised-uncrossed h T fills session sound (raised-sound h T fills session sound raised) raised
-
-uncrossed-line : (h : Header) (S : State) (bank other asked : ℕ) (outcome : Outcome) → IsSession h → IsSound h S → IsCommand h bank (Line other asked) → IsOutcome h S bank (Line other asked) outcome → NoCross h (changed S bank (Line other asked) outcome)
-uncrossed-line h S bank other asked (LineSet limit fills) session sound command is =
-    uncrossed-raised h (limited bank other limit S) fills session
-    (limited-sound h S bank other asked limit sound command.sends command.values.0 command.values.1 command.values.2 is.0) is.1
-uncrossed-line h S bank other asked outcome session sound command is = absurd is
-
-uncrossed-total : (h : Header) (S : State) (bank asked : ℕ) (outcome : Outcome) → IsSession h → IsSound h S → IsCommand h bank (Total asked) → IsOutcome h S bank (Total asked) outcome → NoCross h (changed S bank (Total asked) outcome)
-uncrossed-total h S bank asked (TotalSet most fills) session sound command is =
-    uncrossed-raised h (totalled bank most S) fills session
-    (totalled-sound h S bank asked most session sound command.sends.0 command.sends.1 command.values is.0) is.1
-uncrossed-total h S bank asked outcome session sound command is = absurd is
-
-uncrossed-settle : (h : Header) (S : State) (sender a b asked : ℕ) (outcome : Outcome) → IsSession h → IsSound h S → IsCommand h sender (Settle a b asked) → IsOutcome h S sender (Settle a b asked) outcome → NoCross h (changed S sender (Settle a b asked) outcome)
-uncrossed-settle h S sender a b asked (Settled given fills) session sound command is =
-    uncrossed-raised h (settled a b given S) fills session (settled-sound h S a b asked given sound command.sends.0 is.0) is.1
-uncrossed-settle h S sender a b asked outcome session sound command is = absurd is
+uncrossed-raised : (h : Header) → IsSession h → (T : State) (fills : List Fill) → IsSound h T → Raised h T fills → NoCross h (filled_all T fills)
+uncrossed-raised h session T fills sound raised = raised-uncrossed h T fills session sound (raised-sound h T fills session sound raised) raised
 
 uncrossed-after : (h : Header) (S : State) (bank : ℕ) (command : Command) (outcome : Outcome) → IsSession h → IsSound h S → IsCommand h bank command → IsOutcome h S bank command outcome → NoCross h S → NoCross h (after S bank command outcome)
 uncrossed-after h S bank (Order side pair price lots life) outcome session sound valid is uncrossed = uncrossed-ordered h S bank side pair price lots life outcome session sound valid is uncrossed
 uncrossed-after h S bank (Cancel pair number) outcome session sound valid is uncrossed = uncrossed-cancel h S bank pair number outcome session sound uncrossed
 uncrossed-after h S bank (Reduce pair number lots) outcome session sound valid is uncrossed = uncrossed-reduce h S bank pair number lots outcome session sound uncrossed
 uncrossed-after h S bank (Pull pair) outcome session sound valid is uncrossed = uncrossed-pull h S bank pair outcome session sound uncrossed
-uncrossed-after h S bank (Line other asked) outcome session sound valid is uncrossed = uncrossed-line h S bank other asked outcome session sound valid is
-uncrossed-after h S bank (Total asked) outcome session sound valid is uncrossed = uncrossed-total h S bank asked outcome session sound valid is
-uncrossed-after h S bank (Settle a b asked) outcome session sound valid is uncrossed = uncrossed-settle h S bank a b asked outcome session sound valid is
+uncrossed-after h S bank (Line other asked) outcome session sound valid is uncrossed = after-line h (NoCross h) (uncrossed-raised h session) S bank other asked outcome sound valid is
+uncrossed-after h S bank (Total asked) outcome session sound valid is uncrossed = after-total h (NoCross h) (uncrossed-raised h session) S bank asked outcome session sound valid is
+uncrossed-after h S bank (Settle a b asked) outcome session sound valid is uncrossed = after-settle h (NoCross h) (uncrossed-raised h session) S bank a b asked outcome sound valid is
 uncrossed-after h S bank (Show other) outcome session sound valid is uncrossed = uncrossed
 uncrossed-after h S bank (Book pair) outcome session sound valid is uncrossed = uncrossed
 uncrossed-after h S bank (Bad reason) outcome session sound valid is uncrossed = uncrossed

@@ -94,7 +94,7 @@ pair_named h text = position (λ rule. bytes_eq (pair_text rule) text) h.pairs
 
 -- the newest version that a session can have
 unfoldable pub newest : ℕ
-newest = 1
+newest = 2
 
 -- a valid session: of a version that there is, with 2 to 64 banks of different names, 1 to 32 pairs, no two the same, and a limit
 -- of 0 to 10^15 that each bank sets on each bank, 0 on itself; in version 2 with a total of 0 to 10^15 or none for each bank

@@ -1,6 +1,6 @@
 ghost use Rattle.std.specs.Prelude.{[], ◌≡◌, ◌≢◌, ◌↔◌, ◌≤◌, ◌<◌, ◌+◌, ◌*◌, ◌&&◌, ℕ, IsTrue, SomeIff, All, AllPairs, length, position, slice_index, slice_get, bytes_eq, Contains, IfSome, IfNone, option_map};
 ghost use Rattle.fx_rules.specs.Names.{is_name};
-ghost use Rattle.fx_rules.specs.Session.{Header, IsSession, IsPairRule, AreSamePair, bank_count, pair_count, newest, opening_limit, opening_total, weight_of, decimals_of, lot_of, bank_name, bank_named, pair_named, pair_text, pair_name};
+ghost use Rattle.fx_rules.specs.Session.{Header, IsSession, IsPairRule, AreSamePair, bank_count, pair_count, newest, sender_places, opening_limit, opening_total, weight_of, decimals_of, lot_of, bank_name, bank_named, pair_named, pair_text, pair_name};
 
 use crate::guesses::Guesses;
 use crate::names::{Code, Name, SoughtName};
@@ -64,7 +64,7 @@ impl Model for Session {
 
 impl Session {
     /// The newest version that a session can have.
-    const NEWEST: u8 = 1;
+    pub const NEWEST: u8 = 2;
 
     /// The session of version 1 of these banks and pairs, where `limits` holds, row by row, the limit that each bank sets on
     /// each bank. `None` exactly where they are no valid session; then they are dropped. It takes no memory.
@@ -132,6 +132,19 @@ impl Session {
         self.version
     }
 
+    /// How many places a list has that a sender's number indexes: one for each bank, or in version 2
+    /// [`BankId::SENDERS`]. It takes no memory.
+    pub fn sender_places(&self) -> usize
+        ensures value { result ≡ sender_places self.now }
+        ensures valid { IsSession self.now }
+    {
+        if self.version == 2 {
+            BankId::SENDERS
+        } else {
+            self.banks.len()
+        }
+    }
+
     /// The banks' names, in header order. It takes no memory.
     pub fn banks(&self) -> &[Name]
         ensures value { result.now ≡ self.now.banks }
@@ -168,6 +181,15 @@ impl Session {
         self.limits[i.index() * self.banks.len() + j.index()]
     }
 
+    /// The limits that the banks open with, in credit units, row by row: the one that bank i sets on bank j stands at
+    /// `i * banks + j`. It takes no memory.
+    pub fn limits(&self) -> &[Units]
+        ensures value { result.now ≡ self.now.limits }
+        ensures valid { IsSession self.now }
+    {
+        self.limits.as_slice()
+    }
+
     /// The total that a bank opens with, in credit units; `None` exactly where it has none. It takes no memory.
     pub fn total(&self, bank: BankId) -> Option<Units>
         ensures value { result ≡ opening_total self.now bank }
@@ -177,6 +199,15 @@ impl Session {
             Some(total) => *total,
             None => None,
         }
+    }
+
+    /// In version 2 for each bank, in header order, the total that it opens with, in credit units, or that it has none; in
+    /// version 1 nothing. It takes no memory.
+    pub fn totals(&self) -> &[Option<Units>]
+        ensures value { result.now ≡ self.now.totals }
+        ensures valid { IsSession self.now }
+    {
+        self.totals.as_slice()
     }
 
     /// Credit units per lot of a pair, 1 to 10^6. It takes no memory.

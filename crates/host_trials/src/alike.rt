@@ -5,29 +5,56 @@ ghost use Rattle.fx_rules.specs.Sending.{IsSentOf};
 
 use crate::desks::{Day, Refused, at_one_lock, at_pair_locks};
 use crate::markets::{is_alike, play};
+use fx_amounts::Memory;
 use fx_rules::{Entry, Sent, Session};
 use std::alloc::{AllocGlobal, Global};
 use std::sync::Wait;
-use std::test::Fail;
-use trial_days::are_alike;
+use trial_days::{NoDay, are_alike};
+
+/// Why the hosts do not tell a day alike.
+#[derive(Clone, Copy, Debug, PartialEq, Eq)]
+pub(crate) enum Unlike {
+    /// There was no memory for it.
+    Memory,
+    /// There is no such day.
+    Day(NoDay),
+    /// The host over the pair books tells otherwise than the plain host.
+    PairBooks,
+    /// The host behind one lock does.
+    OneLock,
+    /// The host with a lock for each pair does.
+    PairLocks,
+}
+
+impl From<Memory> for Unlike {
+    fn from(_memory: Memory) -> Unlike {
+        Unlike::Memory
+    }
+}
+
+impl From<NoDay> for Unlike {
+    fn from(none: NoDay) -> Unlike {
+        Unlike::Day(none)
+    }
+}
 
 /// The history of a day, and how many orders rest at its end. An error where a host tells of it or stands otherwise than another.
 pub(crate) fn told_by_all<R: AllocGlobal + Wait>(
     rt: &R,
     session: &Session,
     sent: &[Sent],
-) -> Result<(Vec<Entry>, u64), Fail>
+) -> Result<(Vec<Entry>, u64), Unlike>
     requires valid { Each (IsSentOf session.now) sent.now }
     requires few { length sent.now ≤ 100000 }
 {
     let (entries, resting) = told_by_markets(rt.alloc(), session, sent)?;
     let one_lock = at_one_lock(rt, session, sent);
     if !is_day_of(&one_lock, &entries, resting) {
-        return Err("the host behind one lock tells otherwise".into());
+        return Err(Unlike::OneLock);
     }
     let pair_locks = at_pair_locks(rt, session, sent);
     if !is_day_of(&pair_locks, &entries, resting) {
-        return Err("the host with a lock for each pair tells otherwise".into());
+        return Err(Unlike::PairLocks);
     }
     Ok((entries, resting))
 }
@@ -37,13 +64,13 @@ fn told_by_markets(
     alloc: Global,
     session: &Session,
     sent: &[Sent],
-) -> Result<(Vec<Entry>, u64), Fail>
+) -> Result<(Vec<Entry>, u64), Unlike>
     requires valid { Each (IsSentOf session.now) sent.now }
     requires few { length sent.now ≤ 100000 }
 {
     let day = play(alloc, session, sent)?;
     if !is_alike(alloc, session, &day)? {
-        return Err("the host over the pair books tells otherwise".into());
+        return Err(Unlike::PairBooks);
     }
     let (entries, plain) = day.plain;
     Ok((entries, plain.resting()))

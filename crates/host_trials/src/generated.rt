@@ -1,58 +1,48 @@
 //! Generated days, played at each host.
-use crate::alike::told_by_all;
+use crate::alike::{Unlike, told_by_all};
 use fx_rules::Entry;
 use std::alloc::AllocGlobal;
 use std::sync::Wait;
-use std::test::Fail;
 use trial_days::trial_day;
 
-/// Days of one kind: how many, the seed of the first, how many banks and pairs, and how many parts of how many commands, each
-/// followed by the local books of every bank in every pair.
-type Days = (u64, u64, (u8, u8), (u32, u32));
+/// A day: its seed, how many banks and pairs it has, and how many parts of how many commands, each followed by the local books of
+/// every bank in every pair.
+pub(crate) type Generated = (u64, (u8, u8), (u32, u32));
 
-const KINDS: [Days; 11] = [
-    (80, 1, (2, 1), (2, 30)),
-    (80, 1001, (2, 3), (2, 30)),
-    (80, 2001, (3, 1), (2, 30)),
-    (80, 3001, (3, 2), (2, 30)),
-    (50, 4001, (4, 4), (2, 30)),
-    (50, 5001, (5, 2), (2, 30)),
-    (30, 6001, (7, 3), (2, 30)),
-    (30, 7001, (9, 1), (2, 30)),
-    (5, 8001, (12, 5), (2, 30)),
-    (3, 9001, (16, 8), (2, 30)),
-    // The local books are looked at behind each command.
-    (30, 10_001, (3, 1), (40, 1)),
-];
-
-fn is_filled(entry: &Entry) -> bool {
-    !entry.outcome.fills().is_empty()
-}
-
-/// Whether there were fills on a day of a kind, of which the hosts tell alike.
-fn has_fills<R: AllocGlobal + Wait>(rt: &R, kind: Days, day: u64) -> Result<bool, Fail> {
-    let (_, first, (banks, pairs), (parts, commands)) = kind;
-    let seed = first.wrapping_add(day);
+/// Whether there were fills on a day, of which the hosts tell alike.
+pub(crate) fn has_fills<R: AllocGlobal + Wait>(rt: &R, day: Generated) -> Result<bool, Unlike> {
+    let (seed, (banks, pairs), (parts, commands)) = day;
     let (session, sent) = trial_day(rt.alloc(), seed, banks, pairs, parts, commands)?;
     let (entries, _resting) = told_by_all(rt, &session, &sent)?;
     Ok(entries.iter().any(is_filled))
 }
 
-/// On how many days of a kind there were fills.
-fn days_with_fills<R: AllocGlobal + Wait>(rt: &R, kind: Days) -> Result<u64, Fail> {
+fn is_filled(entry: &Entry) -> bool {
+    !entry.outcome.fills().is_empty()
+}
+
+/// The day of version 2 with a number: of 2 to 5 banks and 1 to 3 pairs.
+fn day_of_two(number: u64) -> Generated {
+    let banks = 2 + (number % 4) as u8;
+    let pairs = 1 + (number / 4 % 3) as u8;
+    (number.wrapping_mul(8), (banks, pairs), (2, 20))
+}
+
+/// On how many of the days of version 2 with numbers from `first` on there were fills, `count` days that the hosts tell alike; else
+/// the first of which they do not, and why.
+pub(crate) fn filled_days<R: AllocGlobal + Wait>(
+    rt: &R,
+    first: u64,
+    count: u64,
+) -> Result<u64, (u64, Unlike)> {
     let mut found = 0u64;
-    for day in 0..kind.0 {
-        if has_fills(rt, kind, day)? {
-            found = found.saturating_add(1);
+    for place in 0..count {
+        let number = first.wrapping_add(place);
+        match has_fills(rt, day_of_two(number)) {
+            Ok(true) => found = found.saturating_add(1),
+            Ok(false) => {}
+            Err(unlike) => return Err((number, unlike)),
         }
     }
     Ok(found)
-}
-
-#[test]
-fn generated_days_are_told_alike_by_each_host(rt: HostRuntime) -> Result<(), Fail> {
-    for kind in KINDS {
-        assert!(rt; days_with_fills(&rt, kind)? > kind.0 / 2, "{kind:?}");
-    }
-    Ok(())
 }

@@ -1,8 +1,10 @@
 //! Trials of the hosts: the plain host, the host over the pair books, and the desks.
 //!
-//! The program plays a day with every kind of command at both desks, and prints what the banks are told at each. A call of a desk
-//! that is refused when out of memory is made again, so that a run of which one allocation is refused prints the same. Status 2:
-//! standard output failed; 6: the program itself was out of memory.
+//! With no words the program plays a day with every kind of command at both desks, and prints what the banks are told at each. A call
+//! of a desk that is refused when out of memory is made again, so that a run of which one allocation is refused prints the same.
+//! `days FIRST COUNT` plays so many generated days of version 2 at each host, those with the numbers from FIRST on, and prints on how
+//! many there were fills; or, with status 3, the first that the hosts do not tell alike. Status 1: other words; 2: standard output
+//! failed; 6: the program itself was out of memory.
 //!
 //! Its tests play worked sessions and generated days at each host, and run days on threads.
 #![tactic(auto)]
@@ -11,12 +13,11 @@ ghost use Rattle.std.specs.Prelude.{◌≤◌, length};
 ghost use Rattle.fx_rules.specs.Lists.{Each};
 ghost use Rattle.fx_rules.specs.Sending.{IsSentOf};
 
-#[cfg(test)]
 mod alike;
 mod desks;
-#[cfg(test)]
 mod generated;
 #[cfg(test)]
+mod kinds;
 mod markets;
 #[cfg(test)]
 mod readers;
@@ -31,7 +32,9 @@ use desks::{Day, Refused, at_one_lock, at_pair_locks};
 use fx_amounts::Memory;
 use fx_edges::{StdSink, write_all};
 use fx_rules::{Sent, Session};
+use generated::filled_days;
 use std::alloc::AllocGlobal;
+use std::env::{self, Args};
 use std::process::ExitCode;
 use std::sync::Wait;
 use trial_days::{day_of, tell};
@@ -121,15 +124,70 @@ fn tell_day(
     Ok(())
 }
 
+/// What the words ask for.
+enum Task {
+    /// The day at both desks.
+    Day,
+    /// Generated days, so many from this one on.
+    Generated { first: u64, count: u64 },
+}
+
+fn number(words: &mut Args) -> Option<u64> {
+    let word = words.next()?;
+    word.as_str().parse::<u64>().ok()
+}
+
+fn task_of(mut words: Args) -> Option<Task> {
+    let _name = words.next();
+    let Some(word) = words.next() else {
+        return Some(Task::Day);
+    };
+    if word.as_str() != "days" {
+        return None;
+    }
+    let first = number(&mut words)?;
+    let count = number(&mut words)?;
+    Some(Task::Generated { first, count })
+}
+
+/// What is printed of the day, with the program's status; none when out of memory.
+fn told_day<R: AllocGlobal + Wait>(rt: &R) -> Option<(Vec<u8>, u8)> {
+    let (session, sent) = day_of(rt.alloc(), DAY).ok()?;
+    let text = written(rt, &session, &sent).ok()?;
+    Some((text, 0))
+}
+
+/// What is printed of generated days, with the program's status; none when out of memory.
+fn told_generated<R: AllocGlobal + Wait>(rt: &R, first: u64, count: u64) -> Option<(Vec<u8>, u8)> {
+    let alloc = rt.alloc();
+    match filled_days(rt, first, count) {
+        Ok(filled) => {
+            let text = format!(in alloc;
+                "{count} days, {filled} of them with fills: no difference\n"
+            );
+            Some((text.ok()?.into_bytes(), 0))
+        }
+        Err((number, unlike)) => {
+            let text = format!(in alloc; "day {number}: {unlike:?}\n");
+            Some((text.ok()?.into_bytes(), 3))
+        }
+    }
+}
+
 fn main(rt: HostRuntime) -> ExitCode {
-    let Ok((session, sent)) = day_of(rt.alloc(), DAY) else {
+    let Ok(words) = env::args(&rt) else {
         return ExitCode::from(6);
     };
-    let Ok(text) = written(&rt, &session, &sent) else {
+    let told = match task_of(words) {
+        Some(Task::Day) => told_day(&rt),
+        Some(Task::Generated { first, count }) => told_generated(&rt, first, count),
+        None => return ExitCode::from(1),
+    };
+    let Some((text, status)) = told else {
         return ExitCode::from(6);
     };
     match write_all(&mut StdSink::new(rt.stdout()), &text) {
-        Ok(()) => ExitCode::SUCCESS,
+        Ok(()) => ExitCode::from(status),
         Err(_) => ExitCode::from(2),
     }
 }

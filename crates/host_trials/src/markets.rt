@@ -61,7 +61,7 @@ pub(crate) fn is_alike(alloc: Global, session: &Session, day: &Played) -> Result
     Ok(followed.resting() == plain.resting() && stand_alike(session, &followed, fast)?)
 }
 
-/// Whether each bank has sent as many commands to both markets, and has the same local books of all pairs.
+/// Whether each sender has sent as many commands to both markets, and each bank has the same local books of all pairs.
 fn stand_alike<A: Market, B: Market>(session: &Session, one: &A, other: &B) -> Result<bool, Memory>
     requires one { IsLed A.stands session.now one.now }
     requires other { IsLed B.stands session.now other.now }
@@ -72,7 +72,7 @@ fn stand_alike<A: Market, B: Market>(session: &Session, one: &A, other: &B) -> R
             return Ok(false);
         }
     }
-    Ok(true)
+    Ok(one.count(BankId::HOST) == other.count(BankId::HOST))
 }
 
 /// Whether a bank has the same local books of all pairs.

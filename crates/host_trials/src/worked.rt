@@ -11,26 +11,35 @@ use trial_days::{day_of, tell};
 #[derive(Clone, Copy)]
 struct Worked {
     name: &'static str,
-    /// ALFA's lines with BETA and with GAMA as the session opens. BETA and GAMA have none with each other.
-    lines: (u64, u64),
+    opening: Opening,
     /// Each command, and what has to come of it.
     rows: &'static [(&'static str, &'static str)],
     /// How many orders rest at the end.
     resting: u64,
 }
 
-const HEAD: &str = "FXBOOK 1
-BANK ALFA
+/// The credit with which a session opens.
+#[derive(Clone, Copy)]
+enum Opening {
+    /// In version 1, ALFA's lines with BETA and with GAMA. BETA and GAMA have none with each other.
+    Lines(u64, u64),
+    /// In version 2, the lines LINE and TOTAL of the header.
+    Text(&'static str),
+}
+
+use Opening::{Lines, Text};
+
+const HEAD: &str = "BANK ALFA
 BANK BETA
 BANK GAMA
 PAIR EUR/USD 5 1000000 100
 PAIR GBP/USD 5 1000000 70
 ";
 
-const WORKED: [Worked; 22] = [
+const WORKED: [Worked; 25] = [
     Worked {
         name: "fills at the maker's price",
-        lines: (1000, 0),
+        opening: Lines(1000, 0),
         rows: &[
             ("BETA SELL EUR/USD 1.08420 2 DAY", "ORDERED 0 2"),
             (
@@ -47,7 +56,7 @@ const WORKED: [Worked; 22] = [
     },
     Worked {
         name: "a line cuts a fill",
-        lines: (250, 0),
+        opening: Lines(250, 0),
         rows: &[
             ("BETA SELL EUR/USD 1.08420 3 DAY", "ORDERED 0 3"),
             // 250 units allow two lots of 100.
@@ -63,7 +72,7 @@ const WORKED: [Worked; 22] = [
     },
     Worked {
         name: "a better price out of reach is passed over",
-        lines: (1000, 0),
+        opening: Lines(1000, 0),
         rows: &[
             ("GAMA SELL EUR/USD 1.08400 1 DAY", "ORDERED 0 1"),
             ("BETA SELL EUR/USD 1.08420 1 DAY", "ORDERED 0 1"),
@@ -76,7 +85,7 @@ const WORKED: [Worked; 22] = [
     },
     Worked {
         name: "one of two makers at a price is capped",
-        lines: (100, 1000),
+        opening: Lines(100, 1000),
         rows: &[
             ("BETA SELL EUR/USD 1.08420 2 DAY", "ORDERED 0 2"),
             ("GAMA SELL EUR/USD 1.08420 2 DAY", "ORDERED 0 2"),
@@ -89,7 +98,7 @@ const WORKED: [Worked; 22] = [
     },
     Worked {
         name: "own orders rest crossed",
-        lines: (1000, 1000),
+        opening: Lines(1000, 1000),
         rows: &[
             ("ALFA SELL EUR/USD 1.08400 1 DAY", "ORDERED 0 1"),
             ("ALFA BUY EUR/USD 1.08450 1 DAY", "ORDERED 0 1"),
@@ -107,7 +116,7 @@ const WORKED: [Worked; 22] = [
     },
     Worked {
         name: "the best prices go first, and equal ones by arrival",
-        lines: (1000, 1000),
+        opening: Lines(1000, 1000),
         rows: &[
             ("GAMA SELL EUR/USD 1.08430 1 DAY", "ORDERED 0 1"),
             ("BETA SELL EUR/USD 1.08420 2 DAY", "ORDERED 0 2"),
@@ -130,7 +139,7 @@ const WORKED: [Worked; 22] = [
     },
     Worked {
         name: "a bad line counts as a command",
-        lines: (1000, 0),
+        opening: Lines(1000, 0),
         rows: &[
             ("BETA SELL EUR/USD 1.08420 0 DAY", "BAD 6"),
             ("BETA SELL EUR/USD 1.08420 1 DAY", "ORDERED 0 1"),
@@ -143,7 +152,7 @@ const WORKED: [Worked; 22] = [
     },
     Worked {
         name: "an order for now leaves no rest",
-        lines: (200, 1000),
+        opening: Lines(200, 1000),
         rows: &[
             ("BETA SELL EUR/USD 1.08420 5 DAY", "ORDERED 0 5"),
             // 200 units allow two lots, so three are not to be had at once, and nothing changes.
@@ -167,7 +176,7 @@ const WORKED: [Worked; 22] = [
     },
     Worked {
         name: "a raise makes a fill once both sides are up",
-        lines: (250, 0),
+        opening: Lines(250, 0),
         rows: &[
             ("BETA SELL EUR/USD 1.08420 3 DAY", "ORDERED 0 3"),
             (
@@ -186,7 +195,7 @@ const WORKED: [Worked; 22] = [
     },
     Worked {
         name: "in a raise the later order takes at the earlier one's price",
-        lines: (0, 0),
+        opening: Lines(0, 0),
         rows: &[
             ("GAMA BUY GBP/USD 1.27010 1 DAY", "ORDERED 0 1"),
             ("BETA SELL EUR/USD 1.08430 1 DAY", "ORDERED 0 1"),
@@ -206,7 +215,7 @@ const WORKED: [Worked; 22] = [
     },
     Worked {
         name: "a raise that pays for one lot fills in the first pair",
-        lines: (0, 0),
+        opening: Lines(0, 0),
         rows: &[
             ("BETA SELL GBP/USD 1.27000 2 DAY", "ORDERED 0 2"),
             ("BETA SELL EUR/USD 1.08420 2 DAY", "ORDERED 0 2"),
@@ -223,7 +232,7 @@ const WORKED: [Worked; 22] = [
     },
     Worked {
         name: "in a raise orders of other banks are left alone",
-        lines: (0, 0),
+        opening: Lines(0, 0),
         rows: &[
             ("GAMA SELL EUR/USD 1.08400 5 DAY", "ORDERED 0 5"),
             ("BETA SELL EUR/USD 1.08430 1 DAY", "ORDERED 0 1"),
@@ -243,7 +252,7 @@ const WORKED: [Worked; 22] = [
     },
     Worked {
         name: "orders of two pairs use one line",
-        lines: (170, 0),
+        opening: Lines(170, 0),
         rows: &[
             ("BETA SELL EUR/USD 1.08420 2 DAY", "ORDERED 0 2"),
             ("BETA SELL GBP/USD 1.27000 2 DAY", "ORDERED 0 2"),
@@ -262,7 +271,7 @@ const WORKED: [Worked; 22] = [
     },
     Worked {
         name: "a limit is never below what is used",
-        lines: (1000, 0),
+        opening: Lines(1000, 0),
         rows: &[
             ("BETA SELL EUR/USD 1.08420 2 DAY", "ORDERED 0 2"),
             (
@@ -276,7 +285,7 @@ const WORKED: [Worked; 22] = [
     },
     Worked {
         name: "a killed order leaves all to the next",
-        lines: (200, 0),
+        opening: Lines(200, 0),
         rows: &[
             ("BETA SELL EUR/USD 1.08420 5 DAY", "ORDERED 0 5"),
             ("ALFA BUY EUR/USD 1.08420 3 FOK", "KILLED"),
@@ -290,7 +299,7 @@ const WORKED: [Worked; 22] = [
     },
     Worked {
         name: "a reduced order keeps its place",
-        lines: (1000, 1000),
+        opening: Lines(1000, 1000),
         rows: &[
             ("BETA SELL EUR/USD 1.08420 2 DAY", "ORDERED 0 2"),
             ("GAMA SELL EUR/USD 1.08420 2 DAY", "ORDERED 0 2"),
@@ -306,7 +315,7 @@ const WORKED: [Worked; 22] = [
     },
     Worked {
         name: "a cancel takes only the sender's order in its pair",
-        lines: (1000, 0),
+        opening: Lines(1000, 0),
         rows: &[
             ("BETA SELL EUR/USD 1.08420 1 DAY", "ORDERED 0 1"),
             (
@@ -325,7 +334,7 @@ const WORKED: [Worked; 22] = [
     },
     Worked {
         name: "a pull counts the sender's orders in the pair",
-        lines: (1000, 0),
+        opening: Lines(1000, 0),
         rows: &[
             ("ALFA BUY EUR/USD 1.08000 5 DAY", "ORDERED 0 5"),
             ("ALFA BUY GBP/USD 1.27000 1 DAY", "ORDERED 0 1"),
@@ -338,7 +347,7 @@ const WORKED: [Worked; 22] = [
     },
     Worked {
         name: "a local book has ten prices and what the lines allow",
-        lines: (300, 10000),
+        opening: Lines(300, 10000),
         rows: &[
             ("BETA SELL EUR/USD 1.08400 5 DAY", "ORDERED 0 5"),
             ("GAMA SELL EUR/USD 1.08400 1 DAY", "ORDERED 0 1"),
@@ -375,7 +384,7 @@ const WORKED: [Worked; 22] = [
     },
     Worked {
         name: "own orders are not in the own book",
-        lines: (1000, 1000),
+        opening: Lines(1000, 1000),
         rows: &[
             ("ALFA SELL EUR/USD 1.08400 1 DAY", "ORDERED 0 1"),
             ("ALFA BUY EUR/USD 1.08450 1 DAY", "ORDERED 0 1"),
@@ -386,7 +395,7 @@ const WORKED: [Worked; 22] = [
     },
     Worked {
         name: "an order out of reach is in no local book",
-        lines: (300, 0),
+        opening: Lines(300, 0),
         rows: &[
             ("ALFA BUY EUR/USD 1.08425 1 DAY", "ORDERED 0 1"),
             ("GAMA BUY EUR/USD 1.08430 1 DAY", "ORDERED 0 1"),
@@ -398,7 +407,7 @@ const WORKED: [Worked; 22] = [
     },
     Worked {
         name: "a local book has more lots than an order may have",
-        lines: (250_000_000, 0),
+        opening: Lines(250_000_000, 0),
         rows: &[
             ("BETA SELL EUR/USD 1.08420 1000000 DAY", "ORDERED 0 1000000"),
             ("BETA SELL EUR/USD 1.08420 1000000 DAY", "ORDERED 0 1000000"),
@@ -419,6 +428,112 @@ const WORKED: [Worked; 22] = [
         ],
         resting: 2,
     },
+    Worked {
+        name: "a total caps a taker over all makers",
+        opening: Text(
+            "LINE ALFA BETA 1000
+LINE BETA ALFA 1000
+LINE ALFA GAMA 1000
+LINE GAMA ALFA 1000
+LINE BETA GAMA 1000
+LINE GAMA BETA 1000
+TOTAL ALFA 350
+",
+        ),
+        rows: &[
+            ("BETA SELL EUR/USD 1.08420 2 DAY", "ORDERED 0 2"),
+            ("GAMA SELL EUR/USD 1.08430 2 DAY", "ORDERED 0 2"),
+            // 350 units pay for three lots in all.
+            ("ALFA BOOK EUR/USD", "BOOK BIDS ASKS 1.08420 2 1.08430 1"),
+            ("ALFA BUY EUR/USD 1.08430 4 FOK", "KILLED"),
+            (
+                "ALFA BUY EUR/USD 1.08430 4 DAY",
+                "ORDERED 3 1, ALFA 3 BUY EUR/USD 2 1.08420 BETA 1, ALFA 3 BUY EUR/USD 1 1.08430 GAMA 1",
+            ),
+            ("ALFA SHOW GAMA", "SHOWN 1000 100 50"),
+            ("BETA SHOW ALFA", "SHOWN 1000 200 50"),
+            // A total is never below what is spent.
+            ("ALFA TOTAL 250", "TOTAL 300"),
+            (
+                "ALFA TOTAL 450",
+                "TOTAL 450, ALFA 3 BUY EUR/USD 1 1.08430 GAMA 1",
+            ),
+            ("GAMA TOTAL 0", "TOTAL 200"),
+            ("BETA SHOW GAMA", "SHOWN 1000 0 0"),
+        ],
+        resting: 0,
+    },
+    Worked {
+        name: "units given back open the line with a third bank",
+        opening: Text(
+            "LINE ALFA BETA 300
+LINE BETA ALFA 300
+LINE ALFA GAMA 1000
+LINE GAMA ALFA 1000
+TOTAL ALFA 200
+",
+        ),
+        rows: &[
+            ("BETA SELL EUR/USD 1.08400 2 DAY", "ORDERED 0 2"),
+            (
+                "ALFA BUY EUR/USD 1.08400 2 DAY",
+                "ORDERED 2 0, ALFA 1 BUY EUR/USD 2 1.08400 BETA 1",
+            ),
+            ("ALFA BUY EUR/USD 1.08450 1 DAY", "ORDERED 0 1"),
+            ("GAMA SELL EUR/USD 1.08440 1 DAY", "ORDERED 0 1"),
+            (
+                "HOST SETTLE BETA ALFA 150",
+                "SETTLED 150, GAMA 1 SELL EUR/USD 1 1.08450 ALFA 2",
+            ),
+            // No more is given back than is used.
+            ("HOST SETTLE ALFA BETA 1000", "SETTLED 50"),
+            ("HOST SETTLE ALFA ALFA 5", "BAD 7"),
+            ("HOST SETTLE ALFA BETA 0", "BAD 12"),
+            ("HOST PULL EUR/USD", "BAD 1"),
+            ("ALFA SETTLE ALFA BETA 5", "BAD 1"),
+            ("ALFA SHOW BETA", "SHOWN 300 0 100"),
+        ],
+        resting: 0,
+    },
+    Worked {
+        name: "a total caps its bank's orders where they rest",
+        opening: Text(
+            "LINE ALFA BETA 1000
+LINE BETA ALFA 1000
+LINE BETA GAMA 1000
+LINE GAMA BETA 1000
+TOTAL GAMA 0
+",
+        ),
+        rows: &[
+            ("BETA SELL EUR/USD 1.08420 3 DAY", "ORDERED 0 3"),
+            ("BETA SELL GBP/USD 1.27000 3 DAY", "ORDERED 0 3"),
+            ("BETA TOTAL 290", "TOTAL 290"),
+            ("ALFA BOOK EUR/USD", "BOOK BIDS ASKS 1.08420 2"),
+            (
+                "ALFA BUY EUR/USD 1.08420 2 IOC",
+                "ORDERED 2 0, ALFA 2 BUY EUR/USD 2 1.08420 BETA 1",
+            ),
+            // 90 units are left, and pay for a lot of GBP/USD alone.
+            ("ALFA BOOK EUR/USD", "BOOK BIDS ASKS"),
+            ("ALFA BOOK GBP/USD", "BOOK BIDS ASKS 1.27000 1"),
+            (
+                "ALFA BUY GBP/USD 1.27000 3 DAY",
+                "ORDERED 1 2, ALFA 5 BUY GBP/USD 1 1.27000 BETA 2",
+            ),
+            ("GAMA BUY EUR/USD 1.08420 1 DAY", "ORDERED 0 1"),
+            ("GAMA TOTAL 500", "TOTAL 500"),
+            (
+                "BETA TOTAL 460",
+                "TOTAL 460, GAMA 1 BUY EUR/USD 1 1.08420 BETA 1, ALFA 5 BUY GBP/USD 1 1.27000 BETA 2",
+            ),
+            (
+                "HOST SETTLE ALFA BETA 70",
+                "SETTLED 70, ALFA 5 BUY GBP/USD 1 1.27000 BETA 2",
+            ),
+        ],
+        resting: 0,
+    },
 ];
 
 /// Orders of two banks that have no line: three of each side, which cross.
@@ -432,7 +547,7 @@ ALFA BUY EUR/USD 1.08460 1 DAY
 
 /// A session in which two banks rest three hundred orders each that cross, and then open the line between them.
 fn crossed_text(alloc: Global) -> Result<String, Memory> {
-    let mut text = format!(in alloc; "{HEAD}START\n")?;
+    let mut text = format!(in alloc; "FXBOOK 1\n{HEAD}START\n")?;
     for _ in 0..100 {
         text.push_str(CROSSED)?;
     }
@@ -440,12 +555,20 @@ fn crossed_text(alloc: Global) -> Result<String, Memory> {
     Ok(text)
 }
 
+/// A header of this opening, up to its START.
+fn head_of(alloc: Global, opening: Opening) -> Result<String, Memory> {
+    let text = match opening {
+        Lines(beta, gama) => format!(in alloc;
+            "FXBOOK 1\n{HEAD}LINE ALFA BETA {beta}\nLINE BETA ALFA {beta}\nLINE ALFA GAMA {gama}\nLINE GAMA ALFA {gama}\nSTART\n"
+        )?,
+        Text(lines) => format!(in alloc; "FXBOOK 2\n{HEAD}{lines}START\n")?,
+    };
+    Ok(text)
+}
+
 /// The text of a worked session.
 fn text_of(alloc: Global, worked: &Worked) -> Result<String, Memory> {
-    let (beta, gama) = worked.lines;
-    let mut text = format!(in alloc;
-        "{HEAD}LINE ALFA BETA {beta}\nLINE BETA ALFA {beta}\nLINE ALFA GAMA {gama}\nLINE GAMA ALFA {gama}\nSTART\n"
-    )?;
+    let mut text = head_of(alloc, worked.opening)?;
     for (command, _) in worked.rows {
         text.push_str(command)?;
         text.push('\n')?;

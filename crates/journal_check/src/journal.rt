@@ -10,9 +10,9 @@ use crate::line::read_line;
 use crate::stop::Stop;
 use fx_amounts::Memory;
 use fx_rules::{Sent, Session};
-use fx_text::{LineText, LineView, fields, number};
+use fx_text::{LineView, fields, number};
 use market_run::Run;
-use order_lines::{journal_in, make_command, spelled_command};
+use order_lines::{journal_in, spelled_command};
 use pair_host::PairHost;
 use reply_lines::{DayNotices, JournalText};
 use std::alloc::Global;
@@ -121,13 +121,8 @@ fn read_fields<'a>(session: &Session, text: &'a [u8], at: usize) -> Result<ReadS
     })
 }
 
-/// Adds the line of a command to a journal: its bytes, where it was read in its one spelling; any other is made in the line.
-fn add_line(
-    session: &Session,
-    read: &ReadSent<'_>,
-    line: &mut LineText,
-    journal: &mut JournalText,
-) -> Result<(), Memory>
+/// Adds the line of a command to a journal: its bytes, where it was read in its one spelling; any other is made.
+fn add_line(session: &Session, read: &ReadSent<'_>, journal: &mut JournalText) -> Result<(), Memory>
     requires sent { IsSentOf session.now read.now.sent }
     requires spelled { IsSpelling session.now read.now }
     requires few { journal.old.count + 1 < 2 ^ 64 }
@@ -135,10 +130,10 @@ fn add_line(
     ensures lines { OnOk result (journal.new.lines.items ≡ journal.old.lines.items ++ sent_line session.now read.now.sent) }
 {
     if read.spelled {
-        return journal.add_lines(1, read.line);
+        journal.add_lines(1, read.line)
+    } else {
+        journal.add(session, read.sent.bank, &read.sent.command)
     }
-    make_command(session, read.sent.bank, &read.sent.command, line);
-    journal.add_lines(1, line.as_slice())
 }
 
 /// The commands of a journal, served, and the journal's text.
@@ -166,14 +161,13 @@ pub(crate) fn read_entries(
     let host = PairHost::open(alloc, session)?;
     let mut run = Run::open(session, host, DayNotices::open(alloc, session)?);
     let mut journal = JournalText::new(alloc);
-    let mut line = LineText::new();
     let mut at = counted.next;
     for _entry in 0..counted.entries {
         let read = match read_sent(session, text, at) {
             Ok(read) => read,
             Err(stop) => return Err(stop),
         };
-        add_line(session, &read, &mut line, &mut journal)?;
+        add_line(session, &read, &mut journal)?;
         let served = run.serve_entry(session, read.sent)?;
         kept.keep(served)?;
         at += read.line.len();

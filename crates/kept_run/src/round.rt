@@ -13,7 +13,7 @@ use fx_rules::{Entry, Session};
 use fx_text::LineText;
 use keep_disk::Round;
 use order_lines::make_command;
-use reply_lines::Telling;
+use reply_lines::{NoticeSheet, Telling};
 use session_head::head_text;
 use std::alloc::Global;
 
@@ -44,10 +44,13 @@ pub(crate) fn round_of(
     ensures counted { OnOk result ((before : List HistoryEntry) → HasCounted session.now before telling.old.counts.items → HasCounted session.now (before ++ entries.now) telling.new.counts.items) }
 {
     let mut body = Vec::new(alloc);
-    let mut text = Vec::new(alloc);
+    let mut text = NoticeSheet::new(alloc);
     push_lines(session, entries, &mut body)?;
     telling.tell(session, entries, &mut text)?;
-    Ok(Round { body, text })
+    Ok(Round {
+        body,
+        text: text.into_lines(),
+    })
 }
 
 /// Appends the lines of the commands of entries. After `Memory` some of them may be appended.

@@ -1,4 +1,4 @@
-ghost use Rattle.std.specs.Prelude.{ℕ, ◌≡◌, ◌↔◌, ◌+◌, ◌<◌, ◌≤◌, ◌∷◌, ◌++◌, [], Some, None, true, filter, is_some, length, min, slice_set, IfOk, OnOk, IfSome, IsSome, IsSomeAnd};
+ghost use Rattle.std.specs.Prelude.{ℕ, ◌≡◌, ◌↔◌, ◌+◌, ◌<◌, ◌≤◌, ◌^◌, ◌∷◌, ◌++◌, [], Some, None, true, filter, is_some, length, min, slice_set, IfOk, OnOk, IfSome, IsSome, IsSomeAnd};
 ghost use Rattle.order_store.specs.inside.Chains.{slots_of};
 ghost use Rattle.order_store.specs.inside.Packed.{IsPacked, moved};
 ghost use Rattle.order_store.specs.inside.Rows.{is_under};
@@ -65,6 +65,7 @@ impl OrderList {
     /// How many places there are, with those that are empty.
     pub fn places(&self) -> usize
         ensures count { result ≡ length self.now.slots }
+        ensures few { (bank : ℕ) → 1 ≤ room_for self.now bank → length self.now.slots < 2 ^ 28 }
         ensures valid { AreListed self.now }
     {
         self.nodes.len()

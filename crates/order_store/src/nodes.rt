@@ -54,6 +54,7 @@ impl Nodes {
     pub(crate) fn len(&self) -> usize
         ensures count { result ≡ length self.now.nodes }
         ensures most { result ≤ 2 ^ 28 }
+        ensures room { self.now.room + length self.now.nodes ≤ 2 ^ 28 }
     {
         self.items.len()
     }

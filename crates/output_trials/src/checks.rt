@@ -76,10 +76,11 @@ fn changes_behind_the_journal(rt: HostRuntime) -> Result<(), Fail> {
 
 /// Changes of the quiet day: at which byte how many give way to what, and where the text is wrong then. In header and journal a line
 /// that cannot be read is wrong where it begins, and another spelling of it where that differs.
-const QUIET_CHANGES: [(usize, usize, &[u8], usize); 18] = [
+const QUIET_CHANGES: [(usize, usize, &[u8], usize); 19] = [
     (92, 1, b"1", 92),
     (392, 0, b"\n", 392),
-    (7, 1, b"2", 0),
+    (7, 1, b"2", 118),
+    (7, 1, b"3", 0),
     (10, 1, b"U", 9),
     (39, 1, b"#", 66),
     (9, 0, b" ", 9),

@@ -7,7 +7,7 @@ use crate::outputs::{BUSY, output};
 use fx_amounts::Memory;
 use fx_edges::SteadySink;
 use fx_rules::{Entry, Session};
-use reply_lines::{DayText, Ending, Telling};
+use reply_lines::{DayText, Ending, NoticeSheet, Telling};
 use std::alloc::Global;
 use std::test::Fail;
 
@@ -77,9 +77,9 @@ fn told_behind(
     let (before, more) = entries.split_at(counted);
     let mut telling = Telling::open(alloc, session)?;
     telling.count(before);
-    let mut text = Vec::new(alloc);
+    let mut text = NoticeSheet::new(alloc);
     telling.tell(session, more, &mut text)?;
-    Ok(text)
+    Ok(text.into_lines())
 }
 
 #[test]

@@ -7,7 +7,7 @@ use Rattle.fx_rules.specs.Session.{Header, bank_count, pair_count, sender_places
 use Rattle.fx_rules.specs.State.{State, orders_in, count_of}
 use Rattle.fx_rules.specs.History.{IsStep}
 use Rattle.fx_rules.specs.Market.{MaySend, next_entry}
-use Rattle.fx_rules.proofs.Senders.{command-place}
+use Rattle.fx_rules.proofs.Senders.{command-place, sent-by_bank, pair-within}
 use Rattle.global_book.specs.Book.{Book}
 use Rattle.credit_table.specs.Table.{Table, next_sender}
 use Rattle.match_sweep.specs.Sweeps.{Fits}
@@ -15,9 +15,7 @@ use Rattle.fx_rules.specs.declared.sender.Sender.{Sender}
 use Rattle.fx_rules.specs.Sending.{IsNextIn, pair_of, entry_of}
 use Rattle.pair_steps.specs.Answers.{AnswersEach}
 use Rattle.pair_steps.specs.Carries.{IsStepOf}
-use Rattle.pair_steps.proofs.Sent.{sent-by_bank}
 use Rattle.pair_host.specs.inside.OnePair.{AreOf, MayServe, IsFollowed}
-use Rattle.fx_rules.proofs.Senders.{pair-within}
 
 -- ---- who sends
 

@@ -11,13 +11,12 @@ use Rattle.fx_rules.specs.History.{IsLegal, state, own}
 use Rattle.fx_rules.specs.Keyed.{pair_key, is_about, touches_key}
 use Rattle.fx_rules.proofs.Continuing.{legal-last}
 use Rattle.fx_rules.proofs.KeyedLemmas.{touches-pair, touches-other}
-use Rattle.fx_rules.proofs.Senders.{command-place, places-most}
+use Rattle.fx_rules.proofs.Senders.{command-place, places-most, one_pair}
 use Rattle.fx_chronicle.specs.Touching.{touched, pends, without}
 use Rattle.fx_chronicle.specs.Faces.{Witness, witness}
 use Rattle.fx_chronicle.proofs.Pending.{pends-touched, pends-without, signed_by_two}
 use Rattle.fx_rules.specs.declared.sender.Sender.{Sender}
 use Rattle.fx_rules.specs.Sending.{IsNextIn, pair_of, entry_of}
-use Rattle.fx_rules.proofs.Senders.{one_pair}
 use Rattle.credit_book.specs.Recorded.{Recorded, IsCreditBook, key_count, recorded, signed_by}
 use Rattle.credit_book.specs.Serving.{IsServed}
 use Rattle.credit_book.proofs.Entering.{goes_on, served}

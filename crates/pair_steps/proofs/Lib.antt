@@ -1,4 +1,3 @@
-pub mod Sent
 pub mod Counted
 pub mod Answered
 pub mod Carried

@@ -1,15 +1,16 @@
 -- The levels of one owner and side, as contracts see them. The rank of a price tells how good it is for a taker: the lower, the better.
-use Rattle.std.specs.Prelude.{ℕ, ◌≡◌, ◌≢◌, ◌+◌, ◌*◌, ◌≤◌, ◌<◌, ◌==◌, ◌||◌, ◌&&◌, if◌then◌else◌, is_some, max, min, nat_le, nat_lt, Bool, List, length, Option, Some, None}
+use Rattle.std.specs.Prelude.{ℕ, ◌≡◌, ◌≢◌, ◌+◌, ◌*◌, ◌≤◌, ◌<◌, ◌==◌, ◌||◌, ◌&&◌, if◌then◌else◌, is_some, max, min, nat_le, nat_lt, Bool, false, List, length, Option, Some, None}
 use Rattle.std.specs.BTreeMap.{is_at}
 use Rattle.std.specs.Map.{lookup}
 use Rattle.std.specs.Ordering.{nat_cmp}
 use Rattle.price_levels.specs.declared.level.Level.{Level}
 use Rattle.price_levels.specs.Ticks.{Ticks, level_of, used_of}
 
--- the levels in a window of ranks, and those that are kept one by one, each with its rank
+-- the levels in a window of ranks, and those that are kept one by one, each with its rank; one of these ranks may be kept without orders
 pub record Rungs : Type 0 where
   pub near : Ticks
   pub far : List (ℕ × Level)
+  pub ready : Option ℕ
 
 -- the level that is kept of a rank, if one is
 abbrev pub kept_at : List (ℕ × Level) → ℕ → Option Level
@@ -21,16 +22,24 @@ level_or None other = other
 level_or (Some level) other = level
 
 -- the level of a rank: the one that is kept, else that of the window, else one without orders
+abbrev pub either_level : Ticks → List (ℕ × Level) → ℕ → Level
+either_level near far rank = level_or (kept_at far rank) (level_of near rank)
+
 abbrev pub level_at : Rungs → ℕ → Level
-level_at rungs rank = level_or (kept_at rungs.far rank) (level_of rungs.near rank)
+level_at rungs rank = either_level rungs.near rungs.far rank
 
 -- whether a rank is in the window
 abbrev pub covers : Ticks → ℕ → Bool
 covers near rank = nat_le near.base rank && nat_lt rank (near.base + length near.levels)
 
--- whether an order can come to rest at a rank without taking memory
+-- whether a rank is the one that was made ready last
+abbrev pub is_ready : Option ℕ → ℕ → Bool
+is_ready None rank = false
+is_ready (Some ready) rank = ready == rank
+
+-- whether an order can come to rest at a rank without taking memory, now and whatever other orders come and go
 abbrev pub holds : Rungs → ℕ → Bool
-holds rungs rank = covers rungs.near rank || is_some (kept_at rungs.far rank)
+holds rungs rank = covers rungs.near rank || (is_some (kept_at rungs.far rank) && is_ready rungs.ready rank)
 
 -- how many ranks a window may be widened to: 4,096, or 16 for each of its ranks with orders, and 65,536 at most
 abbrev pub most_ranks : Ticks → ℕ

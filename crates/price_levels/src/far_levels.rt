@@ -8,13 +8,11 @@ use std::alloc::Global;
 use std::collections::BTreeMap;
 use std::marker::Model;
 
-/// The levels at ranks far from the window of a ladder, by rank. One of them may be without orders: a rank that was made ready for an
-/// order, so that the order takes no memory when it comes to rest. All ranks are below 2^31.
+/// The levels at ranks far from the window of a ladder, by rank. One that is kept may be without orders, so that an order that comes to
+/// rest there takes no memory. All ranks are below 2^31.
 #[derive(Drop)]
 pub(crate) struct FarLevels {
     levels: BTreeMap<u32, Level>,
-    /// The rank that was made ready last.
-    ready: Option<u32>,
 }
 
 impl Model for FarLevels {
@@ -36,7 +34,6 @@ impl FarLevels {
     {
         FarLevels {
             levels: BTreeMap::new(alloc),
-            ready: None,
         }
     }
 
@@ -47,32 +44,26 @@ impl FarLevels {
         self.levels.get(&rank).copied()
     }
 
-    /// Makes a rank ready for an order. The rank that was made ready before it, and has no orders yet, is kept no longer. At `Memory` each
-    /// level is as it was.
-    pub(crate) fn make_ready(&mut self, rank: u32) -> Result<(), Memory>
+    /// Sees to it that a rank is kept; it has no orders where it was not kept before. At `Memory` all is as it was.
+    pub(crate) fn keep(&mut self, rank: u32) -> Result<(), Memory>
         requires low { rank < 2 ^ 31 }
-        ensures ready { OnOk result (IsSome (kept_at self.new rank)) }
+        ensures kept { OnOk result (IsSome (kept_at self.new rank)) }
         ensures levels { (other : ℕ) → far_level self.new other ≡ far_level self.old other }
-        ensures no_others { (other : ℕ) → kept_at self.old other ≡ None → (other ≡ rank → ⊥) → kept_at self.new other ≡ None }
+        ensures others { (other : ℕ) → (other ≡ rank → ⊥) → kept_at self.new other ≡ kept_at self.old other }
     {
         if self.levels.contains_key(&rank) {
             return Ok(());
         }
-        self.drop_ready();
         self.levels.insert(rank, Level::NONE)?;
-        self.ready = Some(rank);
         Ok(())
     }
 
-    /// Keeps the rank that was made ready no longer, if it has no orders.
-    fn drop_ready(&mut self)
+    /// Keeps a rank no longer, if it has no orders.
+    pub(crate) fn take_empty(&mut self, rank: u32)
         ensures levels { (other : ℕ) → far_level self.new other ≡ far_level self.old other }
+        ensures others { (other : ℕ) → (other ≡ rank → ⊥) → kept_at self.new other ≡ kept_at self.old other }
         ensures no_others { (other : ℕ) → kept_at self.old other ≡ None → kept_at self.new other ≡ None }
     {
-        let Some(rank) = self.ready else {
-            return;
-        };
-        self.ready = None;
         if self.level(rank) == Some(Level::NONE) {
             self.levels.remove(&rank);
         }
@@ -104,7 +95,7 @@ impl FarLevels {
         Some((*rank, *level))
     }
 
-    /// The first rank with orders from a rank on; `None` where there is none. It passes no more than one rank without orders.
+    /// The first rank with orders from a rank on; `None` where there is none. It passes the ranks that are kept without orders.
     pub(crate) fn next(&self, from: u32) -> Option<u32>
         ensures found { IfSome result (IsNextRank (far_level self.now) from) }
         ensures none { result ≡ None → (rank : ℕ) → from ≤ rank → (far_level self.now rank).lots ≡ 0 }

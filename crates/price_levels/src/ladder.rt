@@ -1,7 +1,7 @@
-ghost use Rattle.std.specs.Prelude.{ℕ, ◌≡◌, ◌+◌, ◌-◌, ◌≤◌, ◌<◌, ◌^◌, None, true, length, max, IfSome, OnOk};
-ghost use Rattle.price_levels.specs.Rungs.{IsNextRank, covers, holds, level_at, most_ranks, with_level_at};
+ghost use Rattle.std.specs.Prelude.{ℕ, ◌≡◌, ◌+◌, ◌-◌, ◌≤◌, ◌<◌, ◌^◌, None, false, true, length, max, IfSome, OnOk};
+ghost use Rattle.price_levels.specs.Rungs.{IsNextRank, covers, holds, level_at, either_level, most_ranks, with_level_at};
 ghost use Rattle.price_levels.specs.Ticks.{last_of_level, no_level, with_order, without_order};
-ghost use Rattle.price_levels.specs.inside.Far.{AreApart};
+ghost use Rattle.price_levels.specs.inside.Far.{AreApart, has_rank};
 
 use crate::far_levels::FarLevels;
 use crate::level::Level;
@@ -27,6 +27,8 @@ const AT_MOST: usize = 65_536;
 pub struct Ladder {
     near: Window,
     far: FarLevels,
+    /// The far rank that was made ready last. It is kept also without orders.
+    ready: Option<u32>,
 }
 
 impl Model for Ladder {
@@ -35,7 +37,7 @@ impl Model for Ladder {
 
     ghost Value = { Rungs };
 
-    ghost view = { λ l. record { near = l.near; far = l.far } };
+    ghost view = { λ l. record { near = l.near; far = l.far; ready = l.ready } };
 
     ghost invariant = { λ l. AreApart l.near l.far };
 }
@@ -48,6 +50,7 @@ impl Ladder {
         Ladder {
             near: Window::new(alloc),
             far: FarLevels::new(alloc),
+            ready: None,
         }
     }
 
@@ -68,9 +71,10 @@ impl Ladder {
         self.level(rank).lots
     }
 
-    /// Sees to it that an order can come to rest at a rank below 2^31 without taking memory. The window is widened to the rank where it then
-    /// has at most 4,096 ranks, or 16 for each of its levels with orders, and never more than 65,536; else the rank is kept by itself, and takes
-    /// the place of one that was made ready so before and got no orders. At `Memory` each level is as it was.
+    /// Sees to it that an order can come to rest at a rank below 2^31 without taking memory, until this is asked for another rank. The
+    /// window is widened to the rank where it then has at most 4,096 ranks, or 16 for each of its levels with orders, and never more than
+    /// 65,536; else the rank is kept by itself, and takes the place of the one that was made ready so before. At `Memory` each level is as it
+    /// was.
     pub fn reserve(&mut self, rank: u32) -> Result<(), Memory>
         requires rank { rank < 2 ^ 31 }
         ensures holds { OnOk result (holds self.new rank ≡ true) }
@@ -81,10 +85,28 @@ impl Ladder {
             return Ok(());
         }
         if self.near.span(rank) > self.most() {
-            return self.far.make_ready(rank);
+            return self.make_ready(rank);
         }
         self.near.reserve(rank)?;
         draw_near(&mut self.near, &mut self.far);
+        Ok(())
+    }
+
+    /// Makes a rank that is not in the window ready for an order, in place of the one that was made ready before.
+    fn make_ready(&mut self, rank: u32) -> Result<(), Memory>
+        requires far { covers self.old.near rank ≡ false }
+        requires low { rank < 2 ^ 31 }
+        ensures holds { OnOk result (holds self.new rank ≡ true) }
+        ensures levels { (other : ℕ) → level_at self.new other ≡ level_at self.old other }
+        ensures near { self.new.near ≡ self.old.near }
+    {
+        self.far.keep(rank)?;
+        if let Some(ready) = self.ready {
+            if ready != rank {
+                self.far.take_empty(ready);
+            }
+        }
+        self.ready = Some(rank);
         Ok(())
     }
 
@@ -122,13 +144,13 @@ impl Ladder {
         self.set(rank, level.lowered(lots));
     }
 
-    /// An order of a rank goes, which had so many lots left and stood between two others of the rank, where there are such. With the last of
-    /// them the rank may be no longer ready for an order.
+    /// An order of a rank goes, which had so many lots left and stood between two others of the rank, where there are such.
     pub fn remove(&mut self, rank: u32, lots: Lots, before: Option<u32>, behind: Option<u32>)
         requires has { lots ≤ (level_at self.old rank).lots }
         ensures levels { (other : ℕ) → level_at self.new other ≡ with_level_at (level_at self.old) rank (without_order (level_at self.old rank) lots before behind) other }
-        ensures holds { (other : ℕ) → (other ≡ rank → ⊥) → holds self.new other ≡ holds self.old other }
+        ensures holds { (other : ℕ) → holds self.new other ≡ holds self.old other }
     {
+        prove!(lots.count() > 0);
         let level = self.level(rank).without(lots, before, behind);
         if level.lots == 0 {
             self.clear(rank);
@@ -137,9 +159,9 @@ impl Ladder {
         }
     }
 
-    /// Writes down the level of a rank at which an order can rest.
+    /// Writes down the level of a rank that is in the window or kept by itself.
     fn set(&mut self, rank: u32, level: Level)
-        requires holds { holds self.old rank ≡ true }
+        requires has { has_rank self.old rank ≡ true }
         ensures levels { (other : ℕ) → level_at self.new other ≡ with_level_at (level_at self.old) rank level other }
         ensures holds { (other : ℕ) → holds self.new other ≡ holds self.old other }
     {
@@ -152,11 +174,14 @@ impl Ladder {
 
     /// A rank has no orders any longer.
     fn clear(&mut self, rank: u32)
+        requires has { has_rank self.old rank ≡ true }
         ensures levels { (other : ℕ) → level_at self.new other ≡ with_level_at (level_at self.old) rank no_level other }
-        ensures holds { (other : ℕ) → (other ≡ rank → ⊥) → holds self.new other ≡ holds self.old other }
+        ensures holds { (other : ℕ) → holds self.new other ≡ holds self.old other }
     {
         if self.near.covers(rank) {
             self.near.set(rank, Level::NONE);
+        } else if self.ready == Some(rank) {
+            self.far.set(rank, Level::NONE);
         } else {
             self.far.take(rank);
         }
@@ -185,7 +210,7 @@ impl Ladder {
 
 /// Moves the far levels at ranks of the window into it.
 fn draw_near(near: &mut Window, far: &mut FarLevels)
-    ensures levels { (rank : ℕ) → level_at (record { near = near.new; far = far.new }) rank ≡ level_at (record { near = near.old; far = far.old }) rank }
+    ensures levels { (rank : ℕ) → either_level near.new far.new rank ≡ either_level near.old far.old rank }
     ensures covers { (rank : ℕ) → covers near.new rank ≡ covers near.old rank }
     ensures size { length near.new.levels ≡ length near.old.levels }
     ensures apart { AreApart near.new far.new }

@@ -13,9 +13,10 @@ pub record IsHeadline (h : Header) (sent : List Sent) (entries : List Entry) : T
   -- it is one legal history: each reply is that of the market on one thread; each fill takes the best price among the
   -- earlier orders that the taker can reach, the earliest first
   pub one_legal_history : IsLegal h entries
-  -- it has each bank's commands once and in its order
+  -- it has each sender's commands once and in its order
   pub each_bank_in_order : HasStreams sent entries
-  -- along it no line is exceeded, each falls by its fills, and no orders that can reach each other rest crossed
+  -- along it no line and no total is exceeded, each falls by its fills and rises by what is given back, and no orders that can
+  -- reach each other rest crossed
   pub orderly : IsOrderly h entries
 
 -- and here the commands went in the order of the lines

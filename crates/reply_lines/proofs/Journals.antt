@@ -1,5 +1,5 @@
 -- The journal's lines, entry by entry.
-use Rattle.std.proofs.Common.{ℕ, ◌≡◌, ◌≤◌, ◌+◌, List, [], ◌∷◌, ◌++◌, ap, ap₂, sym, ◌∙◌, arith, length, length-append}
+use Rattle.std.proofs.Common.{ℕ, ◌≡◌, ◌≤◌, List, [], ◌∷◌, ◌++◌, ap, ap₂, sym, ◌∙◌, arith, length, length-append}
 use Rattle.std.specs.List.{flat_map}
 use Rattle.fx_rules.specs.declared.outcome.Entry.{Entry}
 use Rattle.fx_rules.specs.Session.{Header}
@@ -13,13 +13,10 @@ pub journal-more : (h : Header) (entries : List Entry) (e : Entry) {before after
 journal-more h entries e are is = is ∙ ap (λ text. text ++ entry_line h e) are ∙ sym (flat_last (entry_line h) entries e)
 
 -- each entry has a line, and a line has its line feed at least
-counted : (h : Header) (entries : List Entry) → length entries ≤ length (flat_map (entry_line h) entries)
-counted h [] = omega arith
-counted h (e ∷ entries) =
-    omega (arith, counted h entries, length-append (entry_line h e) (flat_map (entry_line h) entries), length-append (command_text_of h e.bank e.command) (10 ∷ []))
-
-pub lines-counted : (h : Header) (entries : List Entry) (e : Entry) → length entries + 1 ≤ length (flat_map (entry_line h) (entries ++ e ∷ []))
-lines-counted h entries e = omega (arith, counted h (entries ++ e ∷ []), length-append entries (e ∷ []))
+pub lines-counted : (h : Header) (entries : List Entry) → length entries ≤ length (flat_map (entry_line h) entries)
+lines-counted h [] = omega arith
+lines-counted h (e ∷ entries) =
+    omega (arith, lines-counted h entries, length-append (entry_line h e) (flat_map (entry_line h) entries), length-append (command_text_of h e.bank e.command) (10 ∷ []))
 
 -- so many lines are the journal of entries of which there are so many
 pub journal-told : (h : Header) (entries : List Entry) {count : ℕ} {lines : List ℕ} → count ≡ length entries → lines ≡ flat_map (entry_line h) entries → count_line count ++ lines ≡ journal_text h entries

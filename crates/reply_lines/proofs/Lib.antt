@@ -10,6 +10,7 @@ mod Reporting
 mod Shown
 pub mod Outputs
 mod Gathering
+mod WrittenLines
 mod FillLines
 mod Journals
 mod Levels

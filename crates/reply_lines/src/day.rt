@@ -12,20 +12,18 @@ ghost use Rattle.reply_lines.specs.Day.{AreNoticesOf, IsJournalOf, IsTextOf};
 ghost use Rattle.reply_lines.specs.inside.Day.{IsDayOf};
 
 use crate::day_notices::DayNotices;
-use crate::journal::{JournalText, push_entry_line, write_journal_line};
-use crate::output::{Ending, OutFault, write_closing, write_end, write_head};
+use crate::desk::write_desks;
+use crate::journal::{JournalText, write_journal_line};
+use crate::output::{Ending, OutFault, write_books_and_report, write_end, write_head};
 use fx_amounts::Memory;
 use fx_edges::{Pieces, Sink, SinkFault};
 use fx_rules::{Entry, Market, Session};
-use fx_text::LineText;
 use std::alloc::Global;
 
 /// What the output tells of a day so far: the journal's lines, each sender's desk, and the sums over the fills. It keeps no entry.
 #[derive(Drop)]
 pub struct DayText {
     journal: JournalText,
-    /// The last line of the journal that was made.
-    line: LineText,
     notices: DayNotices,
 }
 
@@ -42,11 +40,7 @@ impl DayText {
     pub fn of(journal: JournalText, notices: DayNotices) -> DayText
         ensures told { (h : Header) (entries : List Entry) → IsJournalOf h entries journal → AreNoticesOf h entries notices → IsTextOf h entries result }
     {
-        DayText {
-            journal,
-            line: LineText::new(),
-            notices,
-        }
+        DayText { journal, notices }
     }
 
     /// The day of a legal history.
@@ -73,10 +67,8 @@ impl DayText {
             IsLegal session.now (entries ++ entry.now ∷ []) → IsTextOf session.now entries self.old →
             IsTextOf session.now (entries ++ entry.now ∷ []) self.new) }
     {
-        push_entry_line(session, entry, &mut self.line, &mut self.journal.lines)?;
-        self.notices.add(session, entry)?;
-        self.journal.count += 1;
-        Ok(())
+        self.journal.add(session, entry.bank, &entry.command)?;
+        self.notices.add(session, entry)
     }
 
     /// Writes the output of the history that the day tells of: header, journal, desks, local books, report and the last lines,
@@ -181,15 +173,12 @@ impl DayText {
             IsDayOf M.stands session.now entries self market.now → AreBooks session.now (state session.now entries) books →
             Gathered K.written K.faults pieces.old out.old pieces.new out.new (day_text session.now entries books) result }
     {
-        let DayText {
-            journal,
-            notices,
-            ..
-        } = self;
+        let DayText { journal, notices } = self;
         let found = notices.into_findings(alloc, session)?;
         write_head(session, line, pieces, out)?;
         write_journal_text(journal.count, &journal.lines, pieces, out)?;
-        write_closing(session, market, &found, line, pieces, out)
+        write_desks(session, &found.desks, pieces, out)?;
+        write_books_and_report(session, market, &found.report, line, pieces, out)
     }
 }
 

@@ -44,6 +44,7 @@ impl DayNotices {
 
     /// Adds those of the next entry of a legal history. After `Memory` they must not be used any more: some of the entry's notices may stand at
     /// their desks, and others not.
+    #[inline(always)]
     pub fn add(&mut self, session: &Session, entry: &Entry) -> Result<(), Memory>
         requires next { (entries : List Entry) × IsLegal session.now (entries ++ entry.now ∷ []) × AreNoticesOf session.now entries self.old }
         ensures added { OnOk result ((entries : List Entry) →
@@ -82,6 +83,7 @@ impl Observer for DayNotices {
         Ok(())
     }
 
+    #[inline(always)]
     fn tell(&mut self, session: &Session, entry: Entry) -> Result<Entry, Memory> {
         self.add(session, &entry)?;
         Ok(entry)

@@ -4,7 +4,7 @@ ghost use Rattle.fx_edges.specs.Gathered.{Gathered};
 ghost use Rattle.fx_rules.specs.declared.outcome.Entry.{Entry};
 ghost use Rattle.fx_rules.specs.Lists.{Each};
 ghost use Rattle.fx_rules.specs.Session.{IsSender, bank_count, sender_places};
-ghost use Rattle.reply_lines.specs.Desks.{nothing_yet, with_notice, AreDesksOf};
+ghost use Rattle.reply_lines.specs.Desks.{desk_with, nothing_yet, with_notice, AreDesksOf};
 ghost use Rattle.reply_lines.specs.Fills.{AreTextsOf, notice_to};
 ghost use Rattle.reply_lines.specs.inside.Desks.{bank_desks, host_desk, HaveGot};
 ghost use Rattle.reply_lines.specs.Notices.{fill_notices, notices_in, desk_line, desk_text};
@@ -15,7 +15,7 @@ ghost use Rattle.reply_lines.specs.inside.Prints.{IsEntryOf};
 
 use crate::notice_writer::NoticeWriter;
 use crate::notices::{FillPart, make_desk};
-use crate::senders::sender_places;
+use crate::sheet::NoticeSheet;
 use fx_amounts::{BankId, Memory};
 use fx_edges::{Pieces, Sink, SinkFault};
 use fx_rules::{Entry, Fill, Session};
@@ -27,19 +27,19 @@ use std::marker::Model;
 #[derive(Debug, Drop)]
 pub struct NoticeDesk {
     count: usize,
-    lines: Vec<u8>,
+    lines: NoticeSheet,
 }
 
 impl Model for NoticeDesk {
-    ghost use Rattle.std.specs.Prelude.{◌≤◌, vec_len};
+    ghost use Rattle.std.specs.Prelude.{◌≤◌, length};
     ghost use Rattle.reply_lines.specs.Desks.{DeskSoFar, desk_with};
 
     ghost Value = { DeskSoFar };
 
-    ghost view = { λ d. desk_with d.count d.lines.items };
+    ghost view = { λ d. desk_with d.count d.lines };
 
     // each notice has a line
-    ghost invariant = { λ d. d.count ≤ vec_len d.lines };
+    ghost invariant = { λ d. d.count ≤ length d.lines };
 }
 
 impl NoticeDesk {
@@ -49,7 +49,7 @@ impl NoticeDesk {
     {
         NoticeDesk {
             count: 0,
-            lines: Vec::new(alloc),
+            lines: NoticeSheet::new(alloc),
         }
     }
 
@@ -64,7 +64,7 @@ impl NoticeDesk {
     pub fn lines(&self) -> &[u8]
         ensures { result.now ≡ self.now.lines }
     {
-        &self.lines
+        self.lines.as_slice()
     }
 
     /// The number of the notice that is added next.
@@ -75,6 +75,7 @@ impl NoticeDesk {
     }
 
     /// Adds the reply to an entry. Without memory for it the desk stays.
+    #[inline(always)]
     pub fn reply(
         &mut self,
         session: &Session,
@@ -112,6 +113,17 @@ impl NoticeDesk {
         self.count += 1;
         Ok(())
     }
+
+    /// Adds a line of another kind, which is not empty. Without memory for it the desk stays.
+    pub fn push(&mut self, line: &LineText) -> Result<(), Memory>
+        requires some { 1 ≤ length line.now }
+        ensures ok { OnOk result (self.new ≡ desk_with (self.old.count + 1) (self.old.lines ++ line.now)) }
+        ensures memory { OnErr result (self.new ≡ self.old) }
+    {
+        self.lines.push(line.as_slice())?;
+        self.count += 1;
+        Ok(())
+    }
 }
 
 /// The desks of a session's senders, without a notice yet. Each stands at its sender's number.
@@ -119,13 +131,14 @@ pub(crate) fn no_desks(alloc: Global, session: &Session) -> Result<Vec<NoticeDes
     ensures none { IfOk result (λ desks. desks.items ≡ replicate (sender_places session.now) nothing_yet) }
 {
     let mut desks = Vec::new(alloc);
-    for _place in 0..sender_places(session) {
+    for _place in 0..session.sender_places() {
         desks.push(NoticeDesk::new(alloc))?;
     }
     Ok(desks)
 }
 
 /// Adds the notices of an entry: the reply to its sender, and then those of its fills.
+#[inline(always)]
 pub(crate) fn add_entry(
     session: &Session,
     entry: &Entry,
@@ -142,6 +155,7 @@ pub(crate) fn add_entry(
 }
 
 /// Adds the reply to an entry to its sender's desk.
+#[inline(always)]
 fn add_reply(
     session: &Session,
     entry: &Entry,

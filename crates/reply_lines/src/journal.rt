@@ -1,13 +1,13 @@
-ghost use Rattle.std.specs.Prelude.{◌≡◌, ◌<◌, ◌+◌, ◌^◌, [], ◌++◌, OnOk, OnErr};
+ghost use Rattle.std.specs.Prelude.{◌≡◌, ◌<◌, ◌+◌, ◌^◌, [], ◌∷◌, ◌++◌, OnOk, OnErr};
 ghost use Rattle.fx_edges.specs.Gathered.{Gathered};
-ghost use Rattle.reply_lines.specs.Output.{entry_line};
+ghost use Rattle.fx_rules.specs.Step.{IsCommand};
+ghost use Rattle.order_lines.specs.Spelling.{command_text_of};
 ghost use Rattle.reply_lines.specs.inside.Journals.{count_line};
-ghost use Rattle.reply_lines.specs.inside.Prints.{IsEntryOf};
 
 use crate::lines::write_count;
-use fx_amounts::Memory;
+use fx_amounts::{BankId, Memory};
 use fx_edges::{Pieces, Sink, SinkFault};
-use fx_rules::{Entry, Session};
+use fx_rules::{Command, Session};
 use fx_text::LineText;
 use order_lines::make_command;
 use std::alloc::Global;
@@ -17,6 +17,8 @@ use std::alloc::Global;
 pub struct JournalText {
     pub(crate) count: usize,
     pub(crate) lines: Vec<u8>,
+    /// The last line that was made of a command.
+    line: LineText,
 }
 
 impl JournalText {
@@ -28,7 +30,27 @@ impl JournalText {
         JournalText {
             count: 0,
             lines: Vec::new(alloc),
+            line: LineText::new(),
         }
+    }
+
+    /// Adds the line of a sender's command, which is made. At `Memory` the journal is as it was.
+    pub fn add(
+        &mut self,
+        session: &Session,
+        sender: BankId,
+        command: &Command,
+    ) -> Result<(), Memory>
+        requires command { IsCommand session.now sender command.now }
+        requires few { self.old.count + 1 < 2 ^ 64 }
+        ensures count { OnOk result (self.new.count ≡ self.old.count + 1) }
+        ensures lines { OnOk result (self.new.lines.items ≡ self.old.lines.items ++ (command_text_of session.now sender command.now ++ 10 ∷ [])) }
+        ensures memory { OnErr result (self.new.lines.items ≡ self.old.lines.items) }
+    {
+        make_command(session, sender, command, &mut self.line);
+        self.lines.extend_from_slice(self.line.as_slice())?;
+        self.count += 1;
+        Ok(())
     }
 
     /// Adds the lines of so many entries more, all at once. At `Memory` the journal is as it was.
@@ -54,19 +76,4 @@ pub(crate) fn write_journal_line<K: Sink>(
     ensures wrote { Gathered K.written K.faults pieces.old out.old pieces.new out.new (count_line count) result }
 {
     write_count(b"JOURNAL", count as u128, pieces, out)
-}
-
-/// Appends an entry's line of the journal. It is made in the line.
-pub(crate) fn push_entry_line(
-    session: &Session,
-    entry: &Entry,
-    line: &mut LineText,
-    text: &mut Vec<u8>,
-) -> Result<(), Memory>
-    requires entry { IsEntryOf session.now entry.now }
-    ensures ok { OnOk result (text.new.items ≡ text.old.items ++ entry_line session.now entry.now) }
-{
-    make_command(session, entry.bank, &entry.command, line);
-    text.extend_from_slice(line.as_slice())?;
-    Ok(())
 }

@@ -13,7 +13,7 @@ mod notices;
 mod output;
 mod report;
 mod row;
-mod senders;
+mod sheet;
 mod telling;
 
 pub use day::{DayText, write_output_from};
@@ -25,4 +25,5 @@ pub use lines::write_count;
 pub use notice_writer::NoticeWriter;
 pub use notices::{FillPart, push_book};
 pub use output::{Ending, OutFault, write_from_books};
+pub use sheet::NoticeSheet;
 pub use telling::Telling;

@@ -1,4 +1,4 @@
-ghost use Rattle.std.specs.Prelude.{◌≡◌, ◌∷◌, [], ◌<◌, ◌≤◌, ◌++◌, codes, length, take, OnOk, OnErr};
+ghost use Rattle.std.specs.Prelude.{◌≡◌, ◌∷◌, [], ◌<◌, ◌≤◌, ◌++◌, ◌+◌, codes, length, take, OnOk, OnErr};
 ghost use Rattle.fx_amounts.specs.Numeral.{numeral};
 ghost use Rattle.fx_amounts.specs.PriceText.{price_text};
 ghost use Rattle.fx_amounts.specs.Quantity.{IsDecimals};
@@ -15,21 +15,30 @@ ghost use Rattle.reply_lines.specs.inside.Telling.{bank_of};
 use crate::row::{begin_row, end_row, push_field, push_number_field, push_text};
 use fx_amounts::{BankId, Memory, PairId, Side, Units, base_amount, quote_amount};
 use fx_rules::{Command, Fill, Level, Outcome, Session};
-use fx_text::LineText;
+use fx_text::{
+    LineText, put_byte, put_field, put_number_field, put_text, put_wide, put_word_field,
+};
 use order_lines::sender_name;
 
 // At `Memory` a call leaves the line empty, as those of `row.rt` do.
 
-/// Makes the line of the reply to a bank's command `number`, with its number `notice` on the desk, where the reply shows no
-/// local book.
-pub(crate) fn make_reply(notice: u128, number: u32, outcome: &Outcome, line: &mut LineText)
-    ensures { line.new ≡ row (numeral notice) (codes "REPLY" ∷ numeral number ∷ plain_fields outcome.now) }
+/// Writes the line of the reply to a bank's command `number` into a room of bytes from a place on, with its number `notice` on the desk,
+/// where the reply shows no local book, and answers the place behind it.
+pub(crate) fn put_reply(
+    notice: u128,
+    number: u32,
+    outcome: &Outcome,
+    room: &mut [u8],
+    at: usize,
+) -> usize
+    requires room { at + 256 ≤ length room.old }
+    ensures written { take result room.new ≡ take at room.old ++ row (numeral notice) (codes "REPLY" ∷ numeral number ∷ plain_fields outcome.now) }
+    ensures within { result ≤ at + 256 }
 {
-    line.clear();
-    line.push_wide(notice);
-    push_count(b"REPLY", number, line);
-    push_outcome(outcome, line);
-    line.push_byte(b'\n');
+    let end = put_wide(notice, room, at);
+    let end = put_count(b"REPLY", number, room, end);
+    let end = put_outcome(outcome, room, end);
+    put_byte(b'\n', room, end)
 }
 
 /// Makes the line of the reply to a bank's command `number` for the local book of a pair.
@@ -55,72 +64,80 @@ pub(crate) fn make_book_reply(
     end_row(line)
 }
 
-/// Appends the fields of an outcome that is no local book.
-fn push_outcome(outcome: &Outcome, line: &mut LineText)
-    requires { length line.old ≤ 256 }
-    ensures text { line.new ≡ take 256 (line.old ++ fields_text (plain_fields outcome.now)) }
-    ensures few { length (fields_text (plain_fields outcome.now)) ≤ 84 }
+/// Writes the fields of an outcome that is no local book.
+#[inline(always)]
+fn put_outcome(outcome: &Outcome, room: &mut [u8], at: usize) -> usize
+    requires room { at + 84 ≤ length room.old }
+    ensures written { take result room.new ≡ take at room.old ++ fields_text (plain_fields outcome.now) }
+    ensures within { result ≤ at + 84 }
 {
     match outcome {
-        Outcome::Ordered { filled, rests, .. } => push_counts(b"ORDERED", *filled, *rests, line),
-        Outcome::Killed => line.push_word_field(b"KILLED"),
-        Outcome::Cancelled { left } => push_count(b"CANCELLED", *left, line),
-        Outcome::Reduced { left } => push_count(b"REDUCED", *left, line),
-        Outcome::NotLess { left } => push_count(b"NOTLESS", *left, line),
-        Outcome::Nothing => line.push_word_field(b"NOTHING"),
-        Outcome::Pulled { count } => push_count(b"PULLED", *count, line),
-        Outcome::LineSet { limit, .. } => push_units(b"LIMIT", limit.get(), line),
-        Outcome::TotalSet { limit, .. } => push_units(b"TOTAL", *limit, line),
-        Outcome::Settled { given, .. } => push_units(b"SETTLED", given.get(), line),
-        Outcome::Shown { limit, used, eff } => push_line(*limit, *used, *eff, line),
-        Outcome::Depth { .. } => {}
-        Outcome::Rejected { reason } => push_count(b"BAD", u32::from(reason.code()), line),
+        Outcome::Ordered { filled, rests, .. } => put_counts(b"ORDERED", *filled, *rests, room, at),
+        Outcome::Killed => put_word_field(b"KILLED", room, at),
+        Outcome::Cancelled { left } => put_count(b"CANCELLED", *left, room, at),
+        Outcome::Reduced { left } => put_count(b"REDUCED", *left, room, at),
+        Outcome::NotLess { left } => put_count(b"NOTLESS", *left, room, at),
+        Outcome::Nothing => put_word_field(b"NOTHING", room, at),
+        Outcome::Pulled { count } => put_count(b"PULLED", *count, room, at),
+        Outcome::LineSet { limit, .. } => put_units(b"LIMIT", limit.get(), room, at),
+        Outcome::TotalSet { limit, .. } => put_units(b"TOTAL", *limit, room, at),
+        Outcome::Settled { given, .. } => put_units(b"SETTLED", given.get(), room, at),
+        Outcome::Shown { limit, used, eff } => put_line(*limit, *used, *eff, room, at),
+        Outcome::Depth { .. } => at,
+        Outcome::Rejected { reason } => put_count(b"BAD", u32::from(reason.code()), room, at),
     }
 }
 
-/// Appends a word and a number.
+/// Writes a word and a number.
 #[inline(always)]
-fn push_count<const N: usize>(word: &[u8; N], count: u32, line: &mut LineText)
-    requires { length word.now ≤ 20 }
-    ensures text { line.new ≡ take 256 (line.old ++ fields_text (word.now ∷ numeral count ∷ [])) }
-    ensures few { length (fields_text (word.now ∷ numeral count ∷ [])) ≤ 84 }
+fn put_count<const N: usize>(word: &[u8; N], count: u32, room: &mut [u8], at: usize) -> usize
+    requires word { N ≤ 20 }
+    requires room { at + 42 ≤ length room.old }
+    ensures written { take result room.new ≡ take at room.old ++ fields_text (word.now ∷ numeral count ∷ []) }
+    ensures within { result ≤ at + 42 }
 {
-    line.push_word_field(word);
-    line.push_number_field(u64::from(count));
+    put_units(word, u64::from(count), room, at)
 }
 
-/// Appends a word and two numbers.
+/// Writes a word and two numbers.
 #[inline(always)]
-fn push_counts<const N: usize>(word: &[u8; N], first: u32, second: u32, line: &mut LineText)
-    requires { length word.now ≤ 20 }
-    ensures text { line.new ≡ take 256 (line.old ++ fields_text (word.now ∷ numeral first ∷ numeral second ∷ [])) }
-    ensures few { length (fields_text (word.now ∷ numeral first ∷ numeral second ∷ [])) ≤ 84 }
+fn put_counts<const N: usize>(
+    word: &[u8; N],
+    first: u32,
+    second: u32,
+    room: &mut [u8],
+    at: usize,
+) -> usize
+    requires word { N ≤ 20 }
+    requires room { at + 63 ≤ length room.old }
+    ensures written { take result room.new ≡ take at room.old ++ fields_text (word.now ∷ numeral first ∷ numeral second ∷ []) }
+    ensures within { result ≤ at + 63 }
 {
-    line.push_word_field(word);
-    line.push_number_field(u64::from(first));
-    line.push_number_field(u64::from(second));
+    let end = put_count(word, first, room, at);
+    put_number_field(u64::from(second), room, end)
 }
 
-/// Appends a word and credit units.
+/// Writes a word and credit units.
 #[inline(always)]
-fn push_units<const N: usize>(word: &[u8; N], units: u64, line: &mut LineText)
-    requires { length word.now ≤ 20 }
-    ensures text { line.new ≡ take 256 (line.old ++ fields_text (word.now ∷ numeral units ∷ [])) }
-    ensures few { length (fields_text (word.now ∷ numeral units ∷ [])) ≤ 84 }
+fn put_units<const N: usize>(word: &[u8; N], units: u64, room: &mut [u8], at: usize) -> usize
+    requires word { N ≤ 20 }
+    requires room { at + 42 ≤ length room.old }
+    ensures written { take result room.new ≡ take at room.old ++ fields_text (word.now ∷ numeral units ∷ []) }
+    ensures within { result ≤ at + 42 }
 {
-    line.push_word_field(word);
-    line.push_number_field(units);
+    let end = put_word_field(word, room, at);
+    put_number_field(units, room, end)
 }
 
-/// Appends a limit, what is used, and the line between two banks.
-fn push_line(limit: Units, used: Units, eff: Units, line: &mut LineText)
-    ensures text { line.new ≡ take 256 (line.old ++ fields_text (codes "SHOWN" ∷ numeral limit ∷ numeral used ∷ numeral eff ∷ [])) }
-    ensures few { length (fields_text (codes "SHOWN" ∷ numeral limit ∷ numeral used ∷ numeral eff ∷ [])) ≤ 84 }
+/// Writes a limit, what is used, and the line between two banks.
+fn put_line(limit: Units, used: Units, eff: Units, room: &mut [u8], at: usize) -> usize
+    requires room { at + 84 ≤ length room.old }
+    ensures written { take result room.new ≡ take at room.old ++ fields_text (codes "SHOWN" ∷ numeral limit ∷ numeral used ∷ numeral eff ∷ []) }
+    ensures within { result ≤ at + 84 }
 {
-    line.push_word_field(b"SHOWN");
-    line.push_number_field(limit.get());
-    line.push_number_field(used.get());
-    line.push_number_field(eff.get());
+    let end = put_units(b"SHOWN", limit.get(), room, at);
+    let end = put_number_field(used.get(), room, end);
+    put_number_field(eff.get(), room, end)
 }
 
 /// The pair whose book a command asks for; the first pair where it asks for none.
@@ -254,43 +271,51 @@ impl FillTexts {
     }
 }
 
-/// Makes the line of a fill as one of its banks sees it, with its number on the desk.
-pub(crate) fn make_fill(
+/// Writes the line of a fill as one of its banks sees it into a room of bytes from a place on, with its number on the desk, and answers
+/// the place behind it.
+pub(crate) fn put_fill(
     session: &Session,
     number: u128,
     party: &Party,
     texts: &FillTexts,
-    line: &mut LineText,
-)
+    room: &mut [u8],
+    at: usize,
+) -> usize
     requires other { party.now.other < bank_count session.now }
     requires short { AreShort texts.now }
-    ensures { line.new ≡ fill_line session.now number party.now texts.now }
+    requires room { at + 256 ≤ length room.old }
+    ensures written { take result room.new ≡ take at room.old ++ fill_line session.now number party.now texts.now }
+    ensures within { result ≤ at + 256 }
 {
-    line.clear();
-    line.push_wide(number);
-    push_own_side(party.number, party.side, line);
-    line.push(texts.trade.as_slice());
-    line.push_field(session.name(party.other));
-    line.push(texts.amounts.as_slice());
-    line.push_byte(b'\n');
+    let end = put_wide(number, room, at);
+    let end = put_own_side(party.number, party.side, room, end);
+    let end = put_text(texts.trade.as_slice(), room, end);
+    let end = put_field(session.name(party.other), room, end);
+    let end = put_text(texts.amounts.as_slice(), room, end);
+    put_byte(b'\n', room, end)
 }
 
-/// Appends the word of a fill, and the number and side of the bank's own order.
-fn push_own_side(own_number: u32, side: Side, line: &mut LineText)
-    ensures text { line.new ≡ take 256 (line.old ++ fields_text (codes "FILL" ∷ numeral own_number ∷ word_text (side_word side) ∷ [])) }
-    ensures few { length (fields_text (codes "FILL" ∷ numeral own_number ∷ word_text (side_word side) ∷ [])) ≤ 63 }
+/// Writes the word of a fill, and the number and side of the bank's own order.
+#[inline(always)]
+fn put_own_side(own_number: u32, side: Side, room: &mut [u8], at: usize) -> usize
+    requires room { at + 63 ≤ length room.old }
+    ensures written { take result room.new ≡ take at room.old ++ fields_text (codes "FILL" ∷ numeral own_number ∷ word_text (side_word side) ∷ []) }
+    ensures within { result ≤ at + 63 }
 {
-    line.push_word_field(b"FILL");
-    line.push_number_field(u64::from(own_number));
-    push_side(side, line);
+    let end = put_count(b"FILL", own_number, room, at);
+    put_side(side, room, end)
 }
 
-fn push_side(side: Side, line: &mut LineText)
-    ensures { line.new ≡ take 256 (line.old ++ 32 ∷ word_text (side_word side)) }
+/// Writes the word of a side.
+#[inline(always)]
+fn put_side(side: Side, room: &mut [u8], at: usize) -> usize
+    requires room { at + 5 ≤ length room.old }
+    ensures written { take result room.new ≡ take at room.old ++ 32 ∷ word_text (side_word side) }
+    ensures within { result ≤ at + 5 }
 {
     match side {
-        Side::Buy => line.push_word_field(b"BUY"),
-        Side::Sell => line.push_word_field(b"SELL"),
+        Side::Buy => put_word_field(b"BUY", room, at),
+        Side::Sell => put_word_field(b"SELL", room, at),
     }
 }
 

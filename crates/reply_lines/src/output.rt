@@ -6,13 +6,11 @@ ghost use Rattle.fx_rules.specs.History.{IsLegal, state};
 ghost use Rattle.session_head.specs.HeadText.{head_text_of};
 ghost use Rattle.reply_lines.specs.Books.{LocalBook, AreBooks};
 ghost use Rattle.reply_lines.specs.inside.Books.{IsMarketOf, AreBooksOf};
-ghost use Rattle.reply_lines.specs.inside.Day.{IsReportAt, AreFindingsOf, closing_text};
+ghost use Rattle.reply_lines.specs.inside.Day.{IsReportAt, closing_text};
 ghost use Rattle.reply_lines.specs.Faults.{WroteOutput};
-ghost use Rattle.reply_lines.specs.Output.{desks_text, strays_line, ending_line, last_text, IsRestOfOutput};
+ghost use Rattle.reply_lines.specs.Output.{strays_line, ending_line, last_text, IsRestOfOutput};
 
 use crate::books::write_books;
-use crate::day_notices::Findings;
-use crate::desk::write_desks;
 use crate::lines::{write_count, write_made};
 use crate::report::write_report;
 use day_report::{Report, report};
@@ -74,27 +72,8 @@ impl From<SinkFault> for OutFault {
     }
 }
 
-/// Writes desks, local books and report.
-pub(crate) fn write_closing<M: Market, K: Sink>(
-    session: &Session,
-    market: &M,
-    found: &Findings,
-    line: &mut Vec<u8>,
-    pieces: &mut Pieces,
-    out: &mut K,
-) -> Result<(), SinkFault>
-    requires market { IsMarketOf M.stands session.now market.now }
-    requires found { (entries : List Entry) × AreFindingsOf session.now entries found.now }
-    ensures wrote { (entries : List Entry) (books : ℕ → ℕ → LocalBook) →
-        AreFindingsOf session.now entries found.now → AreBooksOf M.stands session.now market.now books →
-        Gathered K.written K.faults pieces.old out.old pieces.new out.new (desks_text session.now entries ++ closing_text session.now entries books) result }
-{
-    write_desks(session, &found.desks, pieces, out)?;
-    write_books_and_report(session, market, &found.report, line, pieces, out)
-}
-
 /// Writes local books and report.
-fn write_books_and_report<M: Market, K: Sink>(
+pub(crate) fn write_books_and_report<M: Market, K: Sink>(
     session: &Session,
     market: &M,
     report: &Report,

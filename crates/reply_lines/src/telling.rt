@@ -14,7 +14,7 @@ ghost use Rattle.reply_lines.specs.inside.Telling.{bank_of, counts_behind, next_
 
 use crate::notice_writer::NoticeWriter;
 use crate::notices::FillPart;
-use crate::senders::sender_places;
+use crate::sheet::NoticeSheet;
 use fx_amounts::{BankId, Memory};
 use fx_rules::{Entry, Fill, Session};
 use order_lines::sender_name;
@@ -35,7 +35,7 @@ impl Telling {
         ensures opens { IfOk result (λ telling. HasCounted session.now [] telling.counts.items) }
     {
         Ok(Telling {
-            counts: vec![in alloc; 0; sender_places(session)]?,
+            counts: vec![in alloc; 0; session.sender_places()]?,
             writer: NoticeWriter::new(alloc),
         })
     }
@@ -55,12 +55,12 @@ impl Telling {
         &mut self,
         session: &Session,
         entries: &[Entry],
-        text: &mut Vec<u8>,
+        text: &mut NoticeSheet,
     ) -> Result<(), Memory>
         requires next { (before : List HistoryEntry) × IsLegal session.now (before ++ entries.now) × HasCounted session.now before self.old.counts.items }
         ensures counted { OnOk result ((before : List HistoryEntry) → HasCounted session.now before self.old.counts.items → HasCounted session.now (before ++ entries.now) self.new.counts.items) }
-        ensures told { OnOk result ((before : List HistoryEntry) → HasCounted session.now before self.old.counts.items → text.new.items ≡ text.old.items ++ told_text session.now before entries.now) }
-        ensures memory { OnErr result (text.new.items ≡ text.old.items) }
+        ensures told { OnOk result ((before : List HistoryEntry) → HasCounted session.now before self.old.counts.items → text.new ≡ text.old ++ told_text session.now before entries.now) }
+        ensures memory { OnErr result (text.new ≡ text.old) }
     {
         let before = text.len();
         let told = self.tell_all(session, entries, text);
@@ -113,12 +113,12 @@ impl Telling {
         &mut self,
         session: &Session,
         entries: &[Entry],
-        text: &mut Vec<u8>,
+        text: &mut NoticeSheet,
     ) -> Result<(), Memory>
         requires entries { Each (IsEntryOf session.now) entries.now }
         requires can { CanCount (addressed entries.now) self.old.counts.items }
-        ensures ok { OnOk result (HasTold session.now (addressed entries.now) self.old.counts.items self.new.counts.items text.old.items text.new.items) }
-        ensures begins { IsPrefixOf text.old.items text.new.items }
+        ensures ok { OnOk result (HasTold session.now (addressed entries.now) self.old.counts.items self.new.counts.items text.old text.new) }
+        ensures begins { IsPrefixOf text.old text.new }
     {
         for entry in entries {
             self.tell_entry(session, entry, text)?;
@@ -131,12 +131,12 @@ impl Telling {
         &mut self,
         session: &Session,
         entry: &Entry,
-        text: &mut Vec<u8>,
+        text: &mut NoticeSheet,
     ) -> Result<(), Memory>
         requires entry { IsEntryOf session.now entry.now }
         requires can { CanCount (addressed_in entry.now) self.old.counts.items }
-        ensures ok { OnOk result (HasTold session.now (addressed_in entry.now) self.old.counts.items self.new.counts.items text.old.items text.new.items) }
-        ensures begins { IsPrefixOf text.old.items text.new.items }
+        ensures ok { OnOk result (HasTold session.now (addressed_in entry.now) self.old.counts.items self.new.counts.items text.old text.new) }
+        ensures begins { IsPrefixOf text.old text.new }
     {
         self.tell_reply(session, entry, text)?;
         self.tell_fills(session, entry.outcome.fills(), text)
@@ -147,13 +147,13 @@ impl Telling {
         &mut self,
         session: &Session,
         entry: &Entry,
-        text: &mut Vec<u8>,
+        text: &mut NoticeSheet,
     ) -> Result<(), Memory>
         requires answer { IsAnswerOf session.now entry.now.command entry.now.outcome }
         requires sender { IsSender session.now entry.now.bank }
         requires can { CanCount (addressed_to entry.now.bank (Replied entry.now) ∷ []) self.old.counts.items }
-        ensures ok { OnOk result (HasTold session.now (addressed_to entry.now.bank (Replied entry.now) ∷ []) self.old.counts.items self.new.counts.items text.old.items text.new.items) }
-        ensures begins { IsPrefixOf text.old.items text.new.items }
+        ensures ok { OnOk result (HasTold session.now (addressed_to entry.now.bank (Replied entry.now) ∷ []) self.old.counts.items self.new.counts.items text.old text.new) }
+        ensures begins { IsPrefixOf text.old text.new }
     {
         let number = self.address(sender_name(session, entry.bank), entry.bank, text)?;
         self.writer.reply(session, number, entry, text)
@@ -164,12 +164,12 @@ impl Telling {
         &mut self,
         session: &Session,
         fills: &[Fill],
-        text: &mut Vec<u8>,
+        text: &mut NoticeSheet,
     ) -> Result<(), Memory>
         requires fills { Each (IsFillOf session.now) fills.now }
         requires can { CanCount (flat_map fill_addressed fills.now) self.old.counts.items }
-        ensures ok { OnOk result (HasTold session.now (flat_map fill_addressed fills.now) self.old.counts.items self.new.counts.items text.old.items text.new.items) }
-        ensures begins { IsPrefixOf text.old.items text.new.items }
+        ensures ok { OnOk result (HasTold session.now (flat_map fill_addressed fills.now) self.old.counts.items self.new.counts.items text.old text.new) }
+        ensures begins { IsPrefixOf text.old text.new }
     {
         for fill in fills {
             self.tell_fill(session, fill, text)?;
@@ -182,12 +182,12 @@ impl Telling {
         &mut self,
         session: &Session,
         fill: &Fill,
-        text: &mut Vec<u8>,
+        text: &mut NoticeSheet,
     ) -> Result<(), Memory>
         requires fill { IsFillOf session.now fill.now }
         requires can { CanCount (fill_addressed fill.now) self.old.counts.items }
-        ensures ok { OnOk result (HasTold session.now (fill_addressed fill.now) self.old.counts.items self.new.counts.items text.old.items text.new.items) }
-        ensures begins { IsPrefixOf text.old.items text.new.items }
+        ensures ok { OnOk result (HasTold session.now (fill_addressed fill.now) self.old.counts.items self.new.counts.items text.old text.new) }
+        ensures begins { IsPrefixOf text.old text.new }
     {
         self.writer.begin_fill(session, fill);
         self.tell_part(session, FillPart::Taker, fill, text)?;
@@ -200,14 +200,14 @@ impl Telling {
         session: &Session,
         part: FillPart,
         fill: &Fill,
-        text: &mut Vec<u8>,
+        text: &mut NoticeSheet,
     ) -> Result<(), Memory>
         requires fill { IsFillOf session.now fill.now }
         requires begun { AreTextsOf session.now fill.now self.old.writer }
         requires can { CanCount (addressed_to (bank_of part fill.now) (notice_to part fill.now) ∷ []) self.old.counts.items }
-        ensures ok { OnOk result (HasTold session.now (addressed_to (bank_of part fill.now) (notice_to part fill.now) ∷ []) self.old.counts.items self.new.counts.items text.old.items text.new.items) }
+        ensures ok { OnOk result (HasTold session.now (addressed_to (bank_of part fill.now) (notice_to part fill.now) ∷ []) self.old.counts.items self.new.counts.items text.old text.new) }
         ensures begun { self.new.writer ≡ self.old.writer }
-        ensures begins { IsPrefixOf text.old.items text.new.items }
+        ensures begins { IsPrefixOf text.old text.new }
     {
         let bank = part.bank(fill);
         let number = self.address(session.name(bank), bank, text)?;
@@ -215,18 +215,23 @@ impl Telling {
     }
 
     /// Begins the line of a sender's next notice with the sender's name, and answers the number of the notice.
-    fn address(&mut self, name: &[u8], sender: BankId, text: &mut Vec<u8>) -> Result<u128, Memory>
+    fn address(
+        &mut self,
+        name: &[u8],
+        sender: BankId,
+        text: &mut NoticeSheet,
+    ) -> Result<u128, Memory>
         requires sender { sender < length self.old.counts.items }
         requires few { next_of self.old.counts.items sender < 2 ^ 128 }
         ensures number { IfOk result (λ number. number ≡ next_of self.old.counts.items sender) }
-        ensures named { OnOk result (text.new.items ≡ text.old.items ++ (name.now ++ 32 ∷ [])) }
+        ensures named { OnOk result (text.new ≡ text.old ++ (name.now ++ 32 ∷ [])) }
         ensures counted { self.new.counts.items ≡ with_one self.old.counts.items sender }
         ensures begun { self.new.writer ≡ self.old.writer }
-        ensures begins { IsPrefixOf text.old.items text.new.items }
+        ensures begins { IsPrefixOf text.old text.new }
     {
         let number = self.count_one(sender);
-        text.extend_from_slice(name)?;
-        text.push(b' ')?;
+        text.push(name)?;
+        text.push(b" ")?;
         Ok(number)
     }
 

@@ -182,11 +182,6 @@ kept_most version banks totals most = elim (cases_Bool (eqb version 2)) [
   | inr other ↦ rw other (All-nil IsMost)
 ]
 
--- there are no versions but 1 and 2
-pub first_or_second : (version : ℕ) → 1 ≤ version → version ≤ newest → version ≢ 2 → version ≡ 1
-unfolding newest
-first_or_second version least most other = omega (arith, least, most, other)
-
 -- a draft with two banks and a pair is a session
 pub IsSession-header_of : (d : Draft) → IsDraft d → 2 ≤ length d.banks → 1 ≤ length d.pairs → IsSession (header_of d)
 IsSession-header_of d valid two one = record {

@@ -9,7 +9,7 @@ ghost use Rattle.session_head.specs.inside.Statement.{CanState};
 use crate::draft::Draft;
 use crate::reason::HeadReason;
 use fx_amounts::{BankId, PairId, Units};
-use fx_rules::{Code, Name, PairRule};
+use fx_rules::{Code, Name, PairRule, Session};
 use fx_text::{Fields, number};
 
 /// What a line of a header says, behind the first.
@@ -34,9 +34,6 @@ pub(crate) enum Statement {
     Start,
 }
 
-/// The newest version of a session's text.
-const NEWEST: u64 = 1;
-
 /// The version that the first line's fields name, where there is such a version.
 #[tactic(auto, unfolding(crate::specs::Statement::version_of, fx_rules::specs::Session::newest))]
 pub(crate) fn version_from(fields: &Fields) -> Option<u8>
@@ -47,7 +44,7 @@ pub(crate) fn version_from(fields: &Fields) -> Option<u8>
     if fields.count() != 2 || fields.field(0) != b"FXBOOK".as_slice() {
         return None;
     }
-    let version = number(fields.field(1), 1, NEWEST)?;
+    let version = number(fields.field(1), 1, u64::from(Session::NEWEST))?;
     Some(version as u8)
 }
 

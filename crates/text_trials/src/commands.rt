@@ -1,4 +1,5 @@
 use crate::filled::filled;
+use fx_amounts::BankId;
 use fx_rules::{Command, Reject, Sent, Session};
 use fx_text::{Line, LineCutter};
 use order_lines::{Spoken, command_from, command_text, journal_from, spelled_command};
@@ -6,9 +7,8 @@ use std::alloc::Global;
 use std::test::Fail;
 use trial_days::{ALFA, bank, session_of};
 
-/// The banks ALFA, BETA and GAMA, and the pairs EUR/USD and AAA/BBB.
-const HEADER: &[u8] = b"FXBOOK 1
-BANK ALFA
+/// The banks ALFA, BETA and GAMA, and the pairs EUR/USD and AAA/BBB, behind the first line of a header.
+const HEADER: &[u8] = b"BANK ALFA
 BANK BETA
 BANK GAMA
 PAIR EUR/USD 5 1000000 100
@@ -17,7 +17,7 @@ START
 ";
 
 /// Lines of a journal in their one spelling, and what each says; and lines that are in none.
-const RECORDED: [(&[u8], &str); 40] = [
+const RECORDED: &[(&[u8], &str)] = &[
     (
         b"BETA BUY EUR/USD 1.08420 3 DAY",
         "Some(Order { side: Buy, pair: PairId(0), price: Price { ticks: 108420 }, lots: Lots { count: 3 }, life: Day })",
@@ -78,11 +78,11 @@ const RECORDED: [(&[u8], &str); 40] = [
     (b"  #", "None"),
 ];
 
-/// How many of them, the first, are commands that are not bad.
+/// How many of them, the first, are read from their one spelling at once: all commands that are not bad.
 const COMMANDS: usize = 9;
 
 /// Lines of ALFA's bad commands, and the fault of each.
-const BAD: [(&[u8], Reject); 58] = [
+const BAD: &[(&[u8], Reject)] = &[
     (b"ALFA", Reject::Word),
     (b"ALFA BAD 3", Reject::Word),
     (b"ALFA buy EUR/USD 1.08420 3 DAY", Reject::Word),
@@ -145,7 +145,7 @@ const BAD: [(&[u8], Reject); 58] = [
 ];
 
 /// Lines with so many letters behind them, and what each says.
-const SAID: [(&[u8], usize, &str); 19] = [
+const SAID: &[(&[u8], usize, &str)] = &[
     (b"DELT SHOW ALFA", 0, "Stray"),
     (b"END now", 0, "Stray"),
     (b"ALFABUY", 0, "Stray"),
@@ -175,6 +175,119 @@ const SAID: [(&[u8], usize, &str); 19] = [
     ),
 ];
 
+/// Lines of a journal of version 2, and what each says.
+const RECORDED_IN_TWO: &[(&[u8], &str)] = &[
+    (b"BETA SHOW GAMA", "Some(Show { bank: BankId(2) })"),
+    (
+        b"BETA TOTAL 1000000000000000",
+        "Some(Total { limit: Units { units: 1000000000000000 } })",
+    ),
+    (b"GAMA TOTAL 0", "Some(Total { limit: Units { units: 0 } })"),
+    (
+        b"HOST SETTLE GAMA ALFA 1",
+        "Some(Settle { a: BankId(2), b: BankId(0), units: Units { units: 1 } })",
+    ),
+    (
+        b"HOST SETTLE ALFA BETA 1000000000000000",
+        "Some(Settle { a: BankId(0), b: BankId(1), units: Units { units: 1000000000000000 } })",
+    ),
+    (b"HOST BAD 1", "Some(Bad { reason: Word })"),
+    (b"HOST BAD 3", "Some(Bad { reason: Pair })"),
+    (b"HOST BAD 12", "Some(Bad { reason: Units })"),
+    (b"HOST BAD 13", "None"),
+    (b"ALFA BAD 12", "None"),
+    (b"ALFA TOTAL 05", "None"),
+    (b"ALFA SETTLE ALFA BETA 5", "None"),
+    (b"HOST TOTAL 5", "None"),
+    (b"HOST PULL EUR/USD", "None"),
+    (b"HOST SETTLE ALFA ALFA 5", "None"),
+    (b"HOST SETTLE ALFA BETA 0", "None"),
+];
+
+/// How many of them, the first, are read from their one spelling at once: a TOTAL and a SETTLE are not.
+const COMMANDS_IN_TWO: usize = 1;
+
+/// Bad lines of ALFA and of the operator in version 2, and the fault of each.
+const BAD_IN_TWO: &[(&[u8], Reject)] = &[
+    (b"ALFA TOTAL", Reject::Count),
+    (b"ALFA TOTAL BETA 5", Reject::Count),
+    (b"ALFA TOTAL x", Reject::Limit),
+    (b"ALFA TOTAL 1000000000000001", Reject::Limit),
+    (b"ALFA SETTLE ALFA BETA 5", Reject::Word),
+    (b"ALFA LINE HOST 5", Reject::Bank),
+    (b"HOST", Reject::Word),
+    (b"HOST BUY", Reject::Word),
+    (b"HOST PULL EUR/USD", Reject::Word),
+    (b"HOST TOTAL 5", Reject::Word),
+    (b"HOST SETTLE", Reject::Count),
+    (b"HOST SETTLE ALFA BETA 5 5", Reject::Count),
+    (b"HOST SETTLE DELT ALFA 5", Reject::Bank),
+    (b"HOST SETTLE ALFA HOST 5", Reject::Bank),
+    (b"HOST SETTLE ALFA BETA 0", Reject::Units),
+    (b"HOST SETTLE ALFA BETA 05", Reject::Units),
+    (b"HOST SETTLE ALFA BETA 1000000000000001", Reject::Units),
+    // Each of these has more faults than one, and is bad with the first of the order.
+    (b"HOST SETTLE ALFA ALFA 0", Reject::Bank),
+    (b"HOST SETTLE ALFA 0", Reject::Count),
+];
+
+/// Lines with so many letters behind them, and what each says in version 2.
+const SAID_IN_TWO: &[(&[u8], usize, &str)] = &[
+    (b"HOSTS SETTLE ALFA BETA 5", 0, "Stray"),
+    (b"DELT TOTAL 5", 0, "Stray"),
+    (b"#HOST SETTLE ALFA BETA 5", 0, "Passed"),
+    (
+        b"\tHOST  SETTLE\tBETA ALFA 1000 \r",
+        0,
+        "Of(BankId(64), Settle { a: BankId(1), b: BankId(0), units: Units { units: 1000 } })",
+    ),
+    (b"HOST ", 251, "Of(BankId(64), Bad { reason: Word })"),
+    (b"HOST ", 252, "Of(BankId(64), Bad { reason: Long })"),
+];
+
+/// A version: the first line of its header, lines of a journal, how many of these are read at once, lines of a session, and bad lines.
+type Version = (
+    &'static [u8],
+    &'static [(&'static [u8], &'static str)],
+    usize,
+    &'static [(&'static [u8], usize, &'static str)],
+    &'static [(&'static [u8], Reject)],
+);
+
+const VERSIONS: [Version; 2] = [
+    (b"FXBOOK 1\n", RECORDED, COMMANDS, SAID, BAD),
+    (
+        b"FXBOOK 2\n",
+        RECORDED_IN_TWO,
+        COMMANDS_IN_TWO,
+        SAID_IN_TWO,
+        BAD_IN_TWO,
+    ),
+];
+
+/// A session with this first line.
+fn session_with(alloc: Global, first: &[u8]) -> Result<Session, Fail> {
+    let mut text = first.to_vec(alloc)?;
+    text.extend_from_slice(HEADER)?;
+    Ok(session_of(alloc, &text)?)
+}
+
+/// Who sends a bad line.
+fn sender_of(text: &[u8]) -> BankId {
+    if text.starts_with(b"HOST") {
+        BankId::HOST
+    } else {
+        bank(ALFA)
+    }
+}
+
+/// Whether a line of a session is bad with this fault, and in no command's one spelling.
+fn is_bad(alloc: Global, session: &Session, text: &[u8], reason: Reject) -> Result<bool, Fail> {
+    let want = Spoken::Of(sender_of(text), Command::Bad { reason });
+    let is_so = said(alloc, session, text, 0)? == want;
+    Ok(is_so && spelled(alloc, session, text)?.is_none())
+}
+
 /// A line with so many letters behind it.
 fn line_of(alloc: Global, text: &[u8], letters: usize) -> Result<Line, Fail> {
     let mut lines = Vec::new(alloc);
@@ -186,6 +299,21 @@ fn line_of(alloc: Global, text: &[u8], letters: usize) -> Result<Line, Fail> {
 fn said(alloc: Global, session: &Session, text: &[u8], letters: usize) -> Result<Spoken, Fail> {
     let line = line_of(alloc, text, letters)?;
     Ok(command_from(session, &line))
+}
+
+/// Whether a line with so many letters behind it says this.
+fn is_said(
+    alloc: Global,
+    session: &Session,
+    text: &[u8],
+    letters: usize,
+    want: &str,
+) -> Result<bool, Fail> {
+    let told = match said(alloc, session, text, letters)? {
+        Spoken::Of(bank, command) => format!(in alloc; "Of({bank:?}, {command:?})")?,
+        other => format!(in alloc; "{other:?}")?,
+    };
+    Ok(told.as_str() == want)
 }
 
 /// The command with whose line in its one spelling a text begins, where that is all of the text.
@@ -210,38 +338,38 @@ fn recorded(alloc: Global, session: &Session, text: &[u8]) -> Result<Option<Comm
     Ok((is_said && again.as_slice() == text).then_some(command))
 }
 
-/// Whether a line of a journal says this, and is one of a command in its one spelling or not.
+/// Whether a line of a journal says this, and is read from its one spelling at once or not.
 fn is_recorded(
     alloc: Global,
     session: &Session,
     text: &[u8],
     want: &str,
-    is_command: bool,
+    at_once: bool,
 ) -> Result<bool, Fail> {
     let is_spelled = spelled(alloc, session, text)?.is_some();
     let told = format!(in alloc; "{:?}", recorded(alloc, session, text)?)?;
-    Ok(told.as_str() == want && is_spelled == is_command)
+    Ok(told.as_str() == want && is_spelled == at_once)
 }
 
 #[test]
 fn lines_say_their_commands(rt: HostRuntime) -> Result<(), Fail> {
     let alloc = rt.alloc();
-    let session = session_of(alloc, HEADER)?;
-    for (at, (text, want)) in RECORDED.iter().enumerate() {
-        let is_so = is_recorded(alloc, &session, text, want, at < COMMANDS)?;
-        assert!(rt; is_so, "in a journal: {at}");
-    }
-    for (at, (text, letters, want)) in SAID.iter().enumerate() {
-        let told = format!(in alloc; "{:?}", said(alloc, &session, text, *letters)?)?;
-        assert!(rt; told.as_str() == *want, "in a session: {at} says {told}");
-    }
-    for (at, (text, reason)) in BAD.iter().enumerate() {
-        let want = Spoken::Of(bank(ALFA), Command::Bad { reason: *reason });
-        let is_bad = said(alloc, &session, text, 0)? == want;
-        assert!(rt;
-            is_bad && spelled(alloc, &session, text)?.is_none(),
-            "bad line {at}"
-        );
+    for (first, recorded, commands, said_so, bad) in VERSIONS {
+        let session = session_with(alloc, first)?;
+        for (at, (text, want)) in recorded.iter().enumerate() {
+            let is_so = is_recorded(alloc, &session, text, want, at < commands)?;
+            assert!(rt; is_so, "{first:?}, in a journal: {at}");
+        }
+        for (at, (text, letters, want)) in said_so.iter().enumerate() {
+            let is_so = is_said(alloc, &session, text, *letters, want)?;
+            assert!(rt; is_so, "{first:?}, in a session: {at}");
+        }
+        for (at, (text, reason)) in bad.iter().enumerate() {
+            assert!(rt;
+                is_bad(alloc, &session, text, *reason)?,
+                "{first:?}, bad line {at}"
+            );
+        }
     }
     Ok(())
 }

@@ -11,7 +11,7 @@ const FAULTS: [(&[u8], u64, u8); 18] = [
     (b"FXBOOK 9\n", 1, 1),
     (b"FXBOOK 01\n", 1, 1),
     (b"BANC ALFA\n", 1, 1),
-    (b"# morning\n\n \t\nFXBOOK 2\n", 4, 1),
+    (b"# morning\n\n \t\nFXBOOK 3\n", 4, 1),
     (b"FXBOOK 1\nBANC ALFA\n", 2, 2),
     (b"FXBOOK 1\nBANK\n", 2, 3),
     (b"FXBOOK 1\nBANK AB\n", 2, 4),
@@ -41,7 +41,7 @@ const FAULTS: [(&[u8], u64, u8); 18] = [
 ];
 
 /// Faults of a line behind two banks, the fourth.
-const FOURTH: [(&[u8], u8); 24] = [
+const FOURTH: &[(&[u8], u8)] = &[
     (b"LINE ALFA BETA 05\n", 10),
     (b"BANK ALFA\n", 4),
     (b"BANK HOST\n", 4),
@@ -67,6 +67,26 @@ const FOURTH: [(&[u8], u8); 24] = [
     (b"LINE ALFA DELT x\n", 9),
     (b"LINE BETA BETA x\n", 9),
     (b"START now\n", 3),
+];
+
+/// The same in version 2.
+const FOURTH_IN_TWO: &[(&[u8], u8)] = &[
+    (b"TOTALS ALFA 5\n", 2),
+    (b"FXBOOK 2\n", 2),
+    (b"TOTAL ALFA\n", 3),
+    (b"TOTAL ALFA BETA 5\n", 3),
+    (b"TOTAL GAMA 5\n", 9),
+    (b"TOTAL HOST x\n", 9),
+    (b"TOTAL ALFA x\n", 10),
+    (b"TOTAL ALFA 05\n", 10),
+    (b"TOTAL ALFA 1000000000000001\n", 10),
+    (b"START\n", 11),
+];
+
+/// The lines in front of them, in each version.
+const TWO_BANKS: [(&[u8], &[(&[u8], u8)]); 2] = [
+    (b"FXBOOK 1\nBANK ALFA\nBANK BETA\n", FOURTH),
+    (b"FXBOOK 2\nBANK ALFA\nBANK BETA\n", FOURTH_IN_TWO),
 ];
 
 /// Faults of a line behind so many banks and pairs.
@@ -133,9 +153,11 @@ fn each_fault_is_told_by_its_line(rt: HostRuntime) -> Result<(), Fail> {
     for (at, (text, line, code)) in FAULTS.iter().enumerate() {
         assert!(rt; fault(alloc, text)? == Some((*line, *code)), "header {at}");
     }
-    for (at, (last, code)) in FOURTH.iter().enumerate() {
-        let found = fault_of(alloc, b"FXBOOK 1\nBANK ALFA\nBANK BETA\n", last)?;
-        assert!(rt; found == Some((4, *code)), "fourth line {at}");
+    for (front, faults) in TWO_BANKS {
+        for (at, (last, code)) in faults.iter().enumerate() {
+            let found = fault_of(alloc, front, last)?;
+            assert!(rt; found == Some((4, *code)), "{front:?}: fourth line {at}");
+        }
     }
     for (at, (banks, pairs, last, line, code)) in FULL.iter().enumerate() {
         let found = fault_of(alloc, &full(alloc, *banks, *pairs)?, last)?;
@@ -146,7 +168,7 @@ fn each_fault_is_told_by_its_line(rt: HostRuntime) -> Result<(), Fail> {
 }
 
 /// Headers, and how each is spelled.
-const WHOLE: [(&[u8], &[u8]); 2] = [
+const WHOLE: [(&[u8], &[u8]); 4] = [
     (
         b"# a day
 FXBOOK 1
@@ -168,6 +190,21 @@ START
         SPELLED,
     ),
     (SPELLED, SPELLED),
+    (
+        b"FXBOOK 2
+BANK ALFA
+TOTAL ALFA 7
+BANK BETA
+BANK GAMA
+TOTAL GAMA 1000000000000000
+PAIR EUR/USD 5 1000000 100
+LINE ALFA BETA 12
+TOTAL ALFA 0
+START
+",
+        SPELLED_IN_TWO,
+    ),
+    (SPELLED_IN_TWO, SPELLED_IN_TWO),
 ];
 
 const SPELLED: &[u8] = b"FXBOOK 1
@@ -180,6 +217,18 @@ PAIR USD/JPY 3 1000000 92
 LINE ALFA BETA 12
 LINE BETA ALFA 21
 LINE GAMA ALFA 1000000000000000
+START
+";
+
+/// A total of 0 is a total, and has its line.
+const SPELLED_IN_TWO: &[u8] = b"FXBOOK 2
+BANK ALFA
+BANK BETA
+BANK GAMA
+PAIR EUR/USD 5 1000000 100
+LINE ALFA BETA 12
+TOTAL ALFA 0
+TOTAL GAMA 1000000000000000
 START
 ";
 

@@ -10,6 +10,10 @@ use std::test::Fail;
 const HEADER: &[u8] =
     b"# a day\r\n\r\nFXBOOK 1\r\nBANK ALFA\nBANK BETA\n  # a pair\nPAIR EUR/USD 5 1000000 100\n\tSTART \r\n";
 
+/// A header of version 2.
+const HEADER_IN_TWO: &[u8] =
+    b"FXBOOK 2\nBANK ALFA\nBANK BETA\nPAIR EUR/USD 5 1000000 100\nTOTAL BETA 0\nSTART\n";
+
 /// Two orders, a line with a wrong word, and between them a comment, two strays and an empty line.
 const LINES: &[u8] =
     b"ALFA BUY EUR/USD 1.08425 3 DAY\r\n# BETA PULL EUR/USD\nGAMA PULL EUR/USD\n\n BETA\tSELL EUR/USD 1.08430 2 IOC\nHOST\nBETA WAIT\n";
@@ -39,7 +43,7 @@ type Case = (
 /// Pieces of any size.
 const ANY: &[usize] = &[1, 2, 3, 7, 4096, 10_000];
 
-const CASES: [Case; 14] = [
+const CASES: [Case; 15] = [
     // The END line may be what is left over at the source's end.
     (
         &[
@@ -56,6 +60,17 @@ const CASES: [Case; 14] = [
         ANY,
         &[0],
         Some("[]"),
+        "2 banks, 1 pairs, 0 strays, Some(EndLine)",
+    ),
+    // In version 2 a line of the operator is no stray.
+    (
+        &[&[HEADER_IN_TWO, b"HOST SETTLE ALFA BETA 5\nHOST\nEND\n"]],
+        &[64],
+        &[0],
+        Some(
+            "[Sent { bank: BankId(64), command: Settle { a: BankId(0), b: BankId(1), units: Units { units: 5 } } }, \
+                    Sent { bank: BankId(64), command: Bad { reason: Word } }]",
+        ),
         "2 banks, 1 pairs, 0 strays, Some(EndLine)",
     ),
     // A line of more than 256 bytes is bad where a bank begins it, and else a stray; it is no END line.
@@ -105,14 +120,14 @@ const CASES: [Case; 14] = [
     ),
     // A fault's line is counted with all lines that are ignored, and no read comes behind it.
     (
-        &[&[b"# c\n\nFXBOOK 2\nFXBOOK 1\n"]],
+        &[&[b"# c\n\nFXBOOK 3\nFXBOOK 1\n"]],
         &[5],
         &[0],
         Some(""),
         "Header { line: 3, reason: Version }",
     ),
     (
-        &[&[b"# c\n\nFXBOOK 2\nFXBOOK 1\n"]],
+        &[&[b"# c\n\nFXBOOK 3\nFXBOOK 1\n"]],
         &[14],
         &[2],
         Some(""),

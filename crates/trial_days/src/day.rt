@@ -1,4 +1,4 @@
-ghost use Rattle.std.specs.Prelude.{ℕ, ◌≢◌, ◌≤◌, ◌<◌, IfOk, OnOk, length};
+ghost use Rattle.std.specs.Prelude.{ℕ, ◌≡◌, ◌≢◌, ◌≤◌, ◌<◌, IfOk, OnOk, length};
 ghost use Rattle.fx_amounts.specs.Quantity.{IsLots, IsUnits};
 ghost use Rattle.fx_rules.specs.Lists.{Each};
 ghost use Rattle.fx_rules.specs.Session.{Header, bank_count, pair_count};
@@ -16,6 +16,7 @@ use std::alloc::Global;
 /// A session made from a number, and its day: in each of so many parts as many commands of all kinds, and then every bank asks for
 /// its local book of every pair. At the end it asks, by a reduction to more lots than any order has, what each of its commands
 /// so far has resting in every pair. The banks' lines run out and grow again. A day has a hundred thousand commands at most.
+/// Where the number is a multiple of 8 the session is of version 2: half of the banks have totals, and use is given back.
 pub fn trial_day(
     alloc: Global,
     seed: u64,
@@ -30,12 +31,24 @@ pub fn trial_day(
     if !(2..=64).contains(&banks) || !(1..=32).contains(&pairs) {
         return Err(NoDay::Session);
     }
-    let (session, _drawn) = load_session(alloc, seed, banks, pairs, 1)?;
+    let session = session_of_seed(alloc, seed, banks, pairs)?;
     let sent = drawn(alloc, &session, seed, parts, count)?;
     if sent.len() > MOST_COMMANDS {
         return Err(NoDay::Long);
     }
     Ok((session, sent))
+}
+
+/// The session of a day.
+fn session_of_seed(alloc: Global, seed: u64, banks: u8, pairs: u8) -> Result<Session, NoDay>
+    requires banks { (2 ≤ banks) × (banks ≤ 64) }
+    requires pairs { (1 ≤ pairs) × (pairs ≤ 32) }
+{
+    let (plain, _drawn) = load_session(alloc, seed, banks, pairs, 1)?;
+    if seed % 8 != 0 {
+        return Ok(plain);
+    }
+    with_totals(alloc, &plain, seed)?.ok_or(NoDay::Session)
 }
 
 /// The commands of a day.
@@ -78,10 +91,8 @@ fn add_commands(
     ensures valid { OnOk result (Each (IsSentOf session.now) sent.new.items) }
 {
     for _place in 0..count {
-        let bank = draw_bank(session, draws);
         let most = 1 + sent_by_each(session, sent);
-        let command = draw_command(session, bank, most, draws);
-        sent.push(Sent { bank, command })?;
+        sent.push(draw_sent(session, most, draws))?;
     }
     Ok(())
 }
@@ -140,6 +151,65 @@ fn add_probes(
         })?;
     }
     Ok(())
+}
+
+/// The session of version 2 with the banks, pairs and limits of this one, in which about half of the banks have a total; there is one.
+fn with_totals(alloc: Global, session: &Session, seed: u64) -> Result<Option<Session>, Memory> {
+    let banks = Vec::from_slice(alloc, session.banks())?;
+    let pairs = Vec::from_slice(alloc, session.pairs())?;
+    let limits = Vec::from_slice(alloc, session.limits())?;
+    let totals = draw_totals(alloc, banks.len(), seed)?;
+    Ok(Session::build_two(banks, pairs, limits, totals))
+}
+
+/// For each of so many banks a total, or none.
+fn draw_totals(alloc: Global, banks: usize, seed: u64) -> Result<Vec<Option<Units>>, Memory> {
+    let mut draws = Draws::new(seed);
+    let mut totals = Vec::new(alloc);
+    for _bank in 0..banks {
+        let limit = draw_limit(&mut draws);
+        totals.push((draws.below(2) == 0).then_some(limit))?;
+    }
+    Ok(totals)
+}
+
+/// A command with its sender. Where it names one of the sender's orders, it is one of so many. In version 2 one in eight is a
+/// total or a settlement.
+fn draw_sent(session: &Session, orders: u32, draws: &mut Draws) -> Sent
+    requires orders { 1 ≤ orders }
+    ensures sent { IsSentOf session.now result }
+{
+    let bank = draw_bank(session, draws);
+    if session.version() == 2 && draws.below(8) == 0 {
+        return draw_of_two(session, bank, draws);
+    }
+    let command = draw_command(session, bank, orders, draws);
+    Sent { bank, command }
+}
+
+/// A total of a bank, or a settlement between it and another one.
+fn draw_of_two(session: &Session, bank: BankId, draws: &mut Draws) -> Sent
+    requires second { session.now.version ≡ 2 }
+    requires bank { bank < bank_count session.now }
+    ensures sent { IsSentOf session.now result }
+{
+    if draws.below(2) == 0 {
+        let limit = draw_limit(draws);
+        return Sent {
+            bank,
+            command: Command::Total { limit },
+        };
+    }
+    let other = draw_other(session, bank, draws);
+    let units = Units::new(1 + draws.below(5_000)).unwrap();
+    Sent {
+        bank: BankId::HOST,
+        command: Command::Settle {
+            a: bank,
+            b: other,
+            units,
+        },
+    }
 }
 
 fn draw_bank(session: &Session, draws: &mut Draws) -> BankId

@@ -13,10 +13,10 @@ set cpo&vim
 
 syntax case match
 
-" A bank's line behind START, and the fields of any line.
-syntax match fxbookBank "^\s*\zs[A-Z][A-Z0-9]\{2,7}\>" nextgroup=fxbookUnknown,fxbookCommand skipwhite
+" A sender's line behind START, which can name its client too, and the fields of any line.
+syntax match fxbookBank "^\s*\zs[A-Z][A-Z0-9]\{2,7}\%(:[A-Z][A-Z0-9]\{2,7}\)\=\>" nextgroup=fxbookUnknown,fxbookCommand skipwhite
 syntax match fxbookUnknown "\S\+" contained
-syntax keyword fxbookCommand BUY SELL CANCEL REDUCE PULL LINE SHOW BOOK contained
+syntax keyword fxbookCommand BUY SELL CANCEL REDUCE PULL LINE SHOW BOOK TOTAL SETTLE contained
 syntax keyword fxbookLife DAY IOC FOK
 syntax match fxbookPair "\<[A-Z]\{3}/[A-Z]\{3}\>"
 syntax match fxbookNumber "\%(^\|\s\)\@<=\%(0\|[1-9][0-9]*\)\%($\|\s\)\@="
@@ -25,8 +25,11 @@ syntax match fxbookPrice "\%(^\|\s\)\@<=\%(0\|[1-9][0-9]*\)\.[0-9]\{1,6}\%($\|\s
 syntax match fxbookBadNumber "\%(^\|\s\)\@<=\%([-+][0-9.]\+\|0[0-9][0-9.]*\)\%($\|\s\)\@="
 
 " The header. The bank's name stands second there.
-syntax match fxbookHeader "^\s*\zs\%(FXBOOK\|BANK\|PAIR\|LINE\)\>"
+syntax match fxbookHeader "^\s*\zs\%(FXBOOK\|BANK\|PAIR\|LINE\|TOTAL\)\>"
 syntax match fxbookHeader "^\s*\zsSTART\ze\s*$"
+
+" The declaration of a client.
+syntax match fxbookHeader "^\s*\zsCLIENT:\ze\s"
 
 syntax match fxbookComment "^\s*#.*$"
 

@@ -30,6 +30,10 @@ pub record IsUnderWay (h : Header) (tagged : List Tagged) (t : Tagged) (orders :
   pub orders_of : Each (IsOrderOf h (counts_of h tagged t)) orders
   pub stands : Stands h (owner_in (tagged ++ t ∷ [])) (counts_of h tagged t) orders (λ c. filled_by h tagged c + filled_of h (owner_in (tagged ++ t ∷ [])) c fills) book
 
+-- the orders of an entry's step once its fills are made
+abbrev pub drawn_here : Header → List Tagged → Entry → List ActiveOrder
+drawn_here h tagged e = drawn_all (entered (state_of h tagged) e) (fills_of e.outcome)
+
 -- a fill can be made, and was made
 abbrev pub CanFill : Book → Fill → Type 0
 CanFill book fill = (h : Header) × (tagged : List Tagged) × (t : Tagged) × (orders : List ActiveOrder) × (fills : List Fill) × IsUnderWay h tagged t orders fills book × IsDrawn orders fill
@@ -95,10 +99,10 @@ Pulls old new pair bank last =
 abbrev pub CanSettle : Book → Entry → Type 0
 CanSettle book e =
     (h : Header) × (tagged : List Tagged) × (t : Tagged) × (t.entry ≡ e)
-    × IsUnderWay h tagged t (drawn_all (entered (state_of h tagged) e) (fills_of e.outcome)) (fills_of e.outcome) book
+    × IsUnderWay h tagged t (drawn_here h tagged e) (fills_of e.outcome) book
 
 abbrev pub Settles : Book → Book → Entry → Type 0
 Settles old new e =
     (h : Header) (tagged : List Tagged) (t : Tagged) → t.entry ≡ e →
-    IsUnderWay h tagged t (drawn_all (entered (state_of h tagged) e) (fills_of e.outcome)) (fills_of e.outcome) old →
-    IsUnderWay h tagged t (settled e.bank e.number e.command e.outcome (drawn_all (entered (state_of h tagged) e) (fills_of e.outcome))) (fills_of e.outcome) new
+    IsUnderWay h tagged t (drawn_here h tagged e) (fills_of e.outcome) old →
+    IsUnderWay h tagged t (settled e.bank e.number e.command e.outcome (drawn_here h tagged e)) (fills_of e.outcome) new

@@ -1,5 +1,6 @@
 //! Runs on threads that are held up at a gate, so that they can pass in one way alone.
-use super::{CountingGate, MemorySink, MemorySource, NONE, done, expect, owned};
+use super::samples::Sample;
+use super::{CountingGate, MemorySink, MemorySource, NONE, done, expect, owned, samples};
 use crate::fx_main;
 use fx_amounts::{BankId, PairId};
 use fx_rules::Gate;
@@ -282,6 +283,31 @@ const FOUR: &[Step] = &[
     (Before(3, 1), 8, 15),
 ];
 
+// Sessions of version 2 in the order of their lines: ALFA's commands behind the two sells; and the operator's behind the fill, and
+// ALFA's last one behind them.
+const IN_ORDER: [(Sample, &[Step]); 2] = [
+    (
+        samples::TOTAL_OVER_TWO_MAKERS,
+        &[
+            (After(1, 1), 1, 0),
+            (Before(2, 1), 0, 1),
+            (After(2, 1), 2, 0),
+            (Before(0, 1), 0, 2),
+        ],
+    ),
+    (
+        samples::USE_GIVEN_BACK,
+        &[
+            (After(1, 1), 1, 0),
+            (Before(0, 1), 0, 1),
+            (After(0, 1), 2, 0),
+            (Before(64, 1), 0, 2),
+            (After(64, 5), 4, 0),
+            (Before(0, 2), 0, 4),
+        ],
+    ),
+];
+
 // What the program writes past a gate of these steps, with nothing on standard error. An error where it ends otherwise.
 fn written<R: AllocGlobal + Threads + Wait + Sync>(
     rt: &R,
@@ -321,6 +347,10 @@ fn runs_that_are_held_up_pass(rt: HostRuntime) -> Result<(), Fail> {
         let text = written(&rt, held.words, held.input, held.steps)?;
         assert!(&rt; is_written(&text, &held), "{}", held.name);
         expect(&rt, &["check"], &text, 4096, &NONE, &done(b"YES\n"))?;
+    }
+    for (sample, steps) in IN_ORDER {
+        let text = written(&rt, &["run", "--workers", "4"], sample.input, steps)?;
+        assert!(&rt; text.as_slice() == sample.output, "in the order of lines");
     }
     let words = ["load", "1", "4", "1", "40", "--workers", "4"];
     let text = written(&rt, &words, b"", FOUR)?;

@@ -1,4 +1,4 @@
-use Rattle.std.proofs.Common.{ℕ, ◌≡◌, ◌≢◌, ◌∙◌, ◌∷◌, List, ap₂, sym}
+use Rattle.std.proofs.Common.{ℕ, ◌∙◌, ◌∷◌, List, ap₂, sym}
 use Rattle.fx_text.specs.Fields.{fields_of}
 use Rattle.client_desk.proofs.BankLines.{fields-parted}
 use Rattle.client_desk.proofs.spelled.first_field_of.Goals as goal

@@ -1,10 +1,8 @@
 -- The line that is made is the bank's, and says what the client's does.
-use Rattle.std.proofs.Common.{ℕ, ◌≡◌, ◌<◌, ◌∙◌, ◌++◌, ◌∷◌, [], List, ap, subst, sym, arith}
+use Rattle.std.proofs.Common.{ℕ, ◌≡◌, ◌<◌, ◌∙◌, ◌++◌, ◌∷◌, [], List, ap, subst, sym}
 use Rattle.std.proofs.lemmas.Bool.{eqb-true}
-use Rattle.fx_text.specs.declared.line.Line.TheVariants.{Whole}
 use Rattle.fx_rules.specs.Session.{bank_count, bank_name}
 use Rattle.fx_rules.specs.Step.{IsCommand}
-use Rattle.order_lines.specs.Grammar.{command_line}
 use Rattle.order_lines.specs.Spelling.{command_text_of}
 use Rattle.order_lines.specs.declared.spoken.Spoken.TheVariants as spoken
 use Rattle.client_desk.specs.Clients.{bank_of_client}

@@ -1,4 +1,5 @@
 use Rattle.std.proofs.Common.{ℕ, ◌≡◌, ◌≢◌, ◌≤◌, ◌<◌, arith, List, Option, Some, None, get_or, nat_eq, refl, ap, sym, subst, ◌∙◌}
+use Rattle.std.specs.Bool.{⊤}
 use Rattle.std.specs.Map.{lookup}
 use Rattle.std.specs.Option.{IsSome, option_copied_mut}
 use Rattle.price_levels.specs.declared.level.Level.{Level}
@@ -19,11 +20,11 @@ returns-clause-levels c =
     (λ (l : Level). without_order l c.args.lots c.args.before c.args.behind) c.self.view_is had writes c.remove.ensures.levels
 
 pub returns-clause-holds : goal.returns-clause-holds
-returns-clause-holds c = λ other at fine.
+returns-clause-holds c = λ other at.
     let had : lookup (nat_eq c.args.bank) c.self.inside.ladders.entries ≡ Some c.unwrap-ladder.result.now = sym c.get_mut.ensures.value ∙ ap option_copied_mut c.unwrap-ladder.ensures in
     let writes : Writes c.self.inside.ladders.entries (c.get_mut.follows.lender c.remove.new.self).entries c.args.bank c.remove.new.self = ((c.get_mut.follows.holds c.remove.new.self).3 (subst IsSome (sym had) refl)).0 in
     holds_written c.self.inside.ladders.entries c.args.self.now (c.get_mut.follows.lender c.remove.new.self).entries c.args.bank c.unwrap-ladder.result.now c.remove.new.self
-    (λ at. at ≢ c.args.rank) c.self.view_is had writes (λ at differ. c.remove.ensures.holds at differ) other at fine
+    (λ at. ⊤) c.self.view_is had writes (λ at any. c.remove.ensures.holds at) other at (λ same. tt)
 
 pub head_from-head-requires : goal.head_from-head-requires
 head_from-head-requires c =

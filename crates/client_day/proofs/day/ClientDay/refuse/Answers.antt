@@ -9,7 +9,7 @@ pub returns : goal.returns
 returns c = record {
   rest = (refl, refl, refl, refl);
   trades = refl;
-  noted = on_ok c.refuse.result (λ given h.
+  noted = on_ok c.tell_refusal.result (λ given h.
       noted-at h c.args.client c.index.result (refusal_notes c.args.answer) c.args.self.now.desks.items c.index.ensures.value c.requires.client c.index_mut.ensures.value (given h))
-      c.refuse.ensures.ok;
+      c.tell_refusal.ensures.ok;
 }

@@ -1,5 +1,5 @@
 -- A command is served; a stray is read as a line of clients.
-use Rattle.std.proofs.Common.{◌≡◌, ◌++◌, ◌∷◌, [], ℕ, None, Some, ap, sym, subst, arith}
+use Rattle.std.proofs.Common.{◌++◌, ◌∷◌, [], None, ap, sym, subst, arith}
 use Rattle.reply_lines.proofs.Outputs.{on_ok}
 use Rattle.session_script.specs.Heard.{IsHeardOf}
 use Rattle.session_script.specs.declared.heard.Heard.{Heard}

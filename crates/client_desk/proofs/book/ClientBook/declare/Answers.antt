@@ -1,4 +1,4 @@
-use Rattle.std.proofs.Common.{◌≡◌, ◌+◌, ◌++◌, ◌∷◌, [], List, length, arith, ap, ap₂, sym, subst, ◌∙◌, length-append}
+use Rattle.std.proofs.Common.{◌≡◌, ◌++◌, ◌∷◌, [], List, length, arith, ap, ap₂, sym, subst, ◌∙◌, length-append}
 use Rattle.fx_rules.proofs.Senders.{bank-sender, sender-place}
 use Rattle.client_desk.specs.Clients.{AreClients}
 use Rattle.client_desk.specs.Standing.{Book, StandsFor, Sums, no_sums}

@@ -1,5 +1,4 @@
-use Rattle.std.proofs.Common.{◌≡◌, ◌∙◌, ◌++◌, ◌∷◌, [], ap, sym, subst, List}
-use Rattle.std.proofs.lemmas.List.{take_all}
+use Rattle.std.proofs.Common.{◌∙◌, ◌++◌, ◌∷◌, [], ap, sym, subst, List}
 use Rattle.fx_rules.specs.Lists.{EachPair}
 use Rattle.client_desk.specs.Clients.{Differ}
 use Rattle.client_desk.specs.declared.client.Client.{Client}

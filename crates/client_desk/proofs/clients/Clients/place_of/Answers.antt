@@ -1,14 +1,29 @@
-use Rattle.std.proofs.Common.{ℕ, ◌≡◌, ◌∙◌, ◌&&◌, ap, ap₂, List, eqb, bytes_eq, position}
+use Rattle.std.proofs.Common.{ℕ, ◌≡◌, ◌∙◌, ◌&&◌, ap, List, eqb, bytes_eq, position, arith, length, ◌≤◌, ◌<◌, true, false, inl, inr, sym, subst, IfSome}
+use Rattle.std.proofs.lemmas.Bool.{cases_lt, true≢false}
 use Rattle.client_desk.specs.declared.client.Client.{Client}
-use Rattle.client_desk.specs.declared.keys.ClientKey.{ClientKey}
-use Rattle.client_desk.specs.inside.Keys.{key_of}
-use Rattle.client_desk.proofs.Finding.{position-map}
+use Rattle.client_desk.proofs.Finding.{key_found, keys_length, too_long}
 use Rattle.client_desk.proofs.clients.Clients.place_of.Goals as goal
+
+not_short : (text : List ℕ) → (length text ≤ 8 → false ≡ true) → 8 < length text
+not_short text none = elim (cases_lt 8 (length text)) [
+  | inl long ↦ long
+  | inr short ↦ absurd (true≢false (sym (none (omega arith))))
+]
+
+pub returns-in_err-key-clause-value : goal.returns-in_err-key-clause-value
+returns-in_err-key-clause-value c =
+    c.from_residual.ensures
+    ∙ too_long c.args.bank c.args.name.now c.self.inside.all.items c.self.inside.keys.keys c.self.invariant (not_short c.args.name.now c.in_err-key.ensures.short)
+    ∙ ap (position (λ (client : Client). eqb c.args.bank client.bank && bytes_eq c.args.name.now client.name)) c.self.view_is
 
 pub returns-clause-value : goal.returns-clause-value
 returns-clause-value c =
     c.get_index_of.ensures.index
-    ∙ ap (position (λ (key : ClientKey). eqb key.bank c.of.result.bank && bytes_eq key.name c.of.result.name.now)) c.self.invariant
-    ∙ position-map (λ (key : ClientKey). eqb key.bank c.of.result.bank && bytes_eq key.name c.of.result.name.now) key_of c.self.inside.all.items
-    ∙ ap₂ (λ (bank : ℕ) (name : List ℕ). position (λ (client : Client). eqb client.bank bank && bytes_eq client.name name) c.self.inside.all.items) c.of.ensures.bank c.of.ensures.name
-    ∙ ap (position (λ (client : Client). eqb client.bank c.args.bank && bytes_eq client.name c.args.name.now)) c.self.view_is
+    ∙ key_found c.args.bank c.args.name.now c.in_ok-key.key c.self.inside.all.items c.self.inside.keys.keys c.in_ok-key.ensures.key c.self.invariant
+    ∙ ap (position (λ (client : Client). eqb c.args.bank client.bank && bytes_eq c.args.name.now client.name)) c.self.view_is
+
+pub returns-clause-within : goal.returns-clause-within
+returns-clause-within c =
+    subst (λ n. IfSome c.get_index_of.result (λ place. place < n))
+    (keys_length c.self.inside.all.items c.self.inside.keys.keys c.self.invariant ∙ ap (λ (all : List Client). length all) c.self.view_is)
+    c.get_index_of.ensures.within

@@ -18,10 +18,10 @@ opened : (c : goal.In_ok-weights_of) → IsOpening c.args.session.now (flat_stat
   weights = c.in_ok-weights_of.field-0;
 }))
 opened c = record {
-  session = c.places_of-places.ensures.valid;
+  session = c.sender_places-places.ensures.valid;
   orders = c.new.ensures.items;
   credit = c.in_ok-open.ensures.opens;
-  counts = zeros_same c.in_ok-vec.field-0.items c.places_of-places.result (sender_places c.args.session.now) c.places_of-places.ensures.value
+  counts = zeros_same c.in_ok-vec.field-0.items c.sender_places-places.result (sender_places c.args.session.now) c.sender_places-places.ensures.value
       (c.in_ok-vec.ensures.items_if_clones_equal (λ y same. same));
   weights = c.in_ok-weights_of.ensures.weights ∙ ap (map (λ (rule : PairRule). rule.weight)) c.pairs.ensures.value;
 }

@@ -1,6 +1,6 @@
 use Rattle.std.proofs.Common.{◌<◌, sym, subst}
 use Rattle.fx_rules.specs.Session.{bank_count}
-use Rattle.pair_steps.proofs.Sent.{sent-by_bank}
+use Rattle.fx_rules.proofs.Senders.{sent-by_bank}
 use Rattle.pair_shards.proofs.Signing.{prepared}
 use Rattle.pair_shards.proofs.shard.Shard.prepare.Goals as goal
 

@@ -25,5 +25,5 @@ returns-else-is_err-clause-told c =
     let next = c.requires.next in
     let can = can-count c.args.session.now next.0 c.args.entries.now c.args.self.now.counts.items next.1 next.2 in
     on_ok c.tell_all-told.result
-    (λ has before counted. has.lines ∙ ap (λ (lines : List ℕ). c.args.text.now.items ++ lines) (lines-behind c.args.session.now before c.args.entries.now c.args.self.now.counts.items can.senders counted))
+    (λ has before counted. has.lines ∙ ap (λ (lines : List ℕ). c.args.text.now ++ lines) (lines-behind c.args.session.now before c.args.entries.now c.args.self.now.counts.items can.senders counted))
     c.tell_all-told.ensures.ok

@@ -40,7 +40,7 @@ returns-clause-ok c =
     let h = c.args.session.now in
     on_ok c.tell_fills.result
     (λ told. told-then h (addressed_to e.bank (Replied e) ∷ []) (flat_map fill_addressed (fills_of e.outcome)) c.in_ok-tell_reply.ensures.ok
-    (subst (λ (fs : List Fill). HasTold h (flat_map fill_addressed fs) c.tell_reply.new.self.counts.items c.tell_fills.new.self.counts.items c.tell_reply.new.text.items c.tell_fills.new.text.items) c.fills.ensures.fills told))
+    (subst (λ (fs : List Fill). HasTold h (flat_map fill_addressed fs) c.tell_reply.new.self.counts.items c.tell_fills.new.self.counts.items c.tell_reply.new.text c.tell_fills.new.text) c.fills.ensures.fills told))
     c.tell_fills.ensures.ok
 
 pub returns-clause-begins : goal.returns-clause-begins

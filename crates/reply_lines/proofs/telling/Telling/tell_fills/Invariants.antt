@@ -9,7 +9,7 @@ use Rattle.reply_lines.proofs.telling.Telling.tell_fills.Given as goal
 -- those so far are told, and the others can be
 abbrev pub invariant-loop-fill : goal.invariant-loop-fill
 invariant-loop-fill l = record {
-  told : HasTold l.session (flat_map fill_addressed (take l.fill-index l.fills)) l.initial.self.counts.items l.self.counts.items l.initial.text.items l.text.items;
+  told : HasTold l.session (flat_map fill_addressed (take l.fill-index l.fills)) l.initial.self.counts.items l.self.counts.items l.initial.text l.text;
   can : CanCount (flat_map fill_addressed (drop l.fill-index l.fills)) l.self.counts.items;
   each : Each (IsFillOf l.session) (drop l.fill-index l.fills);
 }

@@ -1,7 +1,8 @@
 use Rattle.std.proofs.Common.{◌≡◌, arith, length, List, ℕ, Vec, Global, refl, ap, ap₂, ◌∙◌}
 use Rattle.fx_rules.specs.declared.session.PairRule.{PairRule}
 use Rattle.session_head.specs.Draft.{square, totals_kept}
-use Rattle.session_head.proofs.DraftLemmas.{session_built, is_built, first_kept, first_or_second}
+use Rattle.fx_rules.proofs.Plain.{first_or_second}
+use Rattle.session_head.proofs.DraftLemmas.{session_built, is_built, first_kept}
 use Rattle.session_head.proofs.draft.Draft.take_session.Goals as goal
 
 pub session_of-requires : goal.session_of-requires

@@ -1,0 +1,156 @@
+ghost use Rattle.std.specs.Prelude.{◌≡◌, ℕ, ◌+◌, ◌≤◌, ◌<◌, ◌^◌, ◌∷◌, ◌++◌, [], codes, length, take, vec_len, OnOk, OnErr};
+ghost use Rattle.fx_amounts.specs.Numeral.{numeral};
+ghost use Rattle.fx_rules.specs.Session.{bank_count};
+ghost use Rattle.reply_lines.specs.Fills.{AreShort};
+ghost use Rattle.reply_lines.specs.Rows.{row};
+ghost use Rattle.reply_lines.specs.inside.Fills.{fill_line};
+ghost use Rattle.reply_lines.specs.inside.Replies.{plain_fields};
+
+use crate::notices::{FillTexts, Party, put_fill, put_reply};
+use fx_amounts::Memory;
+use fx_rules::{Outcome, Session};
+use fx_text::put_text;
+use std::alloc::Global;
+use std::marker::Model;
+
+/// The most bytes of a line that shows no local book.
+const LINE: usize = 256;
+
+/// The bytes by which a sheet gets longer than it has to. A list has capacity for more, so that it is not moved for each of these steps;
+/// and so few are cleared at once.
+const STEP: usize = 1024;
+
+/// Lines of notices one behind the other, with room behind them, so that the next one is written where it stays.
+#[derive(Debug, Drop)]
+pub struct NoticeSheet {
+    bytes: Vec<u8>,
+    len: usize,
+}
+
+impl Model for NoticeSheet {
+    ghost use Rattle.std.specs.Prelude.{List, ℕ, ◌≤◌, take, vec_len};
+
+    ghost Value = { List ℕ };
+
+    ghost view = { λ sheet. take sheet.len sheet.bytes.items };
+
+    ghost invariant = { λ sheet. sheet.len ≤ vec_len sheet.bytes };
+}
+
+impl NoticeSheet {
+    /// A sheet without a line. It takes no memory.
+    pub fn new(alloc: Global) -> NoticeSheet
+        ensures { result ≡ [] }
+    {
+        NoticeSheet {
+            bytes: Vec::new(alloc),
+            len: 0,
+        }
+    }
+
+    /// The bytes of the lines.
+    pub fn as_slice(&self) -> &[u8]
+        ensures { result.now ≡ self.now }
+    {
+        self.bytes.split_at(self.len).0
+    }
+
+    /// The lines as a list of their own. It takes no memory.
+    pub fn into_lines(mut self) -> Vec<u8>
+        ensures { result.items ≡ self }
+    {
+        self.bytes.truncate(self.len);
+        self.bytes
+    }
+
+    /// How many bytes the lines have.
+    pub(crate) fn len(&self) -> usize
+        ensures { result ≡ length self.now }
+    {
+        self.len
+    }
+
+    /// Keeps the first bytes alone.
+    pub(crate) fn truncate(&mut self, len: usize)
+        ensures { self.new ≡ take len self.old }
+    {
+        self.len = self.len.min(len);
+    }
+
+    /// Appends a text. Without memory for it the sheet stays.
+    pub(crate) fn push(&mut self, text: &[u8]) -> Result<(), Memory>
+        ensures ok { OnOk result (self.new ≡ self.old ++ text.now) }
+        ensures memory { OnErr result (self.new ≡ self.old) }
+        ensures few { length self.new < 2 ^ 63 }
+    {
+        make_room(&mut self.bytes, self.len, text.len())?;
+        let end = put_text(text, &mut self.bytes, self.len);
+        self.len = end;
+        Ok(())
+    }
+
+    /// Appends the line of the reply to a bank's command `number`, with its number `notice` on the desk, where the reply shows no
+    /// local book. Without memory for it the sheet stays.
+    #[inline(always)]
+    pub(crate) fn push_reply(
+        &mut self,
+        notice: u128,
+        number: u32,
+        outcome: &Outcome,
+    ) -> Result<(), Memory>
+        ensures ok { OnOk result (self.new ≡ self.old ++ row (numeral notice) (codes "REPLY" ∷ numeral number ∷ plain_fields outcome.now)) }
+        ensures memory { OnErr result (self.new ≡ self.old) }
+        ensures few { length self.new < 2 ^ 63 }
+    {
+        make_room(&mut self.bytes, self.len, LINE)?;
+        let end = put_reply(notice, number, outcome, &mut self.bytes, self.len);
+        self.len = end;
+        Ok(())
+    }
+
+    /// Appends the line of a fill as one of its banks sees it, with its number on the desk. Without memory for it the sheet stays.
+    #[inline(always)]
+    pub(crate) fn push_fill(
+        &mut self,
+        session: &Session,
+        number: u128,
+        party: &Party,
+        texts: &FillTexts,
+    ) -> Result<(), Memory>
+        requires other { party.now.other < bank_count session.now }
+        requires short { AreShort texts.now }
+        ensures ok { OnOk result (self.new ≡ self.old ++ fill_line session.now number party.now texts.now) }
+        ensures memory { OnErr result (self.new ≡ self.old) }
+        ensures few { length self.new < 2 ^ 63 }
+    {
+        make_room(&mut self.bytes, self.len, LINE)?;
+        let end = put_fill(session, number, party, texts, &mut self.bytes, self.len);
+        self.len = end;
+        Ok(())
+    }
+}
+
+/// Makes room for so many bytes more behind the first `len`, which stay.
+#[inline(always)]
+fn make_room(bytes: &mut Vec<u8>, len: usize, more: usize) -> Result<(), Memory>
+    requires within { len ≤ vec_len bytes.old }
+    ensures room { OnOk result (len + more ≤ vec_len bytes.new) }
+    ensures within { len ≤ vec_len bytes.new }
+    ensures same { take len bytes.new.items ≡ take len bytes.old.items }
+{
+    if more <= bytes.len() - len {
+        return Ok(());
+    }
+    grow(bytes, more)
+}
+
+/// Makes a list longer, by so many bytes at least. At `Memory` it is as it was.
+fn grow(bytes: &mut Vec<u8>, more: usize) -> Result<(), Memory>
+    ensures room { OnOk result (vec_len bytes.old + more ≤ vec_len bytes.new) }
+    ensures longer { vec_len bytes.old ≤ vec_len bytes.new }
+    ensures same { take (vec_len bytes.old) bytes.new.items ≡ bytes.old.items }
+{
+    let size = (bytes.len() + STEP).saturating_add(more);
+    bytes.resize(size, 0)?;
+    Ok(())
+}
