@@ -1,5 +1,5 @@
 -- The best order of levels, as one of these changes.
-use Rattle.std.proofs.Common.{ℕ, ◌≡◌, ◌≢◌, ◌-◌, ◌≤◌, ◌<◌, ◌==◌, ◌⊎◌, ◌^◌, nat_eq, Bool, true, false, cond, if◌then◌else◌, List, [], length, get_or, replicate, Option, Some, None, inl, inr, refl, ap, sym, subst, ◌∙◌, arith}
+use Rattle.std.proofs.Common.{ℕ, cond, nat_eq, ◌≡◌, ◌≢◌, ◌-◌, ◌≤◌, ◌<◌, ◌==◌, ◌⊎◌, ◌^◌, Bool, true, false, if◌then◌else◌, List, [], length, get_or, replicate, Option, Some, None, inl, inr, refl, ap, sym, subst, ◌∙◌, arith}
 use Rattle.std.proofs.Math.ListN.{set}
 use Rattle.std.proofs.lemmas.List.{get_or-replicate, get_or-set_other, get_or-set_same}
 use Rattle.std.specs.Map.{lookup}
@@ -9,9 +9,10 @@ use Rattle.price_levels.specs.declared.level.Level.{Level}
 use Rattle.price_levels.specs.Rungs.{Rungs, holds, level_at, with_level_at}
 use Rattle.price_levels.specs.Ticks.{first_left, last_left, no_level, with_order, without_order}
 use Rattle.access_index.specs.declared.words.Head.{Head}
-use Rattle.access_index.specs.Heads.{IsHead, IsLeastHead, IsUpTo}
-use Rattle.access_index.specs.Ranked.{IsBestHead, IsHeadOf, bank_holds, bank_level, holds_in, level_in, with_bank_level}
+use Rattle.access_index.specs.Heads.{IsHead, IsLeastHead, IsUpTo, head_word}
+use Rattle.access_index.specs.Ranked.{AreHeadWords, IsBestHead, IsHeadOf, bank_holds, bank_level, holds_in, level_in, with_bank_level}
 use Rattle.access_index.specs.inside.Ranked.{AreRanked, head_with}
+use Rattle.access_index.proofs.Numbering.{Writes, of_updates}
 
 -- levels that are the same at each rank have the same best order
 pub head_same : (old new : ℕ → Level) (head : Option Head) → ((rank : ℕ) → new rank ≡ old rank) → IsHeadOf old head → IsHeadOf new head
@@ -107,73 +108,71 @@ head_come old rank place lots (Some head) some is =
           is.1 ∙ sym (ap (λ (l : Level). l.first) same),
         )
 
--- One bank's levels are others: its ladder was written.
-abbrev pub Writes : List (ℕ × Rungs) → List (ℕ × Rungs) → ℕ → Rungs → Type 0
-Writes owners owners' bank rungs = (q : ℕ) → lookup (nat_eq q) owners' ≡ cond (nat_eq bank q) (Some rungs) (lookup (nat_eq q) owners)
+-- One bank's ladder is another one.
+module _ {owners owners' : List (ℕ × Rungs)} {bank : ℕ} {old new : Rungs} (writes : Writes owners owners' bank old new) where
+  other_level : (other at : ℕ) → other ≢ bank → bank_level owners' other at ≡ bank_level owners other at
+  other_level other at differ = ap (λ (o : Option Rungs). level_in o at) (writes.others other differ)
 
-looked_other : (owners owners' : List (ℕ × Rungs)) (bank : ℕ) (rungs : Rungs) (other : ℕ) → Writes owners owners' bank rungs → other ≢ bank → lookup (nat_eq other) owners' ≡ lookup (nat_eq other) owners
-looked_other owners owners' bank rungs other writes differ =
-    writes other ∙ ap (λ (b : Bool). cond b (Some rungs) (lookup (nat_eq other) owners)) (ne_eqb bank other (λ e. differ (sym e)))
+  own_level : (at : ℕ) → bank_level owners' bank at ≡ level_at new at
+  own_level at = ap (λ (o : Option Rungs). level_in o at) writes.is
 
-looked_same : (owners owners' : List (ℕ × Rungs)) (bank : ℕ) (rungs : Rungs) → Writes owners owners' bank rungs → lookup (nat_eq bank) owners' ≡ Some rungs
-looked_same owners owners' bank rungs writes = writes bank ∙ ap (λ (b : Bool). cond b (Some rungs) (lookup (nat_eq bank) owners)) (eq-eqb bank bank refl)
+  pub had_level : (at : ℕ) → bank_level owners bank at ≡ level_at old at
+  had_level at = ap (λ (o : Option Rungs). level_in o at) writes.was
 
-pub other_level : (owners owners' : List (ℕ × Rungs)) (bank : ℕ) (rungs : Rungs) (other at : ℕ) → Writes owners owners' bank rungs → other ≢ bank → bank_level owners' other at ≡ bank_level owners other at
-other_level owners owners' bank rungs other at writes differ = ap (λ (o : Option Rungs). level_in o at) (looked_other owners owners' bank rungs other writes differ)
+  -- a rank that had so many lots had some
+  pub had_some : (now : List (ℕ × Rungs)) (rank lots : ℕ) → owners ≡ now → 0 < lots → lots ≤ (bank_level now bank rank).lots → (level_at old rank).lots ≢ 0
+  had_some now rank lots seen some has none =
+      let is : (bank_level now bank rank).lots ≡ 0 = ap (λ (os : List (ℕ × Rungs)). (bank_level os bank rank).lots) (sym seen) ∙ ap (λ (l : Level). l.lots) (had_level rank) ∙ none in
+      omega (arith, some, has, is)
 
-pub own_level : (owners owners' : List (ℕ × Rungs)) (bank : ℕ) (rungs : Rungs) (at : ℕ) → Writes owners owners' bank rungs → bank_level owners' bank at ≡ level_at rungs at
-own_level owners owners' bank rungs at writes = ap (λ (o : Option Rungs). level_in o at) (looked_same owners owners' bank rungs writes)
+  -- the levels of all banks, once one of one bank is another
+  pub levels_written : (now : List (ℕ × Rungs)) (rank : ℕ) (becomes : Level → Level) → owners ≡ now → ((at : ℕ) → level_at new at ≡ with_level_at (level_at old) rank (becomes (level_at old rank)) at)
+      → (other at : ℕ) → bank_level owners' other at ≡ with_bank_level (bank_level now) bank rank (becomes (bank_level now bank rank)) other at
+  levels_written now rank becomes seen changed =
+      subst (λ (os : List (ℕ × Rungs)). (other at : ℕ) → bank_level owners' other at ≡ with_bank_level (bank_level os) bank rank (becomes (bank_level os bank rank)) other at) seen inside
+    where
+      level : Level
+      level = becomes (bank_level owners bank rank)
 
-pub other_holds : (owners owners' : List (ℕ × Rungs)) (bank : ℕ) (rungs : Rungs) (other at : ℕ) → Writes owners owners' bank rungs → other ≢ bank → bank_holds owners' other at ≡ bank_holds owners other at
-other_holds owners owners' bank rungs other at writes differ = ap (λ (o : Option Rungs). holds_in o at) (looked_other owners owners' bank rungs other writes differ)
+      own : (at : ℕ) → level_at new at ≡ with_level_at (level_at old) rank level at
+      own at = changed at ∙ ap (λ (l : Level). with_level_at (level_at old) rank (becomes l) at) (sym (had_level rank))
 
-pub own_holds : (owners owners' : List (ℕ × Rungs)) (bank : ℕ) (rungs : Rungs) (at : ℕ) → Writes owners owners' bank rungs → bank_holds owners' bank at ≡ holds rungs at
-own_holds owners owners' bank rungs at writes = ap (λ (o : Option Rungs). holds_in o at) (looked_same owners owners' bank rungs writes)
+      inside : (other at : ℕ) → bank_level owners' other at ≡ with_bank_level (bank_level owners) bank rank level other at
+      inside other at =
+          elim (cases_eq other bank) [
+            | inl same ↦
+                ap (λ (k : ℕ). bank_level owners' k at) same ∙ own_level at ∙ own at
+                ∙ ap (λ (l : Level). if at == rank then level else l) (sym (had_level at) ∙ ap (λ (k : ℕ). bank_level owners k at) (sym same))
+                ∙ sym (ap (λ (b : Bool). if b then with_level_at (bank_level owners other) rank level at else bank_level owners other at) (eq-eqb other bank same))
+            | inr differ ↦
+                other_level other at differ
+                ∙ sym (ap (λ (b : Bool). if b then with_level_at (bank_level owners other) rank level at else bank_level owners other at) (ne_eqb other bank differ))
+          ]
 
--- what a bank had
-pub had_level : (owners : List (ℕ × Rungs)) (bank : ℕ) (rungs : Rungs) (at : ℕ) → lookup (nat_eq bank) owners ≡ Some rungs → bank_level owners bank at ≡ level_at rungs at
-had_level owners bank rungs at is = ap (λ (o : Option Rungs). level_in o at) is
+  -- what is ready of another bank stays so
+  pub other_holds : (other at : ℕ) → other ≢ bank → bank_holds owners' other at ≡ bank_holds owners other at
+  other_holds other at differ = ap (λ (o : Option Rungs). holds_in o at) (writes.others other differ)
 
-pub had_holds : (owners : List (ℕ × Rungs)) (bank : ℕ) (rungs : Rungs) (at : ℕ) → lookup (nat_eq bank) owners ≡ Some rungs → bank_holds owners bank at ≡ holds rungs at
-had_holds owners bank rungs at is = ap (λ (o : Option Rungs). holds_in o at) is
+  -- what is ready stays so
+  pub holds_written : (now : List (ℕ × Rungs)) → owners ≡ now → ((at : ℕ) → holds new at ≡ holds old at) → (other at : ℕ) → bank_holds owners' other at ≡ bank_holds now other at
+  holds_written now seen kept other at =
+      elim (cases_eq other bank) [
+        | inl same ↦
+            ap (λ (k : ℕ). bank_holds owners' k at) same ∙ ap (λ (o : Option Rungs). holds_in o at) writes.is ∙ kept at
+            ∙ sym (ap (λ (o : Option Rungs). holds_in o at) writes.was) ∙ ap (λ (k : ℕ). bank_holds owners k at) (sym same)
+        | inr differ ↦ other_holds other at differ
+      ]
+      ∙ ap (λ (os : List (ℕ × Rungs)). bank_holds os other at) seen
 
--- the levels of all banks, once one of one bank is another
-pub levels_written : (owners now owners' : List (ℕ × Rungs)) (bank rank : ℕ) (old new : Rungs) (becomes : Level → Level) → owners ≡ now → lookup (nat_eq bank) owners ≡ Some old
-    → Writes owners owners' bank new → ((at : ℕ) → level_at new at ≡ with_level_at (level_at old) rank (becomes (level_at old rank)) at)
-    → (other at : ℕ) → bank_level owners' other at ≡ with_bank_level (bank_level now) bank rank (becomes (bank_level now bank rank)) other at
-levels_written owners now owners' bank rank old new becomes seen had writes changed =
-    subst (λ (os : List (ℕ × Rungs)). (other at : ℕ) → bank_level owners' other at ≡ with_bank_level (bank_level os) bank rank (becomes (bank_level os bank rank)) other at) seen inside
-  where
-    level : Level
-    level = becomes (bank_level owners bank rank)
-
-    own : (at : ℕ) → level_at new at ≡ with_level_at (level_at old) rank level at
-    own at = changed at ∙ ap (λ (l : Level). with_level_at (level_at old) rank (becomes l) at) (sym (had_level owners bank old rank had))
-
-    inside : (other at : ℕ) → bank_level owners' other at ≡ with_bank_level (bank_level owners) bank rank level other at
-    inside other at =
-        elim (cases_eq other bank) [
-          | inl same ↦
-              ap (λ (k : ℕ). bank_level owners' k at) same ∙ own_level owners owners' bank new at writes ∙ own at
-              ∙ ap (λ (l : Level). if at == rank then level else l) (sym (had_level owners bank old at had) ∙ ap (λ (k : ℕ). bank_level owners k at) (sym same))
-              ∙ sym (ap (λ (b : Bool). if b then with_level_at (bank_level owners other) rank level at else bank_level owners other at) (eq-eqb other bank same))
-          | inr differ ↦
-              other_level owners owners' bank new other at writes differ
-              ∙ sym (ap (λ (b : Bool). if b then with_level_at (bank_level owners other) rank level at else bank_level owners other at) (ne_eqb other bank differ))
-        ]
-
--- what is ready stays so, but maybe for one rank of one bank
-pub holds_written : (owners now owners' : List (ℕ × Rungs)) (bank : ℕ) (old new : Rungs) (P : ℕ → Type 0) → owners ≡ now → lookup (nat_eq bank) owners ≡ Some old
-    → Writes owners owners' bank new → ((at : ℕ) → P at → holds new at ≡ holds old at)
-    → (other at : ℕ) → (other ≡ bank → P at) → bank_holds owners' other at ≡ bank_holds now other at
-holds_written owners now owners' bank old new P seen had writes kept other at fine =
-    elim (cases_eq other bank) [
-      | inl same ↦
-          ap (λ (k : ℕ). bank_holds owners' k at) same ∙ own_holds owners owners' bank new at writes ∙ kept at (fine same)
-          ∙ sym (had_holds owners bank old at had) ∙ ap (λ (k : ℕ). bank_holds owners k at) (sym same)
-      | inr differ ↦ other_holds owners owners' bank new other at writes differ
-    ]
-    ∙ ap (λ (os : List (ℕ × Rungs)). bank_holds os other at) seen
+  -- a ladder was written whose levels are as they were
+  pub same_written : (now : List (ℕ × Rungs)) → owners ≡ now → ((at : ℕ) → level_at new at ≡ level_at old at) → (other at : ℕ) → bank_level owners' other at ≡ bank_level now other at
+  same_written now seen same other at =
+      elim (cases_eq other bank) [
+        | inl equal ↦
+            ap (λ (k : ℕ). bank_level owners' k at) equal ∙ own_level at ∙ same at ∙ sym (had_level at) ∙ ap (λ (k : ℕ). bank_level owners k at) (sym equal)
+        | inr differ ↦ other_level other at differ
+      ]
+      ∙ ap (λ (os : List (ℕ × Rungs)). bank_level os other at) seen
 
 -- ranks with orders are low, and the places of first orders early
 pub record AreShort (levels : ℕ → Level) : Type 0 where
@@ -200,85 +199,6 @@ short_changed old new rank level changed are low early = record {
   ];
 }
 
--- what is known of a bank's own levels
-pub had_short : (owners : List (ℕ × Rungs)) (heads : List (Option Head)) (bank : ℕ) (old : Rungs) → AreRanked owners heads → bank < 64 → lookup (nat_eq bank) owners ≡ Some old → AreShort (level_at old)
-had_short owners heads bank old are few had = record {
-  low = λ rank some. are.low bank rank few (λ none. some (ap (λ (l : Level). l.lots) (sym (had_level owners bank old rank had)) ∙ none));
-  early = λ rank some.
-      subst (λ (l : Level). l.first < 2 ^ 28) (had_level owners bank old rank had)
-      (are.early bank rank few (λ none. some (ap (λ (l : Level). l.lots) (sym (had_level owners bank old rank had)) ∙ none)));
-}
-
-pub had_head : (owners : List (ℕ × Rungs)) (heads : List (Option Head)) (bank : ℕ) (old : Rungs) → AreRanked owners heads → bank < 64 → lookup (nat_eq bank) owners ≡ Some old
-    → IsHeadOf (level_at old) (get_or heads bank None)
-had_head owners heads bank old are few had =
-    head_same (bank_level owners bank) (level_at old) (get_or heads bank None) (λ rank. sym (had_level owners bank old rank had)) (are.heads_are bank few)
-
--- the best orders, once one bank's levels are others and its best order was written down
-pub ranked_written : (owners owners' : List (ℕ × Rungs)) (heads heads' : List (Option Head)) (bank : ℕ) (new : Rungs) → AreRanked owners heads
-    → Writes owners owners' bank new → ((other : ℕ) → other ≢ bank → get_or heads' other None ≡ get_or heads other None) → IsHeadOf (level_at new) (get_or heads' bank None)
-    → AreShort (level_at new) → AreRanked owners' heads'
-ranked_written owners owners' heads heads' bank new are writes kept is short = record {
-  heads_are = λ other few. elim (cases_eq other bank) [
-    | inl same ↦
-        subst (λ (k : ℕ). IsHeadOf (bank_level owners' k) (get_or heads' k None)) (sym same)
-        (head_same (level_at new) (bank_level owners' bank) (get_or heads' bank None) (λ rank. own_level owners owners' bank new rank writes) is)
-    | inr differ ↦
-        subst (IsHeadOf (bank_level owners' other)) (sym (kept other differ))
-        (head_same (bank_level owners other) (bank_level owners' other) (get_or heads other None) (λ rank. other_level owners owners' bank new other rank writes differ) (are.heads_are other few))
-  ];
-  low = λ other rank few some. elim (cases_eq other bank) [
-    | inl same ↦
-        let now : bank_level owners' other rank ≡ level_at new rank = ap (λ (k : ℕ). bank_level owners' k rank) same ∙ own_level owners owners' bank new rank writes in
-        short.low rank (λ none. some (ap (λ (l : Level). l.lots) now ∙ none))
-    | inr differ ↦ are.low other rank few (λ none. some (ap (λ (l : Level). l.lots) (other_level owners owners' bank new other rank writes differ) ∙ none))
-  ];
-  early = λ other rank few some. elim (cases_eq other bank) [
-    | inl same ↦
-        let now : bank_level owners' other rank ≡ level_at new rank = ap (λ (k : ℕ). bank_level owners' k rank) same ∙ own_level owners owners' bank new rank writes in
-        subst (λ (l : Level). l.first < 2 ^ 28) (sym now) (short.early rank (λ none. some (ap (λ (l : Level). l.lots) now ∙ none)))
-    | inr differ ↦
-        let now : bank_level owners' other rank ≡ bank_level owners other rank = other_level owners owners' bank new other rank writes differ in
-        subst (λ (l : Level). l.first < 2 ^ 28) (sym now) (are.early other rank few (λ none. some (ap (λ (l : Level). l.lots) now ∙ none)))
-  ];
-}
-
-pub ranked_set : (owners owners' : List (ℕ × Rungs)) (heads : List (Option Head)) (bank : ℕ) (new : Rungs) (head : Option Head) → AreRanked owners heads → length heads ≡ 64 → bank < 64
-    → Writes owners owners' bank new → IsHeadOf (level_at new) head → AreShort (level_at new) → AreRanked owners' (set heads bank head)
-ranked_set owners owners' heads bank new head are count few writes is short =
-    ranked_written owners owners' heads (set heads bank head) bank new are writes (λ other differ. get_or-set_other heads bank other head None differ)
-    (subst (IsHeadOf (level_at new)) (sym (get_or-set_same heads bank head None (omega (arith, count, few)))) is) short
-
--- no owners
-pub ranked_none : (owners : List (ℕ × Rungs)) (heads : List (Option Head)) → owners ≡ [] → heads ≡ replicate 64 None → AreRanked owners heads
-ranked_none owners heads none are = record {
-  heads_are = λ bank few.
-      subst (λ (hs : List (Option Head)). IsHeadOf (bank_level owners bank) (get_or hs bank None)) (sym are)
-      (subst (IsHeadOf (bank_level owners bank)) (sym (get_or-replicate 64 bank None None few)) (λ rank. ap (λ (os : List (ℕ × Rungs)). (bank_level os bank rank).lots) none));
-  low = λ bank rank few some. absurd (some (ap (λ (os : List (ℕ × Rungs)). (bank_level os bank rank).lots) none));
-  early = λ bank rank few some. absurd (some (ap (λ (os : List (ℕ × Rungs)). (bank_level os bank rank).lots) none));
-}
-
--- a best order has a word
-pub head_is : (levels : ℕ → Level) (head : Option Head) → AreShort levels → IsHeadOf levels head → IfSome head IsHead
-head_is levels None short none = tt
-head_is levels (Some head) short is = record {
-  rank = short.low head.rank is.0.some;
-  place = subst (λ (n : ℕ). n < 2 ^ 28) (sym is.1) (short.early head.rank is.0.some);
-}
-
--- no rank before the best order's has orders, also once an order behind it has gone
-pub none_before : (old new : ℕ → Level) (rank : ℕ) (level : Level) (head : Option Head) (from : ℕ) → (old rank).lots ≢ 0 → IsHeadOf old head → ((found : Head) → head ≡ Some found → from ≡ found.rank)
-    → ((at : ℕ) → new at ≡ with_level_at old rank level at) → (at : ℕ) → at < from → (new at).lots ≡ 0
-none_before old new rank level None from some none is changed at before = absurd (some (none rank))
-none_before old new rank level (Some head) from some is_head is changed at before =
-    let early : at < head.rank = omega (arith, before, is head refl) in
-    let empty : (old at).lots ≡ 0 = is_head.0.first at (omega arith) early in
-    elim (cases_eq at rank) [
-      | inl same ↦ absurd (some (ap (λ (r : ℕ). (old r).lots) (sym same) ∙ empty))
-      | inr differ ↦ ap (λ (l : Level). l.lots) (changed at ∙ at_other old rank at level differ) ∙ empty
-    ]
-
 -- the first place of a level that an order left
 pub first_short : (level : Level) (lots : ℕ) (before behind : Option ℕ) → level.first < 2 ^ 28 → IfSome behind (λ place. place < 2 ^ 28) → (without_order level lots before behind).first < 2 ^ 28
 first_short level lots before behind small fits = by_test (level.lots - lots == 0) before behind fits
@@ -299,6 +219,116 @@ first_come level place lots small fits =
     elim (cases_eq level.lots 0) [
       | inl none ↦ subst (λ (n : ℕ). n < 2 ^ 28) (sym (ap (λ (b : Bool). if b then place else level.first) (eq-eqb level.lots 0 none))) small
       | inr some ↦ subst (λ (n : ℕ). n < 2 ^ 28) (sym (ap (λ (b : Bool). if b then place else level.first) (ne_eqb level.lots 0 some))) (fits some)
+    ]
+
+-- what is known of a bank's own levels, before and after these change
+module _ {owners owners' : List (ℕ × Rungs)} {bank : ℕ} {old new : Rungs} (heads : List (Option Head)) (are : AreRanked owners heads) (few : bank < 64) (writes : Writes owners owners' bank old new) where
+  pub had_short : AreShort (level_at old)
+  had_short = record {
+    low = λ rank some. are.low bank rank few (λ none. some (ap (λ (l : Level). l.lots) (sym (had_level writes rank)) ∙ none));
+    early = λ rank some.
+        subst (λ (l : Level). l.first < 2 ^ 28) (had_level writes rank) (are.early bank rank few (λ none. some (ap (λ (l : Level). l.lots) (sym (had_level writes rank)) ∙ none)));
+  }
+
+  pub had_head : IsHeadOf (level_at old) (get_or heads bank None)
+  had_head = head_same (bank_level owners bank) (level_at old) (get_or heads bank None) (λ rank. sym (had_level writes rank)) (are.heads_are bank few)
+
+  -- an order went from one of them
+  pub short_left : (rank lots : ℕ) (before behind : Option ℕ) → (level_at old rank).lots ≢ 0 → ((at : ℕ) → level_at new at ≡ with_level_at (level_at old) rank (without_order (level_at old rank) lots before behind) at)
+      → IfSome behind (λ place. place < 2 ^ 28) → AreShort (level_at new)
+  short_left rank lots before behind some changed fits =
+      short_changed (level_at old) (level_at new) rank (without_order (level_at old rank) lots before behind) changed had_short (λ has. had_short.low rank some)
+      (λ has. first_short (level_at old rank) lots before behind (had_short.early rank some) fits)
+
+  -- the best orders, once one bank's levels are others and its best order was written down
+  pub ranked_written : (heads' : List (Option Head)) → ((other : ℕ) → other ≢ bank → get_or heads' other None ≡ get_or heads other None) → IsHeadOf (level_at new) (get_or heads' bank None)
+      → AreShort (level_at new) → AreRanked owners' heads'
+  ranked_written heads' kept is short = record {
+    heads_are = λ other small. elim (cases_eq other bank) [
+      | inl same ↦
+          subst (λ (k : ℕ). IsHeadOf (bank_level owners' k) (get_or heads' k None)) (sym same)
+          (head_same (level_at new) (bank_level owners' bank) (get_or heads' bank None) (λ rank. own_level writes rank) is)
+      | inr differ ↦
+          subst (IsHeadOf (bank_level owners' other)) (sym (kept other differ))
+          (head_same (bank_level owners other) (bank_level owners' other) (get_or heads other None) (λ rank. other_level writes other rank differ) (are.heads_are other small))
+    ];
+    low = λ other rank small some. elim (cases_eq other bank) [
+      | inl same ↦
+          let now : bank_level owners' other rank ≡ level_at new rank = ap (λ (k : ℕ). bank_level owners' k rank) same ∙ own_level writes rank in
+          short.low rank (λ none. some (ap (λ (l : Level). l.lots) now ∙ none))
+      | inr differ ↦ are.low other rank small (λ none. some (ap (λ (l : Level). l.lots) (other_level writes other rank differ) ∙ none))
+    ];
+    early = λ other rank small some. elim (cases_eq other bank) [
+      | inl same ↦
+          let now : bank_level owners' other rank ≡ level_at new rank = ap (λ (k : ℕ). bank_level owners' k rank) same ∙ own_level writes rank in
+          subst (λ (l : Level). l.first < 2 ^ 28) (sym now) (short.early rank (λ none. some (ap (λ (l : Level). l.lots) now ∙ none)))
+      | inr differ ↦
+          let now : bank_level owners' other rank ≡ bank_level owners other rank = other_level writes other rank differ in
+          subst (λ (l : Level). l.first < 2 ^ 28) (sym now) (are.early other rank small (λ none. some (ap (λ (l : Level). l.lots) now ∙ none)))
+    ];
+  }
+
+  pub ranked_set : (head : Option Head) → length heads ≡ 64 → IsHeadOf (level_at new) head → AreShort (level_at new) → AreRanked owners' (set heads bank head)
+  ranked_set head count is short =
+      ranked_written (set heads bank head) (λ other differ. get_or-set_other heads bank other head None differ)
+      (subst (IsHeadOf (level_at new)) (sym (get_or-set_same heads bank head None (omega (arith, count, few)))) is) short
+
+-- no owners
+pub ranked_none : (owners : List (ℕ × Rungs)) (heads : List (Option Head)) → owners ≡ [] → heads ≡ replicate 64 None → AreRanked owners heads
+ranked_none owners heads none are = record {
+  heads_are = λ bank few.
+      subst (λ (hs : List (Option Head)). IsHeadOf (bank_level owners bank) (get_or hs bank None)) (sym are)
+      (subst (IsHeadOf (bank_level owners bank)) (sym (get_or-replicate 64 bank None None few)) (λ rank. ap (λ (os : List (ℕ × Rungs)). (bank_level os bank rank).lots) none));
+  low = λ bank rank few some. absurd (some (ap (λ (os : List (ℕ × Rungs)). (bank_level os bank rank).lots) none));
+  early = λ bank rank few some. absurd (some (ap (λ (os : List (ℕ × Rungs)). (bank_level os bank rank).lots) none));
+}
+
+-- a bank got a ladder without orders
+module _ (owners owners' : List (ℕ × Rungs)) (bank : ℕ) (new : Rungs) (none : lookup (nat_eq bank) owners ≡ None)
+    (updates : (other : ℕ) → lookup (nat_eq other) owners' ≡ cond (nat_eq bank other) (Some new) (lookup (nat_eq other) owners)) where
+  pub new_written : ((at : ℕ) → level_at new at ≡ no_level) → (other at : ℕ) → bank_level owners' other at ≡ bank_level owners other at
+  new_written bare other at =
+      elim (cases_eq other bank) [
+        | inl equal ↦
+            ap (λ (k : ℕ). bank_level owners' k at) equal ∙ ap (λ (o : Option Rungs). level_in o at) (of_updates owners owners' bank new updates).0 ∙ bare at
+            ∙ sym (ap (λ (k : ℕ). bank_level owners k at) equal ∙ ap (λ (o : Option Rungs). level_in o at) none)
+        | inr differ ↦ ap (λ (o : Option Rungs). level_in o at) ((of_updates owners owners' bank new updates).1 other differ)
+      ]
+
+  pub new_others : (other at : ℕ) → other ≢ bank → bank_holds owners' other at ≡ bank_holds owners other at
+  new_others other at differ = ap (λ (o : Option Rungs). holds_in o at) ((of_updates owners owners' bank new updates).1 other differ)
+
+-- a best order has a word
+pub head_is : (levels : ℕ → Level) (head : Option Head) → AreShort levels → IsHeadOf levels head → IfSome head IsHead
+head_is levels None short none = tt
+head_is levels (Some head) short is = record {
+  rank = short.low head.rank is.0.some;
+  place = subst (λ (n : ℕ). n < 2 ^ 28) (sym is.1) (short.early head.rank is.0.some);
+}
+
+-- the word of a best order tells it
+pub told_by : (owners now : List (ℕ × Rungs)) (heads : List (Option Head)) (words : List ℕ) → owners ≡ now → AreRanked owners heads → length words ≡ 64
+    → ((bank : ℕ) → bank < 64 → get_or words bank 0 ≡ head_word bank (get_or heads bank None)) → AreHeadWords (bank_level now) words
+told_by owners now heads words seen are count tell = subst (λ (os : List (ℕ × Rungs)). AreHeadWords (bank_level os) words) seen (record {
+  count = count;
+  tell = λ bank few. record {
+    head = get_or heads bank None;
+    best = are.heads_are bank few;
+    fits = head_is (bank_level owners bank) (get_or heads bank None) (record { low = λ rank some. are.low bank rank few some; early = λ rank some. are.early bank rank few some }) (are.heads_are bank few);
+    is = tell bank few;
+  };
+})
+
+-- no rank before the best order's has orders, also once an order behind it has gone
+pub none_before : (old new : ℕ → Level) (rank : ℕ) (level : Level) (head : Option Head) (from : ℕ) → (old rank).lots ≢ 0 → IsHeadOf old head → ((found : Head) → head ≡ Some found → from ≡ found.rank)
+    → ((at : ℕ) → new at ≡ with_level_at old rank level at) → (at : ℕ) → at < from → (new at).lots ≡ 0
+none_before old new rank level None from some none is changed at before = absurd (some (none rank))
+none_before old new rank level (Some head) from some is_head is changed at before =
+    let early : at < head.rank = omega (arith, before, is head refl) in
+    let empty : (old at).lots ≡ 0 = is_head.0.first at (omega arith) early in
+    elim (cases_eq at rank) [
+      | inl same ↦ absurd (some (ap (λ (r : ℕ). (old r).lots) (sym same) ∙ empty))
+      | inr differ ↦ ap (λ (l : Level). l.lots) (changed at ∙ at_other old rank at level differ) ∙ empty
     ]
 
 -- the best of the best orders is the best of all that they are the best of
@@ -330,32 +360,9 @@ best_told owners now heads lines units (Some one) seen are least =
           best_of_one (bank_level owners other) (get_or heads other None) one.1 rank (are.heads_are other few) some (λ found is. least.first other found few pays is);
     })
 
--- a ladder was written whose levels are as they were
-pub same_written : (owners now owners' : List (ℕ × Rungs)) (bank : ℕ) (old new : Rungs) → owners ≡ now → lookup (nat_eq bank) owners ≡ Some old → Writes owners owners' bank new
-    → ((at : ℕ) → level_at new at ≡ level_at old at) → (other at : ℕ) → bank_level owners' other at ≡ bank_level now other at
-same_written owners now owners' bank old new seen had writes same other at =
-    elim (cases_eq other bank) [
-      | inl equal ↦
-          ap (λ (k : ℕ). bank_level owners' k at) equal ∙ own_level owners owners' bank new at writes ∙ same at ∙ sym (had_level owners bank old at had)
-          ∙ ap (λ (k : ℕ). bank_level owners k at) (sym equal)
-      | inr differ ↦ other_level owners owners' bank new other at writes differ
-    ]
-    ∙ ap (λ (os : List (ℕ × Rungs)). bank_level os other at) seen
-
--- a bank got a ladder without orders
-pub new_written : (owners owners' : List (ℕ × Rungs)) (bank : ℕ) (new : Rungs) → lookup (nat_eq bank) owners ≡ None → Writes owners owners' bank new
-    → ((at : ℕ) → level_at new at ≡ no_level) → (other at : ℕ) → bank_level owners' other at ≡ bank_level owners other at
-new_written owners owners' bank new none writes bare other at =
-    elim (cases_eq other bank) [
-      | inl equal ↦
-          ap (λ (k : ℕ). bank_level owners' k at) equal ∙ own_level owners owners' bank new at writes ∙ bare at
-          ∙ sym (ap (λ (k : ℕ). bank_level owners k at) equal ∙ ap (λ (o : Option Rungs). level_in o at) none)
-      | inr differ ↦ other_level owners owners' bank new other at writes differ
-    ]
-
 -- no level became another one
-pub ranked_same : (owners owners' : List (ℕ × Rungs)) (heads : List (Option Head)) → AreRanked owners heads → ((other at : ℕ) → bank_level owners' other at ≡ bank_level owners other at)
-    → AreRanked owners' heads
+pub ranked_same : (owners owners' : List (ℕ × Rungs)) (heads : List (Option Head)) → AreRanked owners heads
+    → ((other at : ℕ) → bank_level owners' other at ≡ bank_level owners other at) → AreRanked owners' heads
 ranked_same owners owners' heads are same = record {
   heads_are = λ bank few. head_same (bank_level owners bank) (bank_level owners' bank) (get_or heads bank None) (same bank) (are.heads_are bank few);
   low = λ bank rank few some. are.low bank rank few (λ none. some (ap (λ (l : Level). l.lots) (same bank rank) ∙ none));

@@ -6,8 +6,8 @@ use Rattle.std.proofs.lemmas.Option.{none-some}
 use Rattle.std.proofs.lemmas.List.{get_or-map, get_or-replicate, get_or-set_other, get_or-set_same}
 use Rattle.std.proofs.lemmas.Nat.Bits.{bit_at-lt, bit_at_above, bit_at_ones, bit_at_ones_above, bit_at_or, same_from_bits}
 use Rattle.access_index.specs.declared.words.Head.{Head}
-use Rattle.access_index.specs.Heads.{IsHead, IsLeastHead, IsUpTo}
-use Rattle.access_index.specs.inside.Words.{AreWords, IsLeastWord, head_of, word_of}
+use Rattle.access_index.specs.Heads.{IsHead, IsLeastHead, IsUpTo, head_word, word_of}
+use Rattle.access_index.specs.inside.Words.{AreWords, IsLeastWord, head_of}
 
 -- all bits set
 pub shut-word : (word : ℕ) → word < 2 ^ 64 → bit_or word (2 ^ 64 - 1) ≡ 2 ^ 64 - 1
@@ -121,3 +121,14 @@ words_set words at bank word long same are own fits = record {
 
 pub own_word : (head : Head) (bank : ℕ) → bank < 64 → word_of head bank % 64 ≡ bank
 own_word head bank small = omega (arith, small)
+
+-- a word is that of the order which it tells
+pub word_told : (words : List ℕ) (heads : List (Option Head)) (bank : ℕ) → length words ≡ 64 → map head_of words ≡ heads → AreWords words → bank < 64
+    → get_or words bank 0 ≡ head_word bank (get_or heads bank None)
+word_told words heads bank long seen are small =
+    let w : ℕ = get_or words bank 0 in
+    elim (cases_eq w (2 ^ 64 - 1)) [
+      | inl none ↦ none ∙ sym (ap (head_word bank) (read_head words heads bank long seen small ∙ none_of w none))
+      | inr some ↦
+          omega (arith, are.own bank small some) ∙ sym (ap (head_word bank) (read_head words heads bank long seen small ∙ some_of w some))
+    ]

@@ -1,10 +1,11 @@
 -- The levels of all owners of one side, and the best order of each and of those that can be reached.
-use Rattle.std.specs.Prelude.{ℕ, ◌≡◌, ◌≢◌, ◌≤◌, ◌<◌, ◌==◌, ◌⊎◌, if◌then◌else◌, nat_eq, Bool, false, List, Option, Some, None, slice_index}
+use Rattle.std.specs.Prelude.{ℕ, ◌≡◌, ◌≢◌, ◌≤◌, ◌<◌, ◌==◌, ◌⊎◌, if◌then◌else◌, nat_eq, Bool, false, List, length, Option, Some, None, slice_index, IfSome}
 use Rattle.std.specs.Map.{lookup}
 use Rattle.price_levels.specs.declared.level.Level.{Level}
 use Rattle.price_levels.specs.Rungs.{IsNextRank, Rungs, holds, level_at, with_level_at}
 use Rattle.price_levels.specs.Ticks.{no_level}
 use Rattle.access_index.specs.declared.words.Head.{Head}
+use Rattle.access_index.specs.Heads.{IsHead, head_word}
 
 abbrev pub level_in : Option Rungs → ℕ → Level
 level_in None rank = no_level
@@ -30,6 +31,18 @@ with_bank_level levels bank rank level other at = if other == bank then with_lev
 abbrev pub IsHeadOf : (ℕ → Level) → Option Head → Type 0
 IsHeadOf levels None = (rank : ℕ) → (levels rank).lots ≡ 0
 IsHeadOf levels (Some head) = IsNextRank levels 0 head.rank × (head.place ≡ (levels head.rank).first)
+
+-- a word is that of the best order of a bank's levels, if there is one
+pub record TellsHead (levels : ℕ → Level) (bank word : ℕ) : Type 0 where
+  pub head : Option Head
+  pub best : IsHeadOf levels head
+  pub fits : IfSome head IsHead
+  pub is : word ≡ head_word bank head
+
+-- there is a word for each bank, that of its best order
+pub record AreHeadWords (levels : ℕ → ℕ → Level) (words : List ℕ) : Type 0 where
+  pub count : length words ≡ 64
+  pub tell : (bank : ℕ) → bank < 64 → TellsHead (levels bank) bank (slice_index words bank)
 
 -- a bank's best order, of those with which a line of so many units at least is left, and no order of theirs is better
 pub record IsBestHead (owners : List (ℕ × Rungs)) (lines : List ℕ) (units bank : ℕ) (head : Head) : Type 0 where

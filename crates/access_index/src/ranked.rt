@@ -1,8 +1,9 @@
-ghost use Rattle.std.specs.Prelude.{ℕ, ◌≡◌, ◌≢◌, ◌+◌, ◌-◌, ◌≤◌, ◌<◌, ◌==◌, ◌^◌, ◌&&◌, None, true, if◌then◌else◌, nat_eq, slice_index, slice_index_or, IfOk, IfSome, OnOk};
+ghost use Rattle.std.specs.Prelude.{ℕ, ◌≡◌, ◌≢◌, ◌+◌, ◌-◌, ◌≤◌, ◌<◌, ◌==◌, ◌^◌, ◌&&◌, None, true, if◌then◌else◌, length, nat_eq, slice_index, slice_index_or, IfOk, IfSome, OnOk};
 ghost use Rattle.std.specs.Map.{lookup};
+ghost use Rattle.std.specs.Option.{option_copied};
 ghost use Rattle.price_levels.specs.Ticks.{last_of_level, no_level, with_order, without_order};
-ghost use Rattle.access_index.specs.Ranked.{IsBestHead, IsHeadOf, bank_holds, bank_level, with_bank_level};
-ghost use Rattle.access_index.specs.inside.Ranked.{head_with};
+ghost use Rattle.access_index.specs.Ranked.{AreHeadWords, IsBestHead, IsHeadOf, bank_holds, bank_level, with_bank_level};
+ghost use Rattle.access_index.specs.inside.Ranked.{AreNumbered, head_with};
 ghost use Rattle.price_levels.specs.Rungs.{IsNextRank, level_at};
 
 use crate::words::{Head, HeadWords};
@@ -13,25 +14,25 @@ use std::alloc::Global;
 use std::marker::Model;
 
 /// For each bank the levels of its orders of one side in one pair, by rank, and its best order in a word. Ranks are 10^9 at most.
-///
-/// A pair's book is to stand on it. Nothing calls it yet.
 #[derive(Drop)]
 pub struct RankedOwners {
     /// The ladders of the owners, in the order in which these came. None is taken out.
     ladders: IndexMap<BankId, Ladder>,
+    /// For each sender where its ladder stands among these, so that no look-up takes a hash.
+    numbers: [Option<u8>; BankId::SENDERS],
     heads: HeadWords,
 }
 
 impl Model for RankedOwners {
     ghost use Rattle.std.specs.Prelude.{ℕ, List};
     ghost use Rattle.price_levels.specs.Rungs.{Rungs};
-    ghost use Rattle.access_index.specs.inside.Ranked.{AreRanked};
+    ghost use Rattle.access_index.specs.inside.Ranked.{AreKept};
 
     ghost Value = { List (ℕ × Rungs) };
 
     ghost view = { λ r. r.ladders.entries };
 
-    ghost invariant = { λ r. AreRanked r.ladders.entries r.heads };
+    ghost invariant = { λ r. AreKept r.numbers r.ladders.entries r.heads };
 }
 
 impl RankedOwners {
@@ -41,15 +42,24 @@ impl RankedOwners {
     {
         Ok(RankedOwners {
             ladders: IndexMap::with_capacity(alloc, BankId::COUNT)?,
+            numbers: [None; BankId::SENDERS],
             heads: HeadWords::new(),
         })
+    }
+
+    /// The ladder of a bank; `None` where it has none.
+    fn ladder(&self, bank: BankId) -> Option<&Ladder>
+        ensures { option_copied result ≡ lookup (nat_eq bank) self.now }
+    {
+        let number = self.numbers[bank.index()]?;
+        Some(&self.ladders[usize::from(number)])
     }
 
     /// The level of a bank at a rank; one without orders where the bank has none there.
     pub fn level(&self, bank: BankId, rank: u32) -> Level
         ensures { result ≡ bank_level self.now bank rank }
     {
-        match self.ladders.get(&bank) {
+        match self.ladder(bank) {
             Some(ladder) => ladder.level(rank),
             None => Level::NONE,
         }
@@ -63,10 +73,11 @@ impl RankedOwners {
         ensures others { (other at : ℕ) → other ≢ bank → bank_holds self.new other at ≡ bank_holds self.old other at }
         ensures levels { (other at : ℕ) → bank_level self.new other at ≡ bank_level self.old other at }
     {
-        match self.ladders.get_mut(&bank) {
-            Some(ladder) => ladder.reserve(rank),
-            None => add_owner(&mut self.ladders, bank, rank),
-        }
+        let Some(number) = self.numbers[bank.index()] else {
+            return add_owner(&mut self.ladders, &mut self.numbers, bank, rank);
+        };
+        let ladder = &mut self.ladders[usize::from(number)];
+        ladder.reserve(rank)
     }
 
     /// An order of so many lots of a bank comes to rest at a rank that was made ready for it, behind all others there. Its place in the
@@ -82,7 +93,8 @@ impl RankedOwners {
         ensures holds { (other at : ℕ) → bank_holds self.new other at ≡ bank_holds self.old other at }
     {
         prove!(lots.count() > 0);
-        let ladder = self.ladders.get_mut(&bank).unwrap();
+        let number = self.numbers[bank.index()].unwrap();
+        let ladder = &mut self.ladders[usize::from(number)];
         let before = ladder.insert(rank, place, lots);
         let head = self.heads.of(bank);
         self.heads.set(bank, head_with(head, rank, place));
@@ -96,7 +108,8 @@ impl RankedOwners {
         ensures levels { (other at : ℕ) → bank_level self.new other at ≡ with_bank_level (bank_level self.old) bank rank (record (bank_level self.old bank rank) { lots = (bank_level self.old bank rank).lots - lots }) other at }
         ensures holds { (other at : ℕ) → bank_holds self.new other at ≡ bank_holds self.old other at }
     {
-        let ladder = self.ladders.get_mut(&bank).unwrap();
+        let number = self.numbers[bank.index()].unwrap();
+        let ladder = &mut self.ladders[usize::from(number)];
         ladder.lower(rank, lots);
     }
 
@@ -121,7 +134,8 @@ impl RankedOwners {
             Some(head) => head.rank,
             None => rank,
         };
-        let ladder = self.ladders.get_mut(&bank).unwrap();
+        let number = self.numbers[bank.index()].unwrap();
+        let ladder = &mut self.ladders[usize::from(number)];
         ladder.remove(rank, lots, before, behind);
         let head = head_from(ladder, from);
         self.heads.set(bank, head);
@@ -132,8 +146,27 @@ impl RankedOwners {
         ensures found { IfSome result (IsNextRank (bank_level self.now bank) from) }
         ensures none { result ≡ None → (rank : ℕ) → from ≤ rank → (bank_level self.now bank rank).lots ≡ 0 }
     {
-        let ladder = self.ladders.get(&bank)?;
-        ladder.next(from)
+        self.ladder(bank)?.next(from)
+    }
+
+    /// The level of a bank at a rank, and the first rank behind it with orders of the bank; `None` where there is none.
+    pub fn level_and_next(&self, bank: BankId, rank: u32) -> (Level, Option<u32>)
+        requires rank { rank ≤ 10 ^ 9 }
+        ensures level { result.0 ≡ bank_level self.now bank rank }
+        ensures found { IfSome result.1 (IsNextRank (bank_level self.now bank) (rank + 1)) }
+        ensures none { result.1 ≡ None → (other : ℕ) → rank < other → (bank_level self.now bank other).lots ≡ 0 }
+    {
+        match self.ladder(bank) {
+            Some(ladder) => (ladder.level(rank), ladder.next(rank + 1)),
+            None => (Level::NONE, None),
+        }
+    }
+
+    /// For each bank the word of its best order: its rank, its place and the bank in one number. All bits are set where it has none.
+    pub fn words(&self) -> &[u64; BankId::COUNT]
+        ensures { AreHeadWords (bank_level self.now) result.now }
+    {
+        self.heads.words()
     }
 
     /// The best order of a bank; `None` where it has none.
@@ -154,17 +187,28 @@ impl RankedOwners {
     }
 }
 
-/// A bank without a ladder gets one, on which an order can come to rest at a rank. At `Memory` each level is as it was.
-fn add_owner(ladders: &mut IndexMap<BankId, Ladder>, bank: BankId, rank: u32) -> Result<(), Memory>
+/// A bank without a ladder gets the next number, and a ladder on which an order can come to rest at a rank. At `Memory` each level is as
+/// it was.
+fn add_owner(
+    ladders: &mut IndexMap<BankId, Ladder>,
+    numbers: &mut [Option<u8>; BankId::SENDERS],
+    bank: BankId,
+    rank: u32,
+) -> Result<(), Memory>
+    requires bank { bank < 65 }
     requires rank { rank ≤ 10 ^ 9 }
-    requires absent { lookup (nat_eq bank) ladders.old.entries ≡ None }
+    requires numbered { AreNumbered numbers.old ladders.old.entries }
+    requires absent { slice_index_or numbers.old bank None ≡ None }
+    ensures numbered { AreNumbered numbers.new ladders.new.entries }
     ensures holds { OnOk result (bank_holds ladders.new.entries bank rank ≡ true) }
     ensures others { (other at : ℕ) → other ≢ bank → bank_holds ladders.new.entries other at ≡ bank_holds ladders.old.entries other at }
     ensures levels { (other at : ℕ) → bank_level ladders.new.entries other at ≡ bank_level ladders.old.entries other at }
 {
     let mut ladder = Ladder::new(*ladders.allocator());
     ladder.reserve(rank)?;
+    let number = ladders.len();
     ladders.insert(bank, ladder)?;
+    numbers[bank.index()] = Some(number as u8);
     Ok(())
 }
 

@@ -1,6 +1,6 @@
 ghost use Rattle.std.specs.Prelude.{ℕ, ◌≡◌, ◌-◌, ◌/◌, ◌%◌, ◌≤◌, ◌<◌, ◌^◌, None, if◌then◌else◌, length, replicate, slice_index, slice_index_or, slice_set, IfSome};
-ghost use Rattle.access_index.specs.Heads.{IsHead, IsLeastHead};
-ghost use Rattle.access_index.specs.inside.Words.{IsLeastWord, word_of};
+ghost use Rattle.access_index.specs.Heads.{IsHead, IsLeastHead, head_word, word_of};
+ghost use Rattle.access_index.specs.inside.Words.{IsLeastWord};
 
 use fx_amounts::BankId;
 use std::marker::Model;
@@ -69,6 +69,14 @@ impl HeadWords {
             return None;
         }
         Some(head_in(word))
+    }
+
+    /// The word of each bank's best order; all bits are set where it has none. The least is that of the best order.
+    pub fn words(&self) -> &[u64; BankId::COUNT]
+        ensures words { (bank : ℕ) → bank < 64 → slice_index result.now bank ≡ head_word bank (slice_index_or self.now bank None) }
+        ensures count { length result.now ≡ 64 }
+    {
+        &self.words
     }
 
     /// The best order of all banks with which a line of so many units at least is left, with its bank; `None` where none of these has an

@@ -2,47 +2,52 @@
 ghost use Rattle.std.specs.Prelude.{◌≡◌, ◌<◌, ◌≤◌, length};
 
 use crate::drawn::{Pair, drawn_pair, reach_of};
+use crate::plain::is_better;
 use fx_amounts::{BankId, Memory, Price, Side};
 use fx_rules::Resting;
 use global_book::PairBook;
-use price_levels::{Place, Steps, sorts_before};
+use price_levels::Steps;
 use std::alloc::Global;
 use std::marker::Brand;
 use std::sync::ledger::{Blank, Ledger};
 use std::test::Fail;
+use trial_days::{bank, lots, price};
 
-/// What a taker is looking for: a side, the lots of each bank that it reaches, and before which arrival.
+/// What a taker is looking for: a side, the lots of each bank that it reaches, a limit, and before which arrival.
 #[derive(Clone, Copy)]
 struct Search<'a> {
     side: Side,
     reach: &'a [u64],
+    limit: Option<Price>,
     before: u64,
 }
 
-/// The place of an order.
-fn place(order: &Resting) -> Place {
-    Place {
-        price: order.price,
-        arrival: order.arrival,
-        key: 0,
-    }
+/// Whether an order of a side stands behind another one, by price and then by arrival.
+fn is_behind(side: Side, past: &Resting, order: &Resting) -> bool {
+    is_better(side.opposite(), past.price, order.price)
+        || (order.price == past.price && past.arrival < order.arrival)
 }
 
-/// Whether an order is one of those that are looked for, and stands behind a place, where there is one.
-fn is_sought(search: &Search, past: &Option<Place>, order: &Resting) -> bool {
+/// Whether an order is one of those that are looked for, and stands behind another one, where there is one.
+fn is_sought(search: &Search, past: &Option<Resting>, order: &Resting) -> bool {
     let lots = match search.reach.get(order.bank.index()) {
         Some(lots) => *lots,
         None => 0,
     };
-    let is_behind = match past {
-        Some(past) => sorts_before(search.side, past, &place(order)),
+    let is_allowed = match search.limit {
+        Some(limit) => !is_better(search.side.opposite(), limit, order.price),
         None => true,
     };
-    order.side == search.side && order.arrival < search.before && lots > 0 && is_behind
+    let is_behind = match past {
+        Some(past) => is_behind(search.side, past, order),
+        None => true,
+    };
+    let is_in_time = order.arrival < search.before;
+    order.side == search.side && is_in_time && lots > 0 && is_allowed && is_behind
 }
 
 /// How many of the flat list's orders are looked for.
-fn count_sought(orders: &[Resting], search: &Search, past: &Option<Place>) -> usize {
+fn count_sought(orders: &[Resting], search: &Search, past: &Option<Resting>) -> usize {
     let mut count = 0usize;
     for order in orders {
         if is_sought(search, past, order) {
@@ -56,7 +61,7 @@ fn count_sought(orders: &[Resting], search: &Search, past: &Option<Place>) -> us
 fn count_found<L: Ledger>(
     book: &PairBook,
     search: &Search,
-    past: &Option<Place>,
+    past: &Option<Resting>,
     steps: &mut Steps<L>,
 ) -> Option<usize>
     requires one_each { length search.now.reach.now ≡ book.now.banks }
@@ -66,18 +71,18 @@ fn count_found<L: Ledger>(
         let next = book.best(
             search.side,
             search.reach,
-            None,
+            search.limit,
             search.before,
             last.as_ref(),
             steps,
         );
-        let Some((order, place)) = next else {
+        let Some(order) = next else {
             return Some(count);
         };
         if !is_sought(search, &last, &order) {
             return None;
         }
-        last = Some(place);
+        last = Some(order);
     }
     None
 }
@@ -86,7 +91,7 @@ fn count_found<L: Ledger>(
 fn is_found_alike<L: Ledger>(
     pair: &Pair,
     search: &Search,
-    past: &Option<Place>,
+    past: &Option<Resting>,
     steps: &mut Steps<L>,
 ) -> bool
     requires one_each { length search.now.reach.now ≡ pair.now.book.banks }
@@ -95,17 +100,20 @@ fn is_found_alike<L: Ledger>(
     found == Some(count_sought(&pair.orders, search, past))
 }
 
-/// A place at which no order stands.
-fn gap() -> Place {
-    Place {
-        price: Price::new(108_475).unwrap(),
+/// An order that rests in no book, behind all others at its price.
+fn gap(side: Side) -> Resting {
+    Resting {
+        bank: bank(0),
+        number: 1,
+        side,
+        price: price(108_475),
+        left: lots(1),
         arrival: u64::MAX,
-        key: 0,
     }
 }
 
-/// Whether a book finds what its list has, in three searches of a side: from the best order on, among the first thousand that
-/// arrived, and from a place at which none stands.
+/// Whether a book finds what its list has, in four searches of a side: from the best order on, within a limit, among the first thousand
+/// that arrived, and behind an order that does not rest.
 fn are_found_alike<L: Ledger>(
     alloc: Global,
     pair: &Pair,
@@ -117,22 +125,25 @@ fn are_found_alike<L: Ledger>(
 {
     let lots = reach_of(alloc, &pair.lines, taker, pair.book.banks())?;
     let reach = lots.as_slice();
-    let (all, early) = (
-        Search {
-            side,
-            reach,
-            before: u64::MAX,
-        },
-        Search {
-            side,
-            reach,
-            before: 1_000,
-        },
-    );
+    let all = Search {
+        side,
+        reach,
+        limit: None,
+        before: u64::MAX,
+    };
+    let near = Search {
+        limit: Some(price(108_520)),
+        ..all
+    };
+    let early = Search {
+        before: 1_000,
+        ..all
+    };
     Ok(
         is_found_alike(pair, &all, &None, steps)
+            && is_found_alike(pair, &near, &None, steps)
             && is_found_alike(pair, &early, &None, steps)
-            && is_found_alike(pair, &all, &Some(gap()), steps),
+            && is_found_alike(pair, &all, &Some(gap(side)), steps),
     )
 }
 

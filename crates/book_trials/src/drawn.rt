@@ -5,7 +5,7 @@ ghost use Rattle.fx_amounts.specs.Quantity.{IsLots};
 ghost use Rattle.fx_rules.specs.Lists.{Each};
 
 use credit_lines::CreditLines;
-use fx_amounts::{BankId, Memory, Side};
+use fx_amounts::{BankId, Memory, Price, Side};
 use fx_rules::Resting;
 use global_book::PairBook;
 use made_session::load_session;
@@ -27,7 +27,16 @@ pub(crate) struct Pair {
     ghost banks: { book.banks ≡ lines.banks },
 }
 
-/// The next order that is drawn: of one of so many banks, of either side, at two hundred prices, for up to nine lots.
+/// The next price that is drawn: one of two hundred, and every sixteenth time any price.
+fn drawn_price(draws: &mut Draws) -> Price {
+    if draws.below(16) == 0 {
+        price(1 + draws.below(u64::from(Price::MOST)) as u32)
+    } else {
+        price(108_400 + draws.below(200) as u32)
+    }
+}
+
+/// The next order that is drawn: of one of so many banks, of either side, for up to nine lots.
 pub(crate) fn taker(draws: &mut Draws, banks: u8, arrival: u32) -> Taker
     requires banks { (1 ≤ banks) × (banks ≤ 64) }
     requires arrival { arrival < 2 ^ 32 - 1 }
@@ -44,7 +53,7 @@ pub(crate) fn taker(draws: &mut Draws, banks: u8, arrival: u32) -> Taker
         bank: bank(draws.below(u64::from(banks)) as u8),
         number: arrival + 1,
         side,
-        price: price(108_400 + draws.below(200) as u32),
+        price: drawn_price(draws),
         lots: lots(1 + draws.below(9) as u32),
         arrival: u64::from(arrival),
     }
@@ -74,7 +83,7 @@ pub(crate) fn rest(book: &mut PairBook, order: &Resting) -> Result<(), Memory>
     ensures banks { book.new.banks ≡ book.old.banks }
     ensures behind { OnOk result (Each (λ other. (other.arrival < order.now.arrival + 1) × (other.number ≤ order.now.arrival + 1)) book.new.orders) }
 {
-    book.reserve(order.bank, order.side)?;
+    book.reserve(order.bank, order.side, order.price)?;
     book.rest(*order);
     Ok(())
 }

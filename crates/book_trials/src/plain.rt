@@ -16,7 +16,7 @@ pub(crate) struct Taken {
 }
 
 /// Whether a taker of this side would rather take the first price than the other.
-fn is_better(side: Side, price: Price, other: Price) -> bool {
+pub(crate) fn is_better(side: Side, price: Price, other: Price) -> bool {
     match side {
         Side::Buy => price < other,
         Side::Sell => price > other,

@@ -25,7 +25,7 @@ use Rattle.credit_raise.proofs.Raised.{turns-owners}
 
 -- ---- sides
 
-opposite_is : (a b : Side) → is_opposite a b ≡ true → b ≡ opposite a
+pub opposite_is : (a b : Side) → is_opposite a b ≡ true → b ≡ opposite a
 opposite_is Buy Buy is = absurd (false≢true is)
 opposite_is Buy Sell is = refl
 opposite_is Sell Buy is = refl

@@ -10,7 +10,8 @@ use Rattle.fx_rules.specs.Lists.{Among}
 use Rattle.fx_rules.specs.Sweep.{Taker, is_open, is_opposite, is_better, is_preferred, IsBest, open_in}
 use Rattle.fx_rules.proofs.ListLemmas.{Each-among, Each-of, Among-filter, among_filter}
 use Rattle.fx_rules.proofs.Opens.{is_open-says}
-use Rattle.global_book.specs.Book.{is_of, is_owned, owned}
+use Rattle.global_book.specs.Behind.{is_owned_behind, owned_behind}
+use Rattle.global_book.specs.Book.{is_of}
 use Rattle.credit_raise.specs.inside.Playing.{only}
 use Rattle.credit_raise.proofs.Apart.{none_in}
 
@@ -39,14 +40,14 @@ no_worse Sell price other best worse cross = le-leb price best (omega (arith, lt
 
 module _ (other lots : ℕ) (t : Taker) (orders : List Resting) where
   -- what is open is the other bank's, and crosses
-  open_owned : (o : Resting) → Among o (open_in (only other lots) t orders) → Among o (owned (opposite t.side) other t.arrival None orders) × (crosses t.side t.price o.price ≡ true)
+  open_owned : (o : Resting) → Among o (open_in (only other lots) t orders) → Among o (owned_behind (opposite t.side) other t.arrival None orders) × (crosses t.side t.price o.price ≡ true)
   open_owned o there =
       let found = Among-filter (λ (q : Resting). is_open t (only other lots q.bank) q) orders o there in
       let says = is_open-says t (only other lots o.bank) o found.1 in
       let owner : o.bank ≡ other = reached_is other lots o.bank (le-leb 1 (only other lots o.bank) says.reach) in
       let taker : Side = opposite (opposite t.side) in
       let sided : is_opposite taker o.side ≡ true = subst (λ (s : Side). is_opposite s o.side ≡ true) (sym (opposite_twice t.side)) says.opposite in (
-        among_filter (is_owned taker other t.arrival None) orders o found.0
+        among_filter (is_owned_behind taker other t.arrival None) orders o found.0
             (and_from (is_opposite taker o.side && is_of other o && ltb o.arrival t.arrival) true
             (and_from (is_opposite taker o.side && is_of other o) (ltb o.arrival t.arrival)
             (and_from (is_opposite taker o.side) (is_of other o) sided (eq-eqb o.bank other owner))
@@ -54,24 +55,24 @@ module _ (other lots : ℕ) (t : Taker) (orders : List Resting) where
         says.crosses,
       )
 
-  pub open-none : owned (opposite t.side) other t.arrival None orders ≡ [] → open_in (only other lots) t orders ≡ []
+  pub open-none : owned_behind (opposite t.side) other t.arrival None orders ≡ [] → open_in (only other lots) t orders ≡ []
   open-none none = none_in (open_in (only other lots) t orders) (λ o there. subst (λ (os : List Resting). Among o os) none (open_owned o there).0)
 
   -- the best of the other bank's does not cross
-  pub open-apart : (best : Resting) → IsBest (opposite (opposite t.side)) (owned (opposite t.side) other t.arrival None orders) best → crosses t.side t.price best.price ≡ false → open_in (only other lots) t orders ≡ []
+  pub open-apart : (best : Resting) → IsBest (opposite (opposite t.side)) (owned_behind (opposite t.side) other t.arrival None orders) best → crosses t.side t.price best.price ≡ false → open_in (only other lots) t orders ≡ []
   open-apart best is_best apart =
       none_in (open_in (only other lots) t orders) (λ o there.
       let is = open_owned o there in
       let worse : is_better t.side o.price best.price ≡ false = subst (λ (s : Side). is_better s o.price best.price ≡ false) (opposite_twice t.side)
       (not_better (opposite (opposite t.side)) o best
-      (Each-among (λ (q : Resting). is_preferred (opposite (opposite t.side)) q best ≡ false) (owned (opposite t.side) other t.arrival None orders) o is_best.first is.0)) in
+      (Each-among (λ (q : Resting). is_preferred (opposite (opposite t.side)) q best ≡ false) (owned_behind (opposite t.side) other t.arrival None orders) o is_best.first is.0)) in
       both_ways (crosses t.side t.price best.price) apart (no_worse t.side t.price o.price best.price worse is.1))
 
   -- it crosses, and the line pays for a lot
-  pub open-best : (best : Resting) → 1 ≤ lots → t.bank ≢ other → IsBest (opposite (opposite t.side)) (owned (opposite t.side) other t.arrival None orders) best → crosses t.side t.price best.price ≡ true → IsBest t.side (open_in (only other lots) t orders) best
+  pub open-best : (best : Resting) → 1 ≤ lots → t.bank ≢ other → IsBest (opposite (opposite t.side)) (owned_behind (opposite t.side) other t.arrival None orders) best → crosses t.side t.price best.price ≡ true → IsBest t.side (open_in (only other lots) t orders) best
   open-best best some differ is_best cross =
       let taker : Side = opposite (opposite t.side) in
-      let found = Among-filter (is_owned taker other t.arrival None) orders best is_best.there in
+      let found = Among-filter (is_owned_behind taker other t.arrival None) orders best is_best.there in
       let three = and_parts (is_opposite taker best.side && is_of other best && ltb best.arrival t.arrival) true found.1 in
       let two = and_parts (is_opposite taker best.side && is_of other best) (ltb best.arrival t.arrival) three.0 in
       let one = and_parts (is_opposite taker best.side) (is_of other best) two.0 in
@@ -88,5 +89,5 @@ module _ (other lots : ℕ) (t : Taker) (orders : List Resting) where
             (and_from (is_opposite t.side best.side) (not (eqb best.bank t.bank)) sided foreign) (le-leb 1 reach reached)) cross) two.1);
         first = Each-of (λ (q : Resting). is_preferred t.side q best ≡ false) (open_in (only other lots) t orders) (λ o there.
             subst (λ (s : Side). is_preferred s o best ≡ false) (opposite_twice t.side)
-            (Each-among (λ (q : Resting). is_preferred (opposite (opposite t.side)) q best ≡ false) (owned (opposite t.side) other t.arrival None orders) o is_best.first (open_owned o there).0));
+            (Each-among (λ (q : Resting). is_preferred (opposite (opposite t.side)) q best ≡ false) (owned_behind (opposite t.side) other t.arrival None orders) o is_best.first (open_owned o there).0));
       }

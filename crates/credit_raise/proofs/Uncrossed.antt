@@ -1,7 +1,6 @@
 -- Where the best prices of a book's two sides do not cross, no order's turn makes a fill; and which orders cross given prices.
-use Rattle.std.proofs.Common.{ℕ, ◌≡◌, ◌≤◌, Bool, true, false, List, [], ◌∷◌, ◌++◌, Option, Some, None, MatchOption, length, get_or, inl, inr, refl, ap, sym, subst, ◌∙◌, arith}
-use Rattle.std.proofs.lemmas.Bool.{both_ways, leb-true, le-leb, leb-false, ltb-false, false≢true}
-use Rattle.std.proofs.lemmas.List.{get_or_past}
+use Rattle.std.proofs.Common.{ℕ, ◌≡◌, ◌≢◌, ◌≤◌, ◌<◌, ◌-◌, ◌/◌, ◌^◌, ◌&&◌, Bool, true, false, List, [], ◌∷◌, ◌++◌, Option, Some, None, MatchOption, get_or, eqb, inl, inr, refl, ap, sym, subst, ◌∙◌, arith}
+use Rattle.std.proofs.lemmas.Bool.{and_parts, both_ways, cases_eq, cond-false, cond-true, eq-eqb, eqb-true, false≢true, le-leb, leb-true, ltb-false, ne_eqb}
 use Rattle.std.specs.List.{filter}
 use Rattle.fx_amounts.specs.Price.{IsPrice, crosses}
 use Rattle.fx_amounts.specs.Side.{opposite}
@@ -18,7 +17,9 @@ use Rattle.fx_rules.specs.Sound.{ArrivesBefore, IsKept}
 use Rattle.fx_rules.proofs.ListLemmas.{Each-among, Each-filter, EachPair-filter, Among-filter, filter_cons_true}
 use Rattle.fx_rules.proofs.Opens.{is_open-says, orders_in-among}
 use Rattle.fx_rules.proofs.RaiseSound.{find-says}
-use Rattle.global_book.specs.Book.{Book, IsBook, IsHeld, IsPriceOf}
+use Rattle.global_book.specs.Book.{Book, IsBook, IsHeld, IsPriceOf, is_of}
+use Rattle.global_book.specs.Room.{rank_of}
+use Rattle.global_book.specs.Words.{AreBestWords, word_price}
 use Rattle.credit_lines.specs.Credit.{Credit}
 use Rattle.credit_lines.specs.Market.{StandsFor}
 use Rattle.credit_raise.specs.declared.prices.Tops.{Tops}
@@ -26,7 +27,8 @@ use Rattle.credit_raise.specs.Turns.{TurnsEach}
 use Rattle.credit_raise.specs.inside.Turns.{bare}
 use Rattle.credit_raise.specs.inside.Prices.{AreTopsOfAll, IsOf, IsTop, IsWithin, crosses_tops, is_crossed}
 use Rattle.credit_raise.proofs.Apart.{none_in}
-use Rattle.credit_raise.proofs.Facing.{top-price}
+use Rattle.credit_raise.proofs.Facing.{opposite_is, top-price}
+use Rattle.credit_raise.proofs.Looking.{opposite_twice}
 
 -- ---- best prices
 
@@ -34,15 +36,6 @@ use Rattle.credit_raise.proofs.Facing.{top-price}
 pub within-keeps : (side : Side) (price first top : ℕ) → IsWithin side (Some price) (Some first) → IsWithin side (Some first) (Some top) → IsWithin side (Some price) (Some top)
 within-keeps Buy price first top one two = le-leb price top (omega (arith, leb-true price first one, leb-true first top two))
 within-keeps Sell price first top one two = le-leb top price (omega (arith, leb-true first price one, leb-true top first two))
-
-pub within-itself : (side : Side) (price : ℕ) → IsWithin side (Some price) (Some price)
-within-itself Buy price = le-leb price price (omega arith)
-within-itself Sell price = le-leb price price (omega arith)
-
--- of two prices that do not follow in one order the other order holds
-pub within-turned : (side : Side) (price top : ℕ) → crosses side top price ≡ false → IsWithin side (Some top) (Some price)
-within-turned Buy price top not_within = le-leb top price (omega (arith, leb-false price top not_within))
-within-turned Sell price top not_within = le-leb price top (omega (arith, leb-false top price not_within))
 
 -- a bank's order is no better than the bank's best price
 order_within : (bank : ℕ) (side : Side) (orders : List Resting) (o : Resting) (top : Option ℕ) → IsTop bank side orders top → IsOf bank side orders o → IsWithin side (Some o.price) top
@@ -55,16 +48,53 @@ within_trans side price None top one two = absurd one
 within_trans side price (Some first) None one two = absurd two
 within_trans side price (Some first) (Some top) one two = within-keeps side price first top one two
 
--- the best of all banks' best prices
-pub best-of-all : (side : Side) (orders : List Resting) (prices : List (Option ℕ)) (top : Option ℕ)
-    → ((bank : ℕ) → IsPriceOf (opposite side) bank None orders (get_or prices bank None)) → ((k : ℕ) → IsWithin side (get_or prices k None) top)
+-- the lower word tells the better price
+words_within : (side : Side) (least word : ℕ) → least ≤ word → word < 2 ^ 64 → IsWithin side (word_price side word) (word_price side least)
+words_within side least word below most =
+    elim (cases_eq word (2 ^ 64 - 1)) [
+      | inl none ↦ subst (λ p. IsWithin side p (word_price side least)) (sym (cond-true (eqb word (2 ^ 64 - 1)) None (Some (rank_of side (word / 2 ^ 34))) (eq-eqb word (2 ^ 64 - 1) none))) tt
+      | inr some ↦
+          let priced : (w : ℕ) → w ≢ 2 ^ 64 - 1 → word_price side w ≡ Some (rank_of side (w / 2 ^ 34))
+          = λ w there. cond-false (eqb w (2 ^ 64 - 1)) None (Some (rank_of side (w / 2 ^ 34))) (ne_eqb w (2 ^ 64 - 1) there) in
+          subst (λ p. IsWithin side p (word_price side least)) (sym (priced word some))
+          (subst (λ p. IsWithin side (Some (rank_of side (word / 2 ^ 34))) p) (sym (priced least (λ is. some (omega (arith, is, below, most)))))
+          (ranks_within side (least / 2 ^ 34) (word / 2 ^ 34) (omega (arith, below))))
+    ]
+  where
+    ranks_within : (side : Side) (best rank : ℕ) → best ≤ rank → IsWithin side (Some (rank_of side rank)) (Some (rank_of side best))
+    ranks_within Buy best rank below = le-leb (10 ^ 9 - rank) (10 ^ 9 - best) (omega (arith, below))
+    ranks_within Sell best rank below = le-leb best rank below
+
+-- a price at which a bank has orders is no better than the bank's best price
+price_within : (bank : ℕ) (side : Side) (orders : List Resting) (price top : Option ℕ) → IsPriceOf (opposite side) bank None orders price → IsTop bank side orders top → IsWithin side price top
+price_within bank side orders None top is best = tt
+price_within bank side orders (Some price) top is best =
+    let own = and_parts (is_of bank is.order && is_opposite (opposite side) is.order.side) true is.passes in
+    let its = and_parts (is_of bank is.order) (is_opposite (opposite side) is.order.side) own.0 in
+    subst (λ p. IsWithin side (Some p) top) is.price
+    (order_within bank side orders is.order top best (record {
+      rests = is.there;
+      owner = eqb-true is.order.bank bank its.0;
+      side_is = opposite_is (opposite side) is.order.side its.1 ∙ opposite_twice side;
+    }))
+
+-- the best price of the bank whose best order has the least word
+pub best-of-all : (side : Side) (orders : List Resting) (words : List ℕ) (first : ℕ) (top : Option ℕ) → AreBestWords side orders words → first < 64
+    → ((bank : ℕ) → bank < 64 → (get_or words first 0 ≤ get_or words bank 0) × (get_or words bank 0 < 2 ^ 64)) → IsTop first side orders top
     → (order : Resting) → Among order orders → order.side ≡ side → IsWithin side (Some order.price) top
-best-of-all side orders prices top each best order there side_is =
-    within_trans side order.price (get_or prices order.bank None) top
-    (order_within order.bank side orders order (get_or prices order.bank None)
-    (top-price order.bank side orders (get_or prices order.bank None) (each order.bank))
+best-of-all side orders words first top are within least best order there side_is =
+    let owner : order.bank < 64 = Each-among (λ (o : Resting). o.bank < 64) orders order are.owners there in
+    let own : Option ℕ = word_price side (get_or words order.bank 0) in
+    let low : Option ℕ = word_price side (get_or words first 0) in
+    within_trans side order.price own top
+    (order_within order.bank side orders order own (top-price order.bank side orders own (are.prices order.bank owner))
     (record { rests = there; owner = refl; side_is = side_is }))
-    (best order.bank)
+    (any_trans side own low top (words_within side (get_or words first 0) (get_or words order.bank 0) (least order.bank owner).0 (least order.bank owner).1)
+    (price_within first side orders low top (are.prices first within) best))
+  where
+    any_trans : (side : Side) (price first top : Option ℕ) → IsWithin side price first → IsWithin side first top → IsWithin side price top
+    any_trans side None first top one two = tt
+    any_trans side (Some price) first top one two = within_trans side price first top one two
 
 -- ---- nothing crosses
 
@@ -146,14 +176,7 @@ widest-turns book own credit lines weight tops orders fills all gathered pair_is
       weighs = fits.weighs ∙ ap (weight_of h) (sym pair_is);
     })))
 
--- ---- the best of some prices
-
-pub option_within : (side : Side) (price first top : Option ℕ) → IsWithin side price first → ((p : ℕ) → IsWithin side (Some p) first → IsWithin side (Some p) top) → IsWithin side price top
-option_within side None first top within keeps = tt
-option_within side (Some p) first top within keeps = keeps p within
-
-pub past_within : (side : Side) (prices : List (Option ℕ)) (k : ℕ) (top : Option ℕ) → length prices ≤ k → IsWithin side (get_or prices k None) top
-past_within side prices k top past = subst (λ p. IsWithin side p top) (sym (get_or_past prices k None past)) tt
+-- ---- a book of some of the orders
 
 -- a book of all orders that cross given prices, or of any others of a book in its order, is one
 pub kept-book : (book : Book) (test : Resting → Bool) (pair banks : ℕ) (orders : List Resting) → IsBook book → banks ≡ book.banks → orders ≡ filter test book.orders → IsBook (bare pair banks orders)

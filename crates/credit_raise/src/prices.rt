@@ -1,6 +1,7 @@
-ghost use Rattle.std.specs.Prelude.{◌≡◌, ℕ, true, Some, None, slice_index_or};
+ghost use Rattle.std.specs.Prelude.{◌≡◌, ◌≤◌, ◌<◌, ◌^◌, ℕ, true, Some, None, slice_index};
 ghost use Rattle.fx_amounts.specs.Price.{IsPrice};
 ghost use Rattle.fx_rules.specs.declared.orders.Resting.{Resting};
+ghost use Rattle.fx_rules.specs.Lists.{Among};
 ghost use Rattle.credit_raise.specs.inside.Prices.{AreTops, AreTopsOfAll, IsTop, IsWithin, crosses_tops, is_crossed, top_of, tops_meet};
 
 use fx_amounts::{BankId, Price, Side};
@@ -26,13 +27,13 @@ impl Tops {
         }
     }
 
-    /// Those of all banks together in a book. Two steps.
+    /// Those of all banks together in a book. Four steps at most.
     pub(crate) fn of_book<L: Ledger>(book: &PairBook, steps: &mut Steps<L>) -> Tops
         ensures tops { AreTopsOfAll book.now.orders result }
     {
         Tops {
-            buy: best_of(Side::Buy, book.best_prices(Side::Buy, steps)),
-            sell: best_of(Side::Sell, book.best_prices(Side::Sell, steps)),
+            buy: best_of(book, Side::Buy, steps),
+            sell: best_of(book, Side::Sell, steps),
         }
     }
 
@@ -93,26 +94,24 @@ fn top_of<L: Ledger>(
     book.next_price(bank, side, None, steps)
 }
 
-/// The best of some prices of a side; `None` where there is none.
-fn best_of(side: Side, prices: &[Option<Price>]) -> Option<Price>
-    ensures best { (k : ℕ) → IsWithin side (slice_index_or prices.now k None) result }
+/// The best price of all orders of a side; `None` where there is none. It is that of the bank whose best order has the least word.
+fn best_of<L: Ledger>(book: &PairBook, side: Side, steps: &mut Steps<L>) -> Option<Price>
+    ensures best { (order : Resting) → Among order book.now.orders → order.side ≡ side → IsWithin side (Some order.price) result }
 {
-    let mut best = None;
-    for price in prices {
-        best = better_of(side, best, *price);
-    }
-    best
+    let bank = least_of(book.best_words(side, steps));
+    top_of(book, bank, side, steps)
 }
 
-/// The better of two prices of a side, where there are both.
-fn better_of(side: Side, first: Option<Price>, second: Option<Price>) -> Option<Price>
-    ensures first { IsWithin side first result }
-    ensures second { IsWithin side second result }
-    ensures keeps { (price : ℕ) → IsWithin side (Some price) first → IsWithin side (Some price) result }
+/// The bank of the least word.
+fn least_of(words: &[u64; BankId::COUNT]) -> BankId
+    ensures bank { result < 64 }
+    ensures least { (bank : ℕ) → bank < 64 → (slice_index words.now result ≤ slice_index words.now bank) × (slice_index words.now bank < 2 ^ 64) }
 {
-    match (first, second) {
-        (Some(top), Some(price)) if !top.crosses(price, side) => second,
-        (Some(_), _) => first,
-        (None, _) => second,
+    let mut first = 0;
+    for bank in 0..BankId::COUNT {
+        if words[bank] < words[first] {
+            first = bank;
+        }
     }
+    BankId::at(first)
 }

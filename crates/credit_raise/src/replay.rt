@@ -76,7 +76,7 @@ impl Replay {
     {
         let left = self.sweep(order, other, steps)?;
         if let Some(left) = Lots::new(left) {
-            self.book.reserve(order.bank, order.side)?;
+            self.book.reserve(order.bank, order.side, order.price)?;
             self.book.rest(Resting { left, ..*order });
         }
         Ok(())
@@ -140,7 +140,7 @@ impl Replay {
             return None;
         }
         let side = order.side.opposite();
-        let (maker, _place) = self.book.best_of(other, side, order.arrival, None, steps)?;
+        let maker = self.book.best_of(other, side, order.arrival, None, steps)?;
         if !order.price.crosses(maker.price, order.side) {
             return None;
         }

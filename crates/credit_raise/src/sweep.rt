@@ -79,7 +79,7 @@ fn book_of(
 {
     let mut book = PairBook::new(alloc, pair, banks)?;
     for order in orders {
-        book.reserve(order.bank, order.side)?;
+        book.reserve(order.bank, order.side, order.price)?;
         book.rest(*order);
     }
     Ok(book)

@@ -43,45 +43,45 @@ module _ (P P' : ℕ → Type 0) where
     }
 
 -- An order of a level is at a place, before and after.
-order_is : (slots : List (Option Resting)) (place : ℕ) (a b : Resting) → get_or slots place None ≡ Some a → get_or slots place None ≡ Some b → a ≡ b
+pub order_is : (slots : List (Option Resting)) (place : ℕ) (a b : Resting) → get_or slots place None ≡ Some a → get_or slots place None ≡ Some b → a ≡ b
 order_is slots place a b one two = let it : Some a ≡ Some b = sym one ∙ two in cc
 
-order_within : (slots : List (Option Resting)) (place : ℕ) (order : Resting) → get_or slots place None ≡ Some order → place < length slots
+pub order_within : (slots : List (Option Resting)) (place : ℕ) (order : Resting) → get_or slots place None ≡ Some order → place < length slots
 order_within slots place order is =
     elim (cases_lt place (length slots)) [
       | inl within ↦ within
       | inr past ↦ let it : None ≡ Some order = sym (get_or_past slots place None past) ∙ is in cc
     ]
 
-end-new : (slots : List (Option Resting)) (slot : Option Resting) → get_or (slots ++ slot ∷ []) (length slots) None ≡ slot
+pub end-new : (slots : List (Option Resting)) (slot : Option Resting) → get_or (slots ++ slot ∷ []) (length slots) None ≡ slot
 end-new [] slot = refl
 end-new (other ∷ slots) slot = end-new slots slot
 
-end-others : (slots : List (Option Resting)) (slot : Option Resting) (place : ℕ) → place ≢ length slots → get_or (slots ++ slot ∷ []) place None ≡ get_or slots place None
+pub end-others : (slots : List (Option Resting)) (slot : Option Resting) (place : ℕ) → place ≢ length slots → get_or (slots ++ slot ∷ []) place None ≡ get_or slots place None
 end-others [] slot zero differ = absurd (differ refl)
 end-others [] slot (suc place) differ = refl
 end-others (other ∷ slots) slot zero differ = refl
 end-others (other ∷ slots) slot (suc place) differ = end-others slots slot place (λ same. differ (ap suc same))
 
-end-length : (slots : List (Option Resting)) (slot : Option Resting) → length (slots ++ slot ∷ []) ≡ suc (length slots)
+pub end-length : (slots : List (Option Resting)) (slot : Option Resting) → length (slots ++ slot ∷ []) ≡ suc (length slots)
 end-length [] slot = refl
 end-length (other ∷ slots) slot = ap suc (end-length slots slot)
 
-some_lots : (level : Level) (found : Option ℕ) → level.lots ≢ 0 → (if eqb level.lots 0 then None else found) ≡ found
+pub some_lots : (level : Level) (found : Option ℕ) → level.lots ≢ 0 → (if eqb level.lots 0 then None else found) ≡ found
 some_lots level found some = cond-false (eqb level.lots 0) None found (ne_eqb level.lots 0 some)
 
 no_lots : (level : Level) (found : Option ℕ) → level.lots ≡ 0 → (if eqb level.lots 0 then None else found) ≡ None
 no_lots level found none = cond-true (eqb level.lots 0) None found (eq-eqb level.lots 0 none)
 
 module _ (bank : ℕ) (side : Side) (price : ℕ) where
-  lots_at : (order : Resting) → is_level (opposite side) bank price order ≡ true → slot_lots bank side price (Some order) ≡ order.left
+  pub lots_at : (order : Resting) → is_level (opposite side) bank price order ≡ true → slot_lots bank side price (Some order) ≡ order.left
   lots_at order at = cond-true (is_level (opposite side) bank price order) order.left 0 at
 
-  lots_off : (order : Resting) → is_level (opposite side) bank price order ≡ false → slot_lots bank side price (Some order) ≡ 0
+  pub lots_off : (order : Resting) → is_level (opposite side) bank price order ≡ false → slot_lots bank side price (Some order) ≡ 0
   lots_off order off = cond-false (is_level (opposite side) bank price order) order.left 0 off
 
   -- what an order has left is a part of the sum
-  part_of_sum : (slots : List (Option Resting)) (place : ℕ) (order : Resting) → get_or slots place None ≡ Some order → is_level (opposite side) bank price order ≡ true
+  pub part_of_sum : (slots : List (Option Resting)) (place : ℕ) (order : Resting) → get_or slots place None ≡ Some order → is_level (opposite side) bank price order ≡ true
       → order.left + sum_by (slot_lots bank side price) (set slots place None) ≡ sum_by (slot_lots bank side price) slots
   part_of_sum slots place order is at =
       let counts = sum_by-set (slot_lots bank side price) slots place None None (order_within slots place order is) in
@@ -89,7 +89,7 @@ module _ (bank : ℕ) (side : Side) (price : ℕ) where
       omega (arith, counts, held)
 
   -- with no lots there is no order, and with some there is one
-  none_without : (slots : List (Option Resting)) → HaveLots (λ at. get_or slots at None) → sum_by (slot_lots bank side price) slots ≡ 0 → (place : ℕ) → IsOfLevel slots bank side price place → ⊥
+  pub none_without : (slots : List (Option Resting)) → HaveLots (λ at. get_or slots at None) → sum_by (slot_lots bank side price) slots ≡ 0 → (place : ℕ) → IsOfLevel slots bank side price place → ⊥
   none_without slots have none place in' =
       let part = part_of_sum slots place in'.order in'.is in'.at in
       let some : 0 < in'.order.left = omega (arith, (have place in'.order in'.is).0) in
@@ -385,17 +385,17 @@ module _ (bank : ℕ) (side : Side) (price : ℕ) where
           record { first = lowered_first (first_of_level level) is.first; last = lowered_last (last_of_level level) is.last; lots = omega (arith, counts, held, new, is.lots) }
 
 -- The neighbours that a list tells are those of the level.
-same_side : (a b : Side) → is_opposite (opposite a) b ≡ true → a ≡ b
+pub same_side : (a b : Side) → is_opposite (opposite a) b ≡ true → a ≡ b
 same_side Buy Buy is = refl
 same_side Buy Sell is = let it : false ≡ true = is in cc
 same_side Sell Buy is = let it : false ≡ true = is in cc
 same_side Sell Sell is = refl
 
-own_side : (a : Side) → is_opposite (opposite a) a ≡ true
+pub own_side : (a : Side) → is_opposite (opposite a) a ≡ true
 own_side Buy = refl
 own_side Sell = refl
 
-of-level : (slots : List (Option Resting)) (order : Resting) (place : ℕ) → IsInLevel (λ at. get_or slots at None) order place → IsOfLevel slots order.bank order.side order.price place
+pub of-level : (slots : List (Option Resting)) (order : Resting) (place : ℕ) → IsInLevel (λ at. get_or slots at None) order place → IsOfLevel slots order.bank order.side order.price place
 of-level slots order place in' = record {
   order = in'.order;
   is = in'.is;
@@ -405,7 +405,7 @@ of-level slots order place in' = record {
       (eq-eqb in'.order.price order.price (sym in'.alike.price));
 }
 
-in-level : (slots : List (Option Resting)) (order : Resting) (place : ℕ) → IsOfLevel slots order.bank order.side order.price place → IsInLevel (λ at. get_or slots at None) order place
+pub in-level : (slots : List (Option Resting)) (order : Resting) (place : ℕ) → IsOfLevel slots order.bank order.side order.price place → IsInLevel (λ at. get_or slots at None) order place
 in-level slots order place of =
     let outer = and_parts (eqb of.order.bank order.bank && is_opposite (opposite order.side) of.order.side) (eqb of.order.price order.price) of.at in
     let inner = and_parts (eqb of.order.bank order.bank) (is_opposite (opposite order.side) of.order.side) outer.0 in

@@ -1,22 +1,21 @@
 pub mod Sought
-mod Flat
-mod Rowing
-mod Searching
-mod Keeping
-mod Rooms
-mod Lifting
 pub mod Pulling
-mod Finding
-mod Turns
-mod Bests
-mod Gathering
 pub mod Within
-mod Levelling
-pub mod Levels
-mod Levelled
-mod Banks
-mod Summing
 pub mod Lowered
-mod Moving
+pub mod Late
 mod Ending
-pub mod Cursor
+mod Telling
+mod Preferring
+mod Linking
+mod Listing
+mod Booking
+mod Behind
+mod Pricing
+mod Owning
+mod Words
+mod Stepping
+mod Crossing
+mod Owned
+mod Packing
+mod Seeking
+mod Reached

@@ -67,13 +67,13 @@ none_later bank number o orders before is =
 
 -- The list of the orders as a key's order is lowered or goes.
 
-relotted-none : (bank number left : ℕ) (orders : List Resting) → NoneIs bank number orders → map (relotted bank number left) orders ≡ orders
+pub relotted-none : (bank number left : ℕ) (orders : List Resting) → NoneIs bank number orders → map (relotted bank number left) orders ≡ orders
 relotted-none bank number left [] none = refl
 relotted-none bank number left (o ∷ orders) none =
     ap (λ (p : Resting). p ∷ map (relotted bank number left) orders) (cond-false (is_order bank number o) (relot o left) o none.0)
     ∙ ap (λ (os : List Resting). o ∷ os) (relotted-none bank number left orders none.1)
 
-removed-none : (bank number : ℕ) (orders : List Resting) → NoneIs bank number orders → filter (λ (o : Resting). not (is_order bank number o)) orders ≡ orders
+pub removed-none : (bank number : ℕ) (orders : List Resting) → NoneIs bank number orders → filter (λ (o : Resting). not (is_order bank number o)) orders ≡ orders
 removed-none bank number [] none = refl
 removed-none bank number (o ∷ orders) none =
     filter_cons_true (λ (p : Resting). not (is_order bank number p)) o orders (not_from_false (is_order bank number o) none.0)

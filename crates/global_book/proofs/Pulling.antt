@@ -14,11 +14,10 @@ use Rattle.fx_rules.specs.Lists.{Among, Each, EachPair}
 use Rattle.fx_rules.specs.Sound.{ArrivesBefore}
 use Rattle.fx_rules.specs.Sweep.{IsBest, is_opposite, is_order}
 use Rattle.fx_rules.proofs.ListLemmas.{Each-among, Among-filter, among_filter, filter_filter, filter_agree_on, filter_cons_true, filter_cons_false}
-use Rattle.price_levels.specs.declared.place.Place.{Place}
-use Rattle.order_store.specs.Orders.{IsOf}
-use Rattle.global_book.specs.Book.{Book, IsHeld, IsBook, Rests, is_of, is_owned, owned}
-use Rattle.global_book.specs.inside.Rows.{is_own}
-use Rattle.global_book.proofs.Lifting.{is_order-yes, yes-is_order}
+use Rattle.fx_rules.proofs.Lowering.{is_order-from, is_order-says}
+use Rattle.global_book.specs.Behind.{is_owned_behind, owned_behind}
+use Rattle.global_book.specs.Book.{Book, IsHeld, IsBook, Rests, is_of}
+use Rattle.global_book.specs.inside.Owning.{is_own}
 
 and_true : (a b : Bool) → b ≡ true → (a && b) ≡ a
 and_true true b all = all
@@ -70,7 +69,7 @@ one_fewer p q (y ∷ ys) x rising (inr there) fails passes same =
     ]
 
 its_own : (order : Resting) → is_order order.bank order.number order ≡ true
-its_own order = yes-is_order order.bank order.number order (record { bank = refl; number = refl })
+its_own order = is_order-from order.bank order.number order refl refl
 
 pub rests_itself : (orders : List Resting) (order : Resting) → Among order orders → Rests orders order.bank order.number
 rests_itself orders order there = (order, there, its_own order)
@@ -78,8 +77,8 @@ rests_itself orders order there = (order, there, its_own order)
 -- another order is not the one that goes
 not_it : (orders : List Resting) (order o : Resting) → EachPair ArrivesBefore orders → Among order orders → Among o orders → (o ≡ order → ⊥) → not (is_order order.bank order.number o) ≡ true
 not_it orders order o rising there here differ = not_from_false (is_order order.bank order.number o) (false_from_ne_true (is_order order.bank order.number o) (λ same.
-    let it : IsOf order.bank order.number o = is_order-yes order.bank order.number o same in
-    differ (same_order orders o order rising here there it.bank it.number)))
+    let it = is_order-says order.bank order.number o same in
+    differ (same_order orders o order rising here there it.0 it.1)))
 
 -- without one order there is one less of those that pass a test that it passes
 pub one_less : (test : Resting → Bool) (orders : List Resting) (order : Resting) → EachPair ArrivesBefore orders → Among order orders → test order ≡ true
@@ -120,8 +119,8 @@ owned_same true false C all = refl
 owned_same false true C all = refl
 owned_same false false C all = refl
 
-pub owned_all : (book : Book) (side : Side) (bank : ℕ) → IsBook book → owned side bank (2 ^ 64) None book.orders ≡ filter (is_own bank side) book.orders
-owned_all book side bank valid = filter_agree_on (is_owned (opposite side) bank (2 ^ 64) None) (is_own bank side) book.orders (λ o there.
+pub owned_all : (book : Book) (side : Side) (bank : ℕ) → IsBook book → owned_behind side bank (2 ^ 64) None book.orders ≡ filter (is_own bank side) book.orders
+owned_all book side bank valid = filter_agree_on (is_owned_behind (opposite side) bank (2 ^ 64) None) (is_own bank side) book.orders (λ o there.
     owned_same (is_opposite (opposite side) o.side) (is_of bank o) (ltb o.arrival (2 ^ 64)) (lt-ltb o.arrival (2 ^ 64) (Each-among (IsHeld book.banks) book.orders o valid.held there).arrival_most))
 
 -- the best of them is one of them
@@ -129,10 +128,10 @@ pub record IsNext (bank : ℕ) (side : Side) (orders : List Resting) (order : Re
   pub there : Among order orders
   pub is_its : is_own bank side order ≡ true
 
-pub next_is : (book : Book) (side : Side) (bank : ℕ) (found : Option (Resting × Place)) (order : Resting) (place : Place) → IsBook book → found ≡ Some (order, place)
-    → IfSome found (λ f. IsBest (opposite side) (owned side bank (2 ^ 64) None book.orders) f.0) → IsNext bank side book.orders order
-next_is book side bank found order place valid is best =
-    let it : IsBest (opposite side) (owned side bank (2 ^ 64) None book.orders) order = subst (λ (f : Option (Resting × Place)). IfSome f (λ f. IsBest (opposite side) (owned side bank (2 ^ 64) None book.orders) f.0)) is best in
+pub next_is : (book : Book) (side : Side) (bank : ℕ) (found : Option Resting) (order : Resting) → IsBook book → found ≡ Some order
+    → IfSome found (IsBest (opposite side) (owned_behind side bank (2 ^ 64) None book.orders)) → IsNext bank side book.orders order
+next_is book side bank found order valid is best =
+    let it : IsBest (opposite side) (owned_behind side bank (2 ^ 64) None book.orders) order = subst (λ (f : Option Resting). IfSome f (IsBest (opposite side) (owned_behind side bank (2 ^ 64) None book.orders))) is best in
     let both = Among-filter (is_own bank side) book.orders order (subst (Among order) (owned_all book side bank valid) it.there) in
     record { there = both.0; is_its = both.1 }
 
@@ -174,7 +173,7 @@ sides_count bank (x ∷ xs) =
     ]
 
 -- the bank's orders of both sides
-pub owned_count : (book : Book) (bank : ℕ) → IsBook book → length (owned Buy bank (2 ^ 64) None book.orders) + length (owned Sell bank (2 ^ 64) None book.orders) ≡ length (filter (is_of bank) book.orders)
+pub owned_count : (book : Book) (bank : ℕ) → IsBook book → length (owned_behind Buy bank (2 ^ 64) None book.orders) + length (owned_behind Sell bank (2 ^ 64) None book.orders) ≡ length (filter (is_of bank) book.orders)
 owned_count book bank valid =
     omega (
       arith,

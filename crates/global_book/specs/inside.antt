@@ -1,5 +1,8 @@
-pub mod Levels
-pub mod Moves
-pub mod Rows
-pub mod Search
 pub mod Ends
+pub mod Linked
+pub mod Bests
+pub mod Late
+pub mod Owning
+pub mod Crossing
+pub mod Ahead
+pub mod Reaching

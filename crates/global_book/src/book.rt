@@ -1,59 +1,56 @@
-ghost use Rattle.std.specs.Prelude.{◌≡◌, ◌+◌, ◌≤◌, ◌<◌, ◌^◌, ◌↔◌, List, [], ◌∷◌, ℕ, ◌++◌, Some, None, not, map, filter, length, true, false, slice_get, slice_index_or, vec_capacity, vec_len, All, IsPermutation, OnErr, OnOk, IfOk, IfSome, IsSome};
-ghost use Rattle.std.specs.Option.{option_copied, option_map};
+mod reaching;
+
+ghost use Rattle.std.specs.Prelude.{◌≡◌, ◌+◌, ◌≤◌, ◌<◌, ◌^◌, ◌↔◌, ◌++◌, ◌∷◌, [], ℕ, None, true, false, filter, length, map, not, IfOk, IfSome, IsSome, IsSomeAnd, OnOk};
+ghost use Rattle.std.specs.Option.{option_copied};
 ghost use Rattle.fx_amounts.specs.Price.{crosses};
 ghost use Rattle.fx_amounts.specs.Side.{opposite};
-ghost use Rattle.fx_rules.specs.Lists.{Among, Each};
-ghost use Rattle.fx_rules.specs.declared.orders.Resting.{Resting};
-ghost use Rattle.access_index.specs.Owned.{allows};
-ghost use Rattle.access_index.specs.Sides.{OwnRows};
-ghost use Rattle.order_store.specs.Orders.{order_at};
+ghost use Rattle.fx_rules.specs.Lists.{Each};
 ghost use Rattle.fx_rules.specs.Sweep.{IsBest, is_order};
-ghost use Rattle.global_book.specs.Book.{AreInTime, AreOwners, HasRoom, KeepsRoom, IsBook, IsPlaceOf, IsPriceOf, Rests, RestsAbove, crossing, first, is_of, is_of_from, levels_of, TakesRoom, owned, relotted, sought};
+ghost use Rattle.order_store.specs.Orders.{order_at};
+ghost use Rattle.global_book.specs.Behind.{IsCursor, owned_behind};
+ghost use Rattle.global_book.specs.Book.{AreInTime, AreOwners, IsBook, IsPriceOf, Rests, RestsAbove, first, is_of, is_of_from, relotted};
 ghost use Rattle.global_book.specs.Lowered.{lowered_in};
-ghost use Rattle.global_book.specs.inside.Moves.{AreOfOneBook, Moves};
-ghost use Rattle.global_book.specs.inside.Search.{end_of, orders_at};
-ghost use Rattle.global_book.specs.inside.Rows.{is_own};
+ghost use Rattle.global_book.specs.Room.{HasRoom, KeepsOtherRoom, KeepsRoom, TakesRoom};
+ghost use Rattle.global_book.specs.inside.Bests.{from_rank};
+ghost use Rattle.global_book.specs.inside.Linked.{AreKept, Becomes, orders_in};
+ghost use Rattle.global_book.specs.inside.Owning.{is_own};
 
-use crate::bank_levels::BankLevels;
-use access_index::{Owners, best_of};
-use fx_amounts::{BankId, Lots, Memory, PairId, Price, Side};
+use crate::linked::LinkedOrders;
+use crate::side_ladders::rank_of;
+use fx_amounts::{BankId, Lots, Memory, PairId, Price, Side, room_for};
 use fx_rules::Resting;
-use order_store::{OrderKey, OrderStore};
-use price_levels::{Place, Steps};
+use price_levels::Steps;
 use std::alloc::Global;
-use std::marker::{Brand, Model};
-use std::sync::ledger::{Blank, Ledger};
+use std::marker::Model;
+use std::sync::ledger::Ledger;
 
-/// The orders that rest in one pair. Contracts see them as a list in arrival order.
+/// The orders that rest in one pair, in a list by arrival, with a ladder of levels for each bank and side. Contracts see them as a list in
+/// arrival order.
 #[derive(Drop)]
 pub struct PairBook {
     pair: PairId,
     banks: usize,
-    orders: OrderStore,
-    /// For each bank the places of its orders, by side and price.
-    rows: Owners,
-    /// For each bank the levels of its orders, by side.
-    levels: BankLevels,
+    linked: LinkedOrders,
 }
 
 impl Model for PairBook {
     ghost use Rattle.global_book.specs.Book.{Book};
-    ghost use Rattle.global_book.specs.inside.Rows.{IsStored, flat, rooms};
+    ghost use Rattle.global_book.specs.inside.Linked.{AreKept, orders_in, room_in};
 
     ghost Value = { Book };
 
     ghost view = { λ b. record {
       pair = b.pair;
       banks = b.banks;
-      orders = flat b.orders.slots;
-      room = rooms b.orders.room b.rows b.levels;
+      orders = orders_in b.linked;
+      room = room_in b.linked;
     } };
 
-    ghost invariant = { λ b. IsStored b.banks b.orders b.rows b.levels };
+    ghost invariant = { λ b. AreKept b.banks b.linked };
 }
 
 impl PairBook {
-    /// The book of a pair for so many banks, with no orders and no room for any. `Memory` when out of memory.
+    /// The book of a pair for so many banks, 64 at most, with no orders and no room for any. `Memory` when out of memory.
     pub fn new(alloc: Global, pair: PairId, banks: usize) -> Result<PairBook, Memory>
         ensures pair { IfOk result (λ book. book.pair ≡ pair) }
         ensures banks { IfOk result (λ book. book.banks ≡ banks) }
@@ -62,9 +59,7 @@ impl PairBook {
         Ok(PairBook {
             pair,
             banks,
-            orders: OrderStore::new(alloc, banks)?,
-            rows: Owners::new(alloc, banks)?,
-            levels: BankLevels::new(alloc, banks)?,
+            linked: LinkedOrders::new(alloc, banks.min(BankId::COUNT))?,
         })
     }
 
@@ -89,7 +84,7 @@ impl PairBook {
         ensures count { result ≡ length self.now.orders }
         ensures valid { IsBook self.now }
     {
-        self.orders.len()
+        self.linked.len()
     }
 
     /// The banks that have an order in the book, each once, from the lowest number on.
@@ -97,49 +92,53 @@ impl PairBook {
         ensures owners { AreOwners self.now result.now }
         ensures valid { IsBook self.now }
     {
-        self.rows.listed()
+        self.linked.owners()
     }
 
-    /// Makes room for one order more of a bank and a side. At `Memory` there may be none.
-    pub fn reserve(&mut self, bank: BankId, side: Side) -> Result<(), Memory>
-        requires bank { bank < self.old.banks }
-        ensures has_room { OnOk result (HasRoom self.new bank side) }
-        ensures room { KeepsRoom self.old self.new }
+    /// Takes the places of orders that are gone out of the list, once these are more than half of it. All room may go. At `Memory` the book
+    /// is as it was.
+    pub fn pack(&mut self) -> Result<(), Memory>
         ensures pair { self.new.pair ≡ self.old.pair }
         ensures banks { self.new.banks ≡ self.old.banks }
         ensures orders { self.new.orders ≡ self.old.orders }
         ensures valid { IsBook self.new }
     {
-        prove!(bank.index() < BankId::SENDERS);
-        self.orders.reserve(bank)?;
-        self.rows.reserve(bank, side)?;
-        self.levels.reserve(bank, side)
+        if self.linked.is_sparse() {
+            self.linked.pack()?;
+        }
+        Ok(())
     }
 
-    /// An order comes to rest, behind all others. It takes room that was made for its bank and side; of all other room
-    /// at most one place goes with it.
+    /// Makes room for one order more of a bank and a side at a price. Other prices of the bank and the side may have no room then. At `Memory`
+    /// there may be none; there is never any for the operator, who has no orders.
+    pub fn reserve(&mut self, bank: BankId, side: Side, price: Price) -> Result<(), Memory>
+        requires bank { bank < self.old.banks }
+        ensures has_room { OnOk result (HasRoom self.new.room bank side price) }
+        ensures room { KeepsOtherRoom self.old.room self.new.room bank side }
+        ensures pair { self.new.pair ≡ self.old.pair }
+        ensures banks { self.new.banks ≡ self.old.banks }
+        ensures orders { self.new.orders ≡ self.old.orders }
+        ensures valid { IsBook self.new }
+    {
+        if bank.index() >= self.banks.min(BankId::COUNT) {
+            return room_for(usize::MAX, 1).map(|_| ());
+        }
+        self.linked.reserve(bank, side, price)
+    }
+
+    /// An order comes to rest, behind all others, where room was made for it. It takes no memory, and of the places for each bank one at most.
     pub fn rest(&mut self, order: Resting)
-        requires room { HasRoom self.old order.bank order.side }
+        requires room { HasRoom self.old.room order.bank order.side order.price }
         requires last { Each (λ other. other.arrival < order.arrival) self.old.orders }
         requires number { 1 ≤ order.number }
         requires absent { Each (λ other. is_order order.bank order.number other ≡ false) self.old.orders }
         ensures pair { self.new.pair ≡ self.old.pair }
         ensures banks { self.new.banks ≡ self.old.banks }
         ensures orders { self.new.orders ≡ self.old.orders ++ order ∷ [] }
-        ensures room { TakesRoom self.old self.new }
+        ensures room { TakesRoom self.old.room self.new.room }
         ensures valid { IsBook self.new }
     {
-        let Resting {
-            bank,
-            side,
-            price,
-            left,
-            arrival,
-            ..
-        } = order;
-        self.levels.add(bank, side, price, left, self.orders.len());
-        let key = self.orders.add(order).0;
-        self.rows.insert(bank, side, place_of(price, arrival, key));
+        self.linked.rest(order);
     }
 
     /// The order of this bank and number; `None` where none rests. One step.
@@ -154,8 +153,8 @@ impl PairBook {
         ensures valid { IsBook self.now }
     {
         steps.tick();
-        let key = self.orders.find(bank, number)?;
-        Some(self.orders.get(key))
+        let place = self.linked.find(bank, number)?;
+        Some(self.linked.order(place))
     }
 
     /// The order of this bank and number has so many lots left from now on, fewer than it had. It keeps its place.
@@ -164,12 +163,11 @@ impl PairBook {
         ensures pair { self.new.pair ≡ self.old.pair }
         ensures banks { self.new.banks ≡ self.old.banks }
         ensures orders { self.new.orders ≡ map (relotted bank number left) self.old.orders }
-        ensures room { KeepsRoom self.old self.new }
+        ensures room { KeepsRoom self.old.room self.new.room }
         ensures valid { IsBook self.new }
     {
-        let key = self.orders.find(bank, number).unwrap();
-        let order = self.orders.get(key);
-        lower_at(&mut self.orders, &mut self.levels, key, &order, left);
+        let place = self.linked.find(bank, number).unwrap();
+        self.linked.lower(place, left);
     }
 
     /// Takes the order of this bank and number out.
@@ -178,11 +176,11 @@ impl PairBook {
         ensures pair { self.new.pair ≡ self.old.pair }
         ensures banks { self.new.banks ≡ self.old.banks }
         ensures orders { self.new.orders ≡ filter (λ order. not (is_order bank number order)) self.old.orders }
-        ensures room { KeepsRoom self.old self.new }
+        ensures room { KeepsRoom self.old.room self.new.room }
         ensures valid { IsBook self.new }
     {
-        let key = self.orders.find(bank, number).unwrap();
-        remove_at(&mut self.orders, &mut self.rows, &mut self.levels, key);
+        let place = self.linked.find(bank, number).unwrap();
+        self.linked.remove(place);
     }
 
     /// Takes so many lots from the order of this bank and number, where it rests, with one search for it; with nothing left it
@@ -191,16 +189,16 @@ impl PairBook {
         ensures pair { self.new.pair ≡ self.old.pair }
         ensures banks { self.new.banks ≡ self.old.banks }
         ensures orders { self.new.orders ≡ lowered_in bank number lots self.old.orders }
-        ensures room { KeepsRoom self.old self.new }
+        ensures room { KeepsRoom self.old.room self.new.room }
         ensures valid { IsBook self.new }
     {
-        let Some(key) = self.orders.find(bank, number) else {
+        let Some(place) = self.linked.find(bank, number) else {
             return;
         };
-        let order = self.orders.get(key);
+        let order = self.linked.order(place);
         match Lots::new(order.left.count().saturating_sub(lots.count())) {
-            Some(left) => lower_at(&mut self.orders, &mut self.levels, key, &order, left),
-            None => remove_at(&mut self.orders, &mut self.rows, &mut self.levels, key),
+            Some(left) => self.linked.lower(place, left),
+            None => self.linked.remove(place),
         }
     }
 
@@ -210,48 +208,42 @@ impl PairBook {
         ensures pair { self.new.pair ≡ self.old.pair }
         ensures banks { self.new.banks ≡ self.old.banks }
         ensures orders { self.new.orders ≡ filter (λ order. not (is_of bank order)) self.old.orders }
-        ensures room { KeepsRoom self.old self.new }
+        ensures room { KeepsRoom self.old.room self.new.room }
         ensures valid { IsBook self.new }
     {
-        self.pull_counted::<Brand>(bank, Blank::new(1))
-    }
-
-    /// Takes all orders of a bank out, side by side, with a ledger for the steps of its searches.
-    fn pull_counted<L: Ledger>(&mut self, bank: BankId, blank: Blank) -> u32
-        requires name { blank.name ≡ L.name }
-        requires parts { blank.parts ≡ L.parts }
-        requires some { 0 < blank.parts }
-        ensures count { result ≡ length (filter (is_of bank) self.old.orders) }
-        ensures pair { self.new.pair ≡ self.old.pair }
-        ensures banks { self.new.banks ≡ self.old.banks }
-        ensures orders { self.new.orders ≡ filter (λ order. not (is_of bank order)) self.old.orders }
-        ensures room { KeepsRoom self.old self.new }
-        ensures valid { IsBook self.new }
-    {
-        let mut steps = Steps::<L>::new(blank);
-        let buys = self.pull_side(bank, Side::Buy, &mut steps);
-        let sells = self.pull_side(bank, Side::Sell, &mut steps);
+        let buys = self.pull_side(bank, Side::Buy);
+        let sells = self.pull_side(bank, Side::Sell);
         buys + sells
     }
 
     /// Takes a bank's orders of a side out, from the best one on, and answers how many they were.
-    fn pull_side<L: Ledger>(&mut self, bank: BankId, side: Side, steps: &mut Steps<L>) -> u32
+    fn pull_side(&mut self, bank: BankId, side: Side) -> u32
         ensures count { result ≡ length (filter (is_own bank side) self.old.orders) }
         ensures pair { self.new.pair ≡ self.old.pair }
         ensures banks { self.new.banks ≡ self.old.banks }
         ensures orders { self.new.orders ≡ filter (λ order. not (is_own bank side order)) self.old.orders }
-        ensures room { KeepsRoom self.old self.new }
+        ensures room { KeepsRoom self.old.room self.new.room }
         ensures was_valid { IsBook self.old }
         ensures valid { IsBook self.new }
     {
         let mut count = 0;
-        let mut next = self.next_best(bank, side, None, steps);
-        while let Some((order, _)) = next {
+        let mut next = self.best_own(bank, side);
+        while let Some(order) = next {
             self.remove(order.bank, order.number);
             count += 1;
-            next = self.next_best(bank, side, None, steps);
+            next = self.best_own(bank, side);
         }
         count
+    }
+
+    /// The best order of a bank and a side; `None` where there is none.
+    fn best_own(&self, bank: BankId, side: Side) -> Option<Resting>
+        ensures none { (result ≡ None) ↔ (owned_behind side bank (2 ^ 64) None self.now.orders ≡ []) }
+        ensures best { IfSome result (IsBest (opposite side) (owned_behind side bank (2 ^ 64) None self.now.orders)) }
+        ensures valid { IsBook self.now }
+    {
+        let place = self.linked.best_behind(bank, side, None)?;
+        Some(self.linked.order(place))
     }
 
     /// The first order of a bank that arrived at or after this; `None` where there is none. It looks at all orders of the book: one
@@ -267,158 +259,83 @@ impl PairBook {
         ensures valid { IsBook self.now }
     {
         count_looks(self.len(), steps);
-        self.orders.earliest_of(bank, after)
+        let place = self.linked.next_of(bank, after)?;
+        Some(self.linked.order(place))
     }
 
-    /// The best order of a side, and its place, among those whose owner can be reached for a lot at least, that the limit
-    /// allows, that arrived before `before` and that stand behind the place `past`; without a limit any price is allowed,
-    /// and without a place all are looked at. `None` where there is no such order. `reach` has the lots for each bank. Where
-    /// all orders of the side arrived in time, it takes one step for each bank at most.
-    pub fn best<L: Ledger>(
+    /// The best order of a bank and a side behind the order `past`, whenever it arrived; without `past` all of them are looked at. `None`
+    /// where there is no such order. One step.
+    pub fn next_best<L: Ledger>(
         &self,
+        bank: BankId,
         side: Side,
-        reach: &[u64],
-        limit: Option<Price>,
-        before: u64,
-        past: Option<&Place>,
+        past: Option<&Resting>,
         steps: &mut Steps<L>,
-    ) -> Option<(Resting, Place)>
-        requires one_each { length reach.now ≡ self.now.banks }
-        ensures none { (result ≡ None) ↔ (sought side reach.now limit before (option_copied past.entry) self.now.orders ≡ []) }
-        ensures best { IfSome result (λ found. IsBest (opposite side) (sought side reach.now limit before (option_copied past.entry) self.now.orders) found.0) }
-        ensures place { IfSome result (λ found. IsPlaceOf found.0 found.1) }
-        ensures steps { AreInTime side before self.now.orders → steps.new ≤ steps.old + self.now.banks }
+    ) -> Option<Resting>
+        requires past { IfSome (option_copied past) (IsCursor self.now.orders bank side) }
+        ensures none { (result ≡ None) ↔ (owned_behind side bank (2 ^ 64) (option_copied past.entry) self.now.orders ≡ []) }
+        ensures best { IfSome result (λ found. IsBest (opposite side) (owned_behind side bank (2 ^ 64) (option_copied past.entry) self.now.orders) found) }
+        ensures step { steps.new ≡ steps.old + 1 }
         ensures valid { IsBook self.now }
     {
-        let (_, place) = best_of(&self.rows, side, reach, limit, before, past, steps)?;
-        Some((self.orders.get(OrderKey(place.key)), place))
+        steps.tick();
+        let place = self.linked.best_behind(bank, side, past)?;
+        Some(self.linked.order(place))
     }
 
-    /// The best order of a bank and a side, and its place, among those that arrived before `before` and stand behind the
-    /// place `past`; without a place all of them are looked at. `None` where there is no such order. One step for it, and
-    /// one for each order that arrived too late.
+    /// The best order of a bank and a side, among those that arrived before `before` and stand behind the order `past`; without `past` all
+    /// of them are looked at. `None` where there is no such order. One step for it, and one for each order that arrived too late.
     pub fn best_of<L: Ledger>(
         &self,
         bank: BankId,
         side: Side,
         before: u64,
-        past: Option<&Place>,
+        past: Option<&Resting>,
         steps: &mut Steps<L>,
-    ) -> Option<(Resting, Place)>
-        ensures none { (result ≡ None) ↔ (owned side bank before (option_copied past.entry) self.now.orders ≡ []) }
-        ensures best { IfSome result (λ found. IsBest (opposite side) (owned side bank before (option_copied past.entry) self.now.orders) found.0) }
-        ensures place { IfSome result (λ found. IsPlaceOf found.0 found.1) }
+    ) -> Option<Resting>
+        requires past { IfSome (option_copied past) (IsCursor self.now.orders bank side) }
+        ensures none { (result ≡ None) ↔ (owned_behind side bank before (option_copied past.entry) self.now.orders ≡ []) }
+        ensures best { IfSome result (IsBest (opposite side) (owned_behind side bank before (option_copied past.entry) self.now.orders)) }
         ensures steps { AreInTime side before self.now.orders → steps.new ≤ steps.old + 1 }
         ensures valid { IsBook self.now }
     {
-        self.best_allowed(bank, side, None, before, past, steps)
+        let mut next = self.next_best(bank, side, past, steps);
+        while let Some(order) = next {
+            if order.arrival < before {
+                return Some(order);
+            }
+            next = self.next_best(bank, side, Some(&order), steps);
+        }
+        None
     }
 
-    /// The best order of a bank and a side within a limit, and its place, among those that arrived before `before` and stand
-    /// behind the place `past`; `None` where the limit allows the price of none of these. It reads no order that the limit does
-    /// not allow. One step, and one for each order that arrived too late.
+    /// The best order of a bank and a side within a limit, among those that arrived before `before` and stand behind the order `past`;
+    /// `None` where the limit allows the price of none of these. One step, and one for each order that arrived too late.
     pub fn best_within<L: Ledger>(
         &self,
         bank: BankId,
         side: Side,
         limit: Price,
         before: u64,
-        past: Option<&Place>,
+        past: Option<&Resting>,
         steps: &mut Steps<L>,
-    ) -> Option<(Resting, Place)>
-        ensures none { result ≡ None → Each (λ order. crosses (opposite side) limit order.price ≡ false) (owned side bank before (option_copied past.entry) self.now.orders) }
-        ensures best { IfSome result (λ found. IsBest (opposite side) (owned side bank before (option_copied past.entry) self.now.orders) found.0) }
-        ensures allowed { IfSome result (λ found. crosses (opposite side) limit found.0.price ≡ true) }
-        ensures place { IfSome result (λ found. IsPlaceOf found.0 found.1) }
+    ) -> Option<Resting>
+        requires past { IfSome (option_copied past) (IsCursor self.now.orders bank side) }
+        ensures none { result ≡ None → Each (λ order. crosses (opposite side) limit order.price ≡ false) (owned_behind side bank before (option_copied past.entry) self.now.orders) }
+        ensures best { IfSome result (IsBest (opposite side) (owned_behind side bank before (option_copied past.entry) self.now.orders)) }
+        ensures allowed { IfSome result (λ found. crosses (opposite side) limit found.price ≡ true) }
         ensures steps { AreInTime side before self.now.orders → steps.new ≤ steps.old + 1 }
         ensures valid { IsBook self.now }
     {
-        self.best_allowed(bank, side, Some(limit), before, past, steps)
-    }
-
-    /// The best order of a bank and a side, and its place, among those that arrived before `before` and stand behind the place
-    /// `past`; `None` where there is none, or where the limit, if there is one, does not allow its price. It reads no order that
-    /// is not allowed.
-    #[inline(always)]
-    fn best_allowed<L: Ledger>(
-        &self,
-        bank: BankId,
-        side: Side,
-        limit: Option<Price>,
-        before: u64,
-        past: Option<&Place>,
-        steps: &mut Steps<L>,
-    ) -> Option<(Resting, Place)>
-        ensures none { result ≡ None → Each (λ order. allows (opposite side) limit order.price ≡ false) (owned side bank before (option_copied past.entry) self.now.orders) }
-        ensures best { IfSome result (λ found. IsBest (opposite side) (owned side bank before (option_copied past.entry) self.now.orders) found.0) }
-        ensures allowed { IfSome result (λ found. allows (opposite side) limit found.0.price ≡ true) }
-        ensures place { IfSome result (λ found. IsPlaceOf found.0 found.1) }
-        ensures steps { AreInTime side before self.now.orders → steps.new ≤ steps.old + 1 }
-        ensures valid { IsBook self.now }
-    {
-        let front = self.rows.first_of(bank, side, before, past, steps)?;
-        if is_allowed(limit, front.price, side.opposite()) {
-            return Some((self.orders.get(OrderKey(front.key)), front));
+        let order = self.best_of(bank, side, before, past, steps)?;
+        if limit.crosses(order.price, side.opposite()) {
+            return Some(order);
         }
         None
     }
 
-    /// The best order of a bank and a side, and its place, among those that stand behind the place `past`, whenever they
-    /// arrived: no order arrives at 2^64. Without a place all of them are looked at. `None` where there is no such order.
-    /// One step at most.
-    pub fn next_best<L: Ledger>(
-        &self,
-        bank: BankId,
-        side: Side,
-        past: Option<&Place>,
-        steps: &mut Steps<L>,
-    ) -> Option<(Resting, Place)>
-        ensures none { (result ≡ None) ↔ (owned side bank (2 ^ 64) (option_copied past.entry) self.now.orders ≡ []) }
-        ensures best { IfSome result (λ found. IsBest (opposite side) (owned side bank (2 ^ 64) (option_copied past.entry) self.now.orders) found.0) }
-        ensures place { IfSome result (λ found. IsPlaceOf found.0 found.1) }
-        ensures steps { steps.new ≤ steps.old + 1 }
-        ensures valid { IsBook self.now }
-    {
-        let place = self.rows.first_behind(bank, side, past, steps)?;
-        Some((self.orders.get(OrderKey(place.key)), place))
-    }
-
-    /// Puts a bank's orders of a side that cross `top`, a price of the other side, behind those that `orders` has. It reads none
-    /// that does not cross: one step, and one for each order that it puts there. At `Memory` `orders` has what it had.
-    pub fn gather_crossing<L: Ledger>(
-        &self,
-        bank: BankId,
-        side: Side,
-        top: Price,
-        orders: &mut Vec<Resting>,
-        steps: &mut Steps<L>,
-    ) -> Result<(), Memory>
-        ensures gathered { OnOk result ((gathered : List Resting) × (orders.new.items ≡ orders.old.items ++ gathered) × IsPermutation (crossing bank side top self.now.orders) gathered) }
-        ensures steps { OnOk result (steps.new + length orders.old.items ≡ steps.old + 1 + length orders.new.items) }
-        ensures memory { OnErr result (orders.new.items ≡ orders.old.items) }
-        ensures valid { IsBook self.now }
-    {
-        steps.tick();
-        let mut places = Vec::new(*orders.allocator());
-        self.rows.gather_crossing(bank, side, top, &mut places)?;
-        orders.reserve(places.len())?;
-        push_orders(&self.orders, &places, orders, steps);
-        Ok(())
-    }
-
-    /// For each bank, from the lowest number on, the best price at which it has orders of a side; `None` where it has none. The prices lie
-    /// side by side, and it reads no order: one step for them all.
-    pub fn best_prices<L: Ledger>(&self, side: Side, steps: &mut Steps<L>) -> &[Option<Price>]
-        ensures prices { (bank : ℕ) → IsPriceOf (opposite side) bank None self.now.orders (slice_index_or result.now bank None) }
-        ensures step { steps.new ≡ steps.old + 1 }
-        ensures valid { IsBook self.now }
-    {
-        steps.tick();
-        self.rows.front_prices(side)
-    }
-
     /// The best price, worse than `past` where there is one, at which a bank has orders of a side; `None` where there is no
-    /// such price. One step at most.
+    /// such price. One step.
     pub fn next_price<L: Ledger>(
         &self,
         bank: BankId,
@@ -427,88 +344,23 @@ impl PairBook {
         steps: &mut Steps<L>,
     ) -> Option<Price>
         ensures price { IsPriceOf (opposite side) bank past self.now.orders result }
-        ensures steps { steps.new ≤ steps.old + 1 }
-        ensures valid { IsBook self.now }
-    {
-        let end = end_of(past);
-        let place = self.rows.first_behind(bank, side, end.as_ref(), steps)?;
-        Some(place.price)
-    }
-
-    /// The level at an index among those of a bank's orders of a side, 0 for the best price: its price, and all lots that they
-    /// have left there. `None` where there are no more levels. One step.
-    pub fn level_at<L: Ledger>(
-        &self,
-        bank: BankId,
-        side: Side,
-        at: usize,
-        steps: &mut Steps<L>,
-    ) -> Option<(Price, u128)>
         ensures step { steps.new ≡ steps.old + 1 }
-        ensures level { result ≡ slice_get (levels_of (opposite side) bank self.now.orders) at }
         ensures valid { IsBook self.now }
     {
         steps.tick();
-        let level = self.levels.get(bank, side, at)?;
-        Some((level.price, level.lots))
+        let place = self.linked.first_from(bank, side, from_rank(side, past))?;
+        Some(self.linked.order(place).price)
     }
 }
 
-/// Whether a limit, where there is one, allows a taker of a side this price.
-fn is_allowed(limit: Option<Price>, price: Price, taker: Side) -> bool
-    ensures { result ≡ allows taker limit price }
+/// The first rank behind a price of a side, where there is one.
+fn from_rank(side: Side, past: Option<Price>) -> u32
+    ensures rank { result ≡ from_rank side past }
+    ensures most { IfSome past (λ price. price ≤ 10 ^ 9) }
 {
-    match limit {
-        Some(limit) => limit.crosses(price, taker),
-        None => true,
-    }
-}
-
-/// The order under a key has so many lots left from now on, fewer than it had.
-fn lower_at(
-    orders: &mut OrderStore,
-    levels: &mut BankLevels,
-    key: OrderKey,
-    order: &Resting,
-    left: Lots,
-)
-    requires at { order_at orders.old key.0 ≡ Some order.now }
-    requires less { left < order.now.left }
-    requires own { (own : List OwnRows) × AreOfOneBook orders.old own levels.old }
-    ensures moves { (own : List OwnRows) → Moves (map (relotted order.now.bank order.now.number left)) orders.old orders.new own own levels.old levels.new }
-{
-    let gone = order.left.count() - left.count();
-    orders.lower(key, left);
-    levels.take(order.bank, order.side, order.price, gone);
-}
-
-/// Takes the order under a key out.
-fn remove_at(orders: &mut OrderStore, rows: &mut Owners, levels: &mut BankLevels, key: OrderKey)
-    requires live { IsSome (order_at orders.old key.0) }
-    requires own { AreOfOneBook orders.old rows.old levels.old }
-    ensures moves { IfSome (order_at orders.old key.0) (λ order. Moves (filter (λ other. not (is_order order.bank order.number other))) orders.old orders.new rows.old rows.new levels.old levels.new) }
-{
-    let order = orders.remove(key);
-    let place = place_of(order.price, order.arrival, key.0);
-    rows.remove(order.bank, order.side, &place);
-    levels.take(order.bank, order.side, order.price, order.left.count());
-}
-
-/// Puts the orders that stand at these places behind others, where there is room for them. One step for each.
-fn push_orders<L: Ledger>(
-    store: &OrderStore,
-    places: &[Place],
-    orders: &mut Vec<Resting>,
-    steps: &mut Steps<L>,
-)
-    requires live { All (λ place. IsSome (order_at store.now place.key)) places.now }
-    requires room { vec_len orders.old + length places.now ≤ vec_capacity orders.old }
-    ensures orders { orders.new.items ≡ orders.old.items ++ orders_at store.now places.now }
-    ensures steps { steps.new + length orders.old.items ≡ steps.old + length orders.new.items }
-{
-    for place in places {
-        steps.tick();
-        orders.push_reserved(store.get(OrderKey(place.key)));
+    match past {
+        Some(price) => rank_of(side, price) + 1,
+        None => 0,
     }
 }
 
@@ -519,28 +371,4 @@ fn count_looks<L: Ledger>(looks: usize, steps: &mut Steps<L>)
     for _look in 0..looks {
         steps.tick();
     }
-}
-
-/// The place of an order of this price and arrival, kept under this key.
-fn place_of(price: Price, arrival: u64, key: usize) -> Place
-    ensures arrival { arrival < 2 ^ 64 }
-    ensures place { result ≡ record { price = price; arrival = arrival; key = key } }
-{
-    Place {
-        price,
-        arrival,
-        key,
-    }
-}
-
-/// The place behind all orders of a price, where there is one.
-fn end_of(past: Option<Price>) -> Option<Place>
-    ensures { result ≡ option_map end_of past }
-{
-    let price = past?;
-    Some(Place {
-        price,
-        arrival: u64::MAX,
-        key: 0,
-    })
 }

@@ -1,7 +1,11 @@
 //! The book of one pair: the orders that rest in it, found by command, by owner and by price.
 #![tactic(auto)]
 
-mod bank_levels;
+mod ahead;
 mod book;
+mod linked;
+mod owner_list;
+mod side_ladders;
 
 pub use book::PairBook;
+pub use side_ladders::{price_at, rank_of};

@@ -27,7 +27,7 @@ use Rattle.match_sweep.proofs.Tables.{total-most}
 
 module _ (book : Book) (credit : Credit) (weight : ℕ) (t : Taker) where
   -- the bank of an open order is none of which nothing is taken
-  shut-closed : (o : Resting) → IsShut book credit weight t o.bank → Among o (first_open book credit weight t) → ⊥
+  pub shut-closed : (o : Resting) → IsShut book credit weight t o.bank → Among o (first_open book credit weight t) → ⊥
   shut-closed o shut there =
       let opens = open-to_come (λ b. line_in credit t.bank b / weight) t None book.orders o there in
       both_ways (crosses t.side t.price o.price)

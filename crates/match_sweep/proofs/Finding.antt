@@ -2,7 +2,6 @@
 use Rattle.std.proofs.Common.{ℕ, ◌≡◌, ◌&&◌, false, true, List, Option, Some, None, refl, ap, subst, ◌∙◌}
 use Rattle.std.proofs.lemmas.Bool.{and_from, both_ways, eq-eqb, false_from_ne_true}
 use Rattle.std.specs.Prelude.{IfSome}
-use Rattle.std.specs.Option.{option_map}
 use Rattle.fx_amounts.specs.Price.{crosses}
 use Rattle.fx_amounts.specs.Side.{opposite}
 use Rattle.fx_amounts.specs.declared.side.Side.{Side}
@@ -10,33 +9,20 @@ use Rattle.fx_rules.specs.declared.orders.Resting.{Resting}
 use Rattle.fx_rules.specs.Lists.{Each}
 use Rattle.fx_rules.specs.Sweep.{Taker, IsBest, is_better, is_opposite}
 use Rattle.fx_rules.proofs.ListLemmas.{Each-among, Each-of}
-use Rattle.price_levels.specs.declared.place.Place.{Place}
-use Rattle.global_book.specs.Book.{IsPriceOf, is_of, is_worse_of, owned, standing_at}
+use Rattle.global_book.specs.Behind.{owned_behind}
+use Rattle.global_book.specs.Book.{IsPriceOf, is_of, is_worse_of}
 use Rattle.global_book.proofs.Sought.{opposite-opposite}
 use Rattle.global_book.proofs.Within.{better_or_same}
-use Rattle.match_sweep.specs.inside.Heads.{AreDear, IsFound, place_of, to_come}
+use Rattle.match_sweep.specs.inside.Heads.{AreDear, IsFound, to_come}
 use Rattle.match_sweep.proofs.Picking.{IsToCome, among_to_come}
 
--- what stands behind an order stands behind its place
-to_come-place : (t : Taker) (bank : ℕ) (past : Option Resting) (orders : List Resting) → to_come t bank (option_map standing_at (option_map place_of past)) orders ≡ to_come t bank past orders
-to_come-place t bank None orders = refl
-to_come-place t bank (Some order) orders = refl
-
-pub none-head : (orders : List Resting) (t : Taker) (bank : ℕ) (past : Option Resting) (place : Option Place) (side : Side) → side ≡ opposite t.side → place ≡ option_map place_of past
-    → Each (λ o. crosses (opposite side) t.price o.price ≡ false) (owned side bank t.arrival place orders)
-    → IsFound t (to_come t bank past orders) None
-none-head orders t bank past place side side_is place_is dear =
-    let taker : opposite side ≡ t.side = ap opposite side_is ∙ opposite-opposite t.side in
-    subst (AreDear t) (ap (λ (p : Option Place). to_come t bank (option_map standing_at p) orders) place_is ∙ to_come-place t bank past orders)
-    (subst (λ (s : Side). AreDear (record t { side = s }) (to_come (record t { side = s }) bank (option_map standing_at place) orders)) taker dear)
-
-pub found-head : (orders : List Resting) (t : Taker) (bank : ℕ) (past : Option Resting) (place : Option Place) (side : Side) (head : Resting) → side ≡ opposite t.side → place ≡ option_map place_of past
-    → IsBest (opposite side) (owned side bank t.arrival place orders) head
-    → IsFound t (to_come t bank past orders) (Some head)
-found-head orders t bank past place side head side_is place_is best =
-    let taker : opposite side ≡ t.side = ap opposite side_is ∙ opposite-opposite t.side in
-    subst (λ (os : List Resting). IsBest t.side os head) (ap (λ (p : Option Place). to_come t bank (option_map standing_at p) orders) place_is ∙ to_come-place t bank past orders)
-    (subst (λ (s : Side). IsBest s (to_come (record t { side = s }) bank (option_map standing_at place) orders) head) taker best)
+pub found-head : (orders : List Resting) (t : Taker) (bank : ℕ) (past : Option Resting) (side : Side) (found : Option Resting) → side ≡ opposite t.side
+    → (found ≡ None → Each (λ o. crosses (opposite side) t.price o.price ≡ false) (owned_behind side bank t.arrival past orders)) → IfSome found (IsBest (opposite side) (owned_behind side bank t.arrival past orders))
+    → IsFound t (to_come t bank past orders) found
+found-head orders t bank past side None side_is none best =
+    subst (λ (s : Side). AreDear (record t { side = s }) (to_come (record t { side = s }) bank past orders)) (ap opposite side_is ∙ opposite-opposite t.side) (none refl)
+found-head orders t bank past side (Some head) side_is none best =
+    subst (λ (s : Side). IsBest s (to_come (record t { side = s }) bank past orders) head) (ap opposite side_is ∙ opposite-opposite t.side) best
 
 -- an order that a taker may come to is one of its bank and of the other side
 to_come-worse : (t : Taker) (bank : ℕ) (o : Resting) → IsToCome t bank None o → is_worse_of t.side bank None o ≡ true

@@ -1,4 +1,4 @@
--- The lines and first levels of the banks that a walk from price to price has passed.
+-- The lines and first prices of the banks that a walk from price to price has passed.
 use Rattle.std.proofs.Common.{ℕ, ◌≡◌, ◌≢◌, ◌/◌, ◌≤◌, ◌<◌, ◌^◌, ◌++◌, ◌∷◌, [], List, None, inl, inr, refl, ap, sym, subst, ◌∙◌, arith, length, slice_index}
 use Rattle.std.proofs.lemmas.Bool.{cases_eq}
 use Rattle.std.proofs.lemmas.List.Elements.{Contains-push_cases}
@@ -8,10 +8,11 @@ use Rattle.fx_rules.specs.declared.orders.Resting.{Resting}
 use Rattle.fx_rules.specs.Lists.{Among}
 use Rattle.fx_rules.proofs.ListLemmas.{Each-among, Each-of}
 use Rattle.fx_rules.proofs.Planning.{div_none}
-use Rattle.global_book.specs.Book.{AreOwners, Book, IsBook}
+use Rattle.global_book.specs.Book.{AreOwners, Book, IsBook, IsPriceOf}
 use Rattle.credit_lines.specs.Credit.{Credit, line_in}
 use Rattle.match_sweep.specs.declared.reached.LevelWalk.{LevelWalk}
-use Rattle.match_sweep.specs.inside.Reaches.{BeginsAt, HasFirst, HaveOpened, IsBareLevel, IsHead, OpensLevel, head_of}
+use Rattle.match_sweep.specs.inside.Reaches.{BeginsAt, HasFirst, HaveOpened, IsBareLevel, OpensLevel, price_at, price_in}
+use Rattle.match_sweep.proofs.Reaching.{price_left}
 use Rattle.match_sweep.proofs.Tables.{replicate-at, total-most}
 
 -- no bank is passed
@@ -47,18 +48,18 @@ module _ (book : Book) (credit : Credit) (banks more : List ℕ) (bank n : ℕ) 
   }
 
   -- another is opened
-  pub opened-level : (new : LevelWalk) → n ≢ bank → n < 65 → OpensLevel book credit now new bank n → HaveOpened book credit more bank old new
-  opened-level new differ below it =
+  pub opened-level : (new : LevelWalk) (rank : ℕ) → n ≢ bank → n < 65 → IsPriceOf old.taker n None book.orders (price_at old.taker rank) → OpensLevel credit now new bank n rank → HaveOpened book credit more bank old new
+  opened-level new rank differ below first it =
       let weight_same : now.weight ≡ old.weight = ap (λ (w : LevelWalk). w.weight) was.keeps.same in
-      let taker_same : now.taker ≡ old.taker = ap (λ (w : LevelWalk). w.taker) was.keeps.same in
+      let taker_new : new.taker ≡ old.taker = ap (λ (w : LevelWalk). w.taker) it.keeps.same ∙ ap (λ (w : LevelWalk). w.taker) was.keeps.same in
       record {
         keeps = record {
-          same = it.keeps.same ∙ ap (λ (w : LevelWalk). record w { lines = new.lines; heads = new.heads; ranks = new.ranks }) was.keeps.same;
+          same = it.keeps.same ∙ ap (λ (w : LevelWalk). record w { lines = new.lines; ranks = new.ranks }) was.keeps.same;
           long = it.keeps.long ∙ was.keeps.long;
         };
         most = λ other. elim (cases_eq other n) [
           | inl same ↦ subst (λ (b : ℕ). slice_index new.lines b ≤ 10 ^ 15) (sym same) (omega (arith, it.line, it.most))
-          | inr apart ↦ omega (arith, (it.others other apart).0, was.most other)
+          | inr apart ↦ omega (arith, (it.others other apart).line, was.most other)
         ];
         few = λ other there apart_own. elim (cases_eq other n) [
           | inl same ↦ omega (arith, same, below)
@@ -66,15 +67,18 @@ module _ (book : Book) (credit : Credit) (banks more : List ℕ) (bank n : ℕ) 
         ];
         lines = λ other there apart_own. elim (cases_eq other n) [
           | inl same ↦ subst (λ (b : ℕ). slice_index new.lines b ≡ line_in credit bank b) (sym same) it.line
-          | inr apart ↦ (it.others other apart).0 ∙ was.lines other (before other apart there) apart_own
+          | inr apart ↦ (it.others other apart).line ∙ was.lines other (before other apart there) apart_own
         ];
-        own = (it.others bank (λ same. differ (sym same))).0 ∙ was.own;
+        own = (it.others bank (λ same. differ (sym same))).line ∙ was.own;
         heads = λ other. elim (cases_eq other n) [
-          | inl same ↦ subst (HasFirst book old.weight old.taker new) (sym same)
-              (subst (λ (w : ℕ). HasFirst book w old.taker new n) weight_same (subst (λ (s : Side). HasFirst book now.weight s new n) taker_same it.head))
+          | inl same ↦ subst (HasFirst book old.weight old.taker new) (sym same) (λ reach.
+              subst (IsPriceOf old.taker n None book.orders)
+              (sym (ap (λ (s : Side). price_at s (slice_index new.ranks n)) taker_new
+              ∙ ap (price_at old.taker) (it.has (subst (λ (w : ℕ). 1 ≤ slice_index new.lines n / w) (sym weight_same) reach))))
+              first)
           | inr apart ↦ λ reach.
-              subst (IsHead old.taker other None book.orders) (sym (it.others other apart).1)
-              (was.heads other (subst (λ (line : ℕ). 1 ≤ line / old.weight) (it.others other apart).0 reach))
+              subst (IsPriceOf old.taker other None book.orders) (sym (price_left now new other (ap (λ (w : LevelWalk). w.taker) it.keeps.same) (it.others other apart)))
+              (was.heads other (subst (λ (line : ℕ). 1 ≤ line / old.weight) (it.others other apart).line reach))
         ];
       }
 
@@ -85,7 +89,6 @@ opened-begins-at book credit owners bank old walk valid are below bare opened =
     let long : length walk.lines ≡ 65 = opened.keeps.long ∙ ap length bare.lines in
     let weight_same : walk.weight ≡ old.weight = ap (λ (w : LevelWalk). w.weight) opened.keeps.same in
     let taker_same : walk.taker ≡ old.taker = ap (λ (w : LevelWalk). w.taker) opened.keeps.same in
-    let last_none : walk.last ≡ None = ap (λ (w : LevelWalk). w.last) opened.keeps.same ∙ bare.last in
     let owned : (o : Resting) → Among o book.orders → Contains owners o.bank = λ o there. Each-among (λ (q : Resting). Contains owners q.bank) book.orders o are.all there in
     record {
       valid = valid;
@@ -95,10 +98,9 @@ opened-begins-at book credit owners bank old walk valid are below bare opened =
       ]);
       long = long;
       heads = λ other _ reach.
-          subst (λ last. IsHead walk.taker other last book.orders (head_of walk other)) (sym last_none)
-          (subst (λ (s : Side). IsHead s other None book.orders (head_of walk other)) (sym taker_same)
-          (opened.heads other (subst (λ (w : ℕ). 1 ≤ slice_index walk.lines other / w) weight_same reach)));
-      is = opened.keeps.same ∙ ap (λ last. record old { lines = walk.lines; heads = walk.heads; ranks = walk.ranks; last = last }) bare.last;
+          subst (λ (s : Side). IsPriceOf s other None book.orders (price_in walk other)) (sym taker_same)
+          (opened.heads other (subst (λ (w : ℕ). 1 ≤ slice_index walk.lines other / w) weight_same reach));
+      is = opened.keeps.same;
       own = opened.own;
       line = Each-of (λ (o : Resting). o.bank ≢ bank → slice_index walk.lines o.bank ≡ line_in credit bank o.bank) book.orders (λ o there differ. opened.lines o.bank (owned o there) differ);
       most = omega (arith, total-most walk.lines (10 ^ 15) opened.most, long);

@@ -22,7 +22,7 @@ use Rattle.global_book.specs.Book.{Book, IsBook, IsHeld, IsPriceOf, is_of, is_wo
 use Rattle.credit_lines.specs.Credit.{Credit, line_in, room_in}
 use Rattle.match_sweep.specs.declared.reached.LevelWalk.{LevelWalk}
 use Rattle.match_sweep.specs.Reaches.{IsReached, IsUnlimited}
-use Rattle.match_sweep.specs.inside.Reaches.{AreTaken, BeginsAt, HaveLevels, IsBestPrice, IsMost, TakesLevel, at_end, cut, head_of, line_behind, past_order, price_in, price_of}
+use Rattle.match_sweep.specs.inside.Reaches.{AreTaken, BeginsAt, HaveLevels, IsBestPrice, IsMost, TakesLevel, at_end, cut, line_behind, past_order, price_in, price_of}
 use Rattle.match_sweep.specs.inside.Walks.{AgreeInBook}
 use Rattle.match_sweep.specs.Sweeps.{IsLevelled}
 use Rattle.match_sweep.proofs.Cutting.{AreCut, WithinTotal, cut-ended, cut-first, within-total}
@@ -152,39 +152,39 @@ module _ (book : Book) (valid : IsBook book) where
     pub is : price_of walk order.bank ≡ Some head
     pub first : is_better walk.taker order.price head ≡ false
 
-  has_head : (walk : LevelWalk) (t : Taker) (order : Resting) → IsWeight walk.weight → Each (λ (q : Resting). q.bank < 65) book.orders → t.side ≡ walk.taker → HaveLevels book walk → OpenHere t walk.lines walk.weight walk.last order → HasHead walk order
-  has_head walk t order weighs few side have here =
-      let level : IsPriceOf walk.taker order.bank walk.last book.orders (price_in (head_of walk order.bank)) = (have order.bank (Each-among (λ (q : Resting). q.bank < 65) book.orders order few here.there) here.is_open.reach).best in
-      let passes : is_worse_of walk.taker order.bank walk.last order ≡ true = subst (λ (s : Side). is_worse_of s order.bank walk.last order ≡ true) side here.passes in
+  has_head : (past : Option ℕ) (walk : LevelWalk) (t : Taker) (order : Resting) → IsWeight walk.weight → Each (λ (q : Resting). q.bank < 65) book.orders → t.side ≡ walk.taker → HaveLevels book past walk → OpenHere t walk.lines walk.weight past order → HasHead walk order
+  has_head past walk t order weighs few side have here =
+      let level : IsPriceOf walk.taker order.bank past book.orders (price_in walk order.bank) = have order.bank (Each-among (λ (q : Resting). q.bank < 65) book.orders order few here.there) here.is_open.reach in
+      let passes : is_worse_of walk.taker order.bank past order ≡ true = subst (λ (s : Side). is_worse_of s order.bank past order ≡ true) side here.passes in
       let pay : walk.weight ≤ slice_index walk.lines order.bank = paid_for (slice_index walk.lines order.bank) walk.weight weighs here.is_open.reach in
-      let answer : (found : Option ℕ) → price_in (head_of walk order.bank) ≡ found → IsPriceOf walk.taker order.bank walk.last book.orders found → HasHead walk order = λ found.
-      elim found as (λ (f : Option ℕ). price_in (head_of walk order.bank) ≡ f → IsPriceOf walk.taker order.bank walk.last book.orders f → HasHead walk order) [
-        | None ↦ λ _ none. absurd (both_ways (is_worse_of walk.taker order.bank walk.last order) (Each-among (λ (q : Resting). is_worse_of walk.taker order.bank walk.last q ≡ false) book.orders order none here.there) passes)
+      let answer : (found : Option ℕ) → price_in walk order.bank ≡ found → IsPriceOf walk.taker order.bank past book.orders found → HasHead walk order = λ found.
+      elim found as (λ (f : Option ℕ). price_in walk order.bank ≡ f → IsPriceOf walk.taker order.bank past book.orders f → HasHead walk order) [
+        | None ↦ λ _ none. absurd (both_ways (is_worse_of walk.taker order.bank past order) (Each-among (λ (q : Resting). is_worse_of walk.taker order.bank past q ≡ false) book.orders order none here.there) passes)
         | Some head ↦ λ is some. record {
           head = head;
           is = price_there walk order.bank head pay is;
-          first = Each-among (λ (q : Resting). is_worse_of walk.taker order.bank walk.last q ≡ true → is_better walk.taker q.price head ≡ false) book.orders order some.first here.there passes;
+          first = Each-among (λ (q : Resting). is_worse_of walk.taker order.bank past q ≡ true → is_better walk.taker q.price head ≡ false) book.orders order some.first here.there passes;
         }
       ] in
-      answer (price_in (head_of walk order.bank)) refl level
+      answer (price_in walk order.bank) refl level
 
   some_none : (n : ℕ) → None ≡ Some n → ⊥
   some_none n same = cc
 
-  none_left : (walk : LevelWalk) (t : Taker) → IsWeight walk.weight → Each (λ (q : Resting). q.bank < 65) book.orders → t.side ≡ walk.taker → HaveLevels book walk → IsBestPrice walk 65 None
-      → open_behind (λ bank. get_or walk.lines bank 0 / walk.weight) t (past_order walk.last) book.orders ≡ []
-  none_left walk t weighs few side have best =
-      none_among (open_behind (λ bank. get_or walk.lines bank 0 / walk.weight) t (past_order walk.last) book.orders) (λ order there.
-      let here = open_here t walk.lines walk.weight walk.last order there in
-      let head = has_head walk t order weighs few side have here in
+  none_left : (past : Option ℕ) (walk : LevelWalk) (t : Taker) → IsWeight walk.weight → Each (λ (q : Resting). q.bank < 65) book.orders → t.side ≡ walk.taker → HaveLevels book past walk → IsBestPrice walk 65 None
+      → open_behind (λ bank. get_or walk.lines bank 0 / walk.weight) t (past_order past) book.orders ≡ []
+  none_left past walk t weighs few side have best =
+      none_among (open_behind (λ bank. get_or walk.lines bank 0 / walk.weight) t (past_order past) book.orders) (λ order there.
+      let here = open_here t walk.lines walk.weight past order there in
+      let head = has_head past walk t order weighs few side have here in
       let no' : None ≡ Some head.head = sym (best order.bank (Each-among (λ (q : Resting). q.bank < 65) book.orders order few here.there)) ∙ head.is in
       some_none head.head no')
 
   -- A taker comes to the orders of the best price.
-  going_to : (walk : LevelWalk) (t : Taker) (price : ℕ) (weighs : IsWeight walk.weight) → Each (λ (q : Resting). q.bank < 65) book.orders → t.side ≡ walk.taker → HaveLevels book walk → IsBestPrice walk 65 (Some price) → IsEager t book.orders
-      → slice_index walk.lines t.bank ≡ 0 → total (λ (n : ℕ). n) walk.lines < t.left → Going walk.weight book.orders price weighs.0 book.orders t walk.lines (past_order walk.last)
-  going_to walk t price weighs few side have best eager own enough =
-      let worse : is_worse t.side walk.last price ≡ true = subst (λ (s : Side). is_worse s walk.last price ≡ true) (sym side) (best_worse book walk price weighs have best) in
+  going_to : (past : Option ℕ) (walk : LevelWalk) (t : Taker) (price : ℕ) (weighs : IsWeight walk.weight) → Each (λ (q : Resting). q.bank < 65) book.orders → t.side ≡ walk.taker → HaveLevels book past walk → IsBestPrice walk 65 (Some price) → IsEager t book.orders
+      → slice_index walk.lines t.bank ≡ 0 → total (λ (n : ℕ). n) walk.lines < t.left → Going walk.weight book.orders price weighs.0 book.orders t walk.lines (past_order past)
+  going_to past walk t price weighs few side have best eager own enough =
+      let worse : is_worse t.side past price ≡ true = subst (λ (s : Side). is_worse s past price ≡ true) (sym side) (best_worse book past walk price weighs have best) in
       record {
         rising = valid.rising;
         within = λ order there. there;
@@ -192,11 +192,11 @@ module _ (book : Book) (valid : IsBook book) where
         own = own;
         enough = enough;
         early = early;
-        here = λ order there same. past_worse t.side walk.last order (ap (is_worse t.side walk.last) same ∙ worse);
-        later = λ order behind. past_worse t.side walk.last order (worse_trans t.side walk.last price order.price worse behind);
+        here = λ order there same. past_worse t.side past order (ap (is_worse t.side past) same ∙ worse);
+        later = λ order behind. past_worse t.side past order (worse_trans t.side past price order.price worse behind);
         opens = λ order there.
-            let here = open_here t walk.lines walk.weight walk.last order there in
-            let head = has_head walk t order weighs few side have here in
+            let here = open_here t walk.lines walk.weight past order there in
+            let head = has_head past walk t order weighs few side have here in
             let no_better : is_better walk.taker head.head price ≡ false = best.1 order.bank head.head (Each-among (λ (q : Resting). q.bank < 65) book.orders order few here.there) head.is in
             let below : is_better t.side order.price price ≡ false
             = subst (λ (s : Side). is_better s order.price price ≡ false) (sym side)
@@ -212,19 +212,19 @@ module _ (book : Book) (valid : IsBook book) where
       }
 
   -- One level more.
-  pub record LevelStep (walk taken : LevelWalk) (t : Taker) (price lots : ℕ) : Type 0 where
+  pub record LevelStep (past : Option ℕ) (walk taken : LevelWalk) (t : Taker) (price lots : ℕ) : Type 0 where
     pub fills : List Fill
     pub lots_are : lots_of fills ≡ lots
     pub some : 1 ≤ length fills
     pub prices : Each (λ (f : Fill). f.price ≡ price) fills
     pub goes_on : (more : List Fill) (left : ℕ) → Planned walk.weight (slice_index taken.lines) book.orders (less t lots) (Some (at_end price)) more left
-        → Planned walk.weight (slice_index walk.lines) book.orders t (past_order walk.last) (fills ++ more) left
+        → Planned walk.weight (slice_index walk.lines) book.orders t (past_order past) (fills ++ more) left
 
-  pub level_step : (walk taken : LevelWalk) (t : Taker) (price lots : ℕ) → IsWeight walk.weight → Each (λ (q : Resting). q.bank < 65) book.orders → t.side ≡ walk.taker → HaveLevels book walk → IsBestPrice walk 65 (Some price) → IsEager t book.orders
-      → slice_index walk.lines t.bank ≡ 0 → total (λ (n : ℕ). n) walk.lines < t.left → length walk.lines ≡ 65 → length taken.lines ≡ 65 → AreTaken book walk taken price lots → LevelStep walk taken t price lots
-  level_step walk taken t price lots weighs few side have best eager own enough long long' all =
-      let going = going_to walk t price weighs few side have best eager own enough in
-      let taking : Taken walk.weight book.orders price weighs.0 book.orders t walk.lines (past_order walk.last) = takes walk.weight book.orders price weighs.0 book.orders t walk.lines (past_order walk.last) going in
+  pub level_step : (past : Option ℕ) (walk taken : LevelWalk) (t : Taker) (price lots : ℕ) → IsWeight walk.weight → Each (λ (q : Resting). q.bank < 65) book.orders → t.side ≡ walk.taker → HaveLevels book past walk → IsBestPrice walk 65 (Some price) → IsEager t book.orders
+      → slice_index walk.lines t.bank ≡ 0 → total (λ (n : ℕ). n) walk.lines < t.left → length walk.lines ≡ 65 → length taken.lines ≡ 65 → AreTaken book walk taken price lots → LevelStep past walk taken t price lots
+  level_step past walk taken t price lots weighs few side have best eager own enough long long' all =
+      let going = going_to past walk t price weighs few side have best eager own enough in
+      let taking : Taken walk.weight book.orders price weighs.0 book.orders t walk.lines (past_order past) = takes walk.weight book.orders price weighs.0 book.orders t walk.lines (past_order past) going in
       let same : taking.table ≡ taken.lines = same_table taking.table taken.lines (taking.long ∙ long ∙ sym long') (λ bank.
       elim (cases_lt bank 65) [
         | inl below ↦
@@ -233,9 +233,9 @@ module _ (book : Book) (valid : IsBook book) where
       ]) in
       let lots_same : lots_of taking.fills ≡ lots
       = same_lots (lots_of taking.fills) lots walk.weight weighs.0 (omega (arith, taking.paid, all.sum.paid, ap (total (λ (n : ℕ). n)) same)) in
-      let has = best_level book walk price weighs have best in
+      let has = best_level book past walk price weighs have best in
       let order : Resting = has.level.order in
-      let two = and_parts (is_of has.bank order && is_opposite walk.taker order.side) (is_worse walk.taker walk.last order.price) has.level.passes in
+      let two = and_parts (is_of has.bank order && is_opposite walk.taker order.side) (is_worse walk.taker past order.price) has.level.passes in
       let one = and_parts (is_of has.bank order) (is_opposite walk.taker order.side) two.0 in
       let owner : order.bank ≡ has.bank = eqb-true order.bank has.bank one.0 in
       let reach : 1 ≤ get_or walk.lines order.bank 0 / walk.weight = subst (λ (b : ℕ). 1 ≤ get_or walk.lines b 0 / walk.weight) (sym owner) has.reach in
@@ -271,12 +271,12 @@ module _ (book : Book) (valid : IsBook book) where
   -- The levels so far.
 
   -- what they are of the sweep of one taker
-  pub record WentLevels (first now : LevelWalk) (t : Taker) (levels : List Level) : Type 0 where
+  pub record WentLevels (first : LevelWalk) (past : Option ℕ) (now : LevelWalk) (t : Taker) (levels : List Level) : Type 0 where
     pub fills : List Fill
     pub enough : total (λ (n : ℕ). n) now.lines + lots_of fills < t.left
-    pub goes_on : (more : List Fill) (left : ℕ) → Planned first.weight (slice_index now.lines) book.orders (less t (lots_of fills)) (past_order now.last) more left
+    pub goes_on : (more : List Fill) (left : ℕ) → Planned first.weight (slice_index now.lines) book.orders (less t (lots_of fills)) (past_order past) more left
         → Planned first.weight (slice_index first.lines) book.orders t None (fills ++ more) left
-    pub levels_are : (more : List Fill) (left : ℕ) → Planned first.weight (slice_index now.lines) book.orders (less t (lots_of fills)) (past_order now.last) more left
+    pub levels_are : (more : List Fill) (left : ℕ) → Planned first.weight (slice_index now.lines) book.orders (less t (lots_of fills)) (past_order past) more left
         → levels_of (fills ++ more) ≡ levels ++ levels_of more
 
   -- and of each
@@ -285,20 +285,22 @@ module _ (book : Book) (valid : IsBook book) where
     pub weight : now.weight ≡ first.weight
     pub taker : now.taker ≡ first.taker
     pub long : length now.lines ≡ 65
-    pub have : HaveLevels book now
+    pub past : Option ℕ
+    pub have : HaveLevels book past now
     pub own : slice_index now.lines bank ≡ 0
     pub most : total (λ (n : ℕ). n) now.lines ≤ total (λ (n : ℕ). n) first.lines
     pub few : length levels ≤ 10
-    pub went : (t : Taker) → t.bank ≡ bank → t.side ≡ first.taker → IsEager t book.orders → total (λ (n : ℕ). n) first.lines < t.left → WentLevels first now t levels
+    pub went : (t : Taker) → t.bank ≡ bank → t.side ≡ first.taker → IsEager t book.orders → total (λ (n : ℕ). n) first.lines < t.left → WentLevels first past now t levels
 
-  pub way_begins : (walk : LevelWalk) (bank : ℕ) (levels : List Level) → IsWeight walk.weight → walk.last ≡ None → length walk.lines ≡ 65 → HaveLevels book walk → slice_index walk.lines bank ≡ 0 → levels ≡ []
+  pub way_begins : (walk : LevelWalk) (bank : ℕ) (levels : List Level) → IsWeight walk.weight → length walk.lines ≡ 65 → HaveLevels book None walk → slice_index walk.lines bank ≡ 0 → levels ≡ []
       → OnTheWay walk walk bank levels
-  way_begins walk bank levels weighs last long have own none =
+  way_begins walk bank levels weighs long have own none =
       subst (OnTheWay walk walk bank) (sym none) (record {
         weighs = weighs;
         weight = refl;
         taker = refl;
         long = long;
+        past = None;
         have = have;
         own = own;
         most = omega arith;
@@ -307,39 +309,37 @@ module _ (book : Book) (valid : IsBook book) where
           fills = [];
           enough = omega (arith, enough);
           goes_on = λ more left planned.
-              subst (λ (p : Option ℕ). Planned walk.weight (slice_index walk.lines) book.orders t (past_order p) more left) last
-              (subst (λ (u : Taker). Planned walk.weight (slice_index walk.lines) book.orders u (past_order walk.last) more left) (less_none t) planned);
+              subst (λ (u : Taker). Planned walk.weight (slice_index walk.lines) book.orders u None more left) (less_none t) planned;
           levels_are = λ more left planned. refl;
         };
       })
 
   -- a plan from behind a level, told of the walk that took it
-  from_taken : (first now taken new : LevelWalk) (t : Taker) (price before lots all : ℕ) (more : List Fill) (left : ℕ) → now.weight ≡ first.weight → new ≡ record taken { last = Some price } → all ≡ before + lots
-      → Planned first.weight (slice_index new.lines) book.orders (less t all) (past_order new.last) more left
-      → Planned now.weight (slice_index taken.lines) book.orders (less (less t before) lots) (Some (at_end price)) more left
-  from_taken first now taken new t price before lots all more left weigh is sum planned =
-      subst (λ (w : ℕ). Planned w (slice_index taken.lines) book.orders (less (less t before) lots) (Some (at_end price)) more left) (sym weigh)
-      (subst (λ (u : Taker). Planned first.weight (slice_index taken.lines) book.orders u (Some (at_end price)) more left) (ap (less t) sum ∙ sym (less_less t before lots))
-      (subst (λ (n : LevelWalk). Planned first.weight (slice_index n.lines) book.orders (less t all) (past_order n.last) more left) is planned))
+  from_taken : (first now new : LevelWalk) (t : Taker) (price before lots all : ℕ) (more : List Fill) (left : ℕ) → now.weight ≡ first.weight → all ≡ before + lots
+      → Planned first.weight (slice_index new.lines) book.orders (less t all) (Some (at_end price)) more left
+      → Planned now.weight (slice_index new.lines) book.orders (less (less t before) lots) (Some (at_end price)) more left
+  from_taken first now new t price before lots all more left weigh sum planned =
+      subst (λ (w : ℕ). Planned w (slice_index new.lines) book.orders (less (less t before) lots) (Some (at_end price)) more left) (sym weigh)
+      (subst (λ (u : Taker). Planned first.weight (slice_index new.lines) book.orders u (Some (at_end price)) more left) (ap (less t) sum ∙ sym (less_less t before lots)) planned)
 
-  went_on : (first now taken new : LevelWalk) (t : Taker) (price lots : ℕ) (levels : List Level) → IsWeight first.weight → now.weight ≡ first.weight → new ≡ record taken { last = Some price } → AreTaken book now taken price lots
-      → (w : WentLevels first now t levels) → LevelStep now taken (less t (lots_of w.fills)) price lots → WentLevels first new t (levels ++ level_is price lots ∷ [])
+  went_on : (first : LevelWalk) (past : Option ℕ) (now new : LevelWalk) (t : Taker) (price lots : ℕ) (levels : List Level) → IsWeight first.weight → now.weight ≡ first.weight → AreTaken book now new price lots
+      → (w : WentLevels first past now t levels) → LevelStep past now new (less t (lots_of w.fills)) price lots → WentLevels first (Some price) new t (levels ++ level_is price lots ∷ [])
   unfolding level_is
-  went_on first now taken new t price lots levels weighs weigh is all w step =
+  went_on first past now new t price lots levels weighs weigh all w step =
       let before : ℕ = lots_of w.fills in
       let sum : lots_of (w.fills ++ step.fills) ≡ before + lots = total-append (λ (f : Fill). f.lots) w.fills step.fills ∙ ap (λ n. before + n) step.lots_are in
-      let less_lines : total (λ (n : ℕ). n) taken.lines + lots ≤ total (λ (n : ℕ). n) now.lines
+      let less_lines : total (λ (n : ℕ). n) new.lines + lots ≤ total (λ (n : ℕ). n) now.lines
       = omega (arith, all.sum.paid, once_more now.weight lots (subst (λ (n : ℕ). 1 ≤ n) (sym weigh) weighs.0)) in
-      let back : (more : List Fill) (left : ℕ) → Planned first.weight (slice_index new.lines) book.orders (less t (lots_of (w.fills ++ step.fills))) (past_order new.last) more left
-      → Planned now.weight (slice_index taken.lines) book.orders (less (less t before) lots) (Some (at_end price)) more left
-      = λ more left planned. from_taken first now taken new t price before lots (lots_of (w.fills ++ step.fills)) more left weigh is sum planned in
-      let here : (more : List Fill) (left : ℕ) → Planned first.weight (slice_index new.lines) book.orders (less t (lots_of (w.fills ++ step.fills))) (past_order new.last) more left
-      → Planned first.weight (slice_index now.lines) book.orders (less t before) (past_order now.last) (step.fills ++ more) left
+      let back : (more : List Fill) (left : ℕ) → Planned first.weight (slice_index new.lines) book.orders (less t (lots_of (w.fills ++ step.fills))) (Some (at_end price)) more left
+      → Planned now.weight (slice_index new.lines) book.orders (less (less t before) lots) (Some (at_end price)) more left
+      = λ more left planned. from_taken first now new t price before lots (lots_of (w.fills ++ step.fills)) more left weigh sum planned in
+      let here : (more : List Fill) (left : ℕ) → Planned first.weight (slice_index new.lines) book.orders (less t (lots_of (w.fills ++ step.fills))) (Some (at_end price)) more left
+      → Planned first.weight (slice_index now.lines) book.orders (less t before) (past_order past) (step.fills ++ more) left
       = λ more left planned.
-      subst (λ (n : ℕ). Planned n (slice_index now.lines) book.orders (less t before) (past_order now.last) (step.fills ++ more) left) weigh (step.goes_on more left (back more left planned)) in
+      subst (λ (n : ℕ). Planned n (slice_index now.lines) book.orders (less t before) (past_order past) (step.fills ++ more) left) weigh (step.goes_on more left (back more left planned)) in
       record {
         fills = w.fills ++ step.fills;
-        enough = omega (arith, w.enough, sum, less_lines, ap (λ (n : LevelWalk). total (λ (m : ℕ). m) n.lines) is);
+        enough = omega (arith, w.enough, sum, less_lines);
         goes_on = λ more left planned.
             subst (λ (fs : List Fill). Planned first.weight (slice_index first.lines) book.orders t None fs left) (sym (append_assoc w.fills step.fills more))
             (w.goes_on (step.fills ++ more) left (here more left planned));
@@ -347,39 +347,38 @@ module _ (book : Book) (valid : IsBook book) where
             ap levels_of (append_assoc w.fills step.fills more)
             ∙ w.levels_are (step.fills ++ more) left (here more left planned)
             ∙ ap (λ (ls : List Level). levels ++ ls)
-            (levels_run price step.fills more step.prices step.some (elsewhere now.weight taken.lines (less (less t before) lots) price more left (back more left planned))
+            (levels_run price step.fills more step.prices step.some (elsewhere now.weight new.lines (less (less t before) lots) price more left (back more left planned))
             ∙ ap (λ n. level_is price n ∷ levels_of more) step.lots_are)
             ∙ sym (append_assoc levels (level_is price lots ∷ []) (levels_of more));
       }
 
-  pub way_on : (first now new : LevelWalk) (bank : ℕ) (levels : List Level) (level : Level) → Each (λ (q : Resting). q.bank < 65) book.orders → OnTheWay first now bank levels → length levels < 10 → TakesLevel book now new (Some level)
-      → OnTheWay first new bank (levels ++ level ∷ [])
+  pub way_on : (first now new : LevelWalk) (bank : ℕ) (levels : List Level) (level : Level) → Each (λ (q : Resting). q.bank < 65) book.orders → (way : OnTheWay first now bank levels) → length levels < 10
+      → TakesLevel book now new (Some level) → OnTheWay first new bank (levels ++ level ∷ [])
   unfolding level_is
   way_on first now new bank levels level few way short takes' =
       let best = takes'.0 in
-      let taken : LevelWalk = takes'.1.0 in
-      let all = takes'.1.1 in
-      let is = takes'.1.2 in
+      let all = takes'.1 in
       let weighs : IsWeight now.weight = subst IsWeight (sym way.weight) way.weighs in
-      let long : length taken.lines ≡ 65 = all.sum.long ∙ way.long in
+      let long : length new.lines ≡ 65 = all.sum.long ∙ way.long in
       record {
         weighs = way.weighs;
-        weight = ap (λ (w : LevelWalk). w.weight) is ∙ weight_same now taken level.lots all.sum ∙ way.weight;
-        taker = ap (λ (w : LevelWalk). w.taker) is ∙ taker_same now taken level.lots all.sum ∙ way.taker;
-        long = ap (λ (w : LevelWalk). length w.lines) is ∙ long;
-        have = levels_behind book now taken new level.price level.lots all is;
-        own = ap (λ (w : LevelWalk). slice_index w.lines bank) is
-            ∙ elim (cases_lt bank 65) [
+        weight = weight_same now new level.lots all.sum ∙ way.weight;
+        taker = taker_same now new level.lots all.sum ∙ way.taker;
+        long = long;
+        past = Some level.price;
+        have = levels_behind book now new level.price level.lots all;
+        own =
+            elim (cases_lt bank 65) [
               | inl below ↦ (all.taken bank below).line ∙ (let it : line_behind now.weight now.taker level.price book.orders bank (slice_index now.lines bank) ≡ 0 = omega (arith, way.own) in it)
-              | inr past ↦ get_or_past taken.lines bank 0 (omega (arith, long))
+              | inr past ↦ get_or_past new.lines bank 0 (omega (arith, long))
             ];
-        most = omega (arith, ap (λ (w : LevelWalk). total (λ (n : ℕ). n) w.lines) is, all.sum.paid, way.most);
+        most = omega (arith, all.sum.paid, way.most);
         few = omega (arith, length-append levels (level ∷ []), short);
         went = λ t mine side eager enough.
             let w = way.went t mine side eager enough in
             let u : Taker = less t (lots_of w.fills) in
-            went_on first now taken new t level.price level.lots levels way.weighs way.weight is all w
-            (level_step now taken u level.price level.lots weighs few (side ∙ sym way.taker) way.have best
+            went_on first way.past now new t level.price level.lots levels way.weighs way.weight all w
+            (level_step way.past now new u level.price level.lots weighs few (side ∙ sym way.taker) way.have best
             (record { crosses = eager.crosses; came = eager.came })
             (ap (slice_index now.lines) mine ∙ way.own) (omega (arith, w.enough)) way.long long all);
       }
@@ -432,7 +431,7 @@ module _ (book : Book) (credit : Credit) (weight bank most : ℕ) (side : Side) 
         first = is ∙ ap (take 10) within.levels;
       }
 
-  went_of : (t : Taker) (levels : List Level) → OnTheWay book begins.valid first now bank levels → t.bank ≡ bank → t.side ≡ side → IsUnlimited book t → WentLevels book begins.valid first now t levels
+  went_of : (t : Taker) (levels : List Level) → (way : OnTheWay book begins.valid first now bank levels) → t.bank ≡ bank → t.side ≡ side → IsUnlimited book t → WentLevels book begins.valid first way.past now t levels
   went_of t levels way mine side_is unlimited =
       way.went t mine (side_is ∙ sym first_taker) (record { crosses = unlimited.crosses; came = unlimited.came }) (omega (arith, begins.most, unlimited.wants))
 
@@ -441,9 +440,9 @@ module _ (book : Book) (credit : Credit) (weight bank most : ℕ) (side : Side) 
   reached-whole left whole levels way are best t mine pair side_is unlimited =
       let w = went_of t whole way mine side_is unlimited in
       let u : Taker = less t (lots_of w.fills) in
-      let none = none_left book begins.valid now u (subst IsWeight (sym way.weight) way.weighs) begins.few (side_is ∙ sym first_taker ∙ sym way.taker) way.have best in
-      let planned : Planned first.weight (slice_index now.lines) book.orders u (past_order now.last) [] u.left
-      = subst (λ n. Planned n (slice_index now.lines) book.orders u (past_order now.last) [] u.left) way.weight (refl, inr none) in
+      let none = none_left book begins.valid way.past now u (subst IsWeight (sym way.weight) way.weighs) begins.few (side_is ∙ sym first_taker ∙ sym way.taker) way.have best in
+      let planned : Planned first.weight (slice_index now.lines) book.orders u (past_order way.past) [] u.left
+      = subst (λ n. Planned n (slice_index now.lines) book.orders u (past_order way.past) [] u.left) way.weight (refl, inr none) in
       levelled_by t (w.fills ++ []) u.left levels mine pair (w.goes_on [] u.left planned)
       (cut-ended most left whole levels are way.few ∙ sym (ap (λ (ls : List Level). take 10 (cut most ls)) (w.levels_are [] u.left planned ∙ append-nil whole)))
 
@@ -452,6 +451,6 @@ module _ (book : Book) (credit : Credit) (weight bank most : ℕ) (side : Side) 
   reached-full left whole levels way are ended t mine pair side_is unlimited =
       let w = went_of t whole way mine side_is unlimited in
       let u : Taker = less t (lots_of w.fills) in
-      let rest = planned-exists first.weight (slice_index now.lines) book.orders u (past_order now.last) in
+      let rest = planned-exists first.weight (slice_index now.lines) book.orders u (past_order way.past) in
       levelled_by t (w.fills ++ rest.0) rest.1 levels mine pair (w.goes_on rest.0 rest.1 rest.2)
       (cut-first most left whole levels are (levels_of rest.0) way.few ended ∙ sym (ap (λ (ls : List Level). take 10 (cut most ls)) (w.levels_are rest.0 rest.1 rest.2)))

@@ -1,7 +1,7 @@
 mod Passed
 pub mod Tables
 pub mod Finding
-mod Others
+mod Wording
 pub mod Planning
 pub mod Picking
 pub mod Levelling

@@ -1,21 +1,18 @@
--- The ranks of the heads' prices, by which the heads are kept: the lowest is that of the best price.
-use Rattle.std.proofs.Common.{ℕ, ◌≡◌, ◌++◌, ◌-◌, ◌/◌, ◌≤◌, ◌<◌, ◌^◌, min, true, false, if◌then◌else◌, List, [], ◌∷◌, inl, inr, refl, ap, sym, subst, ◌∙◌, arith, Option, Some, None, IfSome, slice_index, take}
+-- The ranks of prices, by which a walk keeps them: the lowest is that of the best price.
+use Rattle.std.proofs.Common.{ℕ, ◌≡◌, ◌++◌, ◌-◌, ◌≤◌, ◌<◌, ◌^◌, min, true, false, if◌then◌else◌, List, [], ◌∷◌, inl, inr, refl, ap, sym, subst, ◌∙◌, arith, Option, Some, None, slice_index, take}
 use Rattle.std.proofs.lemmas.Bool.{cases_Bool, lt-leb, ltb-true, ltb-false}
-use Rattle.std.specs.Option.{option_map}
 use Rattle.std.proofs.lemmas.List.{get_or-replicate}
-use Rattle.fx_amounts.specs.Quantity.{IsWeight}
 use Rattle.fx_amounts.specs.declared.side.Side.{Side}
 use Rattle.fx_amounts.specs.declared.side.Side.TheVariants.{Buy, Sell}
 use Rattle.fx_rules.specs.Sweep.{is_better}
 use Rattle.match_sweep.specs.declared.reached.LevelWalk.{LevelWalk}
-use Rattle.match_sweep.specs.inside.Reaches.{AreRanked, IsBareLevel, IsBestAmong, IsRank, as_head, better_price, head_of, price_at, price_in, price_of, rank_of, row_of}
-use Rattle.match_sweep.proofs.Reaching.{IsWorseHead, better-on, none_differs, price_there, some_equal, worse_head}
-use Rattle.match_sweep.proofs.Stepping.{paid_for}
+use Rattle.match_sweep.specs.inside.Reaches.{AreRanked, IsBareLevel, IsBestAmong, IsRank, better_price, price_in, price_of, rank_of}
+use Rattle.match_sweep.proofs.Reaching.{better-on}
 use Rattle.match_sweep.proofs.Tables.{replicate-at}
 
 -- Ranks of two prices.
 
-rank-most : (taker : Side) (price : Option ℕ) (rank : ℕ) → IsRank taker price rank → rank ≤ 2 ^ 32 - 1
+rank-most : (taker : Side) (price : Option ℕ) (rank : ℕ) → IsRank taker price rank → rank ≤ 2 ^ 30 - 1
 rank-most taker None rank is = omega (arith, is.is)
 rank-most Buy (Some price) rank is = omega (arith, is.is, is.valid.1)
 rank-most Sell (Some price) rank is = omega (arith, is.is)
@@ -57,16 +54,6 @@ same_rank Sell (Some found) price rank other is there same =
 pub one_rank : (taker : Side) (found : Option ℕ) (price rank other : ℕ) → IsRank taker found rank → IsRank taker (Some price) other → found ≡ Some price → rank ≡ other
 one_rank taker found price rank other is there same = is.is ∙ ap (rank_of taker) same ∙ sym there.is
 
--- a head with a price is its row's
-pub head_at_price : (walk : LevelWalk) (bank price : ℕ) → price_in (head_of walk bank) ≡ Some price → head_of walk bank ≡ Some (as_head (row_of walk.heads bank) price)
-head_at_price walk bank price is =
-    let answer : (found : Option ℕ) → price_in (option_map (as_head (row_of walk.heads bank)) found) ≡ Some price → option_map (as_head (row_of walk.heads bank)) found ≡ Some (as_head (row_of walk.heads bank) price)
-    = λ found. elim found as (λ (f : Option ℕ). price_in (option_map (as_head (row_of walk.heads bank)) f) ≡ Some price → option_map (as_head (row_of walk.heads bank)) f ≡ Some (as_head (row_of walk.heads bank) price)) [
-      | None ↦ λ none. none_differs price none
-      | Some there ↦ λ some. ap (λ (p : ℕ). Some (as_head (row_of walk.heads bank) p)) (some_equal there price some)
-    ] in
-    answer (price_at walk.taker (slice_index walk.ranks bank)) is
-
 -- The ranks of a walk.
 
 -- before any bank is opened
@@ -74,9 +61,9 @@ pub bare-ranked : (walk : LevelWalk) → 1 ≤ walk.weight → IsBareLevel walk 
 bare-ranked walk some bare = λ bank below.
     let line : slice_index walk.lines bank ≡ 0 = ap (λ (xs : List ℕ). slice_index xs bank) bare.lines ∙ replicate-at {X = ℕ} 0 65 bank in
     let none : price_of walk bank ≡ None
-    = ap (λ b. if b then price_in (head_of walk bank) else None) (lt-leb walk.weight (slice_index walk.lines bank) (omega (arith, line, some))) in
+    = ap (λ b. if b then price_in walk bank else None) (lt-leb walk.weight (slice_index walk.lines bank) (omega (arith, line, some))) in
     subst (λ (p : Option ℕ). IsRank walk.taker p (slice_index walk.ranks bank)) (sym none)
-    (record { valid = tt; is = ap (λ (xs : List ℕ). slice_index xs bank) bare.ranks ∙ get_or-replicate 65 bank (2 ^ 32 - 1) 0 (omega arith) })
+    (record { valid = tt; is = ap (λ (xs : List ℕ). slice_index xs bank) bare.ranks ∙ get_or-replicate 65 bank (2 ^ 30 - 1) 0 (omega arith) })
 
 -- The lowest rank.
 
@@ -86,7 +73,7 @@ pub record IsLowest (walk : LevelWalk) (banks : List ℕ) (lowest : ℕ) : Type 
   pub rank : IsRank walk.taker price lowest
   pub best : IsBestAmong walk banks price
 
-pub lowest-begins : (walk : LevelWalk) (banks : List ℕ) → IsLowest walk (take 0 banks) (2 ^ 32 - 1)
+pub lowest-begins : (walk : LevelWalk) (banks : List ℕ) → IsLowest walk (take 0 banks) (2 ^ 30 - 1)
 lowest-begins walk banks = record { price = None; rank = record { valid = tt; is = refl }; best = λ bank there. absurd (omega (arith, there.1)) }
 
 pub lowest-on : (walk : LevelWalk) (banks : List ℕ) (n lowest : ℕ) → n < 65 → AreRanked walk → IsLowest walk banks lowest → IsLowest walk (banks ++ n ∷ []) (min lowest (slice_index walk.ranks n))
@@ -95,11 +82,3 @@ lowest-on walk banks n lowest below ranked so_far = record {
   rank = lower walk.taker so_far.price (price_of walk n) lowest (slice_index walk.ranks n) so_far.rank (ranked n below);
   best = better-on walk banks n so_far.price (price_of walk n) refl so_far.best;
 }
-
--- a bank with another price than the best one has a worse head, where its line pays
-pub other_rank : (walk : LevelWalk) (bank price : ℕ) (head : Option ℕ) → IsWeight walk.weight → price_in (head_of walk bank) ≡ head → (price_of walk bank ≡ Some price → ⊥)
-    → IfSome (price_of walk bank) (λ other. is_better walk.taker other price ≡ false) → 1 ≤ slice_index walk.lines bank / walk.weight → IsWorseHead walk.taker price (price_in (head_of walk bank))
-other_rank walk bank price None weighs is differ best some = subst (IsWorseHead walk.taker price) (sym is) tt
-other_rank walk bank price (Some head) weighs is differ best some =
-    worse_head walk bank price head weighs is
-    (λ same. differ (price_there walk bank head (paid_for (slice_index walk.lines bank) walk.weight weighs some) is ∙ ap Some same)) best some

@@ -1,12 +1,10 @@
 -- The walk from price to price: its best price, what it takes of a bank and of all, and the sweep that its levels are of.
-use Rattle.std.proofs.Common.{ℕ, ◌≡◌, ◌≢◌, ◌+◌, ◌++◌, ◌-◌, ◌*◌, ◌/◌, ◌≤◌, ◌<◌, min, Bool, true, false, not, ◌&&◌, if◌then◌else◌, leb, eqb, List, [], ◌∷◌, length, ◌⊎◌, inl, inr, refl, ap, sym, subst, ◌∙◌, arith, Option, Some, None, IfSome, get_or-set_same, get_or-set_other, slice_get, slice_index, take}
+use Rattle.std.proofs.Common.{ℕ, ◌≡◌, ◌≢◌, ◌+◌, ◌++◌, ◌-◌, ◌*◌, ◌/◌, ◌^◌, ◌≤◌, ◌<◌, min, Bool, true, false, ◌&&◌, if◌then◌else◌, leb, eqb, ltb, List, [], ◌∷◌, length, ◌⊎◌, inl, inr, refl, ap, sym, subst, ◌∙◌, arith, Option, Some, None, IfSome, get_or-set_same, get_or-set_other, slice_index, take}
 use Rattle.std.proofs.Math.ListN.{set, length-set}
 use Rattle.std.proofs.Math.Nat.{add-mul}
-use Rattle.std.proofs.lemmas.Bool.{cases_Bool, cases_eq, cases_lt, and_parts, and_from, both_ways, false_from_ne_true, eq-eqb, eqb-true, le-leb, lt-ltb, le-ltb, ltb-true, ltb-false, leb-true}
-use Rattle.std.proofs.lemmas.Option.{slice_get_within}
+use Rattle.std.proofs.lemmas.Bool.{cases_Bool, cases_eq, cases_lt, and_parts, and_from, both_ways, false_from_ne_true, eq-eqb, eqb-true, ne_eqb, le-leb, lt-ltb, le-ltb, ltb-true, ltb-false, leb-true}
 use Rattle.std.proofs.lemmas.List.Elements.{Contains-append_left, Contains-push, Contains-push_cases}
 use Rattle.std.specs.List.{Contains, filter}
-use Rattle.std.specs.Option.{option_map}
 use Rattle.fx_amounts.specs.Quantity.{IsWeight}
 use Rattle.fx_amounts.specs.declared.side.Side.{Side}
 use Rattle.fx_amounts.specs.declared.side.Side.TheVariants.{Buy, Sell}
@@ -14,11 +12,9 @@ use Rattle.fx_rules.specs.declared.orders.Resting.{Resting}
 use Rattle.fx_rules.specs.Lists.{Among, Each, total}
 use Rattle.fx_rules.specs.Sweep.{is_better, is_opposite}
 use Rattle.fx_rules.proofs.ListLemmas.{Each-among, Each-of, filter_cons_false}
-use Rattle.global_book.specs.Book.{AreOwners, Book, IsLevel, IsLevelOf, IsPriceOf, is_across, is_level, is_of, is_worse, is_worse_of, level_at, level_lots, levels_of, with_lots}
-use Rattle.global_book.proofs.Levels.{first_level, next_level, price_of_level}
-use Rattle.match_sweep.specs.declared.reached.BankLevel.{BankLevel}
+use Rattle.global_book.specs.Book.{AreOwners, Book, IsLevel, IsPriceOf, is_level, is_of, is_worse, is_worse_of, level_at, level_lots}
 use Rattle.match_sweep.specs.declared.reached.LevelWalk.{LevelWalk}
-use Rattle.match_sweep.specs.inside.Reaches.{AreTaken, counted, HaveLevels, IsBestAmong, IsBestPrice, IsHead, IsLeft, IsPaid, IsTakenOf, Puts, TakesOf, as_level, bank_level, better_price, head_of, line_behind, price_in, price_of}
+use Rattle.match_sweep.specs.inside.Reaches.{AreTaken, AreTakenOf, HaveLevels, IsBestAmong, IsBestPrice, IsLeft, IsPaid, IsRank, IsTakenAt, IsTakenOf, Puts, TakesOf, better_price, line_behind, price_at, price_in, price_of}
 use Rattle.match_sweep.proofs.Tables.{total-changed}
 use Rattle.match_sweep.proofs.Passed.{contains_or}
 use Rattle.match_sweep.proofs.Levelling.{level_parts}
@@ -156,62 +152,96 @@ head_stays taker bank price past orders (Some head) worse is behind =
       lots = is.lots;
     }
 
--- The head of a bank.
+-- A bank's price, where the line with it pays for a lot.
 
-head_of_level : (taker : Side) (bank : ℕ) (past : Option ℕ) (orders : List Resting) (at : ℕ) (found : Option (ℕ × ℕ)) → slice_get (levels_of taker bank orders) at ≡ found → IsLevelOf taker bank past orders found
-    → IsHead taker bank past orders (option_map (as_level at) found)
-head_of_level taker bank past orders at None is level = record { best = level; lots = tt; level = tt }
-head_of_level taker bank past orders at (Some found) is level = record {
-  best = price_of_level taker bank past orders (Some found) level;
-  lots = ap counted level.lots;
-  level = is ∙ ap (λ (lots : ℕ). Some (found.0, lots)) level.lots;
+-- the price of a rank is that whose rank it is
+pub at-rank : (taker : Side) (price : Option ℕ) (rank : ℕ) → IsRank taker price rank → price_at taker rank ≡ price
+at-rank Buy None rank is = ap (λ b. if b then None else Some rank) (eq-eqb rank (2 ^ 30 - 1) is.is)
+at-rank Sell None rank is = ap (λ b. if b then None else Some (10 ^ 9 - rank)) (eq-eqb rank (2 ^ 30 - 1) is.is)
+at-rank Buy (Some price) rank is =
+    ap (λ b. if b then None else Some rank) (ne_eqb rank (2 ^ 30 - 1) (λ same. omega (arith, is.is, is.valid.1, same))) ∙ ap Some is.is
+at-rank Sell (Some price) rank is =
+    ap (λ b. if b then None else Some (10 ^ 9 - rank)) (ne_eqb rank (2 ^ 30 - 1) (λ same. omega (arith, is.is, same)))
+    ∙ ap Some (let it : 10 ^ 9 - rank ≡ price = omega (arith, is.is, is.valid.1) in it)
+
+pub price_there : (walk : LevelWalk) (bank head : ℕ) → walk.weight ≤ slice_index walk.lines bank → price_in walk bank ≡ Some head → price_of walk bank ≡ Some head
+price_there walk bank head pays' is = ap (λ b. if b then price_in walk bank else None) (le-leb walk.weight (slice_index walk.lines bank) pays') ∙ is
+
+pub record HasPrice (walk : LevelWalk) (bank price : ℕ) : Type 0 where
+  pub pays : walk.weight ≤ slice_index walk.lines bank
+  pub is : price_in walk bank ≡ Some price
+
+pub has_price : (walk : LevelWalk) (bank price : ℕ) → price_of walk bank ≡ Some price → HasPrice walk bank price
+has_price walk bank price at =
+    elim (cases_Bool (leb walk.weight (slice_index walk.lines bank))) [
+      | inl pays' ↦ record {
+        pays = leb-true walk.weight (slice_index walk.lines bank) pays';
+        is = sym (ap (λ b. if b then price_in walk bank else None) pays') ∙ at;
+      }
+      | inr short ↦ none_differs price (sym (ap (λ b. if b then price_in walk bank else None) short) ∙ at)
+    ]
+
+-- a bank's price is this one, or not
+asked_or : (found : Option ℕ) (price : ℕ) → (found ≡ Some price) ⊎ (found ≡ Some price → ⊥)
+asked_or None price = inr (λ is. none_differs price is)
+asked_or (Some found) price =
+    elim (cases_eq found price) [
+      | inl same ↦ inl (ap Some same)
+      | inr differ ↦ inr (λ is. differ (some_equal found price is))
+    ]
+
+-- another price than the best of all is worse
+other_worse : (walk : LevelWalk) (bank price : ℕ) → IsWeight walk.weight → bank < 65 → IsBestPrice walk 65 (Some price) → (price_of walk bank ≡ Some price → ⊥) → 1 ≤ slice_index walk.lines bank / walk.weight
+    → IsWorseHead walk.taker price (price_in walk bank)
+other_worse walk bank price weighs below best differ some =
+    let pays' : walk.weight ≤ slice_index walk.lines bank = paid_for (slice_index walk.lines bank) walk.weight weighs some in
+    let answer : (found : Option ℕ) → price_in walk bank ≡ found → IsWorseHead walk.taker price found = λ found.
+    elim found as (λ (f : Option ℕ). price_in walk bank ≡ f → IsWorseHead walk.taker price f) [
+      | None ↦ λ _. tt
+      | Some head ↦ λ is.
+          let at : price_of walk bank ≡ Some head = price_there walk bank head pays' is in
+          elim (better-or_same walk.taker head price (best.1 bank head below at)) [
+            | inl same ↦ absurd (differ (at ∙ ap Some same))
+            | inr worse ↦ worse
+          ]
+    ] in
+    answer (price_in walk bank) refl
+
+-- What a walk keeps.
+
+pub weight_same : (old now : LevelWalk) (lots : ℕ) → IsPaid old now lots → now.weight ≡ old.weight
+weight_same old now lots paid = ap (λ (w : LevelWalk). w.weight) paid.same
+
+pub taker_same : (old now : LevelWalk) (lots : ℕ) → IsPaid old now lots → now.taker ≡ old.taker
+taker_same old now lots paid = ap (λ (w : LevelWalk). w.taker) paid.same
+
+unpaid : (walk : LevelWalk) → IsPaid walk walk 0
+unpaid walk = record { same = refl; long = refl; paid = omega arith }
+
+paid_both : (old now new : LevelWalk) (lots more : ℕ) → IsPaid old now lots → IsPaid now new more → IsPaid old new (lots + more)
+paid_both old now new lots more first second = record {
+  same = second.same ∙ ap (λ (w : LevelWalk). record w { lines = new.lines; ranks = new.ranks }) first.same;
+  long = second.long ∙ first.long;
+  paid = let weigh = weight_same old now lots first in
+      let here : more * old.weight + total (λ (n : ℕ). n) new.lines ≡ total (λ (n : ℕ). n) now.lines = ap (λ w. more * w + total (λ (n : ℕ). n) new.lines) (sym weigh) ∙ second.paid in
+      omega (arith, here, first.paid, add-mul lots more old.weight);
 }
 
--- at first it is the bank's first level
-pub first_head : (taker : Side) (bank : ℕ) (orders : List Resting) → IsHead taker bank None orders (bank_level taker bank orders 0)
-first_head taker bank orders = head_of_level taker bank None orders 0 (slice_get (levels_of taker bank orders) 0) refl (first_level taker bank orders)
+still : (walk : LevelWalk) (bank : ℕ) → IsLeft walk walk bank
+still walk bank = record { line = refl; rank = refl }
 
--- then it is the one behind the level that was taken
-pub next_head : (taker : Side) (bank : ℕ) (past : Option ℕ) (orders : List Resting) (head : BankLevel) → IsHead taker bank past orders (Some head)
-    → IsHead taker bank (Some head.price) orders (bank_level taker bank orders (head.at + 1))
-next_head taker bank past orders head is =
-    head_of_level taker bank (Some head.price) orders (head.at + 1) (slice_get (levels_of taker bank orders) (head.at + 1)) refl
-    (next_level taker bank orders head.at (head.price, level_lots taker bank head.price orders) is.level)
+left_both : (old now new : LevelWalk) (bank : ℕ) → IsLeft old now bank → IsLeft now new bank → IsLeft old new bank
+left_both old now new bank first second = record { line = second.line ∙ first.line; rank = second.rank ∙ first.rank }
 
--- a worse one stays
-level_stays : (taker : Side) (bank price : ℕ) (past : Option ℕ) (orders : List Resting) (head : Option BankLevel) → is_worse taker past price ≡ true → IsHead taker bank past orders head → IsWorseHead taker price (price_in head)
-    → IsHead taker bank (Some price) orders head
-level_stays taker bank price past orders head worse is behind = record { best = head_stays taker bank price past orders (price_in head) worse is.best behind; lots = is.lots; level = is.level }
+-- a bank that is as it was has its price
+pub price_left : (old now : LevelWalk) (bank : ℕ) → now.taker ≡ old.taker → IsLeft old now bank → price_in now bank ≡ price_in old bank
+price_left old now bank taker left = ap (λ (s : Side). price_at s (slice_index now.ranks bank)) taker ∙ ap (price_at old.taker) left.rank
 
-few_put : (taker : Side) (price lots : ℕ) (levels : List (ℕ × ℕ)) → length (with_lots taker price lots levels) ≤ length levels + 1
-few_put taker price lots [] = omega arith
-few_put taker price lots (level ∷ levels) =
-    elim (cases_Bool (eqb price level.0)) [
-      | inl same ↦ omega (arith, ap (λ b. length (if b then (price, lots + level.1) ∷ levels else if is_better taker price level.0 then (price, lots) ∷ level ∷ levels else level ∷ with_lots taker price lots levels)) same)
-      | inr differ ↦
-          let here : length (with_lots taker price lots (level ∷ levels)) ≡ length (if is_better taker price level.0 then (price, lots) ∷ level ∷ levels else level ∷ with_lots taker price lots levels)
-          = ap (λ b. length (if b then (price, lots + level.1) ∷ levels else if is_better taker price level.0 then (price, lots) ∷ level ∷ levels else level ∷ with_lots taker price lots levels)) differ in
-          elim (cases_Bool (is_better taker price level.0)) [
-            | inl better ↦ omega (arith, here, ap (λ b. length (if b then (price, lots) ∷ level ∷ levels else level ∷ with_lots taker price lots levels)) better)
-            | inr worse ↦ omega (arith, here, ap (λ b. length (if b then (price, lots) ∷ level ∷ levels else level ∷ with_lots taker price lots levels)) worse, few_put taker price lots levels)
-          ]
-    ]
-
-few_levels : (taker : Side) (bank : ℕ) (orders : List Resting) → length (levels_of taker bank orders) ≤ length orders
-few_levels taker bank [] = omega arith
-few_levels taker bank (order ∷ orders) =
-    let few = few_levels taker bank orders in
-    elim (cases_Bool (is_across taker bank order)) [
-      | inl across ↦ omega (arith, few, ap (λ b. length (if b then with_lots taker order.price order.left (levels_of taker bank orders) else levels_of taker bank orders)) across, few_put taker order.price order.left (levels_of taker bank orders))
-      | inr other ↦ omega (arith, few, ap (λ b. length (if b then with_lots taker order.price order.left (levels_of taker bank orders) else levels_of taker bank orders)) other)
-    ]
-
--- there are no more levels than orders
-pub head_within : (taker : Side) (bank : ℕ) (past : Option ℕ) (orders : List Resting) (head : BankLevel) → IsHead taker bank past orders (Some head) → head.at < length orders
-head_within taker bank past orders head is =
-    let within = slice_get_within (levels_of taker bank orders) head.at (head.price, level_lots taker bank head.price orders) is.level in
-    let few = few_levels taker bank orders in
-    omega (arith, within, few)
+asked_left : (old now : LevelWalk) (bank lots : ℕ) → IsPaid old now lots → IsLeft old now bank → price_of now bank ≡ price_of old bank
+asked_left old now bank lots paid left =
+    ap (λ w. if leb w (slice_index now.lines bank) then price_in now bank else None) (weight_same old now lots paid)
+    ∙ ap (λ l. if leb old.weight l then price_in now bank else None) left.line
+    ∙ ap (λ (p : Option ℕ). if leb old.weight (slice_index old.lines bank) then p else None) (price_left old now bank (taker_same old now lots paid) left)
 
 -- What is taken of one bank.
 
@@ -220,133 +250,88 @@ nothing_taken weight taker price orders bank line none =
     let nothing : min (level_lots taker bank price orders) (line / weight) * weight ≡ 0 = ap (λ n. n * weight) none ∙ (let it : 0 * weight ≡ 0 = omega arith in it) in
     omega arith
 
-unpaid : (walk : LevelWalk) → IsPaid walk walk 0
-unpaid walk = record { same = refl; long = refl; paid = omega arith }
-
--- a line that pays for nothing
-pub takes_none-line : (book : Book) (walk : LevelWalk) (bank price : ℕ) → IsWeight walk.weight → slice_index walk.lines bank < walk.weight → TakesOf book walk walk bank price 0
-takes_none-line book walk bank price weighs short =
-    let none : slice_index walk.lines bank / walk.weight < 1
-    = elim (cases_lt (slice_index walk.lines bank / walk.weight) 1) [
-      | inl few ↦ few
-      | inr some ↦ let it = paid_for (slice_index walk.lines bank) walk.weight weighs some in omega arith
-    ] in
-    record {
-      taken = record {
-        line = nothing_taken walk.weight walk.taker price book.orders bank (slice_index walk.lines bank) (omega (arith, none));
-        head = λ reach. absurd (omega (arith, none, reach));
-      };
-      others = λ other _. record { line = refl; head = refl };
-      sum = unpaid walk;
-    }
-
--- a head at a worse price, or none
-pub takes_none-head : (book : Book) (walk : LevelWalk) (bank price : ℕ) → IsWeight walk.weight → is_worse walk.taker walk.last price ≡ true
-    → (1 ≤ slice_index walk.lines bank / walk.weight → IsHead walk.taker bank walk.last book.orders (head_of walk bank))
-    → (1 ≤ slice_index walk.lines bank / walk.weight → IsWorseHead walk.taker price (price_in (head_of walk bank))) → TakesOf book walk walk bank price 0
-takes_none-head book walk bank price weighs worse is behind =
+-- nothing, where its price is worse or it has none
+none_taken : (book : Book) (past : Option ℕ) (walk : LevelWalk) (bank price : ℕ) → is_worse walk.taker past price ≡ true
+    → (1 ≤ slice_index walk.lines bank / walk.weight → IsPriceOf walk.taker bank past book.orders (price_in walk bank))
+    → (1 ≤ slice_index walk.lines bank / walk.weight → IsWorseHead walk.taker price (price_in walk bank)) → IsTakenOf book walk walk price bank
+none_taken book past walk bank price worse is behind =
     let reach : ℕ = slice_index walk.lines bank / walk.weight in
     record {
-      taken = record {
-        line = nothing_taken walk.weight walk.taker price book.orders bank (slice_index walk.lines bank)
-            (elim (cases_lt reach 1) [
-              | inl none ↦ omega (arith, none)
-              | inr some ↦ omega (arith, no_lots walk.taker bank price walk.last book.orders (price_in (head_of walk bank)) worse (is some).best (behind some))
-            ]);
-        head = λ some. level_stays walk.taker bank price walk.last book.orders (head_of walk bank) worse (is some) (behind some);
-      };
-      others = λ other _. record { line = refl; head = refl };
-      sum = unpaid walk;
+      line = nothing_taken walk.weight walk.taker price book.orders bank (slice_index walk.lines bank)
+          (elim (cases_lt reach 1) [
+            | inl none ↦ omega (arith, none)
+            | inr some ↦ omega (arith, no_lots walk.taker bank price past book.orders (price_in walk bank) worse (is some) (behind some))
+          ]);
+      head = λ some. head_stays walk.taker bank price past book.orders (price_in walk bank) worse (is some) (behind some);
     }
 
--- the head of a bank with which the line pays is its best price
-pub price_there : (walk : LevelWalk) (bank head : ℕ) → walk.weight ≤ slice_index walk.lines bank → price_in (head_of walk bank) ≡ Some head → price_of walk bank ≡ Some head
-price_there walk bank head pays' is = ap (λ b. if b then price_in (head_of walk bank) else None) (le-leb walk.weight (slice_index walk.lines bank) pays') ∙ is
-
--- with the level there
-pub head_there : (book : Book) (walk : LevelWalk) (bank : ℕ) (head : BankLevel) → IsWeight walk.weight → walk.weight ≤ slice_index walk.lines bank → head_of walk bank ≡ Some head
-    → (1 ≤ slice_index walk.lines bank / walk.weight → IsHead walk.taker bank walk.last book.orders (head_of walk bank)) → IsHead walk.taker bank walk.last book.orders (Some head)
-head_there book walk bank head weighs pays' is have = subst (IsHead walk.taker bank walk.last book.orders) is (have (pays (slice_index walk.lines bank) walk.weight weighs pays'))
-
--- and its price is worse than the best of all, where it is another
-pub worse_head : (walk : LevelWalk) (bank price head : ℕ) → IsWeight walk.weight → price_in (head_of walk bank) ≡ Some head → head ≢ price
-    → IfSome (price_of walk bank) (λ other. is_better walk.taker other price ≡ false) → 1 ≤ slice_index walk.lines bank / walk.weight → IsWorseHead walk.taker price (price_in (head_of walk bank))
-worse_head walk bank price head weighs is differ best some =
-    let at : price_of walk bank ≡ Some head = price_there walk bank head (paid_for (slice_index walk.lines bank) walk.weight weighs some) is in
-    let not_better : is_better walk.taker head price ≡ false = subst (λ (f : Option ℕ). IfSome f (λ other. is_better walk.taker other price ≡ false)) at best in
-    subst (λ (h : Option ℕ). IsWorseHead walk.taker price h) (sym is)
-    (elim (better-or_same walk.taker head price not_better) [ inl same ↦ absurd (differ same) | inr worse ↦ worse ])
-
--- the lots at the price are taken
-pub takes_some : (book : Book) (walk new : LevelWalk) (bank at price lots taken : ℕ) (next : Option BankLevel) → IsWeight walk.weight → at ≡ bank → at < length walk.lines
-    → walk.weight ≤ slice_index walk.lines bank → lots ≡ level_lots walk.taker bank price book.orders → taken ≡ min lots (slice_index walk.lines at / walk.weight)
-    → (1 ≤ (slice_index walk.lines at - taken * walk.weight) / walk.weight → IsHead walk.taker bank (Some price) book.orders next)
-    → Puts walk new at (slice_index walk.lines at - taken * walk.weight) next → TakesOf book walk new bank price taken
-takes_some book walk new bank at price lots taken next weighs at_is within pays' lots_are taken_is level puts =
-    let line : ℕ = slice_index walk.lines at in
-    let rest : ℕ = line - taken * walk.weight in
-    let lines : new.lines ≡ set walk.lines at rest = ap (λ (w : LevelWalk). w.lines) puts.same in
-    let here : slice_index new.lines at ≡ rest = ap (λ (xs : List ℕ). slice_index xs at) lines ∙ get_or-set_same walk.lines at rest 0 within in
-    let few : taken * walk.weight ≤ line = lots_cost taken line walk.weight (omega arith) in
-    subst (λ (b : ℕ). TakesOf book walk new b price taken) at_is (record {
-      taken = record {
-        line = here
-            ∙ ap (λ n. line - n * walk.weight) (taken_is ∙ ap (λ n. min n (line / walk.weight)) (lots_are ∙ ap (λ b. level_lots walk.taker b price book.orders) (sym at_is)));
-        head = λ reach. subst (IsHead walk.taker at (Some price) book.orders) (sym puts.here)
-            (subst (λ (b : ℕ). IsHead walk.taker b (Some price) book.orders next) (sym at_is)
-            (level (subst (λ n. 1 ≤ n / walk.weight) here reach)));
-      };
-      others = λ other differ. record {
-        line = ap (λ (xs : List ℕ). slice_index xs other) lines ∙ get_or-set_other walk.lines at other rest 0 differ;
-        head = puts.others other differ;
-      };
-      sum = record {
-        same = puts.same ∙ ap (λ (xs : List ℕ). record walk { lines = xs; heads = new.heads; ranks = new.ranks }) (sym lines);
-        long = ap length lines ∙ length-set walk.lines at rest;
-        paid = let changed = total-changed walk.lines at rest within in omega (arith, changed, few, ap (total (λ (n : ℕ). n)) lines);
-      };
-    })
-
-pub not_equal : (a b : ℕ) → not (eqb a b) ≡ true → a ≢ b
-not_equal a b differ same = let it : false ≡ true = sym (ap not (eq-eqb a b same)) ∙ differ in cc
-
-pub equal : (a b : ℕ) → not (eqb a b) ≡ false → a ≡ b
-equal a b not_differ =
-    elim (cases_Bool (eqb a b)) [
-      | inl same ↦ eqb-true a b same
-      | inr differ ↦ let it : true ≡ false = sym (ap not differ) ∙ not_differ in cc
-    ]
-
--- What is taken of all banks.
-
-pub record TakenSoFar (book : Book) (old now : LevelWalk) (price : ℕ) (banks : List ℕ) (lots : ℕ) : Type 0 where
-  pub taken : (bank : ℕ) → Contains banks bank → IsTakenOf book old now price bank
-  pub left : (bank : ℕ) → (Contains banks bank → ⊥) → IsLeft old now bank
-  pub sum : IsPaid old now lots
-
-pub taken-begins : (book : Book) (walk : LevelWalk) (price : ℕ) (banks : List ℕ) → TakenSoFar book walk walk price (take 0 banks) 0
-taken-begins book walk price banks = record {
-  taken = λ bank there. absurd (omega (arith, there.1));
-  left = λ bank _. record { line = refl; head = refl };
+-- nothing, where it is asked at another price
+pub takes_none : (book : Book) (walk : LevelWalk) (bank price : ℕ) → (price_of walk bank ≡ Some price → ⊥) → TakesOf book walk walk bank price 0
+takes_none book walk bank price differ = record {
+  taken = record { asked = λ is. absurd (differ is); other = λ _. still walk bank };
+  others = λ other _. still walk other;
   sum = unpaid walk;
 }
 
-pub weight_same : (old now : LevelWalk) (lots : ℕ) → IsPaid old now lots → now.weight ≡ old.weight
-weight_same old now lots paid = ap (λ (w : LevelWalk). w.weight) paid.same
+-- the rank that is written down where the line pays
+pub put_rank : (old new : LevelWalk) (bank line rank : ℕ) → bank < length old.ranks → old.weight ≤ line → Puts old new bank line rank → slice_index new.ranks bank ≡ rank
+put_rank old new bank line rank within pays' puts =
+    ap (λ (w : LevelWalk). slice_index w.ranks bank) puts.is
+    ∙ get_or-set_same old.ranks bank (if ltb line old.weight then 2 ^ 30 - 1 else rank) 0 within
+    ∙ ap (λ b. if b then 2 ^ 30 - 1 else rank) (le-ltb line old.weight pays')
 
-pub taker_same : (old now : LevelWalk) (lots : ℕ) → IsPaid old now lots → now.taker ≡ old.taker
-taker_same old now lots paid = ap (λ (w : LevelWalk). w.taker) paid.same
+pub put_line : (old new : LevelWalk) (bank line rank : ℕ) → bank < length old.lines → Puts old new bank line rank → slice_index new.lines bank ≡ line
+put_line old new bank line rank within puts = ap (λ (w : LevelWalk). slice_index w.lines bank) puts.is ∙ get_or-set_same old.lines bank line 0 within
 
-last_same : (old now : LevelWalk) (lots : ℕ) → IsPaid old now lots → now.last ≡ old.last
-last_same old now lots paid = ap (λ (w : LevelWalk). w.last) paid.same
+pub put_others : (old new : LevelWalk) (bank line rank other : ℕ) → other ≢ bank → Puts old new bank line rank → IsLeft old new other
+put_others old new bank line rank other differ puts = record {
+  line = ap (λ (w : LevelWalk). slice_index w.lines other) puts.is ∙ get_or-set_other old.lines bank other line 0 differ;
+  rank = ap (λ (w : LevelWalk). slice_index w.ranks other) puts.is ∙ get_or-set_other old.ranks bank other (if ltb line old.weight then 2 ^ 30 - 1 else rank) 0 differ;
+}
 
-paid_both : (old now new : LevelWalk) (lots more : ℕ) → IsPaid old now lots → IsPaid now new more → IsPaid old new (lots + more)
-paid_both old now new lots more first second = record {
-  same = second.same ∙ ap (λ (w : LevelWalk). record w { lines = new.lines; heads = new.heads; ranks = new.ranks }) first.same;
-  long = second.long ∙ first.long;
-  paid = let weigh = weight_same old now lots first in
-      let here : more * old.weight + total (λ (n : ℕ). n) new.lines ≡ total (λ (n : ℕ). n) now.lines = ap (λ w. more * w + total (λ (n : ℕ). n) new.lines) (sym weigh) ∙ second.paid in
-      omega (arith, here, first.paid, add-mul lots more old.weight);
+pub put_same : (old new : LevelWalk) (bank line rank : ℕ) → Puts old new bank line rank → new ≡ record old { lines = new.lines; ranks = new.ranks }
+put_same old new bank line rank puts =
+    puts.is ∙ ap (λ (w : LevelWalk). record old { lines = w.lines; ranks = w.ranks }) (sym puts.is)
+
+-- the lots at its price are taken
+pub takes_some : (book : Book) (walk new : LevelWalk) (bank price lots taken rank : ℕ) (next : Option ℕ) → IsWeight walk.weight → bank < length walk.lines → bank < length walk.ranks → price_of walk bank ≡ Some price
+    → lots ≡ level_lots walk.taker bank price book.orders → taken ≡ min lots (slice_index walk.lines bank / walk.weight) → IsPriceOf walk.taker bank (Some price) book.orders next → IsRank walk.taker next rank
+    → Puts walk new bank (slice_index walk.lines bank - taken * walk.weight) rank → TakesOf book walk new bank price taken
+takes_some book walk new bank price lots taken rank next weighs within ranked asked lots_are taken_is level is puts =
+    let line : ℕ = slice_index walk.lines bank in
+    let rest : ℕ = line - taken * walk.weight in
+    let lines : new.lines ≡ set walk.lines bank rest = ap (λ (w : LevelWalk). w.lines) puts.is in
+    let here : slice_index new.lines bank ≡ rest = put_line walk new bank rest rank within puts in
+    let few : taken * walk.weight ≤ line = lots_cost taken line walk.weight (omega (arith, taken_is)) in
+    record {
+      taken = record {
+        asked = λ _. record {
+          line = here ∙ ap (λ n. line - n * walk.weight) (taken_is ∙ ap (λ n. min n (line / walk.weight)) lots_are);
+          head = λ reach.
+              let pays' : walk.weight ≤ rest = paid_for rest walk.weight weighs (subst (λ n. 1 ≤ n / walk.weight) here reach) in
+              subst (IsPriceOf walk.taker bank (Some price) book.orders)
+              (sym (ap (λ (w : LevelWalk). price_at w.taker (slice_index new.ranks bank)) puts.is
+              ∙ ap (price_at walk.taker) (put_rank walk new bank rest rank ranked pays' puts)
+              ∙ at-rank walk.taker next rank is))
+              level;
+        };
+        other = λ differ. absurd (differ asked);
+      };
+      others = λ other differ. put_others walk new bank rest rank other differ puts;
+      sum = record {
+        same = put_same walk new bank rest rank puts;
+        long = ap length lines ∙ length-set walk.lines bank rest;
+        paid = let changed = total-changed walk.lines bank rest within in omega (arith, changed, few, ap (total (λ (n : ℕ). n)) lines);
+      };
+    }
+
+-- What is taken of all banks.
+
+pub taken-begins : (book : Book) (walk : LevelWalk) (price : ℕ) (banks : List ℕ) → AreTakenOf book walk walk price (take 0 banks) 0
+taken-begins book walk price banks = record {
+  taken = λ bank there. absurd (omega (arith, there.1));
+  left = λ bank _. still walk bank;
+  sum = unpaid walk;
 }
 
 -- what is taken of a bank that was left so far
@@ -356,94 +341,59 @@ taken_here book old now new price bank lots paid left taken = record {
       ∙ ap (λ w. line_behind w now.taker price book.orders bank (slice_index now.lines bank)) (weight_same old now lots paid)
       ∙ ap (λ s. line_behind old.weight s price book.orders bank (slice_index now.lines bank)) (taker_same old now lots paid)
       ∙ ap (line_behind old.weight old.taker price book.orders bank) left.line;
-  head = λ reach. subst (λ (s : Side). IsHead s bank (Some price) book.orders (head_of new bank)) (taker_same old now lots paid)
+  head = λ reach. subst (λ (s : Side). IsPriceOf s bank (Some price) book.orders (price_in new bank)) (taker_same old now lots paid)
       (taken.head (subst (λ (w : ℕ). 1 ≤ slice_index new.lines bank / w) (sym (weight_same old now lots paid)) reach));
 }
 
 -- a bank whose lots were taken stays so
-taken_still : (book : Book) (old now new : LevelWalk) (price bank : ℕ) → IsTakenOf book old now price bank → IsLeft now new bank → IsTakenOf book old new price bank
-taken_still book old now new price bank taken left = record {
+taken_still : (book : Book) (old now new : LevelWalk) (price bank : ℕ) → new.taker ≡ now.taker → IsTakenOf book old now price bank → IsLeft now new bank → IsTakenOf book old new price bank
+taken_still book old now new price bank taker taken left = record {
   line = left.line ∙ taken.line;
-  head = λ reach. subst (IsHead old.taker bank (Some price) book.orders) (sym left.head) (taken.head (subst (λ (l : ℕ). 1 ≤ l / old.weight) left.line reach));
+  head = λ reach. subst (IsPriceOf old.taker bank (Some price) book.orders) (sym (price_left now new bank taker left)) (taken.head (subst (λ (l : ℕ). 1 ≤ l / old.weight) left.line reach));
 }
 
-pub taken-on : (book : Book) (old now new : LevelWalk) (price number lots more : ℕ) (banks : List ℕ) → (Contains banks number → ⊥) → TakenSoFar book old now price banks lots → TakesOf book now new number price more
-    → TakenSoFar book old new price (banks ++ number ∷ []) (lots + more)
-taken-on book old now new price number lots more banks fresh so_far takes = record {
-  taken = λ bank there. elim (cases_eq bank number) [
-    | inl same ↦ subst (IsTakenOf book old new price) (sym same) (taken_here book old now new price number lots so_far.sum (so_far.left number fresh) takes.taken)
-    | inr differ ↦
-        elim (Contains-push_cases banks number bank there) [
-          | inl before ↦ taken_still book old now new price bank (so_far.taken bank before) (takes.others bank differ)
-          | inr same ↦ absurd (differ (sym same))
-        ]
-  ];
-  left = λ bank apart.
-      let was = so_far.left bank (λ there. apart (Contains-append_left banks (number ∷ []) bank there)) in
-      let now_is = takes.others bank (λ same. apart (subst (Contains (banks ++ number ∷ [])) (sym same) (Contains-push banks number))) in
-      record { line = now_is.line ∙ was.line; head = now_is.head ∙ was.head };
-  sum = paid_both old now new lots more so_far.sum takes.sum;
-}
+pub taken-on : (book : Book) (old now new : LevelWalk) (price number lots more : ℕ) (banks : List ℕ) → (Contains banks number → ⊥) → AreTakenOf book old now price banks lots → TakesOf book now new number price more
+    → AreTakenOf book old new price (banks ++ number ∷ []) (lots + more)
+taken-on book old now new price number lots more banks fresh so_far takes =
+    let left : IsLeft old now number = so_far.left number fresh in
+    let asked : price_of now number ≡ price_of old number = asked_left old now number lots so_far.sum left in
+    let here : IsTakenAt book old new price number = record {
+      asked = λ is. taken_here book old now new price number lots so_far.sum left (takes.taken.asked (asked ∙ is));
+      other = λ differ. left_both old now new number left (takes.taken.other (λ is. differ (sym asked ∙ is)));
+    } in
+    record {
+      taken = λ bank there. elim (cases_eq bank number) [
+        | inl same ↦ subst (IsTakenAt book old new price) (sym same) here
+        | inr differ ↦
+            elim (Contains-push_cases banks number bank there) [
+              | inl before ↦ record {
+                asked = λ is. taken_still book old now new price bank (taker_same now new more takes.sum) ((so_far.taken bank before).asked is) (takes.others bank differ);
+                other = λ apart. left_both old now new bank ((so_far.taken bank before).other apart) (takes.others bank differ);
+              }
+              | inr same ↦ absurd (differ (sym same))
+            ]
+      ];
+      left = λ bank apart.
+          left_both old now new bank (so_far.left bank (λ there. apart (Contains-append_left banks (number ∷ []) bank there)))
+          (takes.others bank (λ same. apart (subst (Contains (banks ++ number ∷ [])) (sym same) (Contains-push banks number))));
+      sum = paid_both old now new lots more so_far.sum takes.sum;
+    }
 
 -- a bank with which the line pays is one of 65
 within_lines : (walk : LevelWalk) (bank : ℕ) → IsWeight walk.weight → length walk.lines ≡ 65 → walk.weight ≤ slice_index walk.lines bank → bank < 65
 within_lines walk bank weighs long pays' = omega (arith, within_table walk.lines bank (omega (arith, pays', weighs.0)), long)
 
--- the head with a bank's price
-pub record HasPrice (walk : LevelWalk) (bank price : ℕ) : Type 0 where
-  pub pays : walk.weight ≤ slice_index walk.lines bank
-  pub is : price_in (head_of walk bank) ≡ Some price
-
-pub has_price : (walk : LevelWalk) (bank price : ℕ) → price_of walk bank ≡ Some price → HasPrice walk bank price
-has_price walk bank price at =
-    elim (cases_Bool (leb walk.weight (slice_index walk.lines bank))) [
-      | inl pays' ↦ record {
-        pays = leb-true walk.weight (slice_index walk.lines bank) pays';
-        is = sym (ap (λ b. if b then price_in (head_of walk bank) else None) pays') ∙ at;
-      }
-      | inr short ↦ none_differs price (sym (ap (λ b. if b then price_in (head_of walk bank) else None) short) ∙ at)
-    ]
-
--- what the next bank is asked with
-pub head_left : (book : Book) (old now : LevelWalk) (price number lots : ℕ) (banks : List ℕ) → IsWeight old.weight → length old.lines ≡ 65 → (Contains banks number → ⊥) → TakenSoFar book old now price banks lots → HaveLevels book old
-    → 1 ≤ slice_index now.lines number / now.weight → IsHead now.taker number now.last book.orders (head_of now number)
-head_left book old now price number lots banks weighs long fresh so_far have reach =
-    let left = so_far.left number fresh in
-    let reach' : 1 ≤ slice_index old.lines number / old.weight
-    = subst (λ (w : ℕ). 1 ≤ slice_index old.lines number / w) (weight_same old now lots so_far.sum) (subst (λ (l : ℕ). 1 ≤ l / now.weight) left.line reach) in
-    subst (λ (s : Side). IsHead s number now.last book.orders (head_of now number)) (sym (taker_same old now lots so_far.sum))
-    (subst (λ (p : Option ℕ). IsHead old.taker number p book.orders (head_of now number)) (sym (last_same old now lots so_far.sum))
-    (subst (IsHead old.taker number old.last book.orders) (sym left.head) (have number (within_lines old number weighs long (paid_for (slice_index old.lines number) old.weight weighs reach')) reach')))
-
-price_left : (old now : LevelWalk) (number lots : ℕ) → IsPaid old now lots → IsLeft old now number → price_of now number ≡ price_of old number
-price_left old now number lots paid left =
-    ap (λ w. if leb w (slice_index now.lines number) then price_in (head_of now number) else None) (weight_same old now lots paid)
-    ∙ ap (λ l. if leb old.weight l then price_in (head_of now number) else None) left.line
-    ∙ ap (λ (h : Option BankLevel). if leb old.weight (slice_index old.lines number) then price_in h else None) left.head
-
-if_some : (found : Option ℕ) (P : ℕ → Type 0) → ((other : ℕ) → found ≡ Some other → P other) → IfSome found P
-if_some None P holds = tt
-if_some (Some other) P holds = holds other refl
-
-pub best_left : (book : Book) (old now : LevelWalk) (price number lots : ℕ) (banks : List ℕ) → IsWeight old.weight → length old.lines ≡ 65 → (Contains banks number → ⊥) → TakenSoFar book old now price banks lots → IsBestPrice old 65 (Some price)
-    → IfSome (price_of now number) (λ other. is_better now.taker other price ≡ false)
-best_left book old now price number lots banks weighs long fresh so_far best =
-    if_some (price_of now number) (λ other. is_better now.taker other price ≡ false) (λ other is.
-    ap (λ s. is_better s other price) (taker_same old now lots so_far.sum)
-    ∙ (let at : price_of old number ≡ Some other = sym (price_left old now number lots so_far.sum (so_far.left number fresh)) ∙ is in
-    best.1 number other (within_lines old number weighs long (has_price old number other at).pays) at))
-
 -- The best price is that of a level.
 
 -- the level of a bank with the best price
-pub record HasLevel (book : Book) (walk : LevelWalk) (price : ℕ) : Type 0 where
+pub record HasLevel (book : Book) (past : Option ℕ) (walk : LevelWalk) (price : ℕ) : Type 0 where
   pub bank : ℕ
   pub reach : 1 ≤ slice_index walk.lines bank / walk.weight
   pub lots : ℕ
-  pub level : IsLevel walk.taker bank walk.last book.orders (price, lots)
+  pub level : IsLevel walk.taker bank past book.orders (price, lots)
 
-pub best_level : (book : Book) (walk : LevelWalk) (price : ℕ) → IsWeight walk.weight → HaveLevels book walk → IsBestPrice walk 65 (Some price) → HasLevel book walk price
-best_level book walk price weighs have best =
+pub best_level : (book : Book) (past : Option ℕ) (walk : LevelWalk) (price : ℕ) → IsWeight walk.weight → HaveLevels book past walk → IsBestPrice walk 65 (Some price) → HasLevel book past walk price
+best_level book past walk price weighs have best =
     let bank : ℕ = best.0.0 in
     let has = has_price walk bank price best.0.2 in
     let reach : 1 ≤ slice_index walk.lines bank / walk.weight = pays (slice_index walk.lines bank) walk.weight weighs has.pays in
@@ -451,15 +401,15 @@ best_level book walk price weighs have best =
       bank = bank;
       reach = reach;
       lots = level_lots walk.taker bank price book.orders;
-      level = subst (IsPriceOf walk.taker bank walk.last book.orders) has.is (have bank best.0.1 reach).best;
+      level = subst (IsPriceOf walk.taker bank past book.orders) has.is (have bank best.0.1 reach);
     }
 
-pub best_worse : (book : Book) (walk : LevelWalk) (price : ℕ) → IsWeight walk.weight → HaveLevels book walk → IsBestPrice walk 65 (Some price) → is_worse walk.taker walk.last price ≡ true
-best_worse book walk price weighs have best =
-    let has = best_level book walk price weighs have best in
+pub best_worse : (book : Book) (past : Option ℕ) (walk : LevelWalk) (price : ℕ) → IsWeight walk.weight → HaveLevels book past walk → IsBestPrice walk 65 (Some price) → is_worse walk.taker past price ≡ true
+best_worse book past walk price weighs have best =
+    let has = best_level book past walk price weighs have best in
     let order : Resting = has.level.order in
-    ap (is_worse walk.taker walk.last) (sym has.level.price)
-    ∙ (and_parts (is_of has.bank order && is_opposite walk.taker order.side) (is_worse walk.taker walk.last order.price) has.level.passes).1
+    ap (is_worse walk.taker past) (sym has.level.price)
+    ∙ (and_parts (is_of has.bank order && is_opposite walk.taker order.side) (is_worse walk.taker past order.price) has.level.passes).1
 
 -- The banks that have an order are all that matter.
 
@@ -470,57 +420,57 @@ level_owned book owners taker bank past level are is =
     let one = and_parts (is_of bank is.order) (is_opposite taker is.order.side) two.0 in
     subst (Contains owners) (eqb-true is.order.bank bank one.0) (Each-among (λ (o : Resting). Contains owners o.bank) book.orders is.order are.all is.there)
 
--- another has none
-pub none_owned : (book : Book) (owners : List ℕ) (taker : Side) (bank : ℕ) (past : Option ℕ) → AreOwners book owners → (Contains owners bank → ⊥) → IsPriceOf taker bank past book.orders None
-none_owned book owners taker bank past are apart =
-    Each-of (λ o. is_worse_of taker bank past o ≡ false) book.orders (λ o there.
-    false_from_ne_true (is_worse_of taker bank past o) (λ passes.
-    let two = and_parts (is_of bank o && is_opposite taker o.side) (is_worse taker past o.price) passes in
-    let one = and_parts (is_of bank o) (is_opposite taker o.side) two.0 in
-    apart (subst (Contains owners) (eqb-true o.bank bank one.0) (Each-among (λ (q : Resting). Contains owners q.bank) book.orders o are.all there))))
-
 not_owned : (book : Book) (owners : List ℕ) (taker : Side) (bank price : ℕ) (past : Option ℕ) (head : Option ℕ) → AreOwners book owners → (Contains owners bank → ⊥) → IsPriceOf taker bank past book.orders head → IsWorseHead taker price head
 not_owned book owners taker bank price past None are apart is = tt
 not_owned book owners taker bank price past (Some head) are apart is = absurd (apart (level_owned book owners taker bank past (level_at taker bank book.orders head) are is))
 
-price_owned : (book : Book) (owners : List ℕ) (walk : LevelWalk) (bank price : ℕ) → AreOwners book owners → IsWeight walk.weight → HaveLevels book walk → bank < 65 → price_of walk bank ≡ Some price → Contains owners bank
-price_owned book owners walk bank price are weighs have below at =
+price_owned : (book : Book) (owners : List ℕ) (past : Option ℕ) (walk : LevelWalk) (bank price : ℕ) → AreOwners book owners → IsWeight walk.weight → HaveLevels book past walk → bank < 65 → price_of walk bank ≡ Some price → Contains owners bank
+price_owned book owners past walk bank price are weighs have below at =
     let has = has_price walk bank price at in
     let level = have bank below (pays (slice_index walk.lines bank) walk.weight weighs has.pays) in
-    level_owned book owners walk.taker bank walk.last (level_at walk.taker bank book.orders price) are (subst (IsPriceOf walk.taker bank walk.last book.orders) has.is level.best)
+    level_owned book owners walk.taker bank past (level_at walk.taker bank book.orders price) are (subst (IsPriceOf walk.taker bank past book.orders) has.is level)
 
 none_from : (found : Option ℕ) → ((price : ℕ) → found ≡ Some price → found ≡ None) → found ≡ None
 none_from None holds = refl
 none_from (Some price) holds = holds price refl
 
 -- so the best price of theirs is that of all
-pub best_of_all : (book : Book) (owners : List ℕ) (walk : LevelWalk) (best : Option ℕ) → AreOwners book owners → IsWeight walk.weight → length walk.lines ≡ 65 → HaveLevels book walk → IsBestAmong walk owners best → IsBestPrice walk 65 best
-best_of_all book owners walk None are weighs long have best = λ bank below.
-    none_from (price_of walk bank) (λ price at. best bank (price_owned book owners walk bank price are weighs have below at))
-best_of_all book owners walk (Some price) are weighs long have best =
+pub best_of_all : (book : Book) (owners : List ℕ) (past : Option ℕ) (walk : LevelWalk) (best : Option ℕ) → AreOwners book owners → IsWeight walk.weight → length walk.lines ≡ 65 → HaveLevels book past walk → IsBestAmong walk owners best
+    → IsBestPrice walk 65 best
+best_of_all book owners past walk None are weighs long have best = λ bank below.
+    none_from (price_of walk bank) (λ price at. best bank (price_owned book owners past walk bank price are weighs have below at))
+best_of_all book owners past walk (Some price) are weighs long have best =
     let bank : ℕ = best.0.0 in
     let has = has_price walk bank price best.0.2 in (
       (bank, within_lines walk bank weighs long has.pays, best.0.2),
-      λ bank' other below at. best.1 bank' other (price_owned book owners walk bank' other are weighs have below at) at,
+      λ bank' other below at. best.1 bank' other (price_owned book owners past walk bank' other are weighs have below at) at,
     )
 
 -- and once what is taken of them is taken, that of all is
-pub taken-whole : (book : Book) (owners : List ℕ) (old now : LevelWalk) (price lots : ℕ) → AreOwners book owners → IsWeight old.weight → HaveLevels book old → IsBestPrice old 65 (Some price) → TakenSoFar book old now price owners lots
-    → AreTaken book old now price lots
-taken-whole book owners old now price lots are weighs have best so_far = record {
-  taken = λ bank below. elim (contains_or owners bank) [
-    | inl there ↦ so_far.taken bank there
-    | inr apart ↦
-        let none = takes_none-head book old bank price weighs (best_worse book old price weighs have best) (have bank below)
-        (λ reach. not_owned book owners old.taker bank price old.last (price_in (head_of old bank)) are apart (have bank below reach).best) in
-        taken_still book old old now price bank none.taken (so_far.left bank apart)
-  ];
-  sum = so_far.sum;
-}
+pub taken-whole : (book : Book) (owners : List ℕ) (past : Option ℕ) (old now : LevelWalk) (price lots : ℕ) → AreOwners book owners → IsWeight old.weight → HaveLevels book past old → IsBestPrice old 65 (Some price)
+    → AreTakenOf book old now price owners lots → AreTaken book old now price lots
+taken-whole book owners past old now price lots are weighs have best all =
+    let worse : is_worse old.taker past price ≡ true = best_worse book past old price weighs have best in
+    let taker : now.taker ≡ old.taker = taker_same old now lots all.sum in
+    record {
+      taken = λ bank below. elim (contains_or owners bank) [
+        | inl there ↦ elim (asked_or (price_of old bank) price) [
+          | inl is ↦ (all.taken bank there).asked is
+          | inr differ ↦
+              taken_still book old old now price bank taker
+              (none_taken book past old bank price worse (have bank below) (other_worse old bank price weighs below best differ))
+              ((all.taken bank there).other differ)
+        ]
+        | inr apart ↦
+            taken_still book old old now price bank taker
+            (none_taken book past old bank price worse (have bank below) (λ reach. not_owned book owners old.taker bank price past (price_in old bank) are apart (have bank below reach)))
+            (all.left bank apart)
+      ];
+      sum = all.sum;
+    }
 
--- the heads behind the level that was taken
-pub levels_behind : (book : Book) (old taken new : LevelWalk) (price lots : ℕ) → AreTaken book old taken price lots → new ≡ record taken { last = Some price } → HaveLevels book new
-levels_behind book old taken new price lots all is =
-    subst (HaveLevels book) (sym is) (λ bank below reach.
-    subst (λ (s : Side). IsHead s bank (Some price) book.orders (head_of taken bank)) (sym (taker_same old taken lots all.sum))
-    ((all.taken bank below).head (subst (λ (w : ℕ). 1 ≤ slice_index taken.lines bank / w) (weight_same old taken lots all.sum) reach)))
+-- the prices behind the level that was taken
+pub levels_behind : (book : Book) (old new : LevelWalk) (price lots : ℕ) → AreTaken book old new price lots → HaveLevels book (Some price) new
+levels_behind book old new price lots all bank below reach =
+    subst (λ (s : Side). IsPriceOf s bank (Some price) book.orders (price_in new bank)) (sym (taker_same old new lots all.sum))
+    ((all.taken bank below).head (subst (λ (w : ℕ). 1 ≤ slice_index new.lines bank / w) (weight_same old new lots all.sum) reach))

@@ -1,19 +1,21 @@
 -- A walk's step: all heads are found, the best of them that may be taken is taken, and the other heads stay.
-use Rattle.std.proofs.Common.{ℕ, ◌≡◌, ◌≢◌, ◌-◌, ◌*◌, ◌/◌, ◌≤◌, ◌<◌, min, true, false, ◌&&◌, leb, List, [], ◌∷◌, ◌++◌, inl, inr, refl, ap, sym, subst, ◌∙◌, arith, length, get_or, slice_index, Option, Some, None, get_or-set_other}
+use Rattle.std.proofs.Common.{ℕ, ◌≡◌, ◌≢◌, ◌-◌, ◌*◌, ◌/◌, ◌≤◌, ◌<◌, min, true, false, leb, List, [], ◌∷◌, ◌++◌, inl, inr, refl, ap, sym, subst, ◌∙◌, arith, length, get_or, slice_index, Option, Some, None, get_or-set_other}
 use Rattle.std.proofs.Math.ListN.{set}
 use Rattle.std.proofs.Math.Nat.{le-div_iff_mul-le}
 use Rattle.std.proofs.lemmas.Bool.{and_parts, and_cases, and_from, both_ways, false_from_ne_true, leb-true, le-leb}
 use Rattle.std.proofs.lemmas.List.Elements.{Contains-append_left, Contains-push, Contains-push_cases}
 use Rattle.std.specs.List.{Contains}
+use Rattle.fx_amounts.specs.Side.{opposite}
 use Rattle.fx_amounts.specs.declared.side.Side.{Side}
+use Rattle.fx_amounts.specs.declared.side.Side.TheVariants.{Buy, Sell}
 use Rattle.fx_amounts.specs.Price.{crosses}
 use Rattle.fx_amounts.specs.Quantity.{IsWeight}
 use Rattle.fx_rules.specs.declared.orders.Resting.{Resting}
 use Rattle.fx_rules.specs.declared.orders.Fill.{Fill}
 use Rattle.fx_rules.specs.Lists.{Among}
-use Rattle.fx_rules.specs.Sweep.{IsBest, is_open, is_preferred, amount, fill_with, less}
-use Rattle.fx_rules.specs.Plan.{is_behind, open_behind}
-use Rattle.fx_rules.proofs.ListLemmas.{Among-filter, Each-among}
+use Rattle.fx_rules.specs.Sweep.{IsBest, is_opposite, is_preferred, amount, fill_with, less}
+use Rattle.fx_rules.specs.Plan.{open_behind}
+use Rattle.fx_rules.proofs.ListLemmas.{Each-among}
 use Rattle.fx_rules.proofs.Planning.{div_none}
 use Rattle.fx_rules.proofs.Preference.{preferred_self, preferred_trans}
 use Rattle.global_book.specs.Book.{AreOwners, Book, IsBook, IsHeld}
@@ -21,7 +23,7 @@ use Rattle.match_sweep.specs.inside.Heads.{IsFound, to_come, AreHeads}
 use Rattle.match_sweep.specs.inside.Walks.{WholeWalk, FromHere, LeadsOn, StepsOn, IsReady, IsRenewed, IsPicked, Takes, IsPickedAt, may_take, may_take_head, is_ahead, leads, head_of, reach_of, steps_behind}
 use Rattle.match_sweep.proofs.Tables.{none-kept}
 use Rattle.match_sweep.proofs.Planning.{walk-step, within_table}
-use Rattle.match_sweep.proofs.Picking.{picked-best, picked-none, heads-stay, among_to_come}
+use Rattle.match_sweep.proofs.Picking.{picked-best, picked-none, heads-stay, among_to_come, open-to_come}
 
 -- The best of the banks, when one more is looked at.
 
@@ -210,6 +212,13 @@ set-near book walk apart is set_is = record {
   heads = λ bank below _ reach. set_is.heads bank below reach;
 }
 
+-- what is across from a side is of the other one
+opposite_is : (a b : Side) → is_opposite a b ≡ true → b ≡ opposite a
+opposite_is Buy Buy across = cc
+opposite_is Buy Sell across = refl
+opposite_is Sell Buy across = refl
+opposite_is Sell Sell across = cc
+
 pub taken-ready : (book : Book) (walk new : WholeWalk) (found : Resting) (fill : Fill) → IsNearSet book walk found.bank → Chosen book walk found → Takes walk new found fill → IsReady book new
 taken-ready book walk new found fill near chosen takes =
     let best : Resting = found in
@@ -217,12 +226,14 @@ taken-ready book walk new found fill near chosen takes =
     let rest : ℕ = line - fill.lots * walk.weight in
     let within : best.bank < length walk.lines = within_table walk.lines best.bank (omega (arith, chosen.line, near.weight.0)) in
     let none : reach_of walk walk.order.bank ≡ 0 = ap (λ n. n / walk.weight) near.own ∙ div_none 0 walk.weight (omega (arith, near.weight.0)) in
+    let opens = open-to_come (reach_of walk) walk.order walk.last book.orders best chosen.best.there in
+    let there : Among best book.orders = (among_to_come walk.order best.bank walk.last book.orders best opens.0).0 in
     subst (IsReady book) (sym takes.now)
     (record {
       few = near.few;
       bank = near.bank;
-      taken = owners book near.valid best
-          (Among-filter (λ (o : Resting). is_open walk.order (reach_of walk o.bank) o && is_behind walk.order.side walk.last o) book.orders best chosen.best.there).0;
+      taken = owners book near.valid best there;
+      rests = record { rests = there; bank_is = refl; side_is = opposite_is walk.order.side best.side opens.1.opposite };
       weight = near.weight;
       own = none-kept walk.lines best.bank walk.order.bank rest within (omega arith) near.own;
       heads = λ bank below other reach.

@@ -3,7 +3,7 @@ ghost use Rattle.fx_rules.specs.Lists.{EachPair};
 ghost use Rattle.fx_rules.specs.State.{State, orders_in};
 ghost use Rattle.fx_rules.specs.Sound.{Rises};
 ghost use Rattle.fx_rules.specs.Sweep.{filled_all};
-ghost use Rattle.global_book.specs.Book.{KeepsRoom};
+ghost use Rattle.global_book.specs.Room.{KeepsRoom};
 ghost use Rattle.match_sweep.specs.Carries.{carried};
 
 use fx_rules::{Fill, Plan};
@@ -17,7 +17,7 @@ pub fn carry(book: &mut PairBook, plan: &Plan)
     ensures state { (S : State) → EachPair Rises S.orders → book.old.orders ≡ orders_in book.old.pair S.orders → book.new.orders ≡ orders_in book.old.pair (filled_all S plan.now.fills).orders }
     ensures pair { book.new.pair ≡ book.old.pair }
     ensures banks { book.new.banks ≡ book.old.banks }
-    ensures room { KeepsRoom book.old book.new }
+    ensures room { KeepsRoom book.old.room book.new.room }
 {
     carry_fills(book, plan.fills.as_slice());
 }
@@ -28,7 +28,7 @@ pub fn carry_fills(book: &mut PairBook, fills: &[Fill])
     ensures state { (S : State) → EachPair Rises S.orders → book.old.orders ≡ orders_in book.old.pair S.orders → book.new.orders ≡ orders_in book.old.pair (filled_all S fills.now).orders }
     ensures pair { book.new.pair ≡ book.old.pair }
     ensures banks { book.new.banks ≡ book.old.banks }
-    ensures room { KeepsRoom book.old book.new }
+    ensures room { KeepsRoom book.old.room book.new.room }
 {
     for fill in fills {
         book.take_lots(fill.maker, fill.maker_number, fill.lots);

@@ -1,11 +1,10 @@
-ghost use Rattle.std.specs.Prelude.{ℕ, Option, ◌≡◌, ◌≢◌, ◌+◌, length, is_some, if◌then◌else◌, ◌≤◌, ◌<◌, ◌*◌, ◌/◌, ◌^◌, min, true, false, Some, None, slice_index, IfOk, IfSome};
+ghost use Rattle.std.specs.Prelude.{ℕ, Option, ◌≡◌, ◌≢◌, ◌+◌, length, is_some, if◌then◌else◌, ◌≤◌, ◌<◌, ◌*◌, ◌/◌, ◌^◌, min, IfOk};
 ghost use Rattle.fx_amounts.specs.Quantity.{IsWeight};
 ghost use Rattle.fx_rules.specs.Lists.{total};
-ghost use Rattle.fx_rules.specs.Sweep.{is_better};
 ghost use Rattle.credit_lines.specs.Credit.{room_in};
-ghost use Rattle.global_book.specs.Book.{is_worse};
+ghost use Rattle.global_book.specs.Book.{AreOwners};
 ghost use Rattle.match_sweep.specs.Reaches.{IsReached};
-ghost use Rattle.match_sweep.specs.inside.Reaches.{AreRanked, AreTaken, BeginsAt, HaveLevels, IsBareLevel, IsBestAmong, IsBestPrice, IsHead, IsMost, IsRank, OpensLevel, Puts, TakesLevel, TakesOf, bank_level, head_of, price_of};
+ghost use Rattle.match_sweep.specs.inside.Reaches.{AreRanked, AreTakenOf, BeginsAt, HasRank, HaveLevels, IsBareLevel, IsBestAmong, IsMost, IsRank, OpensLevel, Puts, TakesLevel, TakesOf};
 
 use credit_lines::CreditLines;
 use fx_amounts::{BankId, Memory, Price, Side};
@@ -39,9 +38,7 @@ pub fn levels_in_reach<L: Ledger>(
         taker: side,
         weight,
         lines: [0; BankId::SENDERS],
-        heads: [HeadRow { at: 0, lots: 0 }; BankId::SENDERS],
         ranks: [NO_RANK; BankId::SENDERS],
-        last: None,
     };
     walk.open_banks(book, lines, bank, steps);
     let mut most = lots_by_total(lines, bank, weight);
@@ -74,7 +71,7 @@ fn lots_by_total(lines: &CreditLines, bank: BankId, weight: u32) -> u64
 }
 
 /// The rank of a bank of which nothing can be taken. All others are lower: the better a price, the lower its rank.
-const NO_RANK: u32 = u32::MAX;
+const NO_RANK: u32 = (1 << 30) - 1;
 
 /// A walk from price to price over what a bank can reach. It changes no book. It is large, and stays where it was made; its tables
 /// have less than 2,048 bytes, up to which they are cleared fast.
@@ -86,36 +83,13 @@ pub(crate) struct LevelWalk {
     weight: u32,
     /// What is left of the lines with each bank that has an order, in credit units; nothing with the bank's own.
     lines: [u64; BankId::SENDERS],
-    /// Of each bank with which the line pays for a lot, its best level behind the last price. `ranks` has its price.
-    heads: [HeadRow; BankId::SENDERS],
-    /// The rank of each head's price for the taker; `NO_RANK` where there is no head, or the line with the bank pays for no lot.
+    /// Of each bank with which the line pays for a lot, the rank of its best price behind the last one for the taker; `NO_RANK` where it has
+    /// none, or the line pays for no lot.
     ranks: [u32; BankId::SENDERS],
-    /// The price of the last level, where there is one.
-    last: Option<Price>,
-}
-
-/// A level of one bank, on the side that the taker takes.
-#[derive(Clone, Copy)]
-struct BankLevel {
-    /// Its index among the bank's levels, 0 for the best price.
-    at: usize,
-    price: Price,
-    /// All lots that the bank has at this price, or the largest number of 64 bits where there are more: no line pays for these.
-    lots: u64,
-}
-
-/// What is kept of a head, a level of one bank, beside the rank of its price.
-#[derive(Clone, Copy)]
-struct HeadRow {
-    /// Its index among the bank's levels, 0 for the best price.
-    at: usize,
-    /// All lots that the bank has at the price, as a `BankLevel` has them.
-    lots: u64,
 }
 
 impl LevelWalk {
-    /// Finds the lines of a bank with all others that have an order, and their first levels. The walk has found none so far.
-    /// One step for each at most.
+    /// Finds the lines of a bank with all others that have an order, and their first prices. The walk has found none so far. One step.
     fn open_banks<L: Ledger>(
         &mut self,
         book: &PairBook,
@@ -129,76 +103,65 @@ impl LevelWalk {
         requires weight { IsWeight self.old.weight }
         ensures begins { BeginsAt book.now lines.now self.old.weight bank self.old.taker self.new }
         ensures ranked { AreRanked self.new }
-        ensures steps { steps.new ≤ steps.old + book.now.banks }
+        ensures step { steps.new ≡ steps.old + 1 }
     {
         prove!(bank.index() < BankId::SENDERS);
+        let words = book.best_words(self.taker.opposite(), steps);
         let owners = book.owners();
         for owner in owners {
             if *owner != bank {
-                self.open_bank(book, lines, bank, *owner, steps);
+                self.open_bank(lines, bank, *owner, words[owner.index()]);
             }
         }
     }
 
-    /// Finds the line of a bank with another, and the first level of the other where the line pays for a lot.
-    fn open_bank<L: Ledger>(
-        &mut self,
-        book: &PairBook,
-        lines: &CreditLines,
-        bank: BankId,
-        other: BankId,
-        steps: &mut Steps<L>,
-    )
+    /// Finds the line of a bank with another, and the rank in the word of the other's best order.
+    fn open_bank(&mut self, lines: &CreditLines, bank: BankId, other: BankId, word: u64)
         requires bank { bank < lines.now.banks }
         requires other { other < lines.now.banks }
         requires differ { bank ≢ other }
         requires weight { IsWeight self.old.weight }
-        ensures opens { OpensLevel book.now lines.now self.old self.new bank other }
+        requires rank { HasRank self.old.taker (word / 2 ^ 34) }
+        ensures opens { OpensLevel lines.now self.old self.new bank other (word / 2 ^ 34) }
         ensures number { other < 65 }
         ensures ranked { AreRanked self.old → AreRanked self.new }
-        ensures steps { steps.new ≤ steps.old + 1 }
     {
         let line = lines.eff(bank, other).get();
-        let head = level_at(book, self.taker, line, self.weight, other, 0, steps);
-        self.put(other.index(), line, head);
+        self.put(other.index(), line, (word >> 34) as u32);
     }
 
-    /// Writes down what is left of the line with the bank of this number, and its head. Where the line pays for no lot there is none.
-    fn put(&mut self, number: usize, line: u64, head: Option<BankLevel>)
+    /// Writes down what is left of the line with the bank of this number, and the rank of its next price. Where the line pays for no lot it
+    /// has none.
+    fn put(&mut self, number: usize, line: u64, rank: u32)
         requires number { number < 65 }
-        requires none { line < self.old.weight → head ≡ None }
-        ensures puts { Puts self.old self.new number line head }
+        requires rank { HasRank self.old.taker rank }
+        ensures puts { Puts self.old self.new number line rank }
         ensures ranked { AreRanked self.old → AreRanked self.new }
     {
         self.lines[number] = line;
-        let Some(head) = head else {
-            self.ranks[number] = NO_RANK;
-            return;
+        self.ranks[number] = if line < u64::from(self.weight) {
+            NO_RANK
+        } else {
+            rank
         };
-        self.heads[number] = HeadRow {
-            at: head.at,
-            lots: head.lots,
-        };
-        self.ranks[number] = rank_of(self.taker, Some(head.price));
     }
 
     /// The next level; `None` where nothing more can be reached. One step for each bank at most, and none for no level.
     fn next_level<L: Ledger>(&mut self, book: &PairBook, steps: &mut Steps<L>) -> Option<Level>
         requires weight { IsWeight self.old.weight }
         requires most { total (λ line. line) self.old.lines ≤ 65 * 10 ^ 15 }
-        requires heads { HaveLevels book.now self.old }
         requires ranked { AreRanked self.old }
-        ensures level { TakesLevel book.now self.old self.new result }
+        ensures level { (past : Option ℕ) → HaveLevels book.now past self.old → TakesLevel book.now self.old self.new result }
         ensures ranked { AreRanked self.new }
         ensures steps { steps.new ≤ steps.old + (if is_some result then book.now.banks else 0) }
     {
-        let price = self.best_price(book.owners())?;
-        let lots = self.take_all(book, price, steps);
-        self.last = Some(price);
+        let owners = book.owners();
+        let price = self.best_price(owners)?;
+        let lots = self.take_all(book, owners, price, steps);
         Some(Level { price, lots })
     }
 
-    /// The best price of the heads of those of these banks with which the line pays for a lot.
+    /// The best price of those of these banks with which the line pays for a lot.
     fn best_price(&self, owners: &[BankId]) -> Option<Price>
         requires ranked { AreRanked self.now }
         ensures best { IsBestAmong self.now owners.now result }
@@ -210,26 +173,31 @@ impl LevelWalk {
         price_at_rank(self.taker, lowest)
     }
 
-    /// Takes of each bank what the line with it pays for of its lots at the best price; how many they are in all.
-    fn take_all<L: Ledger>(&mut self, book: &PairBook, price: Price, steps: &mut Steps<L>) -> u64
+    /// Takes of each of these banks what the line with it pays for of its lots at a price; how many they are in all. The banks are those
+    /// that have an order.
+    fn take_all<L: Ledger>(
+        &mut self,
+        book: &PairBook,
+        owners: &[BankId],
+        price: Price,
+        steps: &mut Steps<L>,
+    ) -> u64
+        requires owners { AreOwners book.now owners.now }
         requires weight { IsWeight self.old.weight }
         requires most { total (λ line. line) self.old.lines ≤ 65 * 10 ^ 15 }
-        requires heads { HaveLevels book.now self.old }
-        requires best { IsBestPrice self.old 65 (Some price) }
         requires ranked { AreRanked self.old }
-        ensures taken { AreTaken book.now self.old self.new price result }
+        ensures taken { AreTakenOf book.now self.old self.new price owners.now result }
         ensures ranked { AreRanked self.new }
         ensures steps { steps.new ≤ steps.old + book.now.banks }
     {
         let mut lots = 0;
-        let owners = book.owners();
         for owner in owners {
             lots += self.take_of(book, *owner, price, steps);
         }
         lots
     }
 
-    /// Takes what one bank has at the price, as far as its line allows, and goes on to its next price.
+    /// Takes what one bank has at the price, where that is its price, as far as its line allows, and goes on to its next price.
     fn take_of<L: Ledger>(
         &mut self,
         book: &PairBook,
@@ -238,9 +206,6 @@ impl LevelWalk {
         steps: &mut Steps<L>,
     ) -> u64
         requires weight { IsWeight self.old.weight }
-        requires head { 1 ≤ slice_index self.old.lines bank / self.old.weight → IsHead self.old.taker bank self.old.last book.now.orders (head_of self.old bank) }
-        requires worse { is_worse self.old.taker self.old.last price ≡ true }
-        requires best { IfSome (price_of self.old bank) (λ other. is_better self.old.taker other price ≡ false) }
         requires ranked { AreRanked self.old }
         ensures taken { TakesOf book.now self.old self.new bank price result }
         ensures ranked { AreRanked self.new }
@@ -250,23 +215,11 @@ impl LevelWalk {
         if self.ranks[at] != rank_of(self.taker, Some(price)) {
             return 0;
         }
-        let head = self.heads[at];
+        let (lots, next) = book.level_and_next(bank, self.taker.opposite(), price, steps);
         let weight = u64::from(self.weight);
         let line = self.lines[at];
-        let taken = lots_by_line(head.lots, line, weight);
-        let left = line - taken * weight;
-        // There are no more levels than orders.
-        prove!(head.at < book.len());
-        let next = level_at(
-            book,
-            self.taker,
-            left,
-            self.weight,
-            bank,
-            head.at + 1,
-            steps,
-        );
-        self.put(at, left, next);
+        let taken = lots_by_line(lots, line, weight);
+        self.put(at, line - taken * weight, rank_of(self.taker, next));
         taken
     }
 }
@@ -275,7 +228,6 @@ impl LevelWalk {
 fn lots_by_line(lots: u64, line: u64, weight: u64) -> u64
     requires { IsWeight weight }
     ensures value { result ≡ min lots (line / weight) }
-    ensures few { line / weight < 2 ^ 64 }
 {
     if lots <= u64::from(u32::MAX) {
         if lots * weight <= line {
@@ -292,7 +244,7 @@ fn rank_of(taker: Side, price: Option<Price>) -> u32
     match (taker, price) {
         (_, None) => NO_RANK,
         (Side::Buy, Some(price)) => price.ticks(),
-        (Side::Sell, Some(price)) => NO_RANK - price.ticks(),
+        (Side::Sell, Some(price)) => Price::MOST - price.ticks(),
     }
 }
 
@@ -302,30 +254,6 @@ fn price_at_rank(taker: Side, rank: u32) -> Option<Price>
 {
     match taker {
         Side::Buy => Price::new(rank),
-        Side::Sell => Price::new(NO_RANK - rank),
+        Side::Sell => Price::new(Price::MOST.saturating_sub(rank)),
     }
-}
-
-/// The level of a bank at an index, where there is one, for a taker of a side; where the line with the bank, of `line` credit
-/// units, pays for no lot, it is not looked for. One step at most.
-fn level_at<L: Ledger>(
-    book: &PairBook,
-    taker: Side,
-    line: u64,
-    weight: u32,
-    bank: BankId,
-    at: usize,
-    steps: &mut Steps<L>,
-) -> Option<BankLevel>
-    requires weight { IsWeight weight }
-    ensures level { 1 ≤ line / weight → result ≡ bank_level taker bank book.now.orders at }
-    ensures none { line < weight → result ≡ None }
-    ensures steps { steps.new ≤ steps.old + 1 }
-{
-    if line < u64::from(weight) {
-        return None;
-    }
-    let (price, lots) = book.level_at(bank, taker.opposite(), at, steps)?;
-    let lots = lots.min(u128::from(u64::MAX)) as u64;
-    Some(BankLevel { at, price, lots })
 }

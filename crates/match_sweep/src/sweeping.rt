@@ -1,10 +1,10 @@
-ghost use Rattle.std.specs.Prelude.{◌≡◌, ◌≢◌, ◌≤◌, ◌<◌, ◌+◌, ◌*◌, ◌/◌, ◌^◌, [], ◌∷◌, length, IfOk};
+ghost use Rattle.std.specs.Prelude.{◌≡◌, ◌≢◌, ◌≤◌, ◌<◌, ◌+◌, ◌*◌, ◌/◌, [], ◌∷◌, length, IfOk};
 ghost use Rattle.fx_amounts.specs.Quantity.{IsWeight};
 ghost use Rattle.fx_rules.specs.Lists.{Each, total};
 ghost use Rattle.credit_lines.specs.Credit.{line_in};
 ghost use Rattle.global_book.specs.Book.{AreOwners, IsBook};
 ghost use Rattle.match_sweep.specs.Takers.{swept_in};
-ghost use Rattle.match_sweep.specs.Sweeps.{IsSweep};
+ghost use Rattle.match_sweep.specs.Sweeps.{AddsUp, IsSweep, IsWithinLines};
 ghost use Rattle.match_sweep.specs.inside.Heads.{CameBefore, IsOpening};
 ghost use Rattle.match_sweep.specs.inside.Walks.{IsByLines, first_fill};
 
@@ -84,8 +84,8 @@ pub fn sweep<L: Ledger>(
     requires pair { order.now.pair ≡ book.now.pair }
     requires weight { IsWeight weight }
     ensures sweep { IfOk result (λ sweep. IsSweep book.now lines.now weight order.now sweep.fills sweep.left) }
-    ensures sum { IfOk result (λ sweep. total (λ fill. fill.lots) sweep.fills + sweep.left ≡ order.now.left) }
-    ensures lots { IfOk result (λ sweep. total (λ fill. fill.lots) sweep.fills ≤ 65 * 10 ^ 15) }
+    ensures sum { IfOk result (AddsUp order.now) }
+    ensures lots { IfOk result IsWithinLines }
     ensures steps { Each (λ other. other.arrival < order.now.arrival) book.now.orders → IfOk result (λ sweep. steps.new ≤ steps.old + (length sweep.fills + 1) * book.now.banks) }
     ensures valid { IsBook book.now }
 {
@@ -114,8 +114,8 @@ fn sweep_by_lines<L: Ledger>(
     requires pair { order.now.pair ≡ book.now.pair }
     requires weight { IsWeight weight }
     ensures sweep { IfOk result (λ sweep. IsByLines book.now lines.now weight order.now sweep.fills sweep.left) }
-    ensures sum { IfOk result (λ sweep. total (λ fill. fill.lots) sweep.fills + sweep.left ≡ order.now.left) }
-    ensures lots { IfOk result (λ sweep. total (λ fill. fill.lots) sweep.fills ≤ 65 * 10 ^ 15) }
+    ensures sum { IfOk result (AddsUp order.now) }
+    ensures lots { IfOk result IsWithinLines }
     ensures steps { CameBefore book.now.orders order.now.arrival → IfOk result (λ sweep. steps.new ≤ steps.old + (length sweep.fills + 1) * book.now.banks) }
     ensures valid { IsBook book.now }
 {
@@ -162,8 +162,8 @@ fn walk_on<L: Ledger>(
     requires left { 1 ≤ order.now.left }
     requires first { fills.items ≡ first_fill lines.now weight order.now opening.now.first ∷ [] }
     ensures sweep { IfOk result (λ sweep. IsByLines book.now lines.now weight order.now sweep.fills sweep.left) }
-    ensures sum { IfOk result (λ sweep. total (λ fill. fill.lots) sweep.fills + sweep.left ≡ order.now.left) }
-    ensures lots { IfOk result (λ sweep. total (λ fill. fill.lots) sweep.fills ≤ 65 * 10 ^ 15) }
+    ensures sum { IfOk result (AddsUp order.now) }
+    ensures lots { IfOk result IsWithinLines }
     ensures steps { CameBefore book.now.orders order.now.arrival → IfOk result (λ sweep. steps.new + 1 ≤ steps.old + length owners.now + length sweep.fills) }
     ensures some { IfOk result (λ sweep. 1 ≤ length sweep.fills) }
 {

@@ -1,5 +1,4 @@
 mod Chaining
-mod Earliest
 mod Keeping
 mod Listing
 mod Naming

@@ -78,9 +78,6 @@ named_reserved slots slots' rows rows' bank row row' are same written live = rec
   numbered = λ key order is. are.numbered key order (ap (λ (ss : List (Option Resting)). get_or ss key None) (sym same) ∙ is);
 }
 
-pub named_same : (slots slots' : List (Option Resting)) (rows : List Row) → AreNamed slots rows → slots' ≡ slots → AreNamed slots' rows
-named_same slots slots' rows are same = subst (λ (ss : List (Option Resting)). AreNamed ss rows) (sym same) are
-
 pub named_added : (slots slots' : List (Option Resting)) (rows rows' : List Row) (orders : Orders) (key : ℕ) (order : Resting) (row row' : Row) → AreNamed slots rows → slots ≡ orders.slots
     → Lacks orders order.bank order.number → get_or slots key None ≡ None → get_or slots' key None ≡ Some order
     → ((other : ℕ) → other ≢ key → get_or slots' other None ≡ get_or slots other None) → Written rows rows' order.bank row row' → row'.entries ≡ with_key order.number key row.entries

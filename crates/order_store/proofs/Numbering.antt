@@ -1,15 +1,14 @@
--- A bank's row of numbers: what a search in it finds, and what it has after an entry came in or stale ones went.
-use Rattle.std.proofs.Common.{ℕ, zero, suc, ◌≡◌, ◌≢◌, ◌+◌, ◌-◌, ◌*◌, max, ◌≤◌, ◌<◌, Bool, true, false, cond, eqb, ltb, List, [], ◌∷◌, ◌++◌, Option, Some, None, length, get_or, inl, inr, refl, ap, sym, subst, ◌∙◌, arith}
+-- A bank's row of numbers: what a search in it finds, and what it has after an entry came in.
+use Rattle.std.proofs.Common.{ℕ, zero, suc, ◌≡◌, ◌≢◌, ◌-◌, ◌≤◌, ◌<◌, Bool, true, false, cond, eqb, ltb, List, [], ◌∷◌, ◌++◌, Option, Some, None, length, get_or, inl, inr, refl, ap, sym, subst, ◌∙◌, arith}
 use Rattle.std.proofs.Math.ListN.{set}
-use Rattle.std.proofs.lemmas.Bool.{cases_Bool, cases_eq, cases_lt, cond-true, cond-false, eq-eqb, eqb-true, ne_eqb, lt-ltb, le-ltb, ltb-true, ltb-false}
+use Rattle.std.proofs.lemmas.Bool.{cases_eq, cases_lt, cond-true, cond-false, eq-eqb, eqb-true, ne_eqb, lt-ltb, le-ltb, ltb-true, ltb-false}
 use Rattle.std.proofs.lemmas.List.{get_or_default}
 use Rattle.std.proofs.lemmas.List.Elements.{All-cons, All-nil}
-use Rattle.std.proofs.lemmas.List.Kept.{AllPairs-cons, AllPairs-filter}
-use Rattle.std.specs.List.{All, filter, insert}
+use Rattle.std.proofs.lemmas.List.Kept.{AllPairs-cons}
+use Rattle.std.specs.List.{All, insert}
 use Rattle.std.specs.List.Sorted.{IsPartitionedBy, IsPartitionPoint}
-use Rattle.fx_rules.specs.declared.orders.Resting.{Resting}
 use Rattle.order_store.specs.declared.row.Numbered.{Numbered}
-use Rattle.order_store.specs.inside.Rows.{AreRising, is_at, is_live, is_under, key_in, with_key}
+use Rattle.order_store.specs.inside.Rows.{AreRising, is_at, key_in, with_key}
 
 abbrev pub numbered : ℕ → ℕ → Numbered
 numbered number key = record { number = number; key = key }
@@ -81,6 +80,12 @@ none_above number [] above = refl
 none_above number (entry ∷ entries) above =
     let first : number < entry.number = above 0 entry (omega arith) in
     key_in-other number entry entries (λ same. omega arith) ∙ none_above number entries (λ k d within. above (suc k) d (omega arith))
+
+pub none_below : (number : ℕ) (entries : List Numbered) → All (λ entry. entry.number < number) entries → key_in entries number ≡ None
+none_below number [] below = refl
+none_below number (entry ∷ entries) below =
+    let first : entry.number < number = below 0 entry (omega arith) in
+    key_in-other number entry entries (λ same. omega arith) ∙ none_below number entries (λ k d within. below (suc k) d (omega arith))
 
 none_later : (number : ℕ) (entry : Numbered) (entries : List Numbered) → AreRising (entry ∷ entries) → number ≤ entry.number → key_in entries number ≡ None
 none_later number entry entries rising upto =
@@ -214,42 +219,3 @@ key_in-with_key_other number key other (entry ∷ entries) differ =
         | inr apart ↦ ap (λ (es : List Numbered). key_in es other) (with_front number key entry entries (omega arith)) ∙ passes (entry ∷ entries)
       ]
     ]
-
--- Stale ones go.
-
-pub key_in-filter : (test : Numbered → Bool) (number key : ℕ) (entries : List Numbered) → ((entry : Numbered) → entry.number ≡ number → entry.key ≡ key → test entry ≡ true)
-    → key_in entries number ≡ Some key → key_in (filter test entries) number ≡ Some key
-key_in-filter test number key [] live is = is
-key_in-filter test number key (entry ∷ entries) live is =
-    elim (cases_eq entry.number number) [
-      | inl same ↦
-          let here : Some entry.key ≡ Some key = sym (key_in-same number entry entries same) ∙ is in
-          let key_is : entry.key ≡ key = cc in
-          ap (λ (es : List Numbered). key_in es number) (cond-true (test entry) (entry ∷ filter test entries) (filter test entries) (live entry same key_is))
-          ∙ key_in-same number entry (filter test entries) same ∙ here
-      | inr differ ↦
-          let rest : key_in (filter test entries) number ≡ Some key = key_in-filter test number key entries live (sym (key_in-other number entry entries differ) ∙ is) in
-          elim (cases_Bool (test entry)) [
-            | inl stays ↦
-                ap (λ (es : List Numbered). key_in es number) (cond-true (test entry) (entry ∷ filter test entries) (filter test entries) stays)
-                ∙ key_in-other number entry (filter test entries) differ ∙ rest
-            | inr goes ↦ ap (λ (es : List Numbered). key_in es number) (cond-false (test entry) (entry ∷ filter test entries) (filter test entries) goes) ∙ rest
-          ]
-    ]
-
-pub rising-filter : (test : Numbered → Bool) (entries : List Numbered) → AreRising entries → AreRising (filter test entries)
-rising-filter test entries rising = AllPairs-filter (λ e o. e.number < o.number) test entries rising
-
--- what is left of a row is what has not gone
-pub keeps_live : (slots : List (Option Resting)) (bank : ℕ) (entries left : List Numbered) → left ≡ filter (is_live slots bank) entries
-    → (number key : ℕ) → key_in entries number ≡ Some key → is_under slots key bank number ≡ true → key_in left number ≡ Some key
-keeps_live slots bank entries left are number key is live =
-    ap (λ (es : List Numbered). key_in es number) are
-    ∙ key_in-filter (is_live slots bank) number key entries
-    (λ entry same at. ap (λ n. is_under slots entry.key bank n) same ∙ ap (λ k. is_under slots k bank number) at ∙ live) is
-
--- how many places a row has that grew to twice what was left of it, where it had fewer
-pub sized : (left left_len left_places grown grown_len grown_places had more live : ℕ) → left_len ≡ left → left_len ≤ left_places → grown_len ≡ grown → grown_len ≤ grown_places
-    → left + (left_places - left_len) ≡ had → grown_places ≡ max left_places (left_len + more) → more ≡ max left_len 1 → left_len ≡ live
-    → grown + (grown_places - grown_len) ≤ max had (max 1 (2 * live))
-sized left left_len left_places grown grown_len grown_places had more live left_is left_fits grown_is grown_fits size places more_is live_is = omega arith

@@ -1,16 +1,12 @@
 -- The rows of the banks after one was written, and the room that they leave.
-use Rattle.std.proofs.Common.{ℕ, ◌≡◌, ◌≢◌, ◌+◌, ◌-◌, ◌≤◌, ◌<◌, cond, min, Result, Ok, Err, List, Option, Some, None, length, get_or, map, inl, inr, ap, sym, subst, ◌∙◌, arith}
+use Rattle.std.proofs.Common.{ℕ, ◌≡◌, ◌≢◌, ◌+◌, ◌≤◌, ◌<◌, min, Result, Ok, Err, List, Option, Some, None, length, get_or, map, inl, inr, ap, sym, subst, ◌∙◌, arith}
 use Rattle.std.proofs.Math.ListN.{set, length-set}
 use Rattle.std.proofs.lemmas.Bool.{cases_eq, cases_lt}
-use Rattle.std.proofs.lemmas.List.Sums.{sum_by-set}
 use Rattle.std.proofs.lemmas.List.{get_or-map, get_or-set_same, get_or-set_other, get_or_default, get_or_past, length-map}
-use Rattle.slab.specs.Slab.{Slab, slab_len, with_value}
-use Rattle.std.specs.List.{count_by}
-use Rattle.std.specs.Option.{is_some}
 use Rattle.std.specs.Result.{OnOk}
 use Rattle.fx_rules.specs.declared.orders.Resting.{Resting}
 use Rattle.order_store.specs.Orders.{Orders, room_for, KeepsRoom, TakesRoom}
-use Rattle.order_store.specs.inside.Rows.{Row, no_row, row_at, places_in, room_in, room_with}
+use Rattle.order_store.specs.inside.Rows.{Row, no_row, row_at, room_with}
 
 -- the row of one bank is written
 pub record Written (old new : List Row) (bank : ℕ) (row row' : Row) : Type 0 where
@@ -116,28 +112,13 @@ written_most most rows rows' bank row row' written upto other =
       | inr differ ↦ omega (arith, ap (λ (r : Row). r.room) (written.others other differ))
     ]
 
--- An order that changes takes no room.
-
+-- an order stands at a place that there is
 pub within_slots : (slots : List (Option Resting)) (key : ℕ) (order : Resting) → get_or slots key None ≡ Some order → key < length slots
 within_slots slots key order is =
     elim (cases_lt key (length slots)) [
       | inl below ↦ below
       | inr past ↦ let it : None ≡ Some order = sym (get_or_past slots key None past) ∙ is in cc
     ]
-
-count_changed : (slots : List (Option Resting)) (key : ℕ) (old new : Resting) → get_or slots key None ≡ Some old → count_by is_some (set slots key (Some new)) ≡ count_by is_some slots
-count_changed slots key old new is =
-    let counts = sum_by-set (λ (s : Option Resting). cond (is_some s) 1 0) slots key (Some new) None (within_slots slots key old is) in
-    let held : cond (is_some (get_or slots key None)) 1 0 ≡ 1 = ap {B = ℕ} (λ (s : Option Resting). cond (is_some s) 1 0) is in
-    omega (arith, counts, held)
-
-pub changed_room : (orders : Slab Resting) (rows : List Row) (key : ℕ) (old new : Resting) → get_or orders.slots key None ≡ Some old → map (room_in (with_value orders key new)) rows ≡ map (room_in orders) rows
-changed_room orders rows key old new is =
-    ap (λ n. map (λ (row : Row). min (orders.capacity - n) row.room) rows) (count_changed orders.slots key old new is)
-
--- fewer orders leave more places
-pub fewer_kept : (orders orders' : Slab Resting) → orders'.capacity ≡ orders.capacity → slab_len orders' ≤ slab_len orders → places_in orders ≤ places_in orders'
-fewer_kept orders orders' capacity fewer = omega (arith, capacity, fewer)
 
 pub on_ok_then : {T E : Type 0} (P Q : Type 0) (r : Result T E) → (P → Q) → OnOk r P → OnOk r Q
 on_ok_then P Q (Ok x) then' holds = then' holds

@@ -1,8 +1,8 @@
--- The orders that are kept, as contracts see them: a finite map from keys to orders.
+-- The orders that are kept, as contracts see them: the order or nothing at each place from 0 on.
 use Rattle.std.specs.Prelude.{ℕ, ◌≡◌, ◌≢◌, ◌+◌, ◌≤◌, ◌<◌, ◌^◌, List, length, Option, Some, None, count_by, is_some, slice_index_or}
 use Rattle.fx_rules.specs.declared.orders.Resting.{Resting}
 
--- the order or nothing at each key from 0 on, and for each bank from 0 on how many orders more of its own can be added
+-- the order or nothing at each place from 0 on, and for each bank from 0 on how many orders more of its own can be added
 pub record Orders : Type 0 where
   pub slots : List (Option Resting)
   pub room : List ℕ
@@ -21,9 +21,9 @@ pub record TakesRoom (old new : Orders) : Type 0 where
   pub banks : length new.room ≡ length old.room
   pub room : (bank : ℕ) → room_for old bank ≤ room_for new bank + 1
 
--- the order at a key
+-- the order at a place
 abbrev pub order_at : Orders → ℕ → Option Resting
-order_at orders key = slice_index_or orders.slots key None
+order_at orders place = slice_index_or orders.slots place None
 
 -- how many orders there are
 abbrev pub kept : Orders → ℕ
@@ -44,19 +44,7 @@ pub record AreOrders (orders : Orders) : Type 0 where
       → order.bank ≡ same.bank → order.number ≡ same.number → key ≡ other
   pub numbered : (key : ℕ) (order : Resting) → order_at orders key ≡ Some order → (order.bank < 65) × (order.number < 2 ^ 32)
 
--- this key has got this order, or none, and all other keys have what they had
-pub record Changes (old new : Orders) (key : ℕ) (slot : Option Resting) : Type 0 where
-  pub changed : order_at new key ≡ slot
-  pub others : (other : ℕ) → other ≢ key → order_at new other ≡ order_at old other
-
 -- an order of this bank arrived at or after this
 pub record IsFrom (owner after : ℕ) (order : Resting) : Type 0 where
   pub bank : order.bank ≡ owner
   pub arrival : after ≤ order.arrival
-
--- an order of this bank that arrived at or after this is kept, and no other such order arrived before it
-pub record IsEarliest (owner after : ℕ) (orders : Orders) (order : Resting) : Type 0 where
-  pub key : ℕ
-  pub there : order_at orders key ≡ Some order
-  pub from : IsFrom owner after order
-  pub first : (other : ℕ) (same : Resting) → order_at orders other ≡ Some same → IsFrom owner after same → order.arrival ≤ same.arrival

@@ -1,10 +1,8 @@
-//! The orders that rest in a book, each under a key of its own or at a place in a list by arrival, found by bank and number.
+//! The orders that rest in a book, in a list by arrival, each linked with its neighbours in its level and found by bank and number.
 #![tactic(auto)]
 
 mod list;
 mod nodes;
 mod row;
-mod store;
 
 pub use list::OrderList;
-pub use store::{OrderKey, OrderStore};

@@ -6,8 +6,7 @@ ghost use Rattle.order_store.specs.Linked.{AreListed, HasFrom, IsFirstFrom, IsIn
 ghost use Rattle.order_store.specs.Orders.{IsOf, KeepsRoom, Lacks, TakesRoom, kept, order_at, room_for};
 
 use crate::nodes::Nodes;
-use crate::row::NumberRow;
-use crate::store::bare_rows;
+use crate::row::{NumberRow, bare_rows};
 use fx_amounts::{BankId, Lots, Memory};
 use fx_rules::Resting;
 use std::alloc::Global;
@@ -16,8 +15,6 @@ use std::marker::Model;
 /// The orders that rest in a book, in a list by arrival, so that the lower of two places has the order that arrived first. Each one is
 /// linked with its neighbours in its level, which are the orders of its bank and side at its price. An order that is gone leaves its
 /// place empty.
-///
-/// A pair's book is to stand on it. Nothing calls it yet.
 #[derive(Drop)]
 pub struct OrderList {
     nodes: Nodes,

@@ -1,11 +1,9 @@
-ghost use Rattle.std.specs.Prelude.{ℕ, ◌≡◌, ◌+◌, ◌*◌, ◌≤◌, ◌<◌, ◌↔◌, [], Some, true, false, count_by, length, max, nat_lt, OnOk};
-ghost use Rattle.std.specs.List.{All, filter};
+ghost use Rattle.std.specs.Prelude.{◌≡◌, ◌+◌, ◌≤◌, ◌<◌, ◌↔◌, [], true, false, length, nat_lt, IfOk, OnOk};
+ghost use Rattle.std.specs.List.{All};
 ghost use Rattle.std.specs.List.Sorted.{IsPartitionPoint};
-ghost use Rattle.order_store.specs.inside.Rows.{is_at, is_live, is_under, key_in, size, with_key};
+ghost use Rattle.order_store.specs.inside.Rows.{is_at, key_in, with_key};
 
-use fx_amounts::{BankId, Memory};
-use fx_rules::Resting;
-use slab::Slab;
+use fx_amounts::Memory;
 use std::alloc::Global;
 use std::marker::Model;
 
@@ -44,10 +42,14 @@ impl NumberRow {
         }
     }
 
-    /// The key that stands with a number; `None` where there is no such entry. The order may have gone since.
+    /// The key that stands with a number; `None` where there is no such entry. The order may have gone since. A number above all others
+    /// takes no search.
     pub(crate) fn key_of(&self, number: u32) -> Option<usize>
         ensures key { result ≡ key_in self.now.entries number }
     {
+        if self.is_below(number) {
+            return None;
+        }
         let entry = self.entries.get(self.place_of(number))?;
         if entry.number == number {
             Some(entry.key)
@@ -81,33 +83,6 @@ impl NumberRow {
             self.entries.reserve_exact(self.entries.len().max(1))?;
         }
         Ok(())
-    }
-
-    /// Makes room for one entry more of a bank whose orders these are. A full row lets its stale entries go, and grows to twice
-    /// what is left where that is more than half of it, so that room costs few steps on the average. At `Memory` there may be
-    /// none.
-    pub(crate) fn reserve(&mut self, bank: BankId, orders: &Slab<Resting>) -> Result<(), Memory>
-        ensures room { OnOk result (1 ≤ self.new.room) }
-        ensures kept_room { self.old.room ≤ self.new.room }
-        ensures size { OnOk result (size self.new ≤ max (size self.old) (max 1 (2 * count_by (is_live orders.now.slots bank) self.old.entries))) }
-        ensures live { (number key : ℕ) → key_in self.old.entries number ≡ Some key → is_under orders.now.slots key bank number ≡ true → key_in self.new.entries number ≡ Some key }
-    {
-        if self.entries.len() < self.entries.capacity() {
-            return Ok(());
-        }
-        self.drop_stale(bank, orders);
-        let more = self.entries.len().max(1);
-        self.entries.reserve_exact(more)?;
-        Ok(())
-    }
-
-    /// Takes the stale entries out of the row of a bank whose orders these are.
-    fn drop_stale(&mut self, bank: BankId, orders: &Slab<Resting>)
-        ensures entries { self.new.entries ≡ filter (is_live orders.now.slots bank) self.old.entries }
-        ensures size { size self.new ≡ size self.old }
-    {
-        self.entries
-            .retain(|entry| is_under(orders, entry.key, bank, entry.number));
     }
 
     /// Whether all entries have lower numbers.
@@ -153,12 +128,13 @@ impl NumberRow {
     }
 }
 
-/// Whether the order of this bank and number is kept under a key.
-pub(crate) fn is_under(orders: &Slab<Resting>, key: usize, bank: BankId, number: u32) -> bool
-    ensures { result ≡ is_under orders.now.slots key bank number }
+/// So many rows with no entries.
+pub(crate) fn bare_rows(alloc: Global, count: usize) -> Result<Vec<NumberRow>, Memory>
+    ensures count { IfOk result (λ rows. length rows.items ≡ count) }
 {
-    match orders.get(key) {
-        Some(order) => order.bank == bank && order.number == number,
-        None => false,
+    let mut rows = Vec::new(alloc);
+    for _bank in 0..count {
+        rows.push(NumberRow::new(alloc))?;
     }
+    Ok(rows)
 }

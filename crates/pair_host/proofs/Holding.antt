@@ -12,7 +12,7 @@ use Rattle.pair_host.specs.Standing.{HostState, StandsFor, IsBookOf, AreBooksOf}
 use Rattle.pair_host.specs.inside.Books.{IsBookAt, AreBooks, AreHosted, AreEmpty, HaveOrders, EachBook, host_of}
 
 no_book : Book
-no_book = record { pair = 0; banks = 0; orders = []; room = [] }
+no_book = record { pair = 0; banks = 0; orders = []; room = record { places = []; ladders = record { bids = []; asks = [] } } }
 
 -- the books and the table are a state's
 pub record BooksOf (h : Header) (S : State) (books : List Book) (table : Table) : Type 0 where

@@ -26,7 +26,8 @@ use Rattle.fx_rules.proofs.Opens.{orders_in-among}
 use Rattle.fx_rules.proofs.Planning.{orders_in-here, orders_in-there}
 use Rattle.fx_rules.proofs.PlainSound.{reduced_to}
 use Rattle.fx_rules.proofs.SweepSound.{swept-sound, counts-filled_all, weight_of-least}
-use Rattle.global_book.specs.Book.{Book, HasRoom, Rests, RestsAbove, is_of, relotted}
+use Rattle.global_book.specs.Book.{Book, Rests, RestsAbove, is_of, relotted}
+use Rattle.global_book.specs.Room.{HasRoom}
 use Rattle.match_sweep.specs.Carries.{carried}
 use Rattle.match_sweep.proofs.Lowering.{carried-market, found-among}
 use Rattle.fx_rules.specs.declared.sender.Sender.{Sender}
@@ -199,14 +200,14 @@ came_before h S sender t fills left session sound next bank pair swept o there =
     }
 
 -- an order's fills can be carried out, and its rest has its place
-pub record CanCarry (book : Book) (sender : Sender) (side : Side) (rests : ℕ) (fills : List Fill) : Type 0 where
+pub record CanCarry (book : Book) (sender : Sender) (side : Side) (price rests : ℕ) (fills : List Fill) : Type 0 where
   pub most : rests ≤ 10 ^ 6
-  pub room : 0 < rests → HasRoom book sender.bank side
+  pub room : 0 < rests → HasRoom book.room sender.bank side price
   pub last : Each (λ (o : Resting). o.arrival < sender.arrival) (carried book.orders fills)
   pub absent : Each (λ (o : Resting). is_order sender.bank sender.number o ≡ false) (carried book.orders fills)
   pub number : 1 ≤ sender.number
 
-pub can_carry : (book : Book) (sender : Sender) (command : Command) (outcome : Outcome) (side : Side) (pair price lots : ℕ) (life : Life) (done rests : ℕ) (fills : List Fill) → command ≡ Order side pair price lots life → outcome ≡ Ordered done rests fills → pair_of command ≡ Some book.pair → HasRoomFor book sender.bank command → IsStepOfSome book sender command outcome → CanCarry book sender side rests fills
+pub can_carry : (book : Book) (sender : Sender) (command : Command) (outcome : Outcome) (side : Side) (pair price lots : ℕ) (life : Life) (done rests : ℕ) (fills : List Fill) → command ≡ Order side pair price lots life → outcome ≡ Ordered done rests fills → pair_of command ≡ Some book.pair → HasRoomFor book sender.bank command → IsStepOfSome book sender command outcome → CanCarry book sender side price rests fills
 can_carry book sender command outcome side pair price lots life done rests fills command_is outcome_is pair_is room some =
     let h : Header = some.session in
     let S : State = some.before in

@@ -6,10 +6,11 @@ use Rattle.fx_amounts.specs.declared.side.Side.{Side}
 use Rattle.fx_rules.specs.declared.orders.Resting.{Resting}
 use Rattle.fx_rules.specs.Lists.{Each}
 use Rattle.fx_rules.proofs.ListLemmas.{Each-weaker, filter_cons_true, filter_cons_false}
-use Rattle.global_book.specs.Book.{Book, IsBook, IsHeld, owned}
+use Rattle.global_book.specs.Behind.{owned_behind}
+use Rattle.global_book.specs.Book.{Book, IsBook, IsHeld}
 use Rattle.global_book.proofs.Pulling.{few_orders, few_own, owned_all}
 
-pub few_owned : (book : Book) (bank : ℕ) (side : Side) → IsBook book → length (owned side bank (2 ^ 64) None book.orders) < 2 ^ 32
+pub few_owned : (book : Book) (bank : ℕ) (side : Side) → IsBook book → length (owned_behind side bank (2 ^ 64) None book.orders) < 2 ^ 32
 few_owned book bank side valid = omega (arith, few_own book bank side valid, ap (λ (os : List Resting). length os) (owned_all book side bank valid))
 
 -- ---- all orders, by their banks

@@ -12,14 +12,15 @@ use Rattle.fx_rules.specs.State.{State, orders_in}
 use Rattle.fx_rules.specs.Sweep.{is_order}
 use Rattle.fx_rules.specs.History.{IsStep, after_entry}
 use Rattle.fx_rules.specs.Sound.{IsSound}
-use Rattle.global_book.specs.Book.{Book, HasRoom, is_of, relotted}
+use Rattle.global_book.specs.Book.{Book, is_of, relotted}
+use Rattle.global_book.specs.Room.{HasRoom}
 use Rattle.match_sweep.specs.Carries.{carried}
 use Rattle.fx_rules.specs.declared.sender.Sender.{Sender}
 use Rattle.fx_rules.specs.Sending.{IsNextIn, entry_of}
 
--- there is room for what may come to rest of a command: of a Day order, one order of its bank and side
+-- there is room for what may come to rest of a command: of a Day order, one order of its bank and side at its price
 abbrev pub HasRoomFor : Book → ℕ → Command → Type 0
-HasRoomFor book bank (Order side pair price lots Day) = HasRoom book bank side
+HasRoomFor book bank (Order side pair price lots Day) = HasRoom book.room bank side price
 HasRoomFor book bank _ = Unit {0}
 
 -- a sender's order as it comes to rest, with so many lots left

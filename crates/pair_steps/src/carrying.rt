@@ -1,7 +1,7 @@
 ghost use Rattle.std.specs.Prelude.{◌≡◌, ◌≤◌, ◌<◌, ◌^◌, false, Some, OnOk};
 ghost use Rattle.fx_rules.specs.Lists.{Each};
 ghost use Rattle.fx_rules.specs.Sweep.{is_order};
-ghost use Rattle.global_book.specs.Book.{HasRoom, KeepsRoom, TakesRoom};
+ghost use Rattle.global_book.specs.Room.{HasRoom, TakesRoom};
 ghost use Rattle.match_sweep.specs.Carries.{carried};
 ghost use Rattle.fx_rules.specs.Sending.{pair_of};
 ghost use Rattle.pair_steps.specs.Carries.{FollowsOn, HasRoomFor, IsStepOfSome, order_at_rest, orders_after, with_rest};
@@ -11,12 +11,12 @@ use fx_rules::{Command, Fill, Life, Outcome, Resting, Sender};
 use global_book::PairBook;
 use match_sweep::carry_fills;
 
-/// Makes room for what may come to rest of a bank's command: of a Day order, and of no other. At `Memory` there may be none.
-/// The bank is one of the book's.
+/// Makes room for what may come to rest of a bank's command: of a Day order, and of no other. For such an order the places of orders that
+/// are gone are first taken out of the book, where these are more than half of it; all other room may go. At `Memory` there may be none.
+/// Other commands take no memory. The bank is one of the book's.
 pub fn reserve(book: &mut PairBook, bank: BankId, command: &Command) -> Result<(), Memory>
     requires bank { bank < book.old.banks }
     ensures has_room { OnOk result (HasRoomFor book.new bank command.now) }
-    ensures room { KeepsRoom book.old book.new }
     ensures pair { book.new.pair ≡ book.old.pair }
     ensures banks { book.new.banks ≡ book.old.banks }
     ensures orders { book.new.orders ≡ book.old.orders }
@@ -24,9 +24,13 @@ pub fn reserve(book: &mut PairBook, bank: BankId, command: &Command) -> Result<(
     match *command {
         Command::Order {
             side,
+            price,
             life: Life::Day,
             ..
-        } => book.reserve(bank, side),
+        } => {
+            book.pack()?;
+            book.reserve(bank, side, price)
+        }
         _ => Ok(()),
     }
 }
@@ -44,7 +48,7 @@ pub fn carry_out(book: &mut PairBook, sender: &Sender, command: &Command, outcom
     ensures follows { FollowsOn book.old book.new sender.now command.now outcome.now }
     ensures pair { book.new.pair ≡ book.old.pair }
     ensures banks { book.new.banks ≡ book.old.banks }
-    ensures room { TakesRoom book.old book.new }
+    ensures room { TakesRoom book.old.room book.new.room }
 {
     change(book, sender, command, outcome);
 }
@@ -57,7 +61,7 @@ fn change(book: &mut PairBook, sender: &Sender, command: &Command, outcome: &Out
     ensures orders { book.new.orders ≡ orders_after sender.now command.now outcome.now book.old.orders }
     ensures pair { book.new.pair ≡ book.old.pair }
     ensures banks { book.new.banks ≡ book.old.banks }
-    ensures room { TakesRoom book.old book.new }
+    ensures room { TakesRoom book.old.room book.new.room }
 {
     match *command {
         Command::Order { side, price, .. } => {
@@ -97,14 +101,14 @@ fn carry_order(
     fills: &[Fill],
 )
     requires most { rests ≤ 10 ^ 6 }
-    requires room { 0 < rests → HasRoom book.old sender.now.bank side }
+    requires room { 0 < rests → HasRoom book.old.room sender.now.bank side price }
     requires last { Each (λ order. order.arrival < sender.now.arrival) (carried book.old.orders fills.now) }
     requires absent { Each (λ order. is_order sender.now.bank sender.now.number order ≡ false) (carried book.old.orders fills.now) }
     requires number { 1 ≤ sender.now.number }
     ensures orders { book.new.orders ≡ with_rest (order_at_rest sender.now side price rests) (carried book.old.orders fills.now) }
     ensures pair { book.new.pair ≡ book.old.pair }
     ensures banks { book.new.banks ≡ book.old.banks }
-    ensures room { TakesRoom book.old book.new }
+    ensures room { TakesRoom book.old.room book.new.room }
 {
     carry_fills(book, fills);
     if let Some(left) = Lots::new(rests) {

@@ -1,9 +1,11 @@
 ghost use Rattle.std.specs.Prelude.{◌≡◌, ◌≤◌, ◌^◌, None, filter, length};
-ghost use Rattle.global_book.specs.Book.{IsBook, is_of, owned};
+ghost use Rattle.global_book.specs.Behind.{owned_behind};
+ghost use Rattle.global_book.specs.Book.{IsBook, is_of};
 
 use fx_amounts::{BankId, Side};
+use fx_rules::Resting;
 use global_book::PairBook;
-use price_levels::{Place, Steps};
+use price_levels::Steps;
 use std::sync::ledger::Ledger;
 
 /// How many orders rest in a book, which was made for at most 64 banks.
@@ -26,14 +28,14 @@ pub(crate) fn count_of<L: Ledger>(book: &PairBook, bank: BankId, steps: &mut Ste
 
 /// How many of them are of a side. It walks them from the best one on.
 fn count_side<L: Ledger>(book: &PairBook, bank: BankId, side: Side, steps: &mut Steps<L>) -> u32
-    ensures count { result ≡ length (owned side bank (2 ^ 64) None book.now.orders) }
+    ensures count { result ≡ length (owned_behind side bank (2 ^ 64) None book.now.orders) }
     ensures valid { IsBook book.now }
 {
     let mut count = 0;
-    let mut past: Option<Place> = None;
-    while let Some((_, place)) = book.next_best(bank, side, past.as_ref(), steps) {
+    let mut past: Option<Resting> = None;
+    while let Some(order) = book.next_best(bank, side, past.as_ref(), steps) {
         count += 1;
-        past = Some(place);
+        past = Some(order);
     }
     count
 }

@@ -1,5 +1,5 @@
 ghost use Rattle.std.specs.Prelude.{◌≡◌, ◌<◌, length};
-ghost use Rattle.global_book.specs.Book.{KeepsRoom};
+ghost use Rattle.global_book.specs.Room.{KeepsRoom};
 ghost use Rattle.match_sweep.specs.Carries.{carried};
 ghost use Rattle.pair_steps.specs.Turns.{FollowsRaise, ReachesEach, fills_in};
 
@@ -17,7 +17,7 @@ pub fn carry_turn(book: &mut PairBook, change: &CreditChange)
     ensures reaches { ReachesEach change.now book.old book.new }
     ensures pair { book.new.pair ≡ book.old.pair }
     ensures banks { book.new.banks ≡ book.old.banks }
-    ensures room { KeepsRoom book.old book.new }
+    ensures room { KeepsRoom book.old.room book.new.room }
 {
     let plan = change.plan(book.pair());
     carry(book, plan);
@@ -33,7 +33,7 @@ pub fn carry_recorded(book: &mut PairBook, fills: &[Fill])
     ensures follows { FollowsRaise book.old book.new fills.now }
     ensures pair { book.new.pair ≡ book.old.pair }
     ensures banks { book.new.banks ≡ book.old.banks }
-    ensures room { KeepsRoom book.old book.new }
+    ensures room { KeepsRoom book.old.room book.new.room }
 {
     carry_own(book, fills);
 }
@@ -43,7 +43,7 @@ fn carry_own(book: &mut PairBook, fills: &[Fill])
     ensures orders { book.new.orders ≡ carried book.old.orders (fills_in book.old.pair fills.now) }
     ensures pair { book.new.pair ≡ book.old.pair }
     ensures banks { book.new.banks ≡ book.old.banks }
-    ensures room { KeepsRoom book.old book.new }
+    ensures room { KeepsRoom book.old.room book.new.room }
 {
     let pair = book.pair();
     for at in 0..fills.len() {

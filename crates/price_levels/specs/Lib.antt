@@ -1,4 +1,3 @@
-pub mod Ladder
 pub mod Rungs
 pub mod Ticks
 pub mod inside

@@ -1,5 +1,3 @@
 pub mod Bits
 pub mod Far
-pub mod Held
-pub mod Layout
 pub mod Marked

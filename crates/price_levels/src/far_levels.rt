@@ -100,6 +100,9 @@ impl FarLevels {
         ensures found { IfSome result (IsNextRank (far_level self.now) from) }
         ensures none { result ≡ None → (rank : ℕ) → from ≤ rank → (far_level self.now rank).lots ≡ 0 }
     {
+        if self.levels.is_empty() {
+            return None;
+        }
         let mut start = from;
         while let Some((rank, level)) = self.first_from(start) {
             if level.lots != 0 {

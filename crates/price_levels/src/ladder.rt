@@ -21,8 +21,6 @@ const AT_MOST: usize = 65_536;
 
 /// The levels of one owner and side. Those near one another lie in a window of ranks, and those far from it in a sorted map. The lower a
 /// rank, the better its price, so the best level is the first one.
-///
-/// A pair's book is to stand on it. Nothing calls it yet.
 #[derive(Drop)]
 pub struct Ladder {
     near: Window,

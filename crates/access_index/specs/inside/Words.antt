@@ -1,10 +1,6 @@
 -- The words in which the best orders of the banks are kept.
-use Rattle.std.specs.Prelude.{ℕ, ◌≡◌, ◌≢◌, ◌+◌, ◌-◌, ◌*◌, ◌/◌, ◌%◌, ◌≤◌, ◌<◌, ◌^◌, ◌==◌, if◌then◌else◌, List, Option, Some, None, slice_index}
+use Rattle.std.specs.Prelude.{ℕ, ◌≡◌, ◌≢◌, ◌-◌, ◌/◌, ◌%◌, ◌≤◌, ◌<◌, ◌^◌, ◌==◌, if◌then◌else◌, List, Option, Some, None, slice_index}
 use Rattle.access_index.specs.declared.words.Head.{Head}
-
--- a rank, a place and a bank in one number
-abbrev pub word_of : Head → ℕ → ℕ
-word_of head bank = (head.rank * 2 ^ 28 + head.place) * 64 + bank
 
 -- the order that a word tells, where there is one
 abbrev pub head_of : ℕ → Option Head

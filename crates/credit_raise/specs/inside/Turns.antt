@@ -5,4 +5,4 @@ use Rattle.global_book.specs.Book.{Book}
 
 -- the book of a pair for so many banks in which these orders rest, with no room for any other
 abbrev pub bare : ℕ → ℕ → List Resting → Book
-bare pair banks orders = record { pair = pair; banks = banks; orders = orders; room = [] }
+bare pair banks orders = record { pair = pair; banks = banks; orders = orders; room = record { places = []; ladders = record { bids = []; asks = [] } } }

@@ -1,5 +1,5 @@
 -- A level against the orders of a list: it has the places of the first and the last order of its bank, side and price, and the lots that they
--- have left. No book keeps such levels yet.
+-- have left.
 use Rattle.std.specs.Prelude.{ℕ, ◌≡◌, ◌==◌, true, if◌then◌else◌, List, [], ◌∷◌, length, Option, Some, None, slice_index_or, sum_by}
 use Rattle.fx_amounts.specs.Side.{opposite}
 use Rattle.fx_amounts.specs.declared.side.Side.{Side}

@@ -1,35 +1,23 @@
 -- The orders of each bank that a sweep may still come to, the best of them first. All of this is for this crate's own functions,
 -- which plan.
-use Rattle.std.specs.Prelude.{ℕ, ◌≡◌, ◌≢◌, ◌≤◌, ◌<◌, ◌/◌, Bool, true, false, ◌&&◌, nat_lt, if◌then◌else◌, List, filter, length, Option, Some, None, IfSome, slice_index_or}
+use Rattle.std.specs.Prelude.{ℕ, ◌≡◌, ◌≢◌, ◌≤◌, ◌<◌, ◌+◌, ◌-◌, ◌*◌, ◌/◌, ◌^◌, Bool, true, false, ◌&&◌, nat_lt, if◌then◌else◌, List, filter, length, Option, Some, None, slice_index, slice_index_or}
 use Rattle.std.specs.List.{Contains}
 use Rattle.fx_amounts.specs.declared.side.Side.{Side}
-use Rattle.fx_amounts.specs.Price.{IsPrice, crosses}
+use Rattle.fx_amounts.specs.Price.{crosses}
+use Rattle.fx_amounts.specs.Side.{opposite}
 use Rattle.fx_rules.specs.declared.orders.Resting.{Resting}
 use Rattle.fx_rules.specs.Lists.{Among, Each}
 use Rattle.fx_rules.specs.Sweep.{Taker, is_opposite, is_preferred, IsBest}
 use Rattle.fx_rules.specs.Plan.{is_behind, open_behind}
-use Rattle.price_levels.specs.declared.place.Place.{Place}
 use Rattle.global_book.specs.Book.{Book, is_of}
+use Rattle.global_book.specs.Room.{rank_of}
 use Rattle.credit_lines.specs.Credit.{Credit, line_in}
-use Rattle.match_sweep.specs.declared.heads.TakenPrices.{TakenPrices}
+use Rattle.match_sweep.specs.declared.opening.Marks.{Marks}
 use Rattle.match_sweep.specs.declared.opening.Opening.{Opening}
 
 -- a taker takes the price of none of these orders
 abbrev pub AreDear : Taker → List Resting → Type 0
 AreDear t orders = Each (λ order. crosses t.side t.price order.price ≡ false) orders
-
--- a taker does not take this price, or there is none
-abbrev pub IsDear : Taker → Option ℕ → Type 0
-IsDear t price = IfSome price (λ p. crosses t.side t.price p ≡ false)
-
--- a price is one of these
-pub record IsWithin (prices : TakenPrices) (price : ℕ) : Type 0 where
-  pub least : prices.least ≤ price
-  pub most : price ≤ prices.most
-
--- each price that a taker takes is one of these
-pub record HasTaken (t : Taker) (prices : TakenPrices) : Type 0 where
-  pub has : (price : ℕ) → IsPrice price → crosses t.side t.price price ≡ true → IsWithin prices price
 
 -- of some orders the best is found; or none is, where a taker takes the price of none
 abbrev pub IsFound : Taker → List Resting → Option Resting → Type 0
@@ -91,14 +79,32 @@ abbrev pub better_head : Side → Option Resting → Resting → Resting
 better_head side None head = head
 better_head side (Some first) head = if is_preferred side head first then head else first
 
+-- the first word of a price that a taker does not take: those of all prices that it takes are lower
+abbrev pub end_of : Taker → ℕ
+end_of t = (rank_of (opposite t.side) t.price + 1) * 2 ^ 34
+
+-- a bank is another than a taker's, and the line between both pays for a lot
+abbrev pub Reaches : Credit → ℕ → ℕ → ℕ → Type 0
+Reaches credit weight own bank = (bank ≢ own) × (1 ≤ line_in credit own bank / weight)
+
+-- a bank is one of these, it can be reached for a lot, and its word is below `end`, but not below the least one
+pub record IsMarkedBelow (credit : Credit) (weight : ℕ) (t : Taker) (words : List ℕ) (end least : ℕ) (banks : List ℕ) (bank : ℕ) : Type 0 where
+  pub there : Contains banks bank
+  pub reaches : Reaches credit weight t.bank bank
+  pub below : slice_index words bank < end
+  pub from : least ≤ slice_index words bank
+
+-- those of these banks are marked that can be reached for a lot, and whose words are below `end`; the bank with the least of their words is found
+pub record AreMarked (credit : Credit) (weight : ℕ) (t : Taker) (words : List ℕ) (end : ℕ) (banks : List ℕ) (marks : Marks) : Type 0 where
+  pub long : length marks.opens ≡ 65
+  pub shut : (bank : ℕ) → Contains banks bank → slice_index_or marks.opens bank false ≡ false → Reaches credit weight t.bank bank → end ≤ slice_index words bank
+  pub marked : (bank : ℕ) → slice_index_or marks.opens bank false ≡ true → IsMarkedBelow credit weight t words end marks.least banks bank
+  pub found : marks.least ≢ 2 ^ 64 - 1 → (slice_index_or marks.opens marks.bank false ≡ true) × (slice_index words marks.bank ≡ marks.least)
+
 -- an opening, where a head was found
 abbrev pub opening_of : Option Resting → List Bool → Option Opening
 opening_of None opens = None
 opening_of (Some first) opens = Some (record { first = first; opens = opens })
-
--- where an order stands, by its price and arrival alone
-abbrev pub place_of : Resting → Place
-place_of order = record { price = order.price; arrival = order.arrival; key = 0 }
 
 -- every order arrived before this
 abbrev pub CameBefore : List Resting → ℕ → Type 0

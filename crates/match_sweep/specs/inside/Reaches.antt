@@ -1,17 +1,17 @@
 -- What private functions and proofs alone say of it, beside `specs/Reaches.antt`.
-use Rattle.std.specs.Prelude.{ℕ, zero, suc, ◌≡◌, ◌≢◌, ◌≤◌, ◌<◌, ◌+◌, ◌-◌, ◌*◌, ◌/◌, ◌^◌, min, false, nat_eq, nat_le, if◌then◌else◌, List, [], ◌∷◌, length, replicate, Option, Some, None, IfSome, slice_get, slice_index, slice_index_or, slice_set, option_map}
+use Rattle.std.specs.Prelude.{ℕ, zero, suc, ◌≡◌, ◌≢◌, ◌≤◌, ◌<◌, ◌+◌, ◌-◌, ◌*◌, ◌/◌, ◌^◌, min, false, nat_eq, nat_le, nat_lt, if◌then◌else◌, List, [], ◌∷◌, length, replicate, Option, Some, None, IfSome, slice_index, slice_set, option_map}
 use Rattle.std.specs.List.{Contains}
 use Rattle.fx_amounts.specs.Price.{IsPrice}
+use Rattle.fx_amounts.specs.Side.{opposite}
 use Rattle.fx_amounts.specs.declared.side.Side.{Side}
-use Rattle.fx_amounts.specs.declared.side.Side.TheVariants.{Buy, Sell}
+use Rattle.fx_amounts.specs.declared.side.Side.TheVariants.{Buy}
 use Rattle.fx_rules.specs.declared.orders.Level.{Level}
 use Rattle.fx_rules.specs.declared.orders.Resting.{Resting}
 use Rattle.fx_rules.specs.Lists.{Each, total}
 use Rattle.fx_rules.specs.Sweep.{is_better}
-use Rattle.global_book.specs.Book.{Book, IsBook, IsPriceOf, level_lots, levels_of}
+use Rattle.global_book.specs.Book.{Book, IsBook, IsPriceOf, level_lots}
+use Rattle.global_book.specs.Room.{rank_of as rank_at}
 use Rattle.credit_lines.specs.Credit.{Credit, line_in}
-use Rattle.match_sweep.specs.declared.reached.BankLevel.{BankLevel}
-use Rattle.match_sweep.specs.declared.reached.HeadRow.{HeadRow}
 use Rattle.match_sweep.specs.declared.reached.LevelWalk.{LevelWalk}
 
 -- the lots that a bank's total pays for, of which this is left, where it has one; else more than 65 lines can allow
@@ -36,53 +36,34 @@ past_order past = option_map at_end past
 abbrev pub line_behind : ℕ → Side → ℕ → List Resting → ℕ → ℕ → ℕ
 line_behind weight taker price orders bank line = line - min (level_lots taker bank price orders) (line / weight) * weight
 
--- as many of some lots as are written down: no line pays for more
-abbrev pub counted : ℕ → ℕ
-counted lots = min lots (2 ^ 64 - 1)
+-- a price's rank for a taker of a side: the best price has the lowest, and none the last
+abbrev pub rank_of : Side → Option ℕ → ℕ
+rank_of taker None = 2 ^ 30 - 1
+rank_of taker (Some price) = rank_at (opposite taker) price
 
--- a bank's level at an index
-abbrev pub as_level : ℕ → ℕ × ℕ → BankLevel
-as_level at level = record { at = at; price = level.0; lots = counted level.1 }
-
-abbrev pub bank_level : Side → ℕ → List Resting → ℕ → Option BankLevel
-bank_level taker bank orders at = option_map (as_level at) (slice_get (levels_of taker bank orders) at)
-
--- the price of a level
-abbrev pub price_in : Option BankLevel → Option ℕ
-price_in head = option_map (λ level. level.price) head
-
--- a bank's best level behind a price, where there is one, is at its head
-pub record IsHead (taker : Side) (bank : ℕ) (past : Option ℕ) (orders : List Resting) (head : Option BankLevel) : Type 0 where
-  pub best : IsPriceOf taker bank past orders (price_in head)
-  pub lots : IfSome head (λ level. level.lots ≡ counted (level_lots taker bank level.price orders))
-  pub level : IfSome head (λ level. slice_get (levels_of taker bank orders) level.at ≡ Some (level.price, level_lots taker bank level.price orders))
-
--- the price of a rank, for a taker of a side: the best price has the lowest rank, and the last rank is that of no price
+-- the price of a rank
 abbrev pub price_at : Side → ℕ → Option ℕ
-price_at Buy rank = if nat_eq rank (2 ^ 32 - 1) then None else Some rank
-price_at Sell rank = if nat_eq rank (2 ^ 32 - 1) then None else Some (2 ^ 32 - 1 - rank)
+price_at taker rank = if nat_eq rank (2 ^ 30 - 1) then None else Some (rank_at (opposite taker) rank)
 
--- the head of which this row and this rank are kept
-abbrev pub as_head : HeadRow → ℕ → BankLevel
-as_head row price = record { at = row.at; price = price; lots = row.lots }
+pub record IsRank (taker : Side) (price : Option ℕ) (rank : ℕ) : Type 0 where
+  pub valid : IfSome price IsPrice
+  pub is : rank ≡ rank_of taker price
 
-abbrev pub head_in : Side → HeadRow → ℕ → Option BankLevel
-head_in taker row rank = option_map (as_head row) (price_at taker rank)
+-- the rank is that of its price
+abbrev pub HasRank : Side → ℕ → Type 0
+HasRank taker rank = IsRank taker (price_at taker rank) rank
 
-abbrev pub row_of : List HeadRow → ℕ → HeadRow
-row_of rows bank = slice_index_or rows bank (record { at = 0; lots = 0 })
-
--- the head of a bank, and the price of one with which the line pays for a lot
-abbrev pub head_of : LevelWalk → ℕ → Option BankLevel
-head_of walk bank = head_in walk.taker (row_of walk.heads bank) (slice_index walk.ranks bank)
+-- the price of a bank's rank, and that of one with which the line pays for a lot
+abbrev pub price_in : LevelWalk → ℕ → Option ℕ
+price_in walk bank = price_at walk.taker (slice_index walk.ranks bank)
 
 abbrev pub price_of : LevelWalk → ℕ → Option ℕ
-price_of walk bank = if nat_le walk.weight (slice_index walk.lines bank) then price_in (head_of walk bank) else None
+price_of walk bank = if nat_le walk.weight (slice_index walk.lines bank) then price_in walk bank else None
 
--- of each bank with which a line pays for a lot, the best level behind the last one is at its head
-abbrev pub HaveLevels : Book → LevelWalk → Type 0
-HaveLevels book walk =
-    (bank : ℕ) → bank < 65 → 1 ≤ slice_index walk.lines bank / walk.weight → IsHead walk.taker bank walk.last book.orders (head_of walk bank)
+-- of each bank with which a line pays for a lot, the best price behind this one is that of its rank
+abbrev pub HaveLevels : Book → Option ℕ → LevelWalk → Type 0
+HaveLevels book past walk =
+    (bank : ℕ) → bank < 65 → 1 ≤ slice_index walk.lines bank / walk.weight → IsPriceOf walk.taker bank past book.orders (price_in walk bank)
 
 -- the better of two prices, where there are any
 abbrev pub better_price : Side → Option ℕ → Option ℕ → Option ℕ
@@ -90,34 +71,25 @@ better_price taker None other = other
 better_price taker (Some price) None = Some price
 better_price taker (Some price) (Some other) = if is_better taker other price then Some other else Some price
 
--- a price's rank for a taker of a side: the best price has the lowest, and none the last
-abbrev pub rank_of : Side → Option ℕ → ℕ
-rank_of taker None = 2 ^ 32 - 1
-rank_of Buy (Some price) = price
-rank_of Sell (Some price) = 2 ^ 32 - 1 - price
-
-pub record IsRank (taker : Side) (price : Option ℕ) (rank : ℕ) : Type 0 where
-  pub valid : IfSome price IsPrice
-  pub is : rank ≡ rank_of taker price
-
 -- each bank's rank is that of the price that it is asked at
 abbrev pub AreRanked : LevelWalk → Type 0
 AreRanked walk = (bank : ℕ) → bank < 65 → IsRank walk.taker (price_of walk bank) (slice_index walk.ranks bank)
 
--- a bank's line and head are written down, and those of all others stay
-pub record Puts (old new : LevelWalk) (bank line : ℕ) (head : Option BankLevel) : Type 0 where
-  pub same : new ≡ record old { lines = slice_set old.lines bank line; heads = new.heads; ranks = new.ranks }
-  pub here : head_of new bank ≡ head
-  pub others : (other : ℕ) → other ≢ bank → head_of new other ≡ head_of old other
+-- a bank's line and rank are written down, where the line pays for a lot, and nothing else changes
+pub record Puts (old new : LevelWalk) (bank line rank : ℕ) : Type 0 where
+  pub is : new ≡ record old {
+    lines = slice_set old.lines bank line;
+    ranks = slice_set old.ranks bank (if nat_lt line old.weight then 2 ^ 30 - 1 else rank);
+  }
 
--- the best price of the heads of so many banks, or there is none
+-- the best price of so many banks with which the line pays for a lot, or there is none
 abbrev pub IsBestPrice : LevelWalk → ℕ → Option ℕ → Type 0
 IsBestPrice walk banks None = (bank : ℕ) → bank < banks → price_of walk bank ≡ None
 IsBestPrice walk banks (Some price) =
     ((bank : ℕ) × (bank < banks) × (price_of walk bank ≡ Some price))
     × ((bank other : ℕ) → bank < banks → price_of walk bank ≡ Some other → is_better walk.taker other price ≡ false)
 
--- the same of the heads of these banks
+-- the same of these banks
 abbrev pub IsBestAmong : LevelWalk → List ℕ → Option ℕ → Type 0
 IsBestAmong walk banks None = (bank : ℕ) → Contains banks bank → price_of walk bank ≡ None
 IsBestAmong walk banks (Some price) =
@@ -127,23 +99,34 @@ IsBestAmong walk banks (Some price) =
 -- what is left of a bank once its lots at a price are taken
 pub record IsTakenOf (book : Book) (old new : LevelWalk) (price bank : ℕ) : Type 0 where
   pub line : slice_index new.lines bank ≡ line_behind old.weight old.taker price book.orders bank (slice_index old.lines bank)
-  pub head : 1 ≤ slice_index new.lines bank / old.weight → IsHead old.taker bank (Some price) book.orders (head_of new bank)
+  pub head : 1 ≤ slice_index new.lines bank / old.weight → IsPriceOf old.taker bank (Some price) book.orders (price_in new bank)
 
 -- a bank is as it was
 pub record IsLeft (old new : LevelWalk) (bank : ℕ) : Type 0 where
   pub line : slice_index new.lines bank ≡ slice_index old.lines bank
-  pub head : head_of new bank ≡ head_of old bank
+  pub rank : slice_index new.ranks bank ≡ slice_index old.ranks bank
 
--- nothing but lines, heads and ranks changed, and the lots are what the lines paid for
+-- what is left of a bank whose lots are taken where this is its price, and that is as it was where it is not
+pub record IsTakenAt (book : Book) (old new : LevelWalk) (price bank : ℕ) : Type 0 where
+  pub asked : price_of old bank ≡ Some price → IsTakenOf book old new price bank
+  pub other : price_of old bank ≢ Some price → IsLeft old new bank
+
+-- nothing but lines and ranks changed, and the lots are what the lines paid for
 pub record IsPaid (old new : LevelWalk) (lots : ℕ) : Type 0 where
-  pub same : new ≡ record old { lines = new.lines; heads = new.heads; ranks = new.ranks }
+  pub same : new ≡ record old { lines = new.lines; ranks = new.ranks }
   pub long : length new.lines ≡ length old.lines
   pub paid : lots * old.weight + total (λ line. line) new.lines ≡ total (λ line. line) old.lines
 
 -- the lots of one bank are taken
 pub record TakesOf (book : Book) (old new : LevelWalk) (bank price lots : ℕ) : Type 0 where
-  pub taken : IsTakenOf book old new price bank
+  pub taken : IsTakenAt book old new price bank
   pub others : (other : ℕ) → other ≢ bank → IsLeft old new other
+  pub sum : IsPaid old new lots
+
+-- the lots of these banks
+pub record AreTakenOf (book : Book) (old new : LevelWalk) (price : ℕ) (banks : List ℕ) (lots : ℕ) : Type 0 where
+  pub taken : (bank : ℕ) → Contains banks bank → IsTakenAt book old new price bank
+  pub left : (bank : ℕ) → (Contains banks bank → ⊥) → IsLeft old new bank
   pub sum : IsPaid old new lots
 
 -- the lots of all banks
@@ -154,34 +137,31 @@ pub record AreTaken (book : Book) (old new : LevelWalk) (price lots : ℕ) : Typ
 -- a level is taken, at the best price; or there is none
 abbrev pub TakesLevel : Book → LevelWalk → LevelWalk → Option Level → Type 0
 TakesLevel book old new None = (new ≡ old) × IsBestPrice old 65 None
-TakesLevel book old new (Some level) =
-    IsBestPrice old 65 (Some level.price)
-    × ((taken : LevelWalk) × AreTaken book old taken level.price level.lots × (new ≡ record taken { last = Some level.price }))
+TakesLevel book old new (Some level) = IsBestPrice old 65 (Some level.price) × AreTaken book old new level.price level.lots
 
--- a walk that has found no line and no level
+-- a walk that has found no line and no price
 pub record IsBareLevel (walk : LevelWalk) : Type 0 where
   pub lines : walk.lines ≡ replicate 65 0
-  pub ranks : walk.ranks ≡ replicate 65 (2 ^ 32 - 1)
-  pub last : walk.last ≡ None
+  pub ranks : walk.ranks ≡ replicate 65 (2 ^ 30 - 1)
 
--- nothing but lines, heads and ranks changed
+-- nothing but lines and ranks changed
 pub record KeepsTaker (old new : LevelWalk) : Type 0 where
-  pub same : new ≡ record old { lines = new.lines; heads = new.heads; ranks = new.ranks }
+  pub same : new ≡ record old { lines = new.lines; ranks = new.ranks }
   pub long : length new.lines ≡ length old.lines
 
--- a bank has its first level at its head, where the line with it pays for a lot
-abbrev pub HasFirst : Book → ℕ → Side → LevelWalk → ℕ → Type 0
-HasFirst book weight taker walk bank = 1 ≤ slice_index walk.lines bank / weight → IsHead taker bank None book.orders (head_of walk bank)
-
--- the line of a bank with another is found, and the other's first level
-pub record OpensLevel (book : Book) (credit : Credit) (old new : LevelWalk) (bank other : ℕ) : Type 0 where
+-- the line of a bank with another is found, and where it pays for a lot this is the other's rank
+pub record OpensLevel (credit : Credit) (old new : LevelWalk) (bank other rank : ℕ) : Type 0 where
   pub keeps : KeepsTaker old new
   pub line : slice_index new.lines other ≡ line_in credit bank other
   pub most : line_in credit bank other ≤ 10 ^ 15
-  pub head : HasFirst book old.weight old.taker new other
-  pub others : (third : ℕ) → third ≢ other → (slice_index new.lines third ≡ slice_index old.lines third) × (head_of new third ≡ head_of old third)
+  pub has : 1 ≤ slice_index new.lines other / old.weight → slice_index new.ranks other ≡ rank
+  pub others : (third : ℕ) → third ≢ other → IsLeft old new third
 
--- so they are with each of these banks, and there is no line with the bank's own
+-- a bank's first price is that of its rank, where the line with it pays for a lot
+abbrev pub HasFirst : Book → ℕ → Side → LevelWalk → ℕ → Type 0
+HasFirst book weight taker walk bank = 1 ≤ slice_index walk.lines bank / weight → IsPriceOf taker bank None book.orders (price_in walk bank)
+
+-- so the lines and the ranks are with each of these banks, and there is no line with the bank's own
 pub record HaveOpened (book : Book) (credit : Credit) (banks : List ℕ) (bank : ℕ) (old new : LevelWalk) : Type 0 where
   pub keeps : KeepsTaker old new
   pub most : (other : ℕ) → slice_index new.lines other ≤ 10 ^ 15
@@ -195,8 +175,8 @@ pub record BeginsAt (book : Book) (credit : Credit) (weight bank : ℕ) (taker :
   pub valid : IsBook book
   pub few : Each (λ order. order.bank < 65) book.orders
   pub long : length walk.lines ≡ 65
-  pub heads : HaveLevels book walk
-  pub is : walk ≡ record walk { weight = weight; taker = taker; last = None }
+  pub heads : HaveLevels book None walk
+  pub is : walk ≡ record walk { weight = weight; taker = taker }
   pub own : slice_index walk.lines bank ≡ 0
   pub line : Each (λ order. order.bank ≢ bank → slice_index walk.lines order.bank ≡ line_in credit bank order.bank) book.orders
   pub most : total (λ line. line) walk.lines ≤ 65 * 10 ^ 15

@@ -2,6 +2,7 @@
 -- which plan.
 use Rattle.std.specs.Prelude.{ℕ, ◌≡◌, ◌≢◌, ◌≤◌, ◌<◌, ◌-◌, ◌*◌, ◌/◌, ◌^◌, Bool, true, false, ◌&&◌, nat_le, List, [], ◌∷◌, ◌⊎◌, Option, Some, None, IfSome, length, replicate, slice_index, slice_index_or, slice_set}
 use Rattle.std.specs.List.{Contains}
+use Rattle.fx_amounts.specs.Side.{opposite}
 use Rattle.fx_amounts.specs.declared.side.Side.{Side}
 use Rattle.fx_amounts.specs.Price.{crosses}
 use Rattle.fx_amounts.specs.Quantity.{IsWeight}
@@ -10,6 +11,7 @@ use Rattle.fx_rules.specs.declared.orders.Resting.{Resting}
 use Rattle.fx_rules.specs.Lists.{Among, total}
 use Rattle.fx_rules.specs.Sweep.{Taker, is_open, is_preferred, amount, fill_with, less}
 use Rattle.fx_rules.specs.Plan.{Planned}
+use Rattle.global_book.specs.Behind.{IsCursor}
 use Rattle.global_book.specs.Book.{Book, IsBook}
 use Rattle.credit_lines.specs.Credit.{Credit, line_in}
 use Rattle.match_sweep.specs.declared.opening.Opening.{Opening}
@@ -56,12 +58,13 @@ abbrev pub StepsOn : Book → WholeWalk → WholeWalk → Option Fill → Type 0
 StepsOn book old new None = (new.order ≡ old.order) × FromHere book old [] old.order.left
 StepsOn book old new (Some fill) = LeadsOn book old new fill
 
--- The bank of a walk's order is one of the book's, which are 64 at most, and so is that of the order that was taken last. There is no
--- line with the order's own. The heads are those behind the order that was taken last, but for that of its bank.
+-- The bank of a walk's order is one of the book's, which are 64 at most, and so is that of the order that was taken last, which rests on
+-- the other side. There is no line with the order's own. The heads are those behind the order that was taken last, but for that of its bank.
 pub record IsReady (book : Book) (walk : WholeWalk) : Type 0 where
   pub few : book.banks ≤ 64
   pub bank : walk.order.bank < book.banks
   pub taken : IfSome walk.last (λ taken. taken.bank < book.banks)
+  pub rests : IfSome walk.last (λ taken. IsCursor book.orders taken.bank (opposite walk.order.side) taken)
   pub weight : IsWeight walk.weight
   pub own : slice_index walk.lines walk.order.bank ≡ 0
   pub heads : (bank : ℕ) → bank < book.banks → IfSome walk.last (λ taken. bank ≢ taken.bank) → 1 ≤ reach_of walk bank →

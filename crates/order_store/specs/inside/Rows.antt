@@ -1,9 +1,8 @@
 -- The keys of a bank's orders by number, as the bank's row has them.
-use Rattle.std.specs.Prelude.{ℕ, ◌+◌, ◌-◌, ◌<◌, min, Bool, false, ◌==◌, nat_lt, if◌then◌else◌, List, [], ◌∷◌, length, Option, Some, None, slice_get, slice_index_or}
+use Rattle.std.specs.Prelude.{ℕ, ◌<◌, min, Bool, false, ◌==◌, nat_lt, if◌then◌else◌, List, [], ◌∷◌, Option, Some, None, slice_get, slice_index_or}
 use Rattle.std.specs.List.{AllPairs}
 use Rattle.fx_rules.specs.declared.orders.Resting.{Resting}
 use Rattle.fx_rules.specs.Sweep.{is_order}
-use Rattle.slab.specs.Slab.{Slab, slab_len}
 use Rattle.order_store.specs.declared.row.Numbered.{Numbered}
 
 -- `room` is how many entries more can come in
@@ -14,10 +13,6 @@ pub record Row : Type 0 where
 -- a row with no entries
 abbrev pub no_row : Row
 no_row = record { entries = []; room = 0 }
-
--- how many entries a row has places for
-abbrev pub size : Row → ℕ
-size row = length row.entries + row.room
 
 -- the row of a bank, of those for each bank from 0 on
 abbrev pub row_at : List Row → ℕ → Row
@@ -58,17 +53,6 @@ has_order bank number (Some order) = is_order bank number order
 abbrev pub is_under : List (Option Resting) → ℕ → ℕ → ℕ → Bool
 is_under slots key bank number = has_order bank number (slice_index_or slots key None)
 
--- the order of an entry of a bank's row has not gone
-abbrev pub is_live : List (Option Resting) → ℕ → Numbered → Bool
-is_live slots bank entry = is_under slots entry.key bank entry.number
-
--- how many orders more the slab can take
-abbrev pub places_in : Slab Resting → ℕ
-places_in orders = orders.capacity - slab_len orders
-
 -- how many orders more can be added that a row is for, where there are so many places
 abbrev pub room_with : ℕ → Row → ℕ
 room_with places row = min places row.room
-
-abbrev pub room_in : Slab Resting → Row → ℕ
-room_in orders = room_with (places_in orders)

@@ -24,7 +24,10 @@ loop-fill-preserved c =
           ∙ sym (ap (carried c.args.book.now.orders) next ∙ carried_push c.args.book.now.orders (take c.loop-fill.fill-index c.args.fills.now) f);
       pair = c.take_lots-in-loop-fill.ensures.pair ∙ c.take_lots.ensures.pair ∙ was.pair;
       banks = c.take_lots-in-loop-fill.ensures.banks ∙ c.take_lots.ensures.banks ∙ was.banks;
-      room = record { room = λ bank side. omega (arith, was.room.room bank side, c.take_lots.ensures.room.room bank side, c.take_lots-in-loop-fill.ensures.room.room bank side) };
+      room = record {
+        places = λ bank. omega (arith, was.room.places bank, c.take_lots.ensures.room.places bank, c.take_lots-in-loop-fill.ensures.room.places bank);
+        ready = λ bank side price is. c.take_lots-in-loop-fill.ensures.room.ready bank side price (c.take_lots.ensures.room.ready bank side price (was.room.ready bank side price is));
+      };
     }
 
 pub returns-clause-state : goal.returns-clause-state

@@ -25,9 +25,9 @@ loop-walk-init g c =
       way = λ begins.
           way_begins c.args.book.now begins.valid c.open_banks.new.self c.args.bank []
           (subst IsWeight (sym (ap (λ (w : LevelWalk). w.weight) begins.is)) c.requires.weight)
-          (ap (λ (w : LevelWalk). w.last) begins.is) begins.long begins.heads begins.own refl;
+          begins.long begins.heads begins.own refl;
       ranked = c.open_banks.ensures.ranked;
-      steps = omega (arith, c.open_banks.ensures.steps, ap length none);
+      steps = omega (arith, c.open_banks.ensures.step, ap length none, c.requires.bank, c.requires.banks);
     }
 
 pub next_level-requires : goal.next_level-requires
@@ -36,7 +36,6 @@ next_level-requires g c =
     record {
       weight = subst IsWeight (sym way.weight) way.weighs;
       most = omega (arith, way.most, c.open_banks.ensures.begins.most);
-      heads = way.have;
       ranked = c.loop-walk.invariant.ranked;
     }
 
@@ -51,7 +50,7 @@ loop-walk-preserved g c =
           (omega (arith, c.if-most-gt0.true)) (omega (arith, c.min-lots.ensures)) (c.in_ok-push.ensures.items ∙ ap (λ n. c.loop-walk.levels.items ++ record { price = c.in-Some.level.price; lots = n } ∷ []) c.min-lots.ensures);
       way = λ begins.
           way_on c.args.book.now begins.valid c.open_banks.new.self c.loop-walk.walk c.next_level.new.self c.args.bank was.whole c.in-Some.level begins.few
-          (was.way begins) (omega (arith, c.loop-walk-test.true, c.len.ensures, was.cut.long)) c.in-Some.ensures.level;
+          (was.way begins) (omega (arith, c.loop-walk-test.true, c.len.ensures, was.cut.long)) (c.in-Some.ensures.level (was.way begins).past (was.way begins).have);
       ranked = c.in-Some.ensures.ranked;
       steps = one_more c.args.steps.now c.loop-walk.steps c.next_level.new.steps (length c.loop-walk.levels.items) (length c.push.new.self.items) c.args.book.now.banks was.steps c.in-Some.ensures.steps more;
     }
@@ -71,7 +70,7 @@ returns g c =
                 c.loop-walk.most was.whole c.loop-walk.levels.items (was.way begins) was.cut (inr (omega (arith, w.if-most-gt0.false)))
             | then-loop-walk-test+then-most-gt0+in_default w ↦
                 reached-whole c.args.book.now c.args.lines.now c.args.weight c.args.bank c.lots_by_total-most.result c.args.side c.open_banks.new.self c.loop-walk.walk begins c.requires.banks c.requires.bank c.requires.weight.0 c.lots_by_total-most.ensures
-                c.loop-walk.most was.whole c.loop-walk.levels.items (was.way begins) was.cut w.in_default.ensures.level.1
+                c.loop-walk.most was.whole c.loop-walk.levels.items (was.way begins) was.cut (w.in_default.ensures.level (was.way begins).past (was.way begins).have).1
           ]);
       steps = elim c.loop-walk-test.branch [
         | else-loop-walk-test w ↦ subst (λ (n : ℕ). c.loop-walk-test.steps ≤ c.args.steps.now + (n + 1) * c.args.book.now.banks) (sym (ap length c.from_vec.ensures.items))

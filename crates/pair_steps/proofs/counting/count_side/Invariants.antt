@@ -1,11 +1,14 @@
 use Rattle.std.proofs.Common.{◌≡◌, ◌+◌, ◌^◌, None, length}
-use Rattle.global_book.specs.Book.{owned}
+use Rattle.std.specs.Option.{IfSome}
+use Rattle.global_book.specs.Behind.{IsCursor, owned_behind}
 use Rattle.pair_steps.proofs.counting.count_side.Given as goal
 
--- the bank's orders of the side are those counted and those behind the last place
-abbrev pub invariant-loop-place : goal.invariant-loop-place
-invariant-loop-place g l =
-    l.count + length (owned l.side l.bank (2 ^ 64) l.past l.book.orders) ≡ length (owned l.side l.bank (2 ^ 64) None l.book.orders)
+-- the bank's orders of the side are those counted and those behind the last one
+abbrev pub invariant-loop-order : goal.invariant-loop-order
+invariant-loop-order g l = record {
+  counted : l.count + length (owned_behind l.side l.bank (2 ^ 64) l.past l.book.orders) ≡ length (owned_behind l.side l.bank (2 ^ 64) None l.book.orders);
+  cursor : IfSome l.past (IsCursor l.book.orders l.bank l.side);
+}
 
-abbrev pub decreases-loop-place : goal.decreases-loop-place
-decreases-loop-place g l = length (owned l.side l.bank (2 ^ 64) l.past l.book.orders)
+abbrev pub decreases-loop-order : goal.decreases-loop-order
+decreases-loop-order g l = length (owned_behind l.side l.bank (2 ^ 64) l.past l.book.orders)

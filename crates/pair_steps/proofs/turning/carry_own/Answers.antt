@@ -3,15 +3,19 @@ use Rattle.std.proofs.Common.{◌≡◌, ◌≢◌, ◌+◌, List, [], ◌∷◌
 use Rattle.std.proofs.lemmas.Bool.{eqb-true, eqb-false}
 use Rattle.fx_rules.specs.declared.orders.Fill.{Fill}
 use Rattle.fx_rules.specs.declared.orders.Resting.{Resting}
-use Rattle.global_book.specs.Book.{Book, KeepsRoom}
+use Rattle.global_book.specs.Book.{Book}
+use Rattle.global_book.specs.Room.{KeepsRoom, Room}
 use Rattle.match_sweep.specs.Carries.{carried}
 use Rattle.pair_steps.specs.Turns.{fills_in}
 use Rattle.pair_steps.proofs.Recorded.{own-next, other-next, one-piece}
 use Rattle.pair_steps.proofs.turning.carry_own.Goals as goal
 use Rattle.pair_steps.proofs.turning.carry_own.Goals.{then-eq, else-eq}
 
-room-trans : (a b c : Book) → KeepsRoom a b → KeepsRoom b c → KeepsRoom a c
-room-trans a b c first second = record { room = λ bank side. omega (arith, first.room bank side, second.room bank side) }
+room-trans : (a b c : Room) → KeepsRoom a b → KeepsRoom b c → KeepsRoom a c
+room-trans a b c first second = record {
+  places = λ bank. omega (arith, first.places bank, second.places bank);
+  ready = λ bank side price is. second.ready bank side price (first.ready bank side price is);
+}
 
 pub loop-at-preserved : goal.loop-at-preserved
 loop-at-preserved c =
@@ -30,7 +34,7 @@ loop-at-preserved c =
             orders = ap (λ (b : Book). b.orders) w.book-is ∙ made;
             pair = ap (λ (b : Book). b.pair) w.book-is ∙ w.carry_fills.ensures.pair ∙ c.loop-at.invariant.pair;
             banks = ap (λ (b : Book). b.banks) w.book-is ∙ w.carry_fills.ensures.banks ∙ c.loop-at.invariant.banks;
-            room = subst (KeepsRoom was) (sym w.book-is) (room-trans was c.loop-at.book w.carry_fills.new.book c.loop-at.invariant.room w.carry_fills.ensures.room);
+            room = subst (λ (b : Book). KeepsRoom was.room b.room) (sym w.book-is) (room-trans was.room c.loop-at.book.room w.carry_fills.new.book.room c.loop-at.invariant.room w.carry_fills.ensures.room);
           }
       | else-eq w ↦
           let other : f.pair ≢ was.pair = λ same. eqb-false _ _ (sym c.eq.ensures ∙ w.if-eq.false) (ap (λ (g : Fill). g.pair) (sym is) ∙ same ∙ sym c.pair-pair.ensures.value) in
@@ -39,6 +43,6 @@ loop-at-preserved c =
                 ∙ ap (carried was.orders) (sym (other-next was.pair c.loop-at.at fills f c.loop-at-test.true is other));
             pair = ap (λ (b : Book). b.pair) w.book-is ∙ c.loop-at.invariant.pair;
             banks = ap (λ (b : Book). b.banks) w.book-is ∙ c.loop-at.invariant.banks;
-            room = subst (KeepsRoom was) (sym w.book-is) c.loop-at.invariant.room;
+            room = subst (λ (b : Book). KeepsRoom was.room b.room) (sym w.book-is) c.loop-at.invariant.room;
           }
     ]

@@ -1,4 +1,4 @@
-use Rattle.std.proofs.Common.{List, ℕ, Option, ◌<◌, ◌%◌, ap, subst, sym, ◌∙◌, refl, arith}
+use Rattle.std.proofs.Common.{List, ℕ, Option, ◌%◌, ap, subst, sym, ◌∙◌, refl, arith}
 use Rattle.std.proofs.Math.ListN.{set}
 use Rattle.std.proofs.lemmas.List.{map-set}
 use Rattle.std.specs.Prelude.{IfSome}

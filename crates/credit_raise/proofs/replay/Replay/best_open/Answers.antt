@@ -6,7 +6,7 @@ use Rattle.fx_rules.specs.declared.orders.Resting.{Resting}
 use Rattle.fx_rules.specs.Sweep.{Taker, IsBest, open_in}
 use Rattle.fx_rules.specs.Raise.{taker_of_resting}
 use Rattle.fx_rules.proofs.Planning.{div_none}
-use Rattle.global_book.specs.Book.{owned}
+use Rattle.global_book.specs.Behind.{owned_behind}
 use Rattle.credit_raise.specs.inside.Playing.{IsBestOf, only}
 use Rattle.credit_raise.proofs.Looking.{open-none, open-apart, open-best}
 use Rattle.credit_raise.proofs.Paying.{pays-one}
@@ -27,7 +27,7 @@ returns-in_err-maker g c =
     record {
       best = subst (IsBestOf t.side (open_in (only c.args.other lots) t orders)) (sym c.from_residual.ensures)
           (open-none c.args.other lots t orders
-          (subst (λ (s : Side). owned s c.args.other t.arrival None orders ≡ []) c.opposite-side.ensures (c.in_err-maker.ensures.none.0 refl)));
+          (subst (λ (s : Side). owned_behind s c.args.other t.arrival None orders ≡ []) c.opposite-side.ensures (c.in_err-maker.ensures.none.0 refl)));
     }
 
 pub returns-then-not-crosses : goal.returns-then-not-crosses
@@ -37,7 +37,7 @@ returns-then-not-crosses g c =
     let maker : Resting = c.in_ok-maker.maker in
     record {
       best = open-apart c.args.other (c.args.self.now.line / c.args.self.now.weight) t orders maker
-          (subst (λ (s : Side). IsBest (opposite s) (owned s c.args.other t.arrival None orders) maker) c.opposite-side.ensures c.in_ok-maker.ensures.best)
+          (subst (λ (s : Side). IsBest (opposite s) (owned_behind s c.args.other t.arrival None orders) maker) c.opposite-side.ensures c.in_ok-maker.ensures.best)
           (sym c.crosses.ensures ∙ c.if-not-crosses.true);
     }
 
@@ -52,6 +52,6 @@ returns g c =
       best = open-best c.args.other (line / weight) t orders maker
           (pays-one line weight c.requires.weight.0 (omega (arith, c.if-self-from.false, c.from.ensures)))
           c.requires.differ
-          (subst (λ (s : Side). IsBest (opposite s) (owned s c.args.other t.arrival None orders) maker) c.opposite-side.ensures c.in_ok-maker.ensures.best)
+          (subst (λ (s : Side). IsBest (opposite s) (owned_behind s c.args.other t.arrival None orders) maker) c.opposite-side.ensures c.in_ok-maker.ensures.best)
           (sym c.crosses.ensures ∙ c.if-not-crosses.false);
     }

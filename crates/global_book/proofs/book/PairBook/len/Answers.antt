@@ -1,12 +1,12 @@
-use Rattle.std.proofs.Common.{length, ap, sym, ◌∙◌}
+use Rattle.std.proofs.Common.{ap, length, ◌∙◌}
 use Rattle.global_book.specs.Book.{Book}
-use Rattle.global_book.proofs.Finding.{kept_book}
-use Rattle.global_book.proofs.Flat.{length-flat}
+use Rattle.global_book.proofs.Booking.{kept-book}
+use Rattle.global_book.proofs.Listing.{orders-counted}
 use Rattle.global_book.proofs.book.PairBook.len.Goals as goal
 
-pub returns : goal.returns
-returns c = record {
-  count = c.len.ensures.count ∙ sym (length-flat c.self.inside.orders.slots) ∙ ap (λ (b : Book). length b.orders) c.self.view_is;
-  valid = kept_book c.self.inside.banks c.self.inside.orders c.self.inside.rows c.args.self.now
-      c.self.invariant.kept (ap (λ (b : Book). b.orders) c.self.view_is) (ap (λ (b : Book). b.banks) c.self.view_is);
-}
+pub returns-clause-count : goal.returns-clause-count
+returns-clause-count c = c.len.ensures.count ∙ orders-counted c.self.inside.linked.orders.slots ∙ ap (λ (b : Book). length b.orders) c.self.view_is
+
+pub returns-clause-valid : goal.returns-clause-valid
+returns-clause-valid c =
+    kept-book c.self.inside.banks c.self.inside.linked c.args.self.now c.self.invariant (ap (λ (b : Book). b.orders) c.self.view_is) (ap (λ (b : Book). b.banks) c.self.view_is)

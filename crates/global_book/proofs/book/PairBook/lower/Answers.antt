@@ -1,47 +1,39 @@
 -- The order that is found has fewer lots left.
-use Rattle.std.proofs.Common.{List, ap, ◌∙◌, length, map, refl, subst, sym}
+use Rattle.std.proofs.Common.{◌<◌, ap, ◌∙◌, map, refl, subst, sym}
 use Rattle.fx_rules.specs.declared.orders.Resting.{Resting}
-use Rattle.order_store.specs.Orders.{IsOf}
+use Rattle.fx_rules.specs.Lists.{Among}
 use Rattle.global_book.specs.Book.{Book, relotted}
-use Rattle.global_book.specs.inside.Moves.{Moves}
-use Rattle.global_book.proofs.Finding.{kept_book, finds, found_order, more_left}
-use Rattle.global_book.proofs.Moving.{lowered_found, moved_room}
-use Rattle.global_book.proofs.Rowing.{some_same}
+use Rattle.global_book.specs.Room.{KeepsRoom}
+use Rattle.global_book.specs.inside.Linked.{Becomes, room_in}
+use Rattle.global_book.proofs.Booking.{finds, found-at, if-some, kept-book, lowered-becomes, some-and, the-order}
 use Rattle.global_book.proofs.book.PairBook.lower.Goals as goal
 
-pub unwrap-key-requires : goal.unwrap-key-requires
-unwrap-key-requires c =
-    finds c.self.inside.orders c.args.self.now.orders c.args.bank c.args.number c.find.result c.requires.above.0
-    (ap (λ (b : Book). b.orders) c.self.view_is) c.requires.above.1 c.requires.above.2 c.find.ensures.none
+pub unwrap-place-requires : goal.unwrap-place-requires
+unwrap-place-requires c =
+    finds c.self.inside.linked.orders c.args.bank c.args.number c.find.result c.requires.above.0
+    (subst (λ (b : Book). Among c.requires.above.0 b.orders) (sym c.self.view_is) c.requires.above.1) c.requires.above.2 c.find.ensures.none
 
-pub lower_at-requires : goal.lower_at-requires
-lower_at-requires c =
-    let it = found_order c.self.inside.orders c.args.bank c.args.number c.find.result c.unwrap-key.result c.unwrap-key.ensures c.find.ensures.found in
-    record {
-      at = c.get-order.ensures.value;
-      less = more_left (length c.self.inside.rows) c.self.inside.orders c.args.self.now.orders c.args.bank c.args.number c.unwrap-key.result.0 c.args.left it.0 c.get-order.result
-          c.self.invariant.kept.resting it.1 (ap (λ (b : Book). b.orders) c.self.view_is) c.get-order.ensures.value c.requires.above;
-      own = (c.self.inside.rows, (c.self.inside.banks, c.self.invariant));
-    }
+pub lower-requires : goal.lower-requires
+lower-requires c =
+    let it = found-at c.self.inside.linked.orders c.args.bank c.args.number c.find.result c.unwrap-place.result c.unwrap-place.ensures c.find.ensures.found in
+    let same = the-order c.self.inside.linked.orders c.args.bank c.args.number c.unwrap-place.result it.0 c.requires.above.0 c.find.ensures.valid it.1
+    (subst (λ (b : Book). Among c.requires.above.0 b.orders) (sym c.self.view_is) c.requires.above.1) c.requires.above.2 in
+    record { less = some-and _ it.0 (λ order. c.args.left < order.left) it.1.at (subst (λ (o : Resting). c.args.left < o.left) same c.requires.above.3) }
 
-moves : (c : goal.After-lower_at) → Moves (map (relotted c.args.bank c.args.number c.args.left)) c.self.inside.orders c.lower_at.new.orders c.self.inside.rows c.self.inside.rows c.self.inside.levels c.lower_at.new.levels
-moves c =
-    let it = found_order c.self.inside.orders c.args.bank c.args.number c.find.result c.unwrap-key.result c.unwrap-key.ensures c.find.ensures.found in
-    let same = some_same it.0 c.get-order.result (sym it.1.at ∙ c.get-order.ensures.value) in
-    lowered_found c.self.inside.orders c.lower_at.new.orders c.self.inside.rows c.self.inside.levels c.lower_at.new.levels c.args.bank c.args.number c.args.left c.get-order.result
-    (subst (IsOf c.args.bank c.args.number) same it.1.is_it) (c.lower_at.ensures.moves c.self.inside.rows)
+becomes : (c : goal.After-lower) → Becomes (map (relotted c.args.bank c.args.number c.args.left)) c.self.inside.linked c.lower.new.self
+becomes c =
+    let it = found-at c.self.inside.linked.orders c.args.bank c.args.number c.find.result c.unwrap-place.result c.unwrap-place.ensures c.find.ensures.found in
+    lowered-becomes c.self.inside.linked c.lower.new.self c.unwrap-place.result it.0 c.args.bank c.args.number it.1 c.lower.ensures.room c.lower.ensures.holds c.find.ensures.valid c.lower.ensures.valid c.args.left
+    (if-some _ it.0 _ it.1.at c.lower.ensures.slots)
 
 pub invariant_of-self : goal.invariant_of-self
-invariant_of-self c = (moves c).stored c.self.inside.banks c.self.invariant
+invariant_of-self c = (becomes c).kept c.self.inside.banks c.self.invariant
 
 pub returns-clause-orders : goal.returns-clause-orders
-returns-clause-orders c =
-    (moves c).orders ∙ ap (λ (xs : List Resting). map (relotted c.args.bank c.args.number c.args.left) xs) (ap (λ (b : Book). b.orders) c.self.view_is)
+returns-clause-orders c = (becomes c).orders ∙ ap (λ (b : Book). map (relotted c.args.bank c.args.number c.args.left) b.orders) c.self.view_is
 
 pub returns-clause-room : goal.returns-clause-room
-returns-clause-room c =
-    moved_room _ c.args.self.now _ c.self.inside.orders c.lower_at.new.orders c.self.inside.rows c.self.inside.rows c.self.inside.levels c.lower_at.new.levels
-    (moves c) (ap (λ (b : Book). b.room) c.self.view_is) refl
+returns-clause-room c = subst (λ (b : Book). KeepsRoom b.room (room_in c.lower.new.self)) c.self.view_is (becomes c).room
 
 pub returns-clause-valid : goal.returns-clause-valid
-returns-clause-valid c = kept_book _ _ _ _ (invariant_of-self c).kept refl refl
+returns-clause-valid c = kept-book _ _ _ (invariant_of-self c) refl refl

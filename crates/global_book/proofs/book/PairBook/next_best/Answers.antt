@@ -1,66 +1,48 @@
-use Rattle.std.proofs.Common.{◌^◌, Bool, Option, Some, ap, sym, subst}
-use Rattle.std.specs.Option.{option_copied}
+use Rattle.std.proofs.Common.{◌≡◌, ◌^◌, None, Some, ap, subst, sym}
+use Rattle.std.specs.Option.{IfSome, option_copied}
 use Rattle.fx_amounts.specs.Side.{opposite}
+use Rattle.fx_rules.specs.Sweep.{IsBest}
 use Rattle.fx_rules.specs.declared.orders.Resting.{Resting}
-use Rattle.price_levels.specs.declared.place.Place.{Place}
-use Rattle.global_book.specs.Book.{Book, is_owned}
-use Rattle.global_book.specs.inside.Search.{IsFoundIn}
-use Rattle.global_book.proofs.Bests.{best_listed, none_listed}
-use Rattle.global_book.proofs.Finding.{kept_book}
-use Rattle.global_book.proofs.Searching.{none_owned, first_owned, first_lives, first_ahead}
+use Rattle.global_book.specs.Book.{Book}
+use Rattle.global_book.specs.Behind.{owned_behind}
+use Rattle.global_book.specs.inside.Bests.{is_past}
+use Rattle.global_book.proofs.Behind.{best-live, either-best, is-best, is-none}
+use Rattle.global_book.proofs.Booking.{kept-book}
 use Rattle.global_book.proofs.book.PairBook.next_best.Goals as goal
 
 pub returns-in_err-place-clause-none : goal.returns-in_err-place-clause-none
-returns-in_err-place-clause-none g c =
-    let past : Option Place = option_copied c.args.past in
-    let passes : Resting → Bool = is_owned (opposite c.args.side) c.args.bank (2 ^ 64) past in
-    none_listed passes (opposite c.args.side) c.self.inside.orders c.args.self.now.orders c.from_residual.result (ap (λ (b : Book). b.orders) c.self.view_is)
-    (subst (IsFoundIn passes (opposite c.args.side) c.self.inside.orders) (sym c.from_residual.ensures)
-    (none_owned c.self.inside.banks c.self.inside.orders c.self.inside.rows c.self.invariant.kept c.args.side c.args.bank (2 ^ 64) past c.first_behind.result c.in_err-place.was (first_ahead c.self.inside.banks c.self.inside.orders c.self.inside.rows c.self.invariant.kept c.args.bank c.args.side (option_copied c.args.past) c.first_behind.result c.first_behind.ensures.found)))
+returns-in_err-place-clause-none g c = (
+  λ _. is-none c.self.inside.banks c.self.inside.linked c.args.self.now.orders c.args.bank c.args.side (option_copied c.args.past) c.best_behind.result c.self.invariant (ap (λ (b : Book). b.orders) c.self.view_is) c.best_behind.ensures
+      c.in_err-place.was,
+  λ _. c.from_residual.ensures,
+)
 
 pub returns-in_err-place-clause-best : goal.returns-in_err-place-clause-best
-returns-in_err-place-clause-best g c =
-    let past : Option Place = option_copied c.args.past in
-    let passes : Resting → Bool = is_owned (opposite c.args.side) c.args.bank (2 ^ 64) past in
-    best_listed passes (opposite c.args.side) c.self.inside.orders c.args.self.now.orders c.from_residual.result (ap (λ (b : Book). b.orders) c.self.view_is)
-    (subst (IsFoundIn passes (opposite c.args.side) c.self.inside.orders) (sym c.from_residual.ensures)
-    (none_owned c.self.inside.banks c.self.inside.orders c.self.inside.rows c.self.invariant.kept c.args.side c.args.bank (2 ^ 64) past c.first_behind.result c.in_err-place.was (first_ahead c.self.inside.banks c.self.inside.orders c.self.inside.rows c.self.invariant.kept c.args.bank c.args.side (option_copied c.args.past) c.first_behind.result c.first_behind.ensures.found)))
+returns-in_err-place-clause-best g c = subst (λ (f : _). IfSome f (IsBest (opposite c.args.side) (owned_behind c.args.side c.args.bank (2 ^ 64) (option_copied c.args.past) c.args.self.now.orders))) (sym c.from_residual.ensures) tt
 
 pub returns-in_err-place-clause-valid : goal.returns-in_err-place-clause-valid
 returns-in_err-place-clause-valid g c =
-    kept_book c.self.inside.banks c.self.inside.orders c.self.inside.rows c.args.self.now
-    c.self.invariant.kept (ap (λ (b : Book). b.orders) c.self.view_is) (ap (λ (b : Book). b.banks) c.self.view_is)
+    kept-book c.self.inside.banks c.self.inside.linked c.args.self.now c.self.invariant (ap (λ (b : Book). b.orders) c.self.view_is) (ap (λ (b : Book). b.banks) c.self.view_is)
 
-pub get-requires : goal.get-requires
-get-requires g c = record {
-  live = first_lives c.self.inside.banks c.self.inside.orders c.self.inside.rows c.self.invariant.kept c.args.side c.args.bank (2 ^ 64) (option_copied c.args.past)
-      c.first_behind.result c.in_ok-place.place c.in_ok-place.was (first_ahead c.self.inside.banks c.self.inside.orders c.self.inside.rows c.self.invariant.kept c.args.bank c.args.side (option_copied c.args.past) c.first_behind.result c.first_behind.ensures.found);
+pub order-requires : goal.order-requires
+order-requires g c = record {
+  live = best-live c.self.inside.linked.orders.slots (is_past c.args.bank c.args.side (option_copied c.args.past)) c.args.side c.best_behind.result c.in_ok-place.place c.best_behind.ensures c.in_ok-place.was;
 }
 
 pub returns-clause-none : goal.returns-clause-none
 returns-clause-none g c =
-    let past : Option Place = option_copied c.args.past in
-    let passes : Resting → Bool = is_owned (opposite c.args.side) c.args.bank (2 ^ 64) past in
-    none_listed passes (opposite c.args.side) c.self.inside.orders c.args.self.now.orders (Some (c.get.result, c.in_ok-place.place)) (ap (λ (b : Book). b.orders) c.self.view_is)
-    (first_owned c.self.inside.banks c.self.inside.orders c.self.inside.rows c.self.invariant.kept c.args.side c.args.bank (2 ^ 64) past
-    c.first_behind.result c.in_ok-place.place c.get.result c.in_ok-place.was (first_ahead c.self.inside.banks c.self.inside.orders c.self.inside.rows c.self.invariant.kept c.args.bank c.args.side (option_copied c.args.past) c.first_behind.result c.first_behind.ensures.found) c.get.ensures.value)
+    either-best (opposite c.args.side) (owned_behind c.args.side c.args.bank (2 ^ 64) (option_copied c.args.past) c.args.self.now.orders) (Some c.order.result) (λ none. absurd (some_not c.order.result none))
+    (is-best c.self.inside.banks c.self.inside.linked c.args.self.now.orders c.args.bank c.args.side (option_copied c.args.past) c.best_behind.result c.in_ok-place.place c.order.result c.self.invariant
+    (ap (λ (b : Book). b.orders) c.self.view_is) c.best_behind.ensures c.in_ok-place.was c.order.ensures.value)
+  where
+    some_not : (order : Resting) → Some order ≡ None → ⊥
+    some_not order is = cc
 
 pub returns-clause-best : goal.returns-clause-best
 returns-clause-best g c =
-    let past : Option Place = option_copied c.args.past in
-    let passes : Resting → Bool = is_owned (opposite c.args.side) c.args.bank (2 ^ 64) past in
-    best_listed passes (opposite c.args.side) c.self.inside.orders c.args.self.now.orders (Some (c.get.result, c.in_ok-place.place)) (ap (λ (b : Book). b.orders) c.self.view_is)
-    (first_owned c.self.inside.banks c.self.inside.orders c.self.inside.rows c.self.invariant.kept c.args.side c.args.bank (2 ^ 64) past
-    c.first_behind.result c.in_ok-place.place c.get.result c.in_ok-place.was (first_ahead c.self.inside.banks c.self.inside.orders c.self.inside.rows c.self.invariant.kept c.args.bank c.args.side (option_copied c.args.past) c.first_behind.result c.first_behind.ensures.found) c.get.ensures.value)
-
-pub returns-clause-place : goal.returns-clause-place
-returns-clause-place g c =
-    let past : Option Place = option_copied c.args.past in
-    let it = first_owned c.self.inside.banks c.self.inside.orders c.self.inside.rows c.self.invariant.kept c.args.side c.args.bank (2 ^ 64) past
-    c.first_behind.result c.in_ok-place.place c.get.result c.in_ok-place.was (first_ahead c.self.inside.banks c.self.inside.orders c.self.inside.rows c.self.invariant.kept c.args.bank c.args.side (option_copied c.args.past) c.first_behind.result c.first_behind.ensures.found) c.get.ensures.value in
-    record { price = ap (λ (p : Place). p.price) it.place; arrival = ap (λ (p : Place). p.arrival) it.place }
+    is-best c.self.inside.banks c.self.inside.linked c.args.self.now.orders c.args.bank c.args.side (option_copied c.args.past) c.best_behind.result c.in_ok-place.place c.order.result c.self.invariant
+    (ap (λ (b : Book). b.orders) c.self.view_is) c.best_behind.ensures c.in_ok-place.was c.order.ensures.value
 
 pub returns-clause-valid : goal.returns-clause-valid
 returns-clause-valid g c =
-    kept_book c.self.inside.banks c.self.inside.orders c.self.inside.rows c.args.self.now
-    c.self.invariant.kept (ap (λ (b : Book). b.orders) c.self.view_is) (ap (λ (b : Book). b.banks) c.self.view_is)
+    kept-book c.self.inside.banks c.self.inside.linked c.args.self.now c.self.invariant (ap (λ (b : Book). b.orders) c.self.view_is) (ap (λ (b : Book). b.banks) c.self.view_is)

@@ -1,8 +1,11 @@
 use Rattle.std.proofs.Common.{List, ◌≡◌, ◌<◌, ◌≤◌, length, get_or, ap, sym, subst, ◌∙◌, arith}
 use Rattle.order_store.specs.declared.row.Numbered.{Numbered}
 use Rattle.order_store.specs.inside.Rows.{Row, AreRising}
-use Rattle.order_store.proofs.Numbering.{key_at_none, key_at_same, key_at_other}
+use Rattle.order_store.proofs.Numbering.{key_at_none, key_at_same, key_at_other, none_below}
 use Rattle.order_store.proofs.row.NumberRow.key_of.Goals as goal
+
+pub returns-then-is_below : goal.returns-then-is_below
+returns-then-is_below c = record { key = sym (none_below c.args.number c.args.self.now.entries (c.is_below.ensures.below.0 c.if-is_below.true)) }
 
 pub returns-in_err-entry : goal.returns-in_err-entry
 returns-in_err-entry c =

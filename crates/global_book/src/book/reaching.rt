@@ -1,0 +1,164 @@
+ghost use Rattle.std.specs.Prelude.{◌≡◌, ◌+◌, ◌≤◌, ◌^◌, ◌↔◌, ◌++◌, ◌⊎◌, List, [], None, false, length, IfSome, IsSomeAnd, IsPermutation, OnErr, OnOk};
+ghost use Rattle.std.specs.Option.{option_copied};
+ghost use Rattle.fx_amounts.specs.Side.{opposite};
+ghost use Rattle.fx_rules.specs.Sweep.{IsBest, is_preferred};
+ghost use Rattle.fx_rules.specs.declared.orders.Resting.{Resting};
+ghost use Rattle.global_book.specs.Behind.{owned_behind};
+ghost use Rattle.global_book.specs.Book.{AreInTime, IsBook, IsPriceOf, crossing, level_lots};
+ghost use Rattle.global_book.specs.Sought.{allows, sought};
+ghost use Rattle.global_book.specs.Words.{AreBestWords};
+
+use crate::ahead::is_behind;
+use crate::book::PairBook;
+use crate::side_ladders::{price_at, rank_of};
+use fx_amounts::{BankId, Memory, Price, Side};
+use fx_rules::Resting;
+use price_levels::Steps;
+use std::sync::ledger::Ledger;
+
+impl PairBook {
+    /// For each bank, from the lowest number on, its best order of a side as a word: the rank of its price in the bits from the 34th on, and
+    /// below it what tells apart banks and the times at which their orders arrived. The lower the word, the better the order; all bits are
+    /// set where the bank has none. The words lie side by side, and it reads no order: one step for them all.
+    pub fn best_words<L: Ledger>(&self, side: Side, steps: &mut Steps<L>) -> &[u64; BankId::COUNT]
+        ensures words { AreBestWords side self.now.orders result.now }
+        ensures step { steps.new ≡ steps.old + 1 }
+        ensures valid { IsBook self.now }
+    {
+        steps.tick();
+        self.linked.words(side)
+    }
+
+    /// The lots that a bank's orders of a side have left at a price, and the best price of theirs behind it; `None` where there is no such
+    /// price. One step.
+    pub fn level_and_next<L: Ledger>(
+        &self,
+        bank: BankId,
+        side: Side,
+        price: Price,
+        steps: &mut Steps<L>,
+    ) -> (u64, Option<Price>)
+        ensures lots { result.0 ≡ level_lots (opposite side) bank price self.now.orders }
+        ensures next { IsPriceOf (opposite side) bank (Some price) self.now.orders result.1 }
+        ensures step { steps.new ≡ steps.old + 1 }
+        ensures valid { IsBook self.now }
+    {
+        steps.tick();
+        let (level, next) = self.linked.level_and_next(bank, side, rank_of(side, price));
+        let Some(rank) = next else {
+            return (level.lots, None);
+        };
+        (level.lots, price_at(side, rank))
+    }
+
+    /// Puts a bank's orders of a side that cross `top`, a price of the other side, behind those that `orders` has. It looks at one order that
+    /// does not cross at most: one step, and one for each order that it puts there. At `Memory` `orders` has what it had.
+    pub fn gather_crossing<L: Ledger>(
+        &self,
+        bank: BankId,
+        side: Side,
+        top: Price,
+        orders: &mut Vec<Resting>,
+        steps: &mut Steps<L>,
+    ) -> Result<(), Memory>
+        ensures gathered { OnOk result ((gathered : List Resting) × (orders.new.items ≡ orders.old.items ++ gathered) × IsPermutation (crossing bank side top self.now.orders) gathered) }
+        ensures steps { OnOk result (steps.new + length orders.old.items ≡ steps.old + 1 + length orders.new.items) }
+        ensures memory { OnErr result (orders.new.items ≡ orders.old.items) }
+        ensures valid { IsBook self.now }
+    {
+        let had = orders.len();
+        let mut next = self.next_best(bank, side, None, steps);
+        while let Some(order) = next {
+            if !order.price.crosses(top, side) {
+                return Ok(());
+            }
+            if let Err(stop) = orders.push(order) {
+                orders.truncate(had);
+                return Err(Memory::from(stop));
+            }
+            next = self.next_best(bank, side, Some(&order), steps);
+        }
+        Ok(())
+    }
+
+    /// The best order of a side, among those whose owner can be reached for a lot at least, that the limit allows, that arrived before
+    /// `before` and that stand behind the order `past`; without a limit any price is allowed, and without `past` all are looked at.
+    /// `None` where there is no such order. `reach` has the lots for each bank. Where all orders of the side arrived in time, it takes
+    /// one step for each bank at most: behind an order of another bank a search passes the orders of that one price that arrived before it,
+    /// which are not counted.
+    pub fn best<L: Ledger>(
+        &self,
+        side: Side,
+        reach: &[u64],
+        limit: Option<Price>,
+        before: u64,
+        past: Option<&Resting>,
+        steps: &mut Steps<L>,
+    ) -> Option<Resting>
+        requires one_each { length reach.now ≡ self.now.banks }
+        ensures none { (result ≡ None) ↔ (sought side reach.now limit before (option_copied past.entry) self.now.orders ≡ []) }
+        ensures best { IfSome result (IsBest (opposite side) (sought side reach.now limit before (option_copied past.entry) self.now.orders)) }
+        ensures steps { AreInTime side before self.now.orders → steps.new ≤ steps.old + self.now.banks }
+        ensures valid { IsBook self.now }
+    {
+        let mut best = None;
+        for bank in self.owners() {
+            if reach[bank.index()] > 0 {
+                let found = self.best_ahead(*bank, side, before, past, steps);
+                best = better_of(side, best, found);
+            }
+        }
+        let order = best?;
+        if is_allowed(limit, order.price, side.opposite()) {
+            return Some(order);
+        }
+        None
+    }
+
+    /// The best order of a bank and a side, among those that arrived before `before` and stand behind `past`, whoever gave that one; without
+    /// `past` all of them are looked at. `None` where there is no such order. One step for it, and one for each order that arrived too late.
+    fn best_ahead<L: Ledger>(
+        &self,
+        bank: BankId,
+        side: Side,
+        before: u64,
+        past: Option<&Resting>,
+        steps: &mut Steps<L>,
+    ) -> Option<Resting>
+        ensures none { (result ≡ None) ↔ (owned_behind side bank before (option_copied past.entry) self.now.orders ≡ []) }
+        ensures best { IfSome result (IsBest (opposite side) (owned_behind side bank before (option_copied past.entry) self.now.orders)) }
+        ensures steps { AreInTime side before self.now.orders → steps.new ≤ steps.old + 1 }
+        ensures valid { IsBook self.now }
+    {
+        let place = self.linked.best_ahead(bank, side, before, past, steps)?;
+        Some(self.linked.order(place))
+    }
+}
+
+/// The one of two orders that a taker of the other side prefers, or the one that there is.
+fn better_of(side: Side, best: Option<Resting>, found: Option<Resting>) -> Option<Resting>
+    ensures either { (result ≡ best) ⊎ (result ≡ found) }
+    ensures first { IfSome best (λ one. IsSomeAnd result (λ order. is_preferred (opposite side) one order ≡ false)) }
+    ensures second { IfSome found (λ one. IsSomeAnd result (λ order. is_preferred (opposite side) one order ≡ false)) }
+{
+    let Some(one) = best else {
+        return found;
+    };
+    let Some(other) = found else {
+        return Some(one);
+    };
+    if is_behind(side.opposite(), Some(&one), &other) {
+        return Some(one);
+    }
+    Some(other)
+}
+
+/// Whether a limit, where there is one, allows a taker of a side this price.
+fn is_allowed(limit: Option<Price>, price: Price, taker: Side) -> bool
+    ensures { result ≡ allows taker limit price }
+{
+    match limit {
+        Some(limit) => limit.crosses(price, taker),
+        None => true,
+    }
+}

@@ -1,2 +1,0 @@
-pub mod Ranking
-mod Filing

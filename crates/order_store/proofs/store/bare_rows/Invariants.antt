@@ -1,6 +1,0 @@
-use Rattle.std.proofs.Common.{◌≡◌, length}
-use Rattle.order_store.proofs.store.bare_rows.Given as goal
-
--- a row for each bank so far
-abbrev pub invariant-loop-bank : goal.invariant-loop-bank
-invariant-loop-bank l = length l.rows.items ≡ l._bank
