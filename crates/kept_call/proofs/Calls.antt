@@ -19,7 +19,7 @@ use Rattle.keep_disk.specs.declared.write.KeepFault.{KeepFault}
 use Rattle.keep_disk.specs.declared.write.KeepFault.TheVariants as keeps
 use Rattle.kept_history.specs.Blocks.{Listed, kept_in}
 use Rattle.kept_history.specs.Found.{IsWhole, IsFull}
-use Rattle.kept_run.specs.Running.{new_session}
+use Rattle.kept_call.specs.Running.{new_session}
 use Rattle.session_head.specs.HeadText.{head_text_of}
 use Rattle.session_script.specs.Rounds.{HasStopped}
 use Rattle.session_script.specs.declared.ends.EarlyEnd.TheVariants.{ReadFault}

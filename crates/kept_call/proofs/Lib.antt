@@ -1,3 +1,11 @@
+pub mod Results
+pub mod Commands
+pub mod Streams
+pub mod Rounds
+pub mod RoundKeeping
+pub mod RunEnding
+pub mod Causes
+pub mod Texts
 pub mod Serving
 mod Opening
 mod Faults

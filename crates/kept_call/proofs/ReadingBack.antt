@@ -15,8 +15,8 @@ use Rattle.kept_history.specs.Blocks.{kept_in}
 use Rattle.kept_history.specs.Found.{most_commands, IsWhole}
 use Rattle.kept_history.proofs.Histories.{whole_by}
 use Rattle.kept_history.proofs.Written.{AreCommands, kept_more, kept_first}
-use Rattle.kept_run.specs.Kept.{block_of, entries_of, AreRoundsOf}
-use Rattle.kept_run.proofs.Commands.{commands-of}
+use Rattle.kept_call.specs.KeptRounds.{block_of, entries_of, AreRoundsOf}
+use Rattle.kept_call.proofs.Commands.{commands-of}
 use Rattle.session_head.specs.HeadText.{head_text_of}
 use Rattle.kept_call.specs.Found.{IsReadBack}
 

@@ -20,10 +20,10 @@ use Rattle.keep_disk.specs.Rounds.{bodies_of, text_of, KeptUpTo}
 use Rattle.keep_disk.specs.Blocks.{whole_blocks}
 use Rattle.keep_disk.specs.Keeping.{AtRest}
 use Rattle.keep_disk.proofs.Telling.{kept_stopped, first_all}
-use Rattle.kept_run.specs.Running.{Start, StandsBehind, new_session, AreBegunBy, HasNotBegun}
-use Rattle.kept_run.specs.Text.{IsKeeping, HasKeptText, HasStoppedText}
-use Rattle.kept_run.proofs.Keeping.{keeps-from}
-use Rattle.kept_run.proofs.Streams.{streams-behind, begun-by}
+use Rattle.kept_call.specs.Running.{Start, StandsBehind, new_session, AreBegunBy, HasNotBegun}
+use Rattle.kept_call.specs.RunText.{IsKeeping, HasKeptText, HasStoppedText}
+use Rattle.kept_call.proofs.RoundKeeping.{keeps-from}
+use Rattle.kept_call.proofs.Streams.{streams-behind, begun-by}
 use Rattle.reply_lines.specs.Output.{IsRestOfOutput}
 use Rattle.reply_lines.specs.Faults.{WroteOutput}
 use Rattle.reply_lines.specs.declared.output.Ending.{Ending}

@@ -12,7 +12,7 @@ use Rattle.keep_disk.specs.Rounds.{bodies_of, HasFirst}
 use Rattle.keep_disk.specs.declared.rounds.Round.{Round}
 use Rattle.kept_history.specs.Blocks.{kept_in}
 use Rattle.kept_history.specs.Found.{IsWhole, IsFull}
-use Rattle.kept_run.specs.Kept.{entries_of}
+use Rattle.kept_call.specs.KeptRounds.{entries_of}
 use Rattle.session_head.specs.HeadText.{head_text_of}
 use Rattle.session_head.specs.declared.reason.HeadReason.{HeadReason}
 use Rattle.session_script.specs.Input.{input_limit}

@@ -9,8 +9,8 @@ use Rattle.fx_disk.specs.Disk.{WhereTold, Only, LeavesOnly}
 use Rattle.keep_disk.specs.Blocks.{whole_blocks}
 use Rattle.keep_disk.specs.declared.rounds.Round.{Round}
 use Rattle.keep_disk.specs.Rounds.{bodies_of, text_of, HasFirst}
-use Rattle.kept_run.specs.Kept.{entries_of, AreRoundsOf}
-use Rattle.kept_run.specs.Running.{AreBegunBy}
+use Rattle.kept_call.specs.KeptRounds.{entries_of, AreRoundsOf}
+use Rattle.kept_call.specs.Running.{AreBegunBy}
 use Rattle.reply_lines.specs.Output.{IsRestOfOutput}
 use Rattle.session_script.specs.Reading.{TextEndedBehind}
 use Rattle.session_script.specs.Script.{HasSession, sent_in, strays_of}

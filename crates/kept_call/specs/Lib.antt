@@ -1,6 +1,9 @@
 pub mod Ending
 pub mod Fault
 pub mod Kept
+pub mod KeptRounds
+pub mod Running
+pub mod RunText
 pub mod Text
 pub mod Found
 pub mod Call

@@ -1,7 +1,7 @@
 ghost use Rattle.std.specs.Prelude.{ℕ, ◌≡◌, List, [], Some};
 ghost use Rattle.fx_rules.specs.Session.{Header as SessionHeader};
 ghost use Rattle.keep_disk.specs.Keeping.{AtRest};
-ghost use Rattle.kept_run.specs.Running.{new_session};
+ghost use Rattle.kept_call.specs.Running.{new_session};
 ghost use Rattle.session_script.specs.Stage.{session_at, sent_at};
 ghost use Rattle.session_script.specs.Rounds.{HasRead};
 ghost use Rattle.threaded_run.specs.Recorded.{key_count};
@@ -10,13 +10,13 @@ ghost use Rattle.kept_call.specs.Fault.{HasCauses};
 ghost use Rattle.kept_call.specs.inside.Served.{Served};
 
 use crate::fault::KeptFault;
+use crate::run::KeptRun;
 use crate::text::serve_text;
 use fx_chronicle::{Blank, Naming};
 use fx_disk::Disk;
 use fx_edges::{Sink, Source};
 use fx_rules::{Entry, Gate};
 use keep_disk::{Keeper, open_keeper};
-use kept_run::KeptRun;
 use session_script::{Reading, TextEnd};
 use std::marker::Brand;
 use std::sync::Wait;

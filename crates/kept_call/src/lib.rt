@@ -5,9 +5,11 @@ mod ending;
 mod fault;
 mod keeping;
 mod restarting;
+mod run;
 mod text;
 
 pub use ending::ending_of;
 pub use fault::KeptFault;
 pub use keeping::keep;
 pub use restarting::restart;
+pub use run::KeptRun;

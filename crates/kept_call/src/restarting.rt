@@ -9,6 +9,7 @@ ghost use Rattle.kept_call.specs.Fault.{HasCauses};
 ghost use Rattle.kept_call.specs.inside.Served.{Served, gone_on, IsRefusal};
 
 use crate::fault::KeptFault;
+use crate::run::KeptRun;
 use crate::text::serve_text;
 use fx_chronicle::{Blank, Naming};
 use fx_disk::Disk;
@@ -16,7 +17,6 @@ use fx_edges::{Sink, Source};
 use fx_rules::{Entry, EntryList, Gate, Session};
 use keep_disk::{Keeper, open_keeper};
 use kept_history::{Found, history};
-use kept_run::KeptRun;
 use session_script::{Reading, TextEnd};
 use std::alloc::Global;
 use std::marker::Brand;

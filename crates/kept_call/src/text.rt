@@ -1,16 +1,16 @@
 ghost use Rattle.std.specs.Prelude.{ℕ, ◌≡◌, ◌≤◌, List};
-ghost use Rattle.kept_run.specs.Running.{Start};
-ghost use Rattle.kept_run.specs.Text.{IsKeeping};
+ghost use Rattle.kept_call.specs.Running.{Start};
+ghost use Rattle.kept_call.specs.RunText.{IsKeeping};
 ghost use Rattle.kept_call.specs.Fault.{HasCauses};
 ghost use Rattle.kept_call.specs.inside.Served.{Served};
 
 use crate::ending::ending_of;
 use crate::fault::KeptFault;
+use crate::run::KeptRun;
 use fx_chronicle::Naming;
 use fx_disk::Disk;
 use fx_edges::{Sink, Source};
 use fx_rules::Gate;
-use kept_run::KeptRun;
 use session_script::{Reading, TextEnd};
 use std::sync::Wait;
 use std::thread::Threads;

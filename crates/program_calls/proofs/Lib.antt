@@ -6,4 +6,7 @@ pub mod TopCallLaws
 pub mod CheckLaws
 pub mod Answering
 pub mod LoadLaws
+pub mod LoadCounting
+pub mod LoadExamples
+pub mod LoadComing
 pub mod KeptLaws

@@ -5,7 +5,7 @@ use Rattle.fx_edges.specs.Faults.{Rose}
 use Rattle.fx_edges.specs.Writing.{Appended, AppendedPart}
 use Rattle.fx_edges.proofs.Writing.{Appended-nil, AppendedPart-whole}
 use Rattle.fx_rules.specs.Lists.{Among}
-use Rattle.load_summary.specs.Summary.{IsSummary}
+use Rattle.program_calls.specs.LoadSummary.{IsSummary}
 use Rattle.program_calls.specs.Load.{WroteText, Loaded}
 use Rattle.program_calls.specs.LoadCall.{GotSummary, GotSummaryPart, DidLoad}
 use Rattle.program_calls.specs.TopCall.{GotNothing}

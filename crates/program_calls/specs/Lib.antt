@@ -6,8 +6,11 @@ pub mod TopCall
 pub mod SessionCall
 pub mod Load
 pub mod LoadCall
+pub mod LoadLines
+pub mod LoadSummary
 pub mod CheckCall
 pub mod Payments
+pub mod PaymentText
 pub mod Clients
 pub mod Watch
 pub mod KeptCall

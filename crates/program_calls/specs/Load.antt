@@ -3,7 +3,7 @@ use Rattle.std.specs.Prelude.{ℕ, ◌≡◌, ◌⊎◌, List, Option}
 use Rattle.fx_amounts.specs.OutOfMemory.{refused}
 use Rattle.fx_edges.specs.Faults.{Rose}
 use Rattle.fx_edges.specs.Writing.{Appended, AppendedPart}
-use Rattle.load_summary.specs.Summary.{IsSummary}
+use Rattle.program_calls.specs.LoadSummary.{IsSummary}
 use Rattle.program_calls.specs.declared.status.Status.{Status}
 use Rattle.program_calls.specs.declared.status.Status.TheVariants.{Done, WriteFault, Memory}
 

@@ -6,7 +6,7 @@ use Rattle.fx_rules.specs.declared.outcome.Entry.{Entry}
 use Rattle.journal_check.specs.Reading.{IsReadOf}
 use Rattle.net_settle.specs.declared.form.Form.{Form}
 use Rattle.net_settle.specs.declared.payment.Payment.{Payment}
-use Rattle.day_payments.specs.Text.{AreInForm, payments_text}
+use Rattle.program_calls.specs.PaymentText.{AreInForm, payments_text}
 
 -- The bytes are the output of a legal history, which they list, and the text is that of its payments in this form.
 pub record IsPaymentsOf (form : Form) (bytes text : List ℕ) : Type 0 where

@@ -1,3 +1,4 @@
 pub mod Check
+pub mod LoadSummary
 pub mod Rounds
 pub mod Status

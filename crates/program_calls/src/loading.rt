@@ -1,14 +1,24 @@
 ghost use Rattle.std.specs.Prelude.{◌≤◌, IfOk};
-ghost use Rattle.load_summary.specs.Summary.{IsSummary};
+ghost use Rattle.program_calls.specs.LoadSummary.{IsSummary};
 ghost use Rattle.program_calls.specs.Load.{Loaded, WroteText};
 
 use crate::status::Status;
 use fx_amounts::Memory;
 use fx_edges::{Sink, SinkFault, write_all};
 use fx_rules::Gate;
-use load_summary::load_summary;
 use std::sync::Wait;
 use std::thread::Threads;
+
+mod laws;
+mod lines;
+mod making;
+mod serial;
+mod summary;
+mod threaded;
+
+pub use laws::summaries_agree;
+pub use making::load_summary;
+pub use summary::Summary;
 
 /// Makes a session and its commands from a number, runs them in order and on at most `workers` threads (1 or more), has the
 /// second output checked, and writes the summary. There are 2 to 64 banks, 1 to 32 pairs and 1 to 20,000 commands. It may

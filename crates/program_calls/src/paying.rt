@@ -7,12 +7,17 @@ ghost use Rattle.program_calls.specs.Payments.{IsPaymentsOf};
 
 use crate::checking::{read_all, write_no};
 use crate::status::Status;
-use day_payments::{find_payments, write_payments};
 use fx_edges::{Sink, SinkFault, Source};
 use fx_rules::{Entry, Session};
 use journal_check::{Read, check_read};
 use net_settle::Form;
 use std::alloc::Global;
+
+mod find;
+mod text;
+
+pub use find::find_payments;
+pub use text::write_payments;
 
 /// Reads the source's bytes, and writes what the banks pay by the legal history whose output they are. Of bytes that are no
 /// output it writes `NO` and the offset, as `check` does.

@@ -9,7 +9,7 @@ use Rattle.keep_disk.specs.declared.rounds.Round.{Round}
 use Rattle.keep_disk.specs.Rounds.{bodies_of, HasFirst}
 use Rattle.kept_history.specs.Blocks.{kept_in}
 use Rattle.kept_history.specs.Found.{IsFull}
-use Rattle.kept_run.specs.Running.{Start}
+use Rattle.kept_call.specs.Running.{Start}
 use Rattle.session_script.specs.Rounds.{TookPromptlyBehind}
 use Rattle.session_script.specs.Script.{HasSession}
 use Rattle.session_script.specs.declared.ends.EarlyEnd.TheVariants.{ReadFault}

@@ -1,7 +1,7 @@
 -- The header is kept, and then the text; or a fault comes before.
 use Rattle.std.proofs.Common.{[], ◌∷◌, Result, sym, subst, arith}
 use Rattle.keep_disk.specs.Keeping.{AtRest}
-use Rattle.kept_run.specs.Running.{new_session}
+use Rattle.kept_call.specs.Running.{new_session}
 use Rattle.session_head.specs.HeadText.{head_text_of}
 use Rattle.session_script.specs.declared.ends.TextEnd.{TextEnd}
 use Rattle.session_script.specs.Stage.{sent_at}

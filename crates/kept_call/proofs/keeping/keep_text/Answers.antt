@@ -1,7 +1,7 @@
 -- The session of the text is that of the host.
 use Rattle.std.proofs.Common.{[], ◌∷◌, sym, subst}
 use Rattle.fx_rules.specs.Session.{Header}
-use Rattle.kept_run.specs.Running.{new_session}
+use Rattle.kept_call.specs.Running.{new_session}
 use Rattle.session_head.specs.HeadText.{head_text_of}
 use Rattle.session_script.specs.Stage.{session_at}
 use Rattle.kept_call.specs.inside.Served.{Served}

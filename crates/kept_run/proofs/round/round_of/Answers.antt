@@ -1,5 +1,0 @@
-use Rattle.kept_run.proofs.Commands.{commands-of}
-use Rattle.kept_run.proofs.round.round_of.Goals as goal
-
-pub push_lines-requires : goal.push_lines-requires
-push_lines-requires c = record { commands = commands-of c.args.session.now c.requires.next.0 c.args.entries.now c.requires.next.1 }

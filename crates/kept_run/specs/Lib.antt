@@ -1,4 +1,0 @@
-pub mod Kept
-pub mod Running
-pub mod Text
-pub mod inside

@@ -1,6 +1,0 @@
-ghost use Rattle.load_summary.specs.Summary.{SummariesAgree};
-
-/// The numbers that a session is made from determine its summary: neither workers nor threads have a part in it.
-pub fn summaries_agree()
-    ensures agree { SummariesAgree }
-{}
