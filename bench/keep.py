@@ -37,15 +37,15 @@ class Cost(NamedTuple):
         return f"{self.seconds:.2f} s, {self.memory} MiB"
 
 
-def cost(program: str, word: str, text: str, folder: str) -> Cost:
-    """What a run over a text costs. It has to end well."""
-    with open(text, "rb") as source:
+def cost(program: str, words: str, text: str, folder: str, output: str = os.devnull) -> Cost:
+    """What a run over a text costs, which writes to an output. It has to end well."""
+    with open(text, "rb") as source, open(output, "wb") as sink:
         started = time.monotonic()
-        run = subprocess.Popen([program, word], stdin=source, stdout=subprocess.DEVNULL, cwd=folder)
+        run = subprocess.Popen([program, *words.split()], stdin=source, stdout=sink, cwd=folder)
         _, status, used = os.wait4(run.pid, 0)
         seconds = time.monotonic() - started
     if status != 0:
-        sys.exit(f"bench/keep.py: {word} ended with status {os.waitstatus_to_exitcode(status)}")
+        sys.exit(f"{os.path.basename(sys.argv[0])}: {words} ended with status {os.waitstatus_to_exitcode(status)}")
     return Cost(seconds, used.ru_maxrss // 1024)
 
 

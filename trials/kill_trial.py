@@ -77,9 +77,9 @@ class Day:
                 yield line
 
 
-def made_day(rng):
+def made_day(shape, rng):
     """A made session, in which each fiftieth command can't be read."""
-    words = [*map(str, rng.choice(SHAPES)), str(rng.randrange(10**6))]
+    words = [*map(str, shape), str(rng.randrange(10**6))]
     text = subprocess.run([sys.executable, f"{HERE}/bench/make_session.py", *words], capture_output=True, check=True).stdout
     lines = [line + b" x" if line.startswith(b"B") and b" " in line[:4] and not rng.randrange(50) else line for line in text.split(b"\n")]
     session = Session(b"\n".join(lines))
@@ -103,6 +103,14 @@ class Kept:
     def counts(self):
         """How many commands each bank has."""
         return collections.Counter(entry.split(b" ", 1)[0] for entry in self.entries())
+
+
+def by_sender(entries):
+    """The commands of each sender, in their order."""
+    streams = collections.defaultdict(list)
+    for entry in entries:
+        streams[entry.split(b" ", 1)[0]].append(entry)
+    return streams
 
 
 def desks_of(output):
@@ -143,10 +151,13 @@ def hand_over(process, texts):
 
 
 class Folder:
-    """A session that is kept in a folder of its own, and what its journal had after the last run."""
+    """A session that is kept in a folder of its own, and what its journal had after the last run. `lengths` are how many commands a round
+    may have, `last_lengths` in the last run; `longest` is the most seconds until a kill."""
 
-    def __init__(self, program, within, rng):
-        self.program, self.rng, self.day, self.kept = program, rng, made_day(rng), Kept()
+    lengths, last_lengths, longest = LENGTHS, LAST_LENGTHS, LONGEST
+
+    def __init__(self, program, within, rng, day):
+        self.program, self.rng, self.day, self.kept = program, rng, day, Kept()
         self.path = tempfile.mkdtemp(prefix="kill-trial-", dir=within)
         self.journal = f"{self.path}/fx.journal"
 
@@ -157,11 +168,15 @@ class Folder:
         lines = [*self.day.left(self.kept.counts()), *[b"END"] * last]
         at = 0
         for _ in range(MOST_ROUNDS):
-            count = self.rng.choice(LAST_LENGTHS if last else LENGTHS)
+            count = self.rng.choice(self.last_lengths if last else self.lengths)
             yield filled(lines[at : at + count])
             at += count
             if at >= len(lines):
                 break
+
+    def pause(self, told):
+        """Waits for the moment of a kill; `told` is the file of what the run has written."""
+        time.sleep(self.rng.uniform(0, self.longest))
 
     def run(self, kills):
         """Starts the program and kills it after a random time, or lets it end; answers its status and what it wrote."""
@@ -171,7 +186,7 @@ class Folder:
             writer = threading.Thread(target=hand_over, args=(process, self.rounds(not kills)))
             writer.start()
             if kills:
-                time.sleep(self.rng.uniform(0, LONGEST))
+                self.pause(told)
                 process.send_signal(signal.SIGKILL)
             status = process.wait()
             writer.join()
@@ -183,13 +198,8 @@ class Folder:
         """Reads what the run left, and compares it with what was there and what was sent; answers what there was before."""
         before, self.kept = self.kept, read_kept(self.program, self.journal) if os.path.exists(self.journal) else Kept()
         check(self.kept.bodies[: len(before.bodies)] == before.bodies, "blocks from before the run are gone or changed")
-        sent = collections.defaultdict(list)
-        for bank, _, spelled in self.day.commands:
-            sent[bank].append(spelled)
-        stands = collections.defaultdict(list)
-        for entry in self.kept.entries():
-            stands[entry.split(b" ", 1)[0]].append(entry)
-        for bank, entries in stands.items():
+        sent = by_sender(spelled for _, _, spelled in self.day.commands)
+        for bank, entries in by_sender(self.kept.entries()).items():
             check(entries == sent[bank][: len(entries)], "the journal's commands of", bank, "are not the first that it sent")
         return before
 
@@ -272,7 +282,7 @@ def main():
     told_kills, told_all, untold, behind, none = 0, 0, 0, 0, 0
     for kill in range(1, words.kills + 1):
         try:
-            folder = folder or Folder(os.path.abspath(words.program), words.folder, rng)
+            folder = folder or Folder(os.path.abspath(words.program), words.folder, rng, made_day(rng.choice(SHAPES), rng))
             told, was_untold, was_behind = folder.kill()
             told_kills, untold, behind, none = told_kills + told, untold + was_untold, behind + was_behind, none + (not told)
             if kill % KILLS_A_SESSION == 0 or kill == words.kills:
