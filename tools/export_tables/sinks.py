@@ -1,10 +1,12 @@
 """Where the rows go: a folder of CSV files, or an SQLite file. Each is made beside its place and moved there once it is whole."""
+import contextlib
 import csv
 import os
 import shutil
+import signal
 import sqlite3
 import tempfile
-from collections.abc import Sequence
+from collections.abc import Iterator, Sequence
 
 from reading.command_line import Failed
 
@@ -23,18 +25,29 @@ def only_new(path: str) -> None:
         raise Failed(f"{path} exists already", UNWRITABLE)
 
 
+@contextlib.contextmanager
+def unstopped() -> Iterator[None]:
+    """A signal that stops the run waits, so that what is made here is not made without being known."""
+    before = signal.pthread_sigmask(signal.SIG_BLOCK, (signal.SIGINT, signal.SIGTERM, signal.SIGHUP))
+    try:
+        yield
+    finally:
+        signal.pthread_sigmask(signal.SIG_SETMASK, before)
+
+
 class CsvFolder:
     """A folder with a file for each table: a line of the column names, and then a line for each row; what is not there is empty."""
 
     def __init__(self, path: str):
         only_new(path)
-        self.path, self.files = os.path.abspath(path), {}
+        self.path, self.files, self.made = os.path.abspath(path), {}, ""
         try:
-            self.made = tempfile.mkdtemp(prefix=".export-", dir=os.path.dirname(self.path))
-        except OSError as fault:
-            raise unwritable(path, fault) from fault
-        try:
+            with unstopped():
+                self.made = tempfile.mkdtemp(prefix=".export-", dir=os.path.dirname(self.path))
             self.open()
+        except OSError as fault:
+            self.drop()
+            raise unwritable(path, fault) from fault
         except BaseException:
             self.drop()
             raise
@@ -82,16 +95,17 @@ class SqliteFile:
     def __init__(self, path: str):
         only_new(path)
         self.path = os.path.abspath(path)
-        try:
-            place, self.made = tempfile.mkstemp(prefix=".export-", dir=os.path.dirname(self.path))
-        except OSError as fault:
-            raise unwritable(path, fault) from fault
-        self.base = None
+        self.base, self.made = None, ""
         self.insertions = {table.name: table.insertion() for table in TABLES}
         try:
+            with unstopped():
+                place, self.made = tempfile.mkstemp(prefix=".export-", dir=os.path.dirname(self.path))
             os.close(place)
             self.base = sqlite3.connect(self.made, isolation_level=None)
             self.open()
+        except OSError as fault:
+            self.drop()
+            raise unwritable(path, fault) from fault
         except BaseException:
             self.drop()
             raise
