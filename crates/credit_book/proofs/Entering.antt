@@ -19,10 +19,10 @@ use Rattle.fx_rules.specs.State.{opening}
 use Rattle.fx_chronicle.specs.Touching.{touched, pends, without}
 use Rattle.fx_chronicle.specs.Faces.{Chronicle, Witness, witness}
 use Rattle.fx_chronicle.proofs.Pending.{pends-touched, signed_by_one}
-use Rattle.fx_desk.specs.Submitting.{next_own}
+use Rattle.fx_chronicle.specs.Submitting.{next_own}
 use Rattle.fx_rules.specs.declared.sender.Sender.{Sender}
 use Rattle.fx_rules.specs.Sending.{IsNextIn, entry_of}
-use Rattle.credit_table.specs.Table.{Table, IsNextOf, FollowsOn, AnswersEach, is_of_no_pair}
+use Rattle.credit_lines.specs.Table.{Table, IsNextOf, FollowsOn, AnswersEach, is_of_no_pair}
 use Rattle.credit_book.specs.Recorded.{Recorded, IsCreditBook, key_count, committed, recorded, signed_by}
 use Rattle.credit_book.specs.Serving.{IsServed}
 

@@ -7,9 +7,9 @@ use Rattle.fx_rules.specs.Session.{Header}
 use Rattle.fx_rules.specs.History.{IsLegal, own}
 use Rattle.fx_rules.proofs.ListLemmas.{filter_cons_true}
 use Rattle.fx_chronicle.specs.Faces.{Witness}
-use Rattle.fx_desk.specs.Submitting.{next_own, Submitted}
-use Rattle.fx_desk.proofs.Owning.{own-append}
-use Rattle.fx_desk.proofs.Submits.{submits}
+use Rattle.fx_chronicle.specs.Submitting.{next_own, Submitted}
+use Rattle.fx_chronicle.proofs.Owning.{own-append}
+use Rattle.fx_chronicle.proofs.Submits.{submits}
 use Rattle.credit_book.specs.Serving.{IsServed}
 
 -- of its bank the history has one command more

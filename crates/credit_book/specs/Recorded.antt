@@ -6,7 +6,7 @@ use Rattle.fx_rules.specs.Keyed.{pair_key, touches_key}
 use Rattle.fx_rules.specs.History.{IsLegal, state}
 use Rattle.fx_chronicle.specs.Faces.{Chronicle}
 use Rattle.fx_chronicle.specs.Touching.{touched, without}
-use Rattle.credit_table.specs.Table.{Table, Stands, followed}
+use Rattle.credit_lines.specs.Table.{Table, Stands, followed}
 
 -- the credit table, and the history as its writer keeps it
 pub record Recorded : Type 0 where

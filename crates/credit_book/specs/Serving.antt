@@ -7,7 +7,7 @@ use Rattle.fx_rules.specs.declared.outcome.Entry.{Entry}
 use Rattle.fx_rules.specs.Session.{Header}
 use Rattle.fx_rules.specs.History.{IsLegal, own}
 use Rattle.fx_chronicle.specs.Faces.{Witness, witness}
-use Rattle.fx_desk.specs.Submitting.{next_own}
+use Rattle.fx_chronicle.specs.Submitting.{next_own}
 
 -- The bank's command goes behind a history, which begins with all that the pass had seen and has just the commands of its bank
 -- that the pass had met. With it the history is legal, and the pass has met all of it.

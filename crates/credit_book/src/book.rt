@@ -9,15 +9,13 @@ ghost use Rattle.fx_rules.specs.History.{IsLegal, own, state};
 ghost use Rattle.fx_chronicle.specs.Touching.{Untouched, but_last, pends};
 ghost use Rattle.fx_chronicle.specs.Faces.{witness};
 ghost use Rattle.fx_rules.specs.Sending.{IsNextIn};
-ghost use Rattle.credit_table.specs.Table.{Stands, is_of_no_pair, next_sender};
+ghost use Rattle.credit_lines.specs.Table.{Stands, is_of_no_pair, next_sender};
 ghost use Rattle.credit_book.specs.Recorded.{IsCreditBook, key_count, recorded, signed_by};
 ghost use Rattle.credit_book.specs.Serving.{IsServed};
 
-use credit_lines::CreditLines;
-use credit_table::CreditTable;
+use credit_lines::{CreditLines, CreditTable};
 use fx_amounts::{BankId, Memory, PairId};
-use fx_chronicle::{Front, Naming, Writer};
-use fx_desk::Pass;
+use fx_chronicle::{Front, Naming, Pass, Writer};
 use fx_rules::{Command, Entry, Outcome, Sender, Session};
 use std::alloc::Global;
 use std::marker::Model;

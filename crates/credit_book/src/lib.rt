@@ -8,5 +8,5 @@ mod book;
 mod signed;
 
 pub use book::CreditBook;
-pub use fx_desk::Pass;
+pub use fx_chronicle::Pass;
 pub use signed::SignedBook;

@@ -4,3 +4,4 @@ pub mod OpeningLemmas
 pub mod MarketLemmas
 pub mod Paying
 mod Steps
+pub mod TableFollowing

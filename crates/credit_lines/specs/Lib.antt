@@ -1,4 +1,5 @@
 pub mod Credit
 pub mod Market
 pub mod Laws
+pub mod Table
 pub mod inside

@@ -10,6 +10,9 @@ mod following;
 mod laws;
 mod lines;
 mod places;
+mod sessions;
+mod table;
 
 pub use laws::{steps_are_paid, sweeps_are_paid, turns_are_paid};
 pub use lines::CreditLines;
+pub use table::CreditTable;

@@ -19,3 +19,4 @@ pub mod Stepping
 pub mod GoingOn
 pub mod Viewing
 pub mod Examples
+pub mod Serving

@@ -8,3 +8,4 @@ pub mod Search
 pub mod Steps
 pub mod Turns
 pub mod Walks
+pub mod Floor

@@ -2,3 +2,9 @@ pub mod Prefixes
 pub mod Pending
 pub mod Untouched
 pub mod Moves
+pub mod Orderly
+pub mod Submits
+pub mod Owning
+pub mod Streams
+pub mod Places
+pub mod Sending

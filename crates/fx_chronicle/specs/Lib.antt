@@ -2,4 +2,8 @@ pub mod Touching
 pub mod Faces
 pub mod Views
 pub mod Rule
+pub mod Along
+pub mod Submitting
+pub mod Streams
+pub mod Passes
 pub mod inside

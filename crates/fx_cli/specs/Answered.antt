@@ -2,9 +2,9 @@
 use Rattle.std.specs.Prelude.{ℕ, ◌≡◌, List, [], map, Option, Some, None, String, string_bytes}
 use Rattle.std.specs.declared.alloc.Global.{Global}
 use Rattle.net_settle.specs.declared.form.Form.{Form}
-use Rattle.program_words.specs.Forms.{task_of}
-use Rattle.program_words.specs.declared.task.Task.{Task}
-use Rattle.program_words.specs.declared.task.Task.TheVariants.{Run, Serial, Check, Load, Clients, Payments, Watch}
+use Rattle.program_calls.specs.Forms.{task_of}
+use Rattle.program_calls.specs.declared.task.Task.{Task}
+use Rattle.program_calls.specs.declared.task.Task.TheVariants.{Run, Serial, Check, Load, Clients, Payments, Watch}
 use Rattle.program_calls.specs.TopCall.{EndsExactly, IsOutputOf, ToldErr}
 use Rattle.program_calls.specs.Headline.{IsHeadline, IsSerial}
 use Rattle.program_calls.specs.SessionCall.{DidSession}

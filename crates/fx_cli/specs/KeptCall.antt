@@ -2,9 +2,9 @@
 use Rattle.std.specs.Prelude.{ℕ, ◌≡◌, List, map, Option, Some, None, String, string_bytes}
 use Rattle.std.specs.declared.alloc.Global.{Global}
 use Rattle.kept_call.specs.Call.{DidKeep, DidRestart}
-use Rattle.program_words.specs.Forms.{kept_task_of}
-use Rattle.program_words.specs.declared.kept.KeptTask.{KeptTask}
-use Rattle.program_words.specs.declared.kept.KeptTask.TheVariants.{Keep, Restart}
+use Rattle.program_calls.specs.Forms.{kept_task_of}
+use Rattle.program_calls.specs.declared.kept.KeptTask.{KeptTask}
+use Rattle.program_calls.specs.declared.kept.KeptTask.TheVariants.{Keep, Restart}
 use Rattle.fx_cli.specs.Answered.{Answered}
 use Rattle.program_calls.specs.KeptCall.{DidKept}
 use Rattle.program_calls.specs.TopCall.{ToldErr}

@@ -13,7 +13,7 @@ use Rattle.fx_rules.proofs.Counting.{counts-own}
 use Rattle.fx_rules.proofs.Continuing.{entry_same, legal-last}
 use Rattle.fx_rules.proofs.Senders.{command-place, places-most}
 use Rattle.fx_chronicle.specs.Faces.{Witness, witness}
-use Rattle.fx_desk.specs.Submitting.{next_own}
+use Rattle.fx_chronicle.specs.Submitting.{next_own}
 use Rattle.credit_raise.specs.UnderWay.{Change, IsUnderWay, Makes, is_change, outcome_of, reached}
 use Rattle.fx_rules.specs.declared.sender.Sender.{Sender}
 use Rattle.fx_rules.specs.Sending.{IsNextIn, entry_of}

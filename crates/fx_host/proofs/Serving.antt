@@ -10,9 +10,9 @@ use Rattle.fx_rules.specs.Sending.{pair_of}
 use Rattle.fx_rules.specs.Step.{IsCommand}
 use Rattle.fx_rules.specs.History.{own}
 use Rattle.fx_chronicle.specs.Faces.{Witness}
-use Rattle.fx_desk.specs.Submitting.{Submitted}
+use Rattle.fx_chronicle.specs.Submitting.{Submitted}
 use Rattle.credit_raise.specs.UnderWay.{is_change}
-use Rattle.credit_table.specs.Table.{is_of_no_pair}
+use Rattle.credit_lines.specs.Table.{is_of_no_pair}
 use Rattle.credit_book.specs.Serving.{IsServed}
 use Rattle.credit_book.proofs.Submitting.{submitted}
 

@@ -9,7 +9,7 @@ ghost use Rattle.fx_chronicle.specs.Touching.{pends};
 ghost use Rattle.credit_raise.specs.UnderWay.{IsUnderWay, is_change};
 ghost use Rattle.credit_book.specs.Recorded.{signed_by};
 ghost use Rattle.credit_book.specs.Serving.{IsServed};
-ghost use Rattle.fx_desk.specs.Submitting.{Submitted};
+ghost use Rattle.fx_chronicle.specs.Submitting.{Submitted};
 ghost use Rattle.pair_shards.specs.inside.Shards.{PairsPend};
 ghost use Rattle.fx_host.specs.inside.Changing.{IsLast, IsPlanned};
 

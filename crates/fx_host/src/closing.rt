@@ -4,16 +4,15 @@ ghost use Rattle.fx_rules.specs.Session.{pair_count};
 ghost use Rattle.fx_rules.specs.Lists.{Among};
 ghost use Rattle.fx_rules.specs.History.{IsLegal, own, state};
 ghost use Rattle.fx_chronicle.specs.Faces.{Witness};
-ghost use Rattle.fx_desk.specs.Submitting.{IsWholeOf};
-ghost use Rattle.credit_table.specs.Table.{Stands};
+ghost use Rattle.fx_chronicle.specs.Submitting.{IsWholeOf};
+ghost use Rattle.credit_lines.specs.Table.{Stands};
 ghost use Rattle.fx_host.specs.Closing.{AreShardsOf};
 
 use crate::host::Host;
 use crate::pair_locks::PairLock;
 use credit_book::CreditBook;
-use credit_table::CreditTable;
-use fx_chronicle::{Naming, close};
-use fx_desk::Pass;
+use credit_lines::CreditTable;
+use fx_chronicle::{Naming, Pass, close};
 use fx_rules::Entry;
 use pair_shards::Shard;
 

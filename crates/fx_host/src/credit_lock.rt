@@ -2,8 +2,8 @@
 ghost use Rattle.std.specs.Prelude.{◌≡◌, ◌<◌, ◌-◌, ◌^◌, [], true, drop, length, IfOk, OnOk, OnErr};
 ghost use Rattle.fx_rules.specs.Step.{IsCommand};
 ghost use Rattle.fx_rules.specs.History.{own};
-ghost use Rattle.fx_desk.specs.Submitting.{Submitted};
-ghost use Rattle.credit_table.specs.Table.{is_of_no_pair};
+ghost use Rattle.fx_chronicle.specs.Submitting.{Submitted};
+ghost use Rattle.credit_lines.specs.Table.{is_of_no_pair};
 ghost use Rattle.fx_host.specs.inside.Reading.{HasCaughtUp};
 
 use crate::locks::lock_soon;

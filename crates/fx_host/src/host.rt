@@ -4,7 +4,7 @@ ghost use mathlib.Core.List.{IsPrefix};
 ghost use Rattle.fx_rules.specs.Session.{IsSession, pair_count};
 ghost use Rattle.fx_rules.specs.Step.{IsCommand};
 ghost use Rattle.fx_rules.specs.History.{IsLegal, own};
-ghost use Rattle.fx_desk.specs.Submitting.{Submitted};
+ghost use Rattle.fx_chronicle.specs.Submitting.{Submitted};
 ghost use Rattle.fx_rules.specs.Sending.{pair_of};
 
 use crate::change::change_all;
@@ -14,8 +14,7 @@ use crate::pair_locks::PairLocks;
 use crate::turn::{Turn, WholeTurn};
 use credit_raise::is_change;
 use fx_amounts::{Memory, PairId};
-use fx_chronicle::Naming;
-use fx_desk::{Desk, Note, Pass};
+use fx_chronicle::{Desk, Naming, Note, Pass};
 use fx_rules::{Command, EntryList, Gate, Outcome};
 use pair_shards::Shard;
 use std::alloc::Global;

@@ -17,6 +17,6 @@ mod reading;
 mod turn;
 
 pub use closing::{Closed, close_host};
-pub use fx_desk::Pass;
+pub use fx_chronicle::Pass;
 pub use host::Host;
 pub use opening::{keys_of, open_host};

@@ -1,6 +1,6 @@
 ghost use Rattle.std.specs.Prelude.{◌≡◌, ◌+◌, length, map, vec_len, IfOk};
 ghost use Rattle.fx_rules.specs.Session.{IsSession, pair_count, senders};
-ghost use Rattle.fx_desk.specs.Passes.{new_passes};
+ghost use Rattle.fx_chronicle.specs.Passes.{new_passes};
 ghost use Rattle.credit_book.specs.Recorded.{key_count};
 ghost use Rattle.fx_host.specs.inside.Locking.{AreInOrder};
 ghost use Rattle.fx_host.specs.inside.Opening.{ArePairFronts};
@@ -11,8 +11,7 @@ use crate::pair_locks::{PairLock, PairLocks};
 use crate::turn::Turn;
 use credit_book::CreditBook;
 use fx_amounts::{Memory, PairId};
-use fx_chronicle::{Blank, Front, Naming, open};
-use fx_desk::{Pass, open_passes};
+use fx_chronicle::{Blank, Front, Naming, Pass, open, open_passes};
 use fx_rules::{Entry, Session};
 use pair_shards::Shard;
 use std::alloc::Global;

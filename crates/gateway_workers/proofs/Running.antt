@@ -12,7 +12,7 @@ use Rattle.fx_rules.specs.declared.outcome.Entry.{Entry}
 use Rattle.fx_rules.specs.Session.{Header}
 use Rattle.fx_rules.specs.History.{own}
 use Rattle.fx_chronicle.proofs.Prefixes.{prefix_self, prefix_trans}
-use Rattle.fx_desk.specs.Submitting.{next_own, Submitted}
+use Rattle.fx_chronicle.specs.Submitting.{next_own, Submitted}
 use Rattle.gateway_workers.specs.declared.lane.Lane.{Lane}
 use Rattle.gateway_workers.specs.Lanes.{IsReadyLane, AreNumbered, LaneRan, IsDone, IsBehind, StoppedWhereBehind, first_stop}
 use Rattle.gateway_workers.specs.inside.Serving.{IsUnderWay, HasTurned, RunsOn, AllRunOn, AllLanesRan}

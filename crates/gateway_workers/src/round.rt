@@ -5,7 +5,7 @@ ghost use Rattle.gateway_workers.specs.inside.Serving.{IsUnderWay, HasTurned, Ru
 
 use crate::lane::Lane;
 use fx_amounts::Memory;
-use fx_desk::Desk;
+use fx_chronicle::Desk;
 use fx_rules::Gate;
 use std::sync::Wait;
 use std::thread;

@@ -10,9 +10,9 @@ use Rattle.fx_rules.specs.Sending.{IsSentOf}
 use Rattle.fx_rules.specs.History.{own}
 use Rattle.fx_rules.proofs.Senders.{suits-sender}
 use Rattle.fx_chronicle.specs.Faces.{Witness}
-use Rattle.fx_desk.specs.Passes.{new_passes, sender_at, place_among}
-use Rattle.fx_desk.proofs.Places.{sender-there}
-use Rattle.fx_desk.proofs.Sending.{new_pass, pass-at}
+use Rattle.fx_chronicle.specs.Passes.{new_passes, sender_at, place_among}
+use Rattle.fx_chronicle.proofs.Places.{sender-there}
+use Rattle.fx_chronicle.proofs.Sending.{new_pass, pass-at}
 use Rattle.host_trials.specs.inside.Passes.{AreOfSenders}
 
 -- the command at a place of some that may be sent may be

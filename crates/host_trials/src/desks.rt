@@ -1,7 +1,7 @@
 //! A day at a desk, command by command on one thread. A submit that is refused when out of memory is made again.
 ghost use Rattle.std.specs.Prelude.{◌≡◌, ◌≤◌, ◌<◌, ◌-◌, ◌+◌, ◌^◌, OnOk, IfOk, length};
 ghost use Rattle.credit_book.specs.Recorded.{key_count};
-ghost use Rattle.fx_desk.specs.Submitting.{Submitted};
+ghost use Rattle.fx_chronicle.specs.Submitting.{Submitted};
 ghost use Rattle.fx_rules.specs.Lists.{Each};
 ghost use Rattle.fx_rules.specs.Sending.{IsSentOf};
 ghost use Rattle.fx_rules.specs.Session.{IsSession, senders};
@@ -9,13 +9,12 @@ ghost use Rattle.fx_rules.specs.Step.{IsCommand};
 ghost use Rattle.host_trials.specs.inside.Passes.{AreOfSenders};
 
 use fx_amounts::Memory;
-use fx_chronicle::{Blank, Naming};
-use fx_desk::{Desk, Pass, place_among};
+use fx_chronicle::{Blank, Desk, Naming, Pass, place_among};
 use fx_host::{Closed, Host, close_host, keys_of, open_host};
 use fx_rules::{Command, Entry, EntryList, OpenGate, Outcome, Sent, Session};
-use one_lock_host::{close_one, open_one};
+use flat_host::{close_one, open_one};
 use pair_shards::Shard;
-use pair_steps::resting;
+use pair_host::resting;
 use std::alloc::AllocGlobal;
 use std::marker::Brand;
 use std::sync::Wait;

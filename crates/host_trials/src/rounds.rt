@@ -14,7 +14,7 @@ use std::marker::Brand;
 use std::sync::Wait;
 use std::test::Fail;
 use std::thread::Threads;
-use threaded_run::{ThreadedRun, keys_of};
+use gateway_workers::{ThreadedRun, keys_of};
 use trial_days::{MOST_COMMANDS, are_alike, trial_day};
 
 /// A day of three rounds: its seed, how many banks and pairs, and in how many threads it is run.

@@ -10,7 +10,7 @@ use std::alloc::{AllocGlobal, Global};
 use std::sync::{Mutex, Wait};
 use std::test::Fail;
 use std::thread::Threads;
-use threaded_run::run_on_threads;
+use gateway_workers::run_on_threads;
 use trial_days::{MOST_COMMANDS, are_alike, bank, trial_day};
 
 /// How many banks send commands.

@@ -11,7 +11,7 @@ use Rattle.fx_rules.specs.declared.outcome.Entry.{Entry}
 use Rattle.fx_rules.specs.Sending.{sent_by}
 use Rattle.fx_rules.specs.Session.{Header}
 use Rattle.fx_rules.specs.History.{IsLegal}
-use Rattle.fx_desk.specs.Streams.{HasStreams, stream_of}
+use Rattle.fx_chronicle.specs.Streams.{HasStreams, stream_of}
 use Rattle.fx_chronicle.specs.Faces.{Witness}
 use Rattle.gateway_workers.specs.declared.lane.Lane.{Lane}
 use Rattle.keep_disk.specs.declared.rounds.Round.{Round}

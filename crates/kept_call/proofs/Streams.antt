@@ -11,8 +11,8 @@ use Rattle.fx_rules.specs.History.{own}
 use Rattle.fx_rules.specs.Sending.{sent_by}
 use Rattle.fx_rules.proofs.ListLemmas.{filter_cons_true, filter_cons_false}
 use Rattle.fx_chronicle.proofs.Prefixes.{prefix_trans}
-use Rattle.fx_desk.specs.Streams.{stream_of, HasStreams}
-use Rattle.fx_desk.proofs.Owning.{own-append}
+use Rattle.fx_chronicle.specs.Streams.{stream_of, HasStreams}
+use Rattle.fx_chronicle.proofs.Owning.{own-append}
 use Rattle.kept_call.specs.Running.{AreBegunBy}
 
 stream-append : (bank : ℕ) (sent more : List Sent) → stream_of bank (sent ++ more) ≡ stream_of bank sent ++ stream_of bank more

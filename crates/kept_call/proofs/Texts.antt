@@ -11,7 +11,7 @@ use Rattle.fx_rules.specs.Session.{Header}
 use Rattle.fx_rules.specs.Sending.{IsSentOf, sent_by}
 use Rattle.fx_chronicle.specs.Faces.{Witness}
 use Rattle.gateway_workers.specs.declared.lane.Lane.{Lane}
-use Rattle.threaded_run.specs.Lanes.{CanServe}
+use Rattle.gateway_workers.specs.SenderLanes.{CanServe}
 use Rattle.session_script.specs.Script.{HasSession, sent_in}
 use Rattle.session_script.specs.Stage.{sent_at}
 use Rattle.session_script.specs.Rounds.{HasReadBehind, TookPromptlyBehind, TookOnBehind}

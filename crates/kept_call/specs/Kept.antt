@@ -4,7 +4,7 @@ use Rattle.fx_edges.specs.Writing.{Appended, AppendedPart}
 use Rattle.fx_rules.specs.declared.outcome.Entry.{Entry}
 use Rattle.fx_rules.specs.Session.{Header}
 use Rattle.fx_rules.specs.History.{IsLegal}
-use Rattle.fx_desk.specs.Streams.{HasStreams}
+use Rattle.fx_chronicle.specs.Streams.{HasStreams}
 use Rattle.fx_disk.specs.Disk.{WhereTold, Only, LeavesOnly}
 use Rattle.keep_disk.specs.Blocks.{whole_blocks}
 use Rattle.keep_disk.specs.declared.rounds.Round.{Round}

@@ -7,10 +7,10 @@ use Rattle.fx_rules.specs.Session.{Header}
 use Rattle.fx_rules.specs.History.{IsLegal, own}
 use Rattle.fx_rules.specs.Sending.{sent_by}
 use Rattle.fx_chronicle.specs.Faces.{Witness}
-use Rattle.fx_desk.specs.Streams.{stream_of}
+use Rattle.fx_chronicle.specs.Streams.{stream_of}
 use Rattle.gateway_workers.specs.declared.lane.Lane.{Lane}
 use Rattle.session_head.specs.HeadText.{head_text_of}
-use Rattle.threaded_run.specs.Gathering.{HaveGatheredAll}
+use Rattle.gateway_workers.specs.Gathering.{HaveGatheredAll}
 use Rattle.reply_lines.specs.Telling.{HasCounted}
 use Rattle.keep_disk.specs.Keeping.{AtRest}
 use Rattle.keep_disk.specs.declared.rounds.Round.{Round}

@@ -4,7 +4,7 @@ ghost use Rattle.keep_disk.specs.Keeping.{AtRest};
 ghost use Rattle.kept_call.specs.Running.{new_session};
 ghost use Rattle.session_script.specs.Stage.{session_at, sent_at};
 ghost use Rattle.session_script.specs.Rounds.{HasRead};
-ghost use Rattle.threaded_run.specs.Recorded.{key_count};
+ghost use Rattle.gateway_workers.specs.Recorded.{key_count};
 ghost use Rattle.kept_call.specs.Call.{DidKeep};
 ghost use Rattle.kept_call.specs.Fault.{HasCauses};
 ghost use Rattle.kept_call.specs.inside.Served.{Served};
@@ -21,7 +21,7 @@ use session_script::{Reading, TextEnd};
 use std::marker::Brand;
 use std::sync::Wait;
 use std::thread::Threads;
-use threaded_run::keys_of;
+use gateway_workers::keys_of;
 
 /// Runs a new session of the source's bytes, of which at most 2^26 are taken, in at most 4 threads, and keeps it in the journal file on
 /// the disk: the header's block first, and then each round, which is served, kept and only then told. What is told is each

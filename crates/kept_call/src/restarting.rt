@@ -3,7 +3,7 @@ ghost use Rattle.fx_rules.specs.declared.outcome.Entry.{Entry as HistoryEntry};
 ghost use Rattle.keep_disk.specs.Keeping.{AtRest};
 ghost use Rattle.kept_history.specs.Found.{IsWhole};
 ghost use Rattle.session_head.specs.HeadText.{head_text_of};
-ghost use Rattle.threaded_run.specs.Recorded.{key_count};
+ghost use Rattle.gateway_workers.specs.Recorded.{key_count};
 ghost use Rattle.kept_call.specs.Call.{DidRestart};
 ghost use Rattle.kept_call.specs.Fault.{HasCauses};
 ghost use Rattle.kept_call.specs.inside.Served.{Served, gone_on, IsRefusal};
@@ -22,7 +22,7 @@ use std::alloc::Global;
 use std::marker::Brand;
 use std::sync::Wait;
 use std::thread::Threads;
-use threaded_run::keys_of;
+use gateway_workers::keys_of;
 
 /// Goes on with the session that the journal file on the disk holds: submits its commands again, and then runs, keeps and tells the
 /// lines of the source's bytes, of which at most 2^26 are taken, as `keep` does. What is told has numbers that go on from the kept

@@ -7,7 +7,7 @@ use Rattle.fx_rules.specs.declared.orders.Resting.{Resting}
 use Rattle.fx_rules.specs.Session.{Header, bank_count, pair_count}
 use Rattle.fx_rules.specs.State.{State, orders_in}
 use Rattle.global_book.specs.Book.{Book}
-use Rattle.credit_table.specs.Table.{Table, Stands}
+use Rattle.credit_lines.specs.Table.{Table, Stands}
 use Rattle.pair_host.specs.Standing.{HostState, StandsFor, IsBookOf, AreBooksOf}
 use Rattle.pair_host.specs.inside.Books.{IsBookAt, AreBooks, AreHosted, AreEmpty, HaveOrders, EachBook, host_of}
 

@@ -1,6 +1,10 @@
 pub mod Sending
 pub mod Holding
-pub mod Counting
+pub mod PairSums
 pub mod OnePair
 pub mod Recording
 pub mod Serving
+pub mod Counted
+pub mod Answered
+pub mod Carried
+pub mod RecordedTurns

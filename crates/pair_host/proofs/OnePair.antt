@@ -9,12 +9,12 @@ use Rattle.fx_rules.specs.History.{IsStep}
 use Rattle.fx_rules.specs.Market.{MaySend, next_entry}
 use Rattle.fx_rules.proofs.Senders.{command-place, sent-by_bank, pair-within}
 use Rattle.global_book.specs.Book.{Book}
-use Rattle.credit_table.specs.Table.{Table, next_sender}
+use Rattle.credit_lines.specs.Table.{Table, next_sender}
 use Rattle.match_sweep.specs.Sweeps.{Fits}
 use Rattle.fx_rules.specs.declared.sender.Sender.{Sender}
 use Rattle.fx_rules.specs.Sending.{IsNextIn, pair_of, entry_of}
-use Rattle.pair_steps.specs.Answers.{AnswersEach}
-use Rattle.pair_steps.specs.Carries.{IsStepOf}
+use Rattle.pair_host.specs.Answers.{AnswersEach}
+use Rattle.pair_host.specs.Carries.{IsStepOf}
 use Rattle.pair_host.specs.inside.OnePair.{AreOf, MayServe, IsFollowed}
 
 -- ---- who sends

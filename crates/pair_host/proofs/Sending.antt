@@ -11,7 +11,7 @@ use Rattle.fx_rules.specs.Market.{InSome, MaySend}
 use Rattle.fx_rules.specs.Sending.{pair_of}
 use Rattle.fx_rules.proofs.Senders.{one_pair}
 use Rattle.credit_raise.specs.UnderWay.{is_change}
-use Rattle.credit_table.specs.Table.{is_of_no_pair}
+use Rattle.credit_lines.specs.Table.{is_of_no_pair}
 use Rattle.pair_host.specs.Standing.{HostState, StandsFor, stands}
 
 none_some : (pair : ℕ) → None ≡ Some pair → ⊥

@@ -23,9 +23,9 @@ use Rattle.credit_lines.specs.Market as lines
 use Rattle.credit_raise.specs.UnderWay.{Change, HasBanks, IsChange, IsUnderWay, is_change, opened, outcome_of, reached}
 use Rattle.credit_raise.proofs.Changes.{command-change, opened-banks, opened-command, opened-sender, reached-orders}
 use Rattle.match_sweep.specs.Carries.{carried}
-use Rattle.credit_table.specs.Table as table
-use Rattle.credit_table.specs.Table.{Table, Stands}
-use Rattle.pair_steps.specs.Turns.{fills_in}
+use Rattle.credit_lines.specs.Table as table
+use Rattle.credit_lines.specs.Table.{Table, Stands}
+use Rattle.pair_host.specs.Turns.{fills_in}
 use Rattle.fx_rules.specs.Sending.{pair_of}
 use Rattle.pair_host.specs.Standing.{HostState, StandsFor, IsNextOf, FollowsOn, stands}
 use Rattle.pair_host.specs.inside.Books.{AreBooks, HaveOrders, EachBook, IsCarried, IsRecorded, PlansEach, host_of}

@@ -7,7 +7,7 @@ use Rattle.fx_rules.specs.State.{State, orders_in}
 use Rattle.fx_rules.specs.History.{IsStep, after_entry}
 use Rattle.fx_rules.specs.Sound.{IsSound}
 use Rattle.global_book.specs.Book.{Book}
-use Rattle.credit_table.specs.Table.{Table, Stands}
+use Rattle.credit_lines.specs.Table.{Table, Stands}
 
 -- the orders that rest in each pair, in arrival order, the pairs in the order of the header; and the credit table
 pub record HostState : Type 0 where

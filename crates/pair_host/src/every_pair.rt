@@ -4,12 +4,13 @@ ghost use Rattle.fx_rules.specs.Session.{bank_count, pair_count};
 ghost use Rattle.credit_raise.specs.UnderWay.{HasBanks};
 ghost use Rattle.pair_host.specs.inside.Books.{AreBooks, AreEmpty, EachBook, IsCarried, IsRecorded, PlansEach, RestsIn};
 
+use crate::counting::resting;
+use crate::turning::{carry_recorded, carry_turn};
+use credit_lines::CreditTable;
 use credit_raise::CreditChange;
-use credit_table::CreditTable;
 use fx_amounts::{Memory, PairId};
 use fx_rules::{Fill, Session};
 use global_book::PairBook;
-use pair_steps::{carry_recorded, carry_turn, resting};
 use std::alloc::Global;
 
 /// A book with no orders for each pair of a session.

@@ -4,14 +4,14 @@ ghost use Rattle.fx_rules.specs.State.{State, opening};
 ghost use Rattle.fx_rules.specs.Sound.{IsSound};
 ghost use Rattle.fx_rules.specs.Market.{GoesOn, HasSent, InEach, InSome, IsDepthOf, MayAsk, MaySend};
 ghost use Rattle.credit_raise.specs.UnderWay.{is_change};
-ghost use Rattle.credit_table.specs.Table.{Stands, is_of_no_pair};
+ghost use Rattle.credit_lines.specs.Table.{Stands, is_of_no_pair};
 ghost use Rattle.fx_rules.specs.Sending.{pair_of};
 ghost use Rattle.pair_host.specs.Standing.{AreBooksOf, AreOfOneState, FollowsOn, IsNextOf, StandsFor, stands};
 
 use crate::every_pair::{all_resting, carry_all_recorded, carry_turns, empty_books, plan_turns};
 use crate::one_pair::{follow_in_pair, serve_in_pair};
+use credit_lines::CreditTable;
 use credit_raise::{CreditChange, is_change};
-use credit_table::CreditTable;
 use fx_amounts::{BankId, Memory, PairId};
 use fx_rules::{Command, Entry, Outcome, Session};
 use global_book::PairBook;

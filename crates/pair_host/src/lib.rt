@@ -5,11 +5,19 @@
 //! not matter who keeps them.
 #![tactic(auto)]
 
+mod answering;
 mod as_market;
+mod carrying;
+mod counting;
 mod every_pair;
 mod host;
 mod one_pair;
 mod recorded;
+mod turning;
 
+pub use answering::answer;
+pub use carrying::{carry_out, reserve};
+pub use counting::resting;
 pub use host::PairHost;
 pub use recorded::replay;
+pub use turning::{carry_recorded, carry_turn};

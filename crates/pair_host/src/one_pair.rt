@@ -3,11 +3,12 @@ ghost use Rattle.fx_rules.specs.Session.{bank_count};
 ghost use Rattle.fx_rules.specs.Sending.{pair_of};
 ghost use Rattle.pair_host.specs.inside.OnePair.{FollowsEach, IsFollowed, MayServe, ServesEach};
 
-use credit_table::CreditTable;
+use crate::answering::answer;
+use crate::carrying::{carry_out, reserve};
+use credit_lines::CreditTable;
 use fx_amounts::{BankId, Memory};
 use fx_rules::{Command, Entry, Outcome};
 use global_book::PairBook;
-use pair_steps::{answer, carry_out, reserve};
 use std::alloc::Global;
 
 /// Carries out a bank's next command in the book's pair. At `Memory` the book's orders and the table are as they were.

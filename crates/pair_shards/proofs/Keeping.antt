@@ -24,8 +24,8 @@ use Rattle.credit_lines.specs.Market.{StandsFor}
 use Rattle.match_sweep.specs.Sweeps.{Fits}
 use Rattle.fx_rules.specs.declared.sender.Sender.{Sender}
 use Rattle.fx_rules.specs.Sending.{IsNextIn, entry_of}
-use Rattle.pair_steps.specs.Answers.{AnswersEach}
-use Rattle.pair_steps.specs.Carries.{FollowsOn, IsStepOf}
+use Rattle.pair_host.specs.Answers.{AnswersEach}
+use Rattle.pair_host.specs.Carries.{FollowsOn, IsStepOf}
 use Rattle.credit_book.specs.Recorded.{Recorded, IsCreditBook}
 use Rattle.pair_shards.specs.Shards.{PairState, IsShard, AreOfLast}
 use Rattle.pair_shards.proofs.Staying.{untouched-orders}

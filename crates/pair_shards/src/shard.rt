@@ -7,7 +7,7 @@ ghost use Rattle.fx_rules.specs.History.{own, state};
 ghost use Rattle.fx_chronicle.specs.Touching.{pends};
 ghost use Rattle.fx_chronicle.specs.Faces.{witness};
 ghost use Rattle.fx_rules.specs.Sending.{IsNextIn, pair_of, entry_of};
-ghost use Rattle.pair_steps.specs.Carries.{HasRoomFor};
+ghost use Rattle.pair_host.specs.Carries.{HasRoomFor};
 ghost use Rattle.credit_raise.specs.UnderWay.{IsUnderWay};
 ghost use Rattle.credit_book.specs.Recorded.{IsCreditBook, signed_by};
 ghost use Rattle.credit_book.specs.Serving.{IsServed};
@@ -108,7 +108,7 @@ impl<N: Naming> Shard<N> {
         ensures front { self.new.front ≡ self.old.front }
         ensures kept { IsShard N.session self.new }
     {
-        pair_steps::reserve(&mut self.book, bank, command)
+        pair_host::reserve(&mut self.book, bank, command)
     }
 
     /// Serves a bank's command in its pair: an order, a cancel, a reduction, a pull or a local book. It catches up first; then all
@@ -142,7 +142,7 @@ impl<N: Naming> Shard<N> {
         credit_book.enter(pass, entry);
         credit_book.sign(&mut self.front);
         drop(credit);
-        pair_steps::carry_out(&mut self.book, &sender, command, &outcome);
+        pair_host::carry_out(&mut self.book, &sender, command, &outcome);
         Ok(outcome)
     }
 
@@ -198,7 +198,7 @@ impl<N: Naming> Shard<N> {
         ensures answers { IfOk result (IsOutcome N.session (state N.session credit.now.history.entries) sender.now.bank command.now) }
     {
         let weight = credit.weight(self.book.pair());
-        pair_steps::answer(alloc, &self.book, credit.lines(), weight, sender, command)
+        pair_host::answer(alloc, &self.book, credit.lines(), weight, sender, command)
     }
 
     /// Has its turn in a credit change under way, as the next pair: it catches up, and what the change makes in its book is planned. The

@@ -1,7 +1,7 @@
 -- A session with clients was served, and its text was written.
 use Rattle.std.proofs.Common.{◌≡◌, ℕ, List, [], Option, Some, Result, sym, subst}
 use Rattle.fx_rules.specs.Session.{Header}
-use Rattle.fx_desk.proofs.Orderly.{legal-orderly}
+use Rattle.fx_chronicle.proofs.Orderly.{legal-orderly}
 use Rattle.reply_lines.specs.Faults.{WroteOutput}
 use Rattle.reply_lines.specs.declared.output.OutFault.{OutFault}
 use Rattle.reply_lines.specs.declared.output.Ending.{Ending}

@@ -5,9 +5,9 @@ use Rattle.fx_rules.specs.declared.outcome.Entry.{Entry}
 use Rattle.fx_rules.specs.Session.{Header}
 use Rattle.fx_rules.specs.History.{IsLegal}
 use Rattle.fx_rules.specs.Sending.{sent_by}
-use Rattle.fx_desk.specs.Streams.{HasStreams}
-use Rattle.fx_desk.proofs.Orderly.{legal-orderly}
-use Rattle.fx_desk.proofs.Streams.{streams-in_order}
+use Rattle.fx_chronicle.specs.Streams.{HasStreams}
+use Rattle.fx_chronicle.proofs.Orderly.{legal-orderly}
+use Rattle.fx_chronicle.proofs.Streams.{streams-in_order}
 use Rattle.program_calls.specs.Headline.{IsHeadline, IsSerial}
 
 pub headline_of : (h : Header) (sent : List Sent) (entries : List Entry) → IsLegal h entries → HasStreams sent entries → IsHeadline h sent entries

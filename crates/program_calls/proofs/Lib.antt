@@ -10,3 +10,10 @@ pub mod LoadCounting
 pub mod LoadExamples
 pub mod LoadComing
 pub mod KeptLaws
+pub mod Walking
+pub mod Taken
+pub mod Complete
+pub mod Ranges
+pub mod MatchedLemmas
+pub mod SameWords
+pub mod Examples

@@ -12,7 +12,7 @@ use Rattle.fx_rules.specs.Lists.{Each}
 use Rattle.fx_rules.specs.Session.{Header}
 use Rattle.fx_rules.specs.Sending.{IsSentOf, sent_by}
 use Rattle.fx_rules.specs.History.{IsLegal, state}
-use Rattle.fx_desk.proofs.Streams.{streams-length}
+use Rattle.fx_chronicle.proofs.Streams.{streams-length}
 use Rattle.reply_lines.specs.Output.{IsOutput, entry_line}
 use Rattle.reply_lines.specs.Faults.{WroteOutput}
 use Rattle.reply_lines.specs.declared.output.OutFault.{OutFault}
@@ -39,7 +39,7 @@ use Rattle.reply_lines.specs.declared.journal.JournalText.{JournalText}
 use Rattle.pair_host.specs.Standing.{HostState, stands}
 use Rattle.fx_chronicle.specs.Faces.{Witness}
 use Rattle.gateway_workers.specs.declared.lane.Lane.{Lane}
-use Rattle.threaded_run.specs.Lanes.{HaveServed, CanServe as CanServeLanes}
+use Rattle.gateway_workers.specs.SenderLanes.{HaveServed, CanServe as CanServeLanes}
 use Rattle.program_calls.specs.Headline.{IsHeadline, IsSerial}
 use Rattle.program_calls.specs.inside.Rounds.{IsServing, HasServedRound, IsServed, IsHistoryOfText}
 use Rattle.program_calls.specs.Run.{RanText, Ran}

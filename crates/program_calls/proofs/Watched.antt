@@ -5,7 +5,7 @@ use Rattle.fx_rules.specs.declared.outcome.Entry.{Entry}
 use Rattle.fx_rules.specs.Session.{Header}
 use Rattle.fx_rules.specs.History.{IsLegal, state}
 use Rattle.pair_host.specs.Standing.{stands}
-use Rattle.fx_desk.proofs.Streams.{streams-length}
+use Rattle.fx_chronicle.proofs.Streams.{streams-length}
 use Rattle.reply_lines.specs.Output.{IsOutput}
 use Rattle.reply_lines.specs.Faults.{WroteOutput}
 use Rattle.reply_lines.specs.declared.output.OutFault.{OutFault}

@@ -1,7 +1,7 @@
 -- What is written of a session whose banks have clients.
 use Rattle.std.specs.Prelude.{ℕ, ◌≡◌, List, Option}
 use Rattle.fx_rules.specs.Session.{Header}
-use Rattle.fx_desk.specs.Along.{IsOrderly}
+use Rattle.fx_chronicle.specs.Along.{IsOrderly}
 use Rattle.client_desk.specs.Clients.{entries_of}
 use Rattle.client_day.specs.Events.{tagged_in}
 use Rattle.client_day.specs.Text.{IsClientsText}

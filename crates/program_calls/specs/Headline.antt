@@ -5,8 +5,8 @@ use Rattle.fx_rules.specs.declared.outcome.Entry.{Entry}
 use Rattle.fx_rules.specs.Session.{Header}
 use Rattle.fx_rules.specs.History.{IsLegal}
 use Rattle.fx_rules.specs.Sending.{sent_by}
-use Rattle.fx_desk.specs.Along.{IsOrderly}
-use Rattle.fx_desk.specs.Streams.{HasStreams}
+use Rattle.fx_chronicle.specs.Along.{IsOrderly}
+use Rattle.fx_chronicle.specs.Streams.{HasStreams}
 
 -- The headline: a history of these commands.
 pub record IsHeadline (h : Header) (sent : List Sent) (entries : List Entry) : Type 0 where

@@ -14,4 +14,6 @@ pub mod PaymentText
 pub mod Clients
 pub mod Watch
 pub mod KeptCall
+pub mod Forms
+pub mod Refused
 pub mod inside

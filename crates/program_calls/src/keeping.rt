@@ -1,15 +1,15 @@
 ghost use Rattle.std.specs.Prelude.{◌≡◌};
-ghost use Rattle.program_words.specs.declared.kept.KeptTask.{KeptTask as AskedTask};
+ghost use Rattle.program_calls.specs.declared.kept.KeptTask.{KeptTask as AskedTask};
 ghost use Rattle.kept_call.specs.Call.{DidKeep, DidRestart};
 ghost use Rattle.program_calls.specs.KeptCall.{DidKept};
 
 use crate::ending::kept_status;
+use crate::kept::KeptTask;
 use crate::status::Status;
 use fx_disk::Disk;
 use fx_edges::{Sink, Source};
 use fx_rules::Gate;
 use kept_call::{keep, restart};
-use program_words::KeptTask;
 use std::sync::Wait;
 use std::thread::Threads;
 

@@ -3,8 +3,8 @@ ghost use Rattle.fx_rules.specs.declared.command.Sent.{Sent as SentCommand};
 ghost use Rattle.fx_rules.specs.Session.{Header as SessionHeader};
 ghost use Rattle.session_script.specs.Stage.{session_at, sent_at};
 ghost use Rattle.session_script.specs.Rounds.{HasRead};
-ghost use Rattle.threaded_run.specs.Recorded.{key_count};
-ghost use Rattle.threaded_run.specs.Lanes.{HaveServed};
+ghost use Rattle.gateway_workers.specs.Recorded.{key_count};
+ghost use Rattle.gateway_workers.specs.SenderLanes.{HaveServed};
 ghost use Rattle.program_calls.specs.Headline.{IsHeadline};
 ghost use Rattle.program_calls.specs.inside.Rounds.{AreServing, LanesServedText, ThreadsServedText};
 ghost use Rattle.program_calls.specs.Run.{Ran};
@@ -16,6 +16,7 @@ use fx_amounts::Memory;
 use fx_chronicle::{Blank, Naming};
 use fx_edges::{Sink, Source};
 use fx_rules::{Entry, Gate};
+use gateway_workers::{ThreadedRun, keys_of};
 use kept_call::ending_of;
 use pair_host::PairHost;
 use reply_lines::write_output_from;
@@ -23,7 +24,6 @@ use session_script::{Reading, TextEnd};
 use std::marker::Brand;
 use std::sync::Wait;
 use std::thread::Threads;
-use threaded_run::{ThreadedRun, keys_of};
 
 /// Runs the session of the source's bytes, each bank's commands in its order, in at most `workers` threads (1 or more), and
 /// answers the status that the run ends with. It may wait.

@@ -1,7 +1,6 @@
 ghost use Rattle.std.specs.Prelude.{◌≡◌, IfOk, OnErr};
 ghost use Rattle.fx_edges.specs.Writing.{CutShort, Wrote};
-ghost use Rattle.program_calls.specs.Status.{status_code, err_text, fault_text, block_text, status_of};
-ghost use Rattle.program_calls.specs.Status.{fault_status};
+ghost use Rattle.program_calls.specs.Status.{status_code, err_text, fault_text, block_text, status_of, fault_status};
 
 use crate::ending::status_at;
 use fx_amounts::Memory;

@@ -6,10 +6,10 @@ ghost use Rattle.program_calls.specs.Watch.{IsWatchedOf};
 
 use crate::ending::written_status;
 use crate::status::Status;
+use crate::task::DEFAULT_WORKERS;
 use fx_edges::{Sink, Source};
 use fx_rules::Gate;
 use kept_call::ending_of;
-use program_words::DEFAULT_WORKERS;
 use session_script::Reading;
 use std::sync::Wait;
 use std::thread::Threads;

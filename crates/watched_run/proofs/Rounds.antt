@@ -14,14 +14,14 @@ use Rattle.fx_rules.specs.State.{State, opening}
 use Rattle.fx_rules.specs.History.{IsLegal, Steps, after_entry}
 use Rattle.fx_chronicle.specs.Faces.{Witness}
 use Rattle.fx_chronicle.proofs.Prefixes.{prefix_trans, prefix_length}
-use Rattle.fx_desk.proofs.Streams.{streams-length}
+use Rattle.fx_chronicle.proofs.Streams.{streams-length}
 use Rattle.gateway_workers.specs.declared.lane.Lane.{Lane}
 use Rattle.session_script.specs.Stage.{session_at, sent_at}
 use Rattle.session_script.specs.Rounds.{HasRead}
 use Rattle.session_script.specs.declared.reading.Reading.{Reading as TextReading}
 use Rattle.session_script.proofs.RoundLaws.{round_valid, round_few}
-use Rattle.threaded_run.specs.Lanes.{CanServe, HaveServed}
-use Rattle.threaded_run.specs.Gathering.{HaveGathered, HaveGatheredAll}
+use Rattle.gateway_workers.specs.SenderLanes.{CanServe, HaveServed}
+use Rattle.gateway_workers.specs.Gathering.{HaveGathered, HaveGatheredAll}
 use Rattle.view_feed.specs.Feeds.{Feeding, Reading, Stretch, opened_reader}
 use Rattle.watched_run.specs.Looks.{Due, Shows, pair_due, rounds_due, all_due}
 use Rattle.watched_run.specs.Watched.{HasWatched}

@@ -8,7 +8,7 @@ use Rattle.fx_rules.specs.declared.outcome.Entry.{Entry}
 use Rattle.fx_rules.specs.History.{IsLegal, state}
 use Rattle.fx_rules.specs.Lists.{Each}
 use Rattle.fx_rules.specs.Session.{Header, bank_count, pair_count}
-use Rattle.fx_desk.specs.Streams.{HasStreams}
+use Rattle.fx_chronicle.specs.Streams.{HasStreams}
 use Rattle.pair_host.specs.Standing.{stands}
 use Rattle.reply_lines.specs.Output.{IsOutput}
 use Rattle.reply_lines.specs.Rows.{row}

@@ -3,7 +3,7 @@ ghost use Rattle.std.specs.Prelude.{◌≡◌, ◌<◌, ◌≤◌, ◌^◌, ◌+
 ghost use Rattle.fx_rules.specs.declared.command.Sent.{Sent as SentCommand};
 ghost use Rattle.fx_rules.specs.History.{IsLegal};
 ghost use Rattle.fx_rules.specs.Session.{pair_count};
-ghost use Rattle.threaded_run.specs.Lanes.{CanServe};
+ghost use Rattle.gateway_workers.specs.SenderLanes.{CanServe};
 ghost use Rattle.watched_run.specs.Looks.{pair_due};
 ghost use Rattle.watched_run.specs.inside.Watching.{HasPublished, IsOfFeed, IsWatching, ShowsMore};
 
@@ -14,7 +14,7 @@ use fx_chronicle::Naming;
 use fx_rules::{Entry, Gate, Sent, Session};
 use std::sync::Wait;
 use std::thread::{Threads, join_mut};
-use threaded_run::ThreadedRun;
+use gateway_workers::ThreadedRun;
 use view_feed::{Feed, Told};
 
 /// Serves a round's commands in at most `workers` threads (1 or more), and gathers their entries. While these are published the screen's

@@ -3,7 +3,7 @@ ghost use Rattle.fx_rules.specs.declared.command.Sent.{Sent as SentCommand};
 ghost use Rattle.fx_rules.specs.Session.{Header as SessionHeader};
 ghost use Rattle.session_script.specs.Stage.{session_at, sent_at};
 ghost use Rattle.session_script.specs.Rounds.{HasRead};
-ghost use Rattle.threaded_run.specs.Recorded.{key_count};
+ghost use Rattle.gateway_workers.specs.Recorded.{key_count};
 ghost use Rattle.watched_run.specs.Watched.{WatchedText};
 ghost use Rattle.watched_run.specs.inside.Watching.{IsOfFeed, IsWatchingText, RoundsWatched, TextWatched};
 
@@ -19,7 +19,7 @@ use std::alloc::Global;
 use std::marker::Brand;
 use std::sync::Wait;
 use std::thread::Threads;
-use threaded_run::{ThreadedRun, keys_of};
+use gateway_workers::{ThreadedRun, keys_of};
 use view_feed::{Feed, open_feed};
 
 /// A session that was watched to the end of its text.

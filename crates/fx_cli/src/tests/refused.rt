@@ -9,15 +9,13 @@ ghost use Rattle.fx_chronicle.specs.Faces.{witness};
 ghost use Rattle.gateway_workers.specs.Lanes.{IsReadyLane};
 ghost use Rattle.gateway_workers.specs.inside.Serving.{IsUnderWay};
 
-use flat_host::FlatHost;
+use flat_host::{FlatHost, OneLockHost, OnePass, close_one, open_one};
 use fx_amounts::{BankId, Memory};
-use fx_chronicle::{Blank, Naming};
-use fx_desk::{Desk, Note};
+use fx_chronicle::{Blank, Desk, Naming, Note};
 use fx_edges::SteadySource;
 use fx_rules::{Command, CommandList, Entry, Gate, OpenGate, Outcome, Sent, Session};
 use gateway_workers::{Lane, run_round};
 use market_run::run_in_order;
-use one_lock_host::{OneLockHost, OnePass, close_one, open_one};
 use session_script::Reading;
 use std::alloc::{AllocError, AllocGlobal, Global};
 use std::marker::Brand;

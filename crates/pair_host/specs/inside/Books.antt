@@ -6,9 +6,9 @@ use Rattle.fx_rules.specs.Session.{Header, IsSession, bank_count, pair_count}
 use Rattle.fx_rules.specs.State.{State, orders_in}
 use Rattle.global_book.specs.Book.{Book}
 use Rattle.credit_raise.specs.UnderWay.{Change, IsUnderWay}
-use Rattle.credit_table.specs.Table.{Table, Stands}
+use Rattle.credit_lines.specs.Table.{Table, Stands}
 use Rattle.match_sweep.specs.Carries.{carried}
-use Rattle.pair_steps.specs.Turns.{ReachesEach, FollowsRaise, fills_in}
+use Rattle.pair_host.specs.Turns.{ReachesEach, FollowsRaise, fills_in}
 use Rattle.pair_host.specs.Standing.{HostState}
 
 -- a book is that of the pair at its place, made for so many banks

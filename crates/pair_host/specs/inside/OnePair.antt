@@ -9,7 +9,7 @@ use Rattle.fx_rules.specs.History.{IsStep, after_entry}
 use Rattle.fx_rules.specs.Sound.{IsSound}
 use Rattle.fx_rules.specs.Market.{MaySend, next_entry}
 use Rattle.global_book.specs.Book.{Book}
-use Rattle.credit_table.specs.Table.{Table, Stands}
+use Rattle.credit_lines.specs.Table.{Table, Stands}
 
 -- a pair's book and the table are a state's
 pub record AreOf (h : Header) (S : State) (book : Book) (table : Table) : Type 0 where

@@ -9,7 +9,7 @@ use Rattle.fx_rules.specs.Session.{Header}
 use Rattle.fx_rules.specs.Sending.{sent_by}
 use Rattle.fx_rules.specs.History.{IsLegal, state}
 use Rattle.fx_chronicle.specs.Faces.{Witness}
-use Rattle.fx_desk.specs.Streams.{HasStreams}
+use Rattle.fx_chronicle.specs.Streams.{HasStreams}
 use Rattle.gateway_workers.specs.declared.lane.Lane.{Lane}
 use Rattle.market_run.specs.Ran.{Ran}
 use Rattle.market_run.specs.Running.{HasServed}
@@ -21,7 +21,7 @@ use Rattle.session_script.specs.Stage.{sent_at}
 use Rattle.session_script.specs.Rounds.{HasRead, TookPromptlyBehind}
 use Rattle.session_script.specs.declared.ends.TextEnd.{TextEnd}
 use Rattle.session_script.specs.declared.reading.Reading.{Reading}
-use Rattle.threaded_run.specs.Lanes.{HaveServed}
+use Rattle.gateway_workers.specs.SenderLanes.{HaveServed}
 
 module _ {S : Type 0} (left : S → Option (List ℕ)) (faults : S → ℕ) where
   -- lanes have served what was read of their session in former rounds, each bank's in its order

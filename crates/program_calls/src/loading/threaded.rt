@@ -8,13 +8,13 @@ ghost use Rattle.journal_check.specs.Verdict.{yes};
 use fx_amounts::Memory;
 use fx_edges::SteadySink;
 use fx_rules::{Entry, Gate, Sent, Session};
+use gateway_workers::run_on_threads;
 use journal_check::{Verdict, check_output};
 use pair_host::PairHost;
 use reply_lines::{Ending, OutFault, write_output_from};
 use std::alloc::Global;
 use std::sync::Wait;
 use std::thread::Threads;
-use threaded_run::run_on_threads;
 
 /// What a run on threads came to.
 #[derive(Clone, Copy)]

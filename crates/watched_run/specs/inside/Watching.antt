@@ -19,7 +19,7 @@ use Rattle.session_script.specs.Stage.{sent_at}
 use Rattle.session_script.specs.Rounds.{HasRead, TookPromptlyBehind}
 use Rattle.session_script.specs.declared.ends.TextEnd.{TextEnd}
 use Rattle.session_script.specs.declared.reading.Reading.{Reading as TextReading}
-use Rattle.threaded_run.specs.Gathering.{HaveGatheredAll}
+use Rattle.gateway_workers.specs.Gathering.{HaveGatheredAll}
 use Rattle.view_feed.specs.Feeds.{Feeding, Reading}
 use Rattle.watched_run.specs.Looks.{Due, Shows, rounds_due}
 use Rattle.watched_run.specs.Watched.{AreRounds, IsWatched}

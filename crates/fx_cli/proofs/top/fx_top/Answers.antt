@@ -1,8 +1,8 @@
 -- The two words of a kept session are followed over the disk, and all others without it.
 use Rattle.std.proofs.Common.{◌≡◌, Option, Some, None, refl, sym, ◌∙◌}
 use Rattle.kept_call.specs.Call.{DidKeep, DidRestart}
-use Rattle.program_words.specs.declared.kept.KeptTask.{KeptTask}
-use Rattle.program_words.specs.declared.kept.KeptTask.TheVariants.{Keep, Restart}
+use Rattle.program_calls.specs.declared.kept.KeptTask.{KeptTask}
+use Rattle.program_calls.specs.declared.kept.KeptTask.TheVariants.{Keep, Restart}
 use Rattle.fx_cli.specs.KeptCall.{asked_kept}
 use Rattle.program_calls.proofs.KeptLaws.{told_kept}
 use Rattle.fx_cli.proofs.top.fx_top.Goals as goal

@@ -2,7 +2,7 @@ use Rattle.std.proofs.Common.{ap, sym, subst, ◌∙◌}
 use Rattle.fx_rules.specs.declared.outcome.Entry.{Entry}
 use Rattle.fx_rules.specs.History.{own}
 use Rattle.fx_chronicle.specs.Faces.{Chronicle}
-use Rattle.fx_desk.specs.Submitting.{IsWholeOf}
+use Rattle.fx_chronicle.specs.Submitting.{IsWholeOf}
 use Rattle.credit_book.specs.Recorded.{Recorded}
 use Rattle.fx_host.proofs.closing.close_host.Goals as goal
 

@@ -3,7 +3,7 @@ use Rattle.fx_rules.specs.declared.outcome.Entry.{Entry}
 use Rattle.fx_rules.specs.History.{own}
 use Rattle.fx_rules.specs.Lists.{Among}
 use Rattle.fx_chronicle.specs.Faces.{Witness}
-use Rattle.fx_desk.specs.Submitting.{IsWholeOf}
+use Rattle.fx_chronicle.specs.Submitting.{IsWholeOf}
 use Rattle.fx_host.proofs.closing.meet_passes.Given as goal
 
 -- each pass is caught up or is one of those that are left

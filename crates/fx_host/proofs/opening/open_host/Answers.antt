@@ -1,7 +1,7 @@
 -- The keys of a blank are those below the pairs', and the pairs'.
 use Rattle.std.proofs.Common.{sym, subst, arith}
 use Rattle.fx_chronicle.specs.Faces.{AreNew}
-use Rattle.fx_desk.proofs.Sending.{new-senders}
+use Rattle.fx_chronicle.proofs.Sending.{new-senders}
 use Rattle.fx_host.specs.inside.Opening.{ArePairFronts}
 use Rattle.fx_host.proofs.Fronts.{sender-fronts, pair-fronts}
 use Rattle.fx_host.proofs.opening.open_host.Goals as goal

@@ -1,8 +1,8 @@
 use Rattle.std.proofs.Common.{rules, ◌≡◌, length, get_or, sym, ap, subst, ◌∙◌, arith}
 use Rattle.fx_rules.specs.Session.{senders}
 use Rattle.fx_rules.specs.Step.{IsCommand}
-use Rattle.fx_desk.specs.Passes.{sender_at, place_among}
-use Rattle.fx_desk.proofs.Places.{some-senders}
+use Rattle.fx_chronicle.specs.Passes.{sender_at, place_among}
+use Rattle.fx_chronicle.proofs.Places.{some-senders}
 use Rattle.host_trials.proofs.Places.{sent-at, sender-at_place}
 use Rattle.host_trials.proofs.desks.submit_all.Goals as goal
 

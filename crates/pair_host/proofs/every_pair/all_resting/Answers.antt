@@ -4,8 +4,8 @@ use Rattle.fx_rules.specs.declared.orders.ActiveOrder.{ActiveOrder}
 use Rattle.fx_rules.specs.declared.orders.Resting.{Resting}
 use Rattle.fx_rules.specs.State.{orders_in}
 use Rattle.global_book.specs.Book.{Book}
-use Rattle.pair_steps.proofs.Counted.{none-below, all-below}
-use Rattle.pair_host.proofs.Counting.{of_pairs_below, one-pair-more}
+use Rattle.pair_host.proofs.Counted.{none-below, all-below}
+use Rattle.pair_host.proofs.PairSums.{of_pairs_below, one-pair-more}
 use Rattle.pair_host.proofs.every_pair.all_resting.Goals as goal
 
 pub loop-book-init : goal.loop-book-init

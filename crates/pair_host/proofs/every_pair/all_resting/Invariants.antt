@@ -1,7 +1,7 @@
 use Rattle.std.proofs.Common.{◌≡◌, ◌*◌, ◌^◌, ◌≤◌, length}
 use Rattle.fx_rules.specs.State.{State}
 use Rattle.pair_host.specs.inside.Books.{HaveOrders}
-use Rattle.pair_host.proofs.Counting.{of_pairs_below}
+use Rattle.pair_host.proofs.PairSums.{of_pairs_below}
 use Rattle.pair_host.proofs.every_pair.all_resting.Given as goal
 
 -- the orders of the pairs so far are counted

@@ -7,8 +7,8 @@ use Rattle.fx_rules.specs.History.{IsStep}
 use Rattle.global_book.specs.Book.{Book}
 use Rattle.credit_lines.specs.Credit.{Credit}
 use Rattle.fx_rules.specs.declared.sender.Sender.{Sender}
-use Rattle.pair_steps.specs.Answers.{AnswersEach}
-use Rattle.pair_steps.specs.Carries.{IsStepOf}
+use Rattle.pair_host.specs.Answers.{AnswersEach}
+use Rattle.pair_host.specs.Carries.{IsStepOf}
 use Rattle.pair_host.proofs.OnePair.{step-of, made-entry, next-made}
 use Rattle.pair_host.proofs.one_pair.serve_in_pair.Goals as goal
 

@@ -2,7 +2,7 @@ use Rattle.std.proofs.Common.{◌++◌, List}
 use Rattle.fx_rules.specs.declared.command.Sent.{Sent}
 use Rattle.session_script.specs.Stage.{sent_at}
 use Rattle.session_script.specs.Rounds.{HasRead}
-use Rattle.threaded_run.specs.Lanes.{HaveServed}
+use Rattle.gateway_workers.specs.SenderLanes.{HaveServed}
 use Rattle.session_script.proofs.RoundLaws.{to_read}
 use Rattle.program_calls.proofs.running.serve_rounds.Given as goal
 

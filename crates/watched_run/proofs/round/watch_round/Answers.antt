@@ -2,7 +2,7 @@
 use Rattle.std.proofs.Common.{◌≡◌, ◌++◌, ◌%◌, ◌<◌, List, length, rules, sym, subst}
 use Rattle.fx_rules.specs.declared.outcome.Entry.{Entry}
 use Rattle.fx_rules.specs.Session.{Header, pair_count}
-use Rattle.threaded_run.specs.Gathering.{HaveGatheredAll}
+use Rattle.gateway_workers.specs.Gathering.{HaveGatheredAll}
 use Rattle.view_feed.specs.Feeds.{Stretch}
 use Rattle.watched_run.specs.Looks.{pair_due}
 use Rattle.watched_run.specs.inside.Watching.{ShowsMore}

@@ -7,7 +7,7 @@ use Rattle.fx_rules.specs.Session.{Header, bank_count}
 use Rattle.fx_rules.specs.History.{own}
 use Rattle.fx_rules.proofs.Plain.{first-senders}
 use Rattle.fx_chronicle.specs.Faces.{Witness}
-use Rattle.fx_desk.proofs.Sending.{new_pass}
+use Rattle.fx_chronicle.proofs.Sending.{new_pass}
 use Rattle.gateway_workers.specs.Lanes.{IsReadyLane}
 use Rattle.fx_cli.proofs.tests.refused.refused_history.Goals as goal
 

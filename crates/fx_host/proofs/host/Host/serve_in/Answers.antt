@@ -1,6 +1,6 @@
 use Rattle.std.proofs.Common.{◌<◌, sym, subst}
 use Rattle.fx_rules.specs.Session.{bank_count}
-use Rattle.pair_steps.specs.Carries.{HasRoomFor}
+use Rattle.pair_host.specs.Carries.{HasRoomFor}
 use Rattle.fx_rules.proofs.Senders.{sent-by_bank}
 use Rattle.pair_shards.specs.Shards.{PairState}
 use Rattle.fx_host.proofs.Serving.{serves-submitted}

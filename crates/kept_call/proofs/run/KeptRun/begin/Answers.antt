@@ -1,7 +1,7 @@
 -- The header's block is the first round, of which nothing is told.
 use Rattle.std.proofs.Common.{ap, ◌∙◌}
 use Rattle.session_head.specs.HeadText.{head_text_of}
-use Rattle.threaded_run.proofs.Closing.{err_always, err_then}
+use Rattle.gateway_workers.proofs.Closing.{err_always, err_then}
 use Rattle.kept_call.proofs.RoundKeeping.{begins-short, begins-on, begins-cut}
 use Rattle.kept_call.proofs.Results.{ok_when, of_ok}
 use Rattle.kept_call.proofs.run.KeptRun.begin.Goals as goal

@@ -3,7 +3,7 @@ use Rattle.std.proofs.Common.{◌++◌, map, sym, subst, ap}
 use Rattle.fx_rules.specs.Sending.{sent_by}
 use Rattle.keep_disk.specs.Keeping.{AtRest}
 use Rattle.keep_disk.specs.declared.keeper.Keeper.{Keeper}
-use Rattle.threaded_run.proofs.Closing.{err_always, err_then}
+use Rattle.gateway_workers.proofs.Closing.{err_always, err_then}
 use Rattle.kept_call.proofs.RoundKeeping.{stops-short, keeps-more, stops-cut}
 use Rattle.kept_call.proofs.Results.{ok_when, of_ok}
 use Rattle.kept_call.proofs.run.KeptRun.keep_round.Goals as goal

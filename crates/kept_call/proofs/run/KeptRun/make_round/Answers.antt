@@ -4,7 +4,7 @@ use Rattle.fx_rules.specs.declared.outcome.Entry.{Entry}
 use Rattle.fx_rules.specs.Session.{Header}
 use Rattle.fx_rules.specs.History.{IsLegal}
 use Rattle.reply_lines.specs.Telling.{HasCounted}
-use Rattle.threaded_run.specs.Gathering.{HaveGatheredAll}
+use Rattle.gateway_workers.specs.Gathering.{HaveGatheredAll}
 use Rattle.kept_call.proofs.RoundKeeping.{is-round}
 use Rattle.kept_call.proofs.Results.{if_ok_when, of_if_ok, of_ok}
 use Rattle.kept_call.proofs.run.KeptRun.make_round.Goals as goal

@@ -5,7 +5,7 @@ use Rattle.fx_rules.specs.Market.{GoesOn, InSome, MaySend}
 use Rattle.global_book.specs.Book.{Book}
 use Rattle.credit_lines.specs.Credit.{Credit}
 use Rattle.credit_raise.specs.UnderWay.{IsChange}
-use Rattle.credit_table.specs.Table.{Table}
+use Rattle.credit_lines.specs.Table.{Table}
 use Rattle.fx_rules.specs.declared.sender.Sender.{Sender}
 use Rattle.pair_host.specs.Standing.{HostState, stands}
 use Rattle.pair_host.specs.inside.Books.{AreHosted, EachBook, IsCarried, host_of}

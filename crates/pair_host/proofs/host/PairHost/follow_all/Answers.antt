@@ -4,7 +4,7 @@ use Rattle.fx_rules.specs.declared.orders.Fill.{Fill}
 use Rattle.fx_rules.specs.Session.{bank_count}
 use Rattle.fx_rules.specs.Step.{fills_of}
 use Rattle.global_book.specs.Book.{Book}
-use Rattle.credit_table.specs.Table.{Table}
+use Rattle.credit_lines.specs.Table.{Table}
 use Rattle.pair_host.specs.Standing.{HostState, FollowsOn}
 use Rattle.pair_host.specs.inside.Books.{EachBook, IsRecorded, host_of}
 use Rattle.pair_host.proofs.Holding.{written}

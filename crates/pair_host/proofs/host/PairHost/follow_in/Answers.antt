@@ -3,7 +3,7 @@ use Rattle.std.proofs.Common.{◌≡◌, List, Result, Ok, Err, OnOk, OnErr, Som
 use Rattle.fx_amounts.specs.declared.memory.Memory.{Memory}
 use Rattle.fx_rules.specs.Session.{bank_count}
 use Rattle.global_book.specs.Book.{Book}
-use Rattle.credit_table.specs.Table.{Table}
+use Rattle.credit_lines.specs.Table.{Table}
 use Rattle.fx_rules.specs.Sending.{pair_of}
 use Rattle.pair_host.specs.Standing.{HostState, IsNextOf, FollowsOn}
 use Rattle.pair_host.specs.inside.Books.{host_of}

@@ -5,7 +5,7 @@ use Rattle.fx_rules.specs.declared.outcome.Outcome.{Outcome}
 use Rattle.fx_rules.specs.Session.{bank_count}
 use Rattle.fx_rules.specs.Market.{GoesOn, InSome, MaySend}
 use Rattle.global_book.specs.Book.{Book}
-use Rattle.credit_table.specs.Table.{Table}
+use Rattle.credit_lines.specs.Table.{Table}
 use Rattle.fx_rules.specs.Sending.{pair_of}
 use Rattle.pair_host.specs.Standing.{HostState, stands}
 use Rattle.pair_host.specs.inside.Books.{host_of}

@@ -5,7 +5,7 @@ use Rattle.fx_rules.specs.declared.command.Command.TheVariants.{Order, Cancel, R
 use Rattle.fx_rules.specs.Step.{may_change}
 use Rattle.fx_rules.specs.History.{state}
 use Rattle.fx_rules.specs.Market.{GoesOn, InSome, MaySend}
-use Rattle.credit_table.specs.Table.{is_of_no_pair}
+use Rattle.credit_lines.specs.Table.{is_of_no_pair}
 use Rattle.fx_rules.specs.declared.sender.Sender.{Sender}
 use Rattle.pair_host.specs.Standing.{HostState, stands}
 use Rattle.pair_host.specs.inside.Books.{host_of}

@@ -5,7 +5,7 @@ use Rattle.fx_rules.specs.History.{state}
 use Rattle.fx_chronicle.specs.Faces.{Witness}
 use Rattle.global_book.specs.Book.{Book}
 use Rattle.fx_rules.specs.Sending.{IsNextIn}
-use Rattle.pair_steps.specs.Carries.{HasRoomFor}
+use Rattle.pair_host.specs.Carries.{HasRoomFor}
 use Rattle.credit_book.specs.declared.signed.SignedBook.{SignedBook}
 use Rattle.credit_book.specs.Recorded.{Recorded}
 use Rattle.pair_shards.specs.Shards.{PairState}

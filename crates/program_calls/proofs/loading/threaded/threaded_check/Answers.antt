@@ -1,7 +1,7 @@
 -- The history of the threads is as long as what was sent.
 use Rattle.std.proofs.Common.{List, length, ap, arith}
 use Rattle.fx_rules.specs.declared.outcome.Entry.{Entry}
-use Rattle.fx_desk.proofs.Streams.{streams-length}
+use Rattle.fx_chronicle.proofs.Streams.{streams-length}
 use Rattle.program_calls.proofs.loading.threaded.threaded_check.Goals as goal
 
 pub check_history-requires-clause-few : goal.check_history-requires-clause-few

@@ -1,5 +1,0 @@
-use Rattle.fx_desk.proofs.Owning.{own-met}
-use Rattle.fx_desk.proofs.pass.Pass.catch_up.Goals as goal
-
-pub returns-clause-own : goal.returns-clause-own
-returns-clause-own g c = rw (← c.self.view_is) (own-met _ _ _ c.catch_up.ensures.missed)

@@ -1,4 +1,0 @@
-pub mod Counted
-pub mod Answered
-pub mod Carried
-pub mod Recorded

@@ -1,4 +1,0 @@
-use Rattle.pair_steps.proofs.answering.answer.Given as goal
-
-abbrev pub ghosts-counted_answer : goal.ghosts-counted_answer
-ghosts-counted_answer a = record { name = a.blank.name; parts = a.blank.parts }

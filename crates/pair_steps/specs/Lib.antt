@@ -1,4 +1,0 @@
-pub mod Answers
-pub mod Carries
-pub mod Turns
-pub mod inside

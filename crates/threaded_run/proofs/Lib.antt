@@ -1,5 +1,0 @@
-pub mod Making
-pub mod Closing
-pub mod Gathered
-pub mod Replayed
-pub mod TakingOut
