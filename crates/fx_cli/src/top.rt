@@ -17,7 +17,10 @@ ghost use Rattle.fx_cli.specs.inside.TopCall.{Refused};
 use fx_disk::Disk;
 use fx_edges::{Sink, SinkFault, Source};
 use fx_rules::Gate;
-use program_calls::{Status, Task, WordsFault, check, clients, follow_kept, kept_task, load, payments, read_words, run, serial, watch};
+use program_calls::{
+    Status, Task, WordsFault, check, clients, follow_kept, kept_task, load, payments, read_words,
+    run, serial, watch,
+};
 use std::alloc::Global;
 use std::sync::Wait;
 use std::thread::Threads;

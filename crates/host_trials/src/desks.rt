@@ -8,13 +8,13 @@ ghost use Rattle.fx_rules.specs.Session.{IsSession, senders};
 ghost use Rattle.fx_rules.specs.Step.{IsCommand};
 ghost use Rattle.host_trials.specs.inside.Passes.{AreOfSenders};
 
+use flat_host::{close_one, open_one};
 use fx_amounts::Memory;
 use fx_chronicle::{Blank, Desk, Naming, Pass, place_among};
 use fx_host::{Closed, Host, close_host, keys_of, open_host};
 use fx_rules::{Command, Entry, EntryList, OpenGate, Outcome, Sent, Session};
-use flat_host::{close_one, open_one};
-use pair_shards::Shard;
 use pair_host::resting;
+use pair_shards::Shard;
 use std::alloc::AllocGlobal;
 use std::marker::Brand;
 use std::sync::Wait;

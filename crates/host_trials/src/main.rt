@@ -22,6 +22,8 @@ mod markets;
 #[cfg(test)]
 mod readers;
 #[cfg(test)]
+mod refused;
+#[cfg(test)]
 mod rounds;
 #[cfg(test)]
 mod threads;

@@ -9,12 +9,12 @@ ghost use Rattle.fx_rules.specs.Sending.{IsSentOf};
 use fx_amounts::Memory;
 use fx_chronicle::{Blank, Naming};
 use fx_rules::{Entry, EntryList, OpenGate, Sent, Session};
+use gateway_workers::{ThreadedRun, keys_of};
 use std::alloc::AllocGlobal;
 use std::marker::Brand;
 use std::sync::Wait;
 use std::test::Fail;
 use std::thread::Threads;
-use gateway_workers::{ThreadedRun, keys_of};
 use trial_days::{MOST_COMMANDS, are_alike, trial_day};
 
 /// A day of three rounds: its seed, how many banks and pairs, and in how many threads it is run.

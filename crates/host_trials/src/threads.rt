@@ -6,11 +6,11 @@ ghost use Rattle.fx_rules.specs.Sending.{IsSentOf};
 use crate::alike::told_by_all;
 use fx_amounts::{BankId, Memory, PairId};
 use fx_rules::{Entry, Gate, Sent, Session};
+use gateway_workers::run_on_threads;
 use std::alloc::{AllocGlobal, Global};
 use std::sync::{Mutex, Wait};
 use std::test::Fail;
 use std::thread::Threads;
-use gateway_workers::run_on_threads;
 use trial_days::{MOST_COMMANDS, are_alike, bank, trial_day};
 
 /// How many banks send commands.

@@ -14,7 +14,7 @@ use std::alloc::Global;
 const OUTPUT_LIMIT: usize = 1 << 28;
 
 /// The bytes that one read asks for.
-const PIECE: usize = 4096;
+const PIECE: usize = 65536;
 
 /// Why the source was not read to its end.
 #[derive(Clone, Copy, Debug, PartialEq, Eq)]
@@ -102,7 +102,7 @@ fn make_no(alloc: Global, offset: u64) -> Result<Vec<u8>, Memory>
     Ok(text)
 }
 
-/// Reads a source to its end, in pieces of 4,096 bytes at most. It stops at a read that fails, and where 2^28 bytes were
+/// Reads a source to its end, in pieces of 65,536 bytes at most. It stops at a read that fails, and where 2^28 bytes were
 /// taken.
 pub(crate) fn read_all<S: Source>(alloc: Global, source: &mut S) -> Result<Vec<u8>, Halt>
     ensures taken { HasTaken S.left S.faults source.old source.new result }

@@ -107,27 +107,78 @@ fn call<R: AllocGlobal + Threads + Wait + Sync, D: Disk>(
     })
 }
 
+/// A call over a disk, and what it comes to: its status, what is told first, its line on standard error, and the bodies of the blocks that
+/// the file then has, with its length.
+#[derive(Clone, Copy)]
+struct Step {
+    word: &'static str,
+    lines: &'static [&'static [u8]],
+    code: u8,
+    told: &'static [u8],
+    err: &'static [u8],
+    kept: &'static [&'static [u8]],
+    bytes: usize,
+}
+
+const KEPT: Step = Step {
+    word: "keep",
+    lines: &[HEADER, SELL, b"END\n"],
+    code: 0,
+    told: SOLD,
+    err: b"",
+    kept: &[HEADER, SELL],
+    bytes: 163,
+};
+
+const KEPT_AGAIN: Step = Step {
+    code: 12,
+    told: b"",
+    err: b"journal exists\n",
+    ..KEPT
+};
+
+const GONE_ON: Step = Step {
+    word: "restart",
+    lines: &[BUY, b"END\n"],
+    told: BOUGHT,
+    kept: &[HEADER, SELL, BUY],
+    bytes: 203,
+    ..KEPT
+};
+
+/// Makes the call of a step. Answers what is told behind that which is told first.
+fn take_step<R: Abort + AllocGlobal + Threads + Wait + Sync>(
+    rt: &R,
+    step: &Step,
+    disk: &mut SteadyDisk,
+) -> Result<Vec<u8>, Fail> {
+    let alloc = rt.alloc();
+    let called = call(rt, step.word, step.lines, &[], disk)?;
+    let file = file_of(alloc, step.kept)?;
+    assert!(rt;
+        called.status.code() == step.code && called.err.as_slice() == step.err,
+        "{}",
+        step.word
+    );
+    assert!(rt;
+        disk.bytes() == file.as_slice() && file.len() == step.bytes,
+        "{}",
+        step.word
+    );
+    let rest = called.out.strip_prefix(step.told).ok_or("it told others")?;
+    Ok(rest.to_vec(alloc)?)
+}
+
 #[test]
 fn a_session_is_kept_and_goes_on(rt: HostRuntime) -> Result<(), Fail> {
-    let alloc = rt.alloc();
-    let mut disk = SteadyDisk::new(Vec::new(alloc));
-    let first = call(&rt, "keep", &[HEADER, SELL, b"END\n"], &[], &mut disk)?;
-    assert!(rt; first.status.code() == 0);
-    assert!(rt; first.out.as_slice() == SOLD);
-    assert!(rt; disk.bytes() == file_of(alloc, &[HEADER, SELL])?.as_slice());
-    assert!(rt; disk.bytes().len() == 163);
-    let again = call(&rt, "keep", &[HEADER, SELL, b"END\n"], &[], &mut disk)?;
-    assert!(rt; again.status.code() == 12);
-    assert!(rt; again.out.is_empty());
-    assert!(rt; again.err.as_slice() == b"journal exists\n".as_slice());
-    let second = call(&rt, "restart", &[BUY, b"END\n"], &[], &mut disk)?;
-    assert!(rt; second.status.code() == 0);
+    let mut disk = SteadyDisk::new(Vec::new(rt.alloc()));
+    for step in [KEPT, KEPT_AGAIN] {
+        let rest = take_step(&rt, &step, &mut disk)?;
+        assert!(rt; rest.is_empty(), "{}", step.word);
+    }
     // Behind the notices stands the output of both commands from its line `BOOKS` on.
-    let rest = second.out.strip_prefix(BOUGHT).ok_or("no notices")?;
-    assert!(rt; rest.starts_with(b"BOOKS\n"));
-    assert!(rt; samples::ONE_SELL_ONE_BUY.output.ends_with(rest));
-    assert!(rt; disk.bytes() == file_of(alloc, &[HEADER, SELL, BUY])?.as_slice());
-    assert!(rt; disk.bytes().len() == 203);
+    let rest = take_step(&rt, &GONE_ON, &mut disk)?;
+    assert!(rt; rest.starts_with(b"BOOKS\n") && samples::ONE_SELL_ONE_BUY.output.ends_with(&rest));
     Ok(())
 }
 

@@ -11,7 +11,7 @@ use Rattle.program_calls.specs.declared.checking.Halt.TheVariants.{Memory}
 use Rattle.program_calls.proofs.checking.read_all.Goals as goal
 
 -- a piece that was read fits into what may still be taken
-fits : (into before : List ℕ) (count room taken : ℕ) → count ≡ length (take count into) → count ≤ length into → length into ≡ length (take room before) → room ≡ min 4096 (output_limit - taken) → taken < output_limit
+fits : (into before : List ℕ) (count room taken : ℕ) → count ≡ length (take count into) → count ≤ length into → length into ≡ length (take room before) → room ≡ min 65536 (output_limit - taken) → taken < output_limit
     → taken + length (take count into) ≤ output_limit
 fits into before count room taken whole within same asked below = omega (arith, length-take room before)
 

@@ -1,4 +1,4 @@
-use Rattle.fx_cli.proofs.tests.refused.a_refused_submit_may_be_made_again.Given as goal
+use Rattle.host_trials.proofs.refused.a_refused_submit_may_be_made_again.Given as goal
 
 -- the host is of this blank, and trades this session
 abbrev pub ghosts-refused_history : goal.ghosts-refused_history

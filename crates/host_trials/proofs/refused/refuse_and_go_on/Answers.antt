@@ -8,7 +8,7 @@ use Rattle.fx_rules.specs.Session.{Header}
 use Rattle.gateway_workers.specs.declared.lane.Lane.{Lane}
 use Rattle.gateway_workers.specs.Lanes.{IsReadyLane, LaneRan}
 use Rattle.gateway_workers.specs.inside.Serving.{IsUnderWay}
-use Rattle.fx_cli.proofs.tests.refused.refuse_and_go_on.Goals as goal
+use Rattle.host_trials.proofs.refused.refuse_and_go_on.Goals as goal
 
 under_way : {P : Type 0} (h : Header) (bank : P → ℕ) (seen mine : P → List Entry) (was now : List (Lane P)) → All (IsReadyLane h bank mine) was → AllZip (LaneRan h bank seen mine) was now → All (IsUnderWay h bank seen mine) now
 under_way h bank seen mine was now ready ran = λ k d within.

@@ -7,7 +7,7 @@ use Rattle.fx_rules.specs.History.{own}
 use Rattle.fx_chronicle.specs.Faces.{Witness}
 use Rattle.gateway_workers.specs.declared.lane.Lane.{Lane}
 use Rattle.gateway_workers.specs.Lanes.{IsReadyLane}
-use Rattle.fx_cli.proofs.tests.refused.lanes_of.Goals as goal
+use Rattle.host_trials.proofs.refused.lanes_of.Goals as goal
 
 both : {X : Type 0} (P : X → Type 0) (a b : X) (xs : List X) → xs ≡ a ∷ b ∷ [] → P a → P b → All P xs
 both P a b xs is of_a of_b = subst (All P) (sym is) (All-push P (a ∷ []) b (All-push P [] a (λ k d within. absurd (omega (arith, within))) of_a) of_b)

@@ -9,7 +9,7 @@ use Rattle.fx_rules.proofs.Plain.{first-senders}
 use Rattle.fx_chronicle.specs.Faces.{Witness}
 use Rattle.fx_chronicle.proofs.Sending.{new_pass}
 use Rattle.gateway_workers.specs.Lanes.{IsReadyLane}
-use Rattle.fx_cli.proofs.tests.refused.refused_history.Goals as goal
+use Rattle.host_trials.proofs.refused.refused_history.Goals as goal
 
 pub lanes_of-requires-clause-passes : goal.lanes_of-requires-clause-passes
 lanes_of-requires-clause-passes g c =

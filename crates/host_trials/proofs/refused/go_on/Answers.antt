@@ -14,7 +14,7 @@ use Rattle.fx_chronicle.specs.Faces.{Witness}
 use Rattle.gateway_workers.specs.declared.lane.Lane.{Lane}
 use Rattle.gateway_workers.specs.Lanes.{IsReadyLane}
 use Rattle.gateway_workers.specs.inside.Serving.{IsUnderWay}
-use Rattle.fx_cli.proofs.tests.refused.go_on.Goals as goal
+use Rattle.host_trials.proofs.refused.go_on.Goals as goal
 
 abbrev key_of : Witness Entry → ℕ
 key_of pass = pass.key

@@ -4,7 +4,7 @@ use Rattle.fx_rules.specs.History.{own}
 use Rattle.fx_chronicle.specs.Faces.{Witness}
 use Rattle.gateway_workers.specs.declared.lane.Lane.{Lane}
 use Rattle.gateway_workers.specs.Lanes.{IsReadyLane}
-use Rattle.fx_cli.proofs.tests.refused.go_on.Given as goal
+use Rattle.host_trials.proofs.refused.go_on.Given as goal
 
 -- the lanes so far are ready, and the others are as they were
 abbrev pub invariant-loop-lane : goal.invariant-loop-lane
