@@ -100,7 +100,7 @@ impl OrderList {
         self.nodes.set_behind(before, Some(place as u32));
         self.count += 1;
         let row = &mut self.rows[bank.index()];
-        row.add(number, place);
+        row.add(number, place as u32);
         place as u32
     }
 
@@ -166,8 +166,8 @@ impl OrderList {
     {
         let row = self.rows.get(bank.index())?;
         let place = row.key_of(number)?;
-        if is_under(&self.nodes, place, bank, number) {
-            Some(place as u32)
+        if is_under(&self.nodes, place as usize, bank, number) {
+            Some(place)
         } else {
             None
         }

@@ -11,7 +11,7 @@ use std::marker::Model;
 #[derive(Clone, Copy, Debug, PartialEq, Eq)]
 pub(crate) struct Numbered {
     number: u32,
-    key: usize,
+    key: u32,
 }
 
 /// The keys of one bank's orders, by rising number. An entry may be stale: its order has gone. A removal leaves the row as it
@@ -44,7 +44,7 @@ impl NumberRow {
 
     /// The key that stands with a number; `None` where there is no such entry. The order may have gone since. A number above all others
     /// takes no search.
-    pub(crate) fn key_of(&self, number: u32) -> Option<usize>
+    pub(crate) fn key_of(&self, number: u32) -> Option<u32>
         ensures key { result ≡ key_in self.now.entries number }
     {
         if self.is_below(number) {
@@ -60,7 +60,7 @@ impl NumberRow {
 
     /// Puts a key with a number, in the place of the one that stands with it, if any. It takes one of the places that there is
     /// room for at most.
-    pub(crate) fn add(&mut self, number: u32, key: usize)
+    pub(crate) fn add(&mut self, number: u32, key: u32)
         requires room { 1 ≤ self.old.room }
         ensures entries { self.new.entries ≡ with_key number key self.old.entries }
         ensures room { self.old.room ≤ self.new.room + 1 }

@@ -238,10 +238,11 @@ fn padded_levels(
 ) -> Result<Vec<Level>, Memory>
     ensures { IfOk result (λ all. all.items ≡ padded no_level levels.now before after) }
 {
+    let count = room_for(room_for(before, levels.len())?, after)?;
     let mut all = Vec::new(alloc);
+    all.reserve_exact(count)?;
     all.resize(before, Level::NONE)?;
     all.extend_from_slice(levels)?;
-    let count = room_for(all.len(), after)?;
     all.resize(count, Level::NONE)?;
     Ok(all)
 }
@@ -255,10 +256,11 @@ fn padded_words(
 ) -> Result<Vec<u64>, Memory>
     ensures { IfOk result (λ all. all.items ≡ padded 0 words.now before after) }
 {
+    let count = room_for(room_for(before, words.len())?, after)?;
     let mut all = Vec::new(alloc);
+    all.reserve_exact(count)?;
     all.resize(before, 0)?;
     all.extend_from_slice(words)?;
-    let count = room_for(all.len(), after)?;
     all.resize(count, 0)?;
     Ok(all)
 }
