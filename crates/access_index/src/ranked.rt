@@ -157,7 +157,7 @@ impl RankedOwners {
         ensures none { result.1 ≡ None → (other : ℕ) → rank < other → (bank_level self.now bank other).lots ≡ 0 }
     {
         match self.ladder(bank) {
-            Some(ladder) => (ladder.level(rank), ladder.next(rank + 1)),
+            Some(ladder) => ladder.level_and_next(rank),
             None => (Level::NONE, None),
         }
     }

@@ -54,21 +54,20 @@ module _ (linked : Linked) (listed : AreListed linked.orders) (are : AreLinked l
       ap (rank_of side) (sym (rank-is linked.orders.slots bank side levels (are.told side) are.priced listed.rising listed.lots rank at.order next.some at.is))
       ∙ rank-back side at.order.price (are.priced (levels bank rank).first at.order at.is).price
 
-  -- the price that is made of that rank, or there is none
+  -- the price of that rank is the next one, or there is none
   pub next-none : ((other : ℕ) → rank_of side price < other → (levels bank other).lots ≡ 0) → IsPriceOf (opposite side) bank (Some price) (orders_in linked) None
   next-none none =
       price-none linked (orders_in linked) bank side (Some price) None refl most
       (none-found linked.orders.slots bank side levels (are.told side) are.priced listed.rising listed.lots (rank_of side price + 1) (λ rank from. none rank (omega (arith, from)))) refl
 
-  pub next-is : (rank : ℕ) (made : Option ℕ) → IsNextRank (levels bank) (rank_of side price + 1) rank → (IsSome made) ↔ (IsPrice (rank_of side rank)) → IfSome made (λ p. p ≡ rank_of side rank)
-      → IsPriceOf (opposite side) bank (Some price) (orders_in linked) made
-  next-is rank made next valid value =
+  pub next-is : (rank : ℕ) → IsNextRank (levels bank) (rank_of side price + 1) rank → IsPriceOf (opposite side) bank (Some price) (orders_in linked) (Some (rank_of side rank))
+  next-is rank next =
+      let at : IsBestAt linked.orders.slots (is_own_from bank side (rank_of side price + 1)) side (levels bank rank).first = next-at rank next in
+      subst (IsPriceOf (opposite side) bank (Some price) (orders_in linked)) (ap (λ (p : ℕ). Some p) (sym (price-is rank next)))
+      (price-found linked (orders_in linked) bank side (Some price) (Some (levels bank rank).first) (levels bank rank).first at.order refl most at refl at.is)
+
+  pub next-valid : (rank : ℕ) → IsNextRank (levels bank) (rank_of side price + 1) rank → IsPrice (rank_of side rank)
+  next-valid rank next =
       let at : IsBestAt linked.orders.slots (is_own_from bank side (rank_of side price + 1)) side (levels bank rank).first = next-at rank next in
       let own = are.priced (levels bank rank).first at.order at.is in
-      let some : IsSome made = valid.1 (subst IsPrice (sym (price-is rank next)) (own.least, own.price)) in
-      subst (IsPriceOf (opposite side) bank (Some price) (orders_in linked)) (sym (made-is made (rank_of side rank) some value ∙ ap (λ (p : ℕ). Some p) (price-is rank next)))
-      (price-found linked (orders_in linked) bank side (Some price) (Some (levels bank rank).first) (levels bank rank).first at.order refl most at refl at.is)
-    where
-      made-is : (made : Option ℕ) (price : ℕ) → IsSome made → IfSome made (λ p. p ≡ price) → made ≡ Some price
-      made-is None price some value = let it : false ≡ true = some in cc
-      made-is (Some p) price some value = ap (λ (p : ℕ). Some p) value
+      subst IsPrice (sym (price-is rank next)) (own.least, own.price)

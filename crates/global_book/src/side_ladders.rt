@@ -39,6 +39,16 @@ impl SideLadders {
         })
     }
 
+    /// The levels of a side.
+    fn of(&self, side: Side) -> &RankedOwners
+        ensures { result.now ≡ ladders_of self.now side }
+    {
+        match side {
+            Side::Buy => &self.bids,
+            Side::Sell => &self.asks,
+        }
+    }
+
     /// The level of a bank at a rank of a side.
     pub(crate) fn level(&self, side: Side, bank: BankId, rank: u32) -> Level
         ensures { result ≡ bank_level (ladders_of self.now side) bank rank }
@@ -67,10 +77,7 @@ impl SideLadders {
         ensures found { IfSome result.1 (IsNextRank (bank_level (ladders_of self.now side) bank) (rank + 1)) }
         ensures none { result.1 ≡ None → (other : ℕ) → rank < other → (bank_level (ladders_of self.now side) bank other).lots ≡ 0 }
     {
-        match side {
-            Side::Buy => self.bids.level_and_next(bank, rank),
-            Side::Sell => self.asks.level_and_next(bank, rank),
-        }
+        self.of(side).level_and_next(bank, rank)
     }
 
     /// For each bank the word of its best order of a side.

@@ -1,13 +1,19 @@
 -- The ranks of prices, by which a walk keeps them: the lowest is that of the best price.
-use Rattle.std.proofs.Common.{ℕ, ◌≡◌, ◌++◌, ◌-◌, ◌≤◌, ◌<◌, ◌^◌, min, true, false, if◌then◌else◌, List, [], ◌∷◌, inl, inr, refl, ap, sym, subst, ◌∙◌, arith, Option, Some, None, slice_index, take}
+use Rattle.std.proofs.Common.{ℕ, ◌≡◌, ◌++◌, ◌-◌, ◌≤◌, ◌<◌, ◌^◌, IfSome, option_map, unwrap_or, min, true, false, if◌then◌else◌, List, [], ◌∷◌, inl, inr, refl, ap, sym, subst, ◌∙◌, arith, Option, Some, None, slice_index, take}
 use Rattle.std.proofs.lemmas.Bool.{cases_Bool, lt-leb, ltb-true, ltb-false}
 use Rattle.std.proofs.lemmas.List.{get_or-replicate}
+use Rattle.std.specs.List.{Contains}
+use Rattle.fx_amounts.specs.Price.{IsPrice}
+use Rattle.fx_amounts.specs.Side.{opposite}
 use Rattle.fx_amounts.specs.declared.side.Side.{Side}
 use Rattle.fx_amounts.specs.declared.side.Side.TheVariants.{Buy, Sell}
 use Rattle.fx_rules.specs.Sweep.{is_better}
+use Rattle.global_book.specs.Book.{Book, IsPriceOf, level_lots}
+use Rattle.global_book.specs.Room.{rank_of as rank_at}
+use Rattle.global_book.proofs.Sought.{opposite-opposite}
 use Rattle.match_sweep.specs.declared.reached.LevelWalk.{LevelWalk}
-use Rattle.match_sweep.specs.inside.Reaches.{AreRanked, IsBareLevel, IsBestAmong, IsRank, better_price, price_in, price_of, rank_of}
-use Rattle.match_sweep.proofs.Reaching.{better-on}
+use Rattle.match_sweep.specs.inside.Reaches.{AreRanked, IsBareLevel, IsBestAmong, IsLeft, IsPaid, IsRank, better_price, price_in, price_of, rank_of}
+use Rattle.match_sweep.proofs.Reaching.{asked_left, better-on, taker_same}
 use Rattle.match_sweep.proofs.Tables.{replicate-at}
 
 -- Ranks of two prices.
@@ -65,6 +71,34 @@ bare-ranked walk some bare = λ bank below.
     subst (λ (p : Option ℕ). IsRank walk.taker p (slice_index walk.ranks bank)) (sym none)
     (record { valid = tt; is = ap (λ (xs : List ℕ). slice_index xs bank) bare.ranks ∙ get_or-replicate 65 bank (2 ^ 30 - 1) 0 (omega arith) })
 
+-- The rank that a search of a book answers.
+
+-- the rank of the price of a rank
+rank-twice : (side : Side) (rank : ℕ) → rank ≤ 10 ^ 9 → rank_at side (rank_at side rank) ≡ rank
+rank-twice Buy rank most = omega arith
+rank-twice Sell rank most = refl
+
+pub found-rank : (taker : Side) (next : Option ℕ) → IfSome next (λ (rank : ℕ). IsPrice (rank_at (opposite taker) rank)) → IsRank taker (option_map (rank_at (opposite taker)) next) (unwrap_or next (2 ^ 30 - 1))
+found-rank taker None valid = record { valid = tt; is = refl }
+found-rank Buy (Some rank) valid = record { valid = valid; is = refl }
+found-rank Sell (Some rank) valid = record { valid = valid; is = let it : rank ≡ 10 ^ 9 - (10 ^ 9 - rank) = omega (arith, valid.0) in it }
+
+-- what it tells of a rank it tells of its price
+pub told-valid : (side : Side) (price rank : ℕ) → rank ≡ rank_at side price → IsPrice price → IsPrice (rank_at side rank)
+told-valid side price rank is valid = subst IsPrice (sym (ap (rank_at side) is ∙ rank-twice side price valid.1)) valid
+
+pub told-at : (book : Book) (taker side : Side) (bank price rank lots : ℕ) (next : Option ℕ) → side ≡ opposite taker → rank ≡ rank_at side price → price ≤ 10 ^ 9 → lots ≡ level_lots (opposite side) bank (rank_at side rank) book.orders
+    → IsPriceOf (opposite side) bank (Some (rank_at side rank)) book.orders (option_map (rank_at side) next)
+    → (lots ≡ level_lots taker bank price book.orders) × IsPriceOf taker bank (Some price) book.orders (option_map (rank_at (opposite taker)) next)
+told-at book taker side bank price rank lots next side_is rank_is most lots_are next_is =
+    let turned : opposite side ≡ taker = ap opposite side_is ∙ opposite-opposite taker in
+    let back : rank_at side rank ≡ price = ap (rank_at side) rank_is ∙ rank-twice side price most in (
+      lots_are ∙ ap (λ (s : Side). level_lots s bank (rank_at side rank) book.orders) turned ∙ ap (λ (p : ℕ). level_lots taker bank p book.orders) back,
+      subst (λ (s : Side). IsPriceOf taker bank (Some price) book.orders (option_map (rank_at s) next)) side_is
+          (subst (λ (p : ℕ). IsPriceOf taker bank (Some p) book.orders (option_map (rank_at side) next)) back
+          (subst (λ (s : Side). IsPriceOf s bank (Some (rank_at side rank)) book.orders (option_map (rank_at side) next)) turned next_is)),
+    )
+
 -- The lowest rank.
 
 -- the lowest rank of these banks
@@ -81,4 +115,20 @@ lowest-on walk banks n lowest below ranked so_far = record {
   price = better_price walk.taker so_far.price (price_of walk n);
   rank = lower walk.taker so_far.price (price_of walk n) lowest (slice_index walk.ranks n) so_far.rank (ranked n below);
   best = better-on walk banks n so_far.price (price_of walk n) refl so_far.best;
+}
+
+-- and once lots of other banks are taken
+best-kept : (old new : LevelWalk) (banks : List ℕ) (lots : ℕ) (price : Option ℕ) → IsPaid old new lots → ((bank : ℕ) → Contains banks bank → IsLeft old new bank) → IsBestAmong old banks price → IsBestAmong new banks price
+best-kept old new banks lots None paid left best = λ bank there. asked_left old new bank lots paid (left bank there) ∙ best bank there
+best-kept old new banks lots (Some price) paid left best = (
+  (best.0.0, best.0.1, asked_left old new best.0.0 lots paid (left best.0.0 best.0.1) ∙ best.0.2),
+  λ bank other there at.
+      subst (λ (s : Side). is_better s other price ≡ false) (sym (taker_same old new lots paid)) (best.1 bank other there (sym (asked_left old new bank lots paid (left bank there)) ∙ at)),
+)
+
+pub lowest-kept : (old new : LevelWalk) (banks : List ℕ) (lots lowest : ℕ) → IsPaid old new lots → ((bank : ℕ) → Contains banks bank → IsLeft old new bank) → IsLowest old banks lowest → IsLowest new banks lowest
+lowest-kept old new banks lots lowest paid left low = record {
+  price = low.price;
+  rank = subst (λ (s : Side). IsRank s low.price lowest) (sym (taker_same old new lots paid)) low.rank;
+  best = best-kept old new banks lots low.price paid left low.best;
 }

@@ -1,9 +1,10 @@
 -- The walk from price to price: its best price, what it takes of a bank and of all, and the sweep that its levels are of.
-use Rattle.std.proofs.Common.{ℕ, ◌≡◌, ◌≢◌, ◌+◌, ◌++◌, ◌-◌, ◌*◌, ◌/◌, ◌^◌, ◌≤◌, ◌<◌, min, Bool, true, false, ◌&&◌, if◌then◌else◌, leb, eqb, ltb, List, [], ◌∷◌, length, ◌⊎◌, inl, inr, refl, ap, sym, subst, ◌∙◌, arith, Option, Some, None, IfSome, get_or-set_same, get_or-set_other, slice_index, take}
+use Rattle.std.proofs.Common.{ℕ, ◌≡◌, ◌≢◌, ◌+◌, ◌++◌, ◌-◌, ◌*◌, ◌/◌, ◌^◌, ◌≤◌, ◌<◌, min, Bool, true, false, not, zero, suc, ◌&&◌, if◌then◌else◌, leb, eqb, ltb, List, [], ◌∷◌, length, ◌⊎◌, inl, inr, refl, ap, sym, subst, ◌∙◌, arith, Option, Some, None, IfSome, get_or-set_same, get_or-set_other, slice_index, take}
 use Rattle.std.proofs.Math.ListN.{set, length-set}
 use Rattle.std.proofs.Math.Nat.{add-mul}
 use Rattle.std.proofs.lemmas.Bool.{cases_Bool, cases_eq, cases_lt, and_parts, and_from, both_ways, false_from_ne_true, eq-eqb, eqb-true, ne_eqb, le-leb, lt-ltb, le-ltb, ltb-true, ltb-false, leb-true}
 use Rattle.std.proofs.lemmas.List.Elements.{Contains-append_left, Contains-push, Contains-push_cases}
+use Rattle.std.proofs.lemmas.List.Kept.{IsStrictlyIncreasing-filter}
 use Rattle.std.specs.List.{Contains, filter}
 use Rattle.fx_amounts.specs.Quantity.{IsWeight}
 use Rattle.fx_amounts.specs.declared.side.Side.{Side}
@@ -11,10 +12,10 @@ use Rattle.fx_amounts.specs.declared.side.Side.TheVariants.{Buy, Sell}
 use Rattle.fx_rules.specs.declared.orders.Resting.{Resting}
 use Rattle.fx_rules.specs.Lists.{Among, Each, total}
 use Rattle.fx_rules.specs.Sweep.{is_better, is_opposite}
-use Rattle.fx_rules.proofs.ListLemmas.{Each-among, Each-of, filter_cons_false}
+use Rattle.fx_rules.proofs.ListLemmas.{Each-among, Each-of, filter_cons_false, filter_cons_true}
 use Rattle.global_book.specs.Book.{AreOwners, Book, IsLevel, IsPriceOf, is_level, is_of, is_worse, is_worse_of, level_at, level_lots}
 use Rattle.match_sweep.specs.declared.reached.LevelWalk.{LevelWalk}
-use Rattle.match_sweep.specs.inside.Reaches.{AreTaken, AreTakenOf, HaveLevels, IsBestAmong, IsBestPrice, IsLeft, IsPaid, IsRank, IsTakenAt, IsTakenOf, Puts, TakesOf, better_price, line_behind, price_at, price_in, price_of}
+use Rattle.match_sweep.specs.inside.Reaches.{AreTaken, AreTakenOf, AreRanked, AreReached, HaveLevels, IsBestAmong, IsBestPrice, IsLeft, IsPaid, IsRank, IsTakenAt, IsTakenOf, Puts, TakesOf, better_price, is_asked, line_behind, price_at, price_in, price_of}
 use Rattle.match_sweep.proofs.Tables.{total-changed}
 use Rattle.match_sweep.proofs.Passed.{contains_or}
 use Rattle.match_sweep.proofs.Levelling.{level_parts}
@@ -237,7 +238,7 @@ left_both old now new bank first second = record { line = second.line ∙ first.
 pub price_left : (old now : LevelWalk) (bank : ℕ) → now.taker ≡ old.taker → IsLeft old now bank → price_in now bank ≡ price_in old bank
 price_left old now bank taker left = ap (λ (s : Side). price_at s (slice_index now.ranks bank)) taker ∙ ap (price_at old.taker) left.rank
 
-asked_left : (old now : LevelWalk) (bank lots : ℕ) → IsPaid old now lots → IsLeft old now bank → price_of now bank ≡ price_of old bank
+pub asked_left : (old now : LevelWalk) (bank lots : ℕ) → IsPaid old now lots → IsLeft old now bank → price_of now bank ≡ price_of old bank
 asked_left old now bank lots paid left =
     ap (λ w. if leb w (slice_index now.lines bank) then price_in now bank else None) (weight_same old now lots paid)
     ∙ ap (λ l. if leb old.weight l then price_in now bank else None) left.line
@@ -420,10 +421,6 @@ level_owned book owners taker bank past level are is =
     let one = and_parts (is_of bank is.order) (is_opposite taker is.order.side) two.0 in
     subst (Contains owners) (eqb-true is.order.bank bank one.0) (Each-among (λ (o : Resting). Contains owners o.bank) book.orders is.order are.all is.there)
 
-not_owned : (book : Book) (owners : List ℕ) (taker : Side) (bank price : ℕ) (past : Option ℕ) (head : Option ℕ) → AreOwners book owners → (Contains owners bank → ⊥) → IsPriceOf taker bank past book.orders head → IsWorseHead taker price head
-not_owned book owners taker bank price past None are apart is = tt
-not_owned book owners taker bank price past (Some head) are apart is = absurd (apart (level_owned book owners taker bank past (level_at taker bank book.orders head) are is))
-
 price_owned : (book : Book) (owners : List ℕ) (past : Option ℕ) (walk : LevelWalk) (bank price : ℕ) → AreOwners book owners → IsWeight walk.weight → HaveLevels book past walk → bank < 65 → price_of walk bank ≡ Some price → Contains owners bank
 price_owned book owners past walk bank price are weighs have below at =
     let has = has_price walk bank price at in
@@ -434,26 +431,91 @@ none_from : (found : Option ℕ) → ((price : ℕ) → found ≡ Some price →
 none_from None holds = refl
 none_from (Some price) holds = holds price refl
 
+-- what passes a test of some is among those that pass it
+kept-has : (test : ℕ → Bool) (xs : List ℕ) (x : ℕ) → Contains xs x → test x ≡ true → Contains (filter test xs) x
+kept-has test [] x there passes = absurd (omega (arith, there.1))
+kept-has test (y ∷ ys) x there passes =
+    let on : Contains ys x → Contains (filter test ys) x = λ behind. kept-has test ys x behind passes in
+    elim (cases_Bool (test y)) [
+      | inl kept ↦ subst (λ (zs : List ℕ). Contains zs x) (sym (filter_cons_true test y ys kept)) (here on there)
+      | inr dropped ↦ subst (λ (zs : List ℕ). Contains zs x) (sym (filter_cons_false test y ys dropped)) (later on dropped there)
+    ]
+  where
+    here : (Contains ys x → Contains (filter test ys) x) → Contains (y ∷ ys) x → Contains (y ∷ filter test ys) x
+    here on (zero, within, is) = (0, omega arith, is)
+    here on (suc k, within, is) = let it = on (k, omega arith, is) in (suc it.0, omega (arith, it.1), it.2)
+
+    later : (Contains ys x → Contains (filter test ys) x) → test y ≡ false → Contains (y ∷ ys) x → Contains (filter test ys) x
+    later on dropped (zero, within, is) = absurd (both_ways (test y) dropped (ap test is ∙ passes))
+    later on dropped (suc k, within, is) = on (k, omega arith, is)
+
+kept-few : (test : ℕ → Bool) (xs : List ℕ) → length (filter test xs) ≤ length xs
+kept-few test [] = omega arith
+kept-few test (x ∷ xs) =
+    let rest = kept-few test xs in
+    elim (cases_Bool (test x)) [
+      | inl kept ↦ omega (arith, rest, ap (λ (zs : List ℕ). length zs) (filter_cons_true test x xs kept))
+      | inr dropped ↦ omega (arith, rest, ap (λ (zs : List ℕ). length zs) (filter_cons_false test x xs dropped))
+    ]
+
+-- a bank with a price has a rank
+asked_rank : (walk : LevelWalk) (bank price : ℕ) → IsRank walk.taker (price_of walk bank) (slice_index walk.ranks bank) → price_of walk bank ≡ Some price → is_asked walk bank ≡ true
+asked_rank walk bank price ranked at =
+    ap not (ne_eqb (slice_index walk.ranks bank) (2 ^ 30 - 1) (λ none. some_rank walk.taker price (slice_index walk.ranks bank) (subst (λ (p : Option ℕ). IsRank walk.taker p (slice_index walk.ranks bank)) at ranked) none))
+  where
+    some_rank : (taker : Side) (price rank : ℕ) → IsRank taker (Some price) rank → rank ≡ 2 ^ 30 - 1 → ⊥
+    some_rank Buy price rank is none = omega (arith, is.is, is.valid.1, none)
+    some_rank Sell price rank is none = omega (arith, is.is, none)
+
+-- those of the banks with an order that have a rank are all of which something can be taken
+pub reached-begins : (book : Book) (owners : List ℕ) (past : Option ℕ) (walk : LevelWalk) → AreOwners book owners → IsWeight walk.weight → HaveLevels book past walk → AreRanked walk → AreReached book walk (filter (is_asked walk) owners)
+reached-begins book owners past walk are weighs have ranked = record {
+  rising = IsStrictlyIncreasing-filter (is_asked walk) owners are.rising;
+  few = omega (arith, kept-few (is_asked walk) owners, are.few);
+  others = λ bank below apart.
+      none_from (price_of walk bank) (λ price at. absurd (apart (kept-has (is_asked walk) owners bank (price_owned book owners past walk bank price are weighs have below at) (asked_rank walk bank price (ranked bank below) at))));
+}
+
+-- they still are once something is taken of them
+pub reached-on : (book : Book) (old now : LevelWalk) (price lots : ℕ) (banks : List ℕ) → AreReached book old banks → AreTakenOf book old now price banks lots → AreReached book now banks
+reached-on book old now price lots banks are all = record {
+  rising = are.rising;
+  few = are.few;
+  others = λ bank below apart. asked_left old now bank lots all.sum (all.left bank apart) ∙ are.others bank below apart;
+}
+
 -- so the best price of theirs is that of all
-pub best_of_all : (book : Book) (owners : List ℕ) (past : Option ℕ) (walk : LevelWalk) (best : Option ℕ) → AreOwners book owners → IsWeight walk.weight → length walk.lines ≡ 65 → HaveLevels book past walk → IsBestAmong walk owners best
-    → IsBestPrice walk 65 best
-best_of_all book owners past walk None are weighs long have best = λ bank below.
-    none_from (price_of walk bank) (λ price at. best bank (price_owned book owners past walk bank price are weighs have below at))
-best_of_all book owners past walk (Some price) are weighs long have best =
+pub best_of_all : (book : Book) (banks : List ℕ) (walk : LevelWalk) (best : Option ℕ) → AreReached book walk banks → IsWeight walk.weight → length walk.lines ≡ 65 → IsBestAmong walk banks best → IsBestPrice walk 65 best
+best_of_all book banks walk None are weighs long best = λ bank below.
+    elim (contains_or banks bank) [
+      | inl there ↦ best bank there
+      | inr apart ↦ are.others bank below apart
+    ]
+best_of_all book banks walk (Some price) are weighs long best =
     let bank : ℕ = best.0.0 in
     let has = has_price walk bank price best.0.2 in (
       (bank, within_lines walk bank weighs long has.pays, best.0.2),
-      λ bank' other below at. best.1 bank' other (price_owned book owners past walk bank' other are weighs have below at) at,
+      λ bank' other below at. elim (contains_or banks bank') [
+        | inl there ↦ best.1 bank' other there at
+        | inr apart ↦ none_differs other (sym (are.others bank' below apart) ∙ at)
+      ],
     )
 
+-- a bank with no price has no head either, where the line with it pays
+unasked_worse : (walk : LevelWalk) (bank price : ℕ) → IsWeight walk.weight → price_of walk bank ≡ None → 1 ≤ slice_index walk.lines bank / walk.weight → IsWorseHead walk.taker price (price_in walk bank)
+unasked_worse walk bank price weighs none reach =
+    let pays' : walk.weight ≤ slice_index walk.lines bank = paid_for (slice_index walk.lines bank) walk.weight weighs reach in
+    let is : price_in walk bank ≡ None = sym (ap (λ b. if b then price_in walk bank else None) (le-leb walk.weight (slice_index walk.lines bank) pays')) ∙ none in
+    subst (IsWorseHead walk.taker price) (sym is) tt
+
 -- and once what is taken of them is taken, that of all is
-pub taken-whole : (book : Book) (owners : List ℕ) (past : Option ℕ) (old now : LevelWalk) (price lots : ℕ) → AreOwners book owners → IsWeight old.weight → HaveLevels book past old → IsBestPrice old 65 (Some price)
-    → AreTakenOf book old now price owners lots → AreTaken book old now price lots
-taken-whole book owners past old now price lots are weighs have best all =
+pub taken-whole : (book : Book) (banks : List ℕ) (past : Option ℕ) (old now : LevelWalk) (price lots : ℕ) → AreReached book old banks → IsWeight old.weight → HaveLevels book past old → IsBestPrice old 65 (Some price)
+    → AreTakenOf book old now price banks lots → AreTaken book old now price lots
+taken-whole book banks past old now price lots are weighs have best all =
     let worse : is_worse old.taker past price ≡ true = best_worse book past old price weighs have best in
     let taker : now.taker ≡ old.taker = taker_same old now lots all.sum in
     record {
-      taken = λ bank below. elim (contains_or owners bank) [
+      taken = λ bank below. elim (contains_or banks bank) [
         | inl there ↦ elim (asked_or (price_of old bank) price) [
           | inl is ↦ (all.taken bank there).asked is
           | inr differ ↦
@@ -463,7 +525,7 @@ taken-whole book owners past old now price lots are weighs have best all =
         ]
         | inr apart ↦
             taken_still book old old now price bank taker
-            (none_taken book past old bank price worse (have bank below) (λ reach. not_owned book owners old.taker bank price past (price_in old bank) are apart (have bank below reach)))
+            (none_taken book past old bank price worse (have bank below) (unasked_worse old bank price weighs (are.others bank below apart)))
             (all.left bank apart)
       ];
       sum = all.sum;

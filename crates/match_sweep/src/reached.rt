@@ -1,15 +1,14 @@
-ghost use Rattle.std.specs.Prelude.{ℕ, Option, ◌≡◌, ◌≢◌, ◌+◌, length, is_some, if◌then◌else◌, ◌≤◌, ◌<◌, ◌*◌, ◌/◌, ◌^◌, min, IfOk};
+ghost use Rattle.std.specs.Prelude.{ℕ, Option, Some, filter, take, ◌≡◌, ◌≢◌, ◌+◌, length, ◌≤◌, ◌<◌, ◌*◌, ◌/◌, ◌^◌, min, IfOk};
 ghost use Rattle.fx_amounts.specs.Quantity.{IsWeight};
 ghost use Rattle.fx_rules.specs.Lists.{total};
 ghost use Rattle.credit_lines.specs.Credit.{room_in};
-ghost use Rattle.global_book.specs.Book.{AreOwners};
 ghost use Rattle.match_sweep.specs.Reaches.{IsReached};
-ghost use Rattle.match_sweep.specs.inside.Reaches.{AreRanked, AreTakenOf, BeginsAt, HasRank, HaveLevels, IsBareLevel, IsBestAmong, IsMost, IsRank, OpensLevel, Puts, TakesLevel, TakesOf};
+ghost use Rattle.match_sweep.specs.inside.Reaches.{AreRanked, AreReached, AreTakenOf, BeginsAt, HasRank, IsBareLevel, IsBestAmong, IsMost, IsRank, OpensLevel, Puts, TakesOf, is_asked, price_of};
 
 use credit_lines::CreditLines;
 use fx_amounts::{BankId, Memory, Price, Side};
 use fx_rules::{Level, LevelList, SHOWN_LEVELS};
-use global_book::PairBook;
+use global_book::{PairBook, rank_of};
 use price_levels::Steps;
 use std::alloc::Global;
 use std::sync::ledger::Ledger;
@@ -44,16 +43,19 @@ pub fn levels_in_reach<L: Ledger>(
     let mut most = lots_by_total(lines, bank, weight);
     let mut levels = Vec::new(alloc);
     levels.reserve_exact(SHOWN_LEVELS)?;
+    let mut reached = [BankId::HOST; BankId::COUNT];
+    let count = walk.list_reached(book.owners(), &mut reached);
+    let banks = &reached[..count];
+    let mut best = walk.best_price(banks);
     while levels.len() < SHOWN_LEVELS && most > 0 {
-        let Some(level) = walk.next_level(book, steps) else {
+        let Some(price) = best else {
             break;
         };
-        let lots = level.lots.min(most);
+        let (taken, behind) = walk.take_level(book, banks, price, steps);
+        best = behind;
+        let lots = taken.min(most);
         most -= lots;
-        levels.push(Level {
-            price: level.price,
-            lots,
-        })?;
+        levels.push(Level { price, lots })?;
     }
     Ok(LevelList::from_vec(levels))
 }
@@ -62,7 +64,8 @@ pub fn levels_in_reach<L: Ledger>(
 fn lots_by_total(lines: &CreditLines, bank: BankId, weight: u32) -> u64
     requires bank { bank < lines.now.banks }
     requires weight { IsWeight weight }
-    ensures { IsMost (room_in lines.now bank) weight result }
+    ensures most { IsMost (room_in lines.now bank) weight result }
+    ensures few { lines.now.banks ≤ 64 }
 {
     match lines.room(bank) {
         Some(room) => room / u64::from(weight),
@@ -146,58 +149,65 @@ impl LevelWalk {
         };
     }
 
-    /// The next level; `None` where nothing more can be reached. One step for each bank at most, and none for no level.
-    fn next_level<L: Ledger>(&mut self, book: &PairBook, steps: &mut Steps<L>) -> Option<Level>
-        requires weight { IsWeight self.old.weight }
-        requires most { total (λ line. line) self.old.lines ≤ 65 * 10 ^ 15 }
-        requires ranked { AreRanked self.old }
-        ensures level { (past : Option ℕ) → HaveLevels book.now past self.old → TakesLevel book.now self.old self.new result }
-        ensures ranked { AreRanked self.new }
-        ensures steps { steps.new ≤ steps.old + (if is_some result then book.now.banks else 0) }
+    /// Lists those of these banks of which something can be taken, and answers how many they are.
+    fn list_reached(&self, owners: &[BankId], reached: &mut [BankId; BankId::COUNT]) -> usize
+        requires few { length owners.now ≤ 64 }
+        ensures reached { take result reached.new ≡ filter (is_asked self.now) owners.now }
+        ensures within { result ≤ 64 }
     {
-        let owners = book.owners();
-        let price = self.best_price(owners)?;
-        let lots = self.take_all(book, owners, price, steps);
-        Some(Level { price, lots })
+        let mut count = 0;
+        for owner in owners {
+            if self.ranks[owner.index()] != NO_RANK {
+                reached[count] = *owner;
+                count += 1;
+            }
+        }
+        count
     }
 
     /// The best price of those of these banks with which the line pays for a lot.
-    fn best_price(&self, owners: &[BankId]) -> Option<Price>
+    fn best_price(&self, banks: &[BankId]) -> Option<Price>
         requires ranked { AreRanked self.now }
-        ensures best { IsBestAmong self.now owners.now result }
+        ensures best { IsBestAmong self.now banks.now result }
     {
         let mut lowest = NO_RANK;
-        for owner in owners {
-            lowest = lowest.min(self.ranks[owner.index()]);
+        for bank in banks {
+            lowest = lowest.min(self.ranks[bank.index()]);
         }
         price_at_rank(self.taker, lowest)
     }
 
-    /// Takes of each of these banks what the line with it pays for of its lots at a price; how many they are in all. The banks are those
-    /// that have an order.
-    fn take_all<L: Ledger>(
+    /// Takes of each of these banks what the line with it pays for of its lots at a price: how many they are in all, and the best price that is
+    /// left of those of the banks with which the line pays for a lot. The banks are those of which something can be taken.
+    fn take_level<L: Ledger>(
         &mut self,
         book: &PairBook,
-        owners: &[BankId],
+        banks: &[BankId],
         price: Price,
         steps: &mut Steps<L>,
-    ) -> u64
-        requires owners { AreOwners book.now owners.now }
+    ) -> (u64, Option<Price>)
+        requires reached { AreReached book.now self.old banks.now }
         requires weight { IsWeight self.old.weight }
         requires most { total (λ line. line) self.old.lines ≤ 65 * 10 ^ 15 }
         requires ranked { AreRanked self.old }
-        ensures taken { AreTakenOf book.now self.old self.new price owners.now result }
+        ensures taken { AreTakenOf book.now self.old self.new price banks.now result.0 }
+        ensures best { IsBestAmong self.new banks.now result.1 }
         ensures ranked { AreRanked self.new }
         ensures steps { steps.new ≤ steps.old + book.now.banks }
     {
+        let rank = rank_of(self.taker.opposite(), price);
         let mut lots = 0;
-        for owner in owners {
-            lots += self.take_of(book, *owner, price, steps);
+        let mut lowest = NO_RANK;
+        for bank in banks {
+            if self.ranks[bank.index()] == rank {
+                lots += self.take_of(book, *bank, price, steps);
+            }
+            lowest = lowest.min(self.ranks[bank.index()]);
         }
-        lots
+        (lots, price_at_rank(self.taker, lowest))
     }
 
-    /// Takes what one bank has at the price, where that is its price, as far as its line allows, and goes on to its next price.
+    /// Takes what one bank has at its next price, which is this, as far as its line allows, and goes on to the price behind it.
     fn take_of<L: Ledger>(
         &mut self,
         book: &PairBook,
@@ -207,19 +217,18 @@ impl LevelWalk {
     ) -> u64
         requires weight { IsWeight self.old.weight }
         requires ranked { AreRanked self.old }
+        requires asked { price_of self.old bank ≡ Some price }
         ensures taken { TakesOf book.now self.old self.new bank price result }
         ensures ranked { AreRanked self.new }
-        ensures steps { steps.new ≤ steps.old + 1 }
+        ensures step { steps.new ≡ steps.old + 1 }
     {
         let at = bank.index();
-        if self.ranks[at] != rank_of(self.taker, Some(price)) {
-            return 0;
-        }
-        let (lots, next) = book.level_and_next(bank, self.taker.opposite(), price, steps);
+        let side = self.taker.opposite();
+        let (lots, next) = book.level_and_next(bank, side, rank_of(side, price), steps);
         let weight = u64::from(self.weight);
         let line = self.lines[at];
         let taken = lots_by_line(lots, line, weight);
-        self.put(at, line - taken * weight, rank_of(self.taker, next));
+        self.put(at, line - taken * weight, next.unwrap_or(NO_RANK));
         taken
     }
 }
@@ -235,17 +244,6 @@ fn lots_by_line(lots: u64, line: u64, weight: u64) -> u64
         }
     }
     lots.min(line / weight)
-}
-
-/// The rank of a price for a taker of a side, the best price lowest; `NO_RANK` where there is none.
-fn rank_of(taker: Side, price: Option<Price>) -> u32
-    ensures rank { IsRank taker price result }
-{
-    match (taker, price) {
-        (_, None) => NO_RANK,
-        (Side::Buy, Some(price)) => price.ticks(),
-        (Side::Sell, Some(price)) => Price::MOST - price.ticks(),
-    }
 }
 
 /// The price of a rank for a taker of a side; `None` at `NO_RANK`.

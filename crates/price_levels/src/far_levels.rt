@@ -1,4 +1,4 @@
-ghost use Rattle.std.specs.Prelude.{ℕ, ◌≡◌, ◌≤◌, ◌<◌, ◌==◌, ◌^◌, None, Some, if◌then◌else◌, is_some, IfSome, IsSome, OnOk};
+ghost use Rattle.std.specs.Prelude.{ℕ, ◌≡◌, ◌≤◌, ◌<◌, ◌==◌, ◌^◌, None, Some, true, if◌then◌else◌, is_some, IfSome, IsSome, OnOk};
 ghost use Rattle.price_levels.specs.Rungs.{IsNextRank, kept_at};
 ghost use Rattle.price_levels.specs.inside.Far.{IsNextKept, far_level};
 
@@ -42,6 +42,13 @@ impl FarLevels {
         ensures { result ≡ kept_at self.now rank }
     {
         self.levels.get(&rank).copied()
+    }
+
+    /// Whether no rank is kept here.
+    pub(crate) fn is_empty(&self) -> bool
+        ensures { result ≡ true → (rank : ℕ) → kept_at self.now rank ≡ None }
+    {
+        self.levels.is_empty()
     }
 
     /// Sees to it that a rank is kept; it has no orders where it was not kept before. At `Memory` all is as it was.

@@ -185,6 +185,19 @@ impl Ladder {
         }
     }
 
+    /// The level of a rank, and the first rank behind it with orders; `None` where there is none.
+    pub fn level_and_next(&self, rank: u32) -> (Level, Option<u32>)
+        requires rank { rank < 2 ^ 32 - 1 }
+        ensures level { result.0 ≡ level_at self.now rank }
+        ensures found { IfSome result.1 (IsNextRank (level_at self.now) (rank + 1)) }
+        ensures none { result.1 ≡ None → (other : ℕ) → rank < other → (level_at self.now other).lots ≡ 0 }
+    {
+        if self.far.is_empty() {
+            return (self.near.level(rank), self.near.next(rank + 1));
+        }
+        (self.level(rank), self.next(rank + 1))
+    }
+
     /// The best rank with orders; `None` where there is none.
     pub fn first(&self) -> Option<u32>
         ensures found { IfSome result (IsNextRank (level_at self.now) 0) }

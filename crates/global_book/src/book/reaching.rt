@@ -1,16 +1,17 @@
-ghost use Rattle.std.specs.Prelude.{◌≡◌, ◌+◌, ◌≤◌, ◌^◌, ◌↔◌, ◌++◌, ◌⊎◌, List, [], None, false, length, IfSome, IsSomeAnd, IsPermutation, OnErr, OnOk};
+ghost use Rattle.std.specs.Prelude.{◌≡◌, ◌+◌, ◌≤◌, ◌^◌, ◌↔◌, ◌++◌, ◌⊎◌, List, [], None, Some, false, length, option_map, IfSome, IsSomeAnd, IsPermutation, OnErr, OnOk};
 ghost use Rattle.std.specs.Option.{option_copied};
+ghost use Rattle.fx_amounts.specs.Price.{IsPrice};
 ghost use Rattle.fx_amounts.specs.Side.{opposite};
 ghost use Rattle.fx_rules.specs.Sweep.{IsBest, is_preferred};
 ghost use Rattle.fx_rules.specs.declared.orders.Resting.{Resting};
 ghost use Rattle.global_book.specs.Behind.{owned_behind};
 ghost use Rattle.global_book.specs.Book.{AreInTime, IsBook, IsPriceOf, crossing, level_lots};
+ghost use Rattle.global_book.specs.Room.{rank_of as price_of_rank};
 ghost use Rattle.global_book.specs.Sought.{allows, sought};
 ghost use Rattle.global_book.specs.Words.{AreBestWords};
 
 use crate::ahead::is_behind;
 use crate::book::PairBook;
-use crate::side_ladders::{price_at, rank_of};
 use fx_amounts::{BankId, Memory, Price, Side};
 use fx_rules::Resting;
 use price_levels::Steps;
@@ -29,26 +30,25 @@ impl PairBook {
         self.linked.words(side)
     }
 
-    /// The lots that a bank's orders of a side have left at a price, and the best price of theirs behind it; `None` where there is no such
-    /// price. One step.
+    /// The lots that a bank's orders of a side have left at the price of a rank, and the first rank behind it at which the bank has such
+    /// orders; `None` where there is none. One step.
     pub fn level_and_next<L: Ledger>(
         &self,
         bank: BankId,
         side: Side,
-        price: Price,
+        rank: u32,
         steps: &mut Steps<L>,
-    ) -> (u64, Option<Price>)
-        ensures lots { result.0 ≡ level_lots (opposite side) bank price self.now.orders }
-        ensures next { IsPriceOf (opposite side) bank (Some price) self.now.orders result.1 }
+    ) -> (u64, Option<u32>)
+        requires price { IsPrice (price_of_rank side rank) }
+        ensures lots { result.0 ≡ level_lots (opposite side) bank (price_of_rank side rank) self.now.orders }
+        ensures next { IsPriceOf (opposite side) bank (Some (price_of_rank side rank)) self.now.orders (option_map (price_of_rank side) result.1) }
+        ensures valid_next { IfSome result.1 (λ behind. IsPrice (price_of_rank side behind)) }
         ensures step { steps.new ≡ steps.old + 1 }
         ensures valid { IsBook self.now }
     {
         steps.tick();
-        let (level, next) = self.linked.level_and_next(bank, side, rank_of(side, price));
-        let Some(rank) = next else {
-            return (level.lots, None);
-        };
-        (level.lots, price_at(side, rank))
+        let (level, next) = self.linked.level_and_next(bank, side, rank);
+        (level.lots, next)
     }
 
     /// Puts a bank's orders of a side that cross `top`, a price of the other side, behind those that `orders` has. It looks at one order that

@@ -1,6 +1,7 @@
 -- What private functions and proofs alone say of it, beside `specs/Reaches.antt`.
-use Rattle.std.specs.Prelude.{ℕ, zero, suc, ◌≡◌, ◌≢◌, ◌≤◌, ◌<◌, ◌+◌, ◌-◌, ◌*◌, ◌/◌, ◌^◌, min, false, nat_eq, nat_le, nat_lt, if◌then◌else◌, List, [], ◌∷◌, length, replicate, Option, Some, None, IfSome, slice_index, slice_set, option_map}
+use Rattle.std.specs.Prelude.{ℕ, zero, suc, ◌≡◌, ◌≢◌, ◌≤◌, ◌<◌, ◌+◌, ◌-◌, ◌*◌, ◌/◌, ◌^◌, ◌==◌, min, Bool, false, not, nat_eq, nat_le, nat_lt, if◌then◌else◌, List, [], ◌∷◌, length, replicate, Option, Some, None, IfSome, slice_index, slice_set, option_map}
 use Rattle.std.specs.List.{Contains}
+use Rattle.std.specs.List.Sorted.{IsStrictlyIncreasing}
 use Rattle.fx_amounts.specs.Price.{IsPrice}
 use Rattle.fx_amounts.specs.Side.{opposite}
 use Rattle.fx_amounts.specs.declared.side.Side.{Side}
@@ -95,6 +96,16 @@ IsBestAmong walk banks None = (bank : ℕ) → Contains banks bank → price_of 
 IsBestAmong walk banks (Some price) =
     ((bank : ℕ) × Contains banks bank × (price_of walk bank ≡ Some price))
     × ((bank other : ℕ) → Contains banks bank → price_of walk bank ≡ Some other → is_better walk.taker other price ≡ false)
+
+-- something can be taken of a bank
+abbrev pub is_asked : LevelWalk → ℕ → Bool
+is_asked walk bank = not (slice_index walk.ranks bank == 2 ^ 30 - 1)
+
+-- these banks, each once, are all of which something can be taken, and no more than the book has
+pub record AreReached (book : Book) (walk : LevelWalk) (banks : List ℕ) : Type 0 where
+  pub rising : IsStrictlyIncreasing banks
+  pub few : length banks ≤ book.banks
+  pub others : (bank : ℕ) → bank < 65 → (Contains banks bank → ⊥) → price_of walk bank ≡ None
 
 -- what is left of a bank once its lots at a price are taken
 pub record IsTakenOf (book : Book) (old new : LevelWalk) (price bank : ℕ) : Type 0 where

@@ -1,23 +1,33 @@
 -- The levels so far are the first ones of every such order's sweep; at the end of the walk, once there are ten, or once the total pays for
 -- no more lots, they are all.
-use Rattle.std.proofs.Common.{ℕ, ◌≡◌, ◌≤◌, ◌+◌, ◌-◌, ◌*◌, [], ◌∷◌, ◌++◌, length, inl, inr, ap, ◌∙◌, refl, sym, subst, arith, length-append}
+use Rattle.std.proofs.Common.{ℕ, List, ◌≡◌, ◌≤◌, ◌+◌, ◌-◌, ◌*◌, [], ◌∷◌, ◌++◌, length, Option, Some, None, inl, inr, ap, ◌∙◌, refl, sym, subst, arith, take, length-append}
 use Rattle.std.proofs.Math.Nat.{add-mul}
 use Rattle.fx_amounts.specs.Quantity.{IsWeight}
 use Rattle.match_sweep.specs.declared.reached.LevelWalk.{LevelWalk}
+use Rattle.global_book.specs.Book.{Book}
 use Rattle.match_sweep.specs.Reaches.{IsReached}
+use Rattle.match_sweep.specs.inside.Reaches.{AreReached, AreTakenOf, HaveLevels, IsBestAmong, TakesLevel}
 use Rattle.fx_rules.specs.declared.orders.Level.{Level}
 use Rattle.match_sweep.proofs.Cutting.{cut-begins, cut-on}
+use Rattle.match_sweep.proofs.Reaching.{best_of_all, reached-begins, reached-on, taken-whole}
 use Rattle.match_sweep.proofs.LevelSteps.{reached-full, reached-whole, way_begins, way_on}
 use Rattle.match_sweep.proofs.reached.levels_in_reach.Goals as goal
-use Rattle.match_sweep.proofs.reached.levels_in_reach.Goals.{else-loop-walk-test, then-loop-walk-test+else-most-gt0, then-loop-walk-test+then-most-gt0+in_default}
+use Rattle.match_sweep.proofs.reached.levels_in_reach.Goals.{else-loop-banks-test, then-loop-banks-test+else-most-gt0, then-loop-banks-test+then-most-gt0+in_default}
 
 -- a level more, and a look at each bank more
 one_more : (first old new levels levels' banks : ℕ) → old ≤ first + (levels + 1) * banks → new ≤ old + banks → levels' ≡ levels + 1 → new ≤ first + (levels' + 1) * banks
 one_more first old new levels levels' banks was more is =
     subst (λ (n : ℕ). new ≤ first + (n + 1) * banks) (sym is) (omega (arith, was, more, add-mul (levels + 1) 1 banks))
 
-pub loop-walk-init : goal.loop-walk-init
-loop-walk-init g c =
+-- the level at the best price is taken
+taken_level : (book : Book) (banks : List ℕ) (past : Option ℕ) (old new : LevelWalk) (price lots : ℕ) → AreReached book old banks → IsWeight old.weight → length old.lines ≡ 65 → HaveLevels book past old → IsBestAmong old banks (Some price)
+    → AreTakenOf book old new price banks lots → TakesLevel book old new (Some (record { price = price; lots = lots }))
+taken_level book banks past old new price lots are weighs long have best all =
+    let of_all = best_of_all book banks old (Some price) are weighs long best in
+    (of_all, taken-whole book banks past old new price lots are weighs have of_all all)
+
+pub loop-banks-init : goal.loop-banks-init
+loop-banks-init g c =
     let none = c.reserve_exact.ensures.items ∙ c.new-levels.ensures.items in
     record {
       whole = [];
@@ -27,57 +37,66 @@ loop-walk-init g c =
           (subst IsWeight (sym (ap (λ (w : LevelWalk). w.weight) begins.is)) c.requires.weight)
           begins.long begins.heads begins.own refl;
       ranked = c.open_banks.ensures.ranked;
+      reached = λ begins.
+          subst (AreReached c.args.book.now c.open_banks.new.self) (sym c.list_reached-count.ensures.reached)
+          (reached-begins c.args.book.now c.owners.result.now None c.open_banks.new.self c.owners.ensures.owners (subst IsWeight (sym (ap (λ (w : LevelWalk). w.weight) begins.is)) c.requires.weight) begins.heads c.open_banks.ensures.ranked);
+      best = c.best_price-best.ensures.best;
       steps = omega (arith, c.open_banks.ensures.step, ap length none, c.requires.bank, c.requires.banks);
     }
 
-pub next_level-requires : goal.next_level-requires
-next_level-requires g c =
-    let way = c.loop-walk.invariant.way c.open_banks.ensures.begins in
+pub take_level-taken-requires : goal.take_level-taken-requires
+take_level-taken-requires g c =
+    let way = c.loop-banks.invariant.way c.open_banks.ensures.begins in
     record {
+      reached = c.loop-banks.invariant.reached c.open_banks.ensures.begins;
       weight = subst IsWeight (sym way.weight) way.weighs;
       most = omega (arith, way.most, c.open_banks.ensures.begins.most);
-      ranked = c.loop-walk.invariant.ranked;
+      ranked = c.loop-banks.invariant.ranked;
     }
 
-pub loop-walk-preserved : goal.loop-walk-preserved
-loop-walk-preserved g c =
-    let was = c.loop-walk.invariant in
-    let level : Level = record { price = c.in-Some.level.price; lots = c.min-lots.result } in
-    let more : length c.push.new.self.items ≡ length c.loop-walk.levels.items + 1 = ap length c.in_ok-push.ensures.items ∙ length-append c.loop-walk.levels.items (level ∷ []) in
+pub loop-banks-preserved : goal.loop-banks-preserved
+loop-banks-preserved g c =
+    let was = c.loop-banks.invariant in
+    let banks : List ℕ = take c.list_reached-count.result c.list_reached-count.new.reached in
+    let price : ℕ = c.in-Some.price in
+    let taken : ℕ = c.take_level-taken.result.0 in
+    let level : Level = record { price = price; lots = c.min-lots.result } in
+    let whole : Level = record { price = price; lots = taken } in
+    let begins = c.open_banks.ensures.begins in
+    let before = was.way begins in
+    let reached = was.reached begins in
+    let best = subst (IsBestAmong c.loop-banks.walk banks) c.in-Some.is was.best in
+    let more : length c.push.new.self.items ≡ length c.loop-banks.levels.items + 1 = ap length c.in_ok-push.ensures.items ∙ length-append c.loop-banks.levels.items (level ∷ []) in
     record {
-      whole = was.whole ++ c.in-Some.level ∷ [];
-      cut = cut-on c.lots_by_total-most.result c.loop-walk.most (c.loop-walk.most - c.min-lots.result) was.whole c.loop-walk.levels.items c.push.new.self.items c.in-Some.level was.cut
-          (omega (arith, c.if-most-gt0.true)) (omega (arith, c.min-lots.ensures)) (c.in_ok-push.ensures.items ∙ ap (λ n. c.loop-walk.levels.items ++ record { price = c.in-Some.level.price; lots = n } ∷ []) c.min-lots.ensures);
+      whole = was.whole ++ whole ∷ [];
+      cut = cut-on c.lots_by_total-most.result c.loop-banks.most (c.loop-banks.most - c.min-lots.result) was.whole c.loop-banks.levels.items c.push.new.self.items whole was.cut
+          (omega (arith, c.if-most-gt0.true)) (omega (arith, c.min-lots.ensures)) (c.in_ok-push.ensures.items ∙ ap (λ n. c.loop-banks.levels.items ++ record { price = whole.price; lots = n } ∷ []) c.min-lots.ensures);
       way = λ begins.
-          way_on c.args.book.now begins.valid c.open_banks.new.self c.loop-walk.walk c.next_level.new.self c.args.bank was.whole c.in-Some.level begins.few
-          (was.way begins) (omega (arith, c.loop-walk-test.true, c.len.ensures, was.cut.long)) (c.in-Some.ensures.level (was.way begins).past (was.way begins).have);
-      ranked = c.in-Some.ensures.ranked;
-      steps = one_more c.args.steps.now c.loop-walk.steps c.next_level.new.steps (length c.loop-walk.levels.items) (length c.push.new.self.items) c.args.book.now.banks was.steps c.in-Some.ensures.steps more;
+          way_on c.args.book.now begins.valid c.open_banks.new.self c.loop-banks.walk c.take_level-taken.new.self c.args.bank was.whole whole begins.few
+          (was.way begins) (omega (arith, c.loop-banks-test.true, c.len.ensures, was.cut.long)) (taken_level c.args.book.now banks before.past c.loop-banks.walk c.take_level-taken.new.self price taken reached (subst IsWeight (sym before.weight) before.weighs) before.long before.have best c.take_level-taken.ensures.taken);
+      ranked = c.take_level-taken.ensures.ranked;
+      reached = λ begins. reached-on c.args.book.now c.loop-banks.walk c.take_level-taken.new.self price taken banks (was.reached begins) c.take_level-taken.ensures.taken;
+      best = c.take_level-taken.ensures.best;
+      steps = one_more c.args.steps.now c.loop-banks.steps c.take_level-taken.new.steps (length c.loop-banks.levels.items) (length c.push.new.self.items) c.args.book.now.banks was.steps c.take_level-taken.ensures.steps more;
     }
 
 pub returns : goal.returns
 returns g c =
     let begins = c.open_banks.ensures.begins in
-    let was = c.loop-walk.invariant in
+    let was = c.loop-banks.invariant in
+    let banks : List ℕ = take c.list_reached-count.result c.list_reached-count.new.reached in
     record {
       levels = subst (IsReached c.args.book.now c.args.lines.now c.args.weight c.args.bank c.args.side) (sym c.from_vec.ensures.items)
-          (elim c.loop-walk-test.branch [
-            | else-loop-walk-test w ↦
-                reached-full c.args.book.now c.args.lines.now c.args.weight c.args.bank c.lots_by_total-most.result c.args.side c.open_banks.new.self c.loop-walk.walk begins c.requires.banks c.requires.bank c.requires.weight.0 c.lots_by_total-most.ensures
-                c.loop-walk.most was.whole c.loop-walk.levels.items (was.way begins) was.cut (inl (omega (arith, w.loop-walk-test.false, c.len.ensures)))
-            | then-loop-walk-test+else-most-gt0 w ↦
-                reached-full c.args.book.now c.args.lines.now c.args.weight c.args.bank c.lots_by_total-most.result c.args.side c.open_banks.new.self c.loop-walk.walk begins c.requires.banks c.requires.bank c.requires.weight.0 c.lots_by_total-most.ensures
-                c.loop-walk.most was.whole c.loop-walk.levels.items (was.way begins) was.cut (inr (omega (arith, w.if-most-gt0.false)))
-            | then-loop-walk-test+then-most-gt0+in_default w ↦
-                reached-whole c.args.book.now c.args.lines.now c.args.weight c.args.bank c.lots_by_total-most.result c.args.side c.open_banks.new.self c.loop-walk.walk begins c.requires.banks c.requires.bank c.requires.weight.0 c.lots_by_total-most.ensures
-                c.loop-walk.most was.whole c.loop-walk.levels.items (was.way begins) was.cut (w.in_default.ensures.level (was.way begins).past (was.way begins).have).1
+          (elim c.loop-banks-test.branch [
+            | else-loop-banks-test w ↦
+                reached-full c.args.book.now c.args.lines.now c.args.weight c.args.bank c.lots_by_total-most.result c.args.side c.open_banks.new.self c.loop-banks.walk begins c.requires.banks c.requires.bank c.requires.weight.0 c.lots_by_total-most.ensures.most
+                c.loop-banks.most was.whole c.loop-banks.levels.items (was.way begins) was.cut (inl (omega (arith, w.loop-banks-test.false, c.len.ensures)))
+            | then-loop-banks-test+else-most-gt0 w ↦
+                reached-full c.args.book.now c.args.lines.now c.args.weight c.args.bank c.lots_by_total-most.result c.args.side c.open_banks.new.self c.loop-banks.walk begins c.requires.banks c.requires.bank c.requires.weight.0 c.lots_by_total-most.ensures.most
+                c.loop-banks.most was.whole c.loop-banks.levels.items (was.way begins) was.cut (inr (omega (arith, w.if-most-gt0.false)))
+            | then-loop-banks-test+then-most-gt0+in_default w ↦
+                reached-whole c.args.book.now c.args.lines.now c.args.weight c.args.bank c.lots_by_total-most.result c.args.side c.open_banks.new.self c.loop-banks.walk begins c.requires.banks c.requires.bank c.requires.weight.0 c.lots_by_total-most.ensures.most
+                c.loop-banks.most was.whole c.loop-banks.levels.items (was.way begins) was.cut (best_of_all c.args.book.now banks c.loop-banks.walk None (was.reached begins) (subst IsWeight (sym (was.way begins).weight) (was.way begins).weighs) (was.way begins).long (subst (IsBestAmong c.loop-banks.walk banks) w.in_default.is was.best))
           ]);
-      steps = elim c.loop-walk-test.branch [
-        | else-loop-walk-test w ↦ subst (λ (n : ℕ). c.loop-walk-test.steps ≤ c.args.steps.now + (n + 1) * c.args.book.now.banks) (sym (ap length c.from_vec.ensures.items))
-            (omega (arith, w.steps-is, was.steps))
-        | then-loop-walk-test+else-most-gt0 w ↦ subst (λ (n : ℕ). c.loop-walk-test.steps ≤ c.args.steps.now + (n + 1) * c.args.book.now.banks) (sym (ap length c.from_vec.ensures.items))
-            (omega (arith, w.steps-is, was.steps))
-        | then-loop-walk-test+then-most-gt0+in_default w ↦ subst (λ (n : ℕ). c.loop-walk-test.steps ≤ c.args.steps.now + (n + 1) * c.args.book.now.banks) (sym (ap length c.from_vec.ensures.items))
-            (omega (arith, w.steps-is, was.steps, w.in_default.ensures.steps))
-      ];
+      steps = subst (λ (n : ℕ). c.loop-banks.steps ≤ c.args.steps.now + (n + 1) * c.args.book.now.banks) (sym (ap length c.from_vec.ensures.items)) (omega (arith, was.steps));
     }

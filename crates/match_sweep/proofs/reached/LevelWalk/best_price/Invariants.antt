@@ -3,5 +3,5 @@ use Rattle.match_sweep.proofs.Ranking.{IsLowest}
 use Rattle.match_sweep.proofs.reached.LevelWalk.best_price.Given as goal
 
 -- the lowest rank of the banks that were passed
-abbrev pub invariant-loop-owner : goal.invariant-loop-owner
-invariant-loop-owner l = IsLowest l.self (take l.owner-index l.owners) l.lowest
+abbrev pub invariant-loop-bank : goal.invariant-loop-bank
+invariant-loop-bank l = IsLowest l.self (take l.bank-index l.banks) l.lowest
