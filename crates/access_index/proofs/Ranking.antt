@@ -10,7 +10,7 @@ use Rattle.price_levels.specs.Rungs.{Rungs, holds, level_at, with_level_at}
 use Rattle.price_levels.specs.Ticks.{first_left, last_left, no_level, with_order, without_order}
 use Rattle.access_index.specs.declared.words.Head.{Head}
 use Rattle.access_index.specs.Heads.{IsHead, IsLeastHead, IsUpTo, head_word}
-use Rattle.access_index.specs.Ranked.{AreHeadWords, IsBestHead, IsHeadOf, bank_holds, bank_level, holds_in, level_in, with_bank_level}
+use Rattle.access_index.specs.Ranked.{AreHeadWords, IsHeadOf, bank_holds, bank_level, holds_in, level_in, with_bank_level}
 use Rattle.access_index.specs.inside.Ranked.{AreRanked, head_with}
 use Rattle.access_index.proofs.Numbering.{Writes, of_updates}
 
@@ -306,6 +306,16 @@ head_is levels (Some head) short is = record {
   place = subst (λ (n : ℕ). n < 2 ^ 28) (sym is.1) (short.early head.rank is.0.some);
 }
 
+-- the best orders as others see them
+pub heads_told : (owners now : List (ℕ × Rungs)) (heads seen : List (Option Head)) → owners ≡ now → heads ≡ seen → AreRanked owners heads
+    → (bank : ℕ) → bank < 64 → IsHeadOf (bank_level now bank) (get_or seen bank None) × IfSome (get_or seen bank None) IsHead
+heads_told owners now heads seen owners_are heads_are are bank few =
+    subst (λ (hs : List (Option Head)). IsHeadOf (bank_level now bank) (get_or hs bank None) × IfSome (get_or hs bank None) IsHead) heads_are
+    (subst (λ (os : List (ℕ × Rungs)). IsHeadOf (bank_level os bank) (get_or heads bank None) × IfSome (get_or heads bank None) IsHead) owners_are (
+      are.heads_are bank few,
+      head_is (bank_level owners bank) (get_or heads bank None) (record { low = λ rank some. are.low bank rank few some; early = λ rank some. are.early bank rank few some }) (are.heads_are bank few),
+    ))
+
 -- the word of a best order tells it
 pub told_by : (owners now : List (ℕ × Rungs)) (heads : List (Option Head)) (words : List ℕ) → owners ≡ now → AreRanked owners heads → length words ≡ 64
     → ((bank : ℕ) → bank < 64 → get_or words bank 0 ≡ head_word bank (get_or heads bank None)) → AreHeadWords (bank_level now) words
@@ -330,35 +340,6 @@ none_before old new rank level (Some head) from some is_head is changed at befor
       | inl same ↦ absurd (some (ap (λ (r : ℕ). (old r).lots) (sym same) ∙ empty))
       | inr differ ↦ ap (λ (l : Level). l.lots) (changed at ∙ at_other old rank at level differ) ∙ empty
     ]
-
--- the best of the best orders is the best of all that they are the best of
-best_of_one : (levels : ℕ → Level) (own : Option Head) (head : Head) (rank : ℕ) → IsHeadOf levels own → (levels rank).lots ≢ 0 → ((found : Head) → own ≡ Some found → IsUpTo head found)
-    → (head.rank < rank) ⊎ ((head.rank ≡ rank) × (head.place ≤ (levels rank).first))
-best_of_one levels None head rank none some upto = absurd (some (none rank))
-best_of_one levels (Some found) head rank is some upto =
-    let behind : found.rank ≤ rank = elim (cases_lt rank found.rank) [ inl before ↦ absurd (some (is.0.first rank (omega arith) before)) | inr late ↦ late ] in
-    elim (upto found refl) [
-      | inl lower ↦ inl (omega (arith, lower, behind))
-      | inr same ↦
-          elim (cases_lt found.rank rank) [
-            | inl less ↦ inl (omega (arith, same.0, less))
-            | inr no_less ↦
-                let equal : found.rank ≡ rank = omega (arith, behind, no_less) in
-                inr (omega (arith, same.0, equal), omega (arith, same.1, is.1, ap (λ (r : ℕ). (levels r).first) equal))
-          ]
-    ]
-
-pub best_told : (owners now : List (ℕ × Rungs)) (heads : List (Option Head)) (lines : List ℕ) (units : ℕ) (found : Option (ℕ × Head)) → owners ≡ now → AreRanked owners heads
-    → IfSome found (λ one. IsLeastHead heads lines units one.0 one.1) → IfSome found (λ one. IsBestHead now lines units one.0 one.1)
-best_told owners now heads lines units None seen are least = tt
-best_told owners now heads lines units (Some one) seen are least =
-    subst (λ (os : List (ℕ × Rungs)). IsBestHead os lines units one.0 one.1) seen (record {
-      within = least.within;
-      pays = least.pays;
-      there = subst (IsHeadOf (bank_level owners one.0)) least.there (are.heads_are one.0 least.within);
-      best = λ other rank few pays some.
-          best_of_one (bank_level owners other) (get_or heads other None) one.1 rank (are.heads_are other few) some (λ found is. least.first other found few pays is);
-    })
 
 -- no level became another one
 pub ranked_same : (owners owners' : List (ℕ × Rungs)) (heads : List (Option Head)) → AreRanked owners heads

@@ -1,43 +1,26 @@
 -- The words of the banks' best orders, and the least of them.
-use Rattle.std.proofs.Common.{ℕ, ◌≡◌, ◌≢◌, ◌+◌, ◌-◌, ◌/◌, ◌%◌, ◌≤◌, ◌<◌, ◌^◌, ◌⊎◌, Bool, if◌then◌else◌, min, bit_or, leb, List, length, map, get_or, replicate, unwrap_or, Option, Some, None, inl, inr, ap, sym, subst, ◌∙◌, arith, eq-eqb}
+use Rattle.std.proofs.Common.{ℕ, ◌≡◌, ◌≢◌, ◌+◌, ◌-◌, ◌/◌, ◌%◌, ◌≤◌, ◌<◌, ◌^◌, ◌⊎◌, Bool, if◌then◌else◌, min, List, length, map, get_or, replicate, unwrap_or, Option, Some, None, inl, inr, ap, sym, subst, ◌∙◌, arith, eq-eqb}
 use Rattle.std.proofs.Math.ListN.{set}
-use Rattle.std.proofs.lemmas.Bool.{cases_eq, cases_lt, le-leb, lt-leb, ne_eqb}
+use Rattle.std.proofs.lemmas.Bool.{cases_eq, cases_lt, ne_eqb}
 use Rattle.std.proofs.lemmas.Option.{none-some}
 use Rattle.std.proofs.lemmas.List.{get_or-map, get_or-replicate, get_or-set_other, get_or-set_same}
-use Rattle.std.proofs.lemmas.Nat.Bits.{bit_at-lt, bit_at_above, bit_at_ones, bit_at_ones_above, bit_at_or, same_from_bits}
 use Rattle.access_index.specs.declared.words.Head.{Head}
 use Rattle.access_index.specs.Heads.{IsHead, IsLeastHead, IsUpTo, head_word, word_of}
 use Rattle.access_index.specs.inside.Words.{AreWords, IsLeastWord, head_of}
 
--- all bits set
-pub shut-word : (word : ℕ) → word < 2 ^ 64 → bit_or word (2 ^ 64 - 1) ≡ 2 ^ 64 - 1
-shut-word word fits =
-    same_from_bits (bit_or word (2 ^ 64 - 1)) (2 ^ 64 - 1) (λ i. bit_at_or word (2 ^ 64 - 1) i ∙ elim (cases_lt i 64) [
-      | inl low ↦ omega (arith, bit_at_ones 64 i low, bit_at-lt word i)
-      | inr high ↦ omega (arith, bit_at_ones_above 64 i high, bit_at_above word 64 i fits high)
-    ])
-
 -- one bank more
-pub least_more : (words lines : List ℕ) (units k least opened new : ℕ) → opened ≡ (if leb units (get_or lines k 0) then get_or words k 0 else 2 ^ 64 - 1) → new ≡ min least opened → opened < 2 ^ 64
-    → IsLeastWord words lines units k least → IsLeastWord words lines units (k + 1) new
-least_more words lines units k least opened new opens lesser fits was = record {
-  first = λ bank below pays. elim (cases_eq bank k) [
-    | inl same ↦
-        let here : opened ≡ get_or words k 0 = opens ∙ ap (λ (b : Bool). if b then get_or words k 0 else 2 ^ 64 - 1) (le-leb units (get_or lines k 0) (subst (λ (n : ℕ). units ≤ get_or lines n 0) same pays)) in
-        omega (arith, lesser, here, ap (λ (n : ℕ). get_or words n 0) same)
-    | inr differ ↦ let it = was.first bank (omega (arith, below, differ)) pays in omega (arith, lesser, it)
+pub least_more : (words : List ℕ) (k least word new : ℕ) → word ≡ get_or words k 0 → new ≡ min least word → IsLeastWord words k least → IsLeastWord words (k + 1) new
+least_more words k least word new here lesser was = record {
+  first = λ bank below. elim (cases_eq bank k) [
+    | inl same ↦ omega (arith, lesser, here, ap (λ (n : ℕ). get_or words n 0) same)
+    | inr differ ↦ let it = was.first bank (omega (arith, below, differ)) in omega (arith, lesser, it)
   ];
-  there = λ some. elim (cases_lt opened least) [
-    | inl lower ↦
-        let is : new ≡ opened = omega (arith, lesser, lower) in
-        elim (cases_lt (get_or lines k 0) units) [
-          | inl short ↦ absurd (some (is ∙ opens ∙ ap (λ (b : Bool). if b then get_or words k 0 else 2 ^ 64 - 1) (lt-leb units (get_or lines k 0) short)))
-          | inr pays ↦ (k, omega arith, pays, sym (is ∙ opens ∙ ap (λ (b : Bool). if b then get_or words k 0 else 2 ^ 64 - 1) (le-leb units (get_or lines k 0) pays)))
-        ]
+  there = λ some. elim (cases_lt word least) [
+    | inl lower ↦ (k, omega arith, omega (arith, lesser, lower, here))
     | inr upto ↦
         let is : new ≡ least = omega (arith, lesser, upto) in
         let it = was.there (λ none. some (is ∙ none)) in
-        (it.0, omega (arith, it.1), it.2, it.3 ∙ sym is)
+        (it.0, omega (arith, it.1), it.2 ∙ sym is)
   ];
 }
 
@@ -74,32 +57,34 @@ none_of word is = ap (λ (b : Bool). if b then None else Some (record { rank = w
 some_of : (word : ℕ) → word ≢ 2 ^ 64 - 1 → head_of word ≡ Some (record { rank = word / 2 ^ 34; place = word / 64 % 2 ^ 28 })
 some_of word some = ap (λ (b : Bool). if b then None else Some (record { rank = word / 2 ^ 34; place = word / 64 % 2 ^ 28 })) (ne_eqb word (2 ^ 64 - 1) some)
 
-module _ (words lines : List ℕ) (heads : List (Option Head)) (units least : ℕ) (long : length words ≡ 64) (seen : map head_of words ≡ heads) (is : IsLeastWord words lines units 64 least) where
-  pub least_none : AreWords words → least ≡ 2 ^ 64 - 1 → (bank : ℕ) → bank < 64 → units ≤ get_or lines bank 0 → get_or heads bank None ≡ None
-  least_none are none bank small pays =
-      let it = is.first bank small pays in
-      read_head words heads bank long seen small ∙ none_of (get_or words bank 0) (omega (arith, it, none, are.most bank small))
+module _ (words : List ℕ) (heads : List (Option Head)) (banks least : ℕ) (long : length words ≡ 64) (seen : map head_of words ≡ heads) (few : banks ≤ 64) (is : IsLeastWord words banks least) where
+  pub least_none : AreWords words → least ≡ 2 ^ 64 - 1 → (bank : ℕ) → bank < banks → get_or heads bank None ≡ None
+  least_none are none bank small =
+      let it = is.first bank small in
+      let within : bank < 64 = omega (arith, small, few) in
+      read_head words heads bank long seen within ∙ none_of (get_or words bank 0) (omega (arith, it, none, are.most bank within))
 
-  pub least_found : AreWords words → least ≢ 2 ^ 64 - 1 → (bank : ℕ) → bank ≡ least % 64 → IsLeastHead heads lines units bank (record { rank = least / 2 ^ 34; place = least / 64 % 2 ^ 28 })
+  pub least_found : AreWords words → least ≢ 2 ^ 64 - 1 → (bank : ℕ) → bank ≡ least % 64 → IsLeastHead heads banks bank (record { rank = least / 2 ^ 34; place = least / 64 % 2 ^ 28 })
   least_found are some bank bank_is =
       let it = is.there some in
-      let own : least % 64 ≡ it.0 = ap (λ (w : ℕ). w % 64) (sym it.3) ∙ are.own it.0 it.1 (λ none. some (sym it.3 ∙ none)) in
+      let within : it.0 < 64 = omega (arith, it.1, few) in
+      let own : least % 64 ≡ it.0 = ap (λ (w : ℕ). w % 64) (sym it.2) ∙ are.own it.0 within (λ none. some (sym it.2 ∙ none)) in
       let here : it.0 ≡ bank = sym own ∙ sym bank_is in
-      subst (λ (b : ℕ). IsLeastHead heads lines units b (record { rank = least / 2 ^ 34; place = least / 64 % 2 ^ 28 })) here (record {
+      subst (λ (b : ℕ). IsLeastHead heads banks b (record { rank = least / 2 ^ 34; place = least / 64 % 2 ^ 28 })) here (record {
         within = it.1;
-        there = read_head words heads it.0 long seen it.1 ∙ ap head_of it.3 ∙ some_of least some;
-        pays = it.2;
-        first = λ other found small pays has. first_of other found small pays has;
+        there = read_head words heads it.0 long seen within ∙ ap head_of it.2 ∙ some_of least some;
+        first = λ other found small has. first_of other found small has;
       })
     where
-      first_of : (other : ℕ) (found : Head) → other < 64 → units ≤ get_or lines other 0 → get_or heads other None ≡ Some found → IsUpTo (record { rank = least / 2 ^ 34; place = least / 64 % 2 ^ 28 }) found
-      first_of other found small pays has =
+      first_of : (other : ℕ) (found : Head) → other < banks → get_or heads other None ≡ Some found → IsUpTo (record { rank = least / 2 ^ 34; place = least / 64 % 2 ^ 28 }) found
+      first_of other found small has =
           let w : ℕ = get_or words other 0 in
+          let within : other < 64 = omega (arith, small, few) in
           elim (cases_eq w (2 ^ 64 - 1)) [
-            | inl none ↦ absurd (none-some found (sym (none_of w none) ∙ sym (read_head words heads other long seen small) ∙ has))
+            | inl none ↦ absurd (none-some found (sym (none_of w none) ∙ sym (read_head words heads other long seen within) ∙ has))
             | inr full ↦
-                let head : record { rank = w / 2 ^ 34; place = w / 64 % 2 ^ 28 } ≡ found = ap (λ (o : Option Head). unwrap_or o found) (sym (some_of w full) ∙ sym (read_head words heads other long seen small) ∙ has) in
-                subst (IsUpTo (record { rank = least / 2 ^ 34; place = least / 64 % 2 ^ 28 })) head (up_to least w (is.first other small pays))
+                let head : record { rank = w / 2 ^ 34; place = w / 64 % 2 ^ 28 } ≡ found = ap (λ (o : Option Head). unwrap_or o found) (sym (some_of w full) ∙ sym (read_head words heads other long seen within) ∙ has) in
+                subst (IsUpTo (record { rank = least / 2 ^ 34; place = least / 64 % 2 ^ 28 })) head (up_to least w (is.first other small))
           ]
 
 -- a word is written at its bank

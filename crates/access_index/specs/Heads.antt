@@ -1,5 +1,5 @@
--- The best order of each owner of one side, and the best of those that can be reached.
-use Rattle.std.specs.Prelude.{ℕ, ◌≡◌, ◌+◌, ◌-◌, ◌*◌, ◌≤◌, ◌<◌, ◌^◌, ◌⊎◌, List, Option, Some, None, slice_index, slice_index_or}
+-- The best order of each owner of one side, and the best of these.
+use Rattle.std.specs.Prelude.{ℕ, ◌≡◌, ◌+◌, ◌-◌, ◌*◌, ◌≤◌, ◌<◌, ◌^◌, ◌⊎◌, List, Option, Some, None, slice_index_or}
 use Rattle.access_index.specs.declared.words.Head.{Head}
 
 -- a rank that a price can have, and a place that a word has bits for
@@ -20,9 +20,8 @@ head_word bank (Some head) = word_of head bank
 abbrev pub IsUpTo : Head → Head → Type 0
 IsUpTo head other = (head.rank < other.rank) ⊎ ((head.rank ≡ other.rank) × (head.place ≤ other.place))
 
--- a bank's best order, of those with which a line of so many units at least is left, and none of theirs is better
-pub record IsLeastHead (heads : List (Option Head)) (lines : List ℕ) (units bank : ℕ) (head : Head) : Type 0 where
-  pub within : bank < 64
+-- a bank's best order, of the first so many banks, and none of theirs is better
+pub record IsLeastHead (heads : List (Option Head)) (banks bank : ℕ) (head : Head) : Type 0 where
+  pub within : bank < banks
   pub there : slice_index_or heads bank None ≡ Some head
-  pub pays : units ≤ slice_index lines bank
-  pub first : (other : ℕ) (found : Head) → other < 64 → units ≤ slice_index lines other → slice_index_or heads other None ≡ Some found → IsUpTo head found
+  pub first : (other : ℕ) (found : Head) → other < banks → slice_index_or heads other None ≡ Some found → IsUpTo head found

@@ -43,11 +43,3 @@ pub record TellsHead (levels : ℕ → Level) (bank word : ℕ) : Type 0 where
 pub record AreHeadWords (levels : ℕ → ℕ → Level) (words : List ℕ) : Type 0 where
   pub count : length words ≡ 64
   pub tell : (bank : ℕ) → bank < 64 → TellsHead (levels bank) bank (slice_index words bank)
-
--- a bank's best order, of those with which a line of so many units at least is left, and no order of theirs is better
-pub record IsBestHead (owners : List (ℕ × Rungs)) (lines : List ℕ) (units bank : ℕ) (head : Head) : Type 0 where
-  pub within : bank < 64
-  pub pays : units ≤ slice_index lines bank
-  pub there : IsHeadOf (bank_level owners bank) (Some head)
-  pub best : (other rank : ℕ) → other < 64 → units ≤ slice_index lines other → (bank_level owners other rank).lots ≢ 0
-      → (head.rank < rank) ⊎ ((head.rank ≡ rank) × (head.place ≤ (bank_level owners other rank).first))

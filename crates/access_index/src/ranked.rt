@@ -1,8 +1,9 @@
-ghost use Rattle.std.specs.Prelude.{ℕ, ◌≡◌, ◌≢◌, ◌+◌, ◌-◌, ◌≤◌, ◌<◌, ◌==◌, ◌^◌, ◌&&◌, None, true, if◌then◌else◌, length, nat_eq, slice_index, slice_index_or, IfOk, IfSome, OnOk};
+ghost use Rattle.std.specs.Prelude.{ℕ, ◌≡◌, ◌≢◌, ◌+◌, ◌-◌, ◌≤◌, ◌<◌, ◌==◌, ◌^◌, ◌&&◌, None, true, if◌then◌else◌, length, nat_eq, slice_index_or, IfOk, IfSome, OnOk};
 ghost use Rattle.std.specs.Map.{lookup};
 ghost use Rattle.std.specs.Option.{option_copied};
 ghost use Rattle.price_levels.specs.Ticks.{last_of_level, no_level, with_order, without_order};
-ghost use Rattle.access_index.specs.Ranked.{AreHeadWords, IsBestHead, IsHeadOf, bank_holds, bank_level, with_bank_level};
+ghost use Rattle.access_index.specs.Heads.{IsHead};
+ghost use Rattle.access_index.specs.Ranked.{AreHeadWords, IsHeadOf, bank_holds, bank_level, with_bank_level};
 ghost use Rattle.access_index.specs.inside.Ranked.{AreNumbered, head_with};
 ghost use Rattle.price_levels.specs.Rungs.{IsNextRank, level_at};
 
@@ -169,21 +170,19 @@ impl RankedOwners {
         self.heads.words()
     }
 
+    /// The best order of each bank.
+    pub fn heads(&self) -> &HeadWords
+        ensures { (bank : ℕ) → bank < 64 → IsHeadOf (bank_level self.now bank) (slice_index_or result.now bank None) × IfSome (slice_index_or result.now bank None) IsHead }
+    {
+        &self.heads
+    }
+
     /// The best order of a bank; `None` where it has none.
     pub fn head(&self, bank: BankId) -> Option<Head>
         requires bank { bank < 64 }
         ensures { IsHeadOf (bank_level self.now bank) result }
     {
         self.heads.of(bank)
-    }
-
-    /// The best order of all banks with which a line of so many units at least is left, with its bank; `None` where none of these has an
-    /// order. There is a line for each bank.
-    pub fn least(&self, lines: &[u64; BankId::COUNT], units: u64) -> Option<(BankId, Head)>
-        ensures found { IfSome result (λ found. IsBestHead self.now lines.now units found.0 found.1) }
-        ensures none { result ≡ None → (bank rank : ℕ) → bank < 64 → units ≤ slice_index lines.now bank → (bank_level self.now bank rank).lots ≡ 0 }
-    {
-        self.heads.least(lines, units)
     }
 }
 

@@ -79,13 +79,22 @@ impl HeadWords {
         &self.words
     }
 
-    /// The best order of all banks with which a line of so many units at least is left, with its bank; `None` where none of these has an
-    /// order. There is a line for each bank.
-    pub fn least(&self, lines: &[u64; BankId::COUNT], units: u64) -> Option<(BankId, Head)>
-        ensures found { IfSome result (λ found. IsLeastHead self.now lines.now units found.0 found.1) }
-        ensures none { result ≡ None → (bank : ℕ) → bank < 64 → units ≤ slice_index lines.now bank → slice_index_or self.now bank None ≡ None }
+    /// The same heads once more.
+    pub fn copied(&self) -> Self
+        ensures same { result ≡ self.now }
+        ensures count { length result ≡ 64 }
     {
-        let least = least_word(&self.words, lines, units);
+        HeadWords { words: self.words }
+    }
+
+    /// The best order of the first so many banks, with its bank; `None` where none of these has an order.
+    pub fn least(&self, banks: usize) -> Option<(BankId, Head)>
+        requires banks { banks ≤ 64 }
+        ensures found { IfSome result (λ found. IsLeastHead self.now banks found.0 found.1) }
+        ensures none { result ≡ None → (bank : ℕ) → bank < banks → slice_index_or self.now bank None ≡ None }
+        ensures count { length self.now ≡ 64 }
+    {
+        let least = least_word(&self.words, banks);
         if least == NO_WORD {
             return None;
         }
@@ -114,21 +123,14 @@ fn word_of(head: Head, bank: BankId) -> u64
     (u64::from(head.rank) * (1 << 28) + u64::from(head.place)) * 64 + bank.index() as u64
 }
 
-/// The least word of the banks with which a line of so many units at least is left; `NO_WORD` where there is none.
-fn least_word(words: &[u64; BankId::COUNT], lines: &[u64; BankId::COUNT], units: u64) -> u64
-    ensures { IsLeastWord words.now lines.now units 64 result }
+/// The least of the words of the first so many banks; `NO_WORD` where there is none.
+fn least_word(words: &[u64; BankId::COUNT], banks: usize) -> u64
+    requires banks { banks ≤ 64 }
+    ensures { IsLeastWord words.now banks result }
 {
     let mut least = NO_WORD;
-    for bank in 0..BankId::COUNT {
-        least = least.min(open_word(words[bank], lines[bank] >= units));
+    for bank in 0..banks {
+        least = least.min(words[bank]);
     }
     least
-}
-
-/// A word where the line pays, and `NO_WORD` where it does not.
-fn open_word(word: u64, pays: bool) -> u64
-    ensures { result ≡ (if pays then word else 2 ^ 64 - 1) }
-{
-    let shut = if pays { 0 } else { NO_WORD };
-    word | shut
 }

@@ -103,20 +103,20 @@ fn far_levels_come_into_the_window(rt: HostRuntime) -> Result<(), Fail> {
 }
 
 #[test]
-fn the_best_order_in_reach_has_the_least_word(rt: HostRuntime) -> Result<(), Fail> {
+fn the_best_order_has_the_least_word(rt: HostRuntime) -> Result<(), Fail> {
     let mut words = HeadWords::new();
     for (owner, rank, place) in [(0, 7, 3), (1, 7, 2), (2, 5, 9)] {
         words.set(bank(owner), Some(Head { rank, place }));
     }
-    let mut lines = [100u64; BankId::COUNT];
-    lines[2] = 9;
-    let found = words.least(&lines, 10);
+    let found = words.least(2);
     assert!(rt;
         found.map(|(owner, head)| (owner.index(), head.rank, head.place)) == Some((1, 7, 2))
     );
+    let first = words.least(BankId::COUNT);
+    assert!(rt; first.map(|(owner, head)| (owner.index(), head.place)) == Some((2, 9)));
     words.set(bank(1), None);
-    let next = words.least(&lines, 10);
+    let next = words.least(2);
     assert!(rt; next.map(|(owner, head)| (owner.index(), head.place)) == Some((0, 3)));
-    assert!(rt; words.least(&lines, 101).is_none());
+    assert!(rt; words.least(0).is_none());
     Ok(())
 }

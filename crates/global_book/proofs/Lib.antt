@@ -13,6 +13,7 @@ mod Behind
 mod Pricing
 mod Owning
 mod Words
+mod Heading
 mod Stepping
 mod Crossing
 mod Owned

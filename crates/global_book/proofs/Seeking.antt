@@ -126,7 +126,7 @@ ahead-ended slots bank side before past next seeks is =
     λ place order at. false_from_ne_true (is_owned_behind (opposite side) bank before past order) (λ on. both_ways (seeks.rest order) (none place order at) (seeks.sought place order at on))
 
 -- Fewer orders are to come.
-fewer : (p q : Resting → Bool) (xs : List Resting) (x : Resting) → Among x xs → p x ≡ false → q x ≡ true → ((y : Resting) → p y ≡ true → q y ≡ true) → length (filter p xs) < length (filter q xs)
+pub fewer : (p q : Resting → Bool) (xs : List Resting) (x : Resting) → Among x xs → p x ≡ false → q x ≡ true → ((y : Resting) → p y ≡ true → q y ≡ true) → length (filter p xs) < length (filter q xs)
 fewer p q [] x there fails passes within = absurd there
 fewer p q (y ∷ ys) x there fails passes within =
     elim (cases_Bool (p y)) [

@@ -4,4 +4,5 @@ pub mod Room
 pub mod Behind
 pub mod Sought
 pub mod Words
+pub mod Heads
 pub mod inside

@@ -6,3 +6,4 @@ pub mod Owning
 pub mod Crossing
 pub mod Ahead
 pub mod Reaching
+pub mod Heads

@@ -1,8 +1,8 @@
 mod reaching;
+mod walking;
 
 ghost use Rattle.std.specs.Prelude.{◌≡◌, ◌+◌, ◌≤◌, ◌<◌, ◌^◌, ◌↔◌, ◌++◌, ◌∷◌, [], ℕ, None, true, false, filter, length, map, not, IfOk, IfSome, IsSome, IsSomeAnd, OnOk};
 ghost use Rattle.std.specs.Option.{option_copied};
-ghost use Rattle.fx_amounts.specs.Price.{crosses};
 ghost use Rattle.fx_amounts.specs.Side.{opposite};
 ghost use Rattle.fx_rules.specs.Lists.{Each};
 ghost use Rattle.fx_rules.specs.Sweep.{IsBest, is_order};
@@ -305,31 +305,6 @@ impl PairBook {
                 return Some(order);
             }
             next = self.next_best(bank, side, Some(&order), steps);
-        }
-        None
-    }
-
-    /// The best order of a bank and a side within a limit, among those that arrived before `before` and stand behind the order `past`;
-    /// `None` where the limit allows the price of none of these. One step, and one for each order that arrived too late.
-    pub fn best_within<L: Ledger>(
-        &self,
-        bank: BankId,
-        side: Side,
-        limit: Price,
-        before: u64,
-        past: Option<&Resting>,
-        steps: &mut Steps<L>,
-    ) -> Option<Resting>
-        requires past { IfSome (option_copied past) (IsCursor self.now.orders bank side) }
-        ensures none { result ≡ None → Each (λ order. crosses (opposite side) limit order.price ≡ false) (owned_behind side bank before (option_copied past.entry) self.now.orders) }
-        ensures best { IfSome result (IsBest (opposite side) (owned_behind side bank before (option_copied past.entry) self.now.orders)) }
-        ensures allowed { IfSome result (λ found. crosses (opposite side) limit found.price ≡ true) }
-        ensures steps { AreInTime side before self.now.orders → steps.new ≤ steps.old + 1 }
-        ensures valid { IsBook self.now }
-    {
-        let order = self.best_of(bank, side, before, past, steps)?;
-        if limit.crosses(order.price, side.opposite()) {
-            return Some(order);
         }
         None
     }

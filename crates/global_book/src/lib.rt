@@ -5,7 +5,9 @@ mod ahead;
 mod book;
 mod linked;
 mod owner_list;
+mod side_heads;
 mod side_ladders;
 
 pub use book::PairBook;
+pub use side_heads::SideHeads;
 pub use side_ladders::{price_at, rank_of};

@@ -1,11 +1,12 @@
-ghost use Rattle.std.specs.Prelude.{ℕ, ◌≡◌, ◌≢◌, ◌+◌, ◌-◌, ◌≤◌, ◌<◌, ◌^◌, ◌++◌, ◌∷◌, [], None, Some, true, filter, is_some, length, min, slice_set, IfOk, IfSome, IsSome, IsSomeAnd, OnErr, OnOk};
+ghost use Rattle.std.specs.Prelude.{ℕ, ◌≡◌, ◌≢◌, ◌+◌, ◌-◌, ◌≤◌, ◌<◌, ◌^◌, ◌++◌, ◌∷◌, [], None, Some, true, filter, is_some, length, min, slice_index_or, slice_set, IfOk, IfSome, IsSome, IsSomeAnd, OnErr, OnOk};
 ghost use Rattle.fx_amounts.specs.declared.side.Side.{Side as OneSide};
 ghost use Rattle.order_store.specs.Orders.{IsOf, KeepsRoom, Lacks, TakesRoom, kept, order_at, room_for};
 ghost use Rattle.order_store.specs.Linked.{AreListed, HasFrom, IsFirstFrom};
 ghost use Rattle.price_levels.specs.Rungs.{IsNextRank};
 ghost use Rattle.price_levels.specs.Ticks.{with_order};
 ghost use Rattle.fx_amounts.specs.Side.{opposite};
-ghost use Rattle.access_index.specs.Ranked.{AreHeadWords, bank_holds, bank_level, with_bank_level};
+ghost use Rattle.access_index.specs.Heads.{IsHead};
+ghost use Rattle.access_index.specs.Ranked.{AreHeadWords, IsHeadOf, bank_holds, bank_level, with_bank_level};
 ghost use Rattle.global_book.specs.Room.{ladders_of, rank_of};
 ghost use Rattle.std.specs.Option.{option_copied};
 ghost use Rattle.global_book.specs.Behind.{IsCursor};
@@ -15,6 +16,7 @@ ghost use Rattle.global_book.specs.inside.Bests.{IsBestOf, is_own_behind, is_own
 
 use crate::owner_list::OwnerList;
 use crate::side_ladders::{SideLadders, rank_of};
+use access_index::HeadWords;
 use fx_amounts::{BankId, Lots, Memory, Price, Side};
 use fx_rules::Resting;
 use order_store::OrderList;
@@ -207,6 +209,15 @@ impl LinkedOrders {
         ensures valid { AreListed self.now.orders }
     {
         self.ladders.words(side)
+    }
+
+    /// Where the best order of each bank of a side stands.
+    pub(crate) fn heads(&self, side: Side) -> &HeadWords
+        ensures heads { (bank : ℕ) → bank < 64 → IsHeadOf (bank_level (ladders_of self.now.ladders side) bank) (slice_index_or result.now bank None) × IfSome (slice_index_or result.now bank None) IsHead }
+        ensures linked { AreLinked self.now.orders.slots self.now.ladders }
+        ensures valid { AreListed self.now.orders }
+    {
+        self.ladders.heads(side)
     }
 
     /// The place of the best order of a bank and a side, of those from a rank on; `None` where there is none.

@@ -1,13 +1,14 @@
-ghost use Rattle.std.specs.Prelude.{ℕ, ◌≡◌, ◌≢◌, ◌+◌, ◌-◌, ◌≤◌, ◌<◌, ◌^◌, ◌↔◌, None, false, true, IfOk, IfSome, IsSome, OnOk};
+ghost use Rattle.std.specs.Prelude.{ℕ, ◌≡◌, ◌≢◌, ◌+◌, ◌-◌, ◌≤◌, ◌<◌, ◌^◌, ◌↔◌, None, false, slice_index_or, true, IfOk, IfSome, IsSome, OnOk};
 ghost use Rattle.fx_amounts.specs.Price.{IsPrice};
 ghost use Rattle.fx_amounts.specs.Side.{opposite};
 ghost use Rattle.fx_amounts.specs.declared.side.Side.{Side as OneSide};
 ghost use Rattle.price_levels.specs.Rungs.{IsNextRank};
 ghost use Rattle.price_levels.specs.Ticks.{last_of_level, no_level, with_order, without_order};
-ghost use Rattle.access_index.specs.Ranked.{AreHeadWords, bank_holds, bank_level, with_bank_level};
+ghost use Rattle.access_index.specs.Heads.{IsHead};
+ghost use Rattle.access_index.specs.Ranked.{AreHeadWords, IsHeadOf, bank_holds, bank_level, with_bank_level};
 ghost use Rattle.global_book.specs.Room.{ladders_of, rank_of};
 
-use access_index::RankedOwners;
+use access_index::{HeadWords, RankedOwners};
 use fx_amounts::{BankId, Lots, Memory, Price, Side};
 use price_levels::Level;
 use std::alloc::Global;
@@ -87,6 +88,16 @@ impl SideLadders {
         match side {
             Side::Buy => self.bids.words(),
             Side::Sell => self.asks.words(),
+        }
+    }
+
+    /// Where the best order of each bank of a side stands.
+    pub(crate) fn heads(&self, side: Side) -> &HeadWords
+        ensures { (bank : ℕ) → bank < 64 → IsHeadOf (bank_level (ladders_of self.now side) bank) (slice_index_or result.now bank None) × IfSome (slice_index_or result.now bank None) IsHead }
+    {
+        match side {
+            Side::Buy => self.bids.heads(),
+            Side::Sell => self.asks.heads(),
         }
     }
 

@@ -1,6 +1,5 @@
 mod Passed
 pub mod Tables
-pub mod Finding
 mod Wording
 pub mod Planning
 pub mod Picking
@@ -12,6 +11,5 @@ pub mod LevelSteps
 mod LevelOpening
 mod Ranking
 pub mod Walking
-mod Beginning
 pub mod Lowering
 pub mod OfBook

@@ -1,110 +1,34 @@
--- A walk's step: all heads are found, the best of them that may be taken is taken, and the other heads stay.
-use Rattle.std.proofs.Common.{ℕ, ◌≡◌, ◌≢◌, ◌-◌, ◌*◌, ◌/◌, ◌≤◌, ◌<◌, min, true, false, leb, List, [], ◌∷◌, ◌++◌, inl, inr, refl, ap, sym, subst, ◌∙◌, arith, length, get_or, slice_index, Option, Some, None, get_or-set_other}
+-- A walk's step: heads are passed, the best of those that may be taken is taken, and the other heads stay.
+use Rattle.std.proofs.Common.{ℕ, ◌≡◌, ◌≢◌, ◌+◌, ◌-◌, ◌*◌, ◌/◌, ◌≤◌, ◌<◌, ◌^◌, min, true, false, ◌&&◌, eqb, leb, ltb, List, [], ◌∷◌, ◌⊎◌, inl, inr, refl, ap, sym, subst, ◌∙◌, arith, length, get_or, slice_index, Option, Some, None, get_or-set_other, get_or-set_same}
 use Rattle.std.proofs.Math.ListN.{set}
-use Rattle.std.proofs.Math.Nat.{le-div_iff_mul-le}
-use Rattle.std.proofs.lemmas.Bool.{and_parts, and_cases, and_from, both_ways, false_from_ne_true, leb-true, le-leb}
-use Rattle.std.proofs.lemmas.List.Elements.{Contains-append_left, Contains-push, Contains-push_cases}
+use Rattle.std.proofs.Math.Nat.{le-div_iff_mul-le, mul-le-mul_left, div-mul-le_self}
+use Rattle.std.proofs.lemmas.Bool.{and_parts, and_from, both_ways, cases_eq, cases_lt, cond-false, cond-true, eq-eqb, eqb-true, lt-ltb, ne_eqb}
+use Rattle.std.proofs.lemmas.List.{get_or_past, length-set}
 use Rattle.std.specs.List.{Contains}
+use Rattle.std.specs.Option.{IfSome, IsSomeAnd}
 use Rattle.fx_amounts.specs.Side.{opposite}
 use Rattle.fx_amounts.specs.declared.side.Side.{Side}
-use Rattle.fx_amounts.specs.declared.side.Side.TheVariants.{Buy, Sell}
 use Rattle.fx_amounts.specs.Price.{crosses}
 use Rattle.fx_amounts.specs.Quantity.{IsWeight}
 use Rattle.fx_rules.specs.declared.orders.Resting.{Resting}
 use Rattle.fx_rules.specs.declared.orders.Fill.{Fill}
-use Rattle.fx_rules.specs.Lists.{Among}
-use Rattle.fx_rules.specs.Sweep.{IsBest, is_opposite, is_preferred, amount, fill_with, less}
-use Rattle.fx_rules.specs.Plan.{open_behind}
-use Rattle.fx_rules.proofs.ListLemmas.{Each-among}
-use Rattle.fx_rules.proofs.Planning.{div_none}
-use Rattle.fx_rules.proofs.Preference.{preferred_self, preferred_trans}
-use Rattle.global_book.specs.Book.{AreOwners, Book, IsBook, IsHeld}
-use Rattle.match_sweep.specs.inside.Heads.{IsFound, to_come, AreHeads}
-use Rattle.match_sweep.specs.inside.Walks.{WholeWalk, FromHere, LeadsOn, StepsOn, IsReady, IsRenewed, IsPicked, Takes, IsPickedAt, may_take, may_take_head, is_ahead, leads, head_of, reach_of, steps_behind}
-use Rattle.match_sweep.proofs.Tables.{none-kept}
-use Rattle.match_sweep.proofs.Planning.{walk-step, within_table}
-use Rattle.match_sweep.proofs.Picking.{picked-best, picked-none, heads-stay, among_to_come, open-to_come}
-
--- The best of the banks, when one more is looked at.
-
-ahead_self : (side : Side) (a : Option Resting) → is_ahead side a a ≡ false
-ahead_self side None = refl
-ahead_self side (Some head) = false_from_ne_true (is_preferred side head head) (preferred_self side head)
-
-ahead_trans : (side : Side) (a b c : Option Resting) → is_ahead side a b ≡ true → is_ahead side b c ≡ true → is_ahead side a c ≡ true
-ahead_trans side (Some a) (Some b) (Some c) first second = preferred_trans side a b c first second
-ahead_trans side None b c first second = absurd (cc)
-ahead_trans side (Some a) None c first second = absurd (cc)
-ahead_trans side (Some a) (Some b) None first second = absurd (cc)
-
-not_ahead_self : (walk : WholeWalk) (n bank : ℕ) → bank ≡ n → is_ahead walk.order.side (head_of walk bank) (head_of walk n) ≡ false
-not_ahead_self walk n bank same =
-    subst (λ (b : ℕ). is_ahead walk.order.side (head_of walk b) (head_of walk n) ≡ false) (sym same) (ahead_self walk.order.side (head_of walk n))
-
--- the next bank leads
-pub picked-lead : (walk : WholeWalk) (banks : List ℕ) (n : ℕ) (best : Option ℕ) → n < 64 → IsPickedAt walk banks best → leads walk n best ≡ true → IsPickedAt walk (banks ++ n ∷ []) (Some n)
-picked-lead walk banks n None within picked lead = (
-  Contains-push banks n,
-  within,
-  lead,
-  λ bank below may. elim (Contains-push_cases banks n bank below) [
-    | inr same ↦ not_ahead_self walk n bank (sym same)
-    | inl before ↦ absurd (both_ways (may_take_head walk bank (head_of walk bank)) (picked bank before) may)
-  ],
-)
-picked-lead walk banks n (Some best) within picked lead =
-    let side : Side = walk.order.side in
-    let parts = and_parts (may_take_head walk n (head_of walk n)) (is_ahead side (head_of walk n) (head_of walk best)) lead in (
-      Contains-push banks n,
-      within,
-      parts.0,
-      λ bank below may. elim (Contains-push_cases banks n bank below) [
-        | inr same ↦ not_ahead_self walk n bank (sym same)
-        | inl before ↦ false_from_ne_true (is_ahead side (head_of walk bank) (head_of walk n)) (λ above.
-            both_ways (is_ahead side (head_of walk bank) (head_of walk best)) (picked.3 bank before may)
-            (ahead_trans side (head_of walk bank) (head_of walk n) (head_of walk best) above parts.1))
-      ],
-    )
-
--- it does not
-pub picked-stay : (walk : WholeWalk) (banks : List ℕ) (n : ℕ) (best : Option ℕ) → IsPickedAt walk banks best → leads walk n best ≡ false → IsPickedAt walk (banks ++ n ∷ []) best
-picked-stay walk banks n None picked stay =
-    λ bank below. elim (Contains-push_cases banks n bank below) [
-      | inr same ↦ subst (λ (b : ℕ). may_take_head walk b (head_of walk b) ≡ false) same stay
-      | inl before ↦ picked bank before
-    ]
-picked-stay walk banks n (Some best) picked stay = (
-  Contains-append_left banks (n ∷ []) best picked.0,
-  picked.1,
-  picked.2,
-  λ bank below may. elim (Contains-push_cases banks n bank below) [
-    | inr same ↦
-        subst (λ (b : ℕ). is_ahead walk.order.side (head_of walk b) (head_of walk best) ≡ false) same
-        (elim (and_cases (may_take_head walk n (head_of walk n)) (is_ahead walk.order.side (head_of walk n) (head_of walk best)) stay) [
-          | inl not_taken ↦ absurd (both_ways (may_take_head walk n (head_of walk n)) not_taken (subst (λ (b : ℕ). may_take_head walk b (head_of walk b) ≡ true) (sym same) may))
-          | inr behind ↦ behind
-        ])
-    | inl before ↦ picked.3 bank before may
-  ],
-)
-
--- A walk with all its heads.
-
-pub record IsSet (book : Book) (walk : WholeWalk) : Type 0 where
-  pub few : book.banks ≤ 64
-  pub bank : walk.order.bank < book.banks
-  pub weight : IsWeight walk.weight
-  pub own : slice_index walk.lines walk.order.bank ≡ 0
-  pub heads : AreHeads (reach_of walk) walk.order walk.last book.orders book.banks (head_of walk)
-
-pub renewed-set : (book : Book) (old new : WholeWalk) → IsReady book old → IsRenewed book old new → IsSet book new
-renewed-set book old new ready renewed = record {
-  few = ready.few;
-  bank = subst (λ (w : WholeWalk). w.order.bank < book.banks) (sym renewed.same) ready.bank;
-  weight = subst (λ (w : WholeWalk). IsWeight w.weight) (sym renewed.same) ready.weight;
-  own = subst (λ (w : WholeWalk). slice_index w.lines w.order.bank ≡ 0) (sym renewed.same) ready.own;
-  heads = renewed.heads;
-}
+use Rattle.fx_rules.specs.Lists.{Among, Each}
+use Rattle.fx_rules.specs.Sweep.{Taker, IsBest, is_open, is_opposite, is_preferred, amount, fill_with, less}
+use Rattle.fx_rules.specs.Plan.{Planned, is_behind, open_behind, spend}
+use Rattle.fx_rules.proofs.ListLemmas.{Among-filter, Each-among, Each-of, among_filter}
+use Rattle.fx_rules.proofs.Opens.{IsOpen, is_open-says}
+use Rattle.fx_rules.proofs.Planning.{div_none, open_parts}
+use Rattle.fx_rules.proofs.Preference.{preferred_trans}
+use Rattle.global_book.specs.Behind.{is_owned_behind, owned_behind}
+use Rattle.global_book.specs.Book.{AreOwners, Book, IsBook, IsHeld, is_of}
+use Rattle.global_book.specs.Heads.{Heads, IsLeast, IsNext, PassesHead, head_in, with_head}
+use Rattle.global_book.proofs.Sought.{opposite-opposite}
+use Rattle.global_book.proofs.Within.{crosses_too}
+use Rattle.credit_lines.specs.Credit.{Credit, line_in}
+use Rattle.match_sweep.specs.inside.Walks.{ComesTo, FromHere, HasCome, IsHeadOf, IsWalk, LeadsOn, MayTake, Takes, left_with, open_from, reach_of}
+use Rattle.match_sweep.specs.declared.walk.Walk.{Walk}
+use Rattle.match_sweep.proofs.Planning.{planned-agrees}
+use Rattle.match_sweep.proofs.Picking.{none_among, not_before_first, same_or_before, still_behind}
 
 pub pays : (line weight : ℕ) → IsWeight weight → weight ≤ line → 1 ≤ line / weight
 pays line weight is fits = (le-div_iff_mul-le {k = weight} {x = 1} {y = line} (omega (arith, is.0))).1 (omega (arith, fits))
@@ -115,145 +39,378 @@ paid_for line weight is some = omega (arith, (le-div_iff_mul-le {k = weight} {x 
 pub owners : (book : Book) → IsBook book → (o : Resting) → Among o book.orders → o.bank < book.banks
 owners book is o there = let held : IsHeld book.banks o = Each-among (IsHeld book.banks) book.orders o is.held there in held.bank
 
--- an order is the best of those that are open to a walk
-pub record Chosen (book : Book) (walk : WholeWalk) (found : Resting) : Type 0 where
-  pub best : IsBest walk.order.side (open_behind (reach_of walk) walk.order walk.last book.orders) found
-  pub line : walk.weight ≤ slice_index walk.lines found.bank
-
 -- a bank with an order is one of the book's
 pub owner_within : (book : Book) (owners_now : List ℕ) (bank : ℕ) → IsBook book → AreOwners book owners_now → Contains owners_now bank → bank < book.banks
 owner_within book owners_now bank is are there =
     let it = are.owns bank there in
     omega (arith, owners book is it.0 it.1, it.2)
 
-pub set-chosen : (book : Book) (walk : WholeWalk) (owners_now : List ℕ) (found : Resting) → IsBook book → AreOwners book owners_now → IsSet book walk → IsPicked walk owners_now (Some found) → Chosen book walk found
-set-chosen book walk owners_now found is are set_is picked =
-    let at : ℕ = picked.0.at in
-    let may = and_parts (leb walk.weight (slice_index walk.lines at)) (crosses walk.order.side walk.order.price found.price) picked.0.may in
-    let fits : walk.weight ≤ slice_index walk.lines at = leb-true walk.weight (slice_index walk.lines at) may.0 in
-    let some : 1 ≤ reach_of walk at = pays (slice_index walk.lines at) walk.weight set_is.weight fits in
-    let head = subst (IsFound walk.order (to_come walk.order at walk.last book.orders)) picked.0.is (set_is.heads at (owner_within book owners_now at is are picked.0.within) some) in
-    let there = head.there in
-    let owner : found.bank ≡ at = (among_to_come walk.order at walk.last book.orders found there).1.owner in
-    record {
-      best = picked-best owners_now (reach_of walk) walk.order walk.last book.orders book.banks (head_of walk) found.bank found (record {
-        rising = is.rising;
-        owners = owners book is;
-        listed = λ o there. Each-among (λ (q : Resting). Contains owners_now q.bank) book.orders o are.all there;
-        own = ap (λ n. n / walk.weight) set_is.own ∙ div_none 0 walk.weight (omega (arith, set_is.weight.0));
-        heads_are = set_is.heads;
-        there = subst (λ (b : ℕ). Among found (to_come walk.order b walk.last book.orders)) (sym owner) there;
-        reach = subst (λ (b : ℕ). 1 ≤ reach_of walk b) (sym owner) some;
-        crosses = may.1;
-        none_before = λ bank head' within head_is reach crossing. picked.1 bank head' within head_is
-            (and_from (leb walk.weight (slice_index walk.lines bank)) (crosses walk.order.side walk.order.price head'.price)
-            (le-leb walk.weight (slice_index walk.lines bank) (paid_for (slice_index walk.lines bank) walk.weight set_is.weight reach)) crossing);
-      });
-      line = subst (λ (b : ℕ). walk.weight ≤ slice_index walk.lines b) (sym owner) fits;
+-- The next order of a bank.
+
+-- it is one of the bank's, behind the one that was passed
+pub record IsOneOf (taker : Side) (bank : ℕ) (past : Option Resting) (orders : List Resting) (o : Resting) : Type 0 where
+  pub there : Among o orders
+  pub owner : o.bank ≡ bank
+  pub opposite : is_opposite taker o.side ≡ true
+  pub behind : is_behind taker past o ≡ true
+
+module _ (side taker : Side) (bank : ℕ) (past : Option Resting) (orders : List Resting) (turned : opposite side ≡ taker) where
+  one-of : (o : Resting) → Among o (owned_behind side bank (2 ^ 64) past orders) → IsOneOf taker bank past orders o
+  one-of o there =
+      let it = Among-filter (is_owned_behind (opposite side) bank (2 ^ 64) past) orders o there in
+      let test = subst (λ (s : Side). is_owned_behind s bank (2 ^ 64) past o ≡ true) turned it.1 in
+      let last = and_parts (is_opposite taker o.side && is_of bank o && ltb o.arrival (2 ^ 64)) (is_behind taker past o) test in
+      let early = and_parts (is_opposite taker o.side && is_of bank o) (ltb o.arrival (2 ^ 64)) last.0 in
+      let own = and_parts (is_opposite taker o.side) (is_of bank o) early.0 in
+      record { there = it.0; owner = eqb-true o.bank bank own.1; opposite = own.0; behind = last.1 }
+
+  of-one : (o : Resting) → IsOneOf taker bank past orders o → o.arrival < 2 ^ 64 → Among o (owned_behind side bank (2 ^ 64) past orders)
+  of-one o is few =
+      among_filter (is_owned_behind (opposite side) bank (2 ^ 64) past) orders o is.there
+      (subst (λ (s : Side). is_owned_behind s bank (2 ^ 64) past o ≡ true) (sym turned)
+      (and_from (is_opposite taker o.side && is_of bank o && ltb o.arrival (2 ^ 64)) (is_behind taker past o)
+      (and_from (is_opposite taker o.side && is_of bank o) (ltb o.arrival (2 ^ 64))
+      (and_from (is_opposite taker o.side) (is_of bank o) is.opposite (eq-eqb o.bank bank is.owner)) (lt-ltb o.arrival (2 ^ 64) few)) is.behind))
+
+  pub next-is : (found : Option Resting) → IsNext side bank past orders found → IfSome found (IsOneOf taker bank past orders)
+  next-is None next = tt
+  next-is (Some head) next = one-of head next.there
+
+  -- none of them stands before it
+  pub next-first : (found : Option Resting) → IsNext side bank past orders found → (o : Resting) → IsOneOf taker bank past orders o → o.arrival < 2 ^ 64
+      → IsSomeAnd found (λ (h : Resting). is_preferred taker o h ≡ false)
+  next-first None next o is few = absurd (subst (Among o) next (of-one o is few))
+  next-first (Some head) next o is few =
+      subst (λ (s : Side). is_preferred s o head ≡ false) turned
+      (Each-among (λ (q : Resting). is_preferred (opposite side) q head ≡ false) (owned_behind side bank (2 ^ 64) past orders) o next.first (of-one o is few))
+
+-- The heads of a walk.
+
+some-is : (found : Option Resting) (P : Resting → Type 0) → IsSomeAnd found P → (h : Resting) × (found ≡ Some h) × P h
+some-is None P none = absurd none
+some-is (Some h) P holds = (h, refl, holds)
+
+is-some : (found : Option Resting) (P : Resting → Type 0) (h : Resting) → found ≡ Some h → P h → IsSomeAnd found P
+is-some found P h is holds = subst (λ (f : Option Resting). IsSomeAnd f P) (sym is) holds
+
+if-is : (found : Option Resting) (P : Resting → Type 0) (h : Resting) → found ≡ Some h → IfSome found P → P h
+if-is found P h is holds = subst (λ (f : Option Resting). IfSome f P) is holds
+
+if-all : (found : Option Resting) (P : Resting → Type 0) → ((h : Resting) → found ≡ Some h → P h) → IfSome found P
+if-all None P all = tt
+if-all (Some h) P all = all h refl
+
+pub turned : (credit : Credit) (walk : Walk) → IsWalk credit walk → opposite walk.heads.side ≡ walk.order.side
+turned credit walk is = ap opposite is.side ∙ opposite-opposite walk.order.side
+
+module _ (credit : Credit) (walk : Walk) (is : IsWalk credit walk) where
+  pub head-of : (bank : ℕ) (head : Resting) → head_in walk.heads bank ≡ Some head → IsHeadOf walk.order.side walk.heads.orders bank head
+  head-of bank head at = if-is (head_in walk.heads bank) (IsHeadOf walk.order.side walk.heads.orders bank) head at (is.heads bank)
+
+  pub head-small : (bank : ℕ) (head : Resting) → head_in walk.heads bank ≡ Some head → bank < 64
+  head-small bank head at = elim (cases_lt bank 64) [
+    | inl small ↦ small
+    | inr past ↦ absurd (none-some (sym (get_or_past walk.heads.next bank None (omega (arith, is.count, past))) ∙ at))
+  ]
+    where
+      none-some : None ≡ Some head → ⊥
+      none-some e = cc
+
+  pub held-of : (o : Resting) → Among o walk.heads.orders → IsHeld credit.banks o
+  held-of o there = Each-among (IsHeld credit.banks) walk.heads.orders o is.held there
+
+  -- the bank with the best head is one of those of the lines
+  pub least-bank : (limit bank : ℕ) → IsLeast walk.heads limit bank → bank < credit.banks
+  least-bank limit bank least = let head = head-of bank least.head least.is in omega (arith, (held-of least.head head.there).bank, head.owner)
+
+  -- the head of a bank that is another one than the walk's own, with which the line pays for a lot, may be taken
+  pub least-may : (bank : ℕ) (maker : Resting) → IsLeast walk.heads walk.order.price bank → Some maker ≡ head_in walk.heads bank → bank ≢ walk.order.bank → walk.weight ≤ left_with credit walk bank → MayTake credit walk maker
+  least-may bank maker least seen other line =
+      let head = head-of bank maker (sym seen) in
+      let same : least.head ≡ maker = some_same least.head maker (sym least.is ∙ sym seen) in
+      record {
+        is = ap (head_in walk.heads) head.owner ∙ sym seen;
+        other = λ own. other (sym head.owner ∙ own);
+        within = (held-of maker head.there).bank;
+        line = subst (λ (b : ℕ). walk.weight ≤ left_with credit walk b) (sym head.owner) line;
+        first = λ other'. if-all (head_in walk.heads other') (λ (h : Resting). is_preferred walk.order.side h maker ≡ false) (λ h at.
+            subst (λ (m : Resting). is_preferred walk.order.side h m ≡ false) same (subst (λ (s : Side). is_preferred s h least.head ≡ false) (turned credit walk is) (least.first other' h at)));
+      }
+    where
+      some_same : (a b : Resting) → Some a ≡ Some b → a ≡ b
+      some_same a b is = cc
+
+  pub least-crosses : (bank : ℕ) (maker : Resting) → IsLeast walk.heads walk.order.price bank → Some maker ≡ head_in walk.heads bank → crosses walk.order.side walk.order.price maker.price ≡ true
+  least-crosses bank maker least seen =
+      subst (λ (m : Resting). crosses walk.order.side walk.order.price m.price ≡ true) (some_same least.head maker (sym least.is ∙ sym seen))
+      (subst (λ (s : Side). crosses s walk.order.price least.head.price ≡ true) (turned credit walk is) least.allowed)
+    where
+      some_same : (a b : Resting) → Some a ≡ Some b → a ≡ b
+      some_same a b is = cc
+
+  -- One head is another one.
+
+  module _ (bank : ℕ) (next : Option Resting) (small : bank < 64) where
+    set-here : head_in (with_head walk.heads bank next) bank ≡ next
+    set-here = get_or-set_same walk.heads.next bank next None (omega (arith, small, is.count))
+
+    set-other : (other : ℕ) → other ≢ bank → head_in (with_head walk.heads bank next) other ≡ head_in walk.heads other
+    set-other other differ = get_or-set_other walk.heads.next bank other next None differ
+
+    -- what holds of the new head and of the others holds of all
+    if-set : (P : ℕ → Resting → Type 0) → IfSome next (P bank) → ((other : ℕ) → other ≢ bank → IfSome (head_in walk.heads other) (P other)) → (other : ℕ) → IfSome (head_in (with_head walk.heads bank next) other) (P other)
+    if-set P here there other = elim (cases_eq other bank) [
+      | inl same ↦ subst (λ (b : ℕ). IfSome (head_in (with_head walk.heads bank next) b) (P b)) (sym same) (subst (λ (f : Option Resting). IfSome f (P bank)) (sym set-here) here)
+      | inr differ ↦ subst (λ (f : Option Resting). IfSome f (P other)) (sym (set-other other differ)) (there other differ)
+    ]
+
+    and-set : (P : Resting → Type 0) → (other : ℕ) → (other ≡ bank → IsSomeAnd next P) → (other ≢ bank → IsSomeAnd (head_in walk.heads other) P) → IsSomeAnd (head_in (with_head walk.heads bank next) other) P
+    and-set P other here there = elim (cases_eq other bank) [
+      | inl same ↦ subst (λ (b : ℕ). IsSomeAnd (head_in (with_head walk.heads bank next) b) P) (sym same) (subst (λ (f : Option Resting). IsSomeAnd f P) (sym set-here) (here same))
+      | inr differ ↦ subst (λ (f : Option Resting). IsSomeAnd f P) (sym (set-other other differ)) (there differ)
+    ]
+
+    -- the walk is one still
+    pub walk-set : IfSome next (IsOneOf walk.order.side bank None walk.heads.orders) → IsWalk credit (record walk { heads = with_head walk.heads bank next })
+    walk-set own = record {
+      rising = is.rising;
+      held = is.held;
+      bank = is.bank;
+      weight = is.weight;
+      side = is.side;
+      count = length-set walk.heads.next bank next ∙ is.count;
+      full = is.full;
+      used = is.used;
+      heads = if-set (IsHeadOf walk.order.side walk.heads.orders) (if-all next (IsHeadOf walk.order.side walk.heads.orders bank) (λ h at.
+          let it = if-is next (IsOneOf walk.order.side bank None walk.heads.orders) h at own in
+          record { there = it.there; owner = it.owner; opposite = it.opposite })) (λ other differ. is.heads other);
     }
 
--- where none is picked nothing is open
-pub set-none : (book : Book) (walk : WholeWalk) (owners_now : List ℕ) → IsBook book → AreOwners book owners_now → IsSet book walk → IsPicked walk owners_now None → FromHere book walk [] walk.order.left
-set-none book walk owners_now is are set_is picked = (
-  refl,
-  inr (picked-none owners_now (reach_of walk) walk.order walk.last book.orders book.banks (head_of walk) (owners book is) (λ o there. Each-among (λ (q : Resting). Contains owners_now q.bank) book.orders o are.all there) set_is.heads
-      (λ bank head within head_is reach. false_from_ne_true (crosses walk.order.side walk.order.price head.price) (λ crossing.
-      both_ways (may_take walk bank head) (picked bank head within head_is)
-      (and_from (leb walk.weight (slice_index walk.lines bank)) (crosses walk.order.side walk.order.price head.price)
-      (le-leb walk.weight (slice_index walk.lines bank) (paid_for (slice_index walk.lines bank) walk.weight set_is.weight reach)) crossing)))),
-)
+  -- A bank is shut.
+  pub shut-come : (bank : ℕ) (last : Option Resting) → bank < 64 → reach_of credit walk bank ≡ 0 ⊎ (bank ≡ walk.order.bank) → HasCome credit walk last → HasCome credit (record walk { heads = with_head walk.heads bank None }) last
+  shut-come bank last small shut come = record {
+    behind = if-set bank None small (λ _ (h : Resting). is_behind walk.order.side last h ≡ true) tt (λ other differ. come.behind other);
+    all = λ o there opens behind. and-set bank None small (λ (h : Resting). is_preferred walk.order.side o h ≡ false) o.bank
+        (λ same. let says = is_open-says walk.order (reach_of credit walk o.bank) o opens in elim shut [
+          | inl none ↦ absurd (omega (arith, says.reach, none, ap (reach_of credit walk) same))
+          | inr own ↦ absurd (says.other (same ∙ own))
+        ])
+        (λ differ. come.all o there opens behind);
+  }
+
+  -- A head is passed.
+  module _ (bank : ℕ) (maker : Resting) (heads : Heads) (small : bank < 64) (at : head_in walk.heads bank ≡ Some maker) (passes : PassesHead walk.heads heads bank) where
+    next-of : IsNext walk.heads.side bank (Some maker) walk.heads.orders passes.head
+    next-of = if-is (head_in walk.heads bank) (λ (p : Resting). IsNext walk.heads.side bank (Some p) walk.heads.orders passes.head) maker at passes.next
+
+    next-one : IfSome passes.head (IsOneOf walk.order.side bank (Some maker) walk.heads.orders)
+    next-one = next-is walk.heads.side walk.order.side bank (Some maker) walk.heads.orders (turned credit walk is) passes.head next-of
+
+    pub walk-passed : IsWalk credit (record walk { heads = heads })
+    walk-passed =
+        subst (λ (h : Heads). IsWalk credit (record walk { heads = h })) (sym passes.is)
+        (walk-set bank passes.head small (if-all passes.head (IsOneOf walk.order.side bank None walk.heads.orders) (λ h here.
+        let it = if-is passes.head (IsOneOf walk.order.side bank (Some maker) walk.heads.orders) h here next-one in
+        record { there = it.there; owner = it.owner; opposite = it.opposite; behind = refl })))
+
+    -- an order of the bank behind the head that is passed does not stand before the next one
+    next-covers : (o : Resting) → Among o walk.heads.orders → o.bank ≡ bank → is_opposite walk.order.side o.side ≡ true → is_preferred walk.order.side maker o ≡ true
+        → IsSomeAnd passes.head (λ (h : Resting). is_preferred walk.order.side o h ≡ false)
+    next-covers o there owner opp behind =
+        next-first walk.heads.side walk.order.side bank (Some maker) walk.heads.orders (turned credit walk is) passes.head next-of o
+        (record { there = there; owner = owner; opposite = opp; behind = behind }) (held-of o there).arrival_most
+
+    -- it arrived too late
+    pub late-come : (last : Option Resting) → walk.order.arrival ≤ maker.arrival → HasCome credit walk last → HasCome credit (record walk { heads = heads }) last
+    late-come last late come =
+        subst (λ (h : Heads). HasCome credit (record walk { heads = h }) last) (sym passes.is)
+        (record {
+          behind = if-set bank passes.head small (λ _ (h : Resting). is_behind walk.order.side last h ≡ true)
+              (if-all passes.head (λ (h : Resting). is_behind walk.order.side last h ≡ true) (λ h here.
+              still_behind walk.order.side last maker h (if-is (head_in walk.heads bank) (λ (q : Resting). is_behind walk.order.side last q ≡ true) maker at (come.behind bank))
+              (if-is passes.head (IsOneOf walk.order.side bank (Some maker) walk.heads.orders) h here next-one).behind))
+              (λ other differ. come.behind other);
+          all = λ o there opens behind. and-set bank passes.head small (λ (h : Resting). is_preferred walk.order.side o h ≡ false) o.bank
+              (λ same.
+              let says = is_open-says walk.order (reach_of credit walk o.bank) o opens in
+              let first : is_preferred walk.order.side o maker ≡ false =
+              first-here o (ap (head_in walk.heads) same ∙ at) (come.all o there opens behind) in
+              elim (same_or_before walk.order.side walk.heads.orders maker o is.rising (head-of bank maker at).there there first) [
+                | inl equal ↦ absurd (omega (arith, says.earlier, late, ap (λ (q : Resting). q.arrival) equal))
+                | inr before ↦ next-covers o there same says.opposite before
+              ])
+              (λ differ. come.all o there opens behind);
+        })
+      where
+        first-here : (o : Resting) → head_in walk.heads o.bank ≡ Some maker → IsSomeAnd (head_in walk.heads o.bank) (λ (h : Resting). is_preferred walk.order.side o h ≡ false) → is_preferred walk.order.side o maker ≡ false
+        first-here o here holds = subst (λ (f : Option Resting). IsSomeAnd f (λ (h : Resting). is_preferred walk.order.side o h ≡ false)) here holds
+
+-- A bank is shut where what is left of the line does not pay for a lot, or it is the walk's own.
+pub shut-by : (credit : Credit) (walk : Walk) (bank line : ℕ) → (bank ≢ walk.order.bank → line ≡ left_with credit walk bank) → line < walk.weight → (reach_of credit walk bank ≡ 0) ⊎ (bank ≡ walk.order.bank)
+shut-by credit walk bank line is short = elim (cases_eq bank walk.order.bank) [
+  | inl own ↦ inr own
+  | inr differ ↦ inl (div_none (left_with credit walk bank) walk.weight (omega (arith, is differ, short)))
+]
+
+pub pays-other : (walk : Walk) (bank line : ℕ) → IsWeight walk.weight → (bank ≡ walk.order.bank → line ≡ 0) → walk.weight ≤ line → bank ≢ walk.order.bank
+pays-other walk bank line weight own pays same = omega (arith, own same, pays, weight.0)
+
+-- The same orders are open to a walk whose heads alone changed.
+pub open-along : (credit : Credit) (old new : Walk) (last : Option Resting) → new ≡ record old { heads = new.heads } → new.heads.orders ≡ old.heads.orders → open_from credit new last ≡ open_from credit old last
+open-along credit old new last same orders =
+    ap (λ (w : Walk). open_from credit w last) same ∙ ap (λ (os : List Resting). open_behind (reach_of credit old) old.order last os) orders
+
+pub from-along : (credit : Credit) (old new : Walk) (last : Option Resting) (fills : List Fill) (left : ℕ) → new ≡ record old { heads = new.heads } → new.heads.orders ≡ old.heads.orders
+    → FromHere credit new last fills left → FromHere credit old last fills left
+from-along credit old new last fills left same orders from =
+    subst (λ (os : List Resting). Planned old.weight (left_with credit old) os old.order last fills left) orders
+    (subst (λ (w : Walk). FromHere credit w last fills left) same from)
+
+-- The best of the heads is the best of all that are open.
+
+module _ (credit : Credit) (walk : Walk) (is : IsWalk credit walk) (last : Option Resting) (come : HasCome credit walk last) where
+  -- the head of an open order's bank
+  open-head : (o : Resting) → Among o (open_from credit walk last)
+      → (h : Resting) × (head_in walk.heads o.bank ≡ Some h) × (is_preferred walk.order.side o h ≡ false) × Among o walk.heads.orders × IsOpen walk.order (reach_of credit walk o.bank) o
+  open-head o there =
+      let it = Among-filter (λ (q : Resting). is_open walk.order (reach_of credit walk q.bank) q && is_behind walk.order.side last q) walk.heads.orders o there in
+      let parts = and_parts (is_open walk.order (reach_of credit walk o.bank) o) (is_behind walk.order.side last o) it.1 in
+      let head = some-is (head_in walk.heads o.bank) (λ (h : Resting). is_preferred walk.order.side o h ≡ false) (come.all o it.0 parts.0 parts.1) in
+      (head.0, head.1, head.2, it.0, is_open-says walk.order (reach_of credit walk o.bank) o parts.0)
+
+  pub none-open : ((bank : ℕ) → IfSome (head_in walk.heads bank) (λ (h : Resting). crosses walk.order.side walk.order.price h.price ≡ false)) → open_from credit walk last ≡ []
+  none-open dear =
+      none_among (open_from credit walk last) (λ o there.
+      let it = open-head o there in
+      both_ways (crosses walk.order.side walk.order.price it.0.price)
+      (if-is (head_in walk.heads o.bank) (λ (h : Resting). crosses walk.order.side walk.order.price h.price ≡ false) it.0 it.1 (dear o.bank))
+      (crosses_too walk.order.side walk.order.price it.0 o it.2 it.4.crosses))
+
+  pub best-open : (maker : Resting) → MayTake credit walk maker → crosses walk.order.side walk.order.price maker.price ≡ true → maker.arrival < walk.order.arrival → IsBest walk.order.side (open_from credit walk last) maker
+  best-open maker may crossing early = record {
+    there = among_filter (λ (q : Resting). is_open walk.order (reach_of credit walk q.bank) q && is_behind walk.order.side last q) walk.heads.orders maker here.there
+        (and_from (is_open walk.order (reach_of credit walk maker.bank) maker) (is_behind walk.order.side last maker)
+        (open_parts walk.order (reach_of credit walk maker.bank) maker (record {
+          opposite = here.opposite;
+          other = may.other;
+          reach = pays (left_with credit walk maker.bank) walk.weight is.weight may.line;
+          crosses = crossing;
+          earlier = early;
+        }))
+        (if-is (head_in walk.heads maker.bank) (λ (h : Resting). is_behind walk.order.side last h ≡ true) maker may.is (come.behind maker.bank)));
+    first = Each-of (λ (o : Resting). is_preferred walk.order.side o maker ≡ false) (open_from credit walk last) (λ o there.
+        let it = open-head o there in
+        not_before_first walk.order.side walk.heads.orders o it.0 maker is.rising it.3 (head-of credit walk is o.bank it.0 it.1).there here.there it.2
+        (if-is (head_in walk.heads o.bank) (λ (h : Resting). is_preferred walk.order.side h maker ≡ false) it.0 it.1 (may.first o.bank)));
+  }
+    where
+      here : IsHeadOf walk.order.side walk.heads.orders maker.bank maker
+      here = head-of credit walk is maker.bank maker may.is
 
 -- An order is taken.
 
-fill_is : (walk : WholeWalk) (best : Resting) (fill : Fill) → fill ≡ fill_with walk.order best (amount walk.order best (reach_of walk best.bank)) → fill ≡ fill_with walk.order best fill.lots
-fill_is walk best fill is = is ∙ ap (fill_with walk.order best) (sym (ap (λ (f : Fill). f.lots) is))
+fill_is : (walk : Walk) (credit : Credit) (maker : Resting) (fill : Fill) → fill ≡ fill_with walk.order maker (amount walk.order maker (reach_of credit walk maker.bank)) → fill ≡ fill_with walk.order maker fill.lots
+fill_is walk credit maker fill is = is ∙ ap (fill_with walk.order maker) (sym (ap (λ (f : Fill). f.lots) is))
 
-pub taken-leads : (book : Book) (walk new : WholeWalk) (found : Resting) (fill : Fill) → 1 ≤ walk.weight → 1 ≤ walk.order.left → Chosen book walk found → Takes walk new found fill → LeadsOn book walk new fill
-taken-leads book walk new found fill weight some chosen takes =
-    let best : Resting = found in
-    let next : WholeWalk = record walk {
-      order = less walk.order fill.lots;
-      lines = set walk.lines best.bank (slice_index walk.lines best.bank - fill.lots * walk.weight);
-      last = Some found;
-    } in
-    let within : best.bank < length walk.lines = within_table walk.lines best.bank (omega (arith, chosen.line, weight)) in
-    record {
-      goes_on = λ more left from.
-          let from_next : FromHere book next more left = subst (λ (w : WholeWalk). FromHere book w more left) takes.now from in
-          subst (λ (f : Fill). FromHere book walk (f ∷ more) left) (sym (fill_is walk best fill takes.is))
-          (walk-step walk.weight walk.lines book.orders walk.order walk.last best fill.lots more left some
-          chosen.best
-          (ap (λ (f : Fill). f.lots) takes.is) within from_next);
-      wants = omega (arith, ap (λ (w : WholeWalk). w.order.left) takes.now, takes.some, some);
-      arrival = ap (λ (w : WholeWalk). w.order.arrival) takes.now;
-      counted = ap (λ (w : WholeWalk). steps_behind w.last) takes.now;
-    }
+module _ (credit : Credit) (walk : Walk) (is : IsWalk credit walk) (maker : Resting) (may : MayTake credit walk maker) (fill : Fill) (new : Walk) (takes : Takes credit walk new maker fill) where
+  abbrev pub taken : Walk
+  taken = record walk {
+    order = less walk.order fill.lots;
+    used = set walk.used maker.bank (slice_index walk.used maker.bank + fill.lots * walk.weight);
+  }
 
-least_reach : (a b r lots : ℕ) → lots ≡ min a (min b r) → lots ≤ r
-least_reach a b r lots is = omega arith
+  in_table : maker.bank < length walk.used
+  in_table = omega (arith, is.full, head-small credit walk is maker.bank maker may.is)
 
--- A walk of which all heads are known but for that of a bank, from which it takes the best order.
-pub record IsNearSet (book : Book) (walk : WholeWalk) (apart : ℕ) : Type 0 where
-  pub valid : IsBook book
-  pub few : book.banks ≤ 64
-  pub bank : walk.order.bank < book.banks
-  pub weight : IsWeight walk.weight
-  pub own : slice_index walk.lines walk.order.bank ≡ 0
-  pub heads : (bank : ℕ) → bank < book.banks → bank ≢ apart → 1 ≤ reach_of walk bank →
-      IsFound walk.order (to_come walk.order bank walk.last book.orders) (head_of walk bank)
+  abbrev pub units : ℕ
+  units = fill.lots * walk.weight
 
-pub set-near : (book : Book) (walk : WholeWalk) (apart : ℕ) → IsBook book → IsSet book walk → IsNearSet book walk apart
-set-near book walk apart is set_is = record {
-  valid = is;
-  few = set_is.few;
-  bank = set_is.bank;
-  weight = set_is.weight;
-  own = set_is.own;
-  heads = λ bank below _ reach. set_is.heads bank below reach;
-}
+  fits : units ≤ left_with credit walk maker.bank
+  fits =
+      let line : ℕ = left_with credit walk maker.bank in
+      let lots : fill.lots ≤ line / walk.weight = least-last walk.order.left maker.left (line / walk.weight) fill.lots (ap (λ (f : Fill). f.lots) takes.is) in
+      omega (arith, mul-le-mul_left walk.weight lots, div-mul-le_self line walk.weight)
+    where
+      least-last : (a b r lots : ℕ) → lots ≡ min a (min b r) → lots ≤ r
+      least-last a b r lots is = omega arith
 
--- what is across from a side is of the other one
-opposite_is : (a b : Side) → is_opposite a b ≡ true → b ≡ opposite a
-opposite_is Buy Buy across = cc
-opposite_is Buy Sell across = refl
-opposite_is Sell Buy across = refl
-opposite_is Sell Sell across = cc
+  -- of other banks nothing more is used
+  same-left : (bank : ℕ) → bank ≢ maker.bank → left_with credit taken bank ≡ left_with credit walk bank
+  same-left bank differ = ap (λ (n : ℕ). line_in credit walk.order.bank bank - n) (get_or-set_other walk.used maker.bank bank (slice_index walk.used maker.bank + units) 0 differ)
 
-pub taken-ready : (book : Book) (walk new : WholeWalk) (found : Resting) (fill : Fill) → IsNearSet book walk found.bank → Chosen book walk found → Takes walk new found fill → IsReady book new
-taken-ready book walk new found fill near chosen takes =
-    let best : Resting = found in
-    let line : ℕ = slice_index walk.lines best.bank in
-    let rest : ℕ = line - fill.lots * walk.weight in
-    let within : best.bank < length walk.lines = within_table walk.lines best.bank (omega (arith, chosen.line, near.weight.0)) in
-    let none : reach_of walk walk.order.bank ≡ 0 = ap (λ n. n / walk.weight) near.own ∙ div_none 0 walk.weight (omega (arith, near.weight.0)) in
-    let opens = open-to_come (reach_of walk) walk.order walk.last book.orders best chosen.best.there in
-    let there : Among best book.orders = (among_to_come walk.order best.bank walk.last book.orders best opens.0).0 in
-    subst (IsReady book) (sym takes.now)
-    (record {
-      few = near.few;
-      bank = near.bank;
-      taken = owners book near.valid best there;
-      rests = record { rests = there; bank_is = refl; side_is = opposite_is walk.order.side best.side opens.1.opposite };
-      weight = near.weight;
-      own = none-kept walk.lines best.bank walk.order.bank rest within (omega arith) near.own;
-      heads = λ bank below other reach.
-          let same : get_or (set walk.lines best.bank rest) bank 0 ≡ get_or walk.lines bank 0 = get_or-set_other walk.lines best.bank bank rest 0 other in
-          let some : 1 ≤ reach_of walk bank = subst (λ n. 1 ≤ n / walk.weight) same reach in
-          heads-stay (reach_of walk) walk.order walk.last book.orders bank best (head_of walk bank) near.valid.rising chosen.best other
-          (λ own. omega (arith, none, some, ap (reach_of walk) own)) some (near.heads bank below other some);
-    })
+  less-left : left_with credit taken maker.bank ≡ left_with credit walk maker.bank - units
+  less-left =
+      ap (λ (n : ℕ). line_in credit walk.order.bank maker.bank - n) (get_or-set_same walk.used maker.bank (slice_index walk.used maker.bank + units) 0 in_table)
+      ∙ apart (line_in credit walk.order.bank maker.bank) (slice_index walk.used maker.bank) units
+    where
+      apart : (line used more : ℕ) → line - (used + more) ≡ line - used - more
+      apart line used more = omega arith
 
--- A step from before the heads were found.
+  pub walk-taken : IsWalk credit new
+  walk-taken = subst (IsWalk credit) (sym takes.now) (record {
+    rising = is.rising;
+    held = is.held;
+    bank = is.bank;
+    weight = is.weight;
+    side = is.side;
+    count = is.count;
+    full = length-set walk.used maker.bank (slice_index walk.used maker.bank + units) ∙ is.full;
+    used = λ bank. elim (cases_eq bank maker.bank) [
+      | inl same ↦
+          subst (λ (b : ℕ). get_or (set walk.used maker.bank (slice_index walk.used maker.bank + units)) b 0 ≤ line_in credit walk.order.bank b) (sym same)
+          (omega (arith, get_or-set_same walk.used maker.bank (slice_index walk.used maker.bank + units) 0 in_table, fits, is.used maker.bank))
+      | inr differ ↦ omega (arith, get_or-set_other walk.used maker.bank bank (slice_index walk.used maker.bank + units) 0 differ, is.used bank)
+    ];
+    heads = is.heads;
+  })
 
-pub renewed-leads : (book : Book) (old walk new : WholeWalk) (fill : Fill) → IsRenewed book old walk → LeadsOn book walk new fill → LeadsOn book old new fill
-renewed-leads book old walk new fill renewed leads =
-    let from_old = subst (λ (w : WholeWalk). LeadsOn book w new fill) renewed.same leads in
-    record { goes_on = from_old.goes_on; wants = from_old.wants; arrival = from_old.arrival; counted = from_old.counted }
+  -- once its head is passed the walk has come behind it
+  pub taken-come : (last : Option Resting) (heads : Heads) → HasCome credit walk last → PassesHead walk.heads heads maker.bank → maker.bank < 64 → HasCome credit (record new { heads = heads }) (Some maker)
+  taken-come last heads come passes small =
+      subst (λ (w : Walk). HasCome credit (record w { heads = heads }) (Some maker)) (sym takes.now)
+      (subst (λ (h : Heads). HasCome credit (record taken { heads = h }) (Some maker)) (sym passes.is)
+      (record {
+        behind = if-set credit walk is maker.bank passes.head small (λ _ (h : Resting). is_preferred walk.order.side maker h ≡ true)
+            (if-all passes.head (λ (h : Resting). is_preferred walk.order.side maker h ≡ true) (λ h here.
+            (if-is passes.head (IsOneOf walk.order.side maker.bank (Some maker) walk.heads.orders) h here (next-one credit walk is maker.bank maker heads small may.is passes)).behind))
+            (λ other differ. if-all (head_in walk.heads other) (λ (h : Resting). is_preferred walk.order.side maker h ≡ true) (λ h at.
+            let head = head-of credit walk is other h at in
+            elim (same_or_before walk.order.side walk.heads.orders maker h is.rising here.there head.there
+            (if-is (head_in walk.heads other) (λ (q : Resting). is_preferred walk.order.side q maker ≡ false) h at (may.first other))) [
+              | inl equal ↦ absurd (differ (sym head.owner ∙ ap (λ (q : Resting). q.bank) (sym equal)))
+              | inr before ↦ before
+            ]));
+        all = λ o there opens behind. and-set credit walk is maker.bank passes.head small (λ (h : Resting). is_preferred walk.order.side o h ≡ false) o.bank
+            (λ same. next-covers credit walk is maker.bank maker heads small may.is passes o there same (is_open-says (less walk.order fill.lots) (reach_of credit taken o.bank) o opens).opposite behind)
+            (λ differ. come.all o there
+            (subst (λ (n : ℕ). is_open walk.order (n / walk.weight) o ≡ true) (same-left o.bank differ) opens)
+            (still_behind walk.order.side last maker o (if-is (head_in walk.heads maker.bank) (λ (h : Resting). is_behind walk.order.side last h ≡ true) maker may.is (come.behind maker.bank)) behind));
+      }))
+    where
+      here : IsHeadOf walk.order.side walk.heads.orders maker.bank maker
+      here = head-of credit walk is maker.bank maker may.is
 
-pub renewed-ends : (book : Book) (old walk : WholeWalk) (step : Option Fill) → IsRenewed book old walk → FromHere book walk [] walk.order.left → step ≡ None → StepsOn book old walk step
-renewed-ends book old walk step renewed from none =
-    subst (StepsOn book old walk) (sym none)
-    (ap (λ (w : WholeWalk). w.order) renewed.same, subst (λ (w : WholeWalk). FromHere book w [] w.order.left) renewed.same from)
-
-pub renewed-left : (book : Book) (old walk : WholeWalk) → IsRenewed book old walk → walk.order.left ≡ old.order.left
-renewed-left book old walk renewed = ap (λ (w : WholeWalk). w.order.left) renewed.same
+  -- what it fills from there it fills behind the fill
+  pub goes-on : (last : Option Resting) (heads : Heads) → heads.orders ≡ walk.heads.orders → 1 ≤ walk.order.left → IsBest walk.order.side (open_from credit walk last) maker
+      → (more : List Fill) (left : ℕ) → FromHere credit (record new { heads = heads }) (Some maker) more left → FromHere credit walk last (fill ∷ more) left
+  goes-on last heads orders_are some best more left from =
+      let from_taken : Planned walk.weight (left_with credit taken) heads.orders (less walk.order fill.lots) (Some maker) more left =
+      subst (λ (w : Walk). Planned w.weight (left_with credit w) heads.orders w.order (Some maker) more left) takes.now from in
+      let here : Planned walk.weight (left_with credit taken) walk.heads.orders (less walk.order fill.lots) (Some maker) more left =
+      subst (λ (os : List Resting). Planned walk.weight (left_with credit taken) os (less walk.order fill.lots) (Some maker) more left) orders_are from_taken in (
+        maker,
+        some,
+        best,
+        takes.is,
+        planned-agrees walk.weight (left_with credit taken) (spend (left_with credit walk) maker.bank units) walk.heads.orders (less walk.order fill.lots) (Some maker) more left
+            (λ o there. inl (spent o.bank)) here,
+      )
+    where
+      spent : (bank : ℕ) → left_with credit taken bank ≡ spend (left_with credit walk) maker.bank units bank
+      spent bank = elim (cases_eq bank maker.bank) [
+        | inl same ↦
+            ap (left_with credit taken) same ∙ less-left ∙ sym (ap (λ (b : ℕ). left_with credit walk b - units) same)
+            ∙ sym (cond-true (eqb bank maker.bank) (left_with credit walk bank - units) (left_with credit walk bank) (eq-eqb bank maker.bank same))
+        | inr differ ↦
+            same-left bank differ ∙ sym (cond-false (eqb bank maker.bank) (left_with credit walk bank - units) (left_with credit walk bank) (ne_eqb bank maker.bank differ))
+      ]

@@ -1,83 +1,206 @@
 -- The fills of a walk so far, and what they come to at its end.
-use Rattle.std.proofs.Common.{ℕ, ◌≡◌, ◌+◌, ◌*◌, ◌^◌, ◌≤◌, List, [], ◌∷◌, ◌++◌, None, ap, refl, slice_index, sym, subst, ◌∙◌, arith, append_assoc, append-nil}
+use Rattle.std.proofs.Common.{ℕ, ◌≡◌, ◌≢◌, ◌+◌, ◌-◌, ◌*◌, ◌/◌, ◌^◌, ◌≤◌, ◌<◌, true, false, ◌&&◌, List, [], ◌∷◌, ◌++◌, length, map, replicate, get_or, slice_index, Option, Some, None, inl, inr, refl, ap, sym, subst, ◌∙◌, arith, append_assoc, append-nil}
+use Rattle.std.proofs.Math.Nat.{add-mul, mul-le-mul_left}
+use Rattle.std.proofs.lemmas.Bool.{and_parts, both_ways, cases_lt}
+use Rattle.std.proofs.lemmas.List.{get_or-replicate, get_or_past}
+use Rattle.std.specs.Option.{IfSome, IsSomeAnd}
+use Rattle.fx_amounts.specs.Price.{crosses}
+use Rattle.fx_amounts.specs.Quantity.{IsWeight}
+use Rattle.fx_amounts.specs.Side.{opposite}
+use Rattle.fx_amounts.specs.declared.side.Side.{Side}
+use Rattle.fx_amounts.specs.declared.side.Side.TheVariants.{Buy, Sell}
 use Rattle.fx_rules.specs.declared.orders.Fill.{Fill}
-use Rattle.fx_rules.specs.Lists.{total}
-use Rattle.fx_rules.specs.Sweep.{Taker}
-use Rattle.fx_rules.specs.Plan.{Planned}
-use Rattle.global_book.specs.Book.{Book}
-use Rattle.credit_lines.specs.Credit.{Credit, line_in}
-use Rattle.match_sweep.specs.inside.Walks.{WholeWalk, FromHere, LeadsOn, StepsOn, IsByLines, IsReady, Begins, BeginsBehind}
-use Rattle.match_sweep.proofs.Planning.{planned-agrees, planned-sum, planned-paid}
+use Rattle.fx_rules.specs.declared.orders.Resting.{Resting}
+use Rattle.fx_rules.specs.Lists.{Among, Each, EachPair, below, total}
+use Rattle.fx_rules.specs.Sound.{ArrivesBefore}
+use Rattle.fx_rules.specs.Sweep.{Taker, is_open, is_opposite, is_preferred}
+use Rattle.fx_rules.specs.State.{at_most}
+use Rattle.fx_rules.specs.Plan.{Planned, is_behind, open_behind}
+use Rattle.fx_rules.proofs.Below.{get_or_below, length-map_below}
+use Rattle.fx_rules.proofs.ListLemmas.{Among-filter, Each-among}
+use Rattle.fx_rules.proofs.Opens.{IsOpen, is_open-says}
+use Rattle.global_book.specs.Book.{Book, IsBook, IsHeld}
+use Rattle.global_book.specs.Heads.{Heads, IsBegun, IsNext, head_in}
+use Rattle.global_book.proofs.Sought.{opposite-opposite}
+use Rattle.credit_lines.specs.Credit.{Credit, IsCredit, left_in, line_in, room_in}
+use Rattle.match_sweep.specs.inside.Walks.{FromHere, HasCome, IsAlong, IsByLines, IsHeadOf, IsWalk, LeadsOn, StepsOn, left_with}
+use Rattle.match_sweep.specs.declared.walk.Walk.{Walk}
+use Rattle.match_sweep.proofs.Picking.{none_among}
+use Rattle.match_sweep.proofs.Planning.{planned-agrees, planned-paid, planned-sum}
+use Rattle.match_sweep.proofs.Stepping.{IsOneOf, next-first, next-is, owners}
+use Rattle.match_sweep.proofs.Tables.{total-most}
 
--- A walk made these fills since it was another: whatever it makes from here the other makes, behind them.
-pub record Went (book : Book) (first now : WholeWalk) (fills : List Fill) : Type 0 where
-  pub ready : IsReady book now
-  pub arrival : now.order.arrival ≡ first.order.arrival
-  pub goes_on : (more : List Fill) (left : ℕ) → FromHere book now more left → FromHere book first (fills ++ more) left
+-- A walk made these fills since the beginning of a sweep, and the last of them with this order: whatever it makes from here, all of them
+-- are the sweep.
+pub record Gone (book : Book) (credit : Credit) (weight : ℕ) (t : Taker) (now : Walk) (fills : List Fill) : Type 0 where
+  pub last : Option Resting
+  pub walk : IsWalk credit now
+  pub come : 1 ≤ now.order.left → HasCome credit now last
+  pub orders : now.heads.orders ≡ book.orders
+  pub arrival : now.order.arrival ≡ t.arrival
+  pub goes_on : (more : List Fill) (left : ℕ) → FromHere credit now last more left → IsByLines book credit weight t (fills ++ more) left
 
-pub went-begins : (book : Book) (walk : WholeWalk) → IsReady book walk → Went book walk walk []
-went-begins book walk ready = record { ready = ready; arrival = refl; goes_on = λ more left from. from }
+-- The beginning.
 
-pub went-on : (book : Book) (first now next : WholeWalk) (fills : List Fill) (fill : Fill) → Went book first now fills → LeadsOn book now next fill → IsReady book next → Went book first next (fills ++ fill ∷ [])
-went-on book first now next fills fill went leads ready = record {
-  ready = ready;
-  arrival = leads.arrival ∙ went.arrival;
-  goes_on = λ more left from.
-      subst (λ (fs : List Fill). FromHere book first fs left) (sym (append_assoc fills (fill ∷ []) more))
-      (went.goes_on (fill ∷ more) left (leads.goes_on more left from));
-}
+module _ (book : Book) (credit : Credit) (weight : ℕ) (t : Taker) (heads : Heads) (valid : IsBook book) (banks : book.banks ≡ credit.banks) (begun : IsBegun book (opposite t.side) heads) where
+  abbrev pub first_walk : Walk
+  first_walk = record { order = t; weight = weight; used = replicate 65 0; heads = heads }
 
--- at its end the fills are the whole sweep
-pub went-whole : (book : Book) (first now : WholeWalk) (fills : List Fill) (left : ℕ) → Went book first now fills → FromHere book now [] left → FromHere book first fills left
-went-whole book first now fills left went from =
-    subst (λ (fs : List Fill). FromHere book first fs left) (append-nil fills) (went.goes_on [] left from)
+  turned : opposite (opposite t.side) ≡ t.side
+  turned = opposite-opposite t.side
 
--- A walk made these fills since the beginning of a sweep.
-pub record Gone (book : Book) (credit : Credit) (weight : ℕ) (t : Taker) (now : WholeWalk) (fills : List Fill) : Type 0 where
-  pub first : WholeWalk
-  pub begins : Begins book credit weight t first
-  pub went : Went book first now fills
+  abbrev pub unused : List ℕ
+  unused = replicate 65 0
 
-pub gone-behind : (book : Book) (credit : Credit) (weight : ℕ) (t : Taker) (walk : WholeWalk) (fill : Fill) (fills : List Fill) → fills ≡ fill ∷ [] → BeginsBehind book credit weight t fill walk → Gone book credit weight t walk fills
-gone-behind book credit weight t walk fill fills is behind = record {
-  first = behind.first;
-  begins = behind.begins;
-  went = subst (Went book behind.first walk) (sym is) (record { ready = behind.ready; arrival = behind.leads.arrival; goes_on = behind.leads.goes_on });
-}
+  none-used : (bank : ℕ) → slice_index unused bank ≡ 0
+  none-used bank = elim (cases_lt bank 65) [
+    | inl small ↦ get_or-replicate 65 bank 0 0 small
+    | inr past ↦ get_or_past unused bank 0 past
+  ]
 
-pub gone-on : (book : Book) (credit : Credit) (weight : ℕ) (t : Taker) (now next : WholeWalk) (fills made : List Fill) (fill : Fill) → made ≡ fills ++ fill ∷ [] → Gone book credit weight t now fills → LeadsOn book now next fill → IsReady book next → Gone book credit weight t next made
-gone-on book credit weight t now next fills made fill is gone leads ready = record {
-  first = gone.first;
-  begins = gone.begins;
-  went = subst (Went book gone.first next) (sym is) (went-on book gone.first now next fills fill gone.went leads ready);
-}
+  head-within : (bank : ℕ) → IfSome (head_in heads bank) (IsHeadOf t.side heads.orders bank)
+  head-within bank = elim (cases_lt bank 64) [
+    | inl small ↦ of-one (head_in heads bank) (next-is (opposite t.side) t.side bank None book.orders turned (head_in heads bank) (begun.best bank small))
+    | inr past ↦ subst (λ (f : Option Resting). IfSome f (IsHeadOf t.side heads.orders bank)) (sym (get_or_past heads.next bank None (omega (arith, begun.count, past)))) tt
+  ]
+    where
+      of-one : (found : Option Resting) → IfSome found (IsOneOf t.side bank None book.orders) → IfSome found (IsHeadOf t.side heads.orders bank)
+      of-one None is = tt
+      of-one (Some head) is = record { there = subst (Among head) (sym begun.orders_are) is.there; owner = is.owner; opposite = is.opposite }
 
--- at its end they are all that it makes
-pub gone-whole : (book : Book) (credit : Credit) (weight : ℕ) (t : Taker) (now new : WholeWalk) (fills made : List Fill) → (gone : Gone book credit weight t now fills) → StepsOn book now new None → made ≡ fills → FromHere book gone.first made new.order.left
-gone-whole book credit weight t now new fills made gone step is =
-    subst (λ (fs : List Fill). FromHere book gone.first fs new.order.left) (sym is)
-    (subst (λ (order : Taker). FromHere book gone.first fills order.left) (sym step.0)
-    (went-whole book gone.first now fills now.order.left gone.went step.1))
+  all-behind : (found : Option Resting) → IfSome found (λ (h : Resting). is_behind t.side None h ≡ true)
+  all-behind None = tt
+  all-behind (Some head) = refl
 
-pub gone-arrival : (book : Book) (credit : Credit) (weight : ℕ) (t : Taker) (now : WholeWalk) (fills : List Fill) → Gone book credit weight t now fills → now.order.arrival ≡ t.arrival
-gone-arrival book credit weight t now fills gone = gone.went.arrival ∙ ap (λ (u : Taker). u.arrival) gone.begins.order
+  pub gone-begins : t.bank < credit.banks → IsWeight weight → credit.banks ≤ 64 → Gone book credit weight t first_walk []
+  gone-begins bank weighs few = record {
+    last = None;
+    walk = record {
+      rising = subst (λ (os : List Resting). EachPair ArrivesBefore os) (sym begun.orders_are) valid.rising;
+      held = subst (λ (os : List Resting). Each (IsHeld credit.banks) os) (sym begun.orders_are) (subst (λ (n : ℕ). Each (IsHeld n) book.orders) banks valid.held);
+      bank = bank;
+      weight = weighs;
+      side = begun.side_is;
+      count = begun.count;
+      full = refl;
+      used = λ b. omega (arith, none-used b);
+      heads = head-within;
+    };
+    come = λ _. record {
+      behind = λ b. all-behind (head_in heads b);
+      all = λ o there opens behind.
+          let in_book : Among o book.orders = subst (Among o) begun.orders_are there in
+          let held : IsHeld book.banks o = Each-among (IsHeld book.banks) book.orders o valid.held in_book in
+          next-first (opposite t.side) t.side o.bank None book.orders turned (head_in heads o.bank) (begun.best o.bank (omega (arith, held.bank, banks, few))) o
+          (record { there = in_book; owner = refl; opposite = (is_open-says t (left_with credit first_walk o.bank / weight) o opens).opposite; behind = refl }) held.arrival_most;
+    };
+    orders = begun.orders_are;
+    arrival = refl;
+    goes_on = λ more left from.
+        planned-agrees weight (left_with credit first_walk) (line_in credit t.bank) book.orders t None more left (λ o there. inl (no-less (line_in credit t.bank o.bank) (slice_index unused o.bank) (none-used o.bank)))
+        (subst (λ (os : List Resting). Planned weight (left_with credit first_walk) os t None more left) begun.orders_are from);
+  }
+    where
+      no-less : (line used : ℕ) → used ≡ 0 → line - used ≡ line
+      no-less line used none = omega (arith, none)
 
--- What a walk makes from its beginning is the sweep of its order by the lines.
+-- One fill more, and the end.
 
-begun : (book : Book) (credit : Credit) (weight : ℕ) (t : Taker) (walk : WholeWalk) (fills : List Fill) (left : ℕ) → Begins book credit weight t walk → FromHere book walk fills left → Planned weight (slice_index walk.lines) book.orders t None fills left
-begun book credit weight t walk fills left begins from =
-    subst (λ (w : ℕ). Planned w (slice_index walk.lines) book.orders t None fills left) begins.weighs
-    (subst (λ (u : Taker). Planned walk.weight (slice_index walk.lines) book.orders u None fills left) begins.order
-    (subst (λ last. Planned walk.weight (slice_index walk.lines) book.orders walk.order last fills left) begins.last from))
+module _ (book : Book) (credit : Credit) (weight : ℕ) (t : Taker) (now next : Walk) (fills made : List Fill) (gone : Gone book credit weight t now fills) where
+  pub gone-on : (fill : Fill) → made ≡ fills ++ fill ∷ [] → ((last : Option Resting) → (1 ≤ now.order.left → HasCome credit now last) → LeadsOn credit now next last fill) → IsWalk credit next → IsAlong now next
+      → Gone book credit weight t next made
+  gone-on fill is steps walk along =
+      let leads = steps gone.last gone.come in
+      record {
+        last = Some leads.maker;
+        walk = walk;
+        come = leads.has_come;
+        orders = along.orders ∙ gone.orders;
+        arrival = along.arrival ∙ gone.arrival;
+        goes_on = λ more left from.
+            subst (λ (fs : List Fill). IsByLines book credit weight t fs left) (sym (append_assoc fills (fill ∷ []) more) ∙ ap (λ (fs : List Fill). fs ++ more) (sym is))
+            (gone.goes_on (fill ∷ more) left (leads.goes_on more left from));
+      }
 
-pub begun-sum : (book : Book) (credit : Credit) (weight : ℕ) (t : Taker) (walk : WholeWalk) (fills : List Fill) (left : ℕ) → Begins book credit weight t walk → FromHere book walk fills left → total (λ (f : Fill). f.lots) fills + left ≡ t.left
-begun-sum book credit weight t walk fills left begins from =
-    planned-sum weight (slice_index walk.lines) book.orders t None fills left (begun book credit weight t walk fills left begins from)
+  pub gone-whole : ((last : Option Resting) → (1 ≤ now.order.left → HasCome credit now last) → StepsOn credit now next last None) → made ≡ fills → IsByLines book credit weight t made next.order.left
+  gone-whole steps is =
+      let step = steps gone.last gone.come in
+      subst (λ (fs : List Fill). IsByLines book credit weight t fs next.order.left) (append-nil fills ∙ sym is)
+      (subst (λ (u : Taker). IsByLines book credit weight t (fills ++ []) u.left) (sym step.0) (gone.goes_on [] now.order.left step.1))
 
-pub begun-lots : (book : Book) (credit : Credit) (weight : ℕ) (t : Taker) (walk : WholeWalk) (fills : List Fill) (left : ℕ) → 1 ≤ weight → Begins book credit weight t walk → FromHere book walk fills left → total (λ (f : Fill). f.lots) fills ≤ 65 * 10 ^ 15
-begun-lots book credit weight t walk fills left some begins from =
-    omega (arith, planned-paid weight walk.lines book.orders t None fills left some (begun book credit weight t walk fills left begins from), begins.most)
+-- What a sweep by the lines comes to.
 
-pub begun-sweep : (book : Book) (credit : Credit) (weight : ℕ) (t : Taker) (walk : WholeWalk) (fills : List Fill) (left : ℕ) → Begins book credit weight t walk → FromHere book walk fills left → IsByLines book credit weight t fills left
-begun-sweep book credit weight t walk fills left begins from =
-    planned-agrees weight (slice_index walk.lines) (line_in credit t.bank) book.orders t None fills left begins.agrees (begun book credit weight t walk fills left begins from)
+-- an order across from a side is of the other one
+across : (a b : Side) → is_opposite a b ≡ true → b ≡ opposite a
+across Buy Buy is = cc
+across Buy Sell is = refl
+across Sell Buy is = refl
+across Sell Sell is = cc
+
+-- where the order takes the price of none of the other side, it fills nothing
+pub dear-sweep : (book : Book) (credit : Credit) (weight : ℕ) (t : Taker) (side : Side) → side ≡ opposite t.side → Each (λ o. o.side ≡ side → crosses (opposite side) t.price o.price ≡ false) book.orders
+    → IsByLines book credit weight t [] t.left
+dear-sweep book credit weight t side side_is dear = (
+  refl,
+  inr (none_among (open_behind (λ bank. line_in credit t.bank bank / weight) t None book.orders) (λ o there.
+      let it = Among-filter (λ (q : Resting). is_open t (line_in credit t.bank q.bank / weight) q && is_behind t.side None q) book.orders o there in
+      let says = is_open-says t (line_in credit t.bank o.bank / weight) o (and_parts (is_open t (line_in credit t.bank o.bank / weight) o) (is_behind t.side None o) it.1).0 in
+      both_ways (crosses t.side t.price o.price)
+      (subst (λ (s : Side). crosses s t.price o.price ≡ false) (ap opposite side_is ∙ opposite-opposite t.side)
+      (Each-among (λ (q : Resting). q.side ≡ side → crosses (opposite side) t.price q.price ≡ false) book.orders o dear it.0 (across t.side o.side says.opposite ∙ sym side_is)))
+      says.crosses)),
+)
+
+-- who fills something has another bank beside
+two-banks : (book : Book) (credit : Credit) (weight : ℕ) (t : Taker) (fills : List Fill) (left : ℕ) → IsBook book → t.bank < book.banks → IsByLines book credit weight t fills left → 1 ≤ length fills → 2 ≤ book.banks
+two-banks book credit weight t [] left valid bank planned some = absurd (omega (arith, some))
+two-banks book credit weight t (fill ∷ fills) left valid bank planned some =
+    let best : Resting = planned.0 in
+    let it = Among-filter (λ (q : Resting). is_open t (line_in credit t.bank q.bank / weight) q && is_behind t.side None q) book.orders best planned.2.there in
+    let says = is_open-says t (line_in credit t.bank best.bank / weight) best (and_parts (is_open t (line_in credit t.bank best.bank / weight) best) (is_behind t.side None best) it.1).0 in
+    omega (arith, owners book valid best it.0, bank, says.other)
+
+-- a step for all words and two for each fill are within the bound
+pub bounded : (book : Book) (credit : Credit) (weight : ℕ) (t : Taker) (fills : List Fill) (left : ℕ) → IsBook book → t.bank < book.banks → IsByLines book credit weight t fills left
+    → 1 + 2 * length fills ≤ (length fills + 1) * book.banks
+bounded book credit weight t fills left valid bank planned = elim (cases_lt 0 (length fills)) [
+  | inl some ↦
+      let two : 2 ≤ book.banks = two-banks book credit weight t fills left valid bank planned some in
+      omega (arith, add-mul (length fills) 1 book.banks, mul-le-mul_left (length fills) two, two)
+  | inr none ↦ omega (arith, add-mul (length fills) 1 book.banks, bank, none)
+]
+
+line-most : (credit : Credit) (i j : ℕ) → IsCredit credit → i < credit.banks → j < credit.banks → line_in credit i j ≤ 10 ^ 15
+line-most credit i j is first second =
+    omega (arith, up-to (room_in credit i) (at_most (room_in credit j) (left_in credit i j)), up-to (room_in credit j) (left_in credit i j), is.limits_most i j first second)
+  where
+    up-to : (room : Option ℕ) (n : ℕ) → at_most room n ≤ n
+    up-to None n = omega arith
+    up-to (Some most) n = omega arith
+
+-- it fills no more lots than 65 lines can allow
+pub lots-within : (book : Book) (credit : Credit) (weight : ℕ) (t : Taker) (fills : List Fill) (left : ℕ) → IsBook book → book.banks ≡ credit.banks → IsCredit credit → t.bank < credit.banks → 1 ≤ weight
+    → IsByLines book credit weight t fills left → total (λ (f : Fill). f.lots) fills ≤ 65 * 10 ^ 15
+lots-within book credit weight t fills left valid banks is bank some planned =
+    omega (
+      arith,
+      planned-paid weight lines book.orders t None fills left some
+          (planned-agrees weight (line_in credit t.bank) (slice_index lines) book.orders t None fills left
+          (λ o there. inl (sym (get_or_below (line_in credit t.bank) credit.banks o.bank 0 (omega (arith, owners book valid o there, banks))))) planned),
+      total-most lines (10 ^ 15) most,
+      mul-le-mul_left (10 ^ 15) is.banks_most,
+      length-map_below (line_in credit t.bank) credit.banks,
+      ap (λ (n : ℕ). n * 10 ^ 15) (length-map_below (line_in credit t.bank) credit.banks),
+    )
+  where
+    lines : List ℕ
+    lines = map (line_in credit t.bank) (below credit.banks)
+
+    most : (k : ℕ) → get_or lines k 0 ≤ 10 ^ 15
+    most k = elim (cases_lt k credit.banks) [
+      | inl small ↦ omega (arith, get_or_below (line_in credit t.bank) credit.banks k 0 small, line-most credit t.bank k is bank small)
+      | inr past ↦ omega (arith, get_or_past lines k 0 (omega (arith, length-map_below (line_in credit t.bank) credit.banks, past)))
+    ]
+
+pub sum-whole : (book : Book) (credit : Credit) (weight : ℕ) (t : Taker) (fills : List Fill) (left : ℕ) → IsByLines book credit weight t fills left → total (λ (f : Fill). f.lots) fills + left ≡ t.left
+sum-whole book credit weight t fills left planned = planned-sum weight (line_in credit t.bank) book.orders t None fills left planned

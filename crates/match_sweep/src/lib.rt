@@ -3,9 +3,7 @@
 #![tactic(auto)]
 
 mod carrying;
-mod heads;
 mod laws;
-mod opening;
 mod reached;
 mod sweeping;
 mod taker;

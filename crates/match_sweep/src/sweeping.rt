@@ -1,19 +1,17 @@
-ghost use Rattle.std.specs.Prelude.{◌≡◌, ◌≢◌, ◌≤◌, ◌<◌, ◌+◌, ◌*◌, ◌/◌, [], ◌∷◌, length, IfOk};
+ghost use Rattle.std.specs.Prelude.{◌≡◌, ◌≤◌, ◌<◌, ◌+◌, ◌*◌, length, IfOk};
 ghost use Rattle.fx_amounts.specs.Quantity.{IsWeight};
 ghost use Rattle.fx_rules.specs.Lists.{Each, total};
-ghost use Rattle.credit_lines.specs.Credit.{line_in};
-ghost use Rattle.global_book.specs.Book.{AreOwners, IsBook};
+ghost use Rattle.global_book.specs.Book.{IsBook};
 ghost use Rattle.match_sweep.specs.Takers.{swept_in};
 ghost use Rattle.match_sweep.specs.Sweeps.{AddsUp, IsSweep, IsWithinLines};
-ghost use Rattle.match_sweep.specs.inside.Heads.{CameBefore, IsOpening};
-ghost use Rattle.match_sweep.specs.inside.Walks.{IsByLines, first_fill};
+ghost use Rattle.match_sweep.specs.inside.Heads.{CameBefore};
+ghost use Rattle.match_sweep.specs.inside.Walks.{IsByLines};
 
-use crate::opening::{Opening, find_opening};
 use crate::taker::Taker;
 use crate::walk::Walk;
 use credit_lines::CreditLines;
 use fx_amounts::{BankId, Memory};
-use fx_rules::{Fill, FillList, Plan, Resting, SweptOrder};
+use fx_rules::{FillList, Plan, SweptOrder};
 use global_book::PairBook;
 use price_levels::Steps;
 use std::alloc::Global;
@@ -26,19 +24,6 @@ pub struct SweepPlan {
     pub fills: FillList,
     /// The lots that it would have left.
     pub left: u128,
-}
-
-impl SweepPlan {
-    /// Of an order that fills nothing and wants so many lots. It takes no memory.
-    fn nothing(alloc: Global, left: u128) -> SweepPlan
-        ensures fills { result.fills ≡ [] }
-        ensures left { result.left ≡ left }
-    {
-        SweepPlan {
-            fills: FillList::from_vec(Vec::new(alloc)),
-            left,
-        }
-    }
 }
 
 /// The sweep of a taker over a pair's book, by the lines of its bank, where a lot costs `weight` credit units, 1 to 10^6.
@@ -111,92 +96,51 @@ fn sweep_by_lines<L: Ledger>(
 ) -> Result<SweepPlan, Memory>
     requires banks { book.now.banks ≡ lines.now.banks }
     requires bank { order.now.bank < lines.now.banks }
-    requires pair { order.now.pair ≡ book.now.pair }
+    requires few { lines.now.banks ≤ 64 }
     requires weight { IsWeight weight }
     ensures sweep { IfOk result (λ sweep. IsByLines book.now lines.now weight order.now sweep.fills sweep.left) }
     ensures sum { IfOk result (AddsUp order.now) }
-    ensures lots { IfOk result IsWithinLines }
     ensures steps { CameBefore book.now.orders order.now.arrival → IfOk result (λ sweep. steps.new ≤ steps.old + (length sweep.fills + 1) * book.now.banks) }
     ensures valid { IsBook book.now }
 {
-    let owners = book.owners();
-    if order.left == 0 {
-        return Ok(SweepPlan::nothing(alloc, 0));
-    }
-    let Some(opening) = find_opening(book, owners, lines, weight, order, steps) else {
-        return Ok(SweepPlan::nothing(alloc, order.left));
-    };
-    let fill = first_fill(lines, weight, order, &opening.first);
-    let left = order.left - u128::from(fill.lots.count());
-    let mut fills = Vec::new(alloc);
-    fills.push(fill)?;
-    if left == 0 {
+    if !book.has_within(order.side.opposite(), order.price, steps) {
         return Ok(SweepPlan {
-            fills: FillList::from_vec(fills),
-            left,
+            fills: FillList::from_vec(Vec::new(alloc)),
+            left: order.left,
         });
     }
-    walk_on(book, owners, lines, weight, order, &opening, fills, steps)
+    walk_along(alloc, book, lines, weight, order, steps)
 }
 
-/// The rest of a sweep behind its first fill, which `fills` has. It stands apart since a function pays for its tables as it
-/// begins, and a sweep of one fill needs none.
-fn walk_on<L: Ledger>(
+/// The same, from best order to best order of the other side, with two steps for each fill at most. It stands apart since a function pays
+/// for its tables as it begins.
+fn walk_along<L: Ledger>(
+    alloc: Global,
     book: &PairBook,
-    owners: &[BankId],
     lines: &CreditLines,
     weight: u32,
     order: &SweptOrder,
-    opening: &Opening,
-    mut fills: Vec<Fill>,
     steps: &mut Steps<L>,
 ) -> Result<SweepPlan, Memory>
-    requires owners { AreOwners book.now owners.now }
-    requires valid { IsBook book.now }
-    requires opening { IsOpening book.now lines.now weight order.now owners.now opening.now }
     requires banks { book.now.banks ≡ lines.now.banks }
-    requires few { book.now.banks ≤ 64 }
     requires bank { order.now.bank < lines.now.banks }
-    requires pair { order.now.pair ≡ book.now.pair }
+    requires few { lines.now.banks ≤ 64 }
     requires weight { IsWeight weight }
-    requires left { 1 ≤ order.now.left }
-    requires first { fills.items ≡ first_fill lines.now weight order.now opening.now.first ∷ [] }
     ensures sweep { IfOk result (λ sweep. IsByLines book.now lines.now weight order.now sweep.fills sweep.left) }
-    ensures sum { IfOk result (AddsUp order.now) }
-    ensures lots { IfOk result IsWithinLines }
-    ensures steps { CameBefore book.now.orders order.now.arrival → IfOk result (λ sweep. steps.new + 1 ≤ steps.old + length owners.now + length sweep.fills) }
-    ensures some { IfOk result (λ sweep. 1 ≤ length sweep.fills) }
+    ensures steps { CameBefore book.now.orders order.now.arrival → IfOk result (λ sweep. steps.new ≤ steps.old + 2 * length sweep.fills) }
 {
     let mut walk = Walk {
         order: *order,
         weight,
-        lines: [0; BankId::SENDERS],
-        last: None,
+        used: [0; BankId::SENDERS],
+        heads: book.heads(order.side.opposite()),
     };
-    let mut heads = [None; BankId::COUNT];
-    walk.take_first(&mut heads, book, owners, lines, opening, steps);
-    while let Some(fill) = walk.next_fill(&mut heads, book, steps) {
+    let mut fills = Vec::new(alloc);
+    while let Some(fill) = walk.next_fill(lines, steps) {
         fills.push(fill)?;
     }
     Ok(SweepPlan {
         fills: FillList::from_vec(fills),
         left: walk.order.left,
     })
-}
-
-/// What an order fills first, with `maker`: all that both want, as far as the line pays for it. The order wants a lot at least, and
-/// the line with the maker's bank, which is another, pays for one.
-fn first_fill(lines: &CreditLines, weight: u32, order: &SweptOrder, maker: &Resting) -> Fill
-    requires taker { order.now.bank < lines.now.banks }
-    requires maker { maker.now.bank < lines.now.banks }
-    requires other { maker.now.bank ≢ order.now.bank }
-    requires weight { IsWeight weight }
-    requires left { 1 ≤ order.now.left }
-    requires reach { 1 ≤ line_in lines.now order.now.bank maker.now.bank / weight }
-    ensures value { result ≡ first_fill lines.now weight order.now maker.now }
-    ensures few { lines.now.banks ≤ 64 }
-{
-    let line = lines.eff(order.bank, maker.bank).get();
-    let lots = order.amount_by_line(maker, line, weight);
-    order.fill_with(maker, lots)
 }

@@ -11,7 +11,7 @@ pub record AreWords (words : List ℕ) : Type 0 where
   pub own : (bank : ℕ) → bank < 64 → slice_index words bank ≢ 2 ^ 64 - 1 → slice_index words bank % 64 ≡ bank
   pub most : (bank : ℕ) → bank < 64 → slice_index words bank < 2 ^ 64
 
--- the least of the words of the first so many banks with which a line of so many units at least is left
-pub record IsLeastWord (words lines : List ℕ) (units banks least : ℕ) : Type 0 where
-  pub first : (bank : ℕ) → bank < banks → units ≤ slice_index lines bank → least ≤ slice_index words bank
-  pub there : least ≢ 2 ^ 64 - 1 → (bank : ℕ) × (bank < banks) × (units ≤ slice_index lines bank) × (slice_index words bank ≡ least)
+-- the least of the words of the first so many banks
+pub record IsLeastWord (words : List ℕ) (banks least : ℕ) : Type 0 where
+  pub first : (bank : ℕ) → bank < banks → least ≤ slice_index words bank
+  pub there : least ≢ 2 ^ 64 - 1 → (bank : ℕ) × (bank < banks) × (slice_index words bank ≡ least)

@@ -1,134 +1,110 @@
--- A sweep as it goes, from one best order to the next, over a pair's book. All of this is for this crate's own functions,
+-- A sweep as it goes, from one best order to the next, over the heads of a book's side. All of this is for this crate's own functions,
 -- which plan.
-use Rattle.std.specs.Prelude.{ℕ, ◌≡◌, ◌≢◌, ◌≤◌, ◌<◌, ◌-◌, ◌*◌, ◌/◌, ◌^◌, Bool, true, false, ◌&&◌, nat_le, List, [], ◌∷◌, ◌⊎◌, Option, Some, None, IfSome, length, replicate, slice_index, slice_index_or, slice_set}
-use Rattle.std.specs.List.{Contains}
+use Rattle.std.specs.Prelude.{ℕ, ◌≡◌, ◌≢◌, ◌≤◌, ◌<◌, ◌+◌, ◌-◌, ◌*◌, ◌/◌, true, false, List, [], ◌∷◌, ◌⊎◌, length, Option, Some, None, IfSome, IsSomeAnd, slice_index, slice_set}
 use Rattle.fx_amounts.specs.Side.{opposite}
 use Rattle.fx_amounts.specs.declared.side.Side.{Side}
-use Rattle.fx_amounts.specs.Price.{crosses}
 use Rattle.fx_amounts.specs.Quantity.{IsWeight}
 use Rattle.fx_rules.specs.declared.orders.Fill.{Fill}
 use Rattle.fx_rules.specs.declared.orders.Resting.{Resting}
-use Rattle.fx_rules.specs.Lists.{Among, total}
-use Rattle.fx_rules.specs.Sweep.{Taker, is_open, is_preferred, amount, fill_with, less}
-use Rattle.fx_rules.specs.Plan.{Planned}
-use Rattle.global_book.specs.Behind.{IsCursor}
-use Rattle.global_book.specs.Book.{Book, IsBook}
+use Rattle.fx_rules.specs.Lists.{Among, Each, EachPair}
+use Rattle.fx_rules.specs.Sound.{ArrivesBefore}
+use Rattle.fx_rules.specs.Sweep.{Taker, IsBest, is_open, is_opposite, is_preferred, amount, fill_with, less}
+use Rattle.fx_rules.specs.Plan.{Planned, is_behind, open_behind}
+use Rattle.global_book.specs.Book.{Book, IsHeld}
+use Rattle.global_book.specs.Heads.{head_in}
 use Rattle.credit_lines.specs.Credit.{Credit, line_in}
-use Rattle.match_sweep.specs.declared.opening.Opening.{Opening}
 use Rattle.match_sweep.specs.declared.walk.Walk.{Walk}
-use Rattle.match_sweep.specs.inside.Heads.{IsFound, to_come, AreHeads}
 
--- the steps that it takes to find all heads behind the order taken last
-abbrev pub steps_behind : Option Resting → ℕ
-steps_behind None = 0
-steps_behind (Some taken) = 1
+-- what a walk's fills leave of the line with a bank
+abbrev pub left_with : Credit → Walk → ℕ → ℕ
+left_with credit walk bank = line_in credit walk.order.bank bank - slice_index walk.used bank
 
--- a walk with its heads
-pub record WholeWalk : Type 0 where
-  pub order : Taker
-  pub weight : ℕ
-  pub lines : List ℕ
-  pub heads : List (Option Resting)
-  pub last : Option Resting
+-- the lots that this pays for
+abbrev pub reach_of : Credit → Walk → ℕ → ℕ
+reach_of credit walk bank = left_with credit walk bank / walk.weight
 
-abbrev pub whole : Walk → List (Option Resting) → WholeWalk
-whole walk heads = record { order = walk.order; weight = walk.weight; lines = walk.lines; heads = heads; last = walk.last }
+-- the orders that are still open to a walk, behind the one that it took last, where it took one
+abbrev pub open_from : Credit → Walk → Option Resting → List Resting
+open_from credit walk last = open_behind (reach_of credit walk) walk.order last walk.heads.orders
 
--- the head of a bank
-abbrev pub head_of : WholeWalk → ℕ → Option Resting
-head_of walk bank = slice_index_or walk.heads bank None
+-- the fills that a walk still makes, and what they leave of its order
+abbrev pub FromHere : Credit → Walk → Option Resting → List Fill → ℕ → Type 0
+FromHere credit walk last fills left = Planned walk.weight (left_with credit walk) walk.heads.orders walk.order last fills left
 
--- the lots that what is left of the line with a bank pays for
-abbrev pub reach_of : WholeWalk → ℕ → ℕ
-reach_of walk bank = slice_index walk.lines bank / walk.weight
+-- a bank's head is an order of the bank, on the other side than a taker's
+pub record IsHeadOf (taker : Side) (orders : List Resting) (bank : ℕ) (head : Resting) : Type 0 where
+  pub there : Among head orders
+  pub owner : head.bank ≡ bank
+  pub opposite : is_opposite taker head.side ≡ true
 
--- the fills that a walk still makes over a book, and what they leave of its order
-abbrev pub FromHere : Book → WholeWalk → List Fill → ℕ → Type 0
-FromHere book walk fills left = Planned walk.weight (slice_index walk.lines) book.orders walk.order walk.last fills left
-
--- A fill leads a walk on: what it makes from there it makes behind the fill from here, and its order wants less.
-pub record LeadsOn (book : Book) (old new : WholeWalk) (fill : Fill) : Type 0 where
-  pub goes_on : (more : List Fill) (left : ℕ) → FromHere book new more left → FromHere book old (fill ∷ more) left
-  pub wants : new.order.left < old.order.left
-  pub arrival : new.order.arrival ≡ old.order.arrival
-  pub counted : steps_behind new.last ≡ 1
-
--- a step of a walk: a fill leads it on, or it is at its end
-abbrev pub StepsOn : Book → WholeWalk → WholeWalk → Option Fill → Type 0
-StepsOn book old new None = (new.order ≡ old.order) × FromHere book old [] old.order.left
-StepsOn book old new (Some fill) = LeadsOn book old new fill
-
--- The bank of a walk's order is one of the book's, which are 64 at most, and so is that of the order that was taken last, which rests on
--- the other side. There is no line with the order's own. The heads are those behind the order that was taken last, but for that of its bank.
-pub record IsReady (book : Book) (walk : WholeWalk) : Type 0 where
-  pub few : book.banks ≤ 64
-  pub bank : walk.order.bank < book.banks
-  pub taken : IfSome walk.last (λ taken. taken.bank < book.banks)
-  pub rests : IfSome walk.last (λ taken. IsCursor book.orders taken.bank (opposite walk.order.side) taken)
+-- The walk goes over the side of a book that is across from its order's, and by the lines of as many banks. What it has used of a line is
+-- at most the line.
+pub record IsWalk (credit : Credit) (walk : Walk) : Type 0 where
+  pub rising : EachPair ArrivesBefore walk.heads.orders
+  pub held : Each (IsHeld credit.banks) walk.heads.orders
+  pub bank : walk.order.bank < credit.banks
   pub weight : IsWeight walk.weight
-  pub own : slice_index walk.lines walk.order.bank ≡ 0
-  pub heads : (bank : ℕ) → bank < book.banks → IfSome walk.last (λ taken. bank ≢ taken.bank) → 1 ≤ reach_of walk bank →
-      IsFound walk.order (to_come walk.order bank walk.last book.orders) (head_of walk bank)
+  pub side : walk.heads.side ≡ opposite walk.order.side
+  pub count : length walk.heads.next ≡ 64
+  pub full : length walk.used ≡ 65
+  pub used : (bank : ℕ) → slice_index walk.used bank ≤ line_in credit walk.order.bank bank
+  pub heads : (bank : ℕ) → IfSome (head_in walk.heads bank) (IsHeadOf walk.order.side walk.heads.orders bank)
 
--- a walk with all its heads found, and nothing else changed
-pub record IsRenewed (book : Book) (old new : WholeWalk) : Type 0 where
-  pub same : new ≡ record old { heads = new.heads }
-  pub heads : AreHeads (reach_of new) new.order new.last book.orders book.banks (head_of new)
+-- The walk has come behind the order that it took last, where it took one: so has each head, and none of the orders that are still open
+-- stands before its bank's head.
+pub record HasCome (credit : Credit) (walk : Walk) (last : Option Resting) : Type 0 where
+  pub behind : (bank : ℕ) → IfSome (head_in walk.heads bank) (λ head. is_behind walk.order.side last head ≡ true)
+  pub all : (order : Resting) → Among order walk.heads.orders → is_open walk.order (reach_of credit walk order.bank) order ≡ true → is_behind walk.order.side last order ≡ true
+      → IsSomeAnd (head_in walk.heads order.bank) (λ head. is_preferred walk.order.side order head ≡ false)
 
--- the head of a bank may be taken: the line with the bank pays for a lot, and the order takes its price
-abbrev pub may_take : WholeWalk → ℕ → Resting → Bool
-may_take walk bank head =
-    nat_le walk.weight (slice_index walk.lines bank) && crosses walk.order.side walk.order.price head.price
+-- an order may be taken: it is the best head, of another bank than the walk's own, and what is left of the line pays for a lot
+pub record MayTake (credit : Credit) (walk : Walk) (maker : Resting) : Type 0 where
+  pub is : head_in walk.heads maker.bank ≡ Some maker
+  pub other : maker.bank ≢ walk.order.bank
+  pub within : maker.bank < credit.banks
+  pub line : walk.weight ≤ left_with credit walk maker.bank
+  pub first : (bank : ℕ) → IfSome (head_in walk.heads bank) (λ head. is_preferred walk.order.side head maker ≡ false)
 
--- a head of one of these banks that may be taken
-pub record IsTakable (walk : WholeWalk) (banks : List ℕ) (found : Resting) : Type 0 where
-  pub at : ℕ
-  pub within : Contains banks at
-  pub is : head_of walk at ≡ Some found
-  pub may : may_take walk at found ≡ true
+-- the best of the orders that are still open, to which the walk has come; or none is open
+abbrev pub ComesTo : Credit → Walk → Option Resting → Option Resting → Type 0
+ComesTo credit walk last None = open_from credit walk last ≡ []
+ComesTo credit walk last (Some maker) = HasCome credit walk last × IsBest walk.order.side (open_from credit walk last) maker
 
--- the best of the heads of these banks that may be taken, or there is none
-abbrev pub IsPicked : WholeWalk → List ℕ → Option Resting → Type 0
-IsPicked walk banks None =
-    (bank : ℕ) (head : Resting) → Contains banks bank → head_of walk bank ≡ Some head → may_take walk bank head ≡ false
-IsPicked walk banks (Some best) =
-    IsTakable walk banks best
-    × ((bank : ℕ) (head : Resting) → Contains banks bank → head_of walk bank ≡ Some head → may_take walk bank head ≡ true →
-    is_preferred walk.order.side head best ≡ false)
-
--- The best is looked for by the numbers of banks: a bank has a head that may be taken, one head is preferred to another, and a
--- bank's head is the best of all so far.
-
-abbrev pub may_take_head : WholeWalk → ℕ → Option Resting → Bool
-may_take_head walk bank None = false
-may_take_head walk bank (Some head) = may_take walk bank head
-
-abbrev pub is_ahead : Side → Option Resting → Option Resting → Bool
-is_ahead side (Some head) (Some other) = is_preferred side head other
-is_ahead side _ _ = false
-
-abbrev pub leads : WholeWalk → ℕ → Option ℕ → Bool
-leads walk bank None = may_take_head walk bank (head_of walk bank)
-leads walk bank (Some best) =
-    may_take_head walk bank (head_of walk bank) && is_ahead walk.order.side (head_of walk bank) (head_of walk best)
-
--- the bank, of these, with the best of the heads that may be taken, or there is none
-abbrev pub IsPickedAt : WholeWalk → List ℕ → Option ℕ → Type 0
-IsPickedAt walk banks None = (bank : ℕ) → Contains banks bank → may_take_head walk bank (head_of walk bank) ≡ false
-IsPickedAt walk banks (Some best) =
-    Contains banks best × (best < 64) × (may_take_head walk best (head_of walk best) ≡ true)
-    × ((bank : ℕ) → Contains banks bank → may_take_head walk bank (head_of walk bank) ≡ true →
-    is_ahead walk.order.side (head_of walk bank) (head_of walk best) ≡ false)
+-- how many orders a search looked at that came to this one
+abbrev pub looks_for : Option Resting → ℕ
+looks_for None = 0
+looks_for (Some maker) = 1
 
 -- an order is taken: of its lots as many as are wanted and as the line pays for
-pub record Takes (old new : WholeWalk) (found : Resting) (fill : Fill) : Type 0 where
-  pub is : fill ≡ fill_with old.order found (amount old.order found (reach_of old found.bank))
+pub record Takes (credit : Credit) (old new : Walk) (maker : Resting) (fill : Fill) : Type 0 where
+  pub is : fill ≡ fill_with old.order maker (amount old.order maker (reach_of credit old maker.bank))
   pub some : 1 ≤ fill.lots
   pub now : new ≡ record old {
     order = less old.order fill.lots;
-    lines = slice_set old.lines found.bank (slice_index old.lines found.bank - fill.lots * old.weight);
-    last = Some found;
+    used = slice_set old.used maker.bank (slice_index old.used maker.bank + fill.lots * old.weight);
   }
+
+-- A fill leads a walk on: what it makes from there it makes behind the fill from here, and its order wants less.
+pub record LeadsOn (credit : Credit) (old new : Walk) (last : Option Resting) (fill : Fill) : Type 0 where
+  pub maker : Resting
+  pub has_come : 1 ≤ new.order.left → HasCome credit new (Some maker)
+  pub goes_on : (more : List Fill) (left : ℕ) → FromHere credit new (Some maker) more left → FromHere credit old last (fill ∷ more) left
+  pub wants : new.order.left < old.order.left
+
+-- a step of a walk: a fill leads it on, or it is at its end
+abbrev pub StepsOn : Credit → Walk → Walk → Option Resting → Option Fill → Type 0
+StepsOn credit old new last None = (new.order ≡ old.order) × FromHere credit old last [] old.order.left
+StepsOn credit old new last (Some fill) = LeadsOn credit old new last fill
+
+-- a walk is over the same orders as another one
+pub record IsAlong (old new : Walk) : Type 0 where
+  pub orders : new.heads.orders ≡ old.heads.orders
+  pub arrival : new.order.arrival ≡ old.order.arrival
+
+-- how many looks a fill takes
+abbrev pub looks_of : Option Fill → ℕ
+looks_of None = 0
+looks_of (Some fill) = 2
 
 -- Two tables of lines tell the same of an order: they have one line with its bank, or by neither is it open to a taker.
 abbrev pub AgreeOn : ℕ → Taker → (ℕ → ℕ) → (ℕ → ℕ) → Resting → Type 0
@@ -143,56 +119,3 @@ AgreeInBook weight t lines others orders = (order : Resting) → Among order ord
 -- the sweep of an order as the lines of its bank allow it, whatever the bank's total leaves
 abbrev pub IsByLines : Book → Credit → ℕ → Taker → List Fill → ℕ → Type 0
 IsByLines book credit weight t fills left = Planned weight (line_in credit t.bank) book.orders t None fills left
-
--- a walk of an order before its first fill, by the lines of the order's bank
-pub record Begins (book : Book) (credit : Credit) (weight : ℕ) (taker : Taker) (walk : WholeWalk) : Type 0 where
-  pub valid : IsBook book
-  pub order : walk.order ≡ taker
-  pub weighs : walk.weight ≡ weight
-  pub last : walk.last ≡ None
-  pub agrees : AgreeInBook weight taker (slice_index walk.lines) (line_in credit taker.bank) book.orders
-  pub most : total (λ line. line) walk.lines ≤ 65 * 10 ^ 15
-
--- a walk that has found no line and no head
-pub record IsBare (walk : WholeWalk) : Type 0 where
-  pub lines : walk.lines ≡ replicate 65 0
-  pub heads : walk.heads ≡ replicate 64 None
-  pub last : walk.last ≡ None
-
--- nothing but lines and heads changed
-pub record KeepsOrder (old new : WholeWalk) : Type 0 where
-  pub same : new ≡ record old { lines = new.lines; heads = new.heads }
-  pub long : length new.lines ≡ length old.lines
-
--- the line with a bank is found, and its head, unless the sweep takes from it first
-pub record OpensBank (book : Book) (credit : Credit) (old new : WholeWalk) (bank first : ℕ) : Type 0 where
-  pub keeps : KeepsOrder old new
-  pub line : slice_index new.lines bank ≡ line_in credit old.order.bank bank
-  pub most : line_in credit old.order.bank bank ≤ 10 ^ 15
-  pub head : bank ≢ first → IsFound old.order (to_come old.order bank None book.orders) (head_of new bank)
-  pub others : (other : ℕ) → other ≢ bank → (slice_index new.lines other ≡ slice_index old.lines other) × (head_of new other ≡ head_of old other)
-
--- a bank is one of these, and something may be taken of it
-pub record IsMarked (banks : List ℕ) (opening : Opening) (bank : ℕ) : Type 0 where
-  pub there : Contains banks bank
-  pub opens : slice_index_or opening.opens bank false ≡ true
-
--- so it is of each of these banks of which something may be taken, and there is no line with any other
-pub record AreOpened (book : Book) (credit : Credit) (banks : List ℕ) (opening : Opening) (old new : WholeWalk) : Type 0 where
-  pub keeps : KeepsOrder old new
-  pub most : (bank : ℕ) → slice_index new.lines bank ≤ 10 ^ 15
-  pub lines : (bank : ℕ) → IsMarked banks opening bank → slice_index new.lines bank ≡ line_in credit old.order.bank bank
-  pub shut : (bank : ℕ) → (IsMarked banks opening bank → ⊥) → slice_index new.lines bank ≡ 0
-  pub heads : (bank : ℕ) → IsMarked banks opening bank → bank ≢ opening.first.bank →
-      IsFound old.order (to_come old.order bank None book.orders) (head_of new bank)
-
--- what an order fills first, with this order
-abbrev pub first_fill : Credit → ℕ → Taker → Resting → Fill
-first_fill credit weight t maker = fill_with t maker (amount t maker (line_in credit t.bank maker.bank / weight))
-
--- a walk behind its first fill
-pub record BeginsBehind (book : Book) (credit : Credit) (weight : ℕ) (taker : Taker) (fill : Fill) (walk : WholeWalk) : Type 0 where
-  pub first : WholeWalk
-  pub begins : Begins book credit weight taker first
-  pub leads : LeadsOn book first walk fill
-  pub ready : IsReady book walk

@@ -1,7 +1,7 @@
-use Rattle.std.proofs.Common.{arith}
+use Rattle.std.proofs.Common.{refl, get_or}
 use Rattle.access_index.proofs.Wording.{least_more}
 use Rattle.access_index.proofs.words.least_word.Goals as goal
 
 pub loop-bank-preserved : goal.loop-bank-preserved
 loop-bank-preserved c =
-    least_more c.args.words.now c.args.lines.now c.args.units c.loop-bank.bank c.loop-bank.least c.open_word.result c.min-least.result c.open_word.ensures c.min-least.ensures (omega (arith, c.open_word.type_inv)) c.loop-bank.invariant
+    least_more c.args.words.now c.loop-bank.bank c.loop-bank.least (get_or c.args.words.now c.loop-bank.bank 0) c.min-least.result refl c.min-least.ensures c.loop-bank.invariant

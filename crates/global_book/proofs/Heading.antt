@@ -1,0 +1,380 @@
+-- The heads of a walk along a side: what a word tells of the list of the orders, the best of the heads, and the next head of a bank.
+use Rattle.std.proofs.Common.{ℕ, zero, suc, ◌≡◌, ◌≢◌, ◌-◌, ◌≤◌, ◌<◌, ◌^◌, ◌⊎◌, true, false, Bool, not, ◌&&◌, leb, ltb, min, List, [], ◌∷◌, length, map, Option, Some, None, get_or, inl, inr, refl, ap, sym, subst, ◌∙◌, arith}
+use Rattle.std.proofs.Math.ListN.{set}
+use Rattle.std.proofs.lemmas.Bool.{and_from, and_parts, both_ways, cases_Bool, cases_eq, cases_lt, eq-eqb, eqb-true, false_from_ne_true, le-leb, lt-leb, lt-ltb}
+use Rattle.std.proofs.lemmas.List.{get_or-set_other, get_or-set_same, length-map, length-set, map-set}
+use Rattle.std.specs.List.{filter}
+use Rattle.std.specs.Option.{IfSome, IsSome, option_map}
+use Rattle.fx_amounts.specs.Price.{crosses}
+use Rattle.fx_amounts.specs.Side.{opposite}
+use Rattle.fx_amounts.specs.declared.side.Side.{Side}
+use Rattle.fx_amounts.specs.declared.side.Side.TheVariants.{Buy, Sell}
+use Rattle.fx_rules.specs.declared.orders.Resting.{Resting}
+use Rattle.fx_rules.specs.Lists.{Among, Each}
+use Rattle.fx_rules.specs.Sweep.{IsBest, is_opposite, is_preferred}
+use Rattle.fx_rules.proofs.ListLemmas.{Each-among, Each-of, Among-filter, among_filter}
+use Rattle.fx_rules.proofs.Preference.{preferred_self, preferred_trans}
+use Rattle.access_index.specs.declared.words.Head.{Head}
+use Rattle.access_index.specs.Heads.{IsHead, IsLeastHead, IsUpTo}
+use Rattle.access_index.specs.Ranked.{IsHeadOf, bank_level}
+use Rattle.order_store.specs.Linked.{AreRising}
+use Rattle.global_book.specs.Behind.{is_owned_behind, owned_behind}
+use Rattle.global_book.specs.Book.{Book, IsHeld, is_of}
+use Rattle.global_book.specs.Heads.{Heads, IsBegun, IsLeast, IsNext, PassesHead, count_to_come, head_in, is_from_head, is_to_come, with_head}
+use Rattle.global_book.specs.Room.{ladders_of, rank_of}
+use Rattle.global_book.specs.inside.Bests.{IsBestAt, IsBestOf, is_own_behind, is_own_from, is_past}
+use Rattle.global_book.specs.inside.Ends.{orders_of}
+use Rattle.global_book.specs.inside.Heads.{TellHeads, TellsOrder, order_told}
+use Rattle.global_book.specs.inside.Linked.{AreKept, AreLinked, IsPriced, Linked, orders_in}
+use Rattle.global_book.specs.inside.Owning.{is_own}
+use Rattle.global_book.proofs.Behind.{best-past, none-past, past-none, past-some}
+use Rattle.global_book.proofs.Ending.{order_is, own_side, same_side}
+use Rattle.global_book.proofs.Listing.{among-at, each-at}
+use Rattle.global_book.proofs.Preferring.{first-found, none-found, preferred-better, preferred-earlier, rank-better}
+use Rattle.global_book.proofs.Reached.{not-both, not-self}
+use Rattle.global_book.proofs.Seeking.{fewer}
+use Rattle.global_book.proofs.Telling.{rank-one}
+use Rattle.global_book.proofs.Within.{none_allowed}
+use Rattle.global_book.proofs.Words.{rank-is}
+
+-- Heads as they are seen.
+
+-- what is told of a bank is its head
+pub told-at : (slots : List (Option Resting)) (words : List (Option Head)) (bank : ℕ) → get_or (map (order_told slots) words) bank None ≡ order_told slots (get_or words bank None)
+told-at slots [] zero = refl
+told-at slots [] (suc bank) = refl
+told-at slots (word ∷ words) zero = refl
+told-at slots (word ∷ words) (suc bank) = told-at slots words bank
+
+-- the heads that words tell
+abbrev pub heads_told : Linked → Side → List (Option Head) → Heads
+heads_told linked side words = record { side = side; orders = orders_in linked; next = map (order_told linked.orders.slots) words }
+
+-- Ranks and limits.
+
+limit-rank : (side : Side) (limit price : ℕ) → limit ≤ 10 ^ 9 → price ≤ 10 ^ 9 → rank_of side price ≤ rank_of side limit → crosses (opposite side) limit price ≡ true
+limit-rank Buy limit price most most' upto = le-leb limit price (omega (arith, most, most', upto))
+limit-rank Sell limit price most most' upto = le-leb price limit upto
+
+pub dear-rank : (side : Side) (limit price : ℕ) → limit ≤ 10 ^ 9 → price ≤ 10 ^ 9 → rank_of side limit < rank_of side price → crosses (opposite side) limit price ≡ false
+dear-rank Buy limit price most most' above = lt-leb limit price (omega (arith, most, most', above))
+dear-rank Sell limit price most most' above = lt-leb price limit above
+
+-- What the best orders of a side are.
+module _ (banks : ℕ) (linked : Linked) (side : Side) (kept : AreKept banks linked) (ladders : AreLinked linked.orders.slots linked.ladders) where
+  -- the best order of a bank is at its head's place
+  best-of : (bank : ℕ) (head : Option Head) → IsHeadOf (bank_level (ladders_of linked.ladders side) bank) head → IsBestOf linked.orders.slots (is_own_from bank side 0) side (option_map (λ (h : Head). h.place) head)
+  best-of bank None none = none-found linked.orders.slots bank side (bank_level (ladders_of linked.ladders side)) (ladders.told side) ladders.priced kept.listed.rising kept.listed.lots 0 (λ rank from. none rank)
+  best-of bank (Some head) is =
+      subst (IsBestAt linked.orders.slots (is_own_from bank side 0) side) (sym is.1)
+      (first-found linked.orders.slots bank side (bank_level (ladders_of linked.ladders side)) (ladders.told side) ladders.priced kept.listed.rising kept.listed.lots 0 head.rank is.0)
+
+  tells-best : (bank : ℕ) (head : Option Head) → IsHeadOf (bank_level (ladders_of linked.ladders side) bank) head → IfSome head IsHead → IfSome head (TellsOrder linked.orders.slots side bank)
+  tells-best bank None is fits = tt
+  tells-best bank (Some head) is fits =
+      let at : IsBestAt linked.orders.slots (is_own_from bank side 0) side head.place = best-of bank (Some head) is in
+      record {
+        order = at.order;
+        is = at.is;
+        own = (and_parts (is_own bank side at.order) (leb 0 (rank_of side at.order.price)) at.passes_it).0;
+        rank = sym (rank-is linked.orders.slots bank side (bank_level (ladders_of linked.ladders side)) (ladders.told side) ladders.priced kept.listed.rising kept.listed.lots head.rank at.order is.0.some
+            (ap (λ p. get_or linked.orders.slots p None) (sym is.1) ∙ at.is));
+        fits = fits;
+      }
+
+  -- the best orders are told
+  pub heads-tell : (words : List (Option Head)) → length words ≡ 64
+      → ((bank : ℕ) → bank < 64 → IsHeadOf (bank_level (ladders_of linked.ladders side) bank) (get_or words bank None) × IfSome (get_or words bank None) IsHead) → TellHeads banks linked side words
+  heads-tell words count are = record {
+    kept = kept;
+    priced = ladders.priced;
+    count = count;
+    tells = λ bank. elim (cases_lt bank 64) [
+      | inl small ↦ tells-best bank (get_or words bank None) (are bank small).0 (are bank small).1
+      | inr past ↦ subst (λ (h : Option Head). IfSome h (TellsOrder linked.orders.slots side bank)) (sym (past-end words bank (omega (arith, count, past)))) tt
+    ];
+  }
+    where
+      past-end : (words : List (Option Head)) (bank : ℕ) → length words ≤ bank → get_or words bank None ≡ None
+      past-end [] zero past = refl
+      past-end [] (suc bank) past = refl
+      past-end (word ∷ words) zero past = absurd (omega (arith, past))
+      past-end (word ∷ words) (suc bank) past = past-end words bank (omega (arith, past))
+
+-- The next order of a bank, by its place.
+module _ (banks : ℕ) (linked : Linked) (side : Side) (kept : AreKept banks linked) where
+  pub next-told : (bank : ℕ) (past : Option Resting) (head : Option Head) → IsBestOf linked.orders.slots (is_past bank side past) side (option_map (λ (h : Head). h.place) head)
+      → IsNext side bank past (orders_in linked) (order_told linked.orders.slots head)
+  next-told bank past None none = none-past banks linked bank side past kept none
+  next-told bank past (Some head) best =
+      subst (IsNext side bank past (orders_in linked)) (sym best.is) (best-past banks linked bank side past head.place best.order kept best best.is)
+
+  -- the best order of each bank is its head as a walk begins
+  pub next-best : (ladders : AreLinked linked.orders.slots linked.ladders) (bank : ℕ) (head : Option Head) → IsHeadOf (bank_level (ladders_of linked.ladders side) bank) head
+      → IsNext side bank None (orders_in linked) (order_told linked.orders.slots head)
+  next-best ladders bank head is =
+      next-told bank None head (past-none linked.orders.slots bank side (option_map (λ (h : Head). h.place) head) (best-of banks linked side kept ladders bank head is))
+
+  -- where no head is within a limit, no order of the side is
+  pub all-dear : (ladders : AreLinked linked.orders.slots linked.ladders) (words : List (Option Head)) (limit : ℕ)
+      → ((bank : ℕ) → bank < 64 → IsHeadOf (bank_level (ladders_of linked.ladders side) bank) (get_or words bank None) × IfSome (get_or words bank None) IsHead)
+      → ((bank : ℕ) → IfSome (head_in (heads_told linked side words) bank) (λ (o : Resting). crosses (opposite side) limit o.price ≡ false))
+      → Each (λ (o : Resting). o.side ≡ side → crosses (opposite side) limit o.price ≡ false) (orders_in linked)
+  all-dear ladders words limit are dear =
+      each-at (λ (o : Resting). o.side ≡ side → crosses (opposite side) limit o.price ≡ false) linked.orders.slots (λ place order at side_is.
+      of-next order (among-at linked.orders.slots place order at) (kept.held place order at).arrival_most side_is (order_told linked.orders.slots (get_or words order.bank None))
+      (next-best ladders order.bank (get_or words order.bank None) (are order.bank (ladders.priced place order at).bank).0)
+      (subst (λ (f : Option Resting). IfSome f (λ (o : Resting). crosses (opposite side) limit o.price ≡ false)) (told-at linked.orders.slots words order.bank) (dear order.bank)))
+    where
+      owned : (order : Resting) → Among order (orders_in linked) → order.arrival < 2 ^ 64 → order.side ≡ side → Among order (owned_behind side order.bank (2 ^ 64) None (orders_in linked))
+      owned order there few side_is =
+          among_filter (is_owned_behind (opposite side) order.bank (2 ^ 64) None) (orders_in linked) order there
+          (and_from (is_opposite (opposite side) order.side && is_of order.bank order && ltb order.arrival (2 ^ 64)) true
+          (and_from (is_opposite (opposite side) order.side && is_of order.bank order) (ltb order.arrival (2 ^ 64))
+          (and_from (is_opposite (opposite side) order.side) (is_of order.bank order) (subst (λ (s : Side). is_opposite (opposite side) s ≡ true) (sym side_is) (own_side side)) (eq-eqb order.bank order.bank refl))
+          (lt-ltb order.arrival (2 ^ 64) few)) refl)
+
+      of-next : (order : Resting) → Among order (orders_in linked) → order.arrival < 2 ^ 64 → order.side ≡ side → (found : Option Resting) → IsNext side order.bank None (orders_in linked) found
+          → IfSome found (λ (o : Resting). crosses (opposite side) limit o.price ≡ false) → crosses (opposite side) limit order.price ≡ false
+      of-next order there few side_is None none dear = absurd (subst (Among order) none (owned order there few side_is))
+      of-next order there few side_is (Some head) best dear =
+          Each-among (λ (o : Resting). crosses (opposite side) limit o.price ≡ false) (owned_behind side order.bank (2 ^ 64) None (orders_in linked)) order
+          (none_allowed (opposite side) limit (owned_behind side order.bank (2 ^ 64) None (orders_in linked)) head best dear) (owned order there few side_is)
+
+-- A walk's heads.
+
+if-told : (words : List (Option Head)) (slots : List (Option Resting)) (bank : ℕ) (one : Resting) → order_told slots (get_or words bank None) ≡ Some one → (head : Head) × (get_or words bank None ≡ Some head) × (get_or slots head.place None ≡ Some one)
+if-told words slots bank one is = of (get_or words bank None) refl is
+  where
+    of : (word : Option Head) → get_or words bank None ≡ word → order_told slots word ≡ Some one → (head : Head) × (get_or words bank None ≡ Some head) × (get_or slots head.place None ≡ Some one)
+    of None seen is = absurd (cc)
+    of (Some head) seen is = (head, seen, is)
+
+module _ (banks : ℕ) (linked : Linked) (side : Side) (words : List (Option Head)) (are : TellHeads banks linked side words) where
+  pub told : (bank : ℕ) (head : Head) → get_or words bank None ≡ Some head → TellsOrder linked.orders.slots side bank head
+  told bank head is = subst (λ (h : Option Head). IfSome h (TellsOrder linked.orders.slots side bank)) is (are.tells bank)
+
+  pub head-told : (bank : ℕ) (head : Head) (is : get_or words bank None ≡ Some head) → head_in (heads_told linked side words) bank ≡ Some (told bank head is).order
+  head-told bank head is = told-at linked.orders.slots words bank ∙ ap (order_told linked.orders.slots) is ∙ (told bank head is).is
+
+  -- an order's bank is one of the book's
+  within : (bank : ℕ) (head : Head) → get_or words bank None ≡ Some head → bank < min banks 64
+  within bank head is =
+      let it : TellsOrder linked.orders.slots side bank head = told bank head is in
+      let owner : it.order.bank ≡ bank = eqb-true it.order.bank bank (and_parts (is_of bank it.order) (is_opposite (opposite side) it.order.side) it.own).0 in
+      let held : IsHeld banks it.order = are.kept.held head.place it.order it.is in
+      let priced : IsPriced it.order = are.priced head.place it.order it.is in
+      omega (arith, owner, held.bank, priced.bank)
+
+  price-most : (bank : ℕ) (head : Head) (is : get_or words bank None ≡ Some head) → (told bank head is).order.price ≤ 10 ^ 9
+  price-most bank head is = (are.priced head.place (told bank head is).order (told bank head is).is).price
+
+  -- a head that is as good as another one at least is not behind it
+  not-behind : (bank other : ℕ) (a b : Head) (is : get_or words bank None ≡ Some a) (is' : get_or words other None ≡ Some b) → IsUpTo a b → is_preferred (opposite side) (told other b is').order (told bank a is).order ≡ false
+  not-behind bank other a b is is' (inl lower) =
+      let one = told bank a is in
+      let two = told other b is' in
+      not-both (opposite side) one.order two.order (preferred-better (opposite side) one.order two.order
+      (rank-better side one.order.price two.order.price (price-most bank a is) (omega (arith, lower, one.rank, two.rank))))
+  not-behind bank other a b is is' (inr same) =
+      let one = told bank a is in
+      let two = told other b is' in
+      elim (cases_lt a.place b.place) [
+        | inl before ↦
+            not-both (opposite side) one.order two.order (preferred-earlier (opposite side) one.order two.order
+            (rank-one side one.order.price two.order.price (price-most bank a is) (price-most other b is') (sym one.rank ∙ same.0 ∙ two.rank))
+            (are.kept.listed.rising a.place b.place one.order two.order one.is two.is before))
+        | inr after ↦
+            let place : b.place ≡ a.place = omega (arith, same.1, after) in
+            let alike : one.order ≡ two.order = order_is linked.orders.slots a.place one.order two.order one.is (ap (λ p. get_or linked.orders.slots p None) (sym place) ∙ two.is) in
+            subst (λ (o : Resting). is_preferred (opposite side) o one.order ≡ false) alike (not-self (opposite side) one.order)
+      ]
+
+  -- the least word is of the best head, where its rank is up to that of a limit
+  pub least-found : (limit bank : ℕ) (head : Head) → limit ≤ 10 ^ 9 → IsLeastHead words (min banks 64) bank head → head.rank ≤ rank_of side limit → IsLeast (heads_told linked side words) limit bank
+  least-found limit bank head most least upto =
+      let one = told bank head least.there in
+      record {
+        within = omega (arith, least.within);
+        head = one.order;
+        is = head-told bank head least.there;
+        allowed = limit-rank side limit one.order.price most (price-most bank head least.there) (omega (arith, one.rank, upto));
+        first = λ other two has.
+            let it = if-told words linked.orders.slots other two (sym (told-at linked.orders.slots words other) ∙ has) in
+            let same : (told other it.0 it.1).order ≡ two = order_is linked.orders.slots it.0.place (told other it.0 it.1).order two (told other it.0 it.1).is it.2 in
+            subst (λ (o : Resting). is_preferred (opposite side) o one.order ≡ false) same
+            (not-behind bank other head it.0 least.there it.1 (least.first other it.0 (within other it.0 it.1) it.1));
+      }
+
+  if-head : (limit bank : ℕ) → ((head : Head) → (is : get_or words bank None ≡ Some head) → crosses (opposite side) limit (told bank head is).order.price ≡ false)
+      → IfSome (head_in (heads_told linked side words) bank) (λ (o : Resting). crosses (opposite side) limit o.price ≡ false)
+  if-head limit bank dear = of (get_or words bank None) refl
+    where
+      of : (word : Option Head) → get_or words bank None ≡ word → IfSome (head_in (heads_told linked side words) bank) (λ (o : Resting). crosses (opposite side) limit o.price ≡ false)
+      of None is = subst (λ (o : Option Resting). IfSome o (λ (o : Resting). crosses (opposite side) limit o.price ≡ false)) (sym (told-at linked.orders.slots words bank ∙ ap (order_told linked.orders.slots) is)) tt
+      of (Some head) is = subst (λ (o : Option Resting). IfSome o (λ (o : Resting). crosses (opposite side) limit o.price ≡ false)) (sym (head-told bank head is)) (dear head is)
+
+  -- where it is not, no head is within the limit
+  pub least-dear : (limit bank : ℕ) (head : Head) → limit ≤ 10 ^ 9 → IsLeastHead words (min banks 64) bank head → rank_of side limit < head.rank
+      → (other : ℕ) → IfSome (head_in (heads_told linked side words) other) (λ (o : Resting). crosses (opposite side) limit o.price ≡ false)
+  least-dear limit bank head most least above other =
+      if-head limit other (λ found is.
+      let rank : head.rank ≤ found.rank = elim (least.first other found (within other found is) is) [ inl lower ↦ omega (arith, lower) | inr same ↦ omega (arith, same.0) ] in
+      dear-rank side limit (told other found is).order.price most (price-most other found is) (omega (arith, rank, above, (told other found is).rank)))
+
+  -- there are no heads
+  pub least-none : (limit : ℕ) → ((bank : ℕ) → bank < min banks 64 → get_or words bank None ≡ None)
+      → (other : ℕ) → IfSome (head_in (heads_told linked side words) other) (λ (o : Resting). crosses (opposite side) limit o.price ≡ false)
+  least-none limit none other =
+      if-head limit other (λ found is. absurd (none-some found (sym (none other (within other found is)) ∙ is)))
+    where
+      none-some : (head : Head) → None ≡ Some head → ⊥
+      none-some head is = cc
+
+  -- Another head of a bank.
+
+  pub head-set : (bank : ℕ) (word : Option Head) → heads_told linked side (set words bank word) ≡ with_head (heads_told linked side words) bank (order_told linked.orders.slots word)
+  head-set bank word = ap (λ (next : List (Option Resting)). record { side = side; orders = orders_in linked; next = next }) (map-set (order_told linked.orders.slots) words bank word)
+
+  pub told-set : (bank : ℕ) (word : Option Head) → bank < 64 → IfSome word (TellsOrder linked.orders.slots side bank) → TellHeads banks linked side (set words bank word)
+  told-set bank word small tells = record {
+    kept = are.kept;
+    priced = are.priced;
+    count = length-set words bank word ∙ are.count;
+    tells = λ other. elim (cases_eq other bank) [
+      | inl same ↦
+          subst (λ (b : ℕ). IfSome (get_or (set words bank word) b None) (TellsOrder linked.orders.slots side b)) (sym same)
+          (subst (λ (h : Option Head). IfSome h (TellsOrder linked.orders.slots side bank)) (sym (get_or-set_same words bank word None (omega (arith, small, are.count)))) tells)
+      | inr differ ↦ subst (λ (h : Option Head). IfSome h (TellsOrder linked.orders.slots side other)) (sym (get_or-set_other words bank other word None differ)) (are.tells other)
+    ];
+  }
+
+  -- the order behind a head is told
+  pub told-behind : (bank : ℕ) (head : Head) (is : get_or words bank None ≡ Some head) (next : Option Head)
+      → IfSome (get_or linked.orders.slots head.place None) (λ (order : Resting). IsBestOf linked.orders.slots (is_own_behind order) order.side (option_map (λ (h : Head). h.place) next))
+      → IfSome next (λ (h : Head). IfSome (get_or linked.orders.slots h.place None) (λ (order : Resting). h.rank ≡ rank_of side order.price)) → IfSome next IsHead
+      → IfSome next (TellsOrder linked.orders.slots side bank) × IfSome (head_in (heads_told linked side words) bank) (λ (passed : Resting). IsNext side bank (Some passed) (orders_in linked) (order_told linked.orders.slots next))
+  told-behind bank head is next behind rank fits =
+      let it : TellsOrder linked.orders.slots side bank head = told bank head is in
+      let parts = and_parts (is_of bank it.order) (is_opposite (opposite side) it.order.side) it.own in
+      let best : IsBestOf linked.orders.slots (is_own_behind it.order) it.order.side (option_map (λ (h : Head). h.place) next) =
+      subst (λ (s : Option Resting). IfSome s (λ (order : Resting). IsBestOf linked.orders.slots (is_own_behind order) order.side (option_map (λ (h : Head). h.place) next))) it.is behind in
+      let past : IsBestOf linked.orders.slots (is_past bank side (Some it.order)) side (option_map (λ (h : Head). h.place) next) =
+      past-some linked.orders.slots bank side it.order (option_map (λ (h : Head). h.place) next) (eqb-true it.order.bank bank parts.0) (sym (same_side side it.order.side parts.1)) best in (
+        tells it.order next past rank fits,
+        subst (λ (o : Option Resting). IfSome o (λ (passed : Resting). IsNext side bank (Some passed) (orders_in linked) (order_told linked.orders.slots next))) (sym (head-told bank head is))
+            (next-told banks linked side are.kept bank (Some it.order) next past),
+      )
+    where
+      tells : (last : Resting) (next : Option Head) → IsBestOf linked.orders.slots (is_past bank side (Some last)) side (option_map (λ (h : Head). h.place) next)
+          → IfSome next (λ (h : Head). IfSome (get_or linked.orders.slots h.place None) (λ (order : Resting). h.rank ≡ rank_of side order.price)) → IfSome next IsHead → IfSome next (TellsOrder linked.orders.slots side bank)
+      tells last None best rank fits = tt
+      tells last (Some h) best rank fits = record {
+        order = best.order;
+        is = best.is;
+        own = (and_parts (is_own bank side best.order) (is_preferred (opposite side) last best.order) best.passes_it).0;
+        rank = subst (λ (s : Option Resting). IfSome s (λ (order : Resting). h.rank ≡ rank_of side order.price)) best.is rank;
+        fits = fits;
+      }
+
+-- Fewer orders are to come once a head is passed.
+
+-- the next head is behind the one that is passed
+pub is-behind : (side : Side) (bank : ℕ) (orders : List Resting) (head : Resting) (next : Option Resting) → IsNext side bank (Some head) orders next → IfSome next (λ (o : Resting). is_preferred (opposite side) head o ≡ true)
+is-behind side bank orders head None none = tt
+is-behind side bank orders head (Some next) best =
+    (and_parts _ (is_preferred (opposite side) head next) (Among-filter _ orders next best.there).1).1
+
+from-fewer : (taker : Side) (head : Resting) (next : Option Resting) (o : Resting) → IfSome next (λ (n : Resting). is_preferred taker head n ≡ true) → is_from_head taker next o ≡ true → is_from_head taker (Some head) o ≡ true
+from-fewer taker head None o behind on = absurd (cc)
+from-fewer taker head (Some next) o behind on =
+    ap not (false_from_ne_true (is_preferred taker o head) (λ before.
+    both_ways (is_preferred taker o next) (not-true (is_preferred taker o next) on) (preferred_trans taker o head next before behind)))
+  where
+    not-true : (b : Bool) → not b ≡ true → b ≡ false
+    not-true true is = absurd (cc)
+    not-true false is = refl
+
+head-gone : (taker : Side) (head : Resting) (next : Option Resting) → IfSome next (λ (n : Resting). is_preferred taker head n ≡ true) → is_from_head taker next head ≡ false
+head-gone taker head None behind = refl
+head-gone taker head (Some next) behind = ap not behind
+
+pub fewer-to-come : (heads : Heads) (bank : ℕ) (head : Resting) (next : Option Resting) → bank < length heads.next → Among head heads.orders → is_own bank heads.side head ≡ true → head_in heads bank ≡ Some head
+    → IfSome next (λ (n : Resting). is_preferred (opposite heads.side) head n ≡ true) → count_to_come (with_head heads bank next) < count_to_come heads
+fewer-to-come heads bank head next small there own is behind =
+    fewer (is_to_come (with_head heads bank next)) (is_to_come heads) heads.orders head there
+    (ap (λ (b : Bool). is_opposite taker head.side && b) (ap (λ (h : Option Resting). is_from_head taker h head) here' ∙ head-gone taker head next behind) ∙ and-false (is_opposite taker head.side))
+    (and_from (is_opposite taker head.side) (is_from_head taker (head_in heads head.bank) head) parts.1
+    (ap (λ (h : Option Resting). is_from_head taker h head) here ∙ ap not (not-self taker head)))
+    (λ o on.
+    let its = and_parts (is_opposite taker o.side) (is_from_head taker (head_in (with_head heads bank next) o.bank) o) on in
+    and_from (is_opposite taker o.side) (is_from_head taker (head_in heads o.bank) o) its.0 (elim (cases_eq o.bank bank) [
+      | inl same ↦
+          let old : head_in heads o.bank ≡ Some head = ap (head_in heads) same ∙ is in
+          let new : head_in (with_head heads bank next) o.bank ≡ next = ap (head_in (with_head heads bank next)) same ∙ get_or-set_same heads.next bank next None small in
+          ap (λ (h : Option Resting). is_from_head taker h o) old ∙ from-fewer taker head next o behind (sym (ap (λ (h : Option Resting). is_from_head taker h o) new) ∙ its.1)
+      | inr differ ↦ ap (λ (h : Option Resting). is_from_head taker h o) (sym (get_or-set_other heads.next bank o.bank next None differ)) ∙ its.1
+    ]))
+  where
+    taker : Side
+    taker = opposite heads.side
+
+    parts : (is_of bank head ≡ true) × (is_opposite taker head.side ≡ true)
+    parts = and_parts (is_of bank head) (is_opposite taker head.side) own
+
+    owner : head.bank ≡ bank
+    owner = eqb-true head.bank bank parts.0
+
+    here : head_in heads head.bank ≡ Some head
+    here = ap (head_in heads) owner ∙ is
+
+    here' : head_in (with_head heads bank next) head.bank ≡ next
+    here' = ap (head_in (with_head heads bank next)) owner ∙ get_or-set_same heads.next bank next None small
+
+    and-false : (b : Bool) → (b && false) ≡ false
+    and-false true = refl
+    and-false false = refl
+
+-- The walk as callers see it, once a head is passed.
+
+module _ (banks : ℕ) (linked : Linked) (side : Side) (words : List (Option Head)) (are : TellHeads banks linked side words) (bank : ℕ) where
+  if-head-of : (head : Option Head) → get_or words bank None ≡ head → IsSome (order_told linked.orders.slots head) → (one : Head) × (get_or words bank None ≡ Some one)
+  if-head-of None is some = absurd (cc)
+  if-head-of (Some one) is some = (one, is)
+
+  pub fewer-passed : bank < 64 → (next : Option Head) (old : Heads) → heads_told linked side words ≡ old → (words' : List (Option Head)) → words' ≡ set words bank next
+      → ((head : Resting) → head_in (heads_told linked side words) bank ≡ Some head → IfSome (order_told linked.orders.slots next) (λ (o : Resting). is_preferred (opposite side) head o ≡ true))
+      → IsSome (head_in old bank) → count_to_come (heads_told linked side words') < count_to_come old
+  fewer-passed small next old view words' is behind =
+      subst (λ (o : Heads). IsSome (head_in o bank) → count_to_come (heads_told linked side words') < count_to_come o) view (λ some.
+      let it = if-head-of (get_or words bank None) refl (subst (λ (f : Option Resting). IsSome f) (told-at linked.orders.slots words bank) some) in
+      let told_it = told banks linked side words are bank it.0 it.1 in
+      let here : head_in (heads_told linked side words) bank ≡ Some told_it.order = head-told banks linked side words are bank it.0 it.1 in
+      subst (λ (h : Heads). count_to_come h < count_to_come (heads_told linked side words)) (sym (ap (heads_told linked side) is ∙ head-set banks linked side words are bank next))
+      (fewer-to-come (heads_told linked side words) bank told_it.order (order_told linked.orders.slots next) (omega (arith, small, are.count, length-map words (order_told linked.orders.slots)))
+      (among-at linked.orders.slots it.0.place told_it.order told_it.is) told_it.own here
+      (behind told_it.order here)))
+
+  pub passes-next : (next : Option Head) (old : Heads) → heads_told linked side words ≡ old → (words' : List (Option Head)) → words' ≡ set words bank next
+      → IfSome (head_in (heads_told linked side words) bank) (λ (passed : Resting). IsNext side bank (Some passed) (orders_in linked) (order_told linked.orders.slots next))
+      → PassesHead old (heads_told linked side words') bank
+  passes-next next old view words' is behind =
+      subst (λ (o : Heads). PassesHead o (heads_told linked side words') bank) view (record {
+        head = order_told linked.orders.slots next;
+        is = ap (heads_told linked side) is ∙ head-set banks linked side words are bank next;
+        next = behind;
+      })
+
+  -- a bank without a head has none behind it
+  pub none-told : get_or words bank None ≡ None → (P : Resting → Type 0) → IfSome (head_in (heads_told linked side words) bank) P
+  none-told is P = subst (λ (f : Option Resting). IfSome f P) (sym (told-at linked.orders.slots words bank ∙ ap (order_told linked.orders.slots) is)) tt
+
+-- the walk that begins, as callers see it
+pub begun : (linked : Linked) (side : Side) (book : Book) (heads : Heads) → orders_in linked ≡ book.orders → heads.side ≡ side → heads.orders ≡ orders_in linked → length heads.next ≡ 64
+    → ((bank : ℕ) → bank < 64 → IsNext side bank None (orders_in linked) (head_in heads bank)) → IsBegun book side heads
+begun linked side book heads seen side_is orders_are count best = record {
+  side_is = side_is;
+  orders_are = orders_are ∙ seen;
+  count = count;
+  best = λ bank small. subst (λ (os : List Resting). IsNext side bank None os (head_in heads bank)) seen (best bank small);
+}
