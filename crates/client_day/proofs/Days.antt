@@ -29,10 +29,9 @@ use Rattle.reply_lines.specs.Day.{AreNoticesOf, IsJournalOf}
 use Rattle.reply_lines.specs.Desks.{DeskSoFar, nothing_yet}
 use Rattle.reply_lines.specs.Notices.Notice.{Replied}
 use Rattle.reply_lines.specs.Output.{entry_line}
-use Rattle.reply_lines.specs.declared.day_notices.DayNotices.{DayNotices}
 use Rattle.session_script.specs.declared.heard.Heard.{Heard}
 use Rattle.session_script.specs.declared.heard.Heard.TheVariants as heards
-use Rattle.client_day.specs.Days.{IsBehind, IsDayOf}
+use Rattle.client_day.specs.Days.{IsBehind, IsDayOf, IsHanded}
 use Rattle.client_day.specs.inside.Days.{IsClientOf, TakesAsked}
 use Rattle.client_day.specs.Desks.{with_notes}
 use Rattle.client_day.specs.inside.Desks.{HaveNoted}
@@ -42,6 +41,7 @@ use Rattle.client_day.specs.Notes.{event_notes, fill_notes, note_for, notes_of, 
 use Rattle.client_day.specs.Notes.Note.{Told}
 use Rattle.client_day.specs.Script.{Asked, ClientScript, client_script, declared_while, has_asked, no_script, with_asked, with_heard, with_line, with_stray}
 use Rattle.client_day.specs.declared.day.ClientDay.{ClientDay}
+use Rattle.client_day.specs.declared.handing.HandsBack.{HandsBack}
 use Rattle.client_day.proofs.Events.{answered-push, client_script-few, entries-push, notes-push, script-push, tagged-append}
 use Rattle.client_day.proofs.Noting.{with_notes-append}
 
@@ -62,7 +62,7 @@ day-stray h heard line was is plain =
     let next : client_script h (heard ++ heards.Stray line ∷ []) ≡ with_stray (client_script h heard) = script-push h no_script heard (heards.Stray line) ∙ plain in
     record {
       events = is.events;
-      behind = record { known = is.behind.known; served = is.behind.served; journal_is = is.behind.journal_is; answered = is.behind.answered; desks = is.behind.desks; noted = is.behind.noted };
+      behind = record { known = is.behind.known; served = is.behind.served; told = is.behind.told; journal_is = is.behind.journal_is; answered = is.behind.answered; desks = is.behind.desks; noted = is.behind.noted };
       clients = is.clients;
       clients_are = ap (λ (s : ClientScript). s.clients) next ∙ is.clients_are;
       asked_are = ap (λ (s : ClientScript). s.asked) next ∙ is.asked_are;
@@ -107,9 +107,9 @@ pub known-yet : (h : Header) (heard : List Heard) (day : ClientDay) (is : IsDayO
 known-yet h heard day is quiet = subst (λ (events : List Event). StandsFor h (tagged_in events) day.book) (no-events-yet h heard day is quiet) is.behind.known
 
 pub day-declared : (h : Header) (heard : List Heard) (line : TextLine) (was now : ClientDay) (client : Client) (is : IsDayOf h heard was) → client_line_of h was.book.clients line ≡ Declares client → was.trading ≡ false → AreClients h (was.book.clients ++ client ∷ [])
-    → now.run ≡ was.run → now.journal ≡ was.journal → now.strays ≡ was.strays → now.trading ≡ was.trading → now.book.clients ≡ was.book.clients ++ client ∷ [] → StandsFor h [] now.book → now.desks.items ≡ was.desks.items ++ nothing_yet ∷ []
+    → now.run ≡ was.run → now.notices ≡ was.notices → now.journal ≡ was.journal → now.strays ≡ was.strays → now.trading ≡ was.trading → now.book.clients ≡ was.book.clients ++ client ∷ [] → StandsFor h [] now.book → now.desks.items ≡ was.desks.items ++ nothing_yet ∷ []
     → IsDayOf h (heard ++ heards.Stray line ∷ []) now
-day-declared h heard line was now client is says quiet are run_is journal_is strays_is trading_is clients_is known desks_is =
+day-declared h heard line was now client is says quiet are run_is notices_is journal_is strays_is trading_is clients_is known desks_is =
     let script : ClientScript = client_script h heard in
     let none : is.events ≡ [] = no-events-yet h heard was is quiet in
     let next : client_script h (heard ++ heards.Stray line ∷ []) ≡ record { clients = script.clients ++ client ∷ []; asked = script.asked; strays = script.strays } =
@@ -121,7 +121,8 @@ day-declared h heard line was now client is says quiet are run_is journal_is str
       events = [];
       behind = record {
         known = known;
-        served = subst (λ run. HasServed stands AreNoticesOf h [] run) (sym run_is) (subst (λ (events : List Event). HasServed stands AreNoticesOf h (entries_of (tagged_in events)) was.run) none is.behind.served);
+        served = subst (λ run. HasServed stands IsHanded h [] run) (sym run_is) (subst (λ (events : List Event). HasServed stands IsHanded h (entries_of (tagged_in events)) was.run) none is.behind.served);
+        told = subst (AreNoticesOf h []) (sym notices_is) (subst (λ (events : List Event). AreNoticesOf h (entries_of (tagged_in events)) was.notices) none is.behind.told);
         journal_is = subst (IsJournalOf h []) (sym journal_is) (subst (λ (events : List Event). IsJournalOf h (entries_of (tagged_in events)) was.journal) none is.behind.journal_is);
         answered = tt;
         desks = omega (arith, ap length desks_is, ap length clients_is, length-append was.desks.items (nothing_yet ∷ []), length-append was.book.clients (client ∷ []), is.behind.desks);
@@ -172,13 +173,14 @@ noted-push h events event before after noted told c within =
 
 -- a refusal
 pub behind-refused : (h : Header) (events : List Event) (was now : ClientDay) (c : ℕ) (sent : Sent) (answer : Ask) → IsBehind h events was → answer ≡ ask_of h was.book.clients (tagged_in events) c sent.command → answer ≢ Pass
-    → now.run ≡ was.run → now.journal ≡ was.journal → now.book ≡ was.book → HaveNoted h (λ k. event_notes (tagged_in events) k (Refused c sent answer)) was.desks.items now.desks.items → IsBehind h (events ++ Refused c sent answer ∷ []) now
-behind-refused h events was now c sent answer is answers not run_is journal_is book_is noted =
+    → now.run ≡ was.run → now.notices ≡ was.notices → now.journal ≡ was.journal → now.book ≡ was.book → HaveNoted h (λ k. event_notes (tagged_in events) k (Refused c sent answer)) was.desks.items now.desks.items → IsBehind h (events ++ Refused c sent answer ∷ []) now
+behind-refused h events was now c sent answer is answers not run_is notices_is journal_is book_is noted =
     let same : tagged_in (events ++ Refused c sent answer ∷ []) ≡ tagged_in events = tagged-append events (Refused c sent answer ∷ []) ∙ append-nil (tagged_in events) in
     let clients_is : now.book.clients ≡ was.book.clients = ap (λ (b : Book). b.clients) book_is in
     record {
       known = subst (λ (book : Book). StandsFor h (tagged_in (events ++ Refused c sent answer ∷ [])) book) (sym book_is) (subst (λ (ts : List Tagged). StandsFor h ts was.book) (sym same) is.known);
-      served = subst (λ run. HasServed stands AreNoticesOf h (entries_of (tagged_in (events ++ Refused c sent answer ∷ []))) run) (sym run_is) (subst (λ (ts : List Tagged). HasServed stands AreNoticesOf h (entries_of ts) was.run) (sym same) is.served);
+      served = subst (λ run. HasServed stands IsHanded h (entries_of (tagged_in (events ++ Refused c sent answer ∷ []))) run) (sym run_is) (subst (λ (ts : List Tagged). HasServed stands IsHanded h (entries_of ts) was.run) (sym same) is.served);
+      told = subst (AreNoticesOf h (entries_of (tagged_in (events ++ Refused c sent answer ∷ [])))) (sym notices_is) (subst (λ (ts : List Tagged). AreNoticesOf h (entries_of ts) was.notices) (sym same) is.told);
       journal_is = subst (IsJournalOf h (entries_of (tagged_in (events ++ Refused c sent answer ∷ [])))) (sym journal_is) (subst (λ (ts : List Tagged). IsJournalOf h (entries_of ts) was.journal) (sym same) is.journal_is);
       answered = subst (λ (clients : List Client). AreAnswered h clients [] (events ++ Refused c sent answer ∷ [])) (sym clients_is) (answered-push h was.book.clients [] events (Refused c sent answer) is.answered (answers, not));
       desks = noted.count ∙ is.desks ∙ ap length (sym clients_is);
@@ -187,16 +189,17 @@ behind-refused h events was now c sent answer is answers not run_is journal_is b
 
 -- an entry
 pub behind-entered : (h : Header) (events : List Event) (was now : ClientDay) (who : Option ℕ) (e : Entry) → IsBehind h events was → HasPassed h was.book.clients (tagged_in events) (tag who e)
-    → HasServed stands AreNoticesOf h (entries_of (tagged_in events) ++ e ∷ []) now.run → now.journal.count ≡ was.journal.count + 1 → now.journal.lines.items ≡ was.journal.lines.items ++ entry_line h e
+    → HasServed stands IsHanded h (entries_of (tagged_in events) ++ e ∷ []) now.run → AreNoticesOf h (entries_of (tagged_in events) ++ e ∷ []) now.notices → now.journal.count ≡ was.journal.count + 1 → now.journal.lines.items ≡ was.journal.lines.items ++ entry_line h e
     → StandsFor h (tagged_in events ++ tag who e ∷ []) now.book → now.book.clients ≡ was.book.clients
     → HaveNoted h (λ c. note_for who c (Told (Replied e)) ++ flat_map (fill_notes (owner_in (tagged_in events ++ tag who e ∷ [])) c) (fills_of e.outcome)) was.desks.items now.desks.items
     → IsBehind h (events ++ Entered (tag who e) ∷ []) now
-behind-entered h events was now who e is passed served count lines known clients_is noted =
+behind-entered h events was now who e is passed served told count lines known clients_is noted =
     let more : tagged_in (events ++ Entered (tag who e) ∷ []) ≡ tagged_in events ++ tag who e ∷ [] = tagged-append events (Entered (tag who e) ∷ []) in
     let all : entries_of (tagged_in (events ++ Entered (tag who e) ∷ [])) ≡ entries_of (tagged_in events) ++ e ∷ [] = ap entries_of more ∙ entries-push (tagged_in events) (tag who e) in
     record {
       known = subst (λ (ts : List Tagged). StandsFor h ts now.book) (sym more) known;
-      served = subst (λ (es : List Entry). HasServed stands AreNoticesOf h es now.run) (sym all) served;
+      served = subst (λ (es : List Entry). HasServed stands IsHanded h es now.run) (sym all) served;
+      told = subst (λ (es : List Entry). AreNoticesOf h es now.notices) (sym all) told;
       journal_is = subst (λ (es : List Entry). IsJournalOf h es now.journal) (sym all) (record {
         count = count ∙ ap (λ n. n + 1) is.journal_is.count ∙ sym (length-append (entries_of (tagged_in events)) (e ∷ []));
         lines = lines ∙ ap₂ (λ (a b : List ℕ). a ++ b) is.journal_is.lines (sym (append-nil (entry_line h e))) ∙ sym (flat_map-append (entry_line h) (entries_of (tagged_in events)) (e ∷ []));
@@ -230,16 +233,16 @@ weights-of h events day is = ap length is.known.stands.weights ∙ length-map h.
 
 -- it is refused
 pub takes-refused : (h : Header) (was now : ClientDay) (c bank : ℕ) (command : Command) (answer : Ask) → ((tagged : List Tagged) → StandsFor h tagged was.book → answer ≡ ask_of h was.book.clients tagged c command) → answer ≢ Pass
-    → now.run ≡ was.run → now.journal ≡ was.journal → now.book ≡ was.book → now.strays ≡ was.strays → now.trading ≡ true → HaveNoted h (λ k. if eqb c k then refusal_notes answer else []) was.desks.items now.desks.items
+    → now.run ≡ was.run → now.notices ≡ was.notices → now.journal ≡ was.journal → now.book ≡ was.book → now.strays ≡ was.strays → now.trading ≡ true → HaveNoted h (λ k. if eqb c k then refusal_notes answer else []) was.desks.items now.desks.items
     → TakesAsked h (record { who = Some c; sent = record { bank = bank; command = command } }) was now
-takes-refused h was now c bank command answer answers not run_is journal_is book_is strays_is trades noted = record {
+takes-refused h was now c bank command answer answers not run_is notices_is journal_is book_is strays_is trades noted = record {
   clients_stay = ap (λ (b : Book). b.clients) book_is;
   strays_stay = strays_is;
   trades = trades;
   goes_on = λ events is. (
     Refused c (record { bank = bank; command = command }) answer,
     refl,
-    behind-refused h events was now c (record { bank = bank; command = command }) answer is (answers (tagged_in events) is.known) not run_is journal_is book_is noted,
+    behind-refused h events was now c (record { bank = bank; command = command }) answer is (answers (tagged_in events) is.known) not run_is notices_is journal_is book_is noted,
   );
 }
 
@@ -261,7 +264,7 @@ pub passed-of : (h : Header) (events : List Event) (was : ClientDay) (who : Opti
 passed-of h events was who e sent is named passed c of = ap (λ (s : Sent). ask_of h was.book.clients (tagged_in events) c s.command) named ∙ passed (tagged_in events) is.known c of
 
 -- the clients' history goes on by it
-pub goes-tagged : (h : Header) (events : List Event) (was : ClientDay) (who : Option ℕ) (e : Entry) (sent : Sent) (run : Ran HostState DayNotices) → IsBehind h events was → sent_by e ≡ sent → HasServed stands AreNoticesOf h (entries_of (tagged_in events) ++ e ∷ []) run
+pub goes-tagged : (h : Header) (events : List Event) (was : ClientDay) (who : Option ℕ) (e : Entry) (sent : Sent) (run : Ran HostState HandsBack) → IsBehind h events was → sent_by e ≡ sent → HasServed stands IsHanded h (entries_of (tagged_in events) ++ e ∷ []) run
     → IsClientOf was who sent.bank → ((tagged : List Tagged) → StandsFor h tagged was.book → (c : ℕ) → who ≡ Some c → ask_of h was.book.clients tagged c sent.command ≡ Pass) → IsTagged h was.book.clients (tagged_in events ++ tag who e ∷ [])
 goes-tagged h events was who e sent run is named served client passed =
     tagged-push h was.book.clients (tagged_in events) (tag who e) is.known.tagged_is

@@ -1,8 +1,9 @@
 -- Notes added one after another to the desks of their clients.
-use Rattle.std.proofs.Common.{ℕ, ◌≡◌, ◌+◌, ◌<◌, eqb, cond, List, [], ◌∷◌, ◌++◌, inl, inr, length, take, refl, ap, ap₂, sym, subst, ◌∙◌, arith, append_assoc, append-nil, add-zero, length-append, get_or, set, Option, Some, None}
+use Rattle.std.proofs.Common.{ℕ, ◌≡◌, ◌+◌, ◌<◌, eqb, cond, List, [], ◌∷◌, ◌++◌, inl, inr, length, take, refl, ap, ap₂, sym, subst, ◌∙◌, arith, append_assoc, append-nil, add-zero, length-append, get_or, set, Option, Some, None, Result, Ok, Err}
 use Rattle.std.proofs.lemmas.Bool.{cases_eq, cond-true, cond-false, eq-eqb, ne_eqb}
 use Rattle.std.proofs.lemmas.List.{get_or-set_same, get_or-set_other, get_or_read, length-set}
 use Rattle.std.specs.List.{flat_map}
+use Rattle.std.specs.Result.{OnOk}
 use Rattle.fx_rules.specs.Session.{Header}
 use Rattle.fx_text.specs.Fields.{fields_text}
 use Rattle.reply_lines.specs.Desks.{DeskSoFar, desk_with, nothing_yet}
@@ -11,6 +12,11 @@ use Rattle.reply_lines.proofs.Items.{flat_more}
 use Rattle.client_day.specs.Desks.{with_note, with_notes}
 use Rattle.client_day.specs.inside.Desks.{HaveNoted}
 use Rattle.client_day.specs.Notes.{Note, note_for, note_line, note_lines}
+
+-- where a call went well, both of two facts are known
+pub both_ok : {T E P Q R : Type 0} (result : Result T E) → (P → Q → R) → OnOk result P → OnOk result Q → OnOk result R
+both_ok (Ok value) leads one other = leads one other
+both_ok (Err e) leads one other = tt
 
 pub with_notes-append : (h : Header) (desk : DeskSoFar) (xs ys : List Note) → with_notes h desk (xs ++ ys) ≡ with_notes h (with_notes h desk xs) ys
 with_notes-append h desk [] ys = refl

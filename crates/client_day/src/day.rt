@@ -21,6 +21,7 @@ ghost use Rattle.client_day.specs.Notes.{refusal_notes};
 ghost use Rattle.client_day.specs.Script.{asked_for};
 
 use crate::desk::tell_refusal;
+use crate::handing::HandsBack;
 use crate::notes::note_entry;
 use client_desk::{Ask, Client, ClientBook, ClientId, ClientLine, client_line_with};
 use fx_amounts::Memory;
@@ -29,19 +30,19 @@ use fx_text::{Line, LineText};
 use market_run::Run;
 use order_lines::make_command;
 use pair_host::PairHost;
-use reply_lines::{DayNotices, JournalText, NoticeDesk, NoticeWriter};
+use reply_lines::{DayNotices, JournalText, NoticeDesk};
 use session_script::Heard;
 use std::alloc::Global;
 
 /// A session with clients as it is served: the market with what its output tells, the clients' book, and what each client is told.
 #[derive(Drop)]
 pub struct ClientDay {
-    pub(crate) run: Run<PairHost, DayNotices>,
+    pub(crate) run: Run<PairHost, HandsBack>,
     pub(crate) journal: JournalText,
+    pub(crate) notices: DayNotices,
     pub(crate) book: ClientBook,
     /// By client.
     pub(crate) desks: Vec<NoticeDesk>,
-    pub(crate) writer: NoticeWriter,
     /// How many lines were strays so far.
     pub(crate) strays: u64,
     /// Whether a command was asked for, so that no client is declared any more.
@@ -57,11 +58,11 @@ impl ClientDay {
         let notices = DayNotices::open(alloc, session)?;
         let book = ClientBook::open(session, Vec::new(alloc))?;
         Ok(ClientDay {
-            run: Run::open(session, host, notices),
+            run: Run::open(session, host, HandsBack),
             journal: JournalText::new(alloc),
+            notices,
             book,
             desks: Vec::new(alloc),
-            writer: NoticeWriter::new(alloc),
             strays: 0,
             trading: false,
         })
@@ -177,7 +178,7 @@ impl ClientDay {
     /// Tells a client that its command is refused.
     fn refuse(&mut self, client: ClientId, answer: Ask) -> Result<(), Memory>
         requires client { client < length self.old.desks.items }
-        ensures rest { (self.new.run ≡ self.old.run) × (self.new.journal ≡ self.old.journal) × (self.new.book ≡ self.old.book) × (self.new.strays ≡ self.old.strays) }
+        ensures rest { (self.new.run ≡ self.old.run) × (self.new.journal ≡ self.old.journal) × (self.new.notices ≡ self.old.notices) × (self.new.book ≡ self.old.book) × (self.new.strays ≡ self.old.strays) }
         ensures trades { self.new.trading ≡ true }
         ensures noted { OnOk result ((h : Header) → HaveNoted h (λ c. if client == c then refusal_notes answer else []) self.old.desks.items self.new.desks.items) }
     {
@@ -209,8 +210,8 @@ impl ClientDay {
             &self.book,
             who,
             &entry,
+            &mut self.notices,
             &mut self.desks,
-            &mut self.writer,
         )
     }
 }

@@ -4,6 +4,7 @@
 
 mod day;
 mod desk;
+mod handing;
 mod notes;
 mod rounds;
 mod text;

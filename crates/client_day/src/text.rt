@@ -36,12 +36,13 @@ pub fn write_clients<K: Sink>(
     let ClientDay {
         run,
         journal,
+        notices,
         book,
         desks,
         strays,
         ..
     } = day;
-    let (market, notices) = run.into_parts();
+    let (market, _) = run.into_parts();
     DayText::of(journal, notices).write(alloc, session, &market, strays, ending, out)?;
     match write_part(alloc, session, &book, &desks, out) {
         Ok(()) => Ok(()),

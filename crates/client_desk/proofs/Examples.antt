@@ -1,7 +1,6 @@
 -- The definitions tried on a small day, worked by hand. Two banks trade one pair at 100 credit units a lot on a line of 200, and
 -- bank 0 has two clients: 0 with a limit of 600, and 1 with 300.
 use Rattle.std.proofs.Common.{ℕ, ◌≡◌, List, [], ◌∷◌, ◌++◌, Option, Some, None, refl}
-use Rattle.fx_amounts.specs.declared.side.Side.{Side}
 use Rattle.fx_amounts.specs.declared.side.Side.TheVariants.{Buy, Sell}
 use Rattle.fx_rules.specs.declared.orders.Fill.{Fill}
 use Rattle.fx_rules.specs.declared.command.Command.{Command}
@@ -34,15 +33,16 @@ sent client bank number command outcome = record {
   entry = record { bank = bank; number = number; command = command; outcome = outcome };
 }
 
-abbrev fill : ℕ → ℕ → Side → ℕ → ℕ → ℕ → ℕ → Fill
-fill taker taker_number side maker maker_number price lots = record {
+-- client 0 takes so many lots of bank 1 at 20
+abbrev filled : ℕ → Fill
+filled lots = record {
   pair = 0;
-  taker = taker;
-  taker_number = taker_number;
-  taker_side = side;
-  maker = maker;
-  maker_number = maker_number;
-  price = price;
+  taker = 0;
+  taker_number = 1;
+  taker_side = Buy;
+  maker = 1;
+  maker_number = 1;
+  price = 20;
   lots = lots;
 }
 
@@ -50,7 +50,7 @@ fill taker taker_number side maker maker_number price lots = record {
 abbrev morning : List Tagged
 morning =
     sent None 1 1 (Order Sell 0 20 3 Day) (Ordered 0 3 [])
-    ∷ sent (Some 0) 0 1 (Order Buy 0 20 4 Day) (Ordered 2 2 (fill 0 1 Buy 1 1 20 2 ∷ []))
+    ∷ sent (Some 0) 0 1 (Order Buy 0 20 4 Day) (Ordered 2 2 (filled 2 ∷ []))
     ∷ []
 
 owners : (owner_in morning 0 1 ≡ Some 0) × (owner_in morning 1 1 ≡ None) × (owner_in morning 0 2 ≡ None)
@@ -95,7 +95,7 @@ abbrev noon : List Tagged
 noon =
     morning
     ++ sent None 0 2 (Line 1 500) (LineSet 500 [])
-    ∷ sent None 1 2 (Line 0 500) (LineSet 500 (fill 0 1 Buy 1 1 20 1 ∷ []))
+    ∷ sent None 1 2 (Line 0 500) (LineSet 500 (filled 1 ∷ []))
     ∷ []
 
 moved : (filled_by header noon 0 ≡ 300) × (reserved_by header noon 0 ≡ 100) × (free_of header clients noon 0 ≡ 200)

@@ -9,8 +9,8 @@ use Rattle.fx_rules.specs.Lists.{below}
 use Rattle.fx_rules.specs.Session.{Header, bank_count, host, sender_places}
 use Rattle.fx_text.specs.Fields.{fields_text}
 use Rattle.reply_lines.specs.Rows.{row}
-use Rattle.reply_lines.specs.Desks.{DeskSoFar, desk_with, nothing_yet, with_notice, AreDesksOf}
-use Rattle.reply_lines.specs.inside.Desks.{bank_desks, host_desk, with_notices, HaveGot}
+use Rattle.reply_lines.specs.Desks.{DeskSoFar, desk_with, nothing_yet, with_notice, with_notices, AreDesksOf, HaveGot}
+use Rattle.reply_lines.specs.inside.Desks.{bank_desks, host_desk}
 use Rattle.reply_lines.specs.Output.{desks_text}
 use Rattle.reply_lines.specs.Notices.{Notice, desk_text, notice_line, notice_lines, notices_in, notices}
 use Rattle.reply_lines.proofs.Items.{flat_more, flat_last}

@@ -1,5 +1,5 @@
 pub mod Items
-mod Placing
+pub mod Placing
 mod Examples
 pub mod Parts
 pub mod Printable
@@ -9,7 +9,8 @@ pub mod ToldTexts
 mod Reporting
 mod Shown
 pub mod Outputs
-mod Gathering
+pub mod Gathering
+mod NumberedLines
 mod WrittenLines
 mod FillLines
 mod Journals

@@ -1,5 +1,5 @@
 -- A legal history has an output; what was written of a text tells how the writing of the output ended.
-use Rattle.std.proofs.Common.{ℕ, ◌+◌, ◌≡◌, ◌<◌, List, [], ◌++◌, Option, Result, Ok, Err, OnOk, IsErrAnd, refl, ap, sym, subst, ◌∙◌, arith}
+use Rattle.std.proofs.Common.{ℕ, ◌+◌, ◌≡◌, ◌<◌, ◌≤◌, List, [], ◌++◌, length, Option, Result, Ok, Err, OnOk, IsErrAnd, refl, ap, sym, subst, ◌∙◌, arith}
 use Rattle.std.specs.List.{flat_map}
 use Rattle.fx_amounts.specs.declared.memory.Memory.{Memory as OutOfMemory}
 use Rattle.fx_edges.specs.Writing.{IsPrefixOf, Wrote}
@@ -16,7 +16,8 @@ use Rattle.fx_rules.proofs.Below.{flat_map-more}
 use Rattle.fx_rules.proofs.Soundness.{legal-sound}
 use Rattle.reply_lines.specs.Books.{LocalBook, AreBooks}
 use Rattle.reply_lines.specs.Faults.{WroteOutput, fault_of}
-use Rattle.reply_lines.specs.Output.{IsDayText, IsOutput, day_text, last_text}
+use Rattle.reply_lines.specs.Output.{IsDayText, IsOutput, IsRestOfOutput, day_text, last_text}
+use Rattle.reply_lines.specs.inside.Day.{closing_text}
 use Rattle.reply_lines.specs.declared.output.Ending.{Ending}
 use Rattle.reply_lines.specs.declared.output.OutFault.{OutFault}
 use Rattle.reply_lines.specs.declared.output.OutFault.TheVariants.{Write, Memory}
@@ -82,6 +83,13 @@ places_written {written = written} {faults = faults} {held = held} {a = a} {rest
 pub places_cut : {K T U : Type 0} {written : K → Option (List ℕ)} {faults : K → ℕ} {held : List ℕ} {a : K} {rest : List ℕ} {b : K} {last : List ℕ} {c : K} {at : ℕ} {e : SinkFault} (f : ℕ → List ℕ) (place places : ℕ) (result : Result U SinkFault) → IsErrAnd result (λ fault. fault ≡ e) → at ≡ place → place < places → Kept written faults held a rest b (flat_map f (below place)) → Gathered {T = T} written faults rest b last c (f at) (Err e) → Gathered {T = U} written faults held a last c (flat_map f (below places)) result
 places_cut {T = T} f place places result same is within kept wrote = cut_at {T = T} result same kept (of_text {T = T} (ap f is) wrote) (places-prefix f place places within)
 
+-- and where the places are those of a list
+pub places_of : {K X : Type 0} {written : K → Option (List ℕ)} {faults : K → ℕ} {held : List ℕ} {a : K} {rest : List ℕ} {b : K} {xs ys : List X} {place : ℕ} (f : ℕ → List ℕ) → length xs ≤ place → place ≤ length xs → xs ≡ ys → Kept written faults held a rest b (flat_map f (below place)) → Gathered {T = Unit {0}} written faults held a rest b (flat_map f (below (length ys))) (Ok tt)
+places_of {xs = xs} {ys = ys} {place = place} f past within are kept = places_written f place (length ys) (omega (arith, past, within, ap length are)) kept
+
+pub places_of_cut : {K T U X : Type 0} {written : K → Option (List ℕ)} {faults : K → ℕ} {held : List ℕ} {a : K} {rest : List ℕ} {b : K} {last : List ℕ} {c : K} {xs ys : List X} {place at : ℕ} {e : SinkFault} (f : ℕ → List ℕ) (result : Result U SinkFault) → IsErrAnd result (λ fault. fault ≡ e) → at ≡ place → place < length xs → xs ≡ ys → Kept written faults held a rest b (flat_map f (below place)) → Gathered {T = T} written faults rest b last c (f at) (Err e) → Gathered {T = U} written faults held a last c (flat_map f (below (length ys))) result
+places_of_cut {T = T} {xs = xs} {ys = ys} {place = place} f result same is within are kept wrote = places_cut {T = T} f place (length ys) result same is (omega (arith, within, ap length are)) kept wrote
+
 -- lines of the items of a list that is this one
 pub of_items : {K T X : Type 0} {written : K → Option (List ℕ)} {faults : K → ℕ} {held : List ℕ} {a : K} {rest : List ℕ} {b : K} {xs ys : List X} (print : X → List ℕ) (result : Result T SinkFault) → xs ≡ ys → Gathered {T = T} written faults held a rest b (flat_map print xs) result → Gathered {T = T} written faults held a rest b (flat_map print ys) result
 of_items print result same wrote = of_text (ap (flat_map print) same) wrote
@@ -94,6 +102,9 @@ is_day h entries books are = record { books = books; at_the_end = are; exactly =
 
 pub is_output : (h : Header) (entries : List Entry) (strays : ℕ) (ending : Ending) (books : ℕ → ℕ → LocalBook) → AreBooks h (state h entries) books → IsOutput h entries strays ending (day_text h entries books ++ last_text strays ending)
 is_output h entries strays ending books are = record { books = books; at_the_end = are; exactly = refl }
+
+pub is_rest : (h : Header) (entries : List Entry) (strays : ℕ) (ending : Ending) (books : ℕ → ℕ → LocalBook) → AreBooks h (state h entries) books → IsRestOfOutput h entries strays ending (closing_text h entries books ++ last_text strays ending)
+is_rest h entries strays ending books are = record { books = books; at_the_end = are; exactly = refl }
 
 failed_from : (fault : SinkFault) → fault_of fault ≡ Write → fault ≡ sinks.Failed
 failed_from sinks.Failed is = refl
@@ -111,6 +122,20 @@ module _ {K : Type 0} {written : K → Option (List ℕ)} {faults : K → ℕ} {
     fault = wrote.fault;
     cause = λ failed. wrote.cause (failed_from fault (sym tells ∙ failed));
   }
+
+-- what is written of a legal history with local books at its end, of which it has some
+module _ {K : Type 0} {written : K → Option (List ℕ)} {faults : K → ℕ} {before now : K} (h : Header) (entries : List Entry) (is_output : List ℕ → Type 0) (text : (ℕ → ℕ → LocalBook) → List ℕ)
+    (is : (books : ℕ → ℕ → LocalBook) → AreBooks h (state h entries) books → is_output (text books)) (legal : IsLegal h entries) where
+  pub day_whole : ((books : ℕ → ℕ → LocalBook) → AreBooks h (state h entries) books → Wrote {T = Unit {0}} written faults before now (text books) (Ok tt)) → WroteOutput {T = Unit {0}} written faults before now is_output (Ok tt)
+  day_whole wrote =
+      let books = day-books h entries legal in
+      wrote_whole is_output (text books.0) (is books.0 books.1) (wrote books.0 books.1)
+
+  pub day_part : (fault : SinkFault) (told : OutFault) → told ≡ fault_of fault → ((books : ℕ → ℕ → LocalBook) → AreBooks h (state h entries) books → Wrote {T = Unit {0}} written faults before now (text books) (Err fault))
+      → WroteOutput {T = Unit {0}} written faults before now is_output (Err told)
+  day_part fault told tells wrote =
+      let books = day-books h entries legal in
+      wrote_part is_output (text books.0) fault told tells (is books.0 books.1) (wrote books.0 books.1)
 
 -- out of memory, before anything was written
 pub wanting : {K : Type 0} {written : K → Option (List ℕ)} {faults : K → ℕ} (before : K) (is_output : List ℕ → Type 0) (text : List ℕ) (memory : OutOfMemory) → is_output text → WroteOutput {T = Unit {0}} written faults before before is_output (Err (Memory memory))

@@ -1,6 +1,9 @@
 ghost use Rattle.std.specs.Prelude.{◌≡◌, List, [], ◌∷◌, ◌++◌, IfOk, OnOk};
 ghost use Rattle.fx_rules.specs.declared.outcome.Entry.{Entry};
-ghost use Rattle.fx_rules.specs.History.{IsLegal};
+ghost use Rattle.fx_rules.specs.History.{IsLegal, state};
+ghost use Rattle.day_report.specs.Sums.{AreSumsOf};
+ghost use Rattle.reply_lines.specs.Desks.{AreDesksOf, DeskSoFar, HaveGot};
+ghost use Rattle.reply_lines.specs.Notices.{notices_in};
 ghost use Rattle.reply_lines.specs.Day.{AreNoticesOf};
 ghost use Rattle.reply_lines.specs.inside.Day.{AreFindingsOf};
 
@@ -16,9 +19,11 @@ use std::alloc::Global;
 /// keeps none.
 #[derive(Drop)]
 pub struct DayNotices {
-    desks: Vec<NoticeDesk>,
+    /// By sender.
+    pub desks: Vec<NoticeDesk>,
     sums: DaySums,
-    writer: NoticeWriter,
+    /// It makes the lines of the desks.
+    pub writer: NoticeWriter,
 }
 
 /// What is found of a history once it has ended.
@@ -51,8 +56,21 @@ impl DayNotices {
             IsLegal session.now (entries ++ entry.now ∷ []) → AreNoticesOf session.now entries self.old →
             AreNoticesOf session.now (entries ++ entry.now ∷ []) self.new) }
     {
+        add_entry(session, entry, &mut self.desks, &mut self.writer)?;
+        self.follow(session, entry);
+        Ok(())
+    }
+
+    /// Follows the next entry of a legal history, of which the desks got the notices already. It takes no memory.
+    #[inline(always)]
+    pub fn follow(&mut self, session: &Session, entry: &Entry)
+        requires next { (entries : List Entry) × IsLegal session.now (entries ++ entry.now ∷ []) × AreSumsOf session.now (state session.now entries) self.old.sums }
+        ensures follows { (entries : List Entry) (before : List DeskSoFar) →
+            IsLegal session.now (entries ++ entry.now ∷ []) → AreSumsOf session.now (state session.now entries) self.old.sums →
+            AreDesksOf session.now entries before → HaveGot session.now (λ sender. notices_in sender entry.now) before self.old.desks.items →
+            AreNoticesOf session.now (entries ++ entry.now ∷ []) self.new }
+    {
         self.sums.follow(session, entry);
-        add_entry(session, entry, &mut self.desks, &mut self.writer)
     }
 
     /// What is found of the history once it has ended.

@@ -1,13 +1,14 @@
-ghost use Rattle.std.specs.Prelude.{◌≡◌, ◌==◌, if◌then◌else◌, List, [], ◌∷◌, ◌<◌, ◌≤◌, ◌+◌, ◌++◌, length, replicate, IfOk, OnOk, OnErr};
+ghost use Rattle.std.specs.Prelude.{ℕ, ◌≡◌, ◌==◌, if◌then◌else◌, List, [], ◌∷◌, ◌<◌, ◌≤◌, ◌+◌, ◌++◌, length, replicate, IfOk, OnOk, OnErr};
 ghost use Rattle.std.specs.List.{flat_map};
+ghost use Rattle.fx_amounts.specs.Numeral.{numeral};
 ghost use Rattle.fx_edges.specs.Gathered.{Gathered};
 ghost use Rattle.fx_rules.specs.declared.outcome.Entry.{Entry};
 ghost use Rattle.fx_rules.specs.Lists.{Each};
-ghost use Rattle.fx_rules.specs.Session.{IsSender, bank_count, sender_places};
-ghost use Rattle.reply_lines.specs.Desks.{desk_with, nothing_yet, with_notice, AreDesksOf};
+ghost use Rattle.fx_rules.specs.Session.{Header, IsSender, bank_count, sender_places};
+ghost use Rattle.reply_lines.specs.Desks.{desk_with, nothing_yet, with_notice, AreDesksOf, HaveGot};
 ghost use Rattle.reply_lines.specs.Fills.{AreTextsOf, notice_to};
-ghost use Rattle.reply_lines.specs.inside.Desks.{bank_desks, host_desk, HaveGot};
-ghost use Rattle.reply_lines.specs.Notices.{fill_notices, notices_in, desk_line, desk_text};
+ghost use Rattle.reply_lines.specs.inside.Desks.{bank_desks, host_desk};
+ghost use Rattle.reply_lines.specs.Notices.{Notice, fill_notices, notice_line, notices_in, desk_line, desk_text};
 ghost use Rattle.reply_lines.specs.Notices.Notice.{Replied};
 ghost use Rattle.reply_lines.specs.Output.{desks_text};
 ghost use Rattle.reply_lines.specs.Prints.{IsAnswerOf, IsFillOf};
@@ -114,6 +115,60 @@ impl NoticeDesk {
         Ok(())
     }
 
+    /// Adds the reply to an entry, as `reply` does, and the same to another desk, with the number that it has there. After `Memory` the
+    /// other desk is as it was, and this one may have the reply.
+    #[inline(always)]
+    pub fn reply_to_both(
+        &mut self,
+        session: &Session,
+        entry: &Entry,
+        writer: &mut NoticeWriter,
+        other: &mut NoticeDesk,
+    ) -> Result<(), Memory>
+        requires answer { IsAnswerOf session.now entry.now.command entry.now.outcome }
+        ensures ok { OnOk result (self.new ≡ with_notice session.now self.old (Replied entry.now)) }
+        ensures other { OnOk result (other.new ≡ with_notice session.now other.old (Replied entry.now)) }
+        ensures begun { writer.new ≡ writer.old }
+    {
+        let from = self.lines.len();
+        self.reply(session, entry, writer)?;
+        other.copy(self.lines.since(from))
+    }
+
+    /// Adds the notice of the fill that the writer has begun, as `fill` does, and the same to another desk, with the number that it has
+    /// there. After `Memory` the other desk is as it was, and this one may have the notice.
+    pub fn fill_to_both(
+        &mut self,
+        session: &Session,
+        part: FillPart,
+        fill: &Fill,
+        writer: &mut NoticeWriter,
+        other: &mut NoticeDesk,
+    ) -> Result<(), Memory>
+        requires fill { IsFillOf session.now fill.now }
+        requires begun { AreTextsOf session.now fill.now writer.old }
+        ensures ok { OnOk result (self.new ≡ with_notice session.now self.old (notice_to part fill.now)) }
+        ensures other { OnOk result (other.new ≡ with_notice session.now other.old (notice_to part fill.now)) }
+        ensures begun { writer.new ≡ writer.old }
+    {
+        let from = self.lines.len();
+        self.fill(session, part, fill, writer)?;
+        other.copy(self.lines.since(from))
+    }
+
+    /// Adds a notice whose line stands on another desk, under another number. Without memory for it the desk stays.
+    #[inline(always)]
+    fn copy(&mut self, line: &[u8]) -> Result<(), Memory>
+        requires line { (h : Header) × (number : ℕ) × (notice : Notice) × (line.now ≡ notice_line h number notice) }
+        ensures ok { OnOk result ((h : Header) (number : ℕ) (notice : Notice) → line.now ≡ notice_line h number notice → self.new ≡ with_notice h self.old notice) }
+        ensures memory { OnErr result (self.new ≡ self.old) }
+    {
+        let number = self.next_number();
+        self.lines.push_numbered(number, behind_number(line))?;
+        self.count += 1;
+        Ok(())
+    }
+
     /// Adds a line of another kind, which is not empty. Without memory for it the desk stays.
     pub fn push(&mut self, line: &LineText) -> Result<(), Memory>
         requires some { 1 ≤ length line.now }
@@ -124,6 +179,19 @@ impl NoticeDesk {
         self.count += 1;
         Ok(())
     }
+}
+
+/// What a line of fields has behind its number.
+#[inline(always)]
+fn behind_number(line: &[u8]) -> &[u8]
+    requires line { (number : ℕ) × (rest : List ℕ) × (line.now ≡ numeral number ++ 32 ∷ rest) }
+    ensures behind { (number : ℕ) (rest : List ℕ) → line.now ≡ numeral number ++ 32 ∷ rest → result.now ≡ 32 ∷ rest }
+{
+    let mut at = 0;
+    while line[at] != b' ' {
+        at += 1;
+    }
+    line.split_at(at).1
 }
 
 /// The desks of a session's senders, without a notice yet. Each stands at its sender's number.

@@ -4,7 +4,7 @@ ghost use Rattle.fx_edges.specs.Gathered.{Gathered};
 ghost use Rattle.fx_rules.specs.declared.outcome.Entry.{Entry};
 ghost use Rattle.fx_rules.specs.History.{IsLegal, state};
 ghost use Rattle.session_head.specs.HeadText.{head_text_of};
-ghost use Rattle.reply_lines.specs.Books.{LocalBook, AreBooks};
+ghost use Rattle.reply_lines.specs.Books.{LocalBook};
 ghost use Rattle.reply_lines.specs.inside.Books.{IsMarketOf, AreBooksOf};
 ghost use Rattle.reply_lines.specs.inside.Day.{IsReportAt, closing_text};
 ghost use Rattle.reply_lines.specs.Faults.{WroteOutput};
@@ -108,31 +108,35 @@ pub fn write_from_books<M: Market, K: Sink>(
     requires market { M.stands market.now session.now (state session.now entries.now) }
     ensures wrote { WroteOutput K.written K.faults out.old out.new (IsRestOfOutput session.now entries.now strays ending) result }
 {
-    match write_rest(alloc, session, entries, market, strays, ending, out) {
+    let report = match report(alloc, session, entries) {
+        Ok(report) => report,
+        Err(memory) => return Err(OutFault::Memory(memory)),
+    };
+    match write_rest(alloc, session, market, &report, strays, ending, out) {
         Ok(()) => Ok(()),
         Err(fault) => Err(OutFault::from(fault)),
     }
 }
 
-/// Writes the output from its line `BOOKS` on.
+/// Writes local books, report and the last lines.
 fn write_rest<M: Market, K: Sink>(
     alloc: Global,
     session: &Session,
-    entries: &[Entry],
     market: &M,
+    report: &Report,
     strays: u64,
     ending: Ending,
     out: &mut K,
 ) -> Result<(), SinkFault>
-    requires legal { IsLegal session.now entries.now }
-    requires market { M.stands market.now session.now (state session.now entries.now) }
-    ensures wrote { (books : ℕ → ℕ → LocalBook) → AreBooks session.now (state session.now entries.now) books →
-        Wrote K.written K.faults out.old out.new (closing_text session.now entries.now books ++ last_text strays ending) result }
+    requires market { IsMarketOf M.stands session.now market.now }
+    requires report { (entries : List Entry) × IsReportAt session.now entries report.now }
+    ensures wrote { (entries : List Entry) (books : ℕ → ℕ → LocalBook) →
+        IsReportAt session.now entries report.now → AreBooksOf M.stands session.now market.now books →
+        Wrote K.written K.faults out.old out.new (closing_text session.now entries books ++ last_text strays ending) result }
 {
-    let report = report(alloc, session, entries)?;
     let mut line = Vec::new(alloc);
     let mut pieces = Pieces::new(alloc);
-    write_books_and_report(session, market, &report, &mut line, &mut pieces, out)?;
+    write_books_and_report(session, market, report, &mut line, &mut pieces, out)?;
     write_end(strays, ending, &mut pieces, out)
 }
 

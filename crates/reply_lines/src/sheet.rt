@@ -1,4 +1,4 @@
-ghost use Rattle.std.specs.Prelude.{◌≡◌, ℕ, ◌+◌, ◌≤◌, ◌<◌, ◌^◌, ◌∷◌, ◌++◌, [], codes, length, take, vec_len, OnOk, OnErr};
+ghost use Rattle.std.specs.Prelude.{◌≡◌, ℕ, ◌+◌, ◌≤◌, ◌<◌, ◌^◌, ◌∷◌, ◌++◌, [], codes, drop, length, take, vec_len, OnOk, OnErr};
 ghost use Rattle.fx_amounts.specs.Numeral.{numeral};
 ghost use Rattle.fx_rules.specs.Session.{bank_count};
 ghost use Rattle.reply_lines.specs.Fills.{AreShort};
@@ -9,16 +9,25 @@ ghost use Rattle.reply_lines.specs.inside.Replies.{plain_fields};
 use crate::notices::{FillTexts, Party, put_fill, put_reply};
 use fx_amounts::Memory;
 use fx_rules::{Outcome, Session};
-use fx_text::put_text;
+use fx_text::{put_text, put_wide};
 use std::alloc::Global;
 use std::marker::Model;
 
 /// The most bytes of a line that shows no local book.
 const LINE: usize = 256;
 
+/// The most digits of a number.
+const DIGITS: usize = 39;
+
 /// The bytes by which a sheet gets longer than it has to. A list has capacity for more, so that it is not moved for each of these steps;
 /// and so few are cleared at once.
-const STEP: usize = 1024;
+const STEP: usize = 256;
+
+/// The bytes that a list has capacity for from the first on, and those that it has capacity for next: most sheets are never moved, and
+/// few are moved twice. Capacity that was not written to yet takes addresses, and hardly any memory.
+const FIRST_CAPACITY: usize = 16_000;
+
+const NEXT_CAPACITY: usize = 120_000;
 
 /// Lines of notices one behind the other, with room behind them, so that the next one is written where it stays.
 #[derive(Debug, Drop)]
@@ -63,6 +72,14 @@ impl NoticeSheet {
         self.bytes
     }
 
+    /// The bytes from one of them on.
+    pub(crate) fn since(&self, from: usize) -> &[u8]
+        requires { from ≤ length self.now }
+        ensures { result.now ≡ drop from self.now }
+    {
+        self.as_slice().split_at(from).1
+    }
+
     /// How many bytes the lines have.
     pub(crate) fn len(&self) -> usize
         ensures { result ≡ length self.now }
@@ -85,6 +102,20 @@ impl NoticeSheet {
     {
         make_room(&mut self.bytes, self.len, text.len())?;
         let end = put_text(text, &mut self.bytes, self.len);
+        self.len = end;
+        Ok(())
+    }
+
+    /// Appends a number and a text behind it. Without memory for them the sheet stays.
+    #[inline(always)]
+    pub(crate) fn push_numbered(&mut self, number: u128, behind: &[u8]) -> Result<(), Memory>
+        ensures ok { OnOk result (self.new ≡ self.old ++ (numeral number ++ behind.now)) }
+        ensures memory { OnErr result (self.new ≡ self.old) }
+        ensures few { length self.new < 2 ^ 63 }
+    {
+        make_room(&mut self.bytes, self.len, DIGITS + behind.len())?;
+        let end = put_wide(number, &mut self.bytes, self.len);
+        let end = put_text(behind, &mut self.bytes, end);
         self.len = end;
         Ok(())
     }
@@ -151,6 +182,22 @@ fn grow(bytes: &mut Vec<u8>, more: usize) -> Result<(), Memory>
     ensures same { take (vec_len bytes.old) bytes.new.items ≡ bytes.old.items }
 {
     let size = (bytes.len() + STEP).saturating_add(more);
+    if bytes.capacity() < size {
+        bytes.reserve(capacity_for(size) - bytes.len())?;
+    }
     bytes.resize(size, 0)?;
     Ok(())
+}
+
+/// The capacity of a list that needs so many bytes at least.
+fn capacity_for(size: usize) -> usize
+    ensures { size ≤ result }
+{
+    if size <= FIRST_CAPACITY {
+        FIRST_CAPACITY
+    } else if size <= NEXT_CAPACITY {
+        NEXT_CAPACITY
+    } else {
+        size
+    }
 }

@@ -126,7 +126,7 @@ impl Telling {
         Ok(())
     }
 
-    /// Tells the notices of an entry: the reply, and those of its fills.
+    /// Tells the notices of an entry: the reply, and then those of its fills, in order.
     fn tell_entry(
         &mut self,
         session: &Session,
@@ -139,7 +139,10 @@ impl Telling {
         ensures begins { IsPrefixOf text.old text.new }
     {
         self.tell_reply(session, entry, text)?;
-        self.tell_fills(session, entry.outcome.fills(), text)
+        for fill in entry.outcome.fills() {
+            self.tell_fill(session, fill, text)?;
+        }
+        Ok(())
     }
 
     /// Tells the reply to an entry.
@@ -157,24 +160,6 @@ impl Telling {
     {
         let number = self.address(sender_name(session, entry.bank), entry.bank, text)?;
         self.writer.reply(session, number, entry, text)
-    }
-
-    /// Tells the notices of fills, in order.
-    fn tell_fills(
-        &mut self,
-        session: &Session,
-        fills: &[Fill],
-        text: &mut NoticeSheet,
-    ) -> Result<(), Memory>
-        requires fills { Each (IsFillOf session.now) fills.now }
-        requires can { CanCount (flat_map fill_addressed fills.now) self.old.counts.items }
-        ensures ok { OnOk result (HasTold session.now (flat_map fill_addressed fills.now) self.old.counts.items self.new.counts.items text.old text.new) }
-        ensures begins { IsPrefixOf text.old text.new }
-    {
-        for fill in fills {
-            self.tell_fill(session, fill, text)?;
-        }
-        Ok(())
     }
 
     /// Tells the notice of a fill to its taker's bank, and then the one to its maker's.

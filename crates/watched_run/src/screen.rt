@@ -44,28 +44,11 @@ impl Screen {
         ensures rounds { self.new.rounds ≡ self.old.rounds }
     {
         for place in 0..session.banks().len() {
-            self.show(rt, session, BankId::at(place), pair)?;
+            let bank = BankId::at(place);
+            let (count, book) = look(rt, &mut self.reader, bank, pair)?;
+            push_look(session, count, bank, pair, &book, &mut self.lines)?;
         }
         Ok(())
-    }
-
-    /// Looks at a bank's local book of a pair.
-    fn show<R: Wait>(
-        &mut self,
-        rt: &R,
-        session: &Session,
-        bank: BankId,
-        pair: PairId,
-    ) -> Result<(), Memory>
-        requires session { session.now ≡ self.old.reader.session }
-        requires bank { bank < bank_count session.now }
-        requires pair { pair < pair_count session.now }
-        ensures feed { IsOfFeed self.old.reader self.new.reader }
-        ensures shows { OnOk result (ShowsMore session.now (λ known. due_at known pair bank ∷ []) self.old self.new) }
-        ensures rounds { self.new.rounds ≡ self.old.rounds }
-    {
-        let (count, book) = look(rt, &mut self.reader, bank, pair)?;
-        push_look(session, count, bank, pair, &book, &mut self.lines)
     }
 
     /// Looks at every bank's local book in every pair, in the order in which the output has them, behind so many entries: all of the

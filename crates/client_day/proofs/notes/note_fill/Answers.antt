@@ -1,7 +1,10 @@
--- The owner of the taker's order, and then that of the maker's.
-use Rattle.std.proofs.Common.{◌<◌, ◌++◌, ℕ, Option, sym, subst, ap₂, ◌∙◌}
+-- The taker's bank and the owner of its order, and then the maker's.
+use Rattle.std.proofs.Common.{◌<◌, ◌++◌, ◌∷◌, [], ℕ, List, Option, arith, eqb, if◌then◌else◌, length, set, sym, subst, ap₂, ◌∙◌}
+use Rattle.std.proofs.lemmas.List.{length-set}
+use Rattle.reply_lines.specs.Desks.{DeskSoFar}
 use Rattle.reply_lines.specs.Fills.{AreTextsOf}
 use Rattle.reply_lines.specs.Notices.Notice.{Took, Gave}
+use Rattle.reply_lines.proofs.Gathering.{got-at, got-then}
 use Rattle.reply_lines.proofs.Outputs.{on_ok}
 use Rattle.client_day.specs.Notes.{note_for}
 use Rattle.client_day.specs.Notes.Note.{Told}
@@ -30,11 +33,23 @@ note_part-requires-2 c =
     }
 
 pub returns : goal.returns
-returns c = record {
-  noted = on_ok c.note_part-2.result (λ given h tagged stands.
-      noted-same c.args.session.now (λ k. note_for c.owner-taker.result k (Told (Took c.args.fill.now)) ++ note_for c.owner-maker.result k (Told (Gave c.args.fill.now))) _ c.args.desks.now.items c.note_part-2.new.desks.items
-      (λ k. ap₂ (λ (a b : Option ℕ). note_for a k (Told (Took c.args.fill.now)) ++ note_for b k (Told (Gave c.args.fill.now))) (c.owner-taker.ensures.owner h tagged stands) (c.owner-maker.ensures.owner h tagged stands))
-      (noted-then c.args.session.now (λ k. note_for c.owner-taker.result k (Told (Took c.args.fill.now))) (λ k. note_for c.owner-maker.result k (Told (Gave c.args.fill.now))) c.args.desks.now.items c.note_part.new.desks.items c.note_part-2.new.desks.items
-      c.in_ok-note_part.ensures.noted given))
-      c.note_part-2.ensures.noted;
-}
+returns c =
+    let h = c.args.session.now in
+    let f = c.args.fill.now in
+    let senders : List DeskSoFar = c.args.senders.now.items in
+    let between : List DeskSoFar = set senders c.index.result c.note_part.new.sender in
+    let taker_in : f.taker < length senders = omega (arith, c.requires.fill.taker, c.requires.banks) in
+    let maker_in : f.maker < length between = omega (arith, c.requires.fill.maker, c.requires.banks, length-set senders c.index.result c.note_part.new.sender) in
+    record {
+      got = on_ok c.note_part-2.result (λ given.
+          got-then h (λ bank. if eqb f.taker bank then Took f ∷ [] else []) (λ bank. if eqb f.maker bank then Gave f ∷ [] else []) senders between (set between c.index-2.result c.note_part-2.new.sender)
+          (got-at h f.taker c.index.result (Took f) senders c.index.ensures.value taker_in c.index_mut-sender.ensures.value c.in_ok-note_part.ensures.got)
+          (got-at h f.maker c.index-2.result (Gave f) between c.index-2.ensures.value maker_in c.index_mut-sender-2.ensures.value given))
+          c.note_part-2.ensures.got;
+      noted = on_ok c.note_part-2.result (λ given g tagged stands.
+          noted-same h (λ k. note_for c.owner-taker.result k (Told (Took f)) ++ note_for c.owner-maker.result k (Told (Gave f))) _ c.args.desks.now.items c.note_part-2.new.desks.items
+          (λ k. ap₂ (λ (a b : Option ℕ). note_for a k (Told (Took f)) ++ note_for b k (Told (Gave f))) (c.owner-taker.ensures.owner g tagged stands) (c.owner-maker.ensures.owner g tagged stands))
+          (noted-then h (λ k. note_for c.owner-taker.result k (Told (Took f))) (λ k. note_for c.owner-maker.result k (Told (Gave f))) c.args.desks.now.items c.note_part.new.desks.items c.note_part-2.new.desks.items
+          c.in_ok-note_part.ensures.noted given))
+          c.note_part-2.ensures.noted;
+    }

@@ -2,7 +2,7 @@ use Rattle.std.proofs.Common.{◌≤◌, length, take, drop}
 use Rattle.std.specs.List.{flat_map}
 use Rattle.fx_rules.specs.Lists.{Each}
 use Rattle.fx_rules.specs.Session.{bank_count}
-use Rattle.reply_lines.specs.inside.Desks.{HaveGot}
+use Rattle.reply_lines.specs.Desks.{HaveGot}
 use Rattle.reply_lines.specs.Notices.{fill_notices}
 use Rattle.reply_lines.specs.Prints.{IsFillOf}
 use Rattle.reply_lines.proofs.desk.add_fills.Given as goal

@@ -58,7 +58,7 @@ returns-in-Short c = record {
   taken = on_ok c.refuse.result (λ noted.
       takes-refused c.args.session.now c.args.self.now c.refuse.new.self c.args.client (bank_of_client c.args.self.now.book.clients c.args.client) c.args.command (Short c.in-Short.free)
       (λ tagged stands. sym c.in-Short.is ∙ c.ask.ensures.answers c.args.session.now tagged stands) (not_short c.in-Short.free)
-      c.refuse.ensures.rest.0 c.refuse.ensures.rest.1 c.refuse.ensures.rest.2 c.refuse.ensures.rest.3 c.refuse.ensures.trades (noted c.args.session.now))
+      c.refuse.ensures.rest.0 c.refuse.ensures.rest.2 c.refuse.ensures.rest.1 c.refuse.ensures.rest.3 c.refuse.ensures.rest.4 c.refuse.ensures.trades (noted c.args.session.now))
       c.refuse.ensures.noted;
 }
 
@@ -70,6 +70,6 @@ returns-in-Barred c = record {
   taken = on_ok c.refuse-in-Barred.result (λ noted.
       takes-refused c.args.session.now c.args.self.now c.refuse-in-Barred.new.self c.args.client (bank_of_client c.args.self.now.book.clients c.args.client) c.args.command Barred
       (λ tagged stands. sym c.in-Barred.is ∙ c.ask.ensures.answers c.args.session.now tagged stands) not_barred
-      c.refuse-in-Barred.ensures.rest.0 c.refuse-in-Barred.ensures.rest.1 c.refuse-in-Barred.ensures.rest.2 c.refuse-in-Barred.ensures.rest.3 c.refuse-in-Barred.ensures.trades (noted c.args.session.now))
+      c.refuse-in-Barred.ensures.rest.0 c.refuse-in-Barred.ensures.rest.2 c.refuse-in-Barred.ensures.rest.1 c.refuse-in-Barred.ensures.rest.3 c.refuse-in-Barred.ensures.rest.4 c.refuse-in-Barred.ensures.trades (noted c.args.session.now))
       c.refuse-in-Barred.ensures.noted;
 }

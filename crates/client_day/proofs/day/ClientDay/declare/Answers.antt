@@ -26,6 +26,6 @@ returns c =
     let now : ClientDay = record was { book = c.declare.new.self; desks = c.push_reserved.new.self } in
     record {
       taken = λ h before line is are says.
-          day-declared h before line c.args.self.now now c.args.client is says c.if-self.false are refl refl refl refl c.in_ok-declare.ensures.clients (c.in_ok-declare.ensures.declared h (known-yet h before c.args.self.now is c.if-self.false))
+          day-declared h before line c.args.self.now now c.args.client is says c.if-self.false are refl refl refl refl refl c.in_ok-declare.ensures.clients (c.in_ok-declare.ensures.declared h (known-yet h before c.args.self.now is c.if-self.false))
           (c.push_reserved.ensures.items ∙ ap₂ (λ (all : List DeskSoFar) (d : DeskSoFar). all ++ d ∷ []) c.reserve.ensures.items c.new-desk.ensures);
     }

@@ -15,6 +15,7 @@ returns c =
         behind = record {
           known = c.in_ok-book.ensures.opens;
           served = c.open-4.ensures.opens;
+          told = c.in_ok-notices.ensures.opens;
           journal_is = record { count = c.new-2.ensures.count; lines = c.new-2.ensures.lines };
           answered = tt;
           desks = ap length c.new-3.ensures.items ∙ sym (ap length none);

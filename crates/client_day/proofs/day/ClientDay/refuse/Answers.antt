@@ -7,7 +7,7 @@ use Rattle.client_day.proofs.day.ClientDay.refuse.Goals as goal
 
 pub returns : goal.returns
 returns c = record {
-  rest = (refl, refl, refl, refl);
+  rest = (refl, refl, refl, refl, refl);
   trades = refl;
   noted = on_ok c.tell_refusal.result (λ given h.
       noted-at h c.args.client c.index.result (refusal_notes c.args.answer) c.args.self.now.desks.items c.index.ensures.value c.requires.client c.index_mut.ensures.value (given h))

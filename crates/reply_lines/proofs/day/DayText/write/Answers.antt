@@ -1,7 +1,7 @@
 -- A legal history has an output, and this is it.
 use Rattle.std.proofs.Common.{◌++◌}
 use Rattle.reply_lines.specs.Output.{IsOutput, day_text, last_text}
-use Rattle.reply_lines.proofs.Outputs.{day-books, is_output, wrote_whole, wrote_part}
+use Rattle.reply_lines.proofs.Outputs.{day_whole, day_part, is_output}
 use Rattle.reply_lines.proofs.day.DayText.write.Goals as goal
 
 pub write_whole-requires : goal.write_whole-requires
@@ -10,24 +10,15 @@ write_whole-requires g c =
     record { told = (told.0, record { legal = told.1; text = told.2; at_the_end = told.3 }) }
 
 pub returns-in-Ok : goal.returns-in-Ok
-returns-in-Ok g c =
-    let h = c.args.session.now in
-    record {
-      wrote = λ entries legal text stands.
-          let books = day-books h entries legal in
-          wrote_whole (IsOutput h entries c.args.strays c.args.ending) (day_text h entries books.0 ++ last_text c.args.strays c.args.ending)
-          (is_output h entries c.args.strays c.args.ending books.0 books.1)
-          (c.in-Ok.ensures.wrote entries books.0 (record { legal = legal; text = text; at_the_end = stands }) books.1);
-    }
+returns-in-Ok g c = record {
+  wrote = λ entries legal text stands.
+      day_whole c.args.session.now entries (IsOutput c.args.session.now entries c.args.strays c.args.ending) (λ books. day_text c.args.session.now entries books ++ last_text c.args.strays c.args.ending) (is_output c.args.session.now entries c.args.strays c.args.ending) legal
+      (λ books are. c.in-Ok.ensures.wrote entries books (record { legal = legal; text = text; at_the_end = stands }) are);
+}
 
 pub returns-in-Err : goal.returns-in-Err
-returns-in-Err g c =
-    let h = c.args.session.now in
-    record {
-      wrote = λ entries legal text stands.
-          let books = day-books h entries legal in
-          wrote_part (IsOutput h entries c.args.strays c.args.ending) (day_text h entries books.0 ++ last_text c.args.strays c.args.ending)
-          c.in-Err.fault c.from.result c.from.ensures
-          (is_output h entries c.args.strays c.args.ending books.0 books.1)
-          (c.in-Err.ensures.wrote entries books.0 (record { legal = legal; text = text; at_the_end = stands }) books.1);
-    }
+returns-in-Err g c = record {
+  wrote = λ entries legal text stands.
+      day_part c.args.session.now entries (IsOutput c.args.session.now entries c.args.strays c.args.ending) (λ books. day_text c.args.session.now entries books ++ last_text c.args.strays c.args.ending) (is_output c.args.session.now entries c.args.strays c.args.ending) legal
+      c.in-Err.fault c.from.result c.from.ensures (λ books are. c.in-Err.ensures.wrote entries books (record { legal = legal; text = text; at_the_end = stands }) are);
+}

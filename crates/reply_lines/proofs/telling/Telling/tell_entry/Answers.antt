@@ -1,17 +1,15 @@
 -- The sender is told the reply, and then the banks of the fills theirs.
-use Rattle.std.proofs.Common.{List, ℕ, [], ◌∷◌, sym, subst}
+use Rattle.std.proofs.Common.{List, ℕ, [], ◌∷◌, ◌∙◌, sym, subst}
+use Rattle.std.proofs.lemmas.List.{take_all}
 use Rattle.std.specs.List.{flat_map}
 use Rattle.fx_edges.proofs.Writing.{IsPrefixOf-trans}
 use Rattle.fx_rules.specs.declared.orders.Fill.{Fill}
-use Rattle.fx_rules.specs.Lists.{Each}
 use Rattle.fx_rules.specs.Step.{fills_of}
 use Rattle.fx_rules.proofs.Senders.{suits-sender}
 use Rattle.reply_lines.specs.Notices.Notice.{Replied}
-use Rattle.reply_lines.specs.Prints.{IsFillOf}
 use Rattle.reply_lines.specs.Telling.{Addressed, addressed_to, fill_addressed}
 use Rattle.reply_lines.specs.inside.Telling.{CanCount, HasTold, with_one}
-use Rattle.reply_lines.proofs.Counting.{can-behind, can-first, told-then}
-use Rattle.reply_lines.proofs.Outputs.{on_ok}
+use Rattle.reply_lines.proofs.Counting.{can-behind, can-first, can-more, can-turn, told-begins, told-more, told-none, told-then}
 use Rattle.reply_lines.proofs.telling.Telling.tell_entry.Goals as goal
 
 pub tell_reply-requires : goal.tell_reply-requires
@@ -23,25 +21,36 @@ tell_reply-requires c =
       can = can-first (addressed_to e.bank (Replied e) ∷ []) (flat_map fill_addressed (fills_of e.outcome)) c.requires.can;
     }
 
-pub tell_fills-requires : goal.tell_fills-requires
-tell_fills-requires c =
+pub loop-fill-init : goal.loop-fill-init
+loop-fill-init c =
     let e = c.args.entry.now in
     let fills : List Addressed = flat_map fill_addressed (fills_of e.outcome) in
     let rest : CanCount fills (with_one c.args.self.now.counts.items e.bank) = can-behind (addressed_to e.bank (Replied e) ∷ []) fills c.requires.can in
     record {
-      fills = subst (Each (IsFillOf c.args.session.now)) (sym c.fills.ensures.fills) c.requires.entry.fills;
-      can = subst (λ (fs : List Fill). CanCount (flat_map fill_addressed fs) c.tell_reply.new.self.counts.items) (sym c.fills.ensures.fills)
+      told = told-none c.args.session.now c.tell_reply.new.self.counts.items c.tell_reply.new.text;
+      can = subst (λ (fs : List Fill). CanCount (flat_map fill_addressed fs) c.tell_reply.new.self.counts.items) (sym c.fills-fill-items.ensures.fills)
           (subst (λ (cs : List ℕ). CanCount fills cs) (sym c.in_ok-tell_reply.ensures.ok.counted) rest);
     }
+
+pub tell_fill-requires-clause-can : goal.tell_fill-requires-clause-can
+tell_fill-requires-clause-can c = can-turn fill_addressed c.fills-fill-items.result.now c.loop-fill.fill-index c.fill-item.result c.loop-fill-test.true c.fill-item.is c.loop-fill.invariant.can
+
+pub returns-in_err-tell_fill-clause-begins : goal.returns-in_err-tell_fill-clause-begins
+returns-in_err-tell_fill-clause-begins c = IsPrefixOf-trans c.in_ok-tell_reply.ensures.begins (IsPrefixOf-trans (told-begins c.loop-fill.invariant.told) c.in_err-tell_fill.ensures.begins)
+
+pub loop-fill-preserved : goal.loop-fill-preserved
+loop-fill-preserved c = record {
+  told = told-more fill_addressed c.fills-fill-items.result.now c.loop-fill.fill-index c.fill-item.result c.loop-fill-test.true c.fill-item.is c.args.session.now c.loop-fill.invariant.told c.in_ok-tell_fill.ensures.ok;
+  can = can-more fill_addressed c.fills-fill-items.result.now c.loop-fill.fill-index c.fill-item.result c.loop-fill-test.true c.fill-item.is c.in_ok-tell_fill.ensures.ok.counted c.loop-fill.invariant.can;
+}
 
 pub returns-clause-ok : goal.returns-clause-ok
 returns-clause-ok c =
     let e = c.args.entry.now in
     let h = c.args.session.now in
-    on_ok c.tell_fills.result
-    (λ told. told-then h (addressed_to e.bank (Replied e) ∷ []) (flat_map fill_addressed (fills_of e.outcome)) c.in_ok-tell_reply.ensures.ok
-    (subst (λ (fs : List Fill). HasTold h (flat_map fill_addressed fs) c.tell_reply.new.self.counts.items c.tell_fills.new.self.counts.items c.tell_reply.new.text c.tell_fills.new.text) c.fills.ensures.fills told))
-    c.tell_fills.ensures.ok
+    told-then h (addressed_to e.bank (Replied e) ∷ []) (flat_map fill_addressed (fills_of e.outcome)) c.in_ok-tell_reply.ensures.ok
+    (subst (λ (fs : List Fill). HasTold h (flat_map fill_addressed fs) c.tell_reply.new.self.counts.items c.loop-fill.self.counts.items c.tell_reply.new.text c.loop-fill.text)
+    (take_all c.loop-fill.fill-index c.fills-fill-items.result.now c.loop-fill-test.false ∙ c.fills-fill-items.ensures.fills) c.loop-fill.invariant.told)
 
 pub returns-clause-begins : goal.returns-clause-begins
-returns-clause-begins c = IsPrefixOf-trans c.in_ok-tell_reply.ensures.begins c.tell_fills.ensures.begins
+returns-clause-begins c = IsPrefixOf-trans c.in_ok-tell_reply.ensures.begins (told-begins c.loop-fill.invariant.told)
