@@ -1,5 +1,5 @@
 -- The best order of levels, as one of these changes.
-use Rattle.std.proofs.Common.{ℕ, cond, nat_eq, ◌≡◌, ◌≢◌, ◌-◌, ◌≤◌, ◌<◌, ◌==◌, ◌⊎◌, ◌^◌, Bool, true, false, if◌then◌else◌, List, [], length, get_or, replicate, Option, Some, None, inl, inr, refl, ap, sym, subst, ◌∙◌, arith}
+use Rattle.std.proofs.Common.{ℕ, cond, nat_eq, ◌≡◌, ◌≢◌, ◌-◌, ◌≤◌, ◌<◌, ◌==◌, ◌^◌, Bool, true, false, if◌then◌else◌, List, [], length, get_or, replicate, Option, Some, None, inl, inr, refl, ap, sym, subst, ◌∙◌, arith}
 use Rattle.std.proofs.Math.ListN.{set}
 use Rattle.std.proofs.lemmas.List.{get_or-replicate, get_or-set_other, get_or-set_same}
 use Rattle.std.specs.Map.{lookup}
@@ -9,7 +9,7 @@ use Rattle.price_levels.specs.declared.level.Level.{Level}
 use Rattle.price_levels.specs.Rungs.{Rungs, holds, level_at, with_level_at}
 use Rattle.price_levels.specs.Ticks.{first_left, last_left, no_level, with_order, without_order}
 use Rattle.access_index.specs.declared.words.Head.{Head}
-use Rattle.access_index.specs.Heads.{IsHead, IsLeastHead, IsUpTo, head_word}
+use Rattle.access_index.specs.Heads.{IsHead, head_word}
 use Rattle.access_index.specs.Ranked.{AreHeadWords, IsHeadOf, bank_holds, bank_level, holds_in, level_in, with_bank_level}
 use Rattle.access_index.specs.inside.Ranked.{AreRanked, head_with}
 use Rattle.access_index.proofs.Numbering.{Writes, of_updates}

@@ -1,5 +1,5 @@
 -- The levels of all owners of one side, and the best order of each and of those that can be reached.
-use Rattle.std.specs.Prelude.{ℕ, ◌≡◌, ◌≢◌, ◌≤◌, ◌<◌, ◌==◌, ◌⊎◌, if◌then◌else◌, nat_eq, Bool, false, List, length, Option, Some, None, slice_index, IfSome}
+use Rattle.std.specs.Prelude.{ℕ, ◌≡◌, ◌<◌, ◌==◌, if◌then◌else◌, nat_eq, Bool, false, List, length, Option, Some, None, slice_index, IfSome}
 use Rattle.std.specs.Map.{lookup}
 use Rattle.price_levels.specs.declared.level.Level.{Level}
 use Rattle.price_levels.specs.Rungs.{IsNextRank, Rungs, holds, level_at, with_level_at}

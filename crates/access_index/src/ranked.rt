@@ -1,4 +1,4 @@
-ghost use Rattle.std.specs.Prelude.{ℕ, ◌≡◌, ◌≢◌, ◌+◌, ◌-◌, ◌≤◌, ◌<◌, ◌==◌, ◌^◌, ◌&&◌, None, true, if◌then◌else◌, length, nat_eq, slice_index_or, IfOk, IfSome, OnOk};
+ghost use Rattle.std.specs.Prelude.{ℕ, ◌≡◌, ◌≢◌, ◌+◌, ◌-◌, ◌≤◌, ◌<◌, ◌^◌, None, true, nat_eq, slice_index_or, IfOk, IfSome, OnOk};
 ghost use Rattle.std.specs.Map.{lookup};
 ghost use Rattle.std.specs.Option.{option_copied};
 ghost use Rattle.price_levels.specs.Ticks.{last_of_level, no_level, with_order, without_order};

@@ -1,4 +1,4 @@
-ghost use Rattle.std.specs.Prelude.{ℕ, ◌≡◌, ◌-◌, ◌/◌, ◌%◌, ◌≤◌, ◌<◌, ◌^◌, None, if◌then◌else◌, length, replicate, slice_index, slice_index_or, slice_set, IfSome};
+ghost use Rattle.std.specs.Prelude.{ℕ, ◌≡◌, ◌-◌, ◌/◌, ◌%◌, ◌≤◌, ◌<◌, ◌^◌, None, length, replicate, slice_index, slice_index_or, slice_set, IfSome};
 ghost use Rattle.access_index.specs.Heads.{IsHead, IsLeastHead, head_word, word_of};
 ghost use Rattle.access_index.specs.inside.Words.{IsLeastWord};
 

@@ -2,7 +2,6 @@
 use Rattle.std.proofs.Common.{ℕ, ◌≡◌, ◌+◌, ◌<◌, ◌^◌, true, false, List, [], ◌∷◌, ◌++◌, length, get_or, refl, ap, sym, subst, ◌∙◌, arith}
 use mathlib.Core.List.{IsPrefix}
 use Rattle.fx_rules.specs.declared.command.Command.{Command}
-use Rattle.fx_rules.specs.declared.command.Command.TheVariants.{Order, Cancel, Reduce, Pull, Line, Total, Settle, Show, Book, Bad}
 use Rattle.fx_rules.specs.declared.outcome.Outcome.{Outcome}
 use Rattle.fx_rules.specs.declared.outcome.Entry.{Entry}
 use Rattle.fx_rules.specs.Session.{Header}
@@ -22,6 +21,7 @@ use Rattle.fx_chronicle.proofs.Pending.{pends-touched, signed_by_one}
 use Rattle.fx_chronicle.specs.Submitting.{next_own}
 use Rattle.fx_rules.specs.declared.sender.Sender.{Sender}
 use Rattle.fx_rules.specs.Sending.{IsNextIn, entry_of}
+use Rattle.credit_lines.proofs.NoPair.{no_pair}
 use Rattle.credit_lines.specs.Table.{Table, IsNextOf, FollowsOn, AnswersEach, is_of_no_pair}
 use Rattle.credit_book.specs.Recorded.{Recorded, IsCreditBook, key_count, committed, recorded, signed_by}
 use Rattle.credit_book.specs.Serving.{IsServed}
@@ -67,24 +67,12 @@ sender_pends h was book new entry key same kept new_is key_is legal =
     ∙ pends-touched touches_key entry (key_count h) entry.bank below
     ∙ touches-sender entry
 
-about_no_pair : (command : Command) (key : ℕ) → is_of_no_pair command ≡ true → is_about command key ≡ false
-about_no_pair (Show bank) key is = refl
-about_no_pair (Bad reason) key is = refl
-about_no_pair (Order side pair price lots life) key is = cc
-about_no_pair (Cancel pair number) key is = cc
-about_no_pair (Reduce pair number lots) key is = cc
-about_no_pair (Pull pair) key is = cc
-about_no_pair (Line bank limit) key is = cc
-about_no_pair (Total limit) key is = cc
-about_no_pair (Settle a b units) key is = cc
-about_no_pair (Book pair) key is = cc
-
 -- and nobody else, where its command is about no pair
 pub signed_alone : (book new : Recorded) (entry : Entry) (key : ℕ) → new ≡ signed_by key (recorded book entry) → entry.bank ≡ key → is_of_no_pair entry.command ≡ true → new.history.pending ≡ []
-signed_alone book new entry key new_is bank_is no_pair =
+signed_alone book new entry key new_is bank_is about =
     ap (λ (b : Recorded). b.history.pending) new_is
     ∙ ap (λ k. without k (touched touches_key entry book.history.keys)) (sym bank_is)
-    ∙ signed_by_one touches_key entry book.history.keys entry.bank (λ k below apart. touches-other entry k apart (about_no_pair entry.command k no_pair))
+    ∙ signed_by_one touches_key entry book.history.keys entry.bank (λ k below apart. touches-other entry k apart (no_pair (λ command. is_about command k ≡ false) (λ bank. refl) (λ reason. refl) entry.command about))
 
 -- ---- a command served
 

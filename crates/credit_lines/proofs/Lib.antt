@@ -5,3 +5,4 @@ pub mod MarketLemmas
 pub mod Paying
 mod Steps
 pub mod TableFollowing
+pub mod NoPair

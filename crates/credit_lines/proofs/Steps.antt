@@ -139,21 +139,23 @@ give_keeps c lines lines' spent spent' bounded i j units at line_at used given l
     subst (λ k. AreKept (record c { uses = set c.uses k left }) lines' spent' bounded) (sym is_at)
     (subst (λ s. AreKept (with_used c i j s) lines' spent' bounded) new_use made)
 
+-- what two banks have used, in the table that is seen
+pub used_here : (c now : Credit) (i j used : ℕ) → c ≡ now → used ≡ used_in now i j → used ≡ used_in c i j
+used_here c now i j used same is = is ∙ ap (λ (x : Credit). used_in x i j) (sym same)
+
 -- a new limit that is not below the use leaves a line
-pub set_above_use : (c : Credit) (lines spent : List ℕ) (bounded : Bool) (i j limit at used set back_at back least : ℕ) → AreKept c lines spent bounded → CanSet c i j → at ≡ shared_place c.banks i j → used ≡ get_or c.uses at used → set ≡ max limit used → back_at ≡ place c.banks j i → back ≡ get_or c.limits back_at back → least ≡ min set back
+pub set_above_use : (c : Credit) (lines spent : List ℕ) (bounded : Bool) (i j limit used set back_at back least : ℕ) → AreKept c lines spent bounded → CanSet c i j → used ≡ used_in c i j → set ≡ max limit used → back_at ≡ place c.banks j i → back ≡ get_or c.limits back_at back → least ≡ min set back
     → used ≤ least
-set_above_use c lines spent bounded i j limit at used set back_at back least valid can is_at used_read is_set is_back back_read is_least =
-    let is_used : used ≡ used_in c i j = read_used c i j at used valid.0 can.setter can.other is_at used_read in
+set_above_use c lines spent bounded i j limit used set back_at back least valid can is_used is_set is_back back_read is_least =
     let is_limit : back ≡ limit_in c j i = read_limit c j i back_at back valid.0 can.other can.setter is_back back_read in
     let within : used_in c j i ≤ limit_in c j i = valid.0.within j i can.other can.setter in
     let same : used_in c i j ≡ used_in c j i = used_in-swap c i j in
     omega arith
 
-pub set_keeps : (c : Credit) (lines lines' spent : List ℕ) (bounded : Bool) (i j limit at used set' back_at back least here rest : ℕ) → AreKept c lines spent bounded → CanSet c i j → at ≡ shared_place c.banks i j → used ≡ get_or c.uses at used → set' ≡ max limit used → IsUnits set' → back_at ≡ place c.banks j i → back ≡ get_or c.limits back_at back → least ≡ min set' back → here ≡ place c.banks i j → rest ≡ least - used
+pub set_keeps : (c : Credit) (lines lines' spent : List ℕ) (bounded : Bool) (i j limit used set' back_at back least here rest : ℕ) → AreKept c lines spent bounded → CanSet c i j → used ≡ used_in c i j → set' ≡ max limit used → IsUnits set' → back_at ≡ place c.banks j i → back ≡ get_or c.limits back_at back → least ≡ min set' back → here ≡ place c.banks i j → rest ≡ least - used
     → lines' ≡ lined c.banks lines i j rest
     → AreKept (record c { limits = set c.limits here set' }) lines' spent bounded
-set_keeps c lines lines' spent bounded i j limit at used set' back_at back least here rest valid can is_at used_read is_set units is_back back_read is_least is_here is_rest is_lines =
-    let is_used : used ≡ used_in c i j = read_used c i j at used valid.0 can.setter can.other is_at used_read in
+set_keeps c lines lines' spent bounded i j limit used set' back_at back least here rest valid can is_used is_set units is_back back_read is_least is_here is_rest is_lines =
     let is_limit : back ≡ limit_in c j i = read_limit c j i back_at back valid.0 can.other can.setter is_back back_read in
     let new_line : min set' (limit_in c j i) - used_in c i j ≡ rest = omega arith in
     let above : used_in c i j ≤ set' = omega arith in

@@ -3,6 +3,8 @@
 //! Each bank sets a limit on each other bank, in credit units, and may set a total over all others. What two banks trade with each
 //! other uses credit. The line between them is the lesser of their two limits less what they have used, and no more than the total of
 //! either leaves of what it has spent. No line is ever exceeded.
+//!
+//! The credit table has the lines, and how many commands each sender has sent.
 #![tactic(auto)]
 
 mod amounts;

@@ -156,6 +156,7 @@ impl CreditLines {
     }
 
     /// The lots that the line between banks `i` and `j` allows, 0 to 10^15, at `weight` credit units a lot, 1 to 10^6.
+    /// Only trials call it.
     pub fn reach(&self, i: BankId, j: BankId, weight: u32) -> u64
         requires first { i < self.now.banks }
         requires second { j < self.now.banks }
@@ -213,8 +214,7 @@ impl CreditLines {
         ensures value { self.new ≡ limited self.old i j result }
         ensures valid { IsCredit self.new }
     {
-        let at = shared_place(self.banks, i, j);
-        let used = self.uses[at];
+        let used = self.used(i, j);
         let set = greater(limit, used);
         let back = self.limits[place(self.banks, j, i)];
         self.limits[place(self.banks, i, j)] = set;

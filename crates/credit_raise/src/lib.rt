@@ -1,4 +1,4 @@
-//! What a raised line between two banks brings together: in one pair, planned from the two banks' orders alone, and from pair to
+//! What a credit change brings together: in one pair, of a limit planned from the orders of its two banks alone, and from pair to
 //! pair.
 #![tactic(auto)]
 

@@ -1,7 +1,7 @@
 use crate::keeping::{append, count};
-use fx_disk::{MemoryDisk, SteadyDisk};
+use fx_disk::{DiskStop, MemoryDisk, SteadyDisk};
 use fx_edges::{MemorySink, SinkFault, SteadySink};
-use keep_disk::{KeepFault, RunFault};
+use keep_disk::RunFault;
 use std::alloc::{AllocError, Global};
 use std::test::Fail;
 
@@ -31,7 +31,7 @@ fn a_disk_fails_at_each_call(rt: HostRuntime) -> Result<(), Fail> {
         let want = if call > CALLS {
             Ok(())
         } else {
-            Err(RunFault::Keep(KeepFault::Disk))
+            Err(RunFault::Keep(DiskStop::Failed))
         };
         assert!(rt; kept == want && found == (whole, true), "call {call}");
     }

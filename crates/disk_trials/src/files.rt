@@ -1,7 +1,7 @@
 use crate::keeping::{append, count};
-use fx_disk::{Disk, FileDisk};
+use fx_disk::{Disk, DiskStop, FileDisk};
 use fx_edges::SteadySink;
-use keep_disk::{KeepFault, RunFault};
+use keep_disk::RunFault;
 use std::fs;
 use std::test::Fail;
 
@@ -33,7 +33,7 @@ fn a_real_file_keeps_its_blocks(rt: HostRuntime) -> Result<(), Fail> {
     assert!(rt; open.size().is_ok());
     assert!(rt;
         append(alloc, &mut FileDisk::new(&rt), &mut out, 1, DOTS)
-            == Err(RunFault::Keep(KeepFault::Disk))
+            == Err(RunFault::Keep(DiskStop::Failed))
     );
     drop(open);
 
@@ -41,7 +41,7 @@ fn a_real_file_keeps_its_blocks(rt: HostRuntime) -> Result<(), Fail> {
     fs::remove_file(&rt, NAME)?;
     fs::create_dir(&rt, NAME)?;
     let third = append(alloc, &mut FileDisk::new(&rt), &mut out, 1, DOTS);
-    assert!(rt; third == Err(RunFault::Keep(KeepFault::Disk)));
+    assert!(rt; third == Err(RunFault::Keep(DiskStop::Failed)));
     fs::remove_dir(&rt, NAME)?;
     Ok(())
 }

@@ -7,9 +7,9 @@ ghost use Rattle.disk_trials.specs.Numbered.{bodies, room, KeptNumbers, AllNumbe
 
 use crate::numbers::{Numbers, body_of};
 use fx_amounts::Memory;
-use fx_disk::Disk;
+use fx_disk::{Disk, DiskStop};
 use fx_edges::Sink;
-use keep_disk::{Body, KeepFault, RunFault, keep_rounds, open_keeper};
+use keep_disk::{Body, RunFault, keep_rounds, open_keeper};
 use std::alloc::Global;
 
 /// Appends the blocks of the next `count` numbers, and writes each number once its block is on the disk. After a fault the disk
@@ -51,7 +51,7 @@ fn are_in_order(alloc: Global, found: &[Body], dots: usize) -> Result<bool, Memo
 
 /// How many blocks the file has, and whether they are those of 1, 2, 3 and so on. The disk keeps its blocks, whatever the answer,
 /// and the fault is `Disk` only where its count of faults rose, which rises at nothing else.
-pub fn count<D: Disk>(alloc: Global, disk: &mut D, dots: usize) -> Result<(usize, bool), KeepFault>
+pub fn count<D: Disk>(alloc: Global, disk: &mut D, dots: usize) -> Result<(usize, bool), DiskStop>
     ensures blocks { IfOk result (λ found. WhereTold (D.bytes disk.old) (λ file. found.0 ≡ length (whole_blocks file))) }
     ensures in_order { IfOk result (λ found. WhereTold (D.bytes disk.old) (λ file.
         IsTrue found.1 ↔ (whole_blocks file ≡ bodies dots 1 (length (whole_blocks file))))) }

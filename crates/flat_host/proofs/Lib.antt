@@ -10,7 +10,6 @@ pub mod Tables
 pub mod Pairs
 pub mod Market
 pub mod Counting
-pub mod Reading
 pub mod OpeningLemmas
 pub mod Probing
 pub mod Pulling

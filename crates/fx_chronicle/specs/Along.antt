@@ -11,7 +11,7 @@ abbrev pub state_before : Header → List Entry → ℕ → State
 state_before h entries place = state h (take place entries)
 
 pub record IsOrderly (h : Header) (entries : List Entry) : Type 0 where
-  -- no line is exceeded, and each falls by its fills
+  -- no line and no total is exceeded, and what they leave falls by the fills and rises by what is given back
   pub no_line_exceeded : (place : ℕ) → Within h (state_before h entries place)
   pub lines_fall : (place : ℕ) (entry : Entry) → slice_get entries place ≡ Some entry → Falls h (state_before h entries place) entry
   -- no orders that can reach each other rest crossed

@@ -2,13 +2,16 @@ ghost use Rattle.std.specs.Prelude.{◌≡◌, ℕ, ◌+◌, ◌<◌, ◌≤◌,
 ghost use Rattle.fx_disk.specs.Disk.{WhereTold, with_piece, TornBy, NoMore, Only, Called};
 
 use fx_amounts::Memory;
+use thiserror::Error;
 
 /// Why a disk didn't do what it was asked.
-#[derive(Clone, Copy, Debug, PartialEq, Eq)]
+#[derive(Clone, Copy, Debug, Error, PartialEq, Eq)]
 pub enum DiskStop {
     /// The disk failed, and its count of faults rose. What it holds now is only known by what a crash may leave.
+    #[error("the disk failed")]
     Failed,
     /// The disk was out of memory. Its bytes, what a crash may leave and its count of faults are as they were.
+    #[error("out of memory")]
     Memory(Memory),
 }
 

@@ -43,7 +43,7 @@ NextEntriesAgree =
     IsLegal h (entries ++ one ∷ []) → IsLegal h (entries ++ other ∷ []) →
     one.bank ≡ other.bank → one.command ≡ other.command → one ≡ other
 
--- The state of a legal history is sound, and no line is exceeded in it.
+-- The state of a legal history is sound, and no line and no total is exceeded in it.
 abbrev pub LegalIsSound : Type 0
 LegalIsSound = (h : Header) (entries : List Entry) → IsLegal h entries → IsSound h (state h entries) × Within h (state h entries)
 

@@ -3,6 +3,7 @@ pub mod DigitTexts
 pub mod FieldLemmas
 pub mod FieldTexts
 pub mod FirstLines
+mod Formatted
 pub mod JoinedFields
 pub mod LineTexts
 pub mod LinesLemmas

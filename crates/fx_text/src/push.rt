@@ -21,7 +21,7 @@ pub fn push_number(value: u128, out: &mut Vec<u8>) -> Result<(), Memory>
 }
 
 /// Appends a price's one spelling, where a tick is the last of `decimals` decimal places, which may be any number.
-/// After `Err` the list is as it was.
+/// After `Err` the list is as it was. Only trials call it.
 pub fn push_price(price: Price, decimals: u8, out: &mut Vec<u8>) -> Result<(), Memory>
     ensures ok { OnOk result (out.new.items ≡ out.old.items ++ price_text decimals price) }
     ensures err { OnErr result (out.new.items ≡ out.old.items) }

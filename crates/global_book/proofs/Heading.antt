@@ -1,9 +1,8 @@
 -- The heads of a walk along a side: what a word tells of the list of the orders, the best of the heads, and the next head of a bank.
-use Rattle.std.proofs.Common.{ℕ, zero, suc, ◌≡◌, ◌≢◌, ◌-◌, ◌≤◌, ◌<◌, ◌^◌, ◌⊎◌, true, false, Bool, not, ◌&&◌, leb, ltb, min, List, [], ◌∷◌, length, map, Option, Some, None, get_or, inl, inr, refl, ap, sym, subst, ◌∙◌, arith}
+use Rattle.std.proofs.Common.{ℕ, zero, suc, ◌≡◌, ◌-◌, ◌≤◌, ◌<◌, ◌^◌, true, false, Bool, not, ◌&&◌, leb, ltb, min, List, [], ◌∷◌, length, map, Option, Some, None, get_or, inl, inr, refl, ap, sym, subst, ◌∙◌, arith}
 use Rattle.std.proofs.Math.ListN.{set}
-use Rattle.std.proofs.lemmas.Bool.{and_from, and_parts, both_ways, cases_Bool, cases_eq, cases_lt, eq-eqb, eqb-true, false_from_ne_true, le-leb, lt-leb, lt-ltb}
+use Rattle.std.proofs.lemmas.Bool.{and_from, and_parts, both_ways, cases_eq, cases_lt, eq-eqb, eqb-true, false_from_ne_true, le-leb, lt-leb, lt-ltb}
 use Rattle.std.proofs.lemmas.List.{get_or-set_other, get_or-set_same, length-map, length-set, map-set}
-use Rattle.std.specs.List.{filter}
 use Rattle.std.specs.Option.{IfSome, IsSome, option_map}
 use Rattle.fx_amounts.specs.Price.{crosses}
 use Rattle.fx_amounts.specs.Side.{opposite}
@@ -11,19 +10,18 @@ use Rattle.fx_amounts.specs.declared.side.Side.{Side}
 use Rattle.fx_amounts.specs.declared.side.Side.TheVariants.{Buy, Sell}
 use Rattle.fx_rules.specs.declared.orders.Resting.{Resting}
 use Rattle.fx_rules.specs.Lists.{Among, Each}
-use Rattle.fx_rules.specs.Sweep.{IsBest, is_opposite, is_preferred}
-use Rattle.fx_rules.proofs.ListLemmas.{Each-among, Each-of, Among-filter, among_filter}
-use Rattle.fx_rules.proofs.Preference.{preferred_self, preferred_trans}
+use Rattle.fx_rules.specs.Sweep.{is_opposite, is_preferred}
+use Rattle.fx_rules.proofs.ListLemmas.{Each-among, Among-filter, among_filter}
+use Rattle.fx_rules.proofs.Preference.{preferred_trans}
 use Rattle.access_index.specs.declared.words.Head.{Head}
 use Rattle.access_index.specs.Heads.{IsHead, IsLeastHead, IsUpTo}
 use Rattle.access_index.specs.Ranked.{IsHeadOf, bank_level}
-use Rattle.order_store.specs.Linked.{AreRising}
+use Rattle.order_store.specs.Linked.{AreListed}
 use Rattle.global_book.specs.Behind.{is_owned_behind, owned_behind}
 use Rattle.global_book.specs.Book.{Book, IsHeld, is_of}
 use Rattle.global_book.specs.Heads.{Heads, IsBegun, IsLeast, IsNext, PassesHead, count_to_come, head_in, is_from_head, is_to_come, with_head}
 use Rattle.global_book.specs.Room.{ladders_of, rank_of}
 use Rattle.global_book.specs.inside.Bests.{IsBestAt, IsBestOf, is_own_behind, is_own_from, is_past}
-use Rattle.global_book.specs.inside.Ends.{orders_of}
 use Rattle.global_book.specs.inside.Heads.{TellHeads, TellsOrder, order_told}
 use Rattle.global_book.specs.inside.Linked.{AreKept, AreLinked, IsPriced, Linked, orders_in}
 use Rattle.global_book.specs.inside.Owning.{is_own}
@@ -60,14 +58,19 @@ pub dear-rank : (side : Side) (limit price : ℕ) → limit ≤ 10 ^ 9 → price
 dear-rank Buy limit price most most' above = lt-leb limit price (omega (arith, most, most', above))
 dear-rank Sell limit price most most' above = lt-leb price limit above
 
+-- the best order of a bank is at its head's place
+pub head-best : (linked : Linked) (side : Side) → AreLinked linked.orders.slots linked.ladders → AreListed linked.orders → (bank : ℕ) (head : Option Head)
+    → IsHeadOf (bank_level (ladders_of linked.ladders side) bank) head → IsBestOf linked.orders.slots (is_own_from bank side 0) side (option_map (λ (h : Head). h.place) head)
+head-best linked side ladders listed bank None none =
+    none-found linked.orders.slots bank side (bank_level (ladders_of linked.ladders side)) (ladders.told side) ladders.priced listed.rising listed.lots 0 (λ rank from. none rank)
+head-best linked side ladders listed bank (Some head) is =
+    subst (IsBestAt linked.orders.slots (is_own_from bank side 0) side) (sym is.1)
+    (first-found linked.orders.slots bank side (bank_level (ladders_of linked.ladders side)) (ladders.told side) ladders.priced listed.rising listed.lots 0 head.rank is.0)
+
 -- What the best orders of a side are.
 module _ (banks : ℕ) (linked : Linked) (side : Side) (kept : AreKept banks linked) (ladders : AreLinked linked.orders.slots linked.ladders) where
-  -- the best order of a bank is at its head's place
   best-of : (bank : ℕ) (head : Option Head) → IsHeadOf (bank_level (ladders_of linked.ladders side) bank) head → IsBestOf linked.orders.slots (is_own_from bank side 0) side (option_map (λ (h : Head). h.place) head)
-  best-of bank None none = none-found linked.orders.slots bank side (bank_level (ladders_of linked.ladders side)) (ladders.told side) ladders.priced kept.listed.rising kept.listed.lots 0 (λ rank from. none rank)
-  best-of bank (Some head) is =
-      subst (IsBestAt linked.orders.slots (is_own_from bank side 0) side) (sym is.1)
-      (first-found linked.orders.slots bank side (bank_level (ladders_of linked.ladders side)) (ladders.told side) ladders.priced kept.listed.rising kept.listed.lots 0 head.rank is.0)
+  best-of = head-best linked side ladders kept.listed
 
   tells-best : (bank : ℕ) (head : Option Head) → IsHeadOf (bank_level (ladders_of linked.ladders side) bank) head → IfSome head IsHead → IfSome head (TellsOrder linked.orders.slots side bank)
   tells-best bank None is fits = tt

@@ -1,18 +1,17 @@
 mod reaching;
 mod walking;
 
-ghost use Rattle.std.specs.Prelude.{◌≡◌, ◌+◌, ◌≤◌, ◌<◌, ◌^◌, ◌↔◌, ◌++◌, ◌∷◌, [], ℕ, None, true, false, filter, length, map, not, IfOk, IfSome, IsSome, IsSomeAnd, OnOk};
+ghost use Rattle.std.specs.Prelude.{◌≡◌, ◌+◌, ◌≤◌, ◌<◌, ◌^◌, ◌↔◌, ◌++◌, ◌∷◌, [], None, false, filter, length, map, not, IfOk, IfSome, OnOk};
 ghost use Rattle.std.specs.Option.{option_copied};
 ghost use Rattle.fx_amounts.specs.Side.{opposite};
 ghost use Rattle.fx_rules.specs.Lists.{Each};
 ghost use Rattle.fx_rules.specs.Sweep.{IsBest, is_order};
-ghost use Rattle.order_store.specs.Orders.{order_at};
 ghost use Rattle.global_book.specs.Behind.{IsCursor, owned_behind};
 ghost use Rattle.global_book.specs.Book.{AreInTime, AreOwners, IsBook, IsPriceOf, Rests, RestsAbove, first, is_of, is_of_from, relotted};
 ghost use Rattle.global_book.specs.Lowered.{lowered_in};
 ghost use Rattle.global_book.specs.Room.{HasRoom, KeepsOtherRoom, KeepsRoom, TakesRoom};
 ghost use Rattle.global_book.specs.inside.Bests.{from_rank};
-ghost use Rattle.global_book.specs.inside.Linked.{AreKept, Becomes, orders_in};
+ghost use Rattle.global_book.specs.inside.Linked.{AreKept, orders_in};
 ghost use Rattle.global_book.specs.inside.Owning.{is_own};
 
 use crate::linked::LinkedOrders;
@@ -247,7 +246,7 @@ impl PairBook {
     }
 
     /// The first order of a bank that arrived at or after this; `None` where there is none. It looks at all orders of the book: one
-    /// step for each.
+    /// step for each. Only trials call it.
     pub fn next_of<L: Ledger>(
         &self,
         bank: BankId,

@@ -10,4 +10,4 @@ mod side_ladders;
 
 pub use book::PairBook;
 pub use side_heads::SideHeads;
-pub use side_ladders::{price_at, rank_of};
+pub use side_ladders::price_at;

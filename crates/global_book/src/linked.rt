@@ -220,10 +220,23 @@ impl LinkedOrders {
         self.ladders.heads(side)
     }
 
-    /// The place of the best order of a bank and a side, of those from a rank on; `None` where there is none.
+    /// The place of the best order of a bank and a side, as the bank's word tells it; `None` where there is none.
+    fn first_of(&self, bank: BankId, side: Side) -> Option<u32>
+        requires bank { bank < 64 }
+        ensures { IsBestOf self.now.orders.slots (is_own_from bank side 0) side result }
+    {
+        let head = self.heads(side).of(bank)?;
+        Some(head.place)
+    }
+
+    /// The place of the best order of a bank and a side, of those from a rank on; `None` where there is none. From the first rank on it is told
+    /// by the bank's word, with no search.
     pub(crate) fn first_from(&self, bank: BankId, side: Side, from: u32) -> Option<u32>
         ensures { IsBestOf self.now.orders.slots (is_own_from bank side from) side result }
     {
+        if from == 0 && bank.index() < BankId::COUNT {
+            return self.first_of(bank, side);
+        }
         let rank = self.ladders.next(side, bank, from)?;
         Some(self.ladders.level(side, bank, rank).first)
     }

@@ -190,7 +190,7 @@ impl SideLadders {
 }
 
 /// The rank of a price among those of a side: the lower, the better for a taker. At most 10^9.
-pub fn rank_of(side: Side, price: Price) -> u32
+pub(crate) fn rank_of(side: Side, price: Price) -> u32
     ensures rank { result ≡ rank_of side price }
     ensures least { 1 ≤ price }
     ensures price { price ≤ 10 ^ 9 }

@@ -11,7 +11,7 @@ ghost use Rattle.gateway_workers.specs.inside.Serving.{IsUnderWay};
 
 use flat_host::{FlatHost, OneLockHost, OnePass, close_one, open_one};
 use fx_amounts::{BankId, Memory};
-use fx_chronicle::{Blank, Desk, Naming, Note};
+use fx_chronicle::{Blank, Desk, Naming};
 use fx_edges::SteadySource;
 use fx_rules::{Command, CommandList, Entry, Gate, OpenGate, Outcome, Sent, Session};
 use gateway_workers::{Lane, run_round};
@@ -29,47 +29,47 @@ use std::thread::Threads;
 // The submit that is refused, counted from 1.
 const REFUSED: u64 = 4;
 
-// A host behind one lock, of whose submits one is refused before it comes to the host.
+// A desk of whose submits one is refused before it comes to the desk.
 #[derive(Drop)]
-struct RefusingDesk<N: Naming> {
-    host: OneLockHost<N>,
+struct RefusingDesk<D> {
+    desk: D,
     submits: AtomicU64,
 }
 
-impl<N: Naming + Send> Desk for RefusingDesk<N> {
-    type Pass = OnePass<N>;
+impl<D: Desk> Desk for RefusingDesk<D> {
+    type Pass = D::Pass;
 
-    type Note = Note<N>;
+    type Note = D::Note;
 
-    ghost session = { N.session };
+    ghost session = { D.session };
 
-    ghost bank = { λ pass. pass.key };
+    ghost bank = { D.bank };
 
-    ghost seen = { λ pass. pass.seen };
+    ghost seen = { D.seen };
 
-    ghost mine = { λ pass. own pass.key pass.met };
+    ghost mine = { D.mine };
 
-    ghost known = { λ note. note };
+    ghost known = { D.known };
 
     fn submit<R: Wait, G: Gate>(
         &self,
         rt: &R,
         gate: &G,
-        pass: &mut OnePass<N>,
+        pass: &mut D::Pass,
         command: &Command,
     ) -> Result<Outcome, Memory> {
         if self.submits.fetch_add(1, SeqCst) == REFUSED - 1 {
             return Err(Memory::from(AllocError));
         }
-        self.host.submit(rt, gate, pass, command)
+        self.desk.submit(rt, gate, pass, command)
     }
 
-    fn note(&self, pass: &mut OnePass<N>) -> Note<N> {
-        self.host.note(pass)
+    fn note(&self, pass: &mut D::Pass) -> D::Note {
+        self.desk.note(pass)
     }
 
-    fn learn(&self, pass: &mut OnePass<N>, note: Note<N>) {
-        self.host.learn(pass, note);
+    fn learn(&self, pass: &mut D::Pass, note: D::Note) {
+        self.desk.learn(pass, note);
     }
 }
 
@@ -156,7 +156,7 @@ fn go_on<N: Naming>(alloc: Global, lanes: &mut [Lane<OnePass<N>>]) -> Result<(),
 // Runs a round of which BETA's second submit is refused, and then a round of what is left.
 fn refuse_and_go_on<N: Naming + Send + Sync, R: AllocGlobal + Threads + Wait + Sync + Abort>(
     rt: &R,
-    desk: &RefusingDesk<N>,
+    desk: &RefusingDesk<OneLockHost<N>>,
     lanes: &mut [Lane<OnePass<N>>],
 ) -> Result<(), Fail>
     requires two { length lanes.old ≡ 2 }
@@ -189,14 +189,17 @@ fn refused_history<N: Naming + Send + Sync, R: AllocGlobal + Threads + Wait + Sy
     let alloc = rt.alloc();
     let (host, passes) = open_one::<N>(alloc, blank, session)?;
     let submits = AtomicU64::new(0);
-    let desk = RefusingDesk { host, submits };
+    let desk = RefusingDesk {
+        desk: host,
+        submits,
+    };
     let mut lanes = lanes_of(alloc, passes)?;
     refuse_and_go_on(rt, &desk, &mut lanes)?;
     let mut passes = Vec::new(alloc);
     for lane in lanes {
         passes.push(lane.pass)?;
     }
-    Ok(close_one(desk.host, passes))
+    Ok(close_one(desk.desk, passes))
 }
 
 // The history of these commands at the plain host.

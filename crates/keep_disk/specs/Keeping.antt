@@ -2,23 +2,16 @@
 use Rattle.std.specs.Prelude.{◌≡◌, ℕ, ◌≤◌, List, Option, Result, IsErrOf}
 use Rattle.fx_edges.specs.Faults.{Rose}
 use Rattle.fx_disk.specs.declared.disk.DiskStop.{DiskStop}
-use Rattle.fx_disk.specs.declared.disk.DiskStop.TheVariants as stops
+use Rattle.fx_disk.specs.declared.disk.DiskStop.TheVariants.{Failed}
 use Rattle.fx_disk.specs.Disk.{WhereTold, Only}
-use Rattle.keep_disk.specs.declared.write.KeepFault.{KeepFault}
-use Rattle.keep_disk.specs.declared.write.KeepFault.TheVariants.{Disk, Memory}
 use Rattle.keep_disk.specs.Blocks.{IsClosedAt}
-
--- the fault that a disk's stop is to a keeper
-abbrev pub of_disk : DiskStop → KeepFault
-of_disk stops.Failed = Disk
-of_disk (stops.Memory memory) = Memory memory
 
 -- where the disk tells its bytes, they are the one image, and are closed at this place
 abbrev pub AtRest : {D : Type 0} → (D → Option (List ℕ)) → (D → List ℕ → Type 0) → D → ℕ → Type 0
 AtRest bytes may_leave disk place = WhereTold (bytes disk) (λ file. IsClosedAt file place × Only file (may_leave disk))
 
 -- the count rose where the call answers a fault of the disk, and stayed where it answers anything else
-pub record HasCause {D T : Type 0} (faults : D → ℕ) (before now : D) (result : Result T KeepFault) : Type 0 where
+pub record HasCause {D T : Type 0} (faults : D → ℕ) (before now : D) (result : Result T DiskStop) : Type 0 where
   pub count : faults before ≤ faults now
-  pub cause : IsErrOf result Disk → Rose (faults before) (faults now)
-  pub steady : (IsErrOf result Disk → ⊥) → faults now ≡ faults before
+  pub cause : IsErrOf result Failed → Rose (faults before) (faults now)
+  pub steady : (IsErrOf result Failed → ⊥) → faults now ≡ faults before

@@ -7,7 +7,7 @@ use Rattle.fx_edges.specs.declared.sink.SinkFault.TheVariants.{Failed}
 use Rattle.fx_edges.specs.Faults.{Rose}
 use Rattle.fx_edges.specs.Writing.{Appended, AppendedPart}
 use Rattle.fx_disk.specs.Disk.{WhereTold, LeavesOnly}
-use Rattle.keep_disk.specs.declared.write.KeepFault.TheVariants as keeps
+use Rattle.fx_disk.specs.declared.disk.DiskStop.TheVariants as stops
 use Rattle.keep_disk.specs.declared.rounds.Round.{Round}
 use Rattle.keep_disk.specs.declared.rounds.RunFault.{RunFault}
 use Rattle.keep_disk.specs.declared.rounds.RunFault.TheVariants.{Keep, Tell}
@@ -15,7 +15,7 @@ use Rattle.keep_disk.specs.Blocks.{whole_blocks}
 
 -- no memory for a round
 abbrev pub out_of_memory : Memory → RunFault
-out_of_memory memory = Keep (keeps.Memory memory)
+out_of_memory memory = Keep (stops.Memory memory)
 
 -- the blocks of rounds, and all that is told of them
 abbrev pub bodies_of : List Round → List (List ℕ)
@@ -44,8 +44,8 @@ pub record HasFirst (start more : List (List ℕ)) (least : ℕ) (image : List �
 -- A fault of the disk or of the sink comes only where its own count rose. Neither count falls, and the disk's rises at nothing else.
 pub record RunCauses {D K T : Type 0} (disk_faults : D → ℕ) (sink_faults : K → ℕ) (before now : D) (out_before out_now : K) (result : Result T RunFault) : Type 0 where
   pub disk_count : disk_faults before ≤ disk_faults now
-  pub disk : IsErrOf result (Keep keeps.Disk) → Rose (disk_faults before) (disk_faults now)
-  pub disk_steady : (IsErrOf result (Keep keeps.Disk) → ⊥) → disk_faults now ≡ disk_faults before
+  pub disk : IsErrOf result (Keep stops.Failed) → Rose (disk_faults before) (disk_faults now)
+  pub disk_steady : (IsErrOf result (Keep stops.Failed) → ⊥) → disk_faults now ≡ disk_faults before
   pub sink_count : sink_faults out_before ≤ sink_faults out_now
   pub sink : IsErrOf result (Tell Failed) → Rose (sink_faults out_before) (sink_faults out_now)
 

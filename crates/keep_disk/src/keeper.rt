@@ -5,9 +5,9 @@ ghost use Rattle.fx_disk.specs.Disk.{WhereTold, LeavesOnly};
 ghost use Rattle.keep_disk.specs.Blocks.{whole_blocks, HasOrLacks};
 ghost use Rattle.keep_disk.specs.Keeping.{AtRest, HasCause};
 
-use crate::write::{KeepFault, write_synced};
+use crate::write::write_synced;
 use fx_amounts::{Memory, room_for};
-use fx_disk::Disk;
+use fx_disk::{Disk, DiskStop};
 use fx_text::Bytes;
 use std::alloc::Global;
 use std::mem;
@@ -72,7 +72,7 @@ impl Keeper {
     /// At every moment of the call a crash leaves the blocks from before it, with the new one or
     /// without, and after `Ok` with it. After a fault the keeper is as it was, and the file is to be
     /// opened again.
-    pub fn append<D: Disk>(&mut self, disk: &mut D, body: &[u8]) -> Result<(), KeepFault>
+    pub fn append<D: Disk>(&mut self, disk: &mut D, body: &[u8]) -> Result<(), DiskStop>
         requires { AtRest D.bytes D.may_leave disk.old self.old.place }
         ensures every_moment { WhereTold (D.bytes disk.old) (λ file.
             LeavesOnly D.moment D.left_since disk.old disk.new (HasOrLacks (whole_blocks file) body.now)) }

@@ -1,4 +1,4 @@
-// The journal file: blocks that are each on the disk before they count, opened again after any crash.
+//! The journal file: blocks that are each on the disk before they count, opened again after any crash.
 #![tactic(auto)]
 
 mod keeper;
@@ -11,4 +11,3 @@ pub use fx_text::Bytes as Body;
 pub use keeper::Keeper;
 pub use open::open_keeper;
 pub use rounds::{Round, Rounds, RunFault, keep_round, keep_rounds};
-pub use write::KeepFault;

@@ -5,12 +5,12 @@ ghost use Rattle.keep_disk.specs.Keeping.{AtRest, HasCause};
 
 use crate::keeper::{CLOSED, Keeper, OPEN};
 use crate::read::{read_blocks, read_file};
-use crate::write::{KeepFault, settle, write_synced};
-use fx_disk::Disk;
+use crate::write::{settle, write_synced};
+use fx_disk::{Disk, DiskStop};
 use std::alloc::Global;
 
 // Closes the file behind its whole blocks, where the last gate says 1 or is missing.
-fn close<D: Disk>(disk: &mut D, bytes: &[u8], place: usize) -> Result<(), KeepFault>
+fn close<D: Disk>(disk: &mut D, bytes: &[u8], place: usize) -> Result<(), DiskStop>
     requires same { WhereTold (D.bytes disk.old) (λ file. file ≡ bytes.now) }
     requires durable { WhereTold (D.bytes disk.old) (λ file. Only file (D.may_leave disk.old)) }
     requires behind { place ≡ space (whole_blocks bytes.now) }
@@ -35,7 +35,7 @@ fn close<D: Disk>(disk: &mut D, bytes: &[u8], place: usize) -> Result<(), KeepFa
 ///
 /// Where the disk had one image, every image at every moment since then has its whole blocks, also
 /// after a fault. After `Ok` the file has just the whole blocks that the disk had as it read at first.
-pub fn open_keeper<D: Disk>(alloc: Global, disk: &mut D) -> Result<Keeper, KeepFault>
+pub fn open_keeper<D: Disk>(alloc: Global, disk: &mut D) -> Result<Keeper, DiskStop>
     ensures every_moment { WhereTold (D.bytes disk.old) (λ file. Only file (D.may_leave disk.old) →
         LeavesOnly D.moment D.left_since disk.old disk.new (λ image. whole_blocks image ≡ whole_blocks file)) }
     ensures blocks { OnOk result (WhereTold (D.bytes disk.old) (λ file. (image : List ℕ) →

@@ -5,9 +5,8 @@ ghost use Rattle.keep_disk.specs.Keeping.{HasCause};
 ghost use Rattle.keep_disk.specs.inside.Keeping.{Untouched};
 
 use crate::keeper::OPEN;
-use crate::write::KeepFault;
 use fx_amounts::Memory;
-use fx_disk::Disk;
+use fx_disk::{Disk, DiskStop};
 use fx_text::Bytes;
 use std::alloc::Global;
 
@@ -58,7 +57,7 @@ pub(crate) fn read_blocks(alloc: Global, file: &[u8]) -> Result<Found, Memory>
 }
 
 // Reads from the file's start on until `into` is full or the file ends, and answers how many bytes.
-fn fill<D: Disk>(disk: &mut D, into: &mut [u8]) -> Result<usize, KeepFault>
+fn fill<D: Disk>(disk: &mut D, into: &mut [u8]) -> Result<usize, DiskStop>
     ensures count { IfOk result (λ count. count ≤ length into.old) }
     ensures bytes { IfOk result (λ count. WhereTold (D.bytes disk.old) (λ file.
         length into.old ≡ length file → (count ≡ length file) × (into.new ≡ file))) }
@@ -71,14 +70,14 @@ fn fill<D: Disk>(disk: &mut D, into: &mut [u8]) -> Result<usize, KeepFault>
         match disk.read_at(at as u64, &mut into[at..]) {
             Ok(0) => return Ok(at),
             Ok(count) => at += count,
-            Err(stop) => return Err(KeepFault::from(stop)),
+            Err(stop) => return Err(stop),
         }
     }
     Ok(at)
 }
 
 /// All bytes of the disk's file.
-pub(crate) fn read_file<D: Disk>(alloc: Global, disk: &mut D) -> Result<Vec<u8>, KeepFault>
+pub(crate) fn read_file<D: Disk>(alloc: Global, disk: &mut D) -> Result<Vec<u8>, DiskStop>
     ensures bytes { IfOk result (λ read. WhereTold (D.bytes disk.old) (λ file. read.items ≡ file)) }
     ensures untouched { OnOk result (Untouched D.bytes D.may_leave D.moment D.left_since D.faults disk.old disk.new) }
     ensures every_moment { LeavesOnly D.moment D.left_since disk.old disk.new (D.may_leave disk.old) }

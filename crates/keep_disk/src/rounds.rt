@@ -8,9 +8,8 @@ ghost use Rattle.keep_disk.specs.Keeping.{AtRest};
 ghost use Rattle.keep_disk.specs.Rounds.{KeptBlocks, KeptBeforeTold, KeptAll, KeptPart, RunCauses};
 
 use crate::keeper::Keeper;
-use crate::write::KeepFault;
 use fx_amounts::Memory;
-use fx_disk::Disk;
+use fx_disk::{Disk, DiskStop};
 use fx_edges::{Sink, SinkFault, write_all};
 use thiserror::Error;
 
@@ -19,19 +18,19 @@ use thiserror::Error;
 pub enum RunFault {
     /// The round could not be kept, or there was no memory for it.
     #[error("the round could not be kept: {0}")]
-    Keep(KeepFault),
+    Keep(DiskStop),
     /// The round is kept, and could not be told of whole.
     #[error("the round could not be told of")]
     Tell(SinkFault),
 }
 
-impl From<KeepFault> for RunFault {
+impl From<DiskStop> for RunFault {
     ghost use Rattle.keep_disk.specs.declared.rounds.RunFault.TheVariants.{Keep};
 
-    ghost from_gives = { λ keep fault. fault ≡ Keep keep };
+    ghost from_gives = { λ stop fault. fault ≡ Keep stop };
 
-    fn from(fault: KeepFault) -> Self {
-        RunFault::Keep(fault)
+    fn from(stop: DiskStop) -> Self {
+        RunFault::Keep(stop)
     }
 }
 
@@ -41,7 +40,7 @@ impl From<Memory> for RunFault {
     ghost from_gives = { λ memory fault. fault ≡ out_of_memory memory };
 
     fn from(memory: Memory) -> Self {
-        RunFault::Keep(KeepFault::Memory(memory))
+        RunFault::Keep(DiskStop::Memory(memory))
     }
 }
 

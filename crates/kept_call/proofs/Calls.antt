@@ -15,8 +15,8 @@ use Rattle.fx_disk.specs.Disk.{WhereTold, Only, LeavesOnly}
 use Rattle.keep_disk.specs.Blocks.{whole_blocks}
 use Rattle.keep_disk.specs.Keeping.{HasCause}
 use Rattle.keep_disk.specs.declared.rounds.Round.{Round}
-use Rattle.keep_disk.specs.declared.write.KeepFault.{KeepFault}
-use Rattle.keep_disk.specs.declared.write.KeepFault.TheVariants as keeps
+use Rattle.fx_disk.specs.declared.disk.DiskStop.{DiskStop}
+use Rattle.fx_disk.specs.declared.disk.DiskStop.TheVariants as disks
 use Rattle.kept_history.specs.Blocks.{Listed, kept_in}
 use Rattle.kept_history.specs.Found.{IsWhole, IsFull}
 use Rattle.kept_call.specs.Running.{new_session}
@@ -95,21 +95,21 @@ none_longer blocks none some = omega (arith, ap (λ (bs : List (List ℕ)). leng
 
 -- The faults of a file that could not be opened
 
-keeper_read : (fault : KeepFault) (known : Option (List ℕ)) → ReadSo [] known [] (Err (of_keeper fault))
-keeper_read keeps.Disk known = inl refl
-keeper_read (keeps.Memory memory) known = tt
+keeper_read : (fault : DiskStop) (known : Option (List ℕ)) → ReadSo [] known [] (Err (of_keeper fault))
+keeper_read disks.Failed known = inl refl
+keeper_read (disks.Memory memory) known = tt
 
-keeper_is_none : (fault : KeepFault) (other : KeptFault) → (Disk ≡ other → ⊥) → ((memory : AmountsMemory) → Memory memory ≡ other → ⊥) → of_keeper fault ≡ other → ⊥
-keeper_is_none keeps.Disk other no_disk no_memory is = no_disk is
-keeper_is_none (keeps.Memory memory) other no_disk no_memory is = no_memory memory is
+keeper_is_none : (fault : DiskStop) (other : KeptFault) → (Disk ≡ other → ⊥) → ((memory : AmountsMemory) → Memory memory ≡ other → ⊥) → of_keeper fault ≡ other → ⊥
+keeper_is_none disks.Failed other no_disk no_memory is = no_disk is
+keeper_is_none (disks.Memory memory) other no_disk no_memory is = no_memory memory is
 
-keeper_among : (fault : KeepFault) (other : KeptFault) → Among (err_of (of_keeper fault)) (Err other ∷ Err Disk ∷ Err (Memory refused) ∷ [])
-keeper_among keeps.Disk other = inr (inl refl)
-keeper_among (keeps.Memory memory) other = inr (inr (inl refl))
+keeper_among : (fault : DiskStop) (other : KeptFault) → Among (err_of (of_keeper fault)) (Err other ∷ Err Disk ∷ Err (Memory refused) ∷ [])
+keeper_among disks.Failed other = inr (inl refl)
+keeper_among (disks.Memory memory) other = inr (inr (inl refl))
 
-keeper_unopened : (f : KeepFault) → Among (err_of (of_keeper f)) (Err Disk ∷ Err (Memory refused) ∷ [])
-keeper_unopened keeps.Disk = inl refl
-keeper_unopened (keeps.Memory memory) = inr (inl refl)
+keeper_unopened : (f : DiskStop) → Among (err_of (of_keeper f)) (Err Disk ∷ Err (Memory refused) ∷ [])
+keeper_unopened disks.Failed = inl refl
+keeper_unopened (disks.Memory memory) = inr (inl refl)
 
 -- Texts that were served
 
@@ -296,7 +296,7 @@ module _ {D K S : Type 0} (bytes : D → Option (List ℕ)) (may_leave : D → L
       completes bytes may_leave moment left_since disk_faults written faults left failed d d' k k' s s' result (Err Kept ∷ []) [] took causes (λ is. none_longer (whole_blocks file) fresh ((kept file told).only is))
 
   -- the file could not be opened
-  unopened-new : (d0 d : D) (k : K) (s : S) (fault : KeepFault) → Opens d0 d → Causes d0 d k k (Err (of_keeper fault)) → Kept-did d0 d k k s s (Err (of_keeper fault))
+  unopened-new : (d0 d : D) (k : K) (s : S) (fault : DiskStop) → Opens d0 d → Causes d0 d k k (Err (of_keeper fault)) → Kept-did d0 d k k s s (Err (of_keeper fault))
   unopened-new d0 d k s fault opens causes = record {
     took = taken;
     kept = kept;
@@ -322,12 +322,12 @@ module _ {D K S : Type 0} (bytes : D → Option (List ℕ)) (may_leave : D → L
           took-text (Err Kept ∷ []) [] left failed s s (Err (of_keeper fault)) [] (Took-nil left failed s) (omega arith) (prompt_here [] [] GoesOn-nil) GoesOn-nil.0
           (λ is. absurd (not_kept_fault is)) (keeper_read fault (left s)) (λ is. absurd (no_read_fault is))
 
-      stops_new : (f : KeepFault) → StopsANewSession (of_keeper f)
-      stops_new keeps.Disk = tt
-      stops_new (keeps.Memory memory) = tt
+      stops_new : (f : DiskStop) → StopsANewSession (of_keeper f)
+      stops_new disks.Failed = tt
+      stops_new (disks.Memory memory) = tt
 
   -- and answered that
-  pub keep-unopened : {T : Type 0} (d0 d : D) (k : K) (s : S) (fault : KeepFault) (opened : Result T KeepFault) → opened ≡ Err fault → HasCause disk_faults d0 d opened → Opens d0 d → (result : Answer) → IsErrAnd result (λ (f : KeptFault). f ≡ of_keeper fault)
+  pub keep-unopened : {T : Type 0} (d0 d : D) (k : K) (s : S) (fault : DiskStop) (opened : Result T DiskStop) → opened ≡ Err fault → HasCause disk_faults d0 d opened → Opens d0 d → (result : Answer) → IsErrAnd result (λ (f : KeptFault). f ≡ of_keeper fault)
       → Kept-did d0 d k k s s result
   keep-unopened d0 d k s fault opened was cause opens result is =
       for_err result (of_keeper fault) (λ (r : Answer). Kept-did d0 d k k s s r) is
@@ -526,7 +526,7 @@ module _ {D K S : Type 0} (bytes : D → Option (List ℕ)) (may_leave : D → L
       for_err result fault (λ (r : Answer). Gone-did d0 d k k s s r) is (refused-again d0 d k s fault opens same steady bodies are refusal)
 
   -- the file could not be opened
-  unopened-again : (d0 d : D) (k : K) (s : S) (fault : KeepFault) → Opens d0 d → Causes d0 d k k (Err (of_keeper fault)) → Gone-did d0 d k k s s (Err (of_keeper fault))
+  unopened-again : (d0 d : D) (k : K) (s : S) (fault : DiskStop) → Opens d0 d → Causes d0 d k k (Err (of_keeper fault)) → Gone-did d0 d k k s s (Err (of_keeper fault))
   unopened-again d0 d k s fault opens causes = record {
     empty = λ file told. record { only = λ is. absurd (keeper_is_none fault Empty (λ e. cc) (λ m e. cc) (err_to (of_keeper fault) Empty is)); always = λ cause. keeper_among fault Empty };
     damaged = λ file told block. record { only = λ is. absurd (keeper_is_none fault (Damaged block) (λ e. cc) (λ m e. cc) (err_to (of_keeper fault) (Damaged block) is)); always = λ cause. keeper_among fault (Damaged block) };
@@ -537,11 +537,11 @@ module _ {D K S : Type 0} (bytes : D → Option (List ℕ)) (may_leave : D → L
     told = inl (record { none = refl; unwritten = Appended-nil written faults k; fault = of_keeper fault; answers = refl; among = keeper_stops fault }, refl);
   }
     where
-      keeper_stops : (f : KeepFault) → StopsARestart (of_keeper f)
-      keeper_stops keeps.Disk = tt
-      keeper_stops (keeps.Memory memory) = tt
+      keeper_stops : (f : DiskStop) → StopsARestart (of_keeper f)
+      keeper_stops disks.Failed = tt
+      keeper_stops (disks.Memory memory) = tt
 
-  pub restart-unopened : {T : Type 0} (d0 d : D) (k : K) (s : S) (fault : KeepFault) (opened : Result T KeepFault) → opened ≡ Err fault → HasCause disk_faults d0 d opened → Opens d0 d → (result : Answer) → IsErrAnd result (λ (f : KeptFault). f ≡ of_keeper fault)
+  pub restart-unopened : {T : Type 0} (d0 d : D) (k : K) (s : S) (fault : DiskStop) (opened : Result T DiskStop) → opened ≡ Err fault → HasCause disk_faults d0 d opened → Opens d0 d → (result : Answer) → IsErrAnd result (λ (f : KeptFault). f ≡ of_keeper fault)
       → Gone-did d0 d k k s s result
   restart-unopened d0 d k s fault opened was cause opens result is =
       for_err result (of_keeper fault) (λ (r : Answer). Gone-did d0 d k k s s r) is

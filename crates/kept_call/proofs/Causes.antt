@@ -7,7 +7,7 @@ use Rattle.fx_edges.proofs.FaultCounts.{Rose-from_later}
 use Rattle.keep_disk.specs.Rounds.{RunCauses, out_of_memory}
 use Rattle.keep_disk.specs.declared.rounds.RunFault.{RunFault}
 use Rattle.keep_disk.specs.declared.rounds.RunFault.TheVariants.{Keep, Tell}
-use Rattle.keep_disk.specs.declared.write.KeepFault.TheVariants.{Disk}
+use Rattle.fx_disk.specs.declared.disk.DiskStop.TheVariants as disks
 use Rattle.fx_edges.specs.declared.sink.SinkFault.TheVariants.{Failed}
 
 err_is : {T : Type 0} (result : Result T RunFault) (e f : RunFault) → IsErrAnd result (λ fault. fault ≡ e) → IsErrOf result f → e ≡ f
@@ -18,7 +18,7 @@ handed : {T U : Type 0} (result : Result U RunFault) (e f : RunFault) (same : Re
 handed (Ok value) e f same there is of = absurd is
 handed (Err fault) e f same there is of = let errs : Err e ≡ same = sym there in let equal : e ≡ f = cc in ap (λ (x : RunFault). Err x) (is ∙ equal)
 
-no_disk : (memory : AmountsMemory) → out_of_memory memory ≡ Keep Disk → ⊥
+no_disk : (memory : AmountsMemory) → out_of_memory memory ≡ Keep disks.Failed → ⊥
 no_disk memory is = cc
 
 no_write : (memory : AmountsMemory) → out_of_memory memory ≡ Tell Failed → ⊥
@@ -41,8 +41,8 @@ module _ {D K : Type 0} (disk_faults : D → ℕ) (sink_faults : K → ℕ) wher
       → RunCauses disk_faults sink_faults d d' k k' result
   causes-on d d' k k' e first result was causes is = record {
     disk_count = causes.disk_count;
-    disk = λ of. causes.disk (was ∙ ap (λ (x : RunFault). Err x) (err_is result e (Keep Disk) is of));
-    disk_steady = λ other. causes.disk_steady (λ of. other (handed result e (Keep Disk) first was is of));
+    disk = λ of. causes.disk (was ∙ ap (λ (x : RunFault). Err x) (err_is result e (Keep disks.Failed) is of));
+    disk_steady = λ other. causes.disk_steady (λ of. other (handed result e (Keep disks.Failed) first was is of));
     sink_count = causes.sink_count;
     sink = λ of. causes.sink (was ∙ ap (λ (x : RunFault). Err x) (err_is result e (Tell Failed) is of));
   }
@@ -51,7 +51,7 @@ module _ {D K : Type 0} (disk_faults : D → ℕ) (sink_faults : K → ℕ) wher
   pub causes-none : {T : Type 0} (d : D) (k : K) (memory : AmountsMemory) (result : Result T RunFault) → IsErrAnd result (λ fault. fault ≡ out_of_memory memory) → RunCauses disk_faults sink_faults d d k k result
   causes-none d k memory result is = record {
     disk_count = omega arith;
-    disk = λ of. absurd (no_disk memory (err_is result (out_of_memory memory) (Keep Disk) is of));
+    disk = λ of. absurd (no_disk memory (err_is result (out_of_memory memory) (Keep disks.Failed) is of));
     disk_steady = λ other. refl;
     sink_count = omega arith;
     sink = λ of. absurd (no_write memory (err_is result (out_of_memory memory) (Tell Failed) is of));

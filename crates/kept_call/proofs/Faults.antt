@@ -6,8 +6,8 @@ use Rattle.fx_edges.proofs.FaultCounts.{Rose-from_later}
 use Rattle.fx_edges.specs.declared.sink.SinkFault.TheVariants as sinks
 use Rattle.keep_disk.specs.Keeping.{HasCause}
 use Rattle.keep_disk.specs.Rounds.{RunCauses}
-use Rattle.keep_disk.specs.declared.write.KeepFault.{KeepFault}
-use Rattle.keep_disk.specs.declared.write.KeepFault.TheVariants as keeps
+use Rattle.fx_disk.specs.declared.disk.DiskStop.{DiskStop}
+use Rattle.fx_disk.specs.declared.disk.DiskStop.TheVariants as disks
 use Rattle.keep_disk.specs.declared.rounds.RunFault.{RunFault}
 use Rattle.keep_disk.specs.declared.rounds.RunFault.TheVariants as runs
 use Rattle.reply_lines.specs.Faults.{WroteOutput}
@@ -29,8 +29,8 @@ is_err (Ok value) e is = absurd is
 is_err (Err f) e is = ap (λ (x : _). Err x) is
 
 pub run_stops : (fault : RunFault) → StopsASession (of_run fault)
-run_stops (runs.Keep keeps.Disk) = tt
-run_stops (runs.Keep (keeps.Memory memory)) = tt
+run_stops (runs.Keep disks.Failed) = tt
+run_stops (runs.Keep (disks.Memory memory)) = tt
 run_stops (runs.Tell sinks.Failed) = tt
 run_stops (runs.Tell (sinks.Memory memory)) = tt
 
@@ -38,15 +38,15 @@ pub out_stops : (fault : OutFault) → StopsASession (of_out fault)
 out_stops outs.Write = tt
 out_stops (outs.Memory memory) = tt
 
-run_disk : (fault : RunFault) → of_run fault ≡ Disk → fault ≡ runs.Keep keeps.Disk
-run_disk (runs.Keep keeps.Disk) is = refl
-run_disk (runs.Keep (keeps.Memory memory)) is = absurd cc
+run_disk : (fault : RunFault) → of_run fault ≡ Disk → fault ≡ runs.Keep disks.Failed
+run_disk (runs.Keep disks.Failed) is = refl
+run_disk (runs.Keep (disks.Memory memory)) is = absurd cc
 run_disk (runs.Tell sinks.Failed) is = absurd cc
 run_disk (runs.Tell (sinks.Memory memory)) is = absurd cc
 
 run_write : (fault : RunFault) → of_run fault ≡ Write → fault ≡ runs.Tell sinks.Failed
-run_write (runs.Keep keeps.Disk) is = absurd cc
-run_write (runs.Keep (keeps.Memory memory)) is = absurd cc
+run_write (runs.Keep disks.Failed) is = absurd cc
+run_write (runs.Keep (disks.Memory memory)) is = absurd cc
 run_write (runs.Tell sinks.Failed) is = refl
 run_write (runs.Tell (sinks.Memory memory)) is = absurd cc
 
@@ -58,13 +58,13 @@ out_write : (fault : OutFault) → of_out fault ≡ Write → fault ≡ outs.Wri
 out_write outs.Write is = refl
 out_write (outs.Memory memory) is = absurd cc
 
-keeper_disk : (fault : KeepFault) → of_keeper fault ≡ Disk → fault ≡ keeps.Disk
-keeper_disk keeps.Disk is = refl
-keeper_disk (keeps.Memory memory) is = absurd cc
+keeper_disk : (fault : DiskStop) → of_keeper fault ≡ Disk → fault ≡ disks.Failed
+keeper_disk disks.Failed is = refl
+keeper_disk (disks.Memory memory) is = absurd cc
 
-keeper_write : (fault : KeepFault) → of_keeper fault ≡ Write → ⊥
-keeper_write keeps.Disk is = cc
-keeper_write (keeps.Memory memory) is = cc
+keeper_write : (fault : DiskStop) → of_keeper fault ≡ Write → ⊥
+keeper_write disks.Failed is = cc
+keeper_write (disks.Memory memory) is = cc
 
 -- an answer that is one fault is no other
 pub same_err : {T E : Type 0} (result : Result T E) (e f : E) → result ≡ Err e → result ≡ Err f → e ≡ f
@@ -77,17 +77,17 @@ module _ {D K : Type 0} (disk_faults : D → ℕ) (sink_faults : K → ℕ) wher
   causes-of_run d d' k k' fault first result was there causes = record {
     disk_count = causes.disk_count;
     disk = λ is. causes.disk (was ∙ ap (λ (f : RunFault). Err f) (run_disk fault (same_err result (of_run fault) Disk there is)));
-    disk_steady = λ other. causes.disk_steady (λ of. other (there ∙ ap (λ (f : RunFault). Err (of_run f)) (same_err first fault (runs.Keep keeps.Disk) was of)));
+    disk_steady = λ other. causes.disk_steady (λ of. other (there ∙ ap (λ (f : RunFault). Err (of_run f)) (same_err first fault (runs.Keep disks.Failed) was of)));
     sink_count = causes.sink_count;
     sink = λ is. causes.sink (was ∙ ap (λ (f : RunFault). Err f) (run_write fault (same_err result (of_run fault) Write there is)));
   }
 
   -- a keeper's
-  pub causes-of_keeper : {T U : Type 0} (d d' : D) (k : K) (fault : KeepFault) (first : Result T KeepFault) (result : Result U KeptFault) → first ≡ Err fault → result ≡ Err (of_keeper fault) → HasCause disk_faults d d' first → HasCauses disk_faults sink_faults d d' k k result
+  pub causes-of_keeper : {T U : Type 0} (d d' : D) (k : K) (fault : DiskStop) (first : Result T DiskStop) (result : Result U KeptFault) → first ≡ Err fault → result ≡ Err (of_keeper fault) → HasCause disk_faults d d' first → HasCauses disk_faults sink_faults d d' k k result
   causes-of_keeper d d' k fault first result was there cause = record {
     disk_count = cause.count;
-    disk = λ is. cause.cause (was ∙ ap (λ (f : KeepFault). Err f) (keeper_disk fault (same_err result (of_keeper fault) Disk there is)));
-    disk_steady = λ other. cause.steady (λ of. other (there ∙ ap (λ (f : KeepFault). Err (of_keeper f)) (same_err first fault keeps.Disk was of)));
+    disk = λ is. cause.cause (was ∙ ap (λ (f : DiskStop). Err f) (keeper_disk fault (same_err result (of_keeper fault) Disk there is)));
+    disk_steady = λ other. cause.steady (λ of. other (there ∙ ap (λ (f : DiskStop). Err (of_keeper f)) (same_err first fault disks.Failed was of)));
     sink_count = omega arith;
     sink = λ is. absurd (keeper_write fault (same_err result (of_keeper fault) Write there is));
   }

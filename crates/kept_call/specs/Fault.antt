@@ -4,8 +4,8 @@ use Rattle.fx_amounts.specs.OutOfMemory.{refused}
 use Rattle.fx_edges.specs.Faults.{Rose}
 use Rattle.fx_edges.specs.declared.sink.SinkFault.TheVariants as sinks
 use Rattle.fx_rules.specs.Lists.{Among}
-use Rattle.keep_disk.specs.declared.write.KeepFault.{KeepFault}
-use Rattle.keep_disk.specs.declared.write.KeepFault.TheVariants as keeps
+use Rattle.fx_disk.specs.declared.disk.DiskStop.{DiskStop}
+use Rattle.fx_disk.specs.declared.disk.DiskStop.TheVariants as disks
 use Rattle.keep_disk.specs.declared.rounds.RunFault.{RunFault}
 use Rattle.keep_disk.specs.declared.rounds.RunFault.TheVariants as runs
 use Rattle.reply_lines.specs.declared.output.OutFault.{OutFault}
@@ -15,9 +15,9 @@ use Rattle.session_script.specs.declared.ends.Stop.TheVariants as stops
 use Rattle.kept_call.specs.declared.fault.KeptFault.{KeptFault}
 use Rattle.kept_call.specs.declared.fault.KeptFault.TheVariants.{Header, Early, Disk, Write, Memory}
 
-abbrev pub of_keeper : KeepFault → KeptFault
-of_keeper keeps.Disk = Disk
-of_keeper (keeps.Memory memory) = Memory memory
+abbrev pub of_keeper : DiskStop → KeptFault
+of_keeper disks.Failed = Disk
+of_keeper (disks.Memory memory) = Memory memory
 
 abbrev pub of_run : RunFault → KeptFault
 of_run (runs.Keep fault) = of_keeper fault

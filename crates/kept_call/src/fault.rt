@@ -1,8 +1,9 @@
 ghost use Rattle.std.specs.Prelude.{◌≡◌};
 
 use fx_amounts::Memory;
+use fx_disk::DiskStop;
 use fx_edges::SinkFault;
-use keep_disk::{KeepFault, RunFault};
+use keep_disk::RunFault;
 use reply_lines::OutFault;
 use session_head::HeadReason;
 use session_script::{EarlyEnd, Stop};
@@ -39,19 +40,6 @@ pub enum KeptFault {
     Memory(Memory),
 }
 
-impl From<KeepFault> for KeptFault {
-    ghost use Rattle.kept_call.specs.Fault.{of_keeper};
-
-    ghost from_gives = { λ keep fault. fault ≡ of_keeper keep };
-
-    fn from(fault: KeepFault) -> Self {
-        match fault {
-            KeepFault::Disk => KeptFault::Disk,
-            KeepFault::Memory(memory) => KeptFault::Memory(memory),
-        }
-    }
-}
-
 impl From<RunFault> for KeptFault {
     ghost use Rattle.kept_call.specs.Fault.{of_run};
 
@@ -59,7 +47,8 @@ impl From<RunFault> for KeptFault {
 
     fn from(fault: RunFault) -> Self {
         match fault {
-            RunFault::Keep(fault) => KeptFault::from(fault),
+            RunFault::Keep(DiskStop::Failed) => KeptFault::Disk,
+            RunFault::Keep(DiskStop::Memory(memory)) => KeptFault::Memory(memory),
             RunFault::Tell(SinkFault::Failed) => KeptFault::Write,
             RunFault::Tell(SinkFault::Memory(memory)) => KeptFault::Memory(memory),
         }

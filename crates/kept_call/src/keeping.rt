@@ -16,12 +16,12 @@ use fx_chronicle::{Blank, Naming};
 use fx_disk::Disk;
 use fx_edges::{Sink, Source};
 use fx_rules::{Entry, Gate};
-use keep_disk::{Keeper, open_keeper};
+use gateway_workers::keys_of;
+use keep_disk::{Keeper, RunFault, open_keeper};
 use session_script::{Reading, TextEnd};
 use std::marker::Brand;
 use std::sync::Wait;
 use std::thread::Threads;
-use gateway_workers::keys_of;
 
 /// Runs a new session of the source's bytes, of which at most 2^26 are taken, in at most 4 threads, and keeps it in the journal file on
 /// the disk: the header's block first, and then each round, which is served, kept and only then told. What is told is each
@@ -38,7 +38,10 @@ pub fn keep<R: AllocGlobal + Threads + Wait + Sync, S: Source, K: Sink, G: Gate 
 ) -> Result<TextEnd, KeptFault>
     ensures did { DidKeep D.bytes D.may_leave D.moment D.left_since D.faults K.written K.faults S.left S.faults disk.old disk.new out.old out.new source.old source.new result }
 {
-    let keeper = open_keeper(rt.alloc(), disk)?;
+    let keeper = match open_keeper(rt.alloc(), disk) {
+        Ok(keeper) => keeper,
+        Err(fault) => return Err(KeptFault::from(RunFault::Keep(fault))),
+    };
     if !keeper.bodies().is_empty() {
         return Err(KeptFault::Kept);
     }

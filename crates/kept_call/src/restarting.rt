@@ -15,14 +15,14 @@ use fx_chronicle::{Blank, Naming};
 use fx_disk::Disk;
 use fx_edges::{Sink, Source};
 use fx_rules::{Entry, EntryList, Gate, Session};
-use keep_disk::{Keeper, open_keeper};
+use gateway_workers::keys_of;
+use keep_disk::{Keeper, RunFault, open_keeper};
 use kept_history::{Found, history};
 use session_script::{Reading, TextEnd};
 use std::alloc::Global;
 use std::marker::Brand;
 use std::sync::Wait;
 use std::thread::Threads;
-use gateway_workers::keys_of;
 
 /// Goes on with the session that the journal file on the disk holds: submits its commands again, and then runs, keeps and tells the
 /// lines of the source's bytes, of which at most 2^26 are taken, as `keep` does. What is told has numbers that go on from the kept
@@ -39,7 +39,10 @@ pub fn restart<R: AllocGlobal + Threads + Wait + Sync, S: Source, K: Sink, G: Ga
 ) -> Result<TextEnd, KeptFault>
     ensures did { DidRestart D.bytes D.may_leave D.moment D.left_since D.faults K.written K.faults S.left S.faults disk.old disk.new out.old out.new source.old source.new result }
 {
-    let mut keeper = open_keeper(rt.alloc(), disk)?;
+    let mut keeper = match open_keeper(rt.alloc(), disk) {
+        Ok(keeper) => keeper,
+        Err(fault) => return Err(KeptFault::from(RunFault::Keep(fault))),
+    };
     let (session, kept) = read_back(rt.alloc(), &mut keeper)?;
     let blank = Blank::new(rt.alloc(), keys_of(&session))?;
     go_on::<Brand, R, S, K, G, D>(rt, blank, keeper, session, &kept, source, out, gate, disk)

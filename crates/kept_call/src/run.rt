@@ -19,12 +19,12 @@ use fx_chronicle::{Blank, Naming};
 use fx_disk::Disk;
 use fx_edges::Sink;
 use fx_rules::{Entry, Gate, Sent, Session};
+use gateway_workers::ThreadedRun;
 use keep_disk::{Keeper, Round, RunFault, keep_round};
 use reply_lines::{Ending, OutFault, Telling, write_from_books};
 use std::alloc::Global;
 use std::sync::Wait;
 use std::thread::Threads;
-use gateway_workers::ThreadedRun;
 
 mod round;
 mod text;

@@ -1,5 +1,5 @@
 -- The ranks of prices, by which a walk keeps them: the lowest is that of the best price.
-use Rattle.std.proofs.Common.{ℕ, ◌≡◌, ◌++◌, ◌-◌, ◌≤◌, ◌<◌, ◌^◌, IfSome, option_map, unwrap_or, min, true, false, if◌then◌else◌, List, [], ◌∷◌, inl, inr, refl, ap, sym, subst, ◌∙◌, arith, Option, Some, None, slice_index, take}
+use Rattle.std.proofs.Common.{ℕ, ◌≡◌, ◌++◌, ◌-◌, ◌≤◌, ◌<◌, ◌^◌, ◌↔◌, IfSome, IsSome, option_map, unwrap_or, min, true, false, if◌then◌else◌, List, [], ◌∷◌, inl, inr, refl, ap, sym, subst, ◌∙◌, arith, Option, Some, None, slice_index, take}
 use Rattle.std.proofs.lemmas.Bool.{cases_Bool, lt-leb, ltb-true, ltb-false}
 use Rattle.std.proofs.lemmas.List.{get_or-replicate}
 use Rattle.std.specs.List.{Contains}
@@ -12,7 +12,7 @@ use Rattle.global_book.specs.Book.{Book, IsPriceOf, level_lots}
 use Rattle.global_book.specs.Room.{rank_of as rank_at}
 use Rattle.global_book.proofs.Sought.{opposite-opposite}
 use Rattle.match_sweep.specs.declared.reached.LevelWalk.{LevelWalk}
-use Rattle.match_sweep.specs.inside.Reaches.{AreRanked, IsBareLevel, IsBestAmong, IsLeft, IsPaid, IsRank, better_price, price_in, price_of, rank_of}
+use Rattle.match_sweep.specs.inside.Reaches.{AreRanked, IsBareLevel, IsBestAmong, IsLeft, IsLowest, IsPaid, IsRank, better_price, price_for, price_in, price_of, rank_of}
 use Rattle.match_sweep.proofs.Reaching.{asked_left, better-on, taker_same}
 use Rattle.match_sweep.proofs.Tables.{replicate-at}
 
@@ -83,29 +83,41 @@ found-rank taker None valid = record { valid = tt; is = refl }
 found-rank Buy (Some rank) valid = record { valid = valid; is = refl }
 found-rank Sell (Some rank) valid = record { valid = valid; is = let it : rank ≡ 10 ^ 9 - (10 ^ 9 - rank) = omega (arith, valid.0) in it }
 
--- what it tells of a rank it tells of its price
-pub told-valid : (side : Side) (price rank : ℕ) → rank ≡ rank_at side price → IsPrice price → IsPrice (rank_at side rank)
-told-valid side price rank is valid = subst IsPrice (sym (ap (rank_at side) is ∙ rank-twice side price valid.1)) valid
-
-pub told-at : (book : Book) (taker side : Side) (bank price rank lots : ℕ) (next : Option ℕ) → side ≡ opposite taker → rank ≡ rank_at side price → price ≤ 10 ^ 9 → lots ≡ level_lots (opposite side) bank (rank_at side rank) book.orders
+-- what it tells of a side it tells the side's taker
+pub told-at : (book : Book) (taker side : Side) (bank rank lots : ℕ) (next : Option ℕ) → side ≡ opposite taker → lots ≡ level_lots (opposite side) bank (rank_at side rank) book.orders
     → IsPriceOf (opposite side) bank (Some (rank_at side rank)) book.orders (option_map (rank_at side) next)
-    → (lots ≡ level_lots taker bank price book.orders) × IsPriceOf taker bank (Some price) book.orders (option_map (rank_at (opposite taker)) next)
-told-at book taker side bank price rank lots next side_is rank_is most lots_are next_is =
-    let turned : opposite side ≡ taker = ap opposite side_is ∙ opposite-opposite taker in
-    let back : rank_at side rank ≡ price = ap (rank_at side) rank_is ∙ rank-twice side price most in (
-      lots_are ∙ ap (λ (s : Side). level_lots s bank (rank_at side rank) book.orders) turned ∙ ap (λ (p : ℕ). level_lots taker bank p book.orders) back,
-      subst (λ (s : Side). IsPriceOf taker bank (Some price) book.orders (option_map (rank_at s) next)) side_is
-          (subst (λ (p : ℕ). IsPriceOf taker bank (Some p) book.orders (option_map (rank_at side) next)) back
-          (subst (λ (s : Side). IsPriceOf s bank (Some (rank_at side rank)) book.orders (option_map (rank_at side) next)) turned next_is)),
+    → (lots ≡ level_lots taker bank (price_for taker rank) book.orders) × IsPriceOf taker bank (Some (price_for taker rank)) book.orders (option_map (rank_at (opposite taker)) next)
+told-at book taker side bank rank lots next side_is lots_are next_is =
+    let turned : opposite side ≡ taker = ap opposite side_is ∙ opposite-opposite taker in (
+      lots_are ∙ ap (λ (s : Side). level_lots s bank (rank_at side rank) book.orders) turned ∙ ap (λ (s : Side). level_lots taker bank (rank_at s rank) book.orders) side_is,
+      subst (λ (s : Side). IsPriceOf taker bank (Some (rank_at s rank)) book.orders (option_map (rank_at s) next)) side_is
+          (subst (λ (s : Side). IsPriceOf s bank (Some (rank_at side rank)) book.orders (option_map (rank_at side) next)) turned next_is),
     )
 
--- The lowest rank.
+-- a rank that has a price is that of it
+pub price-rank : (taker : Side) (rank : ℕ) → IsPrice (price_for taker rank) → IsRank taker (Some (price_for taker rank)) rank
+price-rank Buy rank valid = record { valid = valid; is = refl }
+price-rank Sell rank valid = record { valid = valid; is = let it : rank ≡ 10 ^ 9 - (10 ^ 9 - rank) = omega (arith, valid.0) in it }
 
--- the lowest rank of these banks
-pub record IsLowest (walk : LevelWalk) (banks : List ℕ) (lowest : ℕ) : Type 0 where
-  pub price : Option ℕ
-  pub rank : IsRank walk.taker price lowest
-  pub best : IsBestAmong walk banks price
+-- and the price that is made of a rank is the one whose rank it is
+none_priced : (taker : Side) (rank : ℕ) → IsRank taker None rank → IsPrice (price_for taker rank) → ⊥
+none_priced Buy rank is valid = omega (arith, is.is, valid.1)
+none_priced Sell rank is valid = omega (arith, is.is, valid.0)
+
+price_back : (taker : Side) (price rank : ℕ) → IsRank taker (Some price) rank → price_for taker rank ≡ price
+price_back taker price rank is = ap (price_for taker) is.is ∙ rank-twice (opposite taker) price is.valid.1
+
+made-price : (taker : Side) (price made : Option ℕ) (rank : ℕ) → (IsSome made) ↔ (IsPrice (price_for taker rank)) → IfSome made (λ (p : ℕ). p ≡ price_for taker rank) → IsRank taker price rank → made ≡ price
+made-price taker None None rank valid value is = refl
+made-price taker None (Some made) rank valid value is = absurd (none_priced taker rank is (valid.0 refl))
+made-price taker (Some price) None rank valid value is = let it : false ≡ true = valid.1 (subst IsPrice (sym (price_back taker price rank is)) is.valid) in cc
+made-price taker (Some price) (Some made) rank valid value is = ap (λ (p : ℕ). Some p) (value ∙ price_back taker price rank is)
+
+pub told-price : (taker side : Side) (price made : Option ℕ) (rank : ℕ) → side ≡ opposite taker → (IsSome made) ↔ (IsPrice (rank_at side rank)) → IfSome made (λ (p : ℕ). p ≡ rank_at side rank) → IsRank taker price rank → made ≡ price
+told-price taker side price made rank side_is valid value is =
+    made-price taker price made rank (subst (λ (s : Side). (IsSome made) ↔ (IsPrice (rank_at s rank))) side_is valid) (subst (λ (s : Side). IfSome made (λ (p : ℕ). p ≡ rank_at s rank)) side_is value) is
+
+-- The lowest rank.
 
 pub lowest-begins : (walk : LevelWalk) (banks : List ℕ) → IsLowest walk (take 0 banks) (2 ^ 30 - 1)
 lowest-begins walk banks = record { price = None; rank = record { valid = tt; is = refl }; best = λ bank there. absurd (omega (arith, there.1)) }

@@ -1,5 +1,5 @@
 -- A walk's step: heads are passed, the best of those that may be taken is taken, and the other heads stay.
-use Rattle.std.proofs.Common.{ℕ, ◌≡◌, ◌≢◌, ◌+◌, ◌-◌, ◌*◌, ◌/◌, ◌≤◌, ◌<◌, ◌^◌, min, true, false, ◌&&◌, eqb, leb, ltb, List, [], ◌∷◌, ◌⊎◌, inl, inr, refl, ap, sym, subst, ◌∙◌, arith, length, get_or, slice_index, Option, Some, None, get_or-set_other, get_or-set_same}
+use Rattle.std.proofs.Common.{ℕ, ◌≡◌, ◌≢◌, ◌+◌, ◌-◌, ◌*◌, ◌/◌, ◌≤◌, ◌<◌, ◌^◌, min, true, false, ◌&&◌, eqb, ltb, List, [], ◌∷◌, ◌⊎◌, inl, inr, refl, ap, sym, subst, ◌∙◌, arith, length, get_or, slice_index, Option, Some, None, get_or-set_other, get_or-set_same}
 use Rattle.std.proofs.Math.ListN.{set}
 use Rattle.std.proofs.Math.Nat.{le-div_iff_mul-le, mul-le-mul_left, div-mul-le_self}
 use Rattle.std.proofs.lemmas.Bool.{and_parts, and_from, both_ways, cases_eq, cases_lt, cond-false, cond-true, eq-eqb, eqb-true, lt-ltb, ne_eqb}
@@ -12,20 +12,19 @@ use Rattle.fx_amounts.specs.Price.{crosses}
 use Rattle.fx_amounts.specs.Quantity.{IsWeight}
 use Rattle.fx_rules.specs.declared.orders.Resting.{Resting}
 use Rattle.fx_rules.specs.declared.orders.Fill.{Fill}
-use Rattle.fx_rules.specs.Lists.{Among, Each}
-use Rattle.fx_rules.specs.Sweep.{Taker, IsBest, is_open, is_opposite, is_preferred, amount, fill_with, less}
+use Rattle.fx_rules.specs.Lists.{Among}
+use Rattle.fx_rules.specs.Sweep.{IsBest, is_open, is_opposite, is_preferred, amount, fill_with, less}
 use Rattle.fx_rules.specs.Plan.{Planned, is_behind, open_behind, spend}
 use Rattle.fx_rules.proofs.ListLemmas.{Among-filter, Each-among, Each-of, among_filter}
 use Rattle.fx_rules.proofs.Opens.{IsOpen, is_open-says}
 use Rattle.fx_rules.proofs.Planning.{div_none, open_parts}
-use Rattle.fx_rules.proofs.Preference.{preferred_trans}
 use Rattle.global_book.specs.Behind.{is_owned_behind, owned_behind}
 use Rattle.global_book.specs.Book.{AreOwners, Book, IsBook, IsHeld, is_of}
 use Rattle.global_book.specs.Heads.{Heads, IsLeast, IsNext, PassesHead, head_in, with_head}
 use Rattle.global_book.proofs.Sought.{opposite-opposite}
 use Rattle.global_book.proofs.Within.{crosses_too}
 use Rattle.credit_lines.specs.Credit.{Credit, line_in}
-use Rattle.match_sweep.specs.inside.Walks.{ComesTo, FromHere, HasCome, IsHeadOf, IsWalk, LeadsOn, MayTake, Takes, left_with, open_from, reach_of}
+use Rattle.match_sweep.specs.inside.Walks.{FromHere, HasCome, IsHeadOf, IsWalk, MayTake, Takes, left_with, open_from, reach_of}
 use Rattle.match_sweep.specs.declared.walk.Walk.{Walk}
 use Rattle.match_sweep.proofs.Planning.{planned-agrees}
 use Rattle.match_sweep.proofs.Picking.{none_among, not_before_first, same_or_before, still_behind}
@@ -89,9 +88,6 @@ module _ (side taker : Side) (bank : ℕ) (past : Option Resting) (orders : List
 some-is : (found : Option Resting) (P : Resting → Type 0) → IsSomeAnd found P → (h : Resting) × (found ≡ Some h) × P h
 some-is None P none = absurd none
 some-is (Some h) P holds = (h, refl, holds)
-
-is-some : (found : Option Resting) (P : Resting → Type 0) (h : Resting) → found ≡ Some h → P h → IsSomeAnd found P
-is-some found P h is holds = subst (λ (f : Option Resting). IsSomeAnd f P) (sym is) holds
 
 if-is : (found : Option Resting) (P : Resting → Type 0) (h : Resting) → found ≡ Some h → IfSome found P → P h
 if-is found P h is holds = subst (λ (f : Option Resting). IfSome f P) is holds

@@ -1,5 +1,5 @@
--- Tables of lines and heads, and what lines add up to.
-use Rattle.std.proofs.Common.{ℕ, zero, suc, ◌≡◌, ◌≢◌, ◌+◌, ◌*◌, ◌≤◌, ◌<◌, List, [], ◌∷◌, Option, None, refl, sym, subst, ◌∙◌, arith, inl, inr, length, get_or, replicate, get_or-set_same, get_or-set_other}
+-- Tables of lines, and what lines add up to.
+use Rattle.std.proofs.Common.{ℕ, zero, suc, ◌≡◌, ◌+◌, ◌*◌, ◌≤◌, ◌<◌, List, [], ◌∷◌, refl, sym, subst, ◌∙◌, arith, inl, inr, length, get_or, replicate, get_or-set_same, get_or-set_other}
 use Rattle.std.proofs.Math.ListN.{set}
 use Rattle.std.proofs.lemmas.Bool.{cases_eq}
 use Rattle.fx_rules.specs.Lists.{total}
@@ -20,16 +20,6 @@ pub replicate-at : {X : Type 0} (entry : X) (n k : ℕ) → get_or (replicate n 
 replicate-at entry zero k = refl
 replicate-at entry (suc n) zero = refl
 replicate-at entry (suc n) (suc k) = replicate-at entry n k
-
--- one entry of a table is written, and what holds of the others stays
-pub one_set : {X : Type 0} (P : ℕ → Option X → Type 0) (table : List (Option X)) (at : ℕ) (entry : Option X) → at < length table → P at entry
-    → (k : ℕ) → (k ≢ at → P k (get_or table k None)) → P k (get_or (set table at entry) k None)
-one_set {X} P table at entry within here k there =
-    elim (cases_eq k at) [
-      | inl same ↦ subst (λ (j : ℕ). P j (get_or (set table at entry) j None)) (sym same)
-          (subst (P at) (sym (get_or-set_same table at entry None within)) here)
-      | inr differ ↦ subst (P k) (sym (get_or-set_other table at k entry None differ)) (there differ)
-    ]
 
 -- a bank with which there is no line, after another's line fell
 pub none-kept : (xs : List ℕ) (i own n : ℕ) → i < length xs → n ≤ get_or xs i 0 → get_or xs own 0 ≡ 0 → get_or (set xs i n) own 0 ≡ 0

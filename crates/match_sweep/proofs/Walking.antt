@@ -1,9 +1,9 @@
 -- The fills of a walk so far, and what they come to at its end.
-use Rattle.std.proofs.Common.{ℕ, ◌≡◌, ◌≢◌, ◌+◌, ◌-◌, ◌*◌, ◌/◌, ◌^◌, ◌≤◌, ◌<◌, true, false, ◌&&◌, List, [], ◌∷◌, ◌++◌, length, map, replicate, get_or, slice_index, Option, Some, None, inl, inr, refl, ap, sym, subst, ◌∙◌, arith, append_assoc, append-nil}
+use Rattle.std.proofs.Common.{ℕ, ◌≡◌, ◌+◌, ◌-◌, ◌*◌, ◌/◌, ◌^◌, ◌≤◌, ◌<◌, true, false, ◌&&◌, List, [], ◌∷◌, ◌++◌, length, map, replicate, get_or, slice_index, Option, Some, None, inl, inr, refl, ap, sym, subst, ◌∙◌, arith, append_assoc, append-nil}
 use Rattle.std.proofs.Math.Nat.{add-mul, mul-le-mul_left}
 use Rattle.std.proofs.lemmas.Bool.{and_parts, both_ways, cases_lt}
 use Rattle.std.proofs.lemmas.List.{get_or-replicate, get_or_past}
-use Rattle.std.specs.Option.{IfSome, IsSomeAnd}
+use Rattle.std.specs.Option.{IfSome}
 use Rattle.fx_amounts.specs.Price.{crosses}
 use Rattle.fx_amounts.specs.Quantity.{IsWeight}
 use Rattle.fx_amounts.specs.Side.{opposite}
@@ -13,14 +13,14 @@ use Rattle.fx_rules.specs.declared.orders.Fill.{Fill}
 use Rattle.fx_rules.specs.declared.orders.Resting.{Resting}
 use Rattle.fx_rules.specs.Lists.{Among, Each, EachPair, below, total}
 use Rattle.fx_rules.specs.Sound.{ArrivesBefore}
-use Rattle.fx_rules.specs.Sweep.{Taker, is_open, is_opposite, is_preferred}
+use Rattle.fx_rules.specs.Sweep.{Taker, is_open, is_opposite}
 use Rattle.fx_rules.specs.State.{at_most}
 use Rattle.fx_rules.specs.Plan.{Planned, is_behind, open_behind}
 use Rattle.fx_rules.proofs.Below.{get_or_below, length-map_below}
 use Rattle.fx_rules.proofs.ListLemmas.{Among-filter, Each-among}
-use Rattle.fx_rules.proofs.Opens.{IsOpen, is_open-says}
+use Rattle.fx_rules.proofs.Opens.{is_open-says}
 use Rattle.global_book.specs.Book.{Book, IsBook, IsHeld}
-use Rattle.global_book.specs.Heads.{Heads, IsBegun, IsNext, head_in}
+use Rattle.global_book.specs.Heads.{Heads, IsBegun, head_in}
 use Rattle.global_book.proofs.Sought.{opposite-opposite}
 use Rattle.credit_lines.specs.Credit.{Credit, IsCredit, left_in, line_in, room_in}
 use Rattle.match_sweep.specs.inside.Walks.{FromHere, HasCome, IsAlong, IsByLines, IsHeadOf, IsWalk, LeadsOn, StepsOn, left_with}

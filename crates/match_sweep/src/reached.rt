@@ -1,14 +1,15 @@
 ghost use Rattle.std.specs.Prelude.{ℕ, Option, Some, filter, take, ◌≡◌, ◌≢◌, ◌+◌, length, ◌≤◌, ◌<◌, ◌*◌, ◌/◌, ◌^◌, min, IfOk};
+ghost use Rattle.fx_amounts.specs.Price.{IsPrice};
 ghost use Rattle.fx_amounts.specs.Quantity.{IsWeight};
 ghost use Rattle.fx_rules.specs.Lists.{total};
 ghost use Rattle.credit_lines.specs.Credit.{room_in};
 ghost use Rattle.match_sweep.specs.Reaches.{IsReached};
-ghost use Rattle.match_sweep.specs.inside.Reaches.{AreRanked, AreReached, AreTakenOf, BeginsAt, HasRank, IsBareLevel, IsBestAmong, IsMost, IsRank, OpensLevel, Puts, TakesOf, is_asked, price_of};
+ghost use Rattle.match_sweep.specs.inside.Reaches.{AreRanked, AreReached, AreTakenOf, BeginsAt, HasRank, IsBareLevel, IsLowest, IsMost, OpensLevel, Puts, TakesOf, is_asked, price_for, price_of};
 
 use credit_lines::CreditLines;
-use fx_amounts::{BankId, Memory, Price, Side};
+use fx_amounts::{BankId, Memory, Side};
 use fx_rules::{Level, LevelList, SHOWN_LEVELS};
-use global_book::{PairBook, rank_of};
+use global_book::{PairBook, price_at};
 use price_levels::Steps;
 use std::alloc::Global;
 use std::sync::ledger::Ledger;
@@ -46,13 +47,13 @@ pub fn levels_in_reach<L: Ledger>(
     let mut reached = [BankId::HOST; BankId::COUNT];
     let count = walk.list_reached(book.owners(), &mut reached);
     let banks = &reached[..count];
-    let mut best = walk.best_price(banks);
+    let mut rank = walk.lowest_rank(banks);
     while levels.len() < SHOWN_LEVELS && most > 0 {
-        let Some(price) = best else {
+        let Some(price) = price_at(side.opposite(), rank) else {
             break;
         };
-        let (taken, behind) = walk.take_level(book, banks, price, steps);
-        best = behind;
+        let (taken, behind) = walk.take_level(book, banks, rank, steps);
+        rank = behind;
         let lots = taken.min(most);
         most -= lots;
         levels.push(Level { price, lots })?;
@@ -165,66 +166,67 @@ impl LevelWalk {
         count
     }
 
-    /// The best price of those of these banks with which the line pays for a lot.
-    fn best_price(&self, banks: &[BankId]) -> Option<Price>
+    /// The rank of the best price of those of these banks with which the line pays for a lot; `NO_RANK` where there is none.
+    fn lowest_rank(&self, banks: &[BankId]) -> u32
         requires ranked { AreRanked self.now }
-        ensures best { IsBestAmong self.now banks.now result }
+        ensures lowest { IsLowest self.now banks.now result }
     {
         let mut lowest = NO_RANK;
         for bank in banks {
             lowest = lowest.min(self.ranks[bank.index()]);
         }
-        price_at_rank(self.taker, lowest)
+        lowest
     }
 
-    /// Takes of each of these banks what the line with it pays for of its lots at a price: how many they are in all, and the best price that is
-    /// left of those of the banks with which the line pays for a lot. The banks are those of which something can be taken.
+    /// Takes of each of these banks what the line with it pays for of its lots at the price of a rank: how many they are in all, and the rank
+    /// of the best price that is left of those of the banks with which the line pays for a lot; `NO_RANK` where there is none. The banks are
+    /// those of which something can be taken.
     fn take_level<L: Ledger>(
         &mut self,
         book: &PairBook,
         banks: &[BankId],
-        price: Price,
+        rank: u32,
         steps: &mut Steps<L>,
-    ) -> (u64, Option<Price>)
+    ) -> (u64, u32)
         requires reached { AreReached book.now self.old banks.now }
         requires weight { IsWeight self.old.weight }
         requires most { total (λ line. line) self.old.lines ≤ 65 * 10 ^ 15 }
         requires ranked { AreRanked self.old }
-        ensures taken { AreTakenOf book.now self.old self.new price banks.now result.0 }
-        ensures best { IsBestAmong self.new banks.now result.1 }
+        requires price { IsPrice (price_for self.old.taker rank) }
+        ensures taken { AreTakenOf book.now self.old self.new (price_for self.old.taker rank) banks.now result.0 }
+        ensures lowest { IsLowest self.new banks.now result.1 }
         ensures ranked { AreRanked self.new }
         ensures steps { steps.new ≤ steps.old + book.now.banks }
     {
-        let rank = rank_of(self.taker.opposite(), price);
         let mut lots = 0;
         let mut lowest = NO_RANK;
         for bank in banks {
             if self.ranks[bank.index()] == rank {
-                lots += self.take_of(book, *bank, price, steps);
+                lots += self.take_of(book, *bank, rank, steps);
             }
             lowest = lowest.min(self.ranks[bank.index()]);
         }
-        (lots, price_at_rank(self.taker, lowest))
+        (lots, lowest)
     }
 
-    /// Takes what one bank has at its next price, which is this, as far as its line allows, and goes on to the price behind it.
+    /// Takes what one bank has at its next price, which is that of this rank, as far as its line allows, and goes on to the price behind it.
     fn take_of<L: Ledger>(
         &mut self,
         book: &PairBook,
         bank: BankId,
-        price: Price,
+        rank: u32,
         steps: &mut Steps<L>,
     ) -> u64
         requires weight { IsWeight self.old.weight }
         requires ranked { AreRanked self.old }
-        requires asked { price_of self.old bank ≡ Some price }
-        ensures taken { TakesOf book.now self.old self.new bank price result }
+        requires price { IsPrice (price_for self.old.taker rank) }
+        requires asked { price_of self.old bank ≡ Some (price_for self.old.taker rank) }
+        ensures taken { TakesOf book.now self.old self.new bank (price_for self.old.taker rank) result }
         ensures ranked { AreRanked self.new }
         ensures step { steps.new ≡ steps.old + 1 }
     {
         let at = bank.index();
-        let side = self.taker.opposite();
-        let (lots, next) = book.level_and_next(bank, side, rank_of(side, price), steps);
+        let (lots, next) = book.level_and_next(bank, self.taker.opposite(), rank, steps);
         let weight = u64::from(self.weight);
         let line = self.lines[at];
         let taken = lots_by_line(lots, line, weight);
@@ -244,14 +246,4 @@ fn lots_by_line(lots: u64, line: u64, weight: u64) -> u64
         }
     }
     lots.min(line / weight)
-}
-
-/// The price of a rank for a taker of a side; `None` at `NO_RANK`.
-fn price_at_rank(taker: Side, rank: u32) -> Option<Price>
-    ensures price { (price : Option ℕ) → IsRank taker price rank → result ≡ price }
-{
-    match taker {
-        Side::Buy => Price::new(rank),
-        Side::Sell => Price::new(Price::MOST.saturating_sub(rank)),
-    }
 }

@@ -127,7 +127,7 @@ fn command_or_bad(read: Result<Command, Reject>) -> Command
 
 /// What a line of a journal says: as a line after `START`, but that a bad command stands as `sender BAD r` alone,
 /// `r` being the number of its fault. `None` where the line is no sender's command, and where it is a bad one in itself.
-/// Takes no memory.
+/// Takes no memory. Only trials call it.
 pub fn journal_from(session: &Session, line: &Line) -> Option<(BankId, Command)>
     ensures reads { result ≡ journal_line session.now line.now }
 

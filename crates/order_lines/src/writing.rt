@@ -14,7 +14,7 @@ use fx_amounts::{BankId, Memory, PairId};
 use fx_rules::{Command, Session};
 use fx_text::{Line, LineText};
 
-/// Appends the journal's line of a sender's command, without a line feed. After `Err` the list is as it was.
+/// Appends the journal's line of a sender's command, without a line feed. After `Err` the list is as it was. Only trials call it.
 pub fn command_text(
     session: &Session,
     sender: BankId,

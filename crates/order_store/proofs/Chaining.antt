@@ -165,6 +165,15 @@ module _ (there there' : ℕ → Option Resting) (before before' behind behind' 
   was_there : (like : Resting) (place : ℕ) → IsInLevel there' like place → IsInLevel there like place
   was_there like place in' = same_level there' there like place (sym (others place (not_gone like place in'))) in'
 
+  -- an order of the level that stays stood on one side of the one that goes; what neither side allows is not so
+  aside : (like : Resting) (place : ℕ) → IsAlike order like → IsInLevel there' like place → (place < gone → IsInLevel there order place → ⊥) → (gone + 1 ≤ place → IsInLevel there order place → ⊥) → ⊥
+  aside like place alike in' early late =
+      let in_own : IsInLevel there order place = of_level there like order place (alike_sym order like alike) (was_there like place in') in
+      elim (cases_lt place gone) [
+        | inl below ↦ early below in_own
+        | inr above ↦ late (let differ = not_gone like place in' in omega (arith, above, differ)) in_own
+      ]
+
   -- behind an order that was not before the one that goes, nothing changes
   behind_stays : (like : Resting) (place : ℕ) (link own : Option ℕ) → IsInLevel there like place → IsLastBelow (IsInLevel there order) gone own → own ≢ Some place
       → IsFirstFrom (IsInLevel there like) (place + 1) link → IsFirstFrom (IsInLevel there' like) (place + 1) link
@@ -198,12 +207,7 @@ module _ (there there' : ℕ → Option Resting) (before before' behind behind' 
   behind_passed : (like : Resting) (place : ℕ) (link : Option ℕ) → there place ≡ Some like → IsLast (IsInLevel there order) gone place
       → IsFirstFrom (IsInLevel there order) (gone + 1) link → IsFirstFrom (IsInLevel there' like) (place + 1) link
   behind_passed like place None here last none = λ other from in'.
-      let alike : IsAlike order like = one_order there like order place here last.is in
-      let in_own : IsInLevel there order other = of_level there like order other (alike_sym order like alike) (was_there like other in') in
-      elim (cases_lt other gone) [
-        | inl early ↦ last.last other (omega (arith, from)) early in_own
-        | inr late ↦ none other (let differ = not_gone like other in' in omega (arith, late, differ)) in_own
-      ]
+      aside like other (one_order there like order place here last.is) in' (λ early in_own. last.last other (omega (arith, from)) early in_own) (none other)
   behind_passed like place (Some at) here last first =
       let alike : IsAlike order like = one_order there like order place here last.is in
       let below : place < gone = last.below in
@@ -211,12 +215,7 @@ module _ (there there' : ℕ → Option Resting) (before before' behind behind' 
       record {
         from_on = omega arith;
         is = still_there like at (λ same. omega arith) (of_level there order like at alike first.is);
-        first = λ other from within in'.
-            let in_own : IsInLevel there order other = of_level there like order other (alike_sym order like alike) (was_there like other in') in
-            elim (cases_lt other gone) [
-              | inl early ↦ last.last other (omega (arith, from)) early in_own
-              | inr late ↦ first.first other (let differ = not_gone like other in' in omega (arith, late, differ)) within in_own
-            ];
+        first = λ other from within in'. aside like other alike in' (λ early in_own. last.last other (omega (arith, from)) early in_own) (λ late in_own. first.first other late within in_own);
       }
 
   -- before an order that was not behind the one that goes, nothing changes
@@ -252,12 +251,7 @@ module _ (there there' : ℕ → Option Resting) (before before' behind behind' 
   before_passed : (like : Resting) (place : ℕ) (link : Option ℕ) → there place ≡ Some like → IsFirst (IsInLevel there order) (gone + 1) place
       → IsLastBelow (IsInLevel there order) gone link → IsLastBelow (IsInLevel there' like) place link
   before_passed like place None here first none = λ other below in'.
-      let alike : IsAlike order like = one_order there like order place here first.is in
-      let in_own : IsInLevel there order other = of_level there like order other (alike_sym order like alike) (was_there like other in') in
-      elim (cases_lt other gone) [
-        | inl early ↦ none other early in_own
-        | inr late ↦ first.first other (let differ = not_gone like other in' in omega (arith, late, differ)) below in_own
-      ]
+      aside like other (one_order there like order place here first.is) in' (none other) (λ late in_own. first.first other late below in_own)
   before_passed like place (Some at) here first last =
       let alike : IsAlike order like = one_order there like order place here first.is in
       let below : at < gone = last.below in
@@ -265,12 +259,7 @@ module _ (there there' : ℕ → Option Resting) (before before' behind behind' 
       record {
         below = omega arith;
         is = still_there like at (λ same. omega arith) (of_level there order like at alike last.is);
-        last = λ other above within in'.
-            let in_own : IsInLevel there order other = of_level there like order other (alike_sym order like alike) (was_there like other in') in
-            elim (cases_lt other gone) [
-              | inl early ↦ last.last other above early in_own
-              | inr late ↦ first.first other (let differ = not_gone like other in' in omega (arith, late, differ)) within in_own
-            ];
+        last = λ other above within in'. aside like other alike in' (λ early in_own. last.last other above early in_own) (λ late in_own. first.first other late within in_own);
       }
 
   pub chained-removed : AreChained there before behind

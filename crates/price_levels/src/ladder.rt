@@ -62,7 +62,7 @@ impl Ladder {
         self.far.level(rank).unwrap_or(Level::NONE)
     }
 
-    /// The lots that the orders of a rank have left.
+    /// The lots that the orders of a rank have left. Only trials call it.
     pub fn sum(&self, rank: u32) -> u64
         ensures { result ≡ (level_at self.now rank).lots }
     {
@@ -198,7 +198,7 @@ impl Ladder {
         (self.level(rank), self.next(rank + 1))
     }
 
-    /// The best rank with orders; `None` where there is none.
+    /// The best rank with orders; `None` where there is none. Only trials call it.
     pub fn first(&self) -> Option<u32>
         ensures found { IfSome result (IsNextRank (level_at self.now) 0) }
         ensures none { result ≡ None → (rank : ℕ) → (level_at self.now rank).lots ≡ 0 }

@@ -99,7 +99,7 @@ impl Window {
         }
     }
 
-    /// The lots that the orders of a rank have left.
+    /// The lots that the orders of a rank have left. Only trials call it.
     pub fn sum(&self, rank: u32) -> u64
         ensures { result ≡ (level_of self.now rank).lots }
     {
@@ -155,7 +155,7 @@ impl Window {
         }
     }
 
-    /// The best rank with orders; `None` where there is none.
+    /// The best rank with orders; `None` where there is none. Only trials call it.
     pub fn first(&self) -> Option<u32>
         ensures found { IfSome result (IsNextRank (level_of self.now) 0) }
         ensures none { result ≡ None → (rank : ℕ) → (level_of self.now rank).lots ≡ 0 }

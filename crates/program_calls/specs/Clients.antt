@@ -13,8 +13,9 @@ use Rattle.session_script.specs.declared.ends.TextEnd.{TextEnd}
 
 -- The input that was taken, where the source has `left` still, ended so. The text is the output of a legal history of the session of
 -- the input's own header, and behind it what each client has and was told. The history has the input's commands, in the order of
--- its lines, but for those of clients that were refused: each as it was answered after the entries before it. Along it no line is
--- exceeded, each falls by its fills, and no orders that can reach each other rest crossed.
+-- its lines, but for those of clients that were refused: each as it was answered after the entries before it. Along it no line
+-- and no total is exceeded, what they leave falls by the fills and rises by what is given back, and no orders that can reach each other rest
+-- crossed.
 pub record IsClientsTextOf (end : TextEnd) (input : List ℕ) (left : Option (List ℕ)) (text : List ℕ) : Type 0 where
   pub at_its_end : TextEnded left input end
   pub session : Header

@@ -74,6 +74,16 @@ got-at h owner place notice before {was = was} {now = now} at' inside stood got 
     let read : was ≡ get_or before owner nothing_yet = get_or_read before owner was inside (subst (λ p. was ≡ get_or before p was) at' stood) nothing_yet in
     got-one h owner notice before (set before place now) inside (ap₂ (λ p desk. set before p desk) at' (got ∙ ap (λ desk. with_notice h desk notice) read))
 
+-- the desks of a fill's two banks got a notice each, one after the other
+pub got-both : (h : Header) (taker maker at other : ℕ) (took gave : Notice) (before : List DeskSoFar) {was now was' now' : DeskSoFar} → at ≡ taker → taker < length before → was ≡ get_or before at was → now ≡ with_notice h was took
+    → other ≡ maker → maker < length before → was' ≡ get_or (set before at now) other was' → now' ≡ with_notice h was' gave
+    → HaveGot h (λ bank. cond (eqb taker bank) (took ∷ []) [] ++ cond (eqb maker bank) (gave ∷ []) []) before (set (set before at now) other now')
+got-both h taker maker at other took gave before {now = now} {now' = now'} at_taker taker_in stood got at_maker maker_in stood' got' =
+    let between : List DeskSoFar = set before at now in
+    got-then h (λ bank. cond (eqb taker bank) (took ∷ []) []) (λ bank. cond (eqb maker bank) (gave ∷ []) []) before between (set between other now')
+    (got-at h taker at took before at_taker taker_in stood got)
+    (got-at h maker other gave between at_maker (omega (arith, maker_in, length-set before at now)) stood' got')
+
 -- the notices of one item more
 pub got-more : {X : Type 0} (h : Header) (f : ℕ → X → List Notice) (xs : List X) (i : ℕ) (x : X) (before between after : List DeskSoFar) → i < length xs → x ≡ get_or xs i x → HaveGot h (λ bank. flat_map (f bank) (take i xs)) before between → HaveGot h (λ bank. f bank x) between after → HaveGot h (λ bank. flat_map (f bank) (take (i + 1) xs)) before after
 got-more h f xs i x before between after within is so_far one =

@@ -126,7 +126,7 @@ impl Telling {
         Ok(())
     }
 
-    /// Tells the notices of an entry: the reply, and then those of its fills, in order.
+    /// Tells the notices of an entry: the reply, and then those of its fills, in order, each to its taker's bank and then to its maker's.
     fn tell_entry(
         &mut self,
         session: &Session,
@@ -140,7 +140,9 @@ impl Telling {
     {
         self.tell_reply(session, entry, text)?;
         for fill in entry.outcome.fills() {
-            self.tell_fill(session, fill, text)?;
+            self.writer.begin_fill(session, fill);
+            self.tell_part(session, FillPart::Taker, fill, text)?;
+            self.tell_part(session, FillPart::Maker, fill, text)?;
         }
         Ok(())
     }
@@ -160,23 +162,6 @@ impl Telling {
     {
         let number = self.address(sender_name(session, entry.bank), entry.bank, text)?;
         self.writer.reply(session, number, entry, text)
-    }
-
-    /// Tells the notice of a fill to its taker's bank, and then the one to its maker's.
-    fn tell_fill(
-        &mut self,
-        session: &Session,
-        fill: &Fill,
-        text: &mut NoticeSheet,
-    ) -> Result<(), Memory>
-        requires fill { IsFillOf session.now fill.now }
-        requires can { CanCount (fill_addressed fill.now) self.old.counts.items }
-        ensures ok { OnOk result (HasTold session.now (fill_addressed fill.now) self.old.counts.items self.new.counts.items text.old text.new) }
-        ensures begins { IsPrefixOf text.old text.new }
-    {
-        self.writer.begin_fill(session, fill);
-        self.tell_part(session, FillPart::Taker, fill, text)?;
-        self.tell_part(session, FillPart::Maker, fill, text)
     }
 
     /// Tells the notice of the fill that the writer has begun to the bank with this part in it.

@@ -105,8 +105,8 @@ line_again : (d : Draft) (from to limit : ℕ) → IsDraft d → CanState d (sta
 unfolding statement_of line_statement
 line_again d from to limit valid can =
     rw (
-      bank_named-place d.banks from valid.names_differ can.0,
-      bank_named-place d.banks to valid.names_differ can.1,
+      bank_named-place d.banks from valid.banks.differ can.0,
+      bank_named-place d.banks to valid.banks.differ can.1,
       ne_eqb from to can.2,
       number_of-numeral 0 1000000000000000 limit (omega arith) can.3,
     ) refl
@@ -116,7 +116,7 @@ unfolding statement_of total_statement
 total_again d bank limit valid can =
     rw (
       eq-eqb d.version 2 can.0,
-      bank_named-place d.banks bank valid.names_differ can.1,
+      bank_named-place d.banks bank valid.banks.differ can.1,
       number_of-numeral 0 1000000000000000 limit (omega arith) can.2,
     ) refl
 

@@ -13,7 +13,7 @@ use Rattle.fx_rules.specs.declared.session.PairRule.{PairRule}
 use Rattle.std.specs.Prelude.{IfSome}
 use Rattle.fx_rules.proofs.Below.{map-more, length-map_below, get_or_below, all-below}
 use Rattle.session_head.specs.Draft.{Draft, limit_place, no_limits, no_totals, square, totals_kept, header_of}
-use Rattle.session_head.specs.inside.Draft.{IsDraft}
+use Rattle.session_head.specs.inside.Draft.{IsDraft, IsVersion, AreLimits, AreTotals}
 use Rattle.session_head.specs.inside.Statement.{CanState}
 use Rattle.session_head.specs.declared.statement.Statement.{Statement}
 use Rattle.session_head.specs.declared.statement.Statement.TheVariants as statements
@@ -26,23 +26,14 @@ abbrev IsMost : Option ℕ → Type 0
 IsMost most = IfSome most (λ units. units ≤ 1000000000000000)
 
 -- nothing is declared
-declares_nothing : (version : ℕ) (banks : List (List ℕ)) (pairs : List PairRule) (limits : List ℕ) (totals : List (Option ℕ)) → 1 ≤ version → version ≤ newest → banks ≡ [] → pairs ≡ [] → length limits ≡ 4096
-    → All (λ limit. limit ≤ 1000000000000000) limits → ((i : ℕ) → i < 64 → slice_index limits (limit_place i i) ≡ 0) → length totals ≡ 64 → All IsMost totals
+declares_nothing : (version : ℕ) (banks : List (List ℕ)) (pairs : List PairRule) (limits : List ℕ) (totals : List (Option ℕ)) → IsVersion version → banks ≡ [] → pairs ≡ [] → AreLimits limits → AreTotals totals
     → IsDraft (record { version = version; banks = banks; pairs = pairs; limits = limits; totals = totals })
-declares_nothing version banks pairs limits totals least newest_most no_banks none full most own places totals_most = record {
-  banks_most = rw no_banks (omega arith);
-  names = rw no_banks (All-nil (λ name. IsTrue (is_name name)));
-  names_differ = rw no_banks (no_pairs (λ a b. a ≢ b));
-  pairs_most = rw none (omega arith);
-  rules = rw none (All-nil IsPairRule);
-  pairs_differ = rw none (no_pairs (λ a b. ¬ (AreSamePair a b)));
-  limits_full = full;
-  limits_most = most;
-  own_limits = own;
-  version_least = least;
-  version_most = newest_most;
-  totals_full = places;
-  totals_most = totals_most;
+declares_nothing version banks pairs limits totals versioned no_banks none limited totalled = record {
+  version = versioned;
+  banks = rw no_banks (record { most = omega arith; names = All-nil (λ name. IsTrue (is_name name)); differ = no_pairs (λ a b. a ≢ b) });
+  pairs = rw none (record { most = omega arith; rules = All-nil IsPairRule; differ = no_pairs (λ a b. ¬ (AreSamePair a b)) });
+  limits = limited;
+  totals = totalled;
 }
 
 zeros_own : (n : ℕ) → 4096 ≤ n → (i : ℕ) → i < 64 → slice_index (replicate n 0) (limit_place i i) ≡ 0
@@ -52,34 +43,34 @@ pub IsDraft-empty : (version : ℕ) (banks : List (List ℕ)) (pairs : List Pair
     → IsDraft (record { version = version; banks = banks; pairs = pairs; limits = limits; totals = totals })
 unfolding no_limits no_totals
 IsDraft-empty version banks pairs limits totals least most no_banks none zeros nones =
-    declares_nothing version banks pairs limits totals least most no_banks none
-    (ap (λ (xs : List ℕ). length xs) zeros ∙ length-replicate {A = ℕ} 4096 0)
-    (subst (λ (xs : List ℕ). All (λ limit. limit ≤ 1000000000000000) xs) (sym zeros) (All-replicate (λ limit. limit ≤ 1000000000000000) 4096 0 (omega arith)))
-    (λ i within. ap (λ (xs : List ℕ). slice_index xs (limit_place i i)) zeros ∙ zeros_own 4096 (omega arith) i within)
-    (ap (λ (xs : List (Option ℕ)). length xs) nones ∙ length-replicate {A = Option ℕ} 64 None)
-    (subst (λ (xs : List (Option ℕ)). All IsMost xs) (sym nones) (All-replicate IsMost 64 None tt))
+    declares_nothing version banks pairs limits totals (record { least = least; most = most }) no_banks none
+    (record {
+      full = ap (λ (xs : List ℕ). length xs) zeros ∙ length-replicate {A = ℕ} 4096 0;
+      most = subst (λ (xs : List ℕ). All (λ limit. limit ≤ 1000000000000000) xs) (sym zeros) (All-replicate (λ limit. limit ≤ 1000000000000000) 4096 0 (omega arith));
+      own = λ i within. ap (λ (xs : List ℕ). slice_index xs (limit_place i i)) zeros ∙ zeros_own 4096 (omega arith) i within;
+    })
+    (record {
+      full = ap (λ (xs : List (Option ℕ)). length xs) nones ∙ length-replicate {A = Option ℕ} 64 None;
+      most = subst (λ (xs : List (Option ℕ)). All IsMost xs) (sym nones) (All-replicate IsMost 64 None tt);
+    })
 
 -- the draft of which the session was taken
 pub IsDraft-taken : (d : Draft) (banks : List (List ℕ)) (pairs : List PairRule) → IsDraft d → banks ≡ [] → pairs ≡ [] → IsDraft (record { version = d.version; banks = banks; pairs = pairs; limits = d.limits; totals = d.totals })
 IsDraft-taken d banks pairs valid no_banks none =
-    declares_nothing d.version banks pairs d.limits d.totals valid.version_least valid.version_most no_banks none valid.limits_full valid.limits_most valid.own_limits valid.totals_full valid.totals_most
+    declares_nothing d.version banks pairs d.limits d.totals valid.version no_banks none valid.limits valid.totals
 
 -- a bank more
 pub IsDraft-bank : (d : Draft) (name : List ℕ) → IsDraft d → CanState d (statements.Bank name) → IsDraft (record d { banks = d.banks ++ name ∷ [] })
 IsDraft-bank d name valid can = record {
-  banks_most = omega (arith, can.0, length_push d.banks name);
-  names = All-push (λ text. IsTrue (is_name text)) d.banks name valid.names can.1;
-  names_differ = all_pairs_push (λ a b. a ≢ b) d.banks name valid.names_differ (λ k other within. All-get_or (λ standing. standing ≢ name) d.banks k other within can.2);
-  pairs_most = valid.pairs_most;
-  rules = valid.rules;
-  pairs_differ = valid.pairs_differ;
-  limits_full = valid.limits_full;
-  limits_most = valid.limits_most;
-  own_limits = valid.own_limits;
-  version_least = valid.version_least;
-  version_most = valid.version_most;
-  totals_full = valid.totals_full;
-  totals_most = valid.totals_most;
+  version = valid.version;
+  banks = record {
+    most = omega (arith, can.0, length_push d.banks name);
+    names = All-push (λ text. IsTrue (is_name text)) d.banks name valid.banks.names can.1;
+    differ = all_pairs_push (λ a b. a ≢ b) d.banks name valid.banks.differ (λ k other within. All-get_or (λ standing. standing ≢ name) d.banks k other within can.2);
+  };
+  pairs = valid.pairs;
+  limits = valid.limits;
+  totals = valid.totals;
 }
 
 -- the same of a draft that is another's fields, by a statement that is this one
@@ -93,19 +84,15 @@ bank_added before d statement name banks valid same is can added =
 -- a pair more
 pub IsDraft-pair : (d : Draft) (rule : PairRule) → IsDraft d → CanState d (statements.Pair rule) → IsDraft (record d { pairs = d.pairs ++ rule ∷ [] })
 IsDraft-pair d rule valid can = record {
-  banks_most = valid.banks_most;
-  names = valid.names;
-  names_differ = valid.names_differ;
-  pairs_most = omega (arith, can.0, length_push d.pairs rule);
-  rules = All-push IsPairRule d.pairs rule valid.rules can.1;
-  pairs_differ = all_pairs_push (λ a b. ¬ (AreSamePair a b)) d.pairs rule valid.pairs_differ (λ k other within. All-get_or (λ standing. ¬ (AreSamePair standing rule)) d.pairs k other within can.2);
-  limits_full = valid.limits_full;
-  limits_most = valid.limits_most;
-  own_limits = valid.own_limits;
-  version_least = valid.version_least;
-  version_most = valid.version_most;
-  totals_full = valid.totals_full;
-  totals_most = valid.totals_most;
+  version = valid.version;
+  banks = valid.banks;
+  pairs = record {
+    most = omega (arith, can.0, length_push d.pairs rule);
+    rules = All-push IsPairRule d.pairs rule valid.pairs.rules can.1;
+    differ = all_pairs_push (λ a b. ¬ (AreSamePair a b)) d.pairs rule valid.pairs.differ (λ k other within. All-get_or (λ standing. ¬ (AreSamePair standing rule)) d.pairs k other within can.2);
+  };
+  limits = valid.limits;
+  totals = valid.totals;
 }
 
 pub pair_added : (before d : Draft) (statement : Statement) (rule : PairRule) (pairs : List PairRule) → IsDraft before → before ≡ d → statement ≡ statements.Pair rule
@@ -118,38 +105,28 @@ pair_added before d statement rule pairs valid same is can added =
 -- a limit set
 pub IsDraft-limit : (d : Draft) (from to limit : ℕ) → IsDraft d → from < 64 → to < 64 → from ≢ to → limit ≤ 1000000000000000 → IsDraft (record d { limits = slice_set d.limits (limit_place from to) limit })
 IsDraft-limit d from to limit valid from_within to_within apart most = record {
-  banks_most = valid.banks_most;
-  names = valid.names;
-  names_differ = valid.names_differ;
-  pairs_most = valid.pairs_most;
-  rules = valid.rules;
-  pairs_differ = valid.pairs_differ;
-  limits_full = length-set d.limits (limit_place from to) limit ∙ valid.limits_full;
-  limits_most = All-set (λ l. l ≤ 1000000000000000) d.limits (limit_place from to) limit most valid.limits_most;
-  own_limits = λ i within.
-      get_or-set_other d.limits (limit_place from to) (limit_place i i) limit 0 (λ same. apart (omega arith)) ∙ valid.own_limits i within;
-  version_least = valid.version_least;
-  version_most = valid.version_most;
-  totals_full = valid.totals_full;
-  totals_most = valid.totals_most;
+  version = valid.version;
+  banks = valid.banks;
+  pairs = valid.pairs;
+  limits = record {
+    full = length-set d.limits (limit_place from to) limit ∙ valid.limits.full;
+    most = All-set (λ l. l ≤ 1000000000000000) d.limits (limit_place from to) limit most valid.limits.most;
+    own = λ i within. get_or-set_other d.limits (limit_place from to) (limit_place i i) limit 0 (λ same. apart (omega arith)) ∙ valid.limits.own i within;
+  };
+  totals = valid.totals;
 }
 
 -- a total set
 pub IsDraft-total : (d : Draft) (bank limit : ℕ) → IsDraft d → limit ≤ 1000000000000000 → IsDraft (record d { totals = slice_set d.totals bank (Some limit) })
 IsDraft-total d bank limit valid most = record {
-  banks_most = valid.banks_most;
-  names = valid.names;
-  names_differ = valid.names_differ;
-  pairs_most = valid.pairs_most;
-  rules = valid.rules;
-  pairs_differ = valid.pairs_differ;
-  limits_full = valid.limits_full;
-  limits_most = valid.limits_most;
-  own_limits = valid.own_limits;
-  version_least = valid.version_least;
-  version_most = valid.version_most;
-  totals_full = length-set d.totals bank (Some limit) ∙ valid.totals_full;
-  totals_most = All-set IsMost d.totals bank (Some limit) most valid.totals_most;
+  version = valid.version;
+  banks = valid.banks;
+  pairs = valid.pairs;
+  limits = valid.limits;
+  totals = record {
+    full = length-set d.totals bank (Some limit) ∙ valid.totals.full;
+    most = All-set IsMost d.totals bank (Some limit) most valid.totals.most;
+  };
 }
 
 -- one place more
@@ -186,20 +163,20 @@ kept_most version banks totals most = elim (cases_Bool (eqb version 2)) [
 pub IsSession-header_of : (d : Draft) → IsDraft d → 2 ≤ length d.banks → 1 ≤ length d.pairs → IsSession (header_of d)
 IsSession-header_of d valid two one = record {
   banks_least = two;
-  banks_most = valid.banks_most;
-  names = valid.names;
-  names_differ = valid.names_differ;
+  banks_most = valid.banks.most;
+  names = valid.banks.names;
+  names_differ = valid.banks.differ;
   pairs_least = one;
-  pairs_most = valid.pairs_most;
-  rules = valid.rules;
-  pairs_differ = valid.pairs_differ;
+  pairs_most = valid.pairs.most;
+  rules = valid.pairs.rules;
+  pairs_differ = valid.pairs.differ;
   limits_full = length-map_below (λ at. slice_index d.limits (limit_place (at / length d.banks) (at % length d.banks))) (length d.banks * length d.banks);
-  limits_most = all-below (λ limit. limit ≤ 1000000000000000) (λ at. slice_index d.limits (limit_place (at / length d.banks) (at % length d.banks))) (length d.banks * length d.banks) (λ at within. any_at_most d.limits valid.limits_most _);
-  own_limits = λ i within. square-at (length d.banks) d.limits i i within within ∙ valid.own_limits i (omega (arith, valid.banks_most));
-  version_least = valid.version_least;
-  version_most = valid.version_most;
-  totals_full = kept_full d.version (length d.banks) d.totals (omega (arith, valid.banks_most, valid.totals_full));
-  totals_most = kept_most d.version (length d.banks) d.totals valid.totals_most;
+  limits_most = all-below (λ limit. limit ≤ 1000000000000000) (λ at. slice_index d.limits (limit_place (at / length d.banks) (at % length d.banks))) (length d.banks * length d.banks) (λ at within. any_at_most d.limits valid.limits.most _);
+  own_limits = λ i within. square-at (length d.banks) d.limits i i within within ∙ valid.limits.own i (omega (arith, valid.banks.most));
+  version_least = valid.version.least;
+  version_most = valid.version.most;
+  totals_full = kept_full d.version (length d.banks) d.totals (omega (arith, valid.banks.most, valid.totals.full));
+  totals_most = kept_most d.version (length d.banks) d.totals valid.totals.most;
 }
 
 -- the session that is built of a draft's parts

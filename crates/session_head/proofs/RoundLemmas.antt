@@ -184,7 +184,7 @@ cell_leads n h from to limits session valid first second zeros =
             after = after;
             leads = subst (λ (made : List Statement). Leads n h.banks (with_limits h limits) made (with_limits h after)) (sym stated_is)
                 (one_leads n (with_limits h limits) (statements.Line from to (opening_limit h from to)) (with_limits h after) valid can refl valid_after);
-            here = get_or-set_same limits (limit_place from to) (opening_limit h from to) 0 (omega (arith, valid.limits_full, session.banks_most));
+            here = get_or-set_same limits (limit_place from to) (opening_limit h from to) 0 (omega (arith, valid.limits.full, session.banks_most));
             others = λ at other. get_or-set_other limits (limit_place from to) at (opening_limit h from to) 0 other;
           }
       | inr none ↦
@@ -345,7 +345,7 @@ total_leads n h bank limits totals (Some limit) session valid within none has =
       after = after;
       leads = subst (λ (o : Option ℕ). Leads n h.banks (with_totals h limits totals) (total_stated bank o) (with_totals h limits after)) (sym has)
           (one_leads n (with_totals h limits totals) (statements.Total bank limit) (with_totals h limits after) valid can refl valid_after);
-      here = get_or-set_same totals bank (Some limit) None (omega (arith, valid.totals_full, session.banks_most)) ∙ sym has;
+      here = get_or-set_same totals bank (Some limit) None (omega (arith, valid.totals.full, session.banks_most)) ∙ sym has;
       others = λ at other. get_or-set_other totals bank at (Some limit) None other;
     }
 
@@ -436,7 +436,7 @@ starts n h session =
     let tops = totals_lead rows.leads.count h (bank_count h) rows.after session rows.leads.valid (omega arith) no_totals-at in
     let made : Draft = with_totals h rows.after tops.after in
     let table_is : square (bank_count h) rows.after ≡ h.limits = square_is h rows.after session rows.rows in
-    let totals_is : totals_kept h.version (bank_count h) tops.after ≡ h.totals = totals_are h tops.after session tops.leads.valid.totals_full tops.totals in
+    let totals_is : totals_kept h.version (bank_count h) tops.after ≡ h.totals = totals_are h tops.after session tops.leads.valid.totals.full tops.totals in
     let can : CanState made statements.Start = (session.banks_least, session.pairs_least) in
     let read_last : with_lines (Drafting tops.leads.count made) (lines_for h.banks last) ≡ Started (next tops.leads.count) h =
     line_read tops.leads.count made statements.Start tops.leads.valid can

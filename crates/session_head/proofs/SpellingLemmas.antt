@@ -36,11 +36,11 @@ spelling_line d (statements.Pair rule) valid can =
     let weight = IsField-numeral rule.weight (omega (arith, can.1.weight_most)) in
     record { some = omega arith; few = omega arith; fields_are = (IsField-tested (codes "PAIR") refl, (pair_field rule can.1, (decimals, (lot, (weight, tt))))) }
 spelling_line d (statements.Line from to limit) valid can =
-    let first = name_field (field_at d.banks from) (All-get_or (λ name. IsTrue (is_name name)) d.banks from [] can.0 valid.names) in
-    let second = name_field (field_at d.banks to) (All-get_or (λ name. IsTrue (is_name name)) d.banks to [] can.1 valid.names) in
+    let first = name_field (field_at d.banks from) (All-get_or (λ name. IsTrue (is_name name)) d.banks from [] can.0 valid.banks.names) in
+    let second = name_field (field_at d.banks to) (All-get_or (λ name. IsTrue (is_name name)) d.banks to [] can.1 valid.banks.names) in
     record { some = omega arith; few = omega arith; fields_are = (IsField-tested (codes "LINE") refl, (first, (second, (IsField-numeral limit (omega (arith, can.3)), tt)))) }
 spelling_line d (statements.Total bank limit) valid can =
-    let name = name_field (field_at d.banks bank) (All-get_or (λ name. IsTrue (is_name name)) d.banks bank [] can.1 valid.names) in
+    let name = name_field (field_at d.banks bank) (All-get_or (λ name. IsTrue (is_name name)) d.banks bank [] can.1 valid.banks.names) in
     record { some = omega arith; few = omega arith; fields_are = (IsField-tested (codes "TOTAL") refl, (name, (IsField-numeral limit (omega (arith, can.2)), tt))) }
 spelling_line d statements.Start valid can = record { some = omega arith; few = omega arith; fields_are = (IsField-tested (codes "START") refl, tt) }
 

@@ -12,9 +12,9 @@ use crate::screen::Screen;
 use fx_amounts::Memory;
 use fx_chronicle::Naming;
 use fx_rules::{Entry, Gate, Sent, Session};
+use gateway_workers::ThreadedRun;
 use std::sync::Wait;
 use std::thread::{Threads, join_mut};
-use gateway_workers::ThreadedRun;
 use view_feed::{Feed, Told};
 
 /// Serves a round's commands in at most `workers` threads (1 or more), and gathers their entries. While these are published the screen's

@@ -13,13 +13,13 @@ use fx_amounts::Memory;
 use fx_chronicle::{Blank, Naming};
 use fx_edges::Source;
 use fx_rules::{Entry, Gate};
+use gateway_workers::{ThreadedRun, keys_of};
 use pair_host::PairHost;
 use session_script::{Reading, TextEnd};
 use std::alloc::Global;
 use std::marker::Brand;
 use std::sync::Wait;
 use std::thread::Threads;
-use gateway_workers::{ThreadedRun, keys_of};
 use view_feed::{Feed, open_feed};
 
 /// A session that was watched to the end of its text.

@@ -1,4 +1,4 @@
-ghost use Rattle.std.specs.Prelude.{◌≡◌, ◌+◌, ◌≤◌, ◌^◌, ◌↔◌, ◌++◌, ◌⊎◌, List, [], None, Some, false, length, option_map, IfSome, IsSomeAnd, IsPermutation, OnErr, OnOk};
+ghost use Rattle.std.specs.Prelude.{◌≡◌, ◌+◌, ◌≤◌, ◌↔◌, ◌++◌, ◌⊎◌, List, [], None, Some, false, length, option_map, IfSome, IsSomeAnd, IsPermutation, OnErr, OnOk};
 ghost use Rattle.std.specs.Option.{option_copied};
 ghost use Rattle.fx_amounts.specs.Price.{IsPrice};
 ghost use Rattle.fx_amounts.specs.Side.{opposite};
@@ -85,7 +85,7 @@ impl PairBook {
     /// `before` and that stand behind the order `past`; without a limit any price is allowed, and without `past` all are looked at.
     /// `None` where there is no such order. `reach` has the lots for each bank. Where all orders of the side arrived in time, it takes
     /// one step for each bank at most: behind an order of another bank a search passes the orders of that one price that arrived before it,
-    /// which are not counted.
+    /// which are not counted. Only trials call it.
     pub fn best<L: Ledger>(
         &self,
         side: Side,

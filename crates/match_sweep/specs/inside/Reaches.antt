@@ -42,7 +42,11 @@ abbrev pub rank_of : Side → Option ℕ → ℕ
 rank_of taker None = 2 ^ 30 - 1
 rank_of taker (Some price) = rank_at (opposite taker) price
 
--- the price of a rank
+-- the price of a rank that has one
+abbrev pub price_for : Side → ℕ → ℕ
+price_for taker rank = rank_at (opposite taker) rank
+
+-- the price of a rank, where it has one
 abbrev pub price_at : Side → ℕ → Option ℕ
 price_at taker rank = if nat_eq rank (2 ^ 30 - 1) then None else Some (rank_at (opposite taker) rank)
 
@@ -96,6 +100,12 @@ IsBestAmong walk banks None = (bank : ℕ) → Contains banks bank → price_of 
 IsBestAmong walk banks (Some price) =
     ((bank : ℕ) × Contains banks bank × (price_of walk bank ≡ Some price))
     × ((bank other : ℕ) → Contains banks bank → price_of walk bank ≡ Some other → is_better walk.taker other price ≡ false)
+
+-- the lowest rank of these banks is that of their best price
+pub record IsLowest (walk : LevelWalk) (banks : List ℕ) (lowest : ℕ) : Type 0 where
+  pub price : Option ℕ
+  pub rank : IsRank walk.taker price lowest
+  pub best : IsBestAmong walk banks price
 
 -- something can be taken of a bank
 abbrev pub is_asked : LevelWalk → ℕ → Bool

@@ -1,10 +1,8 @@
 -- The taker's bank and the owner of its order, and then the maker's.
-use Rattle.std.proofs.Common.{◌<◌, ◌++◌, ◌∷◌, [], ℕ, List, Option, arith, eqb, if◌then◌else◌, length, set, sym, subst, ap₂, ◌∙◌}
-use Rattle.std.proofs.lemmas.List.{length-set}
-use Rattle.reply_lines.specs.Desks.{DeskSoFar}
+use Rattle.std.proofs.Common.{◌<◌, ◌++◌, ℕ, Option, arith, sym, subst, ap₂, ◌∙◌}
 use Rattle.reply_lines.specs.Fills.{AreTextsOf}
 use Rattle.reply_lines.specs.Notices.Notice.{Took, Gave}
-use Rattle.reply_lines.proofs.Gathering.{got-at, got-then}
+use Rattle.reply_lines.proofs.Gathering.{got-both}
 use Rattle.reply_lines.proofs.Outputs.{on_ok}
 use Rattle.client_day.specs.Notes.{note_for}
 use Rattle.client_day.specs.Notes.Note.{Told}
@@ -36,15 +34,10 @@ pub returns : goal.returns
 returns c =
     let h = c.args.session.now in
     let f = c.args.fill.now in
-    let senders : List DeskSoFar = c.args.senders.now.items in
-    let between : List DeskSoFar = set senders c.index.result c.note_part.new.sender in
-    let taker_in : f.taker < length senders = omega (arith, c.requires.fill.taker, c.requires.banks) in
-    let maker_in : f.maker < length between = omega (arith, c.requires.fill.maker, c.requires.banks, length-set senders c.index.result c.note_part.new.sender) in
     record {
-      got = on_ok c.note_part-2.result (λ given.
-          got-then h (λ bank. if eqb f.taker bank then Took f ∷ [] else []) (λ bank. if eqb f.maker bank then Gave f ∷ [] else []) senders between (set between c.index-2.result c.note_part-2.new.sender)
-          (got-at h f.taker c.index.result (Took f) senders c.index.ensures.value taker_in c.index_mut-sender.ensures.value c.in_ok-note_part.ensures.got)
-          (got-at h f.maker c.index-2.result (Gave f) between c.index-2.ensures.value maker_in c.index_mut-sender-2.ensures.value given))
+      got = on_ok c.note_part-2.result
+          (got-both h f.taker f.maker c.index.result c.index-2.result (Took f) (Gave f) c.args.senders.now.items c.index.ensures.value (omega (arith, c.requires.fill.taker, c.requires.banks)) c.index_mut-sender.ensures.value c.in_ok-note_part.ensures.got
+          c.index-2.ensures.value (omega (arith, c.requires.fill.maker, c.requires.banks)) c.index_mut-sender-2.ensures.value)
           c.note_part-2.ensures.got;
       noted = on_ok c.note_part-2.result (λ given g tagged stands.
           noted-same h (λ k. note_for c.owner-taker.result k (Told (Took f)) ++ note_for c.owner-maker.result k (Told (Gave f))) _ c.args.desks.now.items c.note_part-2.new.desks.items

@@ -1,6 +1,6 @@
 use Rattle.std.proofs.Common.{List, ◌≤◌, ◌+◌, ◌*◌, ◌-◌, length}
 use Rattle.fx_rules.specs.declared.orders.Level.{Level}
-use Rattle.match_sweep.specs.inside.Reaches.{AreRanked, AreReached, BeginsAt, IsBestAmong}
+use Rattle.match_sweep.specs.inside.Reaches.{AreRanked, AreReached, BeginsAt, IsLowest}
 use Rattle.match_sweep.proofs.Cutting.{AreCut}
 use Rattle.match_sweep.proofs.LevelSteps.{OnTheWay}
 use Rattle.match_sweep.proofs.reached.levels_in_reach.Given as goal
@@ -13,7 +13,7 @@ invariant-loop-banks g l = record {
   way : (begins : BeginsAt l.book l.lines l.weight l.fn.bank l.fn.side l.initial.walk) → OnTheWay l.book begins.valid l.initial.walk l.walk l.fn.bank whole;
   ranked : AreRanked l.walk;
   reached : (begins : BeginsAt l.book l.lines l.weight l.fn.bank l.fn.side l.initial.walk) → AreReached l.book l.walk l.banks;
-  best : IsBestAmong l.walk l.banks l.best;
+  lowest : IsLowest l.walk l.banks l.rank;
   steps : l.steps ≤ l.fn.steps + (length l.levels.items + 1) * l.book.banks;
 }
 

@@ -1,5 +1,5 @@
 -- Where the walk begins or none is needed, and how many steps it takes in all.
-use Rattle.std.proofs.Common.{ℕ, Result, Ok, Err, List, [], ◌≡◌, ◌≤◌, ◌+◌, ◌*◌, ◌∙◌, sym, subst, arith, length}
+use Rattle.std.proofs.Common.{ℕ, Result, Ok, Err, List, ◌≤◌, ◌+◌, ◌*◌, ◌∙◌, sym, subst, arith, length}
 use Rattle.std.specs.Result.{IfOk}
 use Rattle.fx_rules.specs.declared.orders.Fill.{Fill}
 use Rattle.match_sweep.specs.Sweeps.{AddsUp}

@@ -1,5 +1,5 @@
 -- The fills of the walk are the sweep.
-use Rattle.std.proofs.Common.{ℕ, List, [], ◌∷◌, ◌≡◌, ◌≤◌, ◌+◌, ◌*◌, ap, sym, subst, arith, length, length-append}
+use Rattle.std.proofs.Common.{ℕ, List, [], ◌∷◌, ap, sym, subst, arith, length, length-append}
 use Rattle.fx_amounts.specs.Side.{opposite}
 use Rattle.fx_amounts.specs.declared.side.Side.{Side}
 use Rattle.fx_rules.specs.declared.orders.Fill.{Fill}
@@ -13,10 +13,10 @@ pub loop-fill-init : goal.loop-fill-init
 loop-fill-init g c =
     let begun : IsBegun c.args.book.now (opposite c.args.order.now.side) c.heads.result = subst (λ (s : Side). IsBegun c.args.book.now s c.heads.result) c.opposite.ensures c.heads.ensures.begun in
     record {
-  gone = subst (λ (fills : List Fill). Gone c.args.book.now c.args.lines.now c.args.weight c.args.order.now (first_walk c.args.book.now c.args.lines.now c.args.weight c.args.order.now c.heads.result c.heads.ensures.valid c.requires.banks begun) fills) (sym c.new-fills.ensures.items)
-      (gone-begins c.args.book.now c.args.lines.now c.args.weight c.args.order.now c.heads.result c.heads.ensures.valid c.requires.banks begun c.requires.bank c.requires.weight c.requires.few);
-  steps = λ _. omega arith;
-}
+      gone = subst (λ (fills : List Fill). Gone c.args.book.now c.args.lines.now c.args.weight c.args.order.now (first_walk c.args.book.now c.args.lines.now c.args.weight c.args.order.now c.heads.result c.heads.ensures.valid c.requires.banks begun) fills) (sym c.new-fills.ensures.items)
+          (gone-begins c.args.book.now c.args.lines.now c.args.weight c.args.order.now c.heads.result c.heads.ensures.valid c.requires.banks begun c.requires.bank c.requires.weight c.requires.few);
+      steps = λ _. omega arith;
+    }
 
 pub loop-fill-smaller : goal.loop-fill-smaller
 loop-fill-smaller g c = omega (arith, (c.in-Some.ensures.steps c.loop-fill.invariant.gone.last c.loop-fill.invariant.gone.come).wants)

@@ -1,6 +1,5 @@
-use Rattle.std.proofs.Common.{ap, subst}
+use Rattle.std.proofs.Common.{ap}
 use Rattle.global_book.specs.Book.{Book}
-use Rattle.global_book.specs.Heads.{IsBegun}
 use Rattle.global_book.proofs.Booking.{kept-book}
 use Rattle.global_book.proofs.Heading.{begun}
 use Rattle.global_book.proofs.book.PairBook.heads.Goals as goal

@@ -28,7 +28,7 @@ behind : (linked : Linked) (bank : ℕ) (side : Side) (rank : ℕ) (next : Optio
     → IsPriceOf (opposite side) bank (Some (rank_of side rank)) (orders_in linked) (option_map (rank_of side) next) × IfSome next (λ (r : ℕ). IsPrice (rank_of side r))
 behind linked bank side rank None listed are valid found none = (
   next-none linked listed are bank side (rank_of side rank) valid.1
-  (subst (λ (r : ℕ). (other : ℕ) → r < other → (bank_level (ladders_of linked.ladders side) bank other).lots ≡ 0) (sym (rank-back side rank (rank_low side rank valid))) (none refl)),
+      (subst (λ (r : ℕ). (other : ℕ) → r < other → (bank_level (ladders_of linked.ladders side) bank other).lots ≡ 0) (sym (rank-back side rank (rank_low side rank valid))) (none refl)),
   tt,
 )
 behind linked bank side rank (Some next) listed are valid found none =

@@ -1,4 +1,4 @@
-use Rattle.std.proofs.Common.{ℕ, ◌≡◌, ◌<◌, ◌≤◌, false, min, None, subst, sym, arith}
+use Rattle.std.proofs.Common.{ℕ, ◌≡◌, false, min, subst, arith}
 use Rattle.std.specs.Option.{IfSome}
 use Rattle.fx_amounts.specs.Price.{crosses}
 use Rattle.fx_amounts.specs.Side.{opposite}

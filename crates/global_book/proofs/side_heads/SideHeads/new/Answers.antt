@@ -1,7 +1,5 @@
 use Rattle.std.proofs.Common.{◌≡◌, List, length, Option, None, get_or, subst, sym}
 use Rattle.access_index.specs.declared.words.Head.{Head}
-use Rattle.access_index.specs.Heads.{IsHead}
-use Rattle.access_index.specs.Ranked.{IsHeadOf, bank_level}
 use Rattle.global_book.specs.Heads.{IsNext}
 use Rattle.global_book.specs.inside.Heads.{TellHeads, order_told}
 use Rattle.global_book.specs.inside.Linked.{orders_in}

@@ -1,8 +1,8 @@
-use Rattle.std.proofs.Common.{ℕ, ◌≡◌, List, Option, Some, None, get_or, ap, refl, subst, sym, ◌∙◌}
+use Rattle.std.proofs.Common.{Option, Some, subst, sym, ◌∙◌}
 use Rattle.std.specs.Option.{IfSome}
 use Rattle.fx_rules.specs.declared.orders.Resting.{Resting}
 use Rattle.access_index.specs.declared.words.Head.{Head}
-use Rattle.global_book.specs.Heads.{Heads, IsNext, PassesHead, head_in, with_head}
+use Rattle.global_book.specs.Heads.{IsNext, head_in}
 use Rattle.global_book.specs.inside.Heads.{TellHeads, TellsOrder, order_told}
 use Rattle.global_book.specs.inside.Linked.{orders_in}
 use Rattle.global_book.proofs.Heading.{fewer-passed, heads_told, is-behind, none-told, passes-next, told-behind, told-set}

@@ -1,16 +1,15 @@
 -- One more bank, whose rank may be the lowest.
-use Rattle.std.proofs.Common.{ℕ, List, Some, [], ◌∷◌, ◌++◌, ◌+◌, ◌<◌, ◌≤◌, ◌^◌, ◌≡◌, ◌≢◌, length, get_or, min, slice_index, take, ap, sym, subst, ◌∙◌, arith}
+use Rattle.std.proofs.Common.{ℕ, List, Some, [], ◌∷◌, ◌++◌, ◌+◌, ◌<◌, ◌≤◌, ◌≡◌, ◌≢◌, length, get_or, min, slice_index, take, ap, sym, subst, ◌∙◌, arith}
 use Rattle.std.proofs.lemmas.List.{take_all, take_more}
 use Rattle.std.specs.List.{Contains}
+use Rattle.fx_amounts.specs.Price.{IsPrice}
 use Rattle.fx_amounts.specs.Quantity.{IsWeight}
-use Rattle.fx_amounts.specs.Side.{opposite}
 use Rattle.fx_amounts.specs.declared.side.Side.{Side}
 use Rattle.global_book.specs.Book.{Book}
-use Rattle.global_book.specs.Room.{rank_of as rank_at}
 use Rattle.match_sweep.specs.declared.reached.LevelWalk.{LevelWalk}
-use Rattle.match_sweep.specs.inside.Reaches.{AreRanked, AreReached, AreTakenOf, IsBestAmong, IsPaid, IsRank, TakesOf, price_of}
+use Rattle.match_sweep.specs.inside.Reaches.{AreRanked, AreReached, AreTakenOf, IsLowest, IsPaid, IsRank, TakesOf, price_for, price_of}
 use Rattle.match_sweep.proofs.Passed.{not_passed}
-use Rattle.match_sweep.proofs.Ranking.{IsLowest, lowest-begins, lowest-kept, lowest-on, one_rank, same_rank}
+use Rattle.match_sweep.proofs.Ranking.{lowest-begins, lowest-kept, lowest-on, one_rank, price-rank, same_rank}
 use Rattle.match_sweep.proofs.Reaching.{taken-begins, taken-on, taker_same, takes_none, weight_same}
 use Rattle.match_sweep.proofs.reached.LevelWalk.take_level.Goals as goal
 use Rattle.match_sweep.proofs.reached.LevelWalk.take_level.Goals.{then-self-index, else-self-index}
@@ -26,9 +25,8 @@ asked_else : (walk : LevelWalk) (bank price rank : ℕ) → bank < 65 → AreRan
 asked_else walk bank price rank below ranked is differ same = differ (one_rank walk.taker (price_of walk bank) price (slice_index walk.ranks bank) rank (ranked bank below) is same)
 
 -- the rank of the price
-rank_is : (first walk : LevelWalk) (side : Side) (price rank lots : ℕ) → IsPaid first walk lots → side ≡ opposite first.taker → rank ≡ rank_at side price → 1 ≤ price → price ≤ 10 ^ 9 → IsRank walk.taker (Some price) rank
-rank_is first walk side price rank lots paid side_is is least most =
-    subst (λ (s : Side). IsRank s (Some price) rank) (sym (taker_same first walk lots paid)) (record { valid = (least, most); is = is ∙ ap (λ (s : Side). rank_at s price) side_is })
+rank_is : (first walk : LevelWalk) (rank lots : ℕ) → IsPaid first walk lots → IsPrice (price_for first.taker rank) → IsRank walk.taker (Some (price_for first.taker rank)) rank
+rank_is first walk rank lots paid valid = subst (λ (s : Side). IsRank s (Some (price_for first.taker rank)) rank) (sym (taker_same first walk lots paid)) (price-rank first.taker rank valid)
 
 -- what is taken of one bank more, if anything
 record Took (book : Book) (now new : LevelWalk) (bank price lots sum steps most : ℕ) : Type 0 where
@@ -51,7 +49,7 @@ module _ (book : Book) (first now new : LevelWalk) (price bank lots more lowest 
 
 pub loop-bank-init : goal.loop-bank-init
 loop-bank-init g c = record {
-  taken = taken-begins c.args.book.now c.args.self.now c.args.price c.args.banks.now;
+  taken = taken-begins c.args.book.now c.args.self.now (price_for c.args.self.now.taker c.args.rank) c.args.banks.now;
   lowest = lowest-begins c.args.self.now c.args.banks.now;
   ranked = c.requires.ranked;
   steps = omega arith;
@@ -62,12 +60,16 @@ take_of-lots-requires g c =
     let now : LevelWalk = c.loop-bank.self in
     let n : ℕ = c.bank-item.result in
     let at_is : c.index.result ≡ n = c.index.ensures.value in
+    let price_same : price_for c.args.self.now.taker c.args.rank ≡ price_for now.taker c.args.rank
+    = ap (λ (s : Side). price_for s c.args.rank) (sym (taker_same c.args.self.now now c.loop-bank.lots c.loop-bank.invariant.taken.sum)) in
     record {
       weight = subst IsWeight (sym (weight_same c.args.self.now now c.loop-bank.lots c.loop-bank.invariant.taken.sum)) c.requires.weight;
       ranked = c.loop-bank.invariant.ranked;
-      asked = asked_here now n c.args.price c.rank_of-rank.result (omega (arith, at_is, c.index.ensures.most)) c.loop-bank.invariant.ranked
-          (rank_is c.args.self.now now c.opposite.result c.args.price c.rank_of-rank.result c.loop-bank.lots c.loop-bank.invariant.taken.sum c.opposite.ensures c.rank_of-rank.ensures.rank c.rank_of-rank.ensures.least c.rank_of-rank.ensures.price)
-          (subst (λ (at : ℕ). slice_index now.ranks at ≡ c.rank_of-rank.result) at_is c.if-self-index.true);
+      price = subst IsPrice price_same c.requires.price;
+      asked = subst (λ (p : ℕ). price_of now n ≡ Some p) price_same
+          (asked_here now n (price_for c.args.self.now.taker c.args.rank) c.args.rank (omega (arith, at_is, c.index.ensures.most)) c.loop-bank.invariant.ranked
+          (rank_is c.args.self.now now c.args.rank c.loop-bank.lots c.loop-bank.invariant.taken.sum c.requires.price)
+          (subst (λ (at : ℕ). slice_index now.ranks at ≡ c.args.rank) at_is c.if-self-index.true));
     }
 
 pub loop-bank-preserved : goal.loop-bank-preserved
@@ -76,7 +78,8 @@ loop-bank-preserved g c =
     let first : LevelWalk = c.args.self.now in
     let now : LevelWalk = c.loop-bank.self in
     let new : LevelWalk = c.if-self-index.self in
-    let price : ℕ = c.args.price in
+    let rank : ℕ = c.args.rank in
+    let price : ℕ = price_for first.taker rank in
     let banks : List ℕ = c.args.banks.now in
     let k : ℕ = c.loop-bank.bank-index in
     let n : ℕ = c.bank-item.result in
@@ -89,7 +92,8 @@ loop-bank-preserved g c =
     elim c.if-self-index.branch [
       | then-self-index w ↦ record {
         more = w.take_of-lots.result;
-        takes = subst (λ (s : LevelWalk). TakesOf book now s n price w.take_of-lots.result) (sym w.self-is) w.take_of-lots.ensures.taken;
+        takes = subst (λ (s : LevelWalk). TakesOf book now s n price w.take_of-lots.result) (sym w.self-is)
+            (subst (λ (p : ℕ). TakesOf book now w.take_of-lots.new.self n p w.take_of-lots.result) (ap (λ (s : Side). price_for s rank) (taker_same first now c.loop-bank.lots was.taken.sum)) w.take_of-lots.ensures.taken);
         ranked = subst AreRanked (sym w.self-is) w.take_of-lots.ensures.ranked;
         lots_is = w.lots-is;
         steps_most = omega (arith, w.steps-is, w.take_of-lots.ensures.step);
@@ -97,9 +101,8 @@ loop-bank-preserved g c =
       | else-self-index w ↦ record {
         more = 0;
         takes = subst (λ (s : LevelWalk). TakesOf book now s n price 0) (sym w.self-is)
-            (takes_none book now n price (asked_else now n price c.rank_of-rank.result below was.ranked
-            (rank_is first now c.opposite.result price c.rank_of-rank.result c.loop-bank.lots was.taken.sum c.opposite.ensures c.rank_of-rank.ensures.rank c.rank_of-rank.ensures.least c.rank_of-rank.ensures.price)
-            (λ same. w.if-self-index.false (subst (λ (at : ℕ). slice_index now.ranks at ≡ c.rank_of-rank.result) (sym at_is) same))));
+            (takes_none book now n price (asked_else now n price rank below was.ranked (rank_is first now rank c.loop-bank.lots was.taken.sum c.requires.price)
+            (λ same. w.if-self-index.false (subst (λ (at : ℕ). slice_index now.ranks at ≡ rank) (sym at_is) same))));
         ranked = subst AreRanked (sym w.self-is) was.ranked;
         lots_is = omega (arith, w.lots-is);
         steps_most = omega (arith, w.steps-is);
@@ -117,12 +120,11 @@ loop-bank-preserved g c =
 
 pub returns : goal.returns
 returns g c =
-    let owners : List ℕ = c.args.banks.now in
-    let low = c.loop-bank.invariant.lowest in
+    let banks : List ℕ = c.args.banks.now in
+    let all : take c.loop-bank.bank-index banks ≡ banks = take_all c.loop-bank.bank-index banks c.loop-bank-test.false in
     record {
-      taken = subst (λ (banks : List ℕ). AreTakenOf c.args.book.now c.args.self.now c.loop-bank.self c.args.price banks c.loop-bank.lots) (take_all c.loop-bank.bank-index owners c.loop-bank-test.false) c.loop-bank.invariant.taken;
-      best = subst (λ (banks : List ℕ). IsBestAmong c.loop-bank.self banks c.price_at_rank.result) (take_all c.loop-bank.bank-index owners c.loop-bank-test.false)
-          (subst (IsBestAmong c.loop-bank.self (take c.loop-bank.bank-index owners)) (sym (c.price_at_rank.ensures.price low.price low.rank)) low.best);
+      taken = subst (λ (bs : List ℕ). AreTakenOf c.args.book.now c.args.self.now c.loop-bank.self (price_for c.args.self.now.taker c.args.rank) bs c.loop-bank.lots) all c.loop-bank.invariant.taken;
+      lowest = subst (λ (bs : List ℕ). IsLowest c.loop-bank.self bs c.loop-bank.lowest) all c.loop-bank.invariant.lowest;
       ranked = c.loop-bank.invariant.ranked;
       steps = omega (arith, c.loop-bank.invariant.steps, c.requires.reached.few, c.loop-bank.auto);
     }

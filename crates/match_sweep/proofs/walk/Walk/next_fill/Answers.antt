@@ -1,9 +1,9 @@
-use Rattle.std.proofs.Common.{ℕ, ◌≡◌, ◌≤◌, ◌<◌, List, [], ◌∷◌, Option, Some, None, inr, refl, ap, sym, subst, ◌∙◌, arith}
+use Rattle.std.proofs.Common.{ℕ, ◌≡◌, ◌≤◌, ◌<◌, List, [], ◌∷◌, Some, inr, refl, ap, sym, subst, ◌∙◌, arith}
 use Rattle.fx_rules.specs.declared.orders.Fill.{Fill}
 use Rattle.fx_rules.specs.declared.orders.Resting.{Resting}
-use Rattle.fx_rules.specs.Sweep.{IsBest, Taker}
+use Rattle.fx_rules.specs.Sweep.{IsBest}
 use Rattle.global_book.specs.Heads.{Heads, PassesHead, head_in}
-use Rattle.match_sweep.specs.inside.Walks.{FromHere, HasCome, IsWalk, LeadsOn, StepsOn, open_from}
+use Rattle.match_sweep.specs.inside.Walks.{HasCome, IsWalk, LeadsOn, StepsOn, open_from}
 use Rattle.match_sweep.specs.declared.walk.Walk.{Walk}
 use Rattle.match_sweep.proofs.Stepping.{from-along, goes-on, head-small, open-along, taken-come, walk-passed, walk-taken}
 use Rattle.match_sweep.proofs.walk.Walk.next_fill.Goals as goal

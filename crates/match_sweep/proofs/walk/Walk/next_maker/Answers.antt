@@ -1,4 +1,4 @@
-use Rattle.std.proofs.Common.{ℕ, ◌≡◌, ◌≢◌, ◌≤◌, ◌<◌, false, List, Option, Some, None, inl, inr, ap, sym, subst, ◌∙◌, arith}
+use Rattle.std.proofs.Common.{◌≡◌, ◌<◌, false, Option, Some, None, ap, sym, subst, ◌∙◌, arith}
 use Rattle.std.specs.Option.{IfSome}
 use Rattle.fx_amounts.specs.Price.{crosses}
 use Rattle.fx_amounts.specs.declared.side.Side.{Side}

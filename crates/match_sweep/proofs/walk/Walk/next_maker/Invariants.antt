@@ -1,4 +1,4 @@
-use Rattle.std.proofs.Common.{ℕ, ◌≡◌, ◌≤◌, Option}
+use Rattle.std.proofs.Common.{◌≡◌, ◌≤◌, Option}
 use Rattle.fx_rules.specs.declared.orders.Resting.{Resting}
 use Rattle.global_book.specs.Heads.{count_to_come}
 use Rattle.match_sweep.specs.inside.Heads.{CameBefore}

@@ -6,7 +6,7 @@ use Rattle.fx_edges.proofs.Writing.{IsPrefixOf-trans}
 use Rattle.fx_rules.specs.declared.orders.Fill.{Fill}
 use Rattle.fx_rules.specs.Step.{fills_of}
 use Rattle.fx_rules.proofs.Senders.{suits-sender}
-use Rattle.reply_lines.specs.Notices.Notice.{Replied}
+use Rattle.reply_lines.specs.Notices.Notice.{Replied, Took, Gave}
 use Rattle.reply_lines.specs.Telling.{Addressed, addressed_to, fill_addressed}
 use Rattle.reply_lines.specs.inside.Telling.{CanCount, HasTold, with_one}
 use Rattle.reply_lines.proofs.Counting.{can-behind, can-first, can-more, can-turn, told-begins, told-more, told-none, told-then}
@@ -32,17 +32,34 @@ loop-fill-init c =
           (subst (λ (cs : List ℕ). CanCount fills cs) (sym c.in_ok-tell_reply.ensures.ok.counted) rest);
     }
 
-pub tell_fill-requires-clause-can : goal.tell_fill-requires-clause-can
-tell_fill-requires-clause-can c = can-turn fill_addressed c.fills-fill-items.result.now c.loop-fill.fill-index c.fill-item.result c.loop-fill-test.true c.fill-item.is c.loop-fill.invariant.can
+pub tell_part-requires-clause-can : goal.tell_part-requires-clause-can
+tell_part-requires-clause-can c =
+    let f = c.fill-item.result in
+    can-first (addressed_to f.taker (Took f) ∷ []) (addressed_to f.maker (Gave f) ∷ [])
+    (can-turn fill_addressed c.fills-fill-items.result.now c.loop-fill.fill-index f c.loop-fill-test.true c.fill-item.is c.loop-fill.invariant.can)
 
-pub returns-in_err-tell_fill-clause-begins : goal.returns-in_err-tell_fill-clause-begins
-returns-in_err-tell_fill-clause-begins c = IsPrefixOf-trans c.in_ok-tell_reply.ensures.begins (IsPrefixOf-trans (told-begins c.loop-fill.invariant.told) c.in_err-tell_fill.ensures.begins)
+pub returns-in_err-tell_part-clause-begins : goal.returns-in_err-tell_part-clause-begins
+returns-in_err-tell_part-clause-begins c = IsPrefixOf-trans c.in_ok-tell_reply.ensures.begins (IsPrefixOf-trans (told-begins c.loop-fill.invariant.told) c.in_err-tell_part.ensures.begins)
+
+pub tell_part-requires-in-loop-fill-clause-can : goal.tell_part-requires-in-loop-fill-clause-can
+tell_part-requires-in-loop-fill-clause-can c =
+    let f = c.fill-item.result in
+    let maker : List Addressed = addressed_to f.maker (Gave f) ∷ [] in
+    subst (λ (cs : List ℕ). CanCount maker cs) (sym c.in_ok-tell_part.ensures.ok.counted) (can-behind (addressed_to f.taker (Took f) ∷ []) maker
+    (can-turn fill_addressed c.fills-fill-items.result.now c.loop-fill.fill-index f c.loop-fill-test.true c.fill-item.is c.loop-fill.invariant.can))
+
+pub returns-in_err-tell_part-2-clause-begins : goal.returns-in_err-tell_part-2-clause-begins
+returns-in_err-tell_part-2-clause-begins c = IsPrefixOf-trans c.in_ok-tell_reply.ensures.begins
+    (IsPrefixOf-trans (told-begins c.loop-fill.invariant.told) (IsPrefixOf-trans c.in_ok-tell_part.ensures.begins c.in_err-tell_part-2.ensures.begins))
 
 pub loop-fill-preserved : goal.loop-fill-preserved
-loop-fill-preserved c = record {
-  told = told-more fill_addressed c.fills-fill-items.result.now c.loop-fill.fill-index c.fill-item.result c.loop-fill-test.true c.fill-item.is c.args.session.now c.loop-fill.invariant.told c.in_ok-tell_fill.ensures.ok;
-  can = can-more fill_addressed c.fills-fill-items.result.now c.loop-fill.fill-index c.fill-item.result c.loop-fill-test.true c.fill-item.is c.in_ok-tell_fill.ensures.ok.counted c.loop-fill.invariant.can;
-}
+loop-fill-preserved c =
+    let f = c.fill-item.result in
+    let one = told-then c.args.session.now (addressed_to f.taker (Took f) ∷ []) (addressed_to f.maker (Gave f) ∷ []) c.in_ok-tell_part.ensures.ok c.in_ok-tell_part-2.ensures.ok in
+    record {
+      told = told-more fill_addressed c.fills-fill-items.result.now c.loop-fill.fill-index f c.loop-fill-test.true c.fill-item.is c.args.session.now c.loop-fill.invariant.told one;
+      can = can-more fill_addressed c.fills-fill-items.result.now c.loop-fill.fill-index f c.loop-fill-test.true c.fill-item.is one.counted c.loop-fill.invariant.can;
+    }
 
 pub returns-clause-ok : goal.returns-clause-ok
 returns-clause-ok c =

@@ -11,6 +11,6 @@ index_mut-requires c = omega (
   c.requires.row,
   c.requires.column,
   ap (λ (d : Draft). length d.banks) c.self.view_is,
-  c.self.invariant.banks_most,
-  c.self.invariant.limits_full,
+  c.self.invariant.banks.most,
+  c.self.invariant.limits.full,
 )

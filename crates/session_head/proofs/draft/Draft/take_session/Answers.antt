@@ -7,7 +7,7 @@ use Rattle.session_head.proofs.draft.Draft.take_session.Goals as goal
 
 pub session_of-requires : goal.session_of-requires
 session_of-requires c = λ other. (
-  first_or_second c.self.inside.version c.self.invariant.version_least c.self.invariant.version_most other,
+  first_or_second c.self.inside.version c.self.invariant.version.least c.self.invariant.version.most other,
   c.in_ok-totals.ensures ∙ first_kept c.self.inside.version _ _ other,
 )
 

@@ -1,9 +1,9 @@
 -- One more bank is looked at.
 use Rattle.std.proofs.Common.{ℕ, List, [], ◌∷◌, ◌++◌, ◌+◌, ◌≡◌, take, ap, sym, subst, ◌∙◌, arith}
 use Rattle.std.proofs.lemmas.List.{take_all, take_more}
-use Rattle.match_sweep.specs.inside.Reaches.{IsBestAmong}
-use Rattle.match_sweep.proofs.Ranking.{IsLowest, lowest-begins, lowest-on}
-use Rattle.match_sweep.proofs.reached.LevelWalk.best_price.Goals as goal
+use Rattle.match_sweep.specs.inside.Reaches.{IsLowest}
+use Rattle.match_sweep.proofs.Ranking.{lowest-begins, lowest-on}
+use Rattle.match_sweep.proofs.reached.LevelWalk.lowest_rank.Goals as goal
 
 pub loop-bank-init : goal.loop-bank-init
 loop-bank-init c = lowest-begins c.args.self.now c.args.banks.now
@@ -20,9 +20,6 @@ loop-bank-preserved c =
     (lowest-on c.args.self.now (take k banks) n c.loop-bank.lowest (omega (arith, c.index.ensures.most)) c.requires.ranked c.loop-bank.invariant))
 
 pub returns : goal.returns
-returns c =
-    let low = c.loop-bank.invariant in
-    record {
-      best = subst (λ (xs : List ℕ). IsBestAmong c.args.self.now xs c.price_at_rank.result) (take_all c.loop-bank.bank-index c.args.banks.now c.loop-bank-test.false)
-          (subst (IsBestAmong c.args.self.now (take c.loop-bank.bank-index c.args.banks.now)) (sym (c.price_at_rank.ensures.price low.price low.rank)) low.best);
-    }
+returns c = record {
+  lowest = subst (λ (xs : List ℕ). IsLowest c.args.self.now xs c.loop-bank.lowest) (take_all c.loop-bank.bank-index c.args.banks.now c.loop-bank-test.false) c.loop-bank.invariant;
+}

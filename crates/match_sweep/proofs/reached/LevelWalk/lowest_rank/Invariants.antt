@@ -1,6 +1,6 @@
 use Rattle.std.proofs.Common.{take}
-use Rattle.match_sweep.proofs.Ranking.{IsLowest}
-use Rattle.match_sweep.proofs.reached.LevelWalk.best_price.Given as goal
+use Rattle.match_sweep.specs.inside.Reaches.{IsLowest}
+use Rattle.match_sweep.proofs.reached.LevelWalk.lowest_rank.Given as goal
 
 -- the lowest rank of the banks that were passed
 abbrev pub invariant-loop-bank : goal.invariant-loop-bank
