@@ -29,8 +29,8 @@ use Rattle.reply_lines.specs.Day.{AreNoticesOf, IsJournalOf}
 use Rattle.reply_lines.specs.Desks.{DeskSoFar, nothing_yet}
 use Rattle.reply_lines.specs.Notices.Notice.{Replied}
 use Rattle.reply_lines.specs.Output.{entry_line}
-use Rattle.session_script.specs.declared.heard.Heard.{Heard}
-use Rattle.session_script.specs.declared.heard.Heard.TheVariants as heards
+use Rattle.session_script.specs.Heard.{Heard}
+use Rattle.session_script.specs.Heard.Heard.{Stray as HeardStray}
 use Rattle.client_day.specs.Days.{IsBehind, IsDayOf, IsHanded}
 use Rattle.client_day.specs.inside.Days.{IsClientOf, TakesAsked}
 use Rattle.client_day.specs.Desks.{with_notes}
@@ -56,10 +56,10 @@ strays-few h heard day is = omega (arith, client_script-few h heard, is.strays_a
 -- ---- a stray
 
 -- a day with a stray more
-pub day-stray : (h : Header) (heard : List Heard) (line : TextLine) (was : ClientDay) (is : IsDayOf h heard was) → with_heard h (client_script h heard) (heards.Stray line) ≡ with_stray (client_script h heard)
-    → IsDayOf h (heard ++ heards.Stray line ∷ []) (record was { strays = was.strays + 1 })
+pub day-stray : (h : Header) (heard : List Heard) (line : TextLine) (was : ClientDay) (is : IsDayOf h heard was) → with_heard h (client_script h heard) (HeardStray line) ≡ with_stray (client_script h heard)
+    → IsDayOf h (heard ++ HeardStray line ∷ []) (record was { strays = was.strays + 1 })
 day-stray h heard line was is plain =
-    let next : client_script h (heard ++ heards.Stray line ∷ []) ≡ with_stray (client_script h heard) = script-push h no_script heard (heards.Stray line) ∙ plain in
+    let next : client_script h (heard ++ HeardStray line ∷ []) ≡ with_stray (client_script h heard) = script-push h no_script heard (HeardStray line) ∙ plain in
     record {
       events = is.events;
       behind = record { known = is.behind.known; served = is.behind.served; told = is.behind.told; journal_is = is.behind.journal_is; answered = is.behind.answered; desks = is.behind.desks; noted = is.behind.noted };
@@ -71,15 +71,15 @@ day-stray h heard line was is plain =
     }
 
 -- a line says this by the clients of the day
-line-says : (h : Header) (heard : List Heard) (line : TextLine) (day : ClientDay) (says : ClientLine) (is : IsDayOf h heard day) → client_line_of h day.book.clients line ≡ says → with_heard h (client_script h heard) (heards.Stray line) ≡ with_line (client_script h heard) says
+line-says : (h : Header) (heard : List Heard) (line : TextLine) (day : ClientDay) (says : ClientLine) (is : IsDayOf h heard day) → client_line_of h day.book.clients line ≡ says → with_heard h (client_script h heard) (HeardStray line) ≡ with_line (client_script h heard) says
 line-says h heard line day says is said =
     ap (λ (clients : List Client). with_line (client_script h heard) (client_line_of h clients line)) is.clients_are ∙ ap (with_line (client_script h heard)) said
 
-pub plain-stray : (h : Header) (heard : List Heard) (line : TextLine) (day : ClientDay) (said : Spoken) (is : IsDayOf h heard day) → client_line_of h day.book.clients line ≡ Plain said → with_heard h (client_script h heard) (heards.Stray line) ≡ with_stray (client_script h heard)
+pub plain-stray : (h : Header) (heard : List Heard) (line : TextLine) (day : ClientDay) (said : Spoken) (is : IsDayOf h heard day) → client_line_of h day.book.clients line ≡ Plain said → with_heard h (client_script h heard) (HeardStray line) ≡ with_stray (client_script h heard)
 plain-stray h heard line day said is says = line-says h heard line day (Plain said) is says
 
 -- a declaration that comes too late
-pub late-stray : (h : Header) (heard : List Heard) (line : TextLine) (day : ClientDay) (client : Client) (is : IsDayOf h heard day) → client_line_of h day.book.clients line ≡ Declares client → day.trading ≡ true → with_heard h (client_script h heard) (heards.Stray line) ≡ with_stray (client_script h heard)
+pub late-stray : (h : Header) (heard : List Heard) (line : TextLine) (day : ClientDay) (client : Client) (is : IsDayOf h heard day) → client_line_of h day.book.clients line ≡ Declares client → day.trading ≡ true → with_heard h (client_script h heard) (HeardStray line) ≡ with_stray (client_script h heard)
 late-stray h heard line day client is says trades =
     line-says h heard line day (Declares client) is says ∙ ap (λ (b : Bool). declared_while b (client_script h heard) client) (sym is.trading_is ∙ trades)
 
@@ -108,12 +108,12 @@ known-yet h heard day is quiet = subst (λ (events : List Event). StandsFor h (t
 
 pub day-declared : (h : Header) (heard : List Heard) (line : TextLine) (was now : ClientDay) (client : Client) (is : IsDayOf h heard was) → client_line_of h was.book.clients line ≡ Declares client → was.trading ≡ false → AreClients h (was.book.clients ++ client ∷ [])
     → now.run ≡ was.run → now.notices ≡ was.notices → now.journal ≡ was.journal → now.strays ≡ was.strays → now.trading ≡ was.trading → now.book.clients ≡ was.book.clients ++ client ∷ [] → StandsFor h [] now.book → now.desks.items ≡ was.desks.items ++ nothing_yet ∷ []
-    → IsDayOf h (heard ++ heards.Stray line ∷ []) now
+    → IsDayOf h (heard ++ HeardStray line ∷ []) now
 day-declared h heard line was now client is says quiet are run_is notices_is journal_is strays_is trading_is clients_is known desks_is =
     let script : ClientScript = client_script h heard in
     let none : is.events ≡ [] = no-events-yet h heard was is quiet in
-    let next : client_script h (heard ++ heards.Stray line ∷ []) ≡ record { clients = script.clients ++ client ∷ []; asked = script.asked; strays = script.strays } =
-    script-push h no_script heard (heards.Stray line) ∙ line-says h heard line was (Declares client) is says
+    let next : client_script h (heard ++ HeardStray line ∷ []) ≡ record { clients = script.clients ++ client ∷ []; asked = script.asked; strays = script.strays } =
+    script-push h no_script heard (HeardStray line) ∙ line-says h heard line was (Declares client) is says
     ∙ ap (λ (b : Bool). declared_while b script client) (sym is.trading_is ∙ quiet) in
     let empty : (k : ℕ) → k < length was.desks.items → get_or was.desks.items k nothing_yet ≡ nothing_yet =
     λ k within. is.behind.noted k (omega (arith, is.behind.desks)) ∙ ap (λ (events : List Event). with_notes h nothing_yet (notes_of events k)) none in
@@ -157,7 +157,7 @@ day-asked h heard next was now asked is takes asks =
     }
 
 pub of-says : (h : Header) (heard : List Heard) (line : TextLine) (day : ClientDay) (c : ℕ) (command : Command) (is : IsDayOf h heard day) → client_line_of h day.book.clients line ≡ Of c command
-    → with_heard h (client_script h heard) (heards.Stray line) ≡ with_asked (client_script h heard) (record { who = Some c; sent = record { bank = bank_of_client day.book.clients c; command = command } })
+    → with_heard h (client_script h heard) (HeardStray line) ≡ with_asked (client_script h heard) (record { who = Some c; sent = record { bank = bank_of_client day.book.clients c; command = command } })
 of-says h heard line day c command is says =
     line-says h heard line day (Of c command) is says
     ∙ ap (λ (clients : List Client). with_asked (client_script h heard) (record { who = Some c; sent = record { bank = bank_of_client clients c; command = command } })) is.clients_are

@@ -8,8 +8,8 @@ use Rattle.client_desk.specs.declared.client.Client.{Client}
 use Rattle.client_desk.specs.declared.line.ClientLine.{ClientLine}
 use Rattle.client_desk.specs.declared.line.ClientLine.TheVariants.{Declares, Of, Plain}
 use Rattle.client_desk.specs.Lines.{client_line_of}
-use Rattle.session_script.specs.declared.heard.Heard.{Heard}
-use Rattle.session_script.specs.declared.heard.Heard.TheVariants as heards
+use Rattle.session_script.specs.Heard.{Heard}
+use Rattle.session_script.specs.Heard.Heard.{Command as HeardCommand, Stray as HeardStray}
 use Rattle.client_day.specs.Events.{Event, AreAnswered, IsAnswered, tagged_in}
 use Rattle.client_day.specs.Events.Event.{Refused, Entered}
 use Rattle.client_day.specs.Notes.{event_notes, notes_behind}
@@ -31,8 +31,8 @@ line-few script (Of c command) = omega (arith, length-append script.asked (asked
 line-few script (Plain said) = omega arith
 
 heard-few : (h : Header) (script : ClientScript) (heard : Heard) → length (with_heard h script heard).asked + (with_heard h script heard).strays ≤ length script.asked + script.strays + 1
-heard-few h script (heards.Command sent) = omega (arith, length-append script.asked (asked_for None sent.bank sent.command ∷ []))
-heard-few h script (heards.Stray line) = line-few script (client_line_of h script.clients line)
+heard-few h script (HeardCommand sent) = omega (arith, length-append script.asked (asked_for None sent.bank sent.command ∷ []))
+heard-few h script (HeardStray line) = line-few script (client_line_of h script.clients line)
 
 script-few : (h : Header) (script : ClientScript) (heard : List Heard) → length (script_behind h script heard).asked + (script_behind h script heard).strays ≤ length script.asked + script.strays + length heard
 script-few h script [] = omega arith

@@ -1,13 +1,17 @@
 -- What is heard round by round is served.
-use Rattle.std.proofs.Common.{ℕ, ◌≡◌, ◌+◌, ◌^◌, ◌<◌, List, [], ◌∷◌, ◌++◌, length, Option, Some, Result, Ok, Err, ap, sym, subst, arith, length-append}
+use Rattle.std.proofs.Common.{ℕ, suc, drop, ◌≡◌, ◌+◌, ◌^◌, ◌<◌, List, [], ◌∷◌, ◌++◌, length, take, get_or, Option, Some, Result, Ok, Err, ap, sym, subst, ◌∙◌, arith, append_assoc, length-append}
+use Rattle.std.proofs.Math.Seq.{drop-cons}
+use Rattle.std.proofs.lemmas.Grind.{take_at_read}
 use Rattle.std.specs.Prelude.{IsErrAnd}
 use Rattle.fx_amounts.specs.declared.memory.Memory.{Memory}
 use Rattle.fx_rules.specs.Lists.{Each}
 use Rattle.fx_rules.specs.Session.{Header}
+use Rattle.fx_text.specs.declared.line.Line.TheVariants.{Whole}
 use Rattle.session_script.specs.Heard.{IsHeardOf}
+use Rattle.session_script.specs.Heard.Heard.{Stray as HeardStray}
 use Rattle.session_script.specs.Rounds.{HasHeard}
 use Rattle.session_script.specs.Stage.{heard_at, sent_at, session_at}
-use Rattle.session_script.specs.declared.heard.Heard.{Heard}
+use Rattle.session_script.specs.Heard.{Heard}
 use Rattle.session_script.specs.declared.reading.Reading.{Reading}
 use Rattle.session_script.proofs.RoundLaws.{same_session}
 use Rattle.client_day.specs.Days.{IsDayOf}
@@ -22,6 +26,17 @@ for_memory (Err memory) why P is then = then memory
 Each-back : {X : Type 0} (P : X → Type 0) (xs ys : List X) → Each P (xs ++ ys) → Each P ys
 Each-back P [] ys each = each
 Each-back P (x ∷ xs) ys each = Each-back P xs ys each.1
+
+-- those behind the line at a place
+pub Each-next : (P : Heard → Type 0) (heard : List Heard) (i : ℕ) → i < length heard → Each P (drop i heard) → Each P (drop (i + 1) heard)
+Each-next P heard i within all =
+    let next : suc i ≡ i + 1 = omega arith in
+    subst (λ n. Each P (drop n heard)) next (subst (Each P) (drop-cons heard i (HeardStray (Whole [])) within) all).1
+
+-- one line more
+pub one-more : (before heard : List Heard) (i : ℕ) (x : Heard) → i < length heard → x ≡ get_or heard i x → (before ++ take i heard) ++ x ∷ [] ≡ before ++ take (i + 1) heard
+one-more before heard i x within is =
+    append_assoc before (take i heard) (x ∷ []) ∙ ap (λ (all : List Heard). before ++ all) (sym ((take_at_read heard i x within).1 ∙ ap (λ (h : Heard). take i heard ++ h ∷ []) (sym is)))
 
 module _ {S : Type 0} {left : S → Option (List ℕ)} {faults : S → ℕ} {a b : S} {reading : Reading} {h : Header} {day : ClientDay} where
   -- what a round heard can be served

@@ -12,7 +12,7 @@ use Rattle.reply_lines.specs.Output.{IsOutput}
 use Rattle.reply_lines.specs.declared.output.Ending.{Ending}
 use Rattle.reply_lines.specs.declared.output.OutFault.{OutFault}
 use Rattle.reply_lines.proofs.Outputs.{wrote_whole, wrote_part}
-use Rattle.session_script.specs.declared.heard.Heard.{Heard}
+use Rattle.session_script.specs.Heard.{Heard}
 use Rattle.client_day.specs.Days.{IsDayOf}
 use Rattle.client_day.specs.inside.Days.{AreToldOf}
 use Rattle.client_day.specs.Events.{AreAnswered, tagged_in}

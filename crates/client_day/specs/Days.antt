@@ -8,7 +8,7 @@ use Rattle.market_run.specs.Running.{HasServed}
 use Rattle.pair_host.specs.Standing.{stands}
 use Rattle.reply_lines.specs.Day.{AreNoticesOf, IsJournalOf}
 use Rattle.reply_lines.specs.Desks.{nothing_yet}
-use Rattle.session_script.specs.declared.heard.Heard.{Heard}
+use Rattle.session_script.specs.Heard.{Heard}
 use Rattle.client_day.specs.Events.{Event, AreAnswered, asked_by, tagged_in}
 use Rattle.client_day.specs.Notes.{notes_of}
 use Rattle.client_day.specs.Script.{client_script, has_asked}

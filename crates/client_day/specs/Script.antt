@@ -8,8 +8,8 @@ use Rattle.client_desk.specs.Lines.{client_line_of}
 use Rattle.client_desk.specs.declared.client.Client.{Client}
 use Rattle.client_desk.specs.declared.line.ClientLine.{ClientLine}
 use Rattle.client_desk.specs.declared.line.ClientLine.TheVariants.{Declares, Of, Plain}
-use Rattle.session_script.specs.declared.heard.Heard.{Heard}
-use Rattle.session_script.specs.declared.heard.Heard.TheVariants as heards
+use Rattle.session_script.specs.Heard.{Heard}
+use Rattle.session_script.specs.Heard.Heard.{Command as HeardCommand, Stray as HeardStray}
 
 -- a command that is asked for, of a client or of none; a client is its place among the clients
 pub record Asked : Type 0 where
@@ -53,8 +53,8 @@ with_line script (Plain said) = with_stray script
 
 -- with a command or a stray more
 abbrev pub with_heard : Header → ClientScript → Heard → ClientScript
-with_heard h script (heards.Command sent) = with_asked script (asked_for None sent.bank sent.command)
-with_heard h script (heards.Stray line) = with_line script (client_line_of h script.clients line)
+with_heard h script (HeardCommand sent) = with_asked script (asked_for None sent.bank sent.command)
+with_heard h script (HeardStray line) = with_line script (client_line_of h script.clients line)
 
 -- what commands and strays say, in the order of their lines, behind what those before them said
 abbrev pub script_behind : Header → ClientScript → List Heard → ClientScript

@@ -9,7 +9,7 @@ use Rattle.client_desk.specs.declared.client.Client.{Client}
 use Rattle.reply_lines.specs.Output.{IsOutput}
 use Rattle.reply_lines.specs.Rows.{row}
 use Rattle.reply_lines.specs.declared.output.Ending.{Ending}
-use Rattle.session_script.specs.declared.heard.Heard.{Heard}
+use Rattle.session_script.specs.Heard.{Heard}
 use Rattle.client_day.specs.Events.{Event, AreAnswered, asked_by, tagged_in}
 use Rattle.client_day.specs.Notes.{note_lines, notes_of}
 use Rattle.client_day.specs.Script.{client_script}

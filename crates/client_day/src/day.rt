@@ -1,4 +1,4 @@
-ghost use Rattle.std.specs.Prelude.{ℕ, ◌≡◌, ◌<◌, ◌≤◌, ◌+◌, ◌^◌, ◌==◌, [], ◌∷◌, ◌++◌, List, true, if◌then◌else◌, None, Some, length, IfOk, OnOk};
+ghost use Rattle.std.specs.Prelude.{ℕ, ◌≡◌, ◌<◌, ◌≤◌, ◌+◌, ◌^◌, ◌==◌, [], ◌∷◌, ◌++◌, List, true, if◌then◌else◌, None, Some, drop, length, take, IfOk, OnOk};
 ghost use Rattle.fx_rules.specs.Lists.{Each};
 ghost use Rattle.fx_rules.specs.Sending.{IsSentOf};
 ghost use Rattle.fx_rules.specs.Session.{Header};
@@ -10,9 +10,10 @@ ghost use Rattle.client_desk.specs.declared.ask.Ask.TheVariants.{Pass};
 ghost use Rattle.client_desk.specs.declared.line.ClientLine.TheVariants.{Declares};
 ghost use Rattle.fx_text.specs.declared.line.Line.{Line as TextLine};
 ghost use Rattle.order_lines.specs.Spelling.{command_text_of};
+ghost use Rattle.fx_text.specs.Lines.{line_seen};
 ghost use Rattle.session_script.specs.Heard.{IsHeardOf};
-ghost use Rattle.session_script.specs.declared.heard.Heard.{Heard as HeardLine};
-ghost use Rattle.session_script.specs.declared.heard.Heard.TheVariants.{Stray as HeardStray};
+ghost use Rattle.session_script.specs.Heard.{Heard as HeardLine};
+ghost use Rattle.session_script.specs.Heard.Heard.{Stray as HeardStray};
 ghost use Rattle.client_day.specs.Days.{IsBehind, IsDayOf};
 ghost use Rattle.client_day.specs.inside.Days.{HasRoom, IsClientOf, TakesAsked};
 ghost use Rattle.client_day.specs.inside.Desks.{HaveNoted};
@@ -26,12 +27,12 @@ use crate::notes::note_entry;
 use client_desk::{Ask, Client, ClientBook, ClientId, ClientLine, client_line_with};
 use fx_amounts::Memory;
 use fx_rules::{Command, Entry, Sent, Session};
-use fx_text::{Line, LineText};
+use fx_text::{LineText, LineView};
 use market_run::Run;
 use order_lines::make_command;
 use pair_host::PairHost;
 use reply_lines::{DayNotices, JournalText, NoticeDesk};
-use session_script::Heard;
+use session_script::{HeardLines, HeardView};
 use std::alloc::Global;
 
 /// A session with clients as it is served: the market with what its output tells, the clients' book, and what each client is told.
@@ -69,32 +70,35 @@ impl ClientDay {
     }
 
     /// Serves what is heard next, in order. After `Memory` the day must not be used any more.
-    pub(crate) fn take_all(&mut self, session: &Session, heard: &[Heard]) -> Result<(), Memory>
+    pub(crate) fn take_all(&mut self, session: &Session, heard: &HeardLines) -> Result<(), Memory>
         requires next { (before : List HeardLine) × IsDayOf session.now before self.old × (length before + length heard.now < 2 ^ 32) }
         requires valid { Each (IsHeardOf session.now) heard.now }
         ensures taken { OnOk result ((before : List HeardLine) → IsDayOf session.now before self.old → IsDayOf session.now (before ++ heard.now) self.new) }
     {
         let mut line = LineText::new();
-        for item in heard {
-            self.take(session, item, &mut line)?;
+        for place in 0..heard.len() {
+            self.take(session, heard, place, &mut line)?;
         }
         Ok(())
     }
 
-    /// Serves a command, or reads a line that is a stray without clients. In `journal` the line of a command is made. After `Memory` the day must not be used any more.
+    /// Serves the command, or reads the line that is a stray without clients, that was heard at a place. In `journal` the line of a
+    /// command is made. After `Memory` the day must not be used any more.
     fn take(
         &mut self,
         session: &Session,
-        heard: &Heard,
+        heard: &HeardLines,
+        place: usize,
         journal: &mut LineText,
     ) -> Result<(), Memory>
+        requires place { place < length heard.now }
         requires next { (before : List HeardLine) × IsDayOf session.now before self.old × (length before + 1 < 2 ^ 32) }
-        requires valid { IsHeardOf session.now heard.now }
-        ensures taken { OnOk result ((before : List HeardLine) → IsDayOf session.now before self.old → IsDayOf session.now (before ++ heard.now ∷ []) self.new) }
+        requires valid { Each (IsHeardOf session.now) (drop place heard.now) }
+        ensures taken { OnOk result ((before : List HeardLine) → IsDayOf session.now (before ++ take place heard.now) self.old → IsDayOf session.now (before ++ take (place + 1) heard.now) self.new) }
     {
-        match heard {
-            Heard::Command(sent) => self.take_command(session, *sent, journal),
-            Heard::Stray(line) => self.take_line(session, line, journal),
+        match heard.at(place) {
+            HeardView::Command(sent) => self.take_command(session, sent, journal),
+            HeardView::Stray(line) => self.take_line(session, &line, journal),
         }
     }
 
@@ -117,11 +121,11 @@ impl ClientDay {
     fn take_line(
         &mut self,
         session: &Session,
-        line: &Line,
+        line: &LineView<'_>,
         journal: &mut LineText,
     ) -> Result<(), Memory>
         requires next { (before : List HeardLine) × IsDayOf session.now before self.old × (length before + 1 < 2 ^ 32) }
-        ensures taken { OnOk result ((before : List HeardLine) → IsDayOf session.now before self.old → IsDayOf session.now (before ++ HeardStray line.now ∷ []) self.new) }
+        ensures taken { OnOk result ((before : List HeardLine) → IsDayOf session.now before self.old → IsDayOf session.now (before ++ HeardStray (line_seen line.now) ∷ []) self.new) }
     {
         match client_line_with(session, self.book.named_clients(), line, journal) {
             ClientLine::Declares(client) => self.declare(client),

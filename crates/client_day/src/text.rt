@@ -7,7 +7,7 @@ ghost use Rattle.fx_rules.specs.Lists.{below};
 ghost use Rattle.client_desk.specs.Clients.{AreClients, Tagged};
 ghost use Rattle.client_desk.specs.Standing.{StandsFor};
 ghost use Rattle.reply_lines.specs.Faults.{WroteOutput};
-ghost use Rattle.session_script.specs.declared.heard.Heard.{Heard as HeardLine};
+ghost use Rattle.session_script.specs.Heard.{Heard as HeardLine};
 ghost use Rattle.client_day.specs.Days.{IsDayOf};
 ghost use Rattle.client_day.specs.inside.Days.{AreToldOf, IsToldOf};
 ghost use Rattle.client_day.specs.Events.{Event as DayEvent};

@@ -1,4 +1,5 @@
 ghost use Rattle.std.specs.Prelude.{◌≡◌, ◌<◌, ◌==◌, ◌&&◌, [], ◌∷◌, ◌++◌, IfSome, length, position, bytes_eq};
+ghost use Rattle.fx_text.specs.Lines.{line_seen};
 ghost use Rattle.fx_rules.specs.Session.{bank_count};
 ghost use Rattle.fx_rules.specs.Step.{IsCommand};
 ghost use Rattle.order_lines.specs.Grammar.{IfSent};
@@ -12,8 +13,8 @@ use crate::clients::Clients;
 use crate::spelled::spelled_client;
 use fx_amounts::{BankId, Units};
 use fx_rules::{Command, Name, Reject, Session};
-use fx_text::{Fields, Line, LineText, fields, number};
-use order_lines::{Spoken, command_by, command_from, make_command};
+use fx_text::{Fields, LineText, LineView, fields, number};
+use order_lines::{Spoken, command_by, command_in, make_command};
 
 /// What a line after `START` says of clients.
 #[derive(Clone, Copy, Debug, PartialEq, Eq)]
@@ -29,11 +30,11 @@ pub enum ClientLine {
 /// What a line after `START` says where these clients were declared. A line whose first field is `CLIENT:` declares a client by
 /// its bank's name, its own name and its limit; where that is wrong, repeated or surplus it is a stray. A line whose first field
 /// is a bank's name, a colon and a declared client's name is that client's command, and its other fields are read as a bank's.
-/// Any other is what `command_from` says. Whether a command came before a declaration is not known here. Takes no memory.
+/// Any other is what `command_in` says. Whether a command came before a declaration is not known here. Takes no memory.
 #[tactic(auto, unfolding(crate::specs::Lines::client_line_of))]
-pub fn client_line(session: &Session, clients: &Clients, line: &Line) -> ClientLine
+pub fn client_line(session: &Session, clients: &Clients, line: &LineView<'_>) -> ClientLine
     requires clients { AreClients session.now clients.now }
-    ensures reads { result ≡ client_line_of session.now clients.now line.now }
+    ensures reads { result ≡ client_line_of session.now clients.now (line_seen line.now) }
 
     // A client that is declared can stand behind the others.
     ensures declares { IfDeclares result (λ client. AreClients session.now (clients.now ++ client ∷ [])) }
@@ -43,9 +44,9 @@ pub fn client_line(session: &Session, clients: &Clients, line: &Line) -> ClientL
     ensures range { IfOf result (λ client command. IsCommand session.now (bank_of_client clients.now client) command) }
     ensures plain { IfPlain result (λ spoken. IfSent spoken (IsCommand session.now)) }
 {
-    match line {
-        Line::Whole(text) => {
-            let fields = fields(text.as_slice());
+    match *line {
+        LineView::Whole(text) => {
+            let fields = fields(text);
             if fields.first() == CLIENT {
                 return declaration(session, clients, &fields);
             }
@@ -54,21 +55,21 @@ pub fn client_line(session: &Session, clients: &Clients, line: &Line) -> ClientL
                     let bank = clients.bank_of(client);
                     ClientLine::Of(client, command_by(session, bank, &fields))
                 }
-                None => ClientLine::Plain(command_from(session, line)),
+                None => ClientLine::Plain(command_in(session, line)),
             }
         }
-        Line::Long(first) => {
-            if first.as_slice() == CLIENT {
+        LineView::Long(first) => {
+            if first == CLIENT {
                 return ClientLine::Plain(Spoken::Stray);
             }
-            match client_named(session, clients, first.as_slice()) {
+            match client_named(session, clients, first) {
                 Some(client) => ClientLine::Of(
                     client,
                     Command::Bad {
                         reason: Reject::Long,
                     },
                 ),
-                None => ClientLine::Plain(command_from(session, line)),
+                None => ClientLine::Plain(command_in(session, line)),
             }
         }
     }
@@ -79,24 +80,19 @@ pub fn client_line(session: &Session, clients: &Clients, line: &Line) -> ClientL
 pub fn client_line_with(
     session: &Session,
     clients: &Clients,
-    line: &Line,
+    line: &LineView<'_>,
     journal: &mut LineText,
 ) -> ClientLine
     requires clients { AreClients session.now clients.now }
-    ensures reads { result ≡ client_line_of session.now clients.now line.now }
+    ensures reads { result ≡ client_line_of session.now clients.now (line_seen line.now) }
     ensures declares { IfDeclares result (λ client. AreClients session.now (clients.now ++ client ∷ [])) }
     ensures client { IfOf result (λ client command. client < length clients.now) }
     ensures range { IfOf result (λ client command. IsCommand session.now (bank_of_client clients.now client) command) }
     ensures plain { IfPlain result (λ spoken. IfSent spoken (IsCommand session.now)) }
     ensures journal { IfOf result (λ client command. journal.new ≡ command_text_of session.now (bank_of_client clients.now client) command ++ 10 ∷ []) }
 {
-    if let Line::Whole(text) = line {
-        if let Some((client, command)) = spelled_client(
-            session,
-            clients,
-            text.as_slice(),
-            journal,
-        ) {
+    if let LineView::Whole(text) = *line {
+        if let Some((client, command)) = spelled_client(session, clients, text, journal) {
             return ClientLine::Of(client, command);
         }
     }

@@ -264,7 +264,7 @@ fn played<M: Market>(
     ensures day { OnOk result (IsClientDay M.stands session.now market.new book.new) }
 {
     let line = Line::Whole(Bytes::from_vec(Vec::from_slice(alloc, line)?));
-    let said = client_line_with(session, clients, &line, &mut LineText::new());
+    let said = client_line_with(session, clients, &line.view(), &mut LineText::new());
     let mut text = Vec::new(alloc);
     answer(session, market, book, &said, &mut text)?;
     push_sums(alloc, book, &mut text)?;

@@ -74,7 +74,7 @@ pub(crate) fn read(
     ensures clients { AreClients session.now clients.new }
 {
     let line = Line::Whole(Bytes::from_vec(Vec::from_slice(alloc, text)?));
-    let what = client_line(session, clients, &line);
+    let what = client_line(session, clients, &line.view());
     if let ClientLine::Declares(client) = &what {
         clients.push(*client)?;
     }

@@ -14,7 +14,7 @@ use Rattle.session_script.specs.Heard.{heard_in}
 use Rattle.session_script.specs.Reading.{ProgressedBehind}
 use Rattle.session_script.specs.Stage.{session_at}
 use Rattle.session_script.specs.declared.ends.TextEnd.{TextEnd}
-use Rattle.session_script.specs.declared.heard.Heard.{Heard}
+use Rattle.session_script.specs.Heard.{Heard}
 use Rattle.session_script.specs.declared.reading.Reading.{Reading}
 use Rattle.session_script.proofs.RoundLaws.{same_session}
 use Rattle.program_calls.specs.Clients.{IsClientsTextOf}

@@ -1,8 +1,8 @@
 -- A line whose first field has a colon is no sender's.
-use Rattle.std.proofs.Common.{ℕ, ◌≡◌, ◌≢◌, ◌+◌, ◌<◌, ◌&&◌, ◌||◌, not, Bool, true, false, cond, List, [], ◌∷◌, ◌++◌, refl, ap, sym, subst, ◌∙◌, arith, eqb, nat_lt, length, take, drop, get_or, filter, position, bytes_eq, codes, Option, None, Some, unwrap_or, option_map, append_assoc, ⊎_elim}
+use Rattle.std.proofs.Common.{ℕ, ◌≡◌, ◌≢◌, ◌+◌, ◌<◌, ◌&&◌, ◌||◌, not, Bool, true, false, cond, List, [], ◌∷◌, ◌++◌, refl, ap, sym, subst, ◌∙◌, arith, eqb, nat_lt, length, take, drop, get_or, filter, position, bytes_eq, codes, Option, None, Some, ⊎_elim}
 use Rattle.std.specs.List.{position_or_len, slice_split, onto_first, list_all}
 use Rattle.std.specs.Cmp.Lexicographic.{bytes_decides}
-use Rattle.std.proofs.lemmas.Bool.{and_parts, and_from, cases_Bool, cond-false, ltb-true, lt-ltb, ne_eqb, eqb-true, eq-eqb, false_from_ne_true, true≢false, false≢true}
+use Rattle.std.proofs.lemmas.Bool.{and_parts, and_from, cases_Bool, cond-false, ltb-true, lt-ltb, ne_eqb, false_from_ne_true, true≢false, false≢true}
 use Rattle.std.proofs.lemmas.List.{length-take, get_or-take}
 use Rattle.std.proofs.lemmas.List.Elements.{recursion_from_All}
 use Rattle.std.proofs.lemmas.List.Splits.{slice_split-cons_no, length-slice_split}
@@ -12,13 +12,13 @@ use Rattle.fx_text.specs.Fields.{fields_of, field_at, first_field, has_bytes, is
 use Rattle.fx_text.specs.Lines.{is_passed_over}
 use Rattle.fx_text.specs.declared.line.Line.TheVariants.{Whole}
 use Rattle.fx_rules.specs.Lists.{Each}
-use Rattle.fx_rules.specs.Names.{is_name, is_name_byte}
-use Rattle.fx_rules.specs.Session.{Header, IsSession, IsSender, bank_count, bank_name}
+use Rattle.fx_rules.specs.Names.{is_name_byte}
+use Rattle.fx_rules.specs.Session.{Header, IsSession, IsSender, bank_name}
 use Rattle.order_lines.specs.Grammar.{command_line, or_bad}
 use Rattle.order_lines.specs.Reading.{command_said}
-use Rattle.order_lines.specs.Words.{host_name, is_operator, sender_name, sender_named}
+use Rattle.order_lines.specs.Words.{is_operator, sender_name, sender_named}
 use Rattle.order_lines.specs.declared.spoken.Spoken.{Spoken}
-use Rattle.order_lines.specs.declared.spoken.Spoken.TheVariants.{Of, Stray, End, Passed}
+use Rattle.order_lines.specs.declared.spoken.Spoken.TheVariants.{Stray, End, Passed}
 use Rattle.order_lines.proofs.SaidLines.{of_sender}
 use Rattle.order_lines.proofs.SenderNames.{bank-name, operator-name, sender-bank, sender_named-ok}
 

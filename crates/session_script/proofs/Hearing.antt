@@ -17,7 +17,7 @@ use Rattle.session_script.specs.Heard.{IsHeardOf, heard_as, heard_then, heard_am
 use Rattle.session_script.specs.Rounds.{IsFront}
 use Rattle.session_script.specs.Script.{has_end, lines_behind, sent_among, spoken_of}
 use Rattle.session_script.specs.Stage.{Past, Hears, StandsAt, Tells, no_past}
-use Rattle.session_script.specs.declared.heard.Heard.{Heard}
+use Rattle.session_script.specs.Heard.{Heard}
 use Rattle.session_script.specs.declared.intake.stage.Stage.TheVariants.{Commanding}
 use Rattle.session_script.specs.declared.script.Script.{Script}
 use Rattle.session_script.specs.inside.Script.{is_started}
@@ -72,10 +72,10 @@ heard_of-behind h lines line is ended =
 -- ---- scripts
 
 -- behind START nothing is heard yet
-pub Hears-start : (lines : List Line) (line : Line) (former : Past) (script : Script) (keeps : Bool) → is_started (read_head lines) ≡ false → former ≡ no_past keeps → script.keeps ≡ keeps → script.heard.items ≡ []
+pub Hears-start : (lines : List Line) (line : Line) (former : Past) (script : Script) (keeps : Bool) → is_started (read_head lines) ≡ false → former ≡ no_past keeps → script.keeps ≡ keeps → script.heard ≡ []
     → Hears (lines ++ line ∷ []) former script
 Hears-start lines line former script keeps before none kept silent =
-    let nothing : former.heard ++ script.heard.items ≡ [] = ap (λ (past : Past). past.heard ++ script.heard.items) none ∙ silent in
+    let nothing : former.heard ++ script.heard ≡ [] = ap (λ (past : Past). past.heard ++ script.heard) none ∙ silent in
     record {
       keeps = kept ∙ sym (ap (λ (past : Past). past.keeps) none);
       heard = λ on. nothing ∙ sym (ap (heard_among script.session) (lines_behind-start (heads.Begun 0) lines line before));
@@ -93,8 +93,8 @@ pub Hears-line : (lines : List Line) (line : Line) (former : Past) (old new : Sc
     → Hears (lines ++ line ∷ []) former new
 Hears-line lines line former old new sent strays is_end tells hears adds =
     let more : List Heard = heard_as line (command_line old.session line) in
-    let grown : former.keeps ≡ true → former.heard ++ new.heard.items ≡ (former.heard ++ old.heard.items) ++ more =
-    λ on. ap (λ (all : List Heard). former.heard ++ all) (adds.heard (hears.keeps ∙ on)) ∙ sym (append_assoc former.heard old.heard.items more) in
+    let grown : former.keeps ≡ true → former.heard ++ new.heard ≡ (former.heard ++ old.heard) ++ more =
+    λ on. ap (λ (all : List Heard). former.heard ++ all) (adds.heard (hears.keeps ∙ on)) ∙ sym (append_assoc former.heard old.heard more) in
     record {
       keeps = adds.keeps ∙ hears.keeps;
       heard = λ on.
@@ -102,9 +102,9 @@ Hears-line lines line former old new sent strays is_end tells hears adds =
           ∙ sym (heard_of-line old.session lines line tells.session (sym tells.end))
           ∙ ap (λ (h : Header). heard_of h (lines ++ line ∷ [])) (sym adds.session);
       valid = λ on.
-          subst (λ (h : Header). Each (IsHeardOf h) (former.heard ++ new.heard.items)) (sym adds.session)
+          subst (λ (h : Header). Each (IsHeardOf h) (former.heard ++ new.heard)) (sym adds.session)
           (subst (Each (IsHeardOf old.session)) (sym (grown on))
-          (Each-append (IsHeardOf old.session) (former.heard ++ old.heard.items) more (hears.valid on) (valid-one old.session line (command_line old.session line) adds.valid)));
+          (Each-append (IsHeardOf old.session) (former.heard ++ old.heard) more (hears.valid on) (valid-one old.session line (command_line old.session line) adds.valid)));
     }
 
 -- a line behind the END line
@@ -116,19 +116,19 @@ Hears-behind lines line former script sent strays tells hears = record {
 }
 
 -- the round is a former one
-pub Hears-round : (lines : List Line) (former : Past) (old new : Script) → new.session ≡ old.session → new.keeps ≡ old.keeps → new.heard.items ≡ [] → Hears lines former old
-    → Hears lines (record { sent = former.sent ++ old.sent.items; keeps = former.keeps; heard = former.heard ++ old.heard.items }) new
+pub Hears-round : (lines : List Line) (former : Past) (old new : Script) → new.session ≡ old.session → new.keeps ≡ old.keeps → new.heard ≡ [] → Hears lines former old
+    → Hears lines (record { sent = former.sent ++ old.sent.items; keeps = former.keeps; heard = former.heard ++ old.heard }) new
 Hears-round lines former old new same kept none hears =
-    let all : (former.heard ++ old.heard.items) ++ new.heard.items ≡ former.heard ++ old.heard.items =
-    ap (λ (rest : List Heard). (former.heard ++ old.heard.items) ++ rest) none ∙ append-nil (former.heard ++ old.heard.items) in
+    let all : (former.heard ++ old.heard) ++ new.heard ≡ former.heard ++ old.heard =
+    ap (λ (rest : List Heard). (former.heard ++ old.heard) ++ rest) none ∙ append-nil (former.heard ++ old.heard) in
     record {
       keeps = kept ∙ hears.keeps;
       heard = λ on. all ∙ hears.heard on ∙ ap (λ (h : Header). heard_of h lines) (sym same);
-      valid = λ on. subst (λ (h : Header). Each (IsHeardOf h) ((former.heard ++ old.heard.items) ++ new.heard.items)) (sym same) (subst (Each (IsHeardOf old.session)) (sym all) (hears.valid on));
+      valid = λ on. subst (λ (h : Header). Each (IsHeardOf h) ((former.heard ++ old.heard) ++ new.heard)) (sym same) (subst (Each (IsHeardOf old.session)) (sym all) (hears.valid on));
     }
 
 -- so it is for the stage
-pub StandsAt-begun : (old new : Script) (ended : Bool) (lines : List Line) (former : Past) → new.session ≡ old.session → new.sent.items ≡ [] → new.strays ≡ old.strays → new.keeps ≡ old.keeps → new.heard.items ≡ []
+pub StandsAt-begun : (old new : Script) (ended : Bool) (lines : List Line) (former : Past) → new.session ≡ old.session → new.sent.items ≡ [] → new.strays ≡ old.strays → new.keeps ≡ old.keeps → new.heard ≡ []
     → StandsAt (Commanding old ended) lines former → StandsAt (Commanding new ended) lines (past_behind former (Commanding old ended))
 StandsAt-begun old new ended lines former same none strays kept silent at =
     let all : former.sent ++ old.sent.items ≡ (former.sent ++ old.sent.items) ++ new.sent.items =

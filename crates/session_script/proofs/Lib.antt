@@ -1,5 +1,6 @@
 pub mod ScriptLaws
 pub mod Hearing
+mod Keeping
 pub mod Taking
 pub mod Journaling
 pub mod Fronts

@@ -19,7 +19,7 @@ use Rattle.session_script.specs.Script.{lines_behind}
 use Rattle.session_script.specs.inside.Script.{is_started}
 use Rattle.session_script.specs.Heard.{IsHeardOf, heard_in, heard_of}
 use Rattle.session_script.specs.Stage.{Past, StandsAt, no_past, session_at, sent_at, strays_at, heard_at}
-use Rattle.session_script.specs.declared.heard.Heard.{Heard}
+use Rattle.session_script.specs.Heard.{Heard}
 use Rattle.session_script.specs.inside.Stage.{is_open, past_behind}
 use Rattle.session_script.specs.Intake.{StandsFor}
 use Rattle.session_script.specs.inside.Intake.{IsSettled, Closed}
@@ -330,7 +330,7 @@ stage_hears (Faulted line reason) h text former at is on = absurd (cc)
 stage_valid : (stage : Stage) (h : SessionHeader) (text : List ℕ) (former : Past) → StandsAt stage (lines_of text) former → session_at stage ≡ Some h → former.keeps ≡ true → Each (IsHeardOf h) (former.heard ++ heard_at stage)
 stage_valid (Heading reader keeps) h text former at is on = absurd (cc)
 stage_valid (Commanding script ended) h text former at is on =
-    subst (λ (g : SessionHeader). Each (IsHeardOf g) (former.heard ++ script.heard.items)) (same_session script.session h is) (at.1.valid on)
+    subst (λ (g : SessionHeader). Each (IsHeardOf g) (former.heard ++ script.heard)) (same_session script.session h is) (at.1.valid on)
 stage_valid (Faulted line reason) h text former at is on = absurd (cc)
 
 pub HasHeard-round : {front : List ℕ} {S : Type 0} {left : S → Option (List ℕ)} {faults : S → ℕ} {a b : S} {former : Past} {begun : List ℕ} (intake : Intake) (end : Option TextEnd) (reading : Reading) (h : SessionHeader) (all : List Sent) (heard : List Heard)

@@ -18,7 +18,7 @@ use Rattle.session_script.specs.declared.ends.EarlyEnd.TheVariants.{ReadFault}
 use Rattle.session_script.specs.declared.ends.TextEnd.TheVariants.{Early}
 use Rattle.session_script.specs.declared.ends.Stop.{Stop}
 use Rattle.session_script.specs.declared.ends.Stop.TheVariants.{Early as EarlyStop}
-use Rattle.session_script.specs.declared.heard.Heard.{Heard}
+use Rattle.session_script.specs.Heard.{Heard}
 use Rattle.session_script.specs.declared.reading.Reading.{Reading}
 
 -- A front ends with a line feed, and says nothing behind START.

@@ -9,7 +9,7 @@ use Rattle.session_script.specs.Script.{spoken_of, up_to_end, has_end, sent_amon
 use Rattle.fx_rules.specs.Sending.{IsSentOf}
 use Rattle.fx_rules.specs.declared.command.Sent.{Sent}
 use Rattle.session_script.specs.Heard.{heard_of, IsHeardOf}
-use Rattle.session_script.specs.declared.heard.Heard.{Heard}
+use Rattle.session_script.specs.Heard.{Heard}
 use Rattle.session_script.specs.declared.script.Script.{Script}
 use Rattle.session_script.specs.declared.intake.stage.Stage.{Stage}
 use Rattle.session_script.specs.declared.intake.stage.Stage.TheVariants.{Heading, Commanding, Faulted}
@@ -55,14 +55,14 @@ strays_at (Faulted line reason) = 0
 -- the commands and the strays of the last round, where strays are kept
 abbrev pub heard_at : Stage → List Heard
 heard_at (Heading reader keeps) = []
-heard_at (Commanding script ended) = script.heard.items
+heard_at (Commanding script ended) = script.heard
 heard_at (Faulted line reason) = []
 
 -- a script keeps strays as the past does, and has heard behind it what there is to hear of these lines
 pub record Hears (lines : List Line) (former : Past) (script : Script) : Type 0 where
   pub keeps : script.keeps ≡ former.keeps
-  pub heard : former.keeps ≡ true → former.heard ++ script.heard.items ≡ heard_of script.session lines
-  pub valid : former.keeps ≡ true → Each (IsHeardOf script.session) (former.heard ++ script.heard.items)
+  pub heard : former.keeps ≡ true → former.heard ++ script.heard ≡ heard_of script.session lines
+  pub valid : former.keeps ≡ true → Each (IsHeardOf script.session) (former.heard ++ script.heard)
 
 -- these lines lead to the stage, where this was given in former rounds
 abbrev pub StandsAt : Stage → List Line → Past → Type 0

@@ -3,3 +3,4 @@ pub mod Reading
 pub mod Rounds
 pub mod Script
 pub mod Stage
+pub mod Kept

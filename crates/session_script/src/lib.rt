@@ -11,7 +11,7 @@ mod reading;
 mod script;
 
 pub use ends::{EarlyEnd, Stop, TextEnd};
-pub use heard::Heard;
+pub use heard::{HeardLines, HeardView};
 pub use intake::{INPUT_LIMIT, ROUND};
 pub use reading::Reading;
 pub use script::Script;

@@ -2,7 +2,7 @@ ghost use Rattle.std.specs.Prelude.{ℕ, [], true, ◌≡◌, ◌<◌, ◌≤◌
 ghost use Rattle.fx_rules.specs.declared.command.Sent.{Sent as SentCommand};
 ghost use Rattle.fx_rules.specs.Session.{Header as SessionHeader};
 ghost use Rattle.session_script.specs.Stage.{session_at};
-ghost use Rattle.session_script.specs.declared.heard.Heard.{Heard as HeardLine};
+ghost use Rattle.session_script.specs.Heard.{Heard as HeardLine};
 
 use crate::ends::{Stop, TextEnd};
 use crate::intake::{Intake, Stage};
@@ -111,7 +111,7 @@ impl Reading {
         ensures session { session_at self.now.intake.stage ≡ Some result.now.session }
         ensures sent { sent_at self.now.intake.stage ≡ result.now.sent.items }
         ensures strays { strays_at self.now.intake.stage ≡ result.now.strays }
-        ensures heard { heard_at self.now.intake.stage ≡ result.now.heard.items }
+        ensures heard { heard_at self.now.intake.stage ≡ result.now.heard }
     {
         match &self.intake.stage {
             Stage::Commanding { script, .. } => script,

@@ -3,11 +3,11 @@ ghost use Rattle.fx_rules.specs.Sending.{IsSentOf};
 ghost use Rattle.fx_text.specs.Lines.{line_seen};
 ghost use Rattle.order_lines.specs.Grammar.{command_line};
 ghost use Rattle.session_script.specs.Journal.{sent_lines};
-ghost use Rattle.session_script.specs.declared.heard.Heard.TheVariants.{Command as HeardCommand, Stray as HeardStray};
+ghost use Rattle.session_script.specs.Heard.Heard.{Command as HeardCommand, Stray as HeardStray};
 
 use crate::aside::spoken_of;
 use crate::front::push_spelled;
-use crate::heard::{Heard, kept_line};
+use crate::heard::HeardLines;
 use fx_amounts::{BankId, Memory};
 use fx_rules::{Command, Sent, Session};
 use fx_text::{LineText, LineView};
@@ -27,7 +27,7 @@ pub struct Script {
     /// Whether strays are kept.
     pub keeps: bool,
     /// Where they are, the commands and the strays of the last round, in the order of their lines.
-    pub heard: Vec<Heard>,
+    pub heard: HeardLines,
 
     pub ghost in_journal: { journal.items ≡ sent_lines session sent.items },
 }
@@ -41,7 +41,7 @@ impl Script {
         ensures sent { result.sent.items ≡ [] }
         ensures strays { result.strays ≡ 0 }
         ensures keeps { result.keeps ≡ keeps }
-        ensures heard { result.heard.items ≡ [] }
+        ensures heard { result.heard ≡ [] }
     {
         Script {
             session,
@@ -49,7 +49,7 @@ impl Script {
             strays: 0,
             journal: Vec::new(alloc),
             keeps,
-            heard: Vec::new(alloc),
+            heard: HeardLines::new(alloc),
         }
     }
 
@@ -59,7 +59,7 @@ impl Script {
         ensures sent { self.new.sent.items ≡ [] }
         ensures strays { self.new.strays ≡ self.old.strays }
         ensures keeps { self.new.keeps ≡ self.old.keeps }
-        ensures heard { self.new.heard.items ≡ [] }
+        ensures heard { self.new.heard ≡ [] }
     {
         self.sent.clear();
         self.journal.clear();
@@ -93,7 +93,7 @@ impl Script {
         ensures session { self.new.session ≡ self.old.session }
         ensures sent { OnOk result (self.new.sent.items ≡ self.old.sent.items ++ sent ∷ []) }
         ensures strays { self.new.strays ≡ self.old.strays }
-        ensures heard { (self.new.keeps ≡ self.old.keeps) × (self.new.heard.items ≡ self.old.heard.items) }
+        ensures heard { (self.new.keeps ≡ self.old.keeps) × (self.new.heard ≡ self.old.heard) }
     {
         let mut line = LineText::new();
         make_command(&self.session, sent.bank, &sent.command, &mut line);
@@ -106,11 +106,10 @@ impl Script {
     /// Hears a command, where strays are kept. After `Err` it is not heard.
     fn hear_command(&mut self, bank: BankId, command: &Command) -> Result<(), Memory>
         ensures as_before { SaysAsBefore self.old self.new }
-        ensures heard { OnOk result (self.old.keeps ≡ true → self.new.heard.items ≡ self.old.heard.items ++ HeardCommand (record { bank = bank; command = command.now }) ∷ []) }
+        ensures heard { OnOk result (self.old.keeps ≡ true → self.new.heard ≡ self.old.heard ++ HeardCommand (record { bank = bank; command = command.now }) ∷ []) }
     {
         if self.keeps {
-            let command = *command;
-            self.heard.push(Heard::Command(Sent { bank, command }))?;
+            self.heard.push_command(bank, command)?;
         }
         Ok(())
     }
@@ -118,11 +117,10 @@ impl Script {
     /// Hears a stray, where strays are kept. After `Err` it is not heard.
     fn hear_stray(&mut self, line: &LineView<'_>) -> Result<(), Memory>
         ensures as_before { SaysAsBefore self.old self.new }
-        ensures heard { OnOk result (self.old.keeps ≡ true → self.new.heard.items ≡ self.old.heard.items ++ HeardStray (line_seen line.now) ∷ []) }
+        ensures heard { OnOk result (self.old.keeps ≡ true → self.new.heard ≡ self.old.heard ++ HeardStray (line_seen line.now) ∷ []) }
     {
         if self.keeps {
-            let kept = kept_line(*self.heard.allocator(), line)?;
-            self.heard.push(Heard::Stray(kept))?;
+            self.heard.push_stray(line)?;
         }
         Ok(())
     }

@@ -6,7 +6,7 @@ use Rattle.fx_rules.specs.Session.{Header}
 use Rattle.session_script.specs.Rounds.{HasHeard, TookPromptlyBehind}
 use Rattle.session_script.specs.Stage.{sent_at, heard_at}
 use Rattle.session_script.specs.declared.ends.TextEnd.{TextEnd}
-use Rattle.session_script.specs.declared.heard.Heard.{Heard}
+use Rattle.session_script.specs.Heard.{Heard}
 use Rattle.session_script.specs.declared.reading.Reading.{Reading}
 use Rattle.client_day.specs.Days.{IsDayOf}
 use Rattle.client_day.specs.Rounds.{IsServed}

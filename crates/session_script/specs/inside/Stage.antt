@@ -37,7 +37,7 @@ pub record Adds (old new : Script) (line : Line) (said : Spoken) (is_end : Bool)
   pub ended : is_end ≡ has_end (said ∷ [])
   pub valid : Each (IsSentOf old.session) (sent_among (said ∷ []))
   pub keeps : new.keeps ≡ old.keeps
-  pub heard : old.keeps ≡ true → new.heard.items ≡ old.heard.items ++ heard_as line said
+  pub heard : old.keeps ≡ true → new.heard ≡ old.heard ++ heard_as line said
 
 -- but for what is heard, a script is as it was
 pub record SaysAsBefore (old new : Script) : Type 0 where

@@ -153,7 +153,7 @@ fn started(alloc: Global, reader: &mut HeadReader, keeps: bool) -> Script
     ensures sent { result.sent.items ≡ [] }
     ensures strays { result.strays ≡ 0 }
     ensures keeps { result.keeps ≡ keeps }
-    ensures heard { result.heard.items ≡ [] }
+    ensures heard { result.heard ≡ [] }
 {
     let reader = mem::replace(reader, HeadReader::new(alloc));
     Script::of(alloc, reader.into_session().unwrap(), keeps)

@@ -1,5 +1,5 @@
 -- Each round serves what it heard.
-use Rattle.std.proofs.Common.{[], rules, ◌≡◌, ◌++◌, None, Some, Result, sym, ◌∙◌}
+use Rattle.std.proofs.Common.{[], rules, ◌≡◌, ◌++◌, None, Some, Result, sym}
 use Rattle.fx_amounts.specs.declared.memory.Memory.{Memory}
 use Rattle.session_script.specs.Stage.{heard_at, sent_at}
 use Rattle.session_script.specs.declared.ends.TextEnd.{TextEnd}
@@ -13,8 +13,8 @@ take_all-requires g c =
     let its = c.requires.serving in
     let so_far = c.loop-reading.invariant.serving its.0 its.1 its.2 in
     record {
-      next = next-day c.script-script.result.now.session c.deref.result.now so_far c.script-script.ensures.session (c.deref.ensures.value ∙ sym c.script-script.ensures.heard);
-      valid = next-valid c.script-script.result.now.session c.deref.result.now so_far c.script-script.ensures.session (c.deref.ensures.value ∙ sym c.script-script.ensures.heard);
+      next = next-day c.script-script.result.now.session c.script-script.result.now.heard so_far c.script-script.ensures.session (sym c.script-script.ensures.heard);
+      valid = next-valid c.script-script.result.now.session c.script-script.result.now.heard so_far c.script-script.ensures.session (sym c.script-script.ensures.heard);
     }
 
 pub returns-in_err-take_all : goal.returns-in_err-take_all
@@ -35,7 +35,7 @@ returns-in-Some g c =
             sent = so_far.sent ++ sent_at c.loop-reading.reading.intake.stage;
             heard = so_far.heard ++ heard_at c.loop-reading.reading.intake.stage;
             has_heard = so_far.has_heard;
-            served = round-served c.script-script.result.now.session c.deref.result.now c.take_all.new.self so_far c.script-script.ensures.session (c.deref.ensures.value ∙ sym c.script-script.ensures.heard) c.in_ok-take_all.ensures.taken;
+            served = round-served c.script-script.result.now.session c.script-script.result.now.heard c.take_all.new.self so_far c.script-script.ensures.session (sym c.script-script.ensures.heard) c.in_ok-take_all.ensures.taken;
           };
     }
 
@@ -47,7 +47,7 @@ loop-reading-preserved g c = record {
         sent = so_far.sent ++ sent_at c.loop-reading.reading.intake.stage;
         heard = so_far.heard ++ heard_at c.loop-reading.reading.intake.stage;
         has_heard = c.in_ok-read_round.ensures.heard [] before h (so_far.sent ++ sent_at c.loop-reading.reading.intake.stage) (so_far.heard ++ heard_at c.loop-reading.reading.intake.stage) so_far.has_heard;
-        served = round-served c.script-script.result.now.session c.deref.result.now c.take_all.new.self so_far c.script-script.ensures.session (c.deref.ensures.value ∙ sym c.script-script.ensures.heard) c.in_ok-take_all.ensures.taken;
+        served = round-served c.script-script.result.now.session c.script-script.result.now.heard c.take_all.new.self so_far c.script-script.ensures.session (sym c.script-script.ensures.heard) c.in_ok-take_all.ensures.taken;
       };
 }
 

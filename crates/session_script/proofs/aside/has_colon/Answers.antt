@@ -1,4 +1,4 @@
-use Rattle.std.proofs.Common.{◌≡◌, ◌∙◌, ap, sym, not, get_or}
+use Rattle.std.proofs.Common.{◌∙◌, ap, sym, not, get_or}
 use Rattle.std.proofs.lemmas.Bool.{eq-eqb, false≢true}
 use Rattle.session_script.proofs.Colons.{stray-colon}
 use Rattle.session_script.proofs.aside.has_colon.Goals as goal

@@ -1,6 +1,7 @@
 -- A line declares a client, or is a client's command, or is a stray still.
 use Rattle.std.proofs.Common.{◌≡◌, ◌<◌, ◌++◌, ◌∷◌, [], List, Some, ap, sym, subst, ◌∙◌, arith, length}
 use Rattle.fx_rules.specs.Step.{IsCommand}
+use Rattle.fx_text.specs.Lines.{line_seen}
 use Rattle.order_lines.specs.Spelling.{command_text_of}
 use Rattle.client_desk.specs.Clients.{AreClients, bank_of_client}
 use Rattle.client_desk.specs.Lines.{IfDeclares, IfOf, client_line_of}
@@ -8,7 +9,7 @@ use Rattle.client_desk.specs.declared.client.Client.{Client}
 use Rattle.client_desk.specs.declared.line.ClientLine.{ClientLine}
 use Rattle.client_desk.specs.declared.line.ClientLine.TheVariants.{Declares, Of, Plain}
 use Rattle.reply_lines.proofs.Outputs.{on_ok}
-use Rattle.session_script.specs.declared.heard.Heard.TheVariants.{Stray}
+use Rattle.session_script.specs.Heard.Heard.{Stray}
 use Rattle.client_day.specs.Script.{asked_for}
 use Rattle.client_day.proofs.Days.{day-asked, day-stray, events-few, of-says, plain-stray, strays-few}
 use Rattle.client_day.proofs.day.ClientDay.take_line.Goals as goal
@@ -53,25 +54,25 @@ returns-in-Declares c =
     let are : AreClients c.args.session.now (c.args.self.now.book.clients ++ c.in-Declares.client ∷ []) =
     subst (λ (clients : List Client). AreClients c.args.session.now (clients ++ c.in-Declares.client ∷ [])) c.named_clients.ensures.value
     (subst (λ (says : ClientLine). IfDeclares says (λ client. AreClients c.args.session.now (c.named_clients.result.now ++ client ∷ []))) c.in-Declares.is c.client_line_with.ensures.declares) in
-    let says : client_line_of c.args.session.now c.args.self.now.book.clients c.args.line.now ≡ Declares c.in-Declares.client =
-    ap (λ (clients : List Client). client_line_of c.args.session.now clients c.args.line.now) (sym c.named_clients.ensures.value) ∙ sym c.client_line_with.ensures.reads ∙ c.in-Declares.is in
-    record { taken = on_ok c.declare.result (λ taken before is. taken c.args.session.now before c.args.line.now is are says) c.declare.ensures.taken }
+    let says : client_line_of c.args.session.now c.args.self.now.book.clients (line_seen c.args.line.now) ≡ Declares c.in-Declares.client =
+    ap (λ (clients : List Client). client_line_of c.args.session.now clients (line_seen c.args.line.now)) (sym c.named_clients.ensures.value) ∙ sym c.client_line_with.ensures.reads ∙ c.in-Declares.is in
+    record { taken = on_ok c.declare.result (λ taken before is. taken c.args.session.now before (line_seen c.args.line.now) is are says) c.declare.ensures.taken }
 
 pub returns-in-Of : goal.returns-in-Of
 returns-in-Of c =
-    let says : client_line_of c.args.session.now c.args.self.now.book.clients c.args.line.now ≡ Of c.in-Of.client c.in-Of.command =
-    ap (λ (clients : List Client). client_line_of c.args.session.now clients c.args.line.now) (sym c.named_clients.ensures.value) ∙ sym c.client_line_with.ensures.reads ∙ c.in-Of.is in
+    let says : client_line_of c.args.session.now c.args.self.now.book.clients (line_seen c.args.line.now) ≡ Of c.in-Of.client c.in-Of.command =
+    ap (λ (clients : List Client). client_line_of c.args.session.now clients (line_seen c.args.line.now)) (sym c.named_clients.ensures.value) ∙ sym c.client_line_with.ensures.reads ∙ c.in-Of.is in
     record {
       taken = on_ok c.ask.result (λ takes before is.
-          day-asked c.args.session.now before (Stray c.args.line.now) c.args.self.now c.ask.new.self (asked_for (Some c.in-Of.client) (bank_of_client c.args.self.now.book.clients c.in-Of.client) c.in-Of.command) is takes
-          (of-says c.args.session.now before c.args.line.now c.args.self.now c.in-Of.client c.in-Of.command is says))
+          day-asked c.args.session.now before (Stray (line_seen c.args.line.now)) c.args.self.now c.ask.new.self (asked_for (Some c.in-Of.client) (bank_of_client c.args.self.now.book.clients c.in-Of.client) c.in-Of.command) is takes
+          (of-says c.args.session.now before (line_seen c.args.line.now) c.args.self.now c.in-Of.client c.in-Of.command is says))
           c.ask.ensures.taken;
     }
 
 pub returns-in-Plain : goal.returns-in-Plain
 returns-in-Plain c =
-    let says : client_line_of c.args.session.now c.args.self.now.book.clients c.args.line.now ≡ Plain c.in-Plain.field-0 =
-    ap (λ (clients : List Client). client_line_of c.args.session.now clients c.args.line.now) (sym c.named_clients.ensures.value) ∙ sym c.client_line_with.ensures.reads ∙ c.in-Plain.is in
+    let says : client_line_of c.args.session.now c.args.self.now.book.clients (line_seen c.args.line.now) ≡ Plain c.in-Plain.field-0 =
+    ap (λ (clients : List Client). client_line_of c.args.session.now clients (line_seen c.args.line.now)) (sym c.named_clients.ensures.value) ∙ sym c.client_line_with.ensures.reads ∙ c.in-Plain.is in
     record {
-      taken = λ before is. day-stray c.args.session.now before c.args.line.now c.args.self.now is (plain-stray c.args.session.now before c.args.line.now c.args.self.now c.in-Plain.field-0 is says);
+      taken = λ before is. day-stray c.args.session.now before (line_seen c.args.line.now) c.args.self.now is (plain-stray c.args.session.now before (line_seen c.args.line.now) c.args.self.now c.in-Plain.field-0 is says);
     }

@@ -25,7 +25,7 @@ tells h script valid same none no_strays =
     (Tells-start ends.lines ends.last (heads.Drafting ends.drafted ends.draft) (read_head (ends.lines ++ ends.last ∷ [])) script.session script.sent.items script.strays
     (sym ends.before) refl refl read none no_strays)
 
-hears : (h : Header) (script : Script) → IsSession h → script.keeps ≡ false → script.heard.items ≡ [] → Hears (lines_of (head_text_of h)) (no_past false) script
+hears : (h : Header) (script : Script) → IsSession h → script.keeps ≡ false → script.heard ≡ [] → Hears (lines_of (head_text_of h)) (no_past false) script
 hears h script valid kept silent =
     let ends = head_text-ends h valid in
     subst (λ (lines : List Line). Hears lines (no_past false) script) (sym ends.all_are) (Hears-start ends.lines ends.last (no_past false) script false (ap is_started ends.before) refl kept silent)
