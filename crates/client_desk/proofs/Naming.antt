@@ -5,7 +5,7 @@ use Rattle.std.specs.List.{position_or_len, list_all}
 use Rattle.std.specs.Cmp.Lexicographic.{bytes_decides}
 use Rattle.std.specs.Cmp.Derive.{both_true}
 use Rattle.std.proofs.lemmas.Bool.{cases_Bool, cases_lt, and_parts, cond-true, ltb-true, ltb-false, eqb-true, eq-eqb, false_from_ne_true, both_ways, true≢false}
-use Rattle.std.proofs.lemmas.List.{get_or-take, length-take, get_or-map}
+use Rattle.std.proofs.lemmas.List.{get_or-take, length-take}
 use Rattle.std.proofs.lemmas.List.Sums.{fails_before_first, passes_at_first, split_at_first}
 use Rattle.std.proofs.lemmas.List.Quantifiers.{position-Some}
 use Rattle.std.proofs.lemmas.List.Elements.{recursion_from_All}
@@ -172,10 +172,6 @@ new-client h clients client are within new =
       banks = Each-append (λ (other : Client). other.bank < bank_count h) clients (client ∷ []) are.banks (within, tt);
       differ = EachPair-push Differ clients client are.differ (new_differs clients client (none_is (position (is_same client) clients) parts.1));
     }
-
--- the bank of a client that stands at a place
-pub client-bank : (clients : List Client) (c : ℕ) (client : Client) → c < length clients → client ≡ get_or clients c client → bank_of_client clients c ≡ client.bank
-client-bank clients c client within is = get_or-map (λ (x : Client). x.bank) clients c client 0 within ∙ ap (λ (x : Client). x.bank) (sym is)
 
 pub client-within : (h : Header) (clients : List Client) (c : ℕ) → Each (λ client. client.bank < bank_count h) clients → c < length clients → bank_of_client clients c < bank_count h
 client-within h [] c banks within = absurd (omega arith)

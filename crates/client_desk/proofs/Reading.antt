@@ -16,8 +16,8 @@ use Rattle.fx_rules.proofs.Planning.{orders_in-here, orders_in-there}
 use Rattle.fx_rules.proofs.Soundness.{legal-sound}
 use Rattle.client_desk.specs.declared.client.Client.{Client}
 use Rattle.client_desk.specs.declared.rows.Slot.{Slot}
-use Rattle.client_desk.specs.Clients.{Tagged, entries_of, state_of, owner_in, is_client, when, bank_of_client, free_of, rests_for}
-use Rattle.client_desk.specs.Standing.{free_in, Sums, Row, Book, no_sums, no_slot, no_row, account_of, row_of, left_in, left_of, SlotStands, RowStands, StandsFor}
+use Rattle.client_desk.specs.Clients.{Tagged, entries_of, state_of, owner_in, is_client, when, bank_of_client, rests_for}
+use Rattle.client_desk.specs.Standing.{Sums, Row, Book, no_sums, no_slot, no_row, account_of, row_of, left_in, left_of, SlotStands, RowStands, StandsFor}
 use Rattle.client_desk.specs.inside.Books.{AreAllEmpty, empty_row, slot_numbered, slot_rests, some_rests, rests_in, owner_at}
 use Rattle.client_desk.proofs.Owners.{IsKnown, owner-none}
 
@@ -151,10 +151,6 @@ owner-is h tagged book bank number stands =
           ∙ none-numbered number
           ∙ sym (owner-none h tagged bank number stands.tagged_is.legal (λ known. omega (arith, known.sender)))
     ]
-
--- what a client has free
-pub free-is : (h : Header) (tagged : List Tagged) (book : Book) (c : ℕ) → StandsFor h tagged book → c < length book.clients → free_in book c ≡ free_of h book.clients tagged c
-free-is h tagged book c stands within = omega (arith, stands.stands.filled c within, stands.stands.reserved c within)
 
 -- ---- a book that opens
 

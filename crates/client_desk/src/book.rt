@@ -1,5 +1,5 @@
-ghost use Rattle.std.specs.Prelude.{ℕ, ◌≡◌, ◌<◌, ◌*◌, [], ◌∷◌, ◌++◌, List, length, map, replicate, slice_index, nat_lt, if◌then◌else◌, IfOk, OnOk, OnErr};
-ghost use Rattle.fx_rules.specs.Session.{Header, IsSession, sender_places};
+ghost use Rattle.std.specs.Prelude.{◌≡◌, ◌<◌, ◌*◌, [], ◌∷◌, ◌++◌, List, length, map, replicate, slice_index, nat_lt, if◌then◌else◌, IfOk, OnOk, OnErr};
+ghost use Rattle.fx_rules.specs.Session.{Header, sender_places};
 ghost use Rattle.client_desk.specs.declared.ask.Ask.TheVariants.{Pass, Short, Barred};
 ghost use Rattle.client_desk.specs.Clients.{Tagged, AreClients, ask_of, filled_by, reserved_by, free_of, owner_in};
 ghost use Rattle.client_desk.specs.Standing.{StandsFor, NamesPair, account_of, free_in, no_sums};

@@ -4,7 +4,6 @@ ghost use Rattle.std.specs.Int.{w64, to_le_bytes};
 ghost use Rattle.std.specs.Hash as fed;
 ghost use Rattle.std.specs.Cmp.Rules.{hashing};
 ghost use Rattle.std.proofs.Common.{rules};
-ghost use Rattle.fx_rules.specs.Names.{padded};
 ghost use Rattle.client_desk.specs.inside.Keys.{IsKeyOf};
 
 use fx_amounts::BankId;

@@ -1,4 +1,4 @@
-ghost use Rattle.std.specs.Prelude.{◌≡◌, ◌<◌, ◌==◌, ◌&&◌, [], ◌∷◌, ◌++◌, IfSome, length, position, bytes_eq};
+ghost use Rattle.std.specs.Prelude.{◌≡◌, ◌<◌, ◌==◌, ◌&&◌, [], ◌∷◌, ◌++◌, IfSome, length, position};
 ghost use Rattle.fx_text.specs.Lines.{line_seen};
 ghost use Rattle.fx_rules.specs.Session.{bank_count};
 ghost use Rattle.fx_rules.specs.Step.{IsCommand};
@@ -11,7 +11,7 @@ ghost use Rattle.client_desk.specs.Lines.{IfDeclares, IfOf, IfPlain, client_line
 use crate::client::{Client, ClientId};
 use crate::clients::Clients;
 use crate::spelled::spelled_client;
-use fx_amounts::{BankId, Units};
+use fx_amounts::Units;
 use fx_rules::{Command, Name, Reject, Session};
 use fx_text::{Fields, LineText, LineView, fields, number};
 use order_lines::{Spoken, command_by, command_in, make_command};

@@ -1,5 +1,4 @@
-ghost use Rattle.std.specs.Prelude.{ℕ, ◌≡◌, ◌<◌, slice_index_or, IfOk, OnOk, length, position, bytes_eq};
-ghost use Rattle.fx_rules.specs.Session.{pair_count};
+ghost use Rattle.std.specs.Prelude.{◌≡◌, ◌<◌, slice_index_or, IfOk, OnOk, length, position, bytes_eq};
 ghost use Rattle.day_report.specs.Sums.{AreCurrencies, StandsAt};
 ghost use Rattle.day_report.specs.inside.Parts.{with_code};
 

@@ -1,4 +1,4 @@
-ghost use Rattle.std.specs.Prelude.{ℕ, ◌≡◌, ◌≤◌, ◌<◌, [], ◌∷◌, ◌++◌, IfOk, OnOk};
+ghost use Rattle.std.specs.Prelude.{◌≡◌, ◌≤◌, ◌<◌, [], ◌∷◌, ◌++◌, IfOk, OnOk};
 ghost use Rattle.day_report.specs.inside.Trades.{CanAdd, Adds};
 ghost use Rattle.day_report.specs.Sums.{AreFlows};
 ghost use Rattle.day_report.specs.inside.Lists.{HaveNets, nets_at, nets_in};

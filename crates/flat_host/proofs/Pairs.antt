@@ -1,6 +1,6 @@
 -- The orders of one pair, when orders are lowered.
-use Rattle.std.proofs.Common.{ℕ, ◌≡◌, ◌≢◌, ◌-◌, ◌<◌, ltb, eqb, Bool, true, false, ◌&&◌, cond, List, [], ◌∷◌, ◌++◌, inl, inr, refl, ap, sym, subst, ◌∙◌, map}
-use Rattle.std.proofs.lemmas.Bool.{cases_Bool, cond_both, cond-true, cond-false, and_parts, eqb-true, eq-eqb, false_from_ne_true}
+use Rattle.std.proofs.Common.{ℕ, ◌≡◌, ◌-◌, ◌<◌, ltb, eqb, Bool, true, false, ◌&&◌, cond, List, [], ◌∷◌, inl, inr, refl, ap, sym, subst, ◌∙◌, map}
+use Rattle.std.proofs.lemmas.Bool.{cases_Bool, cond-true, cond-false, and_parts, eqb-true, eq-eqb}
 use Rattle.fx_rules.specs.declared.orders.ActiveOrder.{ActiveOrder}
 use Rattle.fx_rules.specs.declared.orders.Resting.{Resting}
 use Rattle.fx_rules.specs.declared.orders.Fill.{Fill}
@@ -44,11 +44,6 @@ cut_here pair a lots rest is =
       | inr gone ↦ ap (in_pair pair) (cond-false (ltb lots a.order.left) (with_left a (a.order.left - lots) ∷ rest) rest gone)
           ∙ sym (cond-false (ltb lots a.order.left) (with_left a (a.order.left - lots) ∷ in_pair pair rest) (in_pair pair rest) gone)
     ]
-
-cut_there : (pair : ℕ) (a : ActiveOrder) (lots : ℕ) (rest : List ActiveOrder) → eqb a.pair pair ≡ false → in_pair pair (cond (ltb lots a.order.left) (with_left a (a.order.left - lots) ∷ rest) rest) ≡ in_pair pair rest
-cut_there pair a lots rest is_not =
-    cond_both (ltb lots a.order.left) (with_left a (a.order.left - lots) ∷ rest) rest (λ (os : List ActiveOrder). in_pair pair os ≡ in_pair pair rest)
-    (λ _. in_pair-there pair (with_left a (a.order.left - lots)) rest is_not) (λ _. refl)
 
 -- an order of the pair is lowered among the orders of the pair
 pub in_pair-lowered : (pair bank number lots : ℕ) (orders : List ActiveOrder) → Each (OfPair pair bank number) orders → in_pair pair (lowered bank number lots orders) ≡ lowered bank number lots (in_pair pair orders)

@@ -1,13 +1,11 @@
 -- What the host answers and makes of a command, in each state that it stands for.
-use Rattle.std.proofs.Common.{ℕ, ◌≡◌, ◌≢◌, ◌+◌, ◌-◌, ◌≤◌, ◌<◌, ◌^◌, min, max, true, ◌&&◌, eqb, ltb, cond, List, [], ◌∷◌, ◌++◌, inl, inr, refl, ap, sym, subst, ◌∙◌, arith, length, get_or, find, Option, Some, None}
+use Rattle.std.proofs.Common.{ℕ, ◌≡◌, ◌≢◌, ◌+◌, ◌-◌, ◌≤◌, ◌<◌, ◌^◌, min, max, true, ◌&&◌, eqb, ltb, cond, List, [], ◌∷◌, ◌++◌, inl, inr, refl, ap, sym, subst, ◌∙◌, arith, length, get_or, find, Some}
 use Rattle.std.proofs.Math.ListN.{set, length-set}
 use Rattle.std.proofs.lemmas.Bool.{cases_Bool, cond-true, cond-false, cond_both, and_from, or_left, or_right, eq-eqb, both_ways}
-use Rattle.std.specs.Prelude.{nat_lt}
 use Rattle.std.specs.List.{filter}
 use Rattle.fx_amounts.specs.declared.side.Side.{Side}
 use Rattle.fx_amounts.specs.declared.side.Side.TheVariants.{Buy, Sell}
 use Rattle.fx_rules.specs.declared.orders.ActiveOrder.{ActiveOrder}
-use Rattle.fx_rules.specs.declared.orders.Resting.{Resting}
 use Rattle.fx_rules.specs.declared.orders.Fill.{Fill}
 use Rattle.fx_rules.specs.declared.orders.Level.{Level}
 use Rattle.fx_rules.specs.declared.command.Command.{Command}
@@ -16,13 +14,13 @@ use Rattle.fx_rules.specs.declared.command.Reject.{Reject}
 use Rattle.fx_rules.specs.declared.command.Life.{Life}
 use Rattle.fx_rules.specs.declared.command.Life.TheVariants.{Day, Ioc, Fok}
 use Rattle.fx_rules.specs.declared.outcome.Outcome.{Outcome}
-use Rattle.fx_rules.specs.declared.outcome.Outcome.TheVariants.{Ordered, Killed, Reduced, NotLess, Pulled, LineSet, TotalSet, Settled, Shown, Depth, Rejected}
+use Rattle.fx_rules.specs.declared.outcome.Outcome.TheVariants.{Ordered, Killed, Pulled, LineSet, TotalSet, Settled, Shown, Depth, Rejected}
 use Rattle.fx_rules.specs.Lists.{total}
 use Rattle.fx_rules.specs.Session.{Header, IsSession, bank_count, pair_count}
 use Rattle.fx_rules.specs.State.{State, Settlement, orders_in, line, used, cost_between, settles, settled_between}
 use Rattle.fx_rules.specs.Sweep.{Taker, Swept, is_order, at_rest, filled, filled_all, taker_of}
-use Rattle.fx_rules.specs.Raise.{limit_set, limited, total_set, totalled, given_back, settled, order_of, Raised}
-use Rattle.fx_rules.specs.Step.{IsCommand, IsOrdered, IsOutcome, cancel_answer, reduce_answer, rested, changed, after, fills_of, without_order, without_orders, reduced}
+use Rattle.fx_rules.specs.Raise.{limit_set, limited, total_set, totalled, given_back, settled, Raised}
+use Rattle.fx_rules.specs.Step.{IsCommand, IsOrdered, IsOutcome, cancel_answer, reduce_answer, rested, changed, fills_of}
 use Rattle.fx_rules.specs.Sound.{IsSound}
 use Rattle.fx_rules.proofs.SweepSound.{weight_of-least, counts-filled_all}
 use Rattle.fx_rules.proofs.RaiseSound.{limited-sound, totalled-sound, settled-sound}
@@ -30,8 +28,8 @@ use Rattle.fx_rules.proofs.Credit.{settles_cases, settled_between-append, settle
 use Rattle.fx_rules.proofs.Falling.{Terms, terms}
 use Rattle.flat_host.specs.FlatState.{FlatCredit, FlatState, StandsFor, use_place, limit_in, use_in, spent_in, line_in}
 use Rattle.flat_host.specs.inside.FlatState.{IsCredit, TablesFor}
-use Rattle.flat_host.specs.Parts.{PlannedBy, both_lowered, credit_after, rests_of, is_done}
-use Rattle.flat_host.specs.inside.Parts.{PlannedIn, OrderedIn, taker_from, with_rest, order_carried, counted_in, cancelled_in, reduced_in, shown_in, limited_in, totalled_in, settled_in}
+use Rattle.flat_host.specs.Parts.{PlannedBy, both_lowered, credit_after, rests_of}
+use Rattle.flat_host.specs.inside.Parts.{PlannedIn, OrderedIn, taker_from, with_rest, order_carried, shown_in, limited_in, totalled_in, settled_in}
 use Rattle.fx_rules.specs.inside.Orders.{in_pair, orders_by}
 use Rattle.flat_host.specs.Turns.{RaisedIn}
 use Rattle.flat_host.specs.inside.Turns.{MadeIn, LineSetIn, TotalSetIn, SettledIn, raised_in, line_raised_in, total_raised_in, settled_raised_in}
@@ -160,53 +158,15 @@ order-changes old new bank side pair price lots life command t outcome full comm
 
 -- Cancels, reductions and pulls.
 
-stands-orders : (h : Header) (S : State) (l : FlatState) (f : List ActiveOrder → List ActiveOrder) → StandsFor h S l → StandsFor h (record S { orders = f S.orders }) (record l { orders = f l.orders })
-stands-orders h S l f stands = record {
-  banks = stands.banks;
-  orders = ap f stands.orders;
-  counts = stands.counts;
-  weights = stands.weights;
-  limits = stands.limits;
-  uses = stands.uses;
-  totals = stands.totals;
-}
-
 pub cancel-answers : (l : FlatState) (bank pair number : ℕ) (command : Command) (outcome : Outcome) → command ≡ Cancel pair number → outcome ≡ cancel_answer (find (λ o. is_order bank number o) (orders_in pair l.orders)) → AnswersEach l bank command outcome
 cancel-answers l bank pair number command outcome command_is is h S session sound stands =
     subst (λ (c : Command). IsOutcome h S bank c outcome) (sym command_is)
     (is ∙ ap (λ (os : List ActiveOrder). cancel_answer (find (λ o. is_order bank number o) (orders_in pair os))) stands.orders)
 
-cancel-changed : (h : Header) (S : State) (old : FlatState) (bank pair number : ℕ) (found : Option Resting) → StandsFor h S old → StandsFor h (changed S bank (Cancel pair number) (cancel_answer found)) (cancelled_in old bank number (is_done (cancel_answer found)))
-cancel-changed h S old bank pair number None stands = stands
-cancel-changed h S old bank pair number (Some order) stands = stands-orders h S old (without_order bank number) stands
-
-pub cancel-changes : (old new : FlatState) (bank pair number : ℕ) (command : Command) (outcome : Outcome) → command ≡ Cancel pair number → new ≡ cancelled_in old bank number (is_done outcome) → ChangesEach old new bank command outcome
-cancel-changes old new bank pair number command outcome command_is made h S session sound stands is =
-    let answer : outcome ≡ cancel_answer (order_of S pair bank number) = subst (λ (c : Command). IsOutcome h S bank c outcome) command_is is in
-    subst (λ (c : Command). StandsFor h (changed S bank c outcome) new) (sym command_is)
-    (subst (StandsFor h (changed S bank (Cancel pair number) outcome)) (sym made)
-    (subst (λ (o : Outcome). StandsFor h (changed S bank (Cancel pair number) o) (cancelled_in old bank number (is_done o))) (sym answer)
-    (cancel-changed h S old bank pair number (order_of S pair bank number) stands)))
-
 pub reduce-answers : (l : FlatState) (bank pair number lots : ℕ) (command : Command) (outcome : Outcome) → command ≡ Reduce pair number lots → outcome ≡ reduce_answer lots (find (λ o. is_order bank number o) (orders_in pair l.orders)) → AnswersEach l bank command outcome
 reduce-answers l bank pair number lots command outcome command_is is h S session sound stands =
     subst (λ (c : Command). IsOutcome h S bank c outcome) (sym command_is)
     (is ∙ ap (λ (os : List ActiveOrder). reduce_answer lots (find (λ o. is_order bank number o) (orders_in pair os))) stands.orders)
-
-reduce-changed : (h : Header) (S : State) (old : FlatState) (bank pair number lots : ℕ) (found : Option Resting) → StandsFor h S old → StandsFor h (changed S bank (Reduce pair number lots) (reduce_answer lots found)) (reduced_in old bank number lots (is_done (reduce_answer lots found)))
-reduce-changed h S old bank pair number lots None stands = stands
-reduce-changed h S old bank pair number lots (Some order) stands =
-    cond_both (nat_lt lots order.left) (Reduced lots) (NotLess order.left)
-    (λ (o : Outcome). StandsFor h (changed S bank (Reduce pair number lots) o) (reduced_in old bank number lots (is_done o)))
-    (λ _. stands-orders h S old (reduced bank number lots) stands) (λ _. stands)
-
-pub reduce-changes : (old new : FlatState) (bank pair number lots : ℕ) (command : Command) (outcome : Outcome) → command ≡ Reduce pair number lots → new ≡ reduced_in old bank number lots (is_done outcome) → ChangesEach old new bank command outcome
-reduce-changes old new bank pair number lots command outcome command_is made h S session sound stands is =
-    let answer : outcome ≡ reduce_answer lots (order_of S pair bank number) = subst (λ (c : Command). IsOutcome h S bank c outcome) command_is is in
-    subst (λ (c : Command). StandsFor h (changed S bank c outcome) new) (sym command_is)
-    (subst (StandsFor h (changed S bank (Reduce pair number lots) outcome)) (sym made)
-    (subst (λ (o : Outcome). StandsFor h (changed S bank (Reduce pair number lots) o) (reduced_in old bank number lots (is_done o))) (sym answer)
-    (reduce-changed h S old bank pair number lots (order_of S pair bank number) stands)))
 
 least_of : (n most : ℕ) → n ≤ most → min n most ≡ n
 least_of n most within = omega arith
@@ -219,14 +179,6 @@ pull-answers l bank pair count command command_is below is h S session sound sta
     (ap Pulled (is
     ∙ ap (λ (os : List ActiveOrder). min (length (filter (λ order. eqb order.bank bank) (orders_in pair os))) (2 ^ 32 - 1)) stands.orders
     ∙ least_of (length (orders_by S pair bank)) (2 ^ 32 - 1) most))
-
-pub pull-changes : (old new : FlatState) (bank pair : ℕ) (command : Command) (outcome : Outcome) → command ≡ Pull pair → new ≡ record old { orders = without_orders pair bank old.orders } → ChangesEach old new bank command outcome
-pull-changes old new bank pair command outcome command_is made h S session sound stands is =
-    let answer : outcome ≡ Pulled (length (orders_by S pair bank)) = subst (λ (c : Command). IsOutcome h S bank c outcome) command_is is in
-    subst (λ (c : Command). StandsFor h (changed S bank c outcome) new) (sym command_is)
-    (subst (StandsFor h (changed S bank (Pull pair) outcome)) (sym made)
-    (subst (λ (o : Outcome). StandsFor h (changed S bank (Pull pair) o) (record old { orders = without_orders pair bank old.orders })) (sym answer)
-    (stands-orders h S old (without_orders pair bank) stands)))
 
 -- Credit changes.
 
@@ -472,32 +424,7 @@ pub bad-answers : (l : FlatState) (bank : ℕ) (reason : Reject) (command : Comm
 bad-answers l bank reason command command_is h S session sound stands =
     subst (λ (c : Command). IsOutcome h S bank c (Rejected reason)) (sym command_is) refl
 
-pub show-changes : (l : FlatState) (bank other : ℕ) (command : Command) (outcome : Outcome) → command ≡ Show other → ChangesEach l l bank command outcome
-show-changes l bank other command outcome command_is h S session sound stands is =
-    subst (λ (c : Command). StandsFor h (changed S bank c outcome) l) (sym command_is) stands
-
-pub book-changes : (l : FlatState) (bank pair : ℕ) (command : Command) (outcome : Outcome) → command ≡ Book pair → ChangesEach l l bank command outcome
-book-changes l bank pair command outcome command_is h S session sound stands is =
-    subst (λ (c : Command). StandsFor h (changed S bank c outcome) l) (sym command_is) stands
-
-pub bad-changes : (l : FlatState) (bank : ℕ) (reason : Reject) (command : Command) (outcome : Outcome) → command ≡ Bad reason → ChangesEach l l bank command outcome
-bad-changes l bank reason command outcome command_is h S session sound stands is =
-    subst (λ (c : Command). StandsFor h (changed S bank c outcome) l) (sym command_is) stands
-
 -- The count, and both together.
-
-pub follows-counted : (old mid new : FlatState) (bank : ℕ) (command : Command) (outcome : Outcome) → ChangesEach old mid bank command outcome → new ≡ counted_in mid bank → FollowsEach old new bank command outcome
-follows-counted old mid new bank command outcome changes counted_is h S session sound stands is =
-    let made : StandsFor h (changed S bank command outcome) mid = changes h S session sound stands is in
-    subst (StandsFor h (after S bank command outcome)) (sym counted_is) (record {
-      banks = made.banks;
-      orders = made.orders;
-      counts = ap (λ (cs : List ℕ). set cs bank (get_or cs bank 0 + 1)) made.counts;
-      weights = made.weights;
-      limits = made.limits;
-      uses = made.uses;
-      totals = made.totals;
-    })
 
 pub steps-each : (old new : FlatState) (bank : ℕ) (command : Command) (outcome : Outcome) → AnswersEach old bank command outcome → FollowsEach old new bank command outcome → StepsEach old new bank command outcome
 steps-each old new bank command outcome answers follows h S session sound stands =

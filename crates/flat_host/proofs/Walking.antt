@@ -26,16 +26,6 @@ pub record Went (weight : ℕ) (orders : List ActiveOrder) (lines : List ℕ) (t
 walk : Taker → List ℕ → Walk
 walk taker lines = record { taker = taker; lines = lines; last = None }
 
-pub went-begins : (weight : ℕ) (orders : List ActiveOrder) (lines : List ℕ) (taker : Taker) (now : Walk) → now.taker ≡ taker → now.lines ≡ lines → now.last ≡ None → Went weight orders lines taker now []
-went-begins weight orders lines taker now taker_is lines_are last_is = record {
-  goes_on = λ more left from.
-      subst (λ (t : Taker). Planned weight (slice_index lines) (orders_in t.pair orders) t None more left) taker_is
-      (subst (λ (l : List ℕ). Planned weight (slice_index l) (orders_in now.taker.pair orders) now.taker None more left) lines_are
-      (subst (λ last. Planned weight (slice_index now.lines) (orders_in now.taker.pair orders) now.taker last more left) last_is from));
-  paid = omega (arith, ap (total (λ (n : ℕ). n)) lines_are);
-  wants = omega (arith, ap (λ (t : Taker). t.left) taker_is);
-}
-
 pub went-on : (weight : ℕ) (orders : List ActiveOrder) (lines : List ℕ) (taker : Taker) (now next : Walk) (fills : List Fill) (fill : Fill) → Went weight orders lines taker now fills → LeadsOn weight orders now next fill → Went weight orders lines taker next (fills ++ fill ∷ [])
 went-on weight orders lines taker now next fills fill went leads = record {
   goes_on = λ more left from.
@@ -55,13 +45,6 @@ pub record WentBy (weight : ℕ) (orders : List ActiveOrder) (lines : List ℕ) 
   pub fills : List Fill
   pub went : Went weight orders lines taker now fills
   pub levels_are : levels ≡ levels_of fills
-
-pub by-begins : (weight : ℕ) (orders : List ActiveOrder) (lines : List ℕ) (taker : Taker) (now : Walk) (levels : List Level) → now.taker ≡ taker → now.lines ≡ lines → now.last ≡ None → levels ≡ [] → WentBy weight orders lines taker now levels
-by-begins weight orders lines taker now levels taker_is lines_are last_is none = record {
-  fills = [];
-  went = went-begins weight orders lines taker now taker_is lines_are last_is;
-  levels_are = none;
-}
 
 pub by-on : (weight : ℕ) (orders : List ActiveOrder) (lines : List ℕ) (taker : Taker) (now next : Walk) (levels more : List Level) (fill : Fill) → WentBy weight orders lines taker now levels → LeadsOn weight orders now next fill → more ≡ fill_added levels fill → WentBy weight orders lines taker next more
 by-on weight orders lines taker now next levels more fill by leads added = record {

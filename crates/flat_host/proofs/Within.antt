@@ -1,15 +1,15 @@
 -- Uses stay within limits and totals, whatever of the tables of credit is written.
 use Rattle.std.proofs.Common.{ℕ, ◌≡◌, ◌≢◌, ◌+◌, ◌-◌, ◌≤◌, ◌<◌, min, cond, eqb, ◌&&◌, List, ◌⊎◌, inl, inr, ap, sym, subst, ◌∙◌, arith, length, get_or, get_or-set_same, get_or-set_other, Option, Some, None}
 use Rattle.std.proofs.Math.ListN.{set, length-set}
-use Rattle.std.proofs.lemmas.Bool.{cases_Bool, cases_eq, cond_both, cond-true, cond-false, and_parts, and_from, eqb-true, eq-eqb, ne_eqb, both_ways}
+use Rattle.std.proofs.lemmas.Bool.{cases_Bool, cases_eq, cond-true, cond-false, and_parts, and_from, eqb-true, eq-eqb, ne_eqb, both_ways}
 use Rattle.std.specs.Option.{option_map}
 use Rattle.fx_rules.specs.Lists.{total}
 use Rattle.fx_rules.specs.State.{at_most}
 use Rattle.fx_rules.proofs.Totals.{total_rises}
 use Rattle.flat_host.specs.FlatState.{FlatCredit, limit_place, use_place, limit_in, use_in, total_in, others_of, spent_in, room_in, left_in, line_in}
-use Rattle.flat_host.specs.inside.Parts.{limited_in, totalled_in, settled_in}
+use Rattle.flat_host.specs.inside.Parts.{settled_in}
 use Rattle.flat_host.specs.inside.FlatState.{IsCredit}
-use Rattle.flat_host.proofs.Carrying.{use_place-swap, places_same, use_place-same, raised, raised_here, raised_there}
+use Rattle.flat_host.proofs.Carrying.{use_place-swap, use_place-same, raised, raised_here, raised_there}
 use Rattle.flat_host.proofs.Spending.{spent-first, spent-second, spent-third}
 
 pub most_within : (room : Option ℕ) (n : ℕ) → at_most room n ≤ n
@@ -160,25 +160,6 @@ limits-set limits i j bank other limit full i_in j_in bank_in other_in =
           ∙ sym (cond-false (eqb i bank && eqb j other) limit (limit_in limits i j) is_not)
     ]
 
--- a limit that is set keeps the uses within the limits, where it is at least what is used
-pub limited-credit : (credit : FlatCredit) (bank other limit : ℕ) → IsCredit credit → bank < 65 → other < 65 → use_in credit.uses bank other ≤ limit → IsCredit (limited_in credit bank other limit)
-limited-credit credit bank other limit is bank_in other_in fits = record {
-  limits_full = length-set credit.limits (limit_place bank other) limit ∙ is.limits_full;
-  uses_full = is.uses_full;
-  totals_full = is.totals_full;
-  banks = is.banks;
-  within = record {
-    lines = λ i j i_in j_in differ.
-        subst (λ n. use_in credit.uses i j ≤ n) (sym (limits-set credit.limits i j bank other limit is.limits_full i_in j_in bank_in other_in))
-        (cond_both (eqb i bank && eqb j other) limit (limit_in credit.limits i j) (λ n. use_in credit.uses i j ≤ n)
-        (λ same. let both = and_parts (eqb i bank) (eqb j other) same in
-        let used : use_in credit.uses i j ≡ use_in credit.uses bank other = ap (λ p. get_or credit.uses p 0) (places_same i j bank other (eqb-true i bank both.0) (eqb-true j other both.1)) in
-        omega (arith, used, fits))
-        (λ _. is.within.lines i j i_in j_in differ));
-    totals = is.within.totals;
-  };
-}
-
 pub totals-set : (totals : List (Option ℕ)) (i bank most : ℕ) → length totals ≡ 65 → bank < 65 → get_or (set totals bank (Some most)) i None ≡ cond (eqb i bank) (Some most) (get_or totals i None)
 totals-set totals i bank most full bank_in = elim (cases_eq i bank) [
   | inl same ↦
@@ -187,26 +168,3 @@ totals-set totals i bank most full bank_in = elim (cases_eq i bank) [
   | inr other ↦
       get_or-set_other totals bank i (Some most) None other ∙ sym (cond-false (eqb i bank) (Some most) (get_or totals i None) (ne_eqb i bank other))
 ]
-
-some_same : (a b : ℕ) → Some a ≡ Some b → a ≡ b
-some_same a b same = cc
-
--- a total that is set keeps what is spent within the totals, where it is at least what is spent
-pub totalled-credit : (credit : FlatCredit) (bank most : ℕ) → IsCredit credit → bank < 65 → spent_in credit bank ≤ most → IsCredit (totalled_in credit bank most)
-totalled-credit credit bank most is bank_in fits = record {
-  limits_full = is.limits_full;
-  uses_full = is.uses_full;
-  totals_full = length-set credit.totals bank (Some most) ∙ is.totals_full;
-  banks = is.banks;
-  within = record {
-    lines = is.within.lines;
-    totals = λ i total' i_in has. elim (cases_eq i bank) [
-      | inl own ↦
-          let same : most ≡ total' = some_same most total'
-          (sym (totals-set credit.totals i bank most is.totals_full bank_in ∙ cond-true (eqb i bank) (Some most) (get_or credit.totals i None) (eq-eqb i bank own)) ∙ has) in
-          subst (λ k. spent_in credit k ≤ total') (sym own) (subst (λ n. spent_in credit bank ≤ n) same fits)
-      | inr other ↦ is.within.totals i total' i_in
-          (sym (totals-set credit.totals i bank most is.totals_full bank_in ∙ cond-false (eqb i bank) (Some most) (get_or credit.totals i None) (ne_eqb i bank other)) ∙ has)
-    ];
-  };
-}

@@ -1,5 +1,5 @@
 -- What the plain host keeps, and the states of the market that it stands for.
-use Rattle.std.specs.Prelude.{ℕ, ◌≡◌, ◌≢◌, ◌≤◌, ◌<◌, ◌+◌, ◌*◌, ◌-◌, ◌^◌, ◌==◌, min, max, not, List, map, filter, slice_index, slice_index_or, Option, Some, None, option_map}
+use Rattle.std.specs.Prelude.{ℕ, ◌≡◌, ◌≢◌, ◌≤◌, ◌<◌, ◌+◌, ◌*◌, ◌-◌, ◌^◌, ◌==◌, min, max, not, List, map, filter, slice_index, slice_index_or, Option, None, option_map}
 use Rattle.fx_rules.specs.declared.orders.ActiveOrder.{ActiveOrder}
 use Rattle.fx_rules.specs.Lists.{Each, total, below}
 use Rattle.fx_rules.specs.Session.{Header, bank_count}

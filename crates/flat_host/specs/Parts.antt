@@ -1,5 +1,5 @@
 -- What the host's parts do to its orders and tables.
-use Rattle.std.specs.Prelude.{ℕ, Bool, ◌≡◌, ◌<◌, ◌+◌, ◌*◌, ◌/◌, List, [], ◌∷◌, slice_index, slice_set, true, false, nat_le, if◌then◌else◌, Option, Some, None, option_map}
+use Rattle.std.specs.Prelude.{ℕ, Bool, ◌≡◌, ◌<◌, ◌+◌, ◌*◌, ◌/◌, List, [], ◌∷◌, slice_index, slice_set, true, false, nat_le, if◌then◌else◌, Option, None, option_map}
 use Rattle.fx_rules.specs.declared.outcome.Outcome.{Outcome}
 use Rattle.fx_rules.specs.declared.outcome.Outcome.TheVariants.{Ordered, Cancelled, Reduced}
 use Rattle.fx_rules.specs.declared.orders.ActiveOrder.{ActiveOrder}

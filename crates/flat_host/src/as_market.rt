@@ -1,6 +1,3 @@
-ghost use Rattle.fx_rules.specs.Session.{Header};
-ghost use Rattle.fx_rules.specs.State.{State};
-
 use crate::host::FlatHost;
 use fx_amounts::{BankId, Memory, PairId};
 use fx_rules::{Command, Market, Outcome};

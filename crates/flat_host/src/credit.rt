@@ -1,4 +1,4 @@
-ghost use Rattle.std.specs.Prelude.{◌≡◌, ◌≢◌, ◌<◌, ◌≤◌, ◌+◌, ◌-◌, ◌*◌, ◌/◌, ◌^◌, ℕ, length, max, min, slice_index, slice_set, vec_len, vec_capacity, slice_index_or, false, Option, IfOk, IfSome, IfNone};
+ghost use Rattle.std.specs.Prelude.{◌≡◌, ◌<◌, ◌≤◌, ◌+◌, ◌-◌, ◌*◌, ◌/◌, ◌^◌, ℕ, length, max, min, slice_index, vec_len, vec_capacity, slice_index_or, false, Option, IfOk, IfSome, IfNone};
 ghost use Rattle.fx_rules.specs.Lists.{total};
 ghost use Rattle.fx_rules.specs.State.{at_most};
 ghost use Rattle.fx_rules.specs.Sweep.{lowered, is_order};
@@ -41,7 +41,7 @@ impl Model for Credit {
 
 impl Credit {
     /// The credit as a session's day opens: nothing is used, and the limits and totals are the opening ones.
-    pub fn open(alloc: Global, session: &Session) -> Result<Credit, Memory>
+    pub(crate) fn open(alloc: Global, session: &Session) -> Result<Credit, Memory>
         ensures opens { IfOk result (OpensWith session.now) }
         ensures valid { IfOk result IsCredit }
     {
@@ -54,7 +54,7 @@ impl Credit {
     }
 
     /// The same credit, in memory of its own.
-    pub fn copy(&self, alloc: Global) -> Result<Credit, Memory>
+    pub(crate) fn copy(&self, alloc: Global) -> Result<Credit, Memory>
         ensures equal { IfOk result (λ credit. credit ≡ self.now) }
     {
         Ok(Credit {
@@ -66,28 +66,28 @@ impl Credit {
     }
 
     /// Its tables are full, and no use is above a limit or a total. It does nothing: it tells a proof.
-    pub fn told(&self)
+    pub(crate) fn told(&self)
         ensures valid { IsCredit self.now }
     {
         let _ = &self.banks;
     }
 
     /// The limit that bank `i` sets on bank `j`.
-    pub fn limit(&self, i: BankId, j: BankId) -> Units
+    pub(crate) fn limit(&self, i: BankId, j: BankId) -> Units
         ensures value { result ≡ limit_in self.now.limits i j }
     {
         self.limits[limit_place(i, j)]
     }
 
     /// What two banks have used.
-    pub fn used(&self, i: BankId, j: BankId) -> Units
+    pub(crate) fn used(&self, i: BankId, j: BankId) -> Units
         ensures value { result ≡ use_in self.now.uses i j }
     {
         self.uses[use_place(i, j)]
     }
 
     /// What a bank has used with all others.
-    pub fn spent(&self, bank: BankId) -> u64
+    pub(crate) fn spent(&self, bank: BankId) -> u64
         ensures value { result ≡ spent_in self.now bank }
         ensures most { result ≤ 64 * 10 ^ 15 }
     {
@@ -95,7 +95,7 @@ impl Credit {
     }
 
     /// What a bank's total leaves of it, where it has a total.
-    pub fn room(&self, bank: BankId) -> Option<u64>
+    pub(crate) fn room(&self, bank: BankId) -> Option<u64>
         ensures value { result ≡ room_in self.now bank }
     {
         match self.totals[bank.index()] {
@@ -105,7 +105,7 @@ impl Credit {
     }
 
     /// The line between two banks, in credit units.
-    pub fn line(&self, i: BankId, j: BankId) -> u64
+    pub(crate) fn line(&self, i: BankId, j: BankId) -> u64
         ensures value { result ≡ line_in self.now i j }
         ensures most { result + use_in self.now.uses i j ≤ 10 ^ 15 }
     {
@@ -116,7 +116,7 @@ impl Credit {
     }
 
     /// Sets a bank's limit on another: to what it asks for, but never below what the two have used. The answer is the limit.
-    pub fn set_limit(&mut self, bank: BankId, other: BankId, asked: Units) -> Units
+    pub(crate) fn set_limit(&mut self, bank: BankId, other: BankId, asked: Units) -> Units
         ensures value { result ≡ max asked (use_in self.old.uses bank other) }
         ensures set { self.new ≡ limited_in self.old bank other result }
         ensures valid { IsCredit self.old }
@@ -127,7 +127,7 @@ impl Credit {
     }
 
     /// Sets a bank's total: to what it asks for, but never below what it has used with all others. The answer is the total.
-    pub fn set_total(&mut self, bank: BankId, asked: Units) -> u64
+    pub(crate) fn set_total(&mut self, bank: BankId, asked: Units) -> u64
         ensures value { result ≡ max asked (spent_in self.old bank) }
         ensures set { self.new ≡ totalled_in self.old bank result }
         ensures valid { IsCredit self.old }
@@ -138,7 +138,7 @@ impl Credit {
     }
 
     /// Gives so much of what two banks have used back, but never more than they have. The answer is how much.
-    pub fn give_back(&mut self, a: BankId, b: BankId, asked: Units) -> Units
+    pub(crate) fn give_back(&mut self, a: BankId, b: BankId, asked: Units) -> Units
         ensures value { result ≡ min asked (use_in self.old.uses a b) }
         ensures given { self.new ≡ settled_in self.old a b result }
         ensures valid { IsCredit self.old }
@@ -206,7 +206,7 @@ fn at_most(bound: Option<u64>, number: u64) -> u64
 }
 
 /// The lines of a bank with each bank, in credit units.
-pub fn lines_of(credit: &Credit, bank: BankId) -> [u64; BankId::SENDERS]
+pub(crate) fn lines_of(credit: &Credit, bank: BankId) -> [u64; BankId::SENDERS]
     ensures lines { (other : ℕ) → other < 65 → slice_index result other ≡ line_in credit.now bank other }
     ensures most { total (λ line. line) result ≤ 65 * 10 ^ 15 }
 {
@@ -220,7 +220,7 @@ pub fn lines_of(credit: &Credit, bank: BankId) -> [u64; BankId::SENDERS]
 }
 
 /// A taker that wants no more lots than what its bank's total leaves pays for, at `weight` credit units a lot.
-pub fn affordable(room: Option<u64>, weight: u32, taker: &SweptOrder) -> SweptOrder
+pub(crate) fn affordable(room: Option<u64>, weight: u32, taker: &SweptOrder) -> SweptOrder
     requires weight { 1 ≤ weight }
     ensures value { result ≡ affordable room weight taker.now }
     ensures left { result.left ≤ taker.now.left }
@@ -252,7 +252,7 @@ fn place_of(orders: &[ActiveOrder], bank: BankId, number: u32) -> Option<usize>
 }
 
 /// Takes the order of this bank and number `lots` lower; where nothing is left it no longer rests.
-pub fn lower(orders: &mut Vec<ActiveOrder>, bank: BankId, number: u32, lots: Lots)
+pub(crate) fn lower(orders: &mut Vec<ActiveOrder>, bank: BankId, number: u32, lots: Lots)
     ensures orders { orders.new.items ≡ lowered bank number lots orders.old.items }
     ensures len { vec_len orders.new ≤ vec_len orders.old }
     ensures room { vec_capacity orders.new ≡ vec_capacity orders.old }
@@ -273,7 +273,7 @@ pub fn lower(orders: &mut Vec<ActiveOrder>, bank: BankId, number: u32, lots: Lot
 }
 
 /// Credit units a lot of a pair; 0 where the weights have none for it.
-pub fn weight_of(weights: &[u32], pair: PairId) -> u32
+pub(crate) fn weight_of(weights: &[u32], pair: PairId) -> u32
     ensures value { result ≡ slice_index weights.now pair }
 {
     match weights.get(pair.index()) {
@@ -284,7 +284,7 @@ pub fn weight_of(weights: &[u32], pair: PairId) -> u32
 
 /// Makes these fills: each lowers both its orders, where they rest, and its cost is added to what its banks have used.
 /// A pair's lot costs its weight in credit units.
-pub fn make_fills(
+pub(crate) fn make_fills(
     orders: &mut Vec<ActiveOrder>,
     credit: &mut Credit,
     weights: &[u32],

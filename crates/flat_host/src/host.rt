@@ -1,12 +1,10 @@
-ghost use Rattle.std.specs.Prelude.{ℕ, ◌≡◌, ◌≢◌, ◌<◌, ◌≤◌, ◌+◌, ◌-◌, ◌*◌, ◌^◌, [], length, slice_index, slice_set, OnOk, OnErr, IfOk, map, replicate, vec_len, max, min, take, filter, ◌==◌};
-ghost use Rattle.fx_rules.specs.Lists.{total};
-ghost use Rattle.fx_rules.specs.Session.{IsSession, bank_count, sender_places};
-ghost use Rattle.fx_rules.specs.State.{opening, orders_in};
+ghost use Rattle.std.specs.Prelude.{◌≡◌, ◌<◌, ◌≤◌, ◌+◌, ◌-◌, ◌*◌, ◌^◌, length, slice_index, slice_set, OnOk, OnErr, IfOk, map, replicate};
+ghost use Rattle.fx_rules.specs.Session.{bank_count, sender_places};
+ghost use Rattle.fx_rules.specs.State.{opening};
 ghost use Rattle.fx_rules.specs.Step.{without_orders};
-ghost use Rattle.fx_rules.specs.History.{IsLegal, state};
 ghost use Rattle.fx_rules.specs.Market.{GoesOn};
 ghost use Rattle.flat_host.specs.FlatState.{FlatState, StandsFor};
-ghost use Rattle.flat_host.specs.inside.FlatState.{IsFlatState, IsCredit};
+ghost use Rattle.flat_host.specs.inside.FlatState.{IsCredit};
 ghost use Rattle.flat_host.specs.inside.Parts.{taker_from, PlannedIn, OrderedIn, order_carried, filled_in, counted_in, cancelled_in, reduced_in, shown_in};
 ghost use Rattle.flat_host.specs.inside.Turns.{LineSetIn, TotalSetIn, SettledIn, line_raised_in, total_raised_in, settled_raised_in};
 ghost use Rattle.flat_host.specs.inside.Levels.{ProbedIn};

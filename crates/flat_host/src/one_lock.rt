@@ -1,6 +1,6 @@
-ghost use Rattle.std.specs.Prelude.{◌≡◌, List, map, IfOk};
+ghost use Rattle.std.specs.Prelude.{◌≡◌, map, IfOk};
 ghost use Rattle.fx_rules.specs.declared.outcome.Entry.{Entry};
-ghost use Rattle.fx_rules.specs.Session.{Header, senders};
+ghost use Rattle.fx_rules.specs.Session.{senders};
 ghost use Rattle.fx_rules.specs.Lists.{Among};
 ghost use Rattle.fx_rules.specs.History.{IsLegal, own};
 ghost use Rattle.fx_chronicle.specs.Faces.{Witness};

@@ -1,4 +1,4 @@
-ghost use Rattle.std.specs.Prelude.{ℕ, ◌≡◌, ◌<◌, ◌≤◌, ◌+◌, ◌*◌, ◌^◌, IfOk, Option, None, slice_index, slice_index_or, vec_len};
+ghost use Rattle.std.specs.Prelude.{ℕ, ◌≡◌, ◌<◌, IfOk, Option, None, slice_index, slice_index_or, vec_len};
 ghost use Rattle.fx_rules.specs.Session.{opening_total};
 ghost use Rattle.flat_host.specs.inside.Opening.{limit_at};
 

@@ -1,6 +1,5 @@
-ghost use Rattle.std.specs.Prelude.{◌≡◌, ◌≤◌, ◌<◌, ◌^◌, [], length, slice_index, IfOk, OnOk, MatchOption, find};
+ghost use Rattle.std.specs.Prelude.{◌≡◌, ◌≤◌, ◌<◌, length, IfOk};
 ghost use Rattle.fx_rules.specs.State.{orders_in};
-ghost use Rattle.fx_rules.specs.Sweep.{is_order};
 ghost use Rattle.flat_host.specs.FlatState.{AreWeights};
 ghost use Rattle.flat_host.specs.Parts.{both_lowered, credit_after};
 ghost use Rattle.fx_rules.specs.inside.Orders.{in_pair};

@@ -1,4 +1,4 @@
-ghost use Rattle.std.specs.Prelude.{◌≡◌, IfOk};
+ghost use Rattle.std.specs.Prelude.{IfOk};
 ghost use Rattle.fx_rules.specs.History.{IsLegal, state};
 ghost use Rattle.flat_host.specs.FlatState.{StandsFor};
 

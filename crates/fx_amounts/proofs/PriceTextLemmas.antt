@@ -1,6 +1,6 @@
 -- The spelling of a price, and the price that a text says: each gives the other back.
 use Rattle.std.proofs.Common.{◌≡◌, ◌≢◌, ℕ, zero, suc, ◌+◌, ◌-◌, ◌*◌, ◌/◌, ◌%◌, ◌^◌, ◌<◌, ◌≤◌, true, false, ◌&&◌, List, [], ◌∷◌, ◌++◌, length, get_or, take, drop, IsTrue, SomeIff, Option, Some, None, refl, sym, ap, ap₂, filter, ◌∙◌, subst, arith, leb, eqb, length-append, append-nil, add-zero, ⊎_elim, inl, inr, ◌⊎◌, add-one, Result, Ok, Err, IfOk, ◌↔◌}
-use Rattle.std.proofs.lemmas.Bool.{and_parts, cases_Bool, false_from_ne_true, cases_lt, eqb-true, cond-true, cond-false, leb-true, le-leb, both_ways}
+use Rattle.std.proofs.lemmas.Bool.{and_parts, cases_Bool, false_from_ne_true, cases_lt, eqb-true, cond-false, leb-true, le-leb, both_ways}
 use Rattle.std.proofs.lemmas.Nat.{div-mul-add, mod-mul-add}
 use Rattle.std.proofs.lemmas.List.{take_rest, get_or-drop, drop-drop, take_more, take_all, take_at, get_or_at, take-append-drop, length-drop, length-take, drop_more, get_or_past}
 use Rattle.std.proofs.lemmas.List.Folds.{list_all-append}
@@ -175,12 +175,6 @@ pub price_of_ticks-out : (ticks : ℕ) → ¬ (IsPrice ticks) → price_of_ticks
 price_of_ticks-out ticks h = cond-false (leb 1 ticks && leb ticks (10 ^ 9)) (Ok ticks) (Err Range) (false_from_ne_true _ (λ in_range.
     let parts = and_parts (leb 1 ticks) (leb ticks (10 ^ 9)) in_range in
     h (leb-true 1 ticks parts.0, leb-true ticks (10 ^ 9) parts.1)))
-
-pub price_of_ticks-value : (ticks price : ℕ) → price_of_ticks ticks ≡ Ok price → price ≡ ticks
-price_of_ticks-value ticks price h = ⊎_elim
-    (λ (yes : (leb 1 ticks && leb ticks (10 ^ 9)) ≡ true). let is : price_of_ticks ticks ≡ Ok ticks = cond-true _ _ _ yes in cc)
-    (λ (no : (leb 1 ticks && leb ticks (10 ^ 9)) ≡ false). let is : price_of_ticks ticks ≡ Err Range = cond-false _ _ _ no in cc)
-    (cases_Bool (leb 1 ticks && leb ticks (10 ^ 9)))
 
 -- a text says a price exactly where it is its spelling
 pub price_of-price_text : (decimals ticks : ℕ) → price_of decimals (price_text decimals ticks) ≡ price_of_ticks ticks

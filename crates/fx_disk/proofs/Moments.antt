@@ -141,21 +141,6 @@ left_more before now call added t image left =
 -- Calls
 
 module _ {D T : Type 0} (tape : D → Tape) (faults : D → ℕ) (before now : D) (result : Result T DiskStop) where
-  -- it left the tape as it was
-  pub Called-same : tape now ≡ tape before → faults before ≤ faults now → (IsErrOf result Failed → Rose (faults before) (faults now)) → ((IsErrOf result Failed → ⊥) → faults now ≡ faults before)
-      → Called (λ d. Some (state_now (tape d)).reads) (λ d image. MayLeaveIn (state_now (tape d)) image) (λ d. length (tape d).calls) (λ d t image. LeftSince (tape d) t image) faults before now result
-  Called-same same count cause steady = record {
-    told = refl;
-    later = let e = ap (λ (x : Tape). length x.calls) same in omega (arith, e);
-    no_more = λ t image le left. inl (subst (λ (x : Tape). LeftSince x t image) same left);
-    no_fewer = λ t image le left. subst (λ (x : Tape). LeftSince x t image) (sym same) left;
-    count = count;
-    cause = cause;
-    steady = steady;
-    same_bytes = λ _. ap (λ (x : Tape). Some (state_now x).reads) same;
-    same_images = λ _. (λ image left. subst (λ (x : Tape). MayLeaveIn (state_now x) image) same left, λ image left. subst (λ (x : Tape). MayLeaveIn (state_now x) image) (sym same) left);
-  }
-
   -- it added a call to the tape
   pub Called-added : (call : Call) → Added (tape before) call (tape now) → faults before ≤ faults now → (IsErrOf result Failed → Rose (faults before) (faults now)) → ((IsErrOf result Failed → ⊥) → faults now ≡ faults before) → (IsErrOf result (Memory refused) → ⊥)
       → Called (λ d. Some (state_now (tape d)).reads) (λ d image. MayLeaveIn (state_now (tape d)) image) (λ d. length (tape d).calls) (λ d t image. LeftSince (tape d) t image) faults before now result

@@ -1,4 +1,4 @@
-ghost use Rattle.std.specs.Prelude.{◌≡◌, ℕ, ◌+◌, ◌<◌, ◌≤◌, List, length, take, drop, Option, option_map, IfOk, OnOk, OnErr};
+ghost use Rattle.std.specs.Prelude.{◌≡◌, ℕ, ◌<◌, ◌≤◌, List, length, take, drop, Option, option_map, IfOk, OnOk};
 ghost use Rattle.fx_disk.specs.Disk.{WhereTold, with_piece, TornBy, NoMore, Only, Called};
 
 use fx_amounts::Memory;

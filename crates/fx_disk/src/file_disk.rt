@@ -1,4 +1,4 @@
-ghost use Rattle.std.specs.Prelude.{◌≡◌, ◌≤◌, [], ◌∷◌, ◌++◌, length, take, drop, min, None, Some, Err, true, false, is_ok, IfOk, OnOk, OnErr};
+ghost use Rattle.std.specs.Prelude.{◌≡◌, ◌≤◌, length, take, None, Some, Err, true, false, is_ok, IfOk, OnOk, OnErr};
 ghost use Rattle.fx_edges.specs.Faults.{one_more};
 ghost use Rattle.fx_disk.specs.Disk.{Called};
 ghost use Rattle.fx_disk.specs.FileCalls.{OpenedFile, Measured, Gave, Wrote, Synced, answer_of, given_by, opening, journal_options, Did, Stopped};

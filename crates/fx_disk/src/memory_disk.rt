@@ -1,8 +1,8 @@
-ghost use Rattle.std.specs.Prelude.{◌≡◌, ◌↔◌, ℕ, ◌+◌, ◌<◌, ◌≤◌, ◌++◌, [], List, length, take, drop, min, Option, option_map, Some, Ok, IfOk, OnOk, OnErr, IsErrOf, IsTrue, Contains};
+ghost use Rattle.std.specs.Prelude.{◌≡◌, ◌↔◌, ℕ, ◌+◌, ◌<◌, ◌≤◌, ◌++◌, [], List, length, take, drop, min, Some, Ok, IfOk, OnOk, OnErr, IsErrOf, IsTrue, Contains};
 ghost use Rattle.fx_amounts.specs.OutOfMemory.{refused};
 ghost use Rattle.fx_edges.specs.Faults.{one_more};
-ghost use Rattle.fx_disk.specs.Disk.{with_piece, Torn, TornBy, NoMore, Only, WhereTold, Called};
-ghost use Rattle.fx_disk.specs.Model.{state_now, MayLeaveIn, LeftSince};
+ghost use Rattle.fx_disk.specs.Disk.{with_piece, Torn, TornBy, NoMore};
+ghost use Rattle.fx_disk.specs.Model.{LeftSince};
 ghost use Rattle.fx_disk.specs.ModelLaws.{reads_told, left_now, left_only_now};
 ghost use Rattle.fx_disk.specs.InMemory.{FailingDisk, reads_of, may_leave_of, CalledFailing, CountedFailing};
 

@@ -1,4 +1,4 @@
-ghost use Rattle.std.specs.Prelude.{◌≡◌, ℕ, List, length, Some, []};
+ghost use Rattle.std.specs.Prelude.{◌≡◌, length, Some, []};
 ghost use Rattle.fx_disk.specs.Model.{Tape, state_now, MayLeaveIn, LeftSince};
 ghost use Rattle.fx_disk.specs.ModelLaws.{reads_told, left_now, left_only_now};
 

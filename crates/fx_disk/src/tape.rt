@@ -1,4 +1,4 @@
-ghost use Rattle.std.specs.Prelude.{◌≡◌, ◌+◌, ◌<◌, ◌≤◌, ◌++◌, [], ◌∷◌, length, take, drop, IfOk, OnOk, OnErr, MatchOption, min};
+ghost use Rattle.std.specs.Prelude.{◌≡◌, ◌+◌, ◌<◌, ◌≤◌, ◌++◌, [], length, take, drop, IfOk, OnOk, OnErr, MatchOption, min};
 ghost use Rattle.fx_disk.specs.Disk.{with_piece};
 ghost use Rattle.fx_disk.specs.Model.{state_now};
 ghost use Rattle.fx_disk.specs.inside.Model.{Added, AddedWrite};
@@ -46,7 +46,7 @@ fn spliced(alloc: Global, file: &[u8], at: usize, piece: &[u8]) -> Result<Vec<u8
 
 impl CallTape {
     /// A tape of these bytes, all of them synced.
-    pub fn new(bytes: Vec<u8>) -> CallTape
+    pub(crate) fn new(bytes: Vec<u8>) -> CallTape
         ensures { result ≡ record { first = bytes.items; calls = [] } }
     {
         let calls = Vec::new(*bytes.allocator());
@@ -58,7 +58,7 @@ impl CallTape {
     }
 
     /// The bytes that a read gives.
-    pub fn bytes(&self) -> &[u8]
+    pub(crate) fn bytes(&self) -> &[u8]
         ensures { result.now ≡ (state_now self.now).reads }
     {
         match &self.changed {
@@ -68,7 +68,7 @@ impl CallTape {
     }
 
     /// Moves bytes from the place `at` on into the front of `into`, as many as there are and fit.
-    pub fn read(&self, at: u64, into: &mut [u8]) -> usize
+    pub(crate) fn read(&self, at: u64, into: &mut [u8]) -> usize
         ensures count { result ≡ min (length into.old) (length (drop at (state_now self.now).reads)) }
         ensures into { into.new ≡ take result (drop at (state_now self.now).reads) ++ drop result into.old }
     {
@@ -81,7 +81,7 @@ impl CallTape {
     }
 
     /// Puts `piece` at the place `at`, which is at most the file's length. Without memory nothing changes.
-    pub fn write(&mut self, at: u64, piece: &[u8]) -> Result<(), Memory>
+    pub(crate) fn write(&mut self, at: u64, piece: &[u8]) -> Result<(), Memory>
         requires { at ≤ length (state_now self.old).reads }
         ensures wrote { OnOk result (AddedWrite self.old at piece.now self.new) }
         ensures unchanged { OnErr result (self.new ≡ self.old) }
@@ -95,7 +95,7 @@ impl CallTape {
     }
 
     /// Notes a write that failed.
-    pub fn note_broken(&mut self, at: u64, count: u64) -> Result<(), Memory>
+    pub(crate) fn note_broken(&mut self, at: u64, count: u64) -> Result<(), Memory>
         ensures noted { OnOk result (Added self.old (Call.Broke at count) self.new) }
         ensures unchanged { OnErr result (self.new ≡ self.old) }
     {
@@ -104,7 +104,7 @@ impl CallTape {
     }
 
     /// Notes a sync.
-    pub fn note_sync(&mut self) -> Result<(), Memory>
+    pub(crate) fn note_sync(&mut self) -> Result<(), Memory>
         ensures noted { OnOk result (Added self.old Call.Synced self.new) }
         ensures unchanged { OnErr result (self.new ≡ self.old) }
     {

@@ -1,7 +1,6 @@
 -- One read after another: what was taken is one piece after the other.
-use Rattle.std.proofs.Common.{◌≡◌, ℕ, ◌≤◌, List, [], ◌++◌, Option, None, Some, append_assoc, append-nil, refl, sym, ap, ◌∙◌, arith}
-use Rattle.std.specs.Prelude.{IfSome}
-use Rattle.std.specs.Io.KnownBytes.{prepend_known, IsAtEnd}
+use Rattle.std.proofs.Common.{◌≡◌, ℕ, ◌≤◌, List, [], ◌++◌, Option, None, Some, append_assoc, refl, sym, ap, ◌∙◌, arith}
+use Rattle.std.specs.Io.KnownBytes.{prepend_known}
 use Rattle.fx_edges.specs.Reading.{Took}
 
 -- Known bytes
@@ -31,21 +30,3 @@ Took-failed {s = s} first same count = record {
   moved = first.moved ∙ ap (λ known. prepend_known s known) (sym same);
   count = omega arith;
 }
-
--- what is left before, where it is told: the bytes taken, and then what is left
-taken_from : (was now : Option (List ℕ)) (bytes : List ℕ) → was ≡ prepend_known bytes now → IfSome was (λ all. IfSome now (λ rest. all ≡ bytes ++ rest))
-taken_from None now bytes e = tt
-taken_from (Some all) None bytes e = tt
-taken_from (Some all) (Some rest) bytes e = cc
-
-pub Took-told : {S : Type 0} {left : S → Option (List ℕ)} {faults : S → ℕ} {a b : S} {bytes : List ℕ} → Took left faults a b bytes → IfSome (left a) (λ all. IfSome (left b) (λ rest. all ≡ bytes ++ rest))
-Took-told {left = left} {a = a} {b = b} {bytes = bytes} took = taken_from (left a) (left b) bytes took.moved
-
-all_taken : (was now : Option (List ℕ)) (bytes : List ℕ) → was ≡ prepend_known bytes now → IsAtEnd now → IfSome was (λ all. bytes ≡ all)
-all_taken None now bytes e ended = tt
-all_taken (Some all) None bytes e ended = absurd (cc)
-all_taken (Some all) (Some rest) bytes e ended = let told : all ≡ bytes ++ rest = cc in sym (told ∙ ap (λ xs. bytes ++ xs) ended ∙ append-nil bytes)
-
--- at the end of a source that tells what it has left, the bytes taken are all that it had
-pub Took-all : {S : Type 0} {left : S → Option (List ℕ)} {faults : S → ℕ} {a b : S} {bytes : List ℕ} → Took left faults a b bytes → IsAtEnd (left b) → IfSome (left a) (λ all. bytes ≡ all)
-Took-all {left = left} {a = a} {b = b} {bytes = bytes} took ended = all_taken (left a) (left b) bytes took.moved ended

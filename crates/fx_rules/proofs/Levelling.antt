@@ -27,13 +27,6 @@ last_other [] last fill differ = cond-false (eqb last.price fill.price) (level l
 last_other (x ∷ []) last fill differ = ap (λ (ls : List Level). x ∷ ls) (last_other [] last fill differ)
 last_other (x ∷ y ∷ levels) last fill differ = ap (λ (ls : List Level). x ∷ ls) (last_other (y ∷ levels) last fill differ)
 
-pub total-added : (levels : List Level) (fill : Fill) → total (λ (l : Level). l.lots) (fill_added levels fill) ≡ total (λ (l : Level). l.lots) levels + fill.lots
-total-added [] fill = omega arith
-total-added (l ∷ []) fill =
-    cond_both (eqb l.price fill.price) (level l.price (l.lots + fill.lots) ∷ []) (l ∷ level fill.price fill.lots ∷ [])
-    (λ (ls : List Level). total (λ (m : Level). m.lots) ls ≡ l.lots + 0 + fill.lots) (λ _. omega arith) (λ _. omega arith)
-total-added (l ∷ m ∷ levels) fill = omega (arith, total-added (m ∷ levels) fill)
-
 joined : (g f : Fill) (b : Bool) → eqb g.price f.price ≡ b → with_fill g (level f.price f.lots ∷ []) ≡ fill_added (level g.price g.lots ∷ []) f
 joined g f true same =
     cond-true (eqb g.price f.price) (level f.price (g.lots + f.lots) ∷ []) (level g.price g.lots ∷ level f.price f.lots ∷ []) same

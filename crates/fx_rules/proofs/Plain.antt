@@ -1,11 +1,11 @@
 -- Version 1, in which no bank has a total and nothing is given back: what a line and a use are there, and who sends.
-use Rattle.std.proofs.Common.{ℕ, ◌≡◌, ◌≢◌, ◌+◌, ◌-◌, ◌≤◌, ◌<◌, eqb, List, [], ◌∷◌, ◌++◌, refl, ap, ◌∙◌, arith, length, Option, None}
+use Rattle.std.proofs.Common.{ℕ, ◌≡◌, ◌≢◌, ◌+◌, ◌-◌, ◌≤◌, eqb, List, [], ◌∷◌, ◌++◌, refl, ap, ◌∙◌, arith, length, Option, None}
 use Rattle.std.proofs.lemmas.Bool.{cond-false, ne_eqb}
 use Rattle.std.proofs.lemmas.List.{append-nil}
 use Rattle.std.specs.Option.{option_map}
 use Rattle.fx_rules.specs.Lists.{below}
 use Rattle.fx_rules.specs.Session.{Header, IsSession, bank_count, host, newest, senders}
-use Rattle.fx_rules.specs.State.{State, Settlement, cost_between, settled_between, used, spent, headroom, at_most, left_of_limits, line}
+use Rattle.fx_rules.specs.State.{State, spent, headroom, at_most, left_of_limits, line}
 use Rattle.fx_rules.specs.Sound.{IsPlain}
 
 -- there is the first version
@@ -35,13 +35,6 @@ first-senders h first =
     ∙ append-nil (below (bank_count h))
 
 -- ---- uses and lines in version 1
-
-nothing_off : (n : ℕ) → n - 0 ≡ n
-nothing_off n = omega arith
-
-plain-used : (h : Header) (S : State) (i j : ℕ) → IsPlain S → used h S i j ≡ cost_between h i j S.fills
-plain-used h S i j plain =
-    ap (λ (given : List Settlement). cost_between h i j S.fills - settled_between i j given) plain.settlements ∙ nothing_off (cost_between h i j S.fills)
 
 plain-room : (h : Header) (S : State) (bank : ℕ) → IsPlain S → headroom h S bank ≡ None
 plain-room h S bank plain = ap (option_map (λ most. most - spent h S bank)) (plain.totals bank)

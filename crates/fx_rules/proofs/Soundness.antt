@@ -30,7 +30,7 @@ use Rattle.fx_rules.proofs.Senders.{command-place}
 use Rattle.fx_rules.proofs.RaiseSound.{limited-sound, totalled-sound, settled-sound, raised-sound}
 use Rattle.fx_rules.proofs.Totals.{total_others-none}
 use Rattle.fx_rules.proofs.PlainSound.{fewer-sound, reduced-sound, reduced_to}
-pub use Rattle.fx_rules.proofs.SweepSound.{filled-sound, swept-sound, counts-filled_all, limits-filled_all, totals-filled_all, settlements-filled_all, filled_all-append, weight_of-least}
+pub use Rattle.fx_rules.proofs.SweepSound.{filled-sound, swept-sound, counts-filled_all, filled_all-append, weight_of-least}
 
 -- a count that is raised lets no count fall
 set_more : (counts : List ℕ) (i j : ℕ) → get_or counts j 0 ≤ get_or (set counts i (get_or counts i 0 + 1)) j 0

@@ -56,18 +56,6 @@ pub counts-filled_all : (S : State) (fills : List Fill) → (filled_all S fills)
 counts-filled_all S [] = refl
 counts-filled_all S (f ∷ fills) = counts-filled_all (filled S f) fills
 
-pub limits-filled_all : (S : State) (fills : List Fill) → (filled_all S fills).limits ≡ S.limits
-limits-filled_all S [] = refl
-limits-filled_all S (f ∷ fills) = limits-filled_all (filled S f) fills
-
-pub totals-filled_all : (S : State) (fills : List Fill) → (filled_all S fills).totals ≡ S.totals
-totals-filled_all S [] = refl
-totals-filled_all S (f ∷ fills) = totals-filled_all (filled S f) fills
-
-pub settlements-filled_all : (S : State) (fills : List Fill) → (filled_all S fills).settlements ≡ S.settlements
-settlements-filled_all S [] = refl
-settlements-filled_all S (f ∷ fills) = settlements-filled_all (filled S f) fills
-
 pub filled_all-append : (S : State) (xs ys : List Fill) → filled_all S (xs ++ ys) ≡ filled_all (filled_all S xs) ys
 filled_all-append S [] ys = refl
 filled_all-append S (f ∷ xs) ys = filled_all-append (filled S f) xs ys

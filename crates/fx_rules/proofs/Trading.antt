@@ -32,18 +32,6 @@ trades-made h S (f ∷ fills) made =
       trades-made h (filled S f) fills made.1,
     )
 
--- What holds of each step of a sound state holds of each entry of a legal history.
-Each-steps : (h : Header) (P : Entry → Type 0) → ((S : State) (e : Entry) → IsSound h S → IsStep h S e → P e) → (S : State) (entries : List Entry) → IsSession h → IsSound h S → Steps h S entries → Each P entries
-Each-steps h P has S [] session sound steps = tt
-Each-steps h P has S (e ∷ es) session sound steps =
-    let step : IsStep h S e = steps.0 in (
-      has S e sound step,
-      Each-steps h P has (after_entry S e) es session (after-sound h S e.bank e.command e.outcome session sound step.command step.outcome) steps.1,
-    )
-
-pub Each-legal : (h : Header) (P : Entry → Type 0) → ((S : State) (e : Entry) → IsSound h S → IsStep h S e → P e) → (entries : List Entry) → IsLegal h entries → Each P entries
-Each-legal h P has entries legal = Each-steps h P has (opening h) entries legal.session (opening-sound h legal.session) legal.steps
-
 pub step-trades : (h : Header) (S : State) (e : Entry) → IsSession h → IsSound h S → IsStep h S e → Each (IsTrade h) (fills_of e.outcome)
 step-trades h S e session sound step =
     trades-made h (credit_changed S e.bank e.command e.outcome) (fills_of e.outcome)

@@ -1,10 +1,9 @@
-ghost use Rattle.std.specs.Prelude.{◌≡◌, ◌<◌, ◌+◌, ◌^◌, OnErr, OnOk, IfOk, length, take, vec_capacity};
+ghost use Rattle.std.specs.Prelude.{◌≡◌, ◌<◌, ◌+◌, ◌^◌, OnErr, OnOk, length, vec_capacity};
 ghost use Rattle.fx_rules.specs.Lists.{total};
-ghost use Rattle.fx_rules.specs.Depth.{any_price, levels_of, fill_added};
+ghost use Rattle.fx_rules.specs.Depth.{any_price, fill_added};
 
-use crate::orders::{Fill, Level, LevelList};
+use crate::orders::{Fill, Level};
 use fx_amounts::{Memory, Price, Side};
-use std::alloc::Global;
 
 /// How many levels of a side a local book shows at most.
 pub const SHOWN_LEVELS: usize = 10;
@@ -17,19 +16,6 @@ pub fn any_price(side: Side) -> Price
         Side::Buy => Price::new(Price::MOST).unwrap(),
         Side::Sell => Price::new(Price::LEAST).unwrap(),
     }
-}
-
-/// The first ten levels of the lots of these fills by price. At `Memory` there was none for them.
-pub fn levels_of(alloc: Global, fills: &[Fill]) -> Result<LevelList, Memory>
-    requires lots { total (λ fill. fill.lots) fills.now < 2 ^ 64 }
-    ensures levels { IfOk result (λ levels. levels ≡ take 10 (levels_of fills.now)) }
-{
-    let mut levels = Vec::new(alloc);
-    for fill in fills {
-        add_fill(&mut levels, fill)?;
-    }
-    levels.truncate(SHOWN_LEVELS);
-    Ok(LevelList::from_vec(levels))
 }
 
 /// Adds a fill behind levels: more lots at the last price, or one more level. At `Memory` there was none for that level,

@@ -20,7 +20,7 @@ mod session;
 mod taker;
 
 pub use command::{Command, Life, Reject, Sent, is_command};
-pub use depth::{SHOWN_LEVELS, add_fill, any_price, levels_of};
+pub use depth::{SHOWN_LEVELS, add_fill, any_price};
 pub use gates::{Gate, OpenGate};
 pub use keyed::Keyed;
 pub use laws::{

@@ -9,7 +9,6 @@ ghost use Rattle.fx_rules.specs.Step.{IsCommand};
 ghost use Rattle.host_trials.specs.inside.Passes.{AreOfSenders};
 
 use flat_host::{close_one, open_one};
-use fx_amounts::Memory;
 use fx_chronicle::{Blank, Desk, Naming, Pass, place_among};
 use fx_host::{Closed, Host, close_host, keys_of, open_host};
 use fx_rules::{Command, Entry, EntryList, OpenGate, Outcome, Sent, Session};

@@ -1,6 +1,5 @@
 //! A feed and its reader, by calls.
 ghost use Rattle.std.specs.Prelude.{◌≡◌, ◌<◌, ◌++◌, ◌∷◌, []};
-ghost use Rattle.fx_rules.specs.Session.{bank_count, pair_count};
 ghost use Rattle.fx_rules.specs.History.{IsLegal};
 
 use fx_rules::{Entry, Session};
@@ -25,10 +24,12 @@ START
 BETA SELL EUR/USD 1.08420 2 DAY
 ";
 
-/// What ALFA's looks find before the sell is appended, behind that, and once it is published and learnt.
+/// What ALFA's looks find before the sell is appended, behind that, and once it is published and learnt; and how many entries it
+/// has seen then.
 const LOOKS: &[u8] = b"0 BOOK BIDS ASKS
 0 BOOK BIDS ASKS
 1 BOOK BIDS ASKS 1.08420 2
+1
 ";
 
 /// Adds what a look at ALFA's local book of EUR/USD finds: how many entries are published, and the book.
@@ -46,7 +47,7 @@ fn look(reader: &mut FeedReader, session: &Session, text: &mut Vec<u8>) -> Resul
     Ok(())
 }
 
-/// Adds what the three looks find.
+/// Adds what the three looks find, and how many entries the reader has seen by then.
 fn three_looks<R: Wait>(
     rt: &R,
     feed: &mut Feed,
@@ -65,7 +66,10 @@ fn three_looks<R: Wait>(
     feed.append(entry)?;
     look(reader, session, text)?;
     reader.learn(feed.publish(rt)?);
-    look(reader, session, text)
+    look(reader, session, text)?;
+    push_number(u128::from(reader.seen()), text)?;
+    text.push(b'\n')?;
+    Ok(())
 }
 
 /// What the looks of ALFA find beside a feed to which this entry is appended.

@@ -1,6 +1,6 @@
 //! A desk that is out of memory at one submit: the lane of that submit stops, the others go on, and the submit may be made
 //! again.
-ghost use Rattle.std.specs.Prelude.{ℕ, ◌≡◌, ◌≢◌, ◌<◌, ◌^◌, [], ◌∷◌, All, IfOk, OnOk, length};
+ghost use Rattle.std.specs.Prelude.{◌≡◌, ◌≢◌, ◌<◌, ◌^◌, [], ◌∷◌, All, IfOk, OnOk, length};
 ghost use Rattle.fx_rules.specs.Lists.{Each};
 ghost use Rattle.fx_rules.specs.Session.{Header, IsSession, bank_count};
 ghost use Rattle.fx_rules.specs.History.{own};

@@ -8,10 +8,6 @@ use Rattle.keep_disk.specs.inside.Keeping.{TornFrom}
 use Rattle.keep_disk.proofs.Reading.{blocks_closed, blocks_short, blocks_behind}
 
 module _ (file : List ℕ) (place : ℕ) (behind : place ≡ space (whole_blocks file)) (le : place ≤ length file) (end : blocks_from 0 (drop place file) ≡ []) where
-  -- the first byte behind the blocks, which opens none
-  pub already_closed : place < length file → (get_or file place 0 ≡ 1 → ⊥) → IsClosedAt file place
-  already_closed within shut = record { behind = behind; within = within; closed = shut }
-
   module _ (gaping : place < length file → get_or file place 0 ≡ 1) where
     -- whatever gate stands before the rest, it opens none
     nothing_opens : (gate : ℕ) → blocks_from 0 (gate ∷ drop (place + 1) file) ≡ []

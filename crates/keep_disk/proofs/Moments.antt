@@ -22,13 +22,6 @@ module _ {D : Type 0} (bytes : D → Option (List ℕ)) (may_leave : D → List 
       (leaves_at_start moment left_since before (TornFrom at n (may_leave before)) (λ image left. (image, only_now before image left, Torn-refl at n image)))
       called torn
 
-  pub torn_synced : {T U : Type 0} (at n : ℕ) (before middle now : D) (first : Result T DiskStop) (result : Result U DiskStop) → Called bytes may_leave moment left_since faults before middle first
-      → TornBy at n (may_leave before) (may_leave middle) → Called bytes may_leave moment left_since faults middle now result → NoMore (may_leave middle) (may_leave now)
-      → LeavesOnly moment left_since before now (TornFrom at n (may_leave before))
-  torn_synced at n before middle now first result called torn again fewer =
-      leaves_call moment left_since bytes may_leave faults before middle now result (TornFrom at n (may_leave before))
-      (torn_call at n before middle first called torn) again (λ image left. torn image (fewer image left))
-
 -- What is told
 
 pub told_piece : (known now : Option (List ℕ)) (at : ℕ) (piece block file : List ℕ) → now ≡ option_map (with_piece at piece) known → known ≡ Some file → piece ≡ block → now ≡ Some (with_piece at block file)
@@ -76,14 +69,6 @@ module _ {D : Type 0} (moment : D → ℕ) (left_since : D → ℕ → List ℕ 
 -- Calls that add no image
 
 module _ {D : Type 0} (bytes : D → Option (List ℕ)) (may_leave : D → List ℕ → Type 0) (moment : D → ℕ) (left_since : D → ℕ → List ℕ → Type 0) (faults : D → ℕ) where
-  pub Untouched-refl : ((disk : D) (image : List ℕ) → left_since disk (moment disk) image → may_leave disk image) → (disk : D) → Untouched bytes may_leave moment left_since faults disk disk
-  Untouched-refl only_now disk = record {
-    same = refl;
-    no_more = λ image may. may;
-    every_moment = leaves_at_start moment left_since disk (may_leave disk) (only_now disk);
-    count = refl;
-  }
-
   pub Untouched-moments : {T : Type 0} (start before now : D) (result : Result T DiskStop) → Untouched bytes may_leave moment left_since faults start before → Called bytes may_leave moment left_since faults before now result
       → NoMore (may_leave before) (may_leave now) → LeavesOnly moment left_since start now (may_leave start)
   Untouched-moments start before now result so_far called fewer =
@@ -96,14 +81,6 @@ module _ {D : Type 0} (bytes : D → Option (List ℕ)) (may_leave : D → List 
     no_more = λ image may. so_far.no_more image (fewer image may);
     every_moment = Untouched-moments start before now result so_far called fewer;
     count = called.steady worked ∙ so_far.count;
-  }
-
-  pub Untouched-then : (start middle now : D) → Untouched bytes may_leave moment left_since faults start middle → Untouched bytes may_leave moment left_since faults middle now → Untouched bytes may_leave moment left_since faults start now
-  Untouched-then start middle now first second = record {
-    same = second.same ∙ first.same;
-    no_more = λ image may. first.no_more image (second.no_more image may);
-    every_moment = leaves_then moment left_since start middle now (may_leave start) first.every_moment (leaves_weaker moment left_since middle now (may_leave middle) (may_leave start) first.no_more second.every_moment);
-    count = second.count ∙ first.count;
   }
 
 pub both_ok : {T E : Type 0} (result : Result T E) (P Q R : Type 0) → (P → Q → R) → OnOk result P → OnOk result Q → OnOk result R

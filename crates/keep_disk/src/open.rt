@@ -1,6 +1,6 @@
-ghost use Rattle.std.specs.Prelude.{◌≡◌, ℕ, ◌+◌, ◌<◌, ◌≤◌, [], List, length, drop, slice_index, Option, is_some, IfOk, OnOk};
+ghost use Rattle.std.specs.Prelude.{◌≡◌, ℕ, ◌<◌, ◌≤◌, [], List, length, drop, is_some, IfOk, OnOk};
 ghost use Rattle.fx_disk.specs.Disk.{WhereTold, Only, LeavesOnly};
-ghost use Rattle.keep_disk.specs.Blocks.{blocks_from, whole_blocks, space, IsClosedAt};
+ghost use Rattle.keep_disk.specs.Blocks.{blocks_from, whole_blocks, space};
 ghost use Rattle.keep_disk.specs.Keeping.{AtRest, HasCause};
 
 use crate::keeper::{CLOSED, Keeper, OPEN};

@@ -1,4 +1,4 @@
-ghost use Rattle.std.specs.Prelude.{◌≡◌, ℕ, ◌+◌, ◌<◌, ◌≤◌, [], ◌∷◌, List, length, take, drop, Option, IfSome, IfNone, IfOk, OnOk};
+ghost use Rattle.std.specs.Prelude.{◌≡◌, ◌+◌, ◌<◌, ◌≤◌, [], ◌∷◌, length, drop, Option, IfSome, IfNone, IfOk, OnOk};
 ghost use Rattle.fx_disk.specs.Disk.{WhereTold, LeavesOnly};
 ghost use Rattle.keep_disk.specs.Blocks.{blocks_from, whole_blocks, space};
 ghost use Rattle.keep_disk.specs.Keeping.{HasCause};

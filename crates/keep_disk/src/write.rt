@@ -1,4 +1,4 @@
-ghost use Rattle.std.specs.Prelude.{◌≡◌, ◌↔◌, ℕ, ◌+◌, ◌≤◌, List, length, Option, option_map, OnOk};
+ghost use Rattle.std.specs.Prelude.{◌≡◌, ◌≤◌, length, option_map, OnOk};
 ghost use Rattle.fx_disk.specs.Disk.{WhereTold, with_piece, TornBy, Only, LeavesOnly};
 ghost use Rattle.keep_disk.specs.Keeping.{HasCause};
 ghost use Rattle.keep_disk.specs.inside.Keeping.{TornFrom, Untouched};

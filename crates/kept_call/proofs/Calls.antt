@@ -65,19 +65,6 @@ session_stops_new Disk stops = tt
 session_stops_new Write stops = tt
 session_stops_new (Memory memory) stops = tt
 
--- a session that had begun stops for no other reason
-not_kept : (fault : KeptFault) → StopsASession fault → fault ≡ Kept → ⊥
-not_kept fault stops is = subst StopsASession is stops
-
-not_empty : (fault : KeptFault) → StopsASession fault → fault ≡ Empty → ⊥
-not_empty fault stops is = subst StopsASession is stops
-
-not_damaged : (block : ℕ) (fault : KeptFault) → StopsASession fault → fault ≡ Damaged block → ⊥
-not_damaged block fault stops is = subst StopsASession is stops
-
-not_full : (fault : KeptFault) → StopsASession fault → fault ≡ Full → ⊥
-not_full fault stops is = subst StopsASession is stops
-
 -- an answer that is one of these faults, or none
 abbrev Stops : Answer → Type 0
 Stops (Ok end) = Unit {0}

@@ -32,7 +32,7 @@ use Rattle.session_head.specs.HeadText.{head_text_of}
 use Rattle.session_script.specs.Reading.{ProgressedBehind}
 use Rattle.session_script.specs.Rounds.{HasReadBehind, TookPromptlyBehind}
 use Rattle.session_script.specs.Script.{HasSession, sent_in}
-use Rattle.session_script.specs.Stage.{session_at, sent_at, strays_at}
+use Rattle.session_script.specs.Stage.{sent_at, strays_at}
 use Rattle.session_script.specs.declared.ends.EarlyEnd.TheVariants.{ReadFault}
 use Rattle.session_script.specs.declared.ends.TextEnd.{TextEnd}
 use Rattle.session_script.specs.declared.ends.TextEnd.TheVariants.{Early}

@@ -1,9 +1,8 @@
 -- A text that is kept round by round: its next round, its end, and a fault.
-use Rattle.std.proofs.Common.{ℕ, ◌≡◌, ◌+◌, ◌<◌, ◌≤◌, ◌^◌, List, [], ◌++◌, length, map, Option, Some, Result, Ok, Err, refl, ap, sym, ◌∙◌, subst, arith, append_assoc, append-nil, length-append}
+use Rattle.std.proofs.Common.{ℕ, ◌≡◌, ◌+◌, List, [], ◌++◌, length, map, Option, Some, Result, Ok, Err, ap, sym, ◌∙◌, subst, arith, append_assoc, append-nil, length-append}
 use Rattle.std.specs.Prelude.{IsErrAnd}
 use Rattle.std.proofs.lemmas.List.{length-map}
 use mathlib.Core.List.{IsPrefix}
-use Rattle.fx_edges.specs.Writing.{IsPrefixOf}
 use Rattle.fx_rules.specs.declared.command.Sent.{Sent}
 use Rattle.fx_rules.specs.declared.outcome.Entry.{Entry}
 use Rattle.fx_rules.specs.Lists.{Each}
@@ -14,7 +13,7 @@ use Rattle.gateway_workers.specs.declared.lane.Lane.{Lane}
 use Rattle.gateway_workers.specs.SenderLanes.{CanServe}
 use Rattle.session_script.specs.Script.{HasSession, sent_in}
 use Rattle.session_script.specs.Stage.{sent_at}
-use Rattle.session_script.specs.Rounds.{HasReadBehind, TookPromptlyBehind, TookOnBehind}
+use Rattle.session_script.specs.Rounds.{HasReadBehind, TookOnBehind}
 use Rattle.session_script.specs.declared.ends.TextEnd.{TextEnd}
 use Rattle.session_script.specs.declared.reading.Reading.{Reading}
 use Rattle.session_script.proofs.RoundLaws.{round_valid}

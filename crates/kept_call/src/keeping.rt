@@ -1,4 +1,4 @@
-ghost use Rattle.std.specs.Prelude.{ℕ, ◌≡◌, List, [], Some};
+ghost use Rattle.std.specs.Prelude.{◌≡◌, [], Some};
 ghost use Rattle.fx_rules.specs.Session.{Header as SessionHeader};
 ghost use Rattle.keep_disk.specs.Keeping.{AtRest};
 ghost use Rattle.kept_call.specs.Running.{new_session};

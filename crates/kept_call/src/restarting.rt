@@ -1,5 +1,4 @@
-ghost use Rattle.std.specs.Prelude.{ℕ, ◌≡◌, ◌<◌, ◌^◌, List, [], IfOk, IfErr, length};
-ghost use Rattle.fx_rules.specs.declared.outcome.Entry.{Entry as HistoryEntry};
+ghost use Rattle.std.specs.Prelude.{ℕ, ◌≡◌, ◌<◌, List, IfOk, IfErr};
 ghost use Rattle.keep_disk.specs.Keeping.{AtRest};
 ghost use Rattle.kept_history.specs.Found.{IsWhole};
 ghost use Rattle.session_head.specs.HeadText.{head_text_of};

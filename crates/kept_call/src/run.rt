@@ -1,11 +1,10 @@
-ghost use Rattle.std.specs.Prelude.{ℕ, ◌≡◌, ◌≤◌, ◌<◌, ◌^◌, ◌++◌, [], ◌∷◌, IfOk, OnOk, OnErr, List, length, map};
+ghost use Rattle.std.specs.Prelude.{◌≡◌, ◌≤◌, ◌<◌, ◌^◌, ◌++◌, [], IfOk, OnOk, OnErr, List, length, map};
 ghost use Rattle.fx_rules.specs.declared.command.Sent.{Sent as SentCommand};
 ghost use Rattle.fx_rules.specs.declared.outcome.Entry.{Entry as HistoryEntry};
 ghost use Rattle.fx_rules.specs.Sending.{sent_by};
 ghost use Rattle.fx_rules.specs.History.{IsLegal};
 ghost use Rattle.gateway_workers.specs.Recorded.{key_count};
 ghost use Rattle.gateway_workers.specs.SenderLanes.{CanServe};
-ghost use Rattle.session_head.specs.HeadText.{head_text_of};
 ghost use Rattle.reply_lines.specs.Output.{IsRestOfOutput};
 ghost use Rattle.reply_lines.specs.Faults.{WroteOutput};
 ghost use Rattle.keep_disk.specs.Keeping.{AtRest};

@@ -1,4 +1,4 @@
-ghost use Rattle.std.specs.Prelude.{ℕ, ◌≡◌, ◌≤◌, List};
+ghost use Rattle.std.specs.Prelude.{ℕ, List};
 ghost use Rattle.kept_call.specs.Running.{Start};
 ghost use Rattle.kept_call.specs.RunText.{IsKeeping};
 ghost use Rattle.kept_call.specs.Fault.{HasCauses};

@@ -1,5 +1,5 @@
 -- A body that is read line by line.
-use Rattle.std.proofs.Common.{◌≡◌, ℕ, Bool, true, false, List, [], ◌∷◌, ◌++◌, length, Option, Some, None, Ok, Err, refl, sym, ap, ◌∙◌, append_assoc, append-nil}
+use Rattle.std.proofs.Common.{◌≡◌, ℕ, Bool, true, false, List, [], ◌∷◌, ◌++◌, length, Option, Some, None, Err, refl, sym, ap, ◌∙◌, append_assoc, append-nil}
 use Rattle.std.specs.Prelude.{◌==◌, if◌then◌else◌, is_some, option_map, option_and_then}
 use Rattle.fx_text.specs.Lines.{lines_of, rest_of, IsRest, IsFirstLine}
 use Rattle.fx_text.specs.declared.line.Line.{Line}
@@ -8,7 +8,6 @@ use Rattle.fx_rules.specs.declared.command.Command.{Command}
 use Rattle.fx_rules.specs.declared.command.Sent.{Sent}
 use Rattle.session_head.specs.Head.{Head, Begun, Drafting, Started, Faulted, with_line, answer_to, session_of, IsStarted}
 use Rattle.session_head.specs.declared.reason.HeadReason.{HeadReason}
-use Rattle.session_head.specs.declared.reason.HeadStep.TheVariants.{More, Start}
 use Rattle.session_head.specs.declared.reason.HeadStop.TheVariants.{Fault}
 use Rattle.order_lines.specs.Grammar.{journal_line}
 use Rattle.fx_rules.specs.Sending.{sent_of}
@@ -93,18 +92,6 @@ not_started (Begun lines) unstarted started = started
 not_started (Drafting lines draft) unstarted started = started
 not_started (Started lines header) unstarted started = cc
 not_started (Faulted number reason) unstarted started = started
-
-pub still_unstarted : (head : Head) → Ok More ≡ answer_to head → is_some (session_of head) ≡ false
-still_unstarted (Begun lines) more = refl
-still_unstarted (Drafting lines draft) more = refl
-still_unstarted (Started lines header) more = cc
-still_unstarted (Faulted number reason) more = refl
-
-pub now_started : (head : Head) → Ok Start ≡ answer_to head → is_some (session_of head) ≡ true
-now_started (Begun lines) start = cc
-now_started (Drafting lines draft) start = cc
-now_started (Started lines header) start = refl
-now_started (Faulted number reason) start = cc
 
 -- The commands
 

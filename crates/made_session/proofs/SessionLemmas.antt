@@ -2,14 +2,13 @@
 use Rattle.std.proofs.Common.{ℕ, ◌≡◌, ◌≢◌, ◌≤◌, ◌<◌, ◌+◌, ◌-◌, ◌*◌, ◌/◌, ◌%◌, Bool, true, false, ◌||◌, ◌==◌, List, [], ◌∷◌, map, length, inl, inr, refl, ap, sym, subst, ◌∙◌, arith, slice_index, IsTrue, add-one, Option, Some, None, IsSome, SomeIff}
 use Rattle.std.proofs.lemmas.Bool.{cases_lt, lt-ltb, le-ltb, le-leb}
 use Rattle.std.proofs.lemmas.Bool.Decides.{nat_tests}
-use Rattle.std.proofs.lemmas.Nat.{div-mul-add, mod-mul-add}
+use Rattle.std.proofs.lemmas.Nat.{div-mul-add, mod-mul-add, mul-add-lt}
 use Rattle.std.proofs.Math.Nat.{mod-lt, div-add-mod}
 use Rattle.std.specs.Char.{is_ascii_digit, is_ascii_uppercase}
 use Rattle.fx_rules.specs.Lists.{below}
 use Rattle.fx_rules.specs.Names.{is_name, is_name_byte, is_code}
 use Rattle.fx_rules.specs.Session.{Header, IsSession, IsPairRule}
 use Rattle.fx_rules.specs.declared.session.PairRule.{PairRule}
-use Rattle.credit_lines.proofs.CreditLemmas.{place_below}
 use Rattle.made_session.specs.Draws.{seeded, draw}
 use Rattle.made_session.specs.Session.{made_bank, made_base, made_pair, drawn_limit, after_limit, made_limit, made_limits, is_own_place, before_limit, made_header}
 use Rattle.std.specs.Prelude.{IfSome}
@@ -131,7 +130,7 @@ is_session seed banks pairs two few one most =
       own_limits = λ i within.
           let bank : i < banks = omega arith in
           ap (λ n. slice_index limits (i * n + i)) bank_total
-          ∙ get_or_below (made_limit banks (seeded seed)) (banks * banks) (i * banks + i) 0 (place_below banks i i bank bank)
+          ∙ get_or_below (made_limit banks (seeded seed)) (banks * banks) (i * banks + i) 0 (mul-add-lt i banks i banks bank bank)
           ∙ own_limit banks (seeded seed) i bank;
       version_least = omega arith;
       version_most = first-known;

@@ -1,7 +1,6 @@
 -- What follows from a walk, and how the loop comes to one.
 use Rattle.std.proofs.Common.{ℕ, suc, ◌≡◌, ◌+◌, ◌-◌, ◌≤◌, ◌<◌, List, [], ◌∷◌, ◌++◌, length, set, min, refl, ap, sym, subst, ◌∙◌, arith, inl, inr, append-nil, append_assoc}
 use Rattle.std.specs.Prelude.{◌⊎◌}
-use Rattle.std.proofs.lemmas.Bool.{cases_eq}
 use Rattle.std.proofs.lemmas.List.{get_or-set_other, length-set}
 use Rattle.fx_rules.specs.Lists.{Each, total}
 use Rattle.fx_rules.specs.Session.{Header, bank_count}
@@ -90,29 +89,6 @@ begun c X Y old same = record {
   before_payee = λ k within. absurd (omega arith);
   sums = same;
   walks = λ more is. (more, is, refl);
-}
-
-one_more : (xs : List ℕ) (i k : ℕ) → ((j : ℕ) → j < i → at xs j ≡ 0) → at xs i ≡ 0 → k < suc i → at xs k ≡ 0
-one_more xs i k before here within = elim (cases_eq k i) [ inl same ↦ ap (at xs) same ∙ here | inr other ↦ before k (omega arith) ]
-
-pub pass_payer : (c : List ℕ) (X0 Y0 X Y : List ℕ) (payer payee : ℕ) (old now : List Payment) → SoFar c X0 Y0 X Y payer payee old now → at X payer ≡ 0 → SoFar c X0 Y0 X Y (payer + 1) payee old now
-pass_payer c X0 Y0 X Y payer payee old now is here = record {
-  owing = is.owing;
-  owning = is.owning;
-  before_payer = λ k within. one_more X payer k is.before_payer here (omega arith);
-  before_payee = is.before_payee;
-  sums = is.sums;
-  walks = is.walks;
-}
-
-pub pass_payee : (c : List ℕ) (X0 Y0 X Y : List ℕ) (payer payee : ℕ) (old now : List Payment) → SoFar c X0 Y0 X Y payer payee old now → at Y payee ≡ 0 → SoFar c X0 Y0 X Y payer (payee + 1) old now
-pass_payee c X0 Y0 X Y payer payee old now is here = record {
-  owing = is.owing;
-  owning = is.owning;
-  before_payer = is.before_payer;
-  before_payee = λ k within. one_more Y payee k is.before_payee here (omega arith);
-  sums = is.sums;
-  walks = is.walks;
 }
 
 before_set : (xs : List ℕ) (i v : ℕ) → ((k : ℕ) → k < i → at xs k ≡ 0) → (k : ℕ) → k < i → at (set xs i v) k ≡ 0

@@ -1,4 +1,4 @@
-ghost use Rattle.std.specs.Prelude.{List, [], ◌∷◌, ◌++◌, ◌≡◌, ◌≤◌, ◌<◌, length, IfOk};
+ghost use Rattle.std.specs.Prelude.{[], ◌∷◌, ◌≡◌, ◌≤◌, ◌<◌, length, IfOk};
 ghost use Rattle.fx_rules.specs.History.{IsLegal, state};
 ghost use Rattle.day_report.specs.Table.{place};
 ghost use Rattle.day_report.specs.inside.Trades.{CanAdd, Adds};

@@ -1,34 +1,18 @@
 -- A day of clients goes on by an entry.
-use Rattle.std.proofs.Common.{ℕ, ◌≡◌, ◌+◌, List, [], ◌∷◌, ◌++◌, length, ap, sym, subst, ◌∙◌, arith, Option, Some}
-use Rattle.std.proofs.lemmas.List.{length-map}
+use Rattle.std.proofs.Common.{ℕ, ◌≡◌, ◌+◌, List, [], ◌∷◌, ◌++◌, ap, sym, subst, ◌∙◌, Option, Some}
 use Rattle.fx_rules.specs.declared.command.Command.{Command}
-use Rattle.fx_rules.specs.declared.command.Command.TheVariants.{Order, Cancel, Reduce}
 use Rattle.fx_rules.specs.declared.outcome.Outcome.{Outcome}
 use Rattle.fx_rules.specs.declared.outcome.Entry.{Entry}
-use Rattle.fx_rules.specs.declared.session.PairRule.{PairRule}
-use Rattle.fx_rules.specs.Session.{Header, pair_count}
+use Rattle.fx_rules.specs.Session.{Header}
 use Rattle.fx_rules.specs.State.{State}
-use Rattle.fx_rules.specs.Step.{IsCommand}
 use Rattle.fx_rules.specs.History.{IsLegal, state}
 use Rattle.fx_rules.specs.Market.{GoesOn, HasSent, InEach, next_entry}
 use Rattle.client_desk.specs.declared.ask.Ask.TheVariants.{Pass}
 use Rattle.client_desk.specs.Clients.{IsTagged, ask_of, entries_of, state_of, tag}
-use Rattle.client_desk.specs.Standing.{Book, NamesPair}
+use Rattle.client_desk.specs.Standing.{Book}
 use Rattle.client_desk.proofs.Owners.{entries-push}
 use Rattle.client_desk.proofs.Within.{tagged-push}
 use Rattle.output_trials.specs.inside.ClientDays.{IsClientDay, IsClientOf}
-
--- a command of the session names a pair that the book has a weight of
-names_pair : (h : Header) (bank pairs : ℕ) (command : Command) → pairs ≡ pair_count h → IsCommand h bank command → NamesPair pairs command
-names_pair h bank pairs (Order side pair price lots life) is valid = omega (arith, valid.values.0)
-names_pair h bank pairs (Cancel pair number) is valid = omega (arith, valid.values.0)
-names_pair h bank pairs (Reduce pair number lots) is valid = omega (arith, valid.values.0)
-names_pair h bank pairs command is valid = tt
-
-pub pair-named : {M : Type 0} (stands : M → Header → State → Type 0) (h : Header) (market : M) (book : Book) (bank : ℕ) (command : Command) → IsClientDay stands h market book → IsCommand h bank command → NamesPair (length book.weights) command
-pair-named stands h market book bank command day valid =
-    names_pair h bank (length book.weights) command
-    (ap (λ (weights : List ℕ). length weights) day.known.stands.weights ∙ length-map h.pairs (λ (rule : PairRule). rule.weight)) valid
 
 -- the entry of a command behind so many of its sender
 abbrev pub entry_behind : ℕ → ℕ → Command → Outcome → Entry

@@ -1,5 +1,5 @@
 ghost use Rattle.std.specs.Prelude.{ℕ, ◌≡◌, ◌≢◌, ◌≤◌, ◌<◌, IfOk, OnOk, length};
-ghost use Rattle.fx_amounts.specs.Quantity.{IsLots, IsUnits};
+ghost use Rattle.fx_amounts.specs.Quantity.{IsLots};
 ghost use Rattle.fx_rules.specs.Lists.{Each};
 ghost use Rattle.fx_rules.specs.Session.{Header, bank_count, pair_count};
 ghost use Rattle.fx_rules.specs.Step.{IsCommand};

@@ -1,4 +1,4 @@
-ghost use Rattle.std.specs.Prelude.{◌≡◌, ◌<◌, true, length, IfOk, OnOk, OnErr};
+ghost use Rattle.std.specs.Prelude.{◌≡◌, ◌<◌, length, IfOk, OnOk, OnErr};
 ghost use mathlib.Core.List.{IsPrefix};
 ghost use Rattle.left_right.specs.Sides.{view};
 ghost use Rattle.fx_rules.specs.Session.{bank_count, pair_count};
@@ -7,7 +7,6 @@ ghost use Rattle.fx_rules.specs.Market.{IsDepthOf};
 ghost use Rattle.view_feed.specs.inside.Rule.{knower};
 
 use crate::fault::FeedFault;
-use crate::operation::Operation;
 use crate::rule::{OneFeed, Sees, View};
 use crate::shown::Shown;
 use crate::tape::Front;

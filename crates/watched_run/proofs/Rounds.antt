@@ -1,5 +1,5 @@
 -- Rounds of a text that is watched.
-use Rattle.std.proofs.Common.{ℕ, ◌≡◌, ◌+◌, ◌≤◌, ◌<◌, ◌^◌, List, [], ◌∷◌, ◌++◌, length, take, drop, get_or, Option, Some, None, Result, Ok, Err, refl, ap, sym, ◌∙◌, subst, arith, append_assoc, append-nil, length-append}
+use Rattle.std.proofs.Common.{ℕ, ◌≡◌, ◌+◌, ◌≤◌, ◌<◌, ◌^◌, List, [], ◌∷◌, ◌++◌, length, take, drop, get_or, Option, Some, Result, Ok, Err, refl, ap, sym, ◌∙◌, subst, arith, append_assoc, append-nil, length-append}
 use Rattle.std.specs.Prelude.{◌%◌, IsErrAnd, IfSome}
 use Rattle.std.specs.Option.{option_to_list}
 use Rattle.std.proofs.lemmas.List.{take_more, take-append-drop}
@@ -16,7 +16,7 @@ use Rattle.fx_chronicle.specs.Faces.{Witness}
 use Rattle.fx_chronicle.proofs.Prefixes.{prefix_trans, prefix_length}
 use Rattle.fx_chronicle.proofs.Streams.{streams-length}
 use Rattle.gateway_workers.specs.declared.lane.Lane.{Lane}
-use Rattle.session_script.specs.Stage.{session_at, sent_at}
+use Rattle.session_script.specs.Stage.{sent_at}
 use Rattle.session_script.specs.Rounds.{HasRead}
 use Rattle.session_script.specs.declared.reading.Reading.{Reading as TextReading}
 use Rattle.session_script.proofs.RoundLaws.{round_valid, round_few}
@@ -58,10 +58,6 @@ legal-part h published piece rest left before entries all part legal =
 -- ---- one round
 
 module _ (h : Header) (sent : List Sent) (gathered : ℕ) (lanes : List (Lane (Witness Entry))) (feed : Feeding) (screen : Screen) (is : IsWatching h sent gathered lanes feed screen) where
-  -- a round without commands
-  pub watches-idle : (round : List Sent) → round ≡ [] → IsWatching h (sent ++ round) gathered lanes feed screen
-  watches-idle round none = subst (λ (ss : List Sent). IsWatching h ss gathered lanes feed screen) (sym (ap (λ (ss : List Sent). sent ++ ss) none ∙ append-nil sent)) is
-
   -- there are few rounds
   pub few-watched : length sent < 2 ^ 32 → screen.rounds < 2 ^ 32
   few-watched few = omega (arith, is.counted, few-rounds sent is.rounds is.are_rounds)

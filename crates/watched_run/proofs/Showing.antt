@@ -1,5 +1,5 @@
 -- What a screen shows, as its reader looks at one local book after another.
-use Rattle.std.proofs.Common.{ℕ, ◌≡◌, ◌≤◌, List, [], ◌∷◌, ◌++◌, length, refl, ap, sym, ◌∙◌, subst, arith, append_assoc, append-nil, length-append}
+use Rattle.std.proofs.Common.{ℕ, ◌≡◌, ◌≤◌, List, [], ◌∷◌, ◌++◌, length, ap, sym, ◌∙◌, subst, arith, append_assoc, append-nil, length-append}
 use mathlib.Core.List.{IsPrefix}
 use Rattle.fx_rules.specs.declared.outcome.Entry.{Entry}
 use Rattle.fx_rules.specs.declared.outcome.Outcome.{Outcome}
@@ -16,21 +16,11 @@ prefix_same : (xs ys : List Entry) → IsPrefix xs ys → length ys ≤ length x
 prefix_same xs ys ([], is) le = sym (append-nil xs) ∙ is
 prefix_same xs ys (x ∷ rest, is) le = absurd (omega (arith, ap length is, length-append xs (x ∷ rest)))
 
-pub of_feed-same : (was : Reading) → IsOfFeed was was
-of_feed-same was = record { session = refl; tape = refl }
-
 pub of_feed-then : (was mid now : Reading) → IsOfFeed was mid → IsOfFeed mid now → IsOfFeed was now
 of_feed-then was mid now first then = record { session = then.session ∙ first.session; tape = then.tape ∙ first.tape }
 
 module _ (h : Header) where
-  -- nothing more
-  pub more-none : (was : Screen) → ShowsMore h (λ known. []) was was
-  more-none was = record {
-    known = prefix_self was.reader.known;
-    shows = λ dues known least shows. subst (λ (ds : List Due). Shows h ds was.reader.seen was.lines.items) (sym (append-nil dues)) shows;
-  }
-
-  -- and then more
+  -- one part of what is shown, and then more
   pub more-then : (f g all : ℕ → List Due) (was mid now : Screen) → ((known : ℕ) → all known ≡ f known ++ g known) → ShowsMore h f was mid → ShowsMore h g mid now → ShowsMore h all was now
   more-then f g all was mid now joined first then = record {
     known = prefix_trans was.reader.known mid.reader.known now.reader.known first.known then.known;
@@ -38,12 +28,6 @@ module _ (h : Header) where
         let longer : length was.reader.known ≤ length mid.reader.known = prefix_length was.reader.known mid.reader.known first.known in
         subst (λ (ds : List Due). Shows h ds now.reader.seen now.lines.items) (append_assoc dues (f known) (g known) ∙ ap (λ (ds : List Due). dues ++ ds) (sym (joined known)))
         (then.shows (dues ++ f known) known (omega arith) (first.shows dues known least shows));
-  }
-
-  pub whole-none : (all : ℕ) (was : Screen) → ShowsWhole h all [] was was
-  whole-none all was = record {
-    known = prefix_self was.reader.known;
-    shows = λ dues history long begins shows. subst (λ (ds : List Due). Shows h ds was.reader.seen was.lines.items) (sym (append-nil dues)) shows;
   }
 
   pub whole-then : (all : ℕ) (f g both : List Due) (was mid now : Screen) → both ≡ f ++ g → ShowsWhole h all f was mid → ShowsWhole h all g mid now → ShowsWhole h all both was now
@@ -56,17 +40,7 @@ module _ (h : Header) where
 
 -- ---- looks
 
--- what a reader had seen and knew before another look
-pub seen-behind : (bank pair count all : ℕ) (book : Outcome) (first was now : Reading) → IsPrefix first.seen was.seen → IsPrefix first.known was.known → HasSeen bank pair was now count book → count ≡ all → HasSeen bank pair first now all book
-seen-behind bank pair count all book first was now seen known has same = record {
-  counted = sym same ∙ has.counted;
-  depth = has.depth;
-  from_seen = prefix_trans first.seen was.seen now.seen seen has.from_seen;
-  from_known = prefix_trans first.known was.known now.seen known has.from_known;
-  knows = has.knows;
-}
-
--- and what it knows then
+-- what a reader knew before another look, it knows then
 pub known-behind : (bank pair count : ℕ) (book : Outcome) (first was now : Reading) → IsPrefix first.known was.known → HasSeen bank pair was now count book → IsPrefix first.known now.known
 known-behind bank pair count book first was now known has =
     subst (λ (es : List Entry). IsPrefix first.known es) (sym has.knows) (prefix_trans first.known was.known now.seen known has.from_known)

@@ -1,5 +1,5 @@
 //! The text of a session that was watched.
-ghost use Rattle.std.specs.Prelude.{◌≡◌, ◌≤◌, ◌∷◌, ◌++◌, ◌^◌, [], List, length, codes};
+ghost use Rattle.std.specs.Prelude.{◌≡◌, ◌∷◌, ◌++◌, [], List, codes};
 ghost use Rattle.fx_amounts.specs.Numeral.{numeral};
 ghost use Rattle.fx_edges.specs.Writing.{Wrote};
 ghost use Rattle.fx_edges.specs.Gathered.{Gathered};

@@ -1,5 +1,4 @@
-ghost use Rattle.std.specs.Prelude.{◌≡◌, ◌≤◌, ◌++◌, List, [], Some, length, OnOk, IfOk};
-ghost use Rattle.fx_rules.specs.declared.command.Sent.{Sent as SentCommand};
+ghost use Rattle.std.specs.Prelude.{◌≡◌, ◌≤◌, Some};
 ghost use Rattle.fx_rules.specs.Session.{Header as SessionHeader};
 ghost use Rattle.session_script.specs.Stage.{session_at, sent_at};
 ghost use Rattle.session_script.specs.Rounds.{HasRead};
@@ -16,7 +15,6 @@ use fx_rules::{Entry, Gate};
 use gateway_workers::{ThreadedRun, keys_of};
 use pair_host::PairHost;
 use session_script::{Reading, TextEnd};
-use std::alloc::Global;
 use std::marker::Brand;
 use std::sync::Wait;
 use std::thread::Threads;

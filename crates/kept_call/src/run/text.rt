@@ -1,4 +1,4 @@
-ghost use Rattle.std.specs.Prelude.{ℕ, ◌≡◌, ◌≤◌, ◌++◌, List, Some};
+ghost use Rattle.std.specs.Prelude.{ℕ, ◌≤◌, List, Some};
 ghost use Rattle.keep_disk.specs.Rounds.{RunCauses};
 ghost use Rattle.kept_call.specs.Running.{Start};
 ghost use Rattle.kept_call.specs.RunText.{IsKeeping, KeptText};

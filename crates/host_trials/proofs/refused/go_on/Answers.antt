@@ -1,9 +1,9 @@
 -- A lane that has run goes on with the rest of its stream.
-use Rattle.std.proofs.Common.{ℕ, zero, suc, rules, ◌≡◌, ◌≢◌, ◌+◌, ◌^◌, ◌<◌, ◌≤◌, List, [], ◌∷◌, length, map, take, drop, get_or, set, refl, ap, sym, subst, ◌∙◌, arith, inl, inr, length-append}
+use Rattle.std.proofs.Common.{ℕ, zero, suc, ◌≡◌, ◌+◌, ◌<◌, ◌≤◌, List, [], ◌∷◌, length, drop, get_or, set, refl, ap, sym, subst, ◌∙◌, arith, inl, inr, length-append}
 use Rattle.std.specs.Prelude.{None}
 use Rattle.std.proofs.lemmas.Bool.{cases_lt}
 use Rattle.std.proofs.lemmas.List.Elements.{All-get_or}
-use Rattle.std.proofs.lemmas.List.{length-map, length-drop, length-take-le, length-set, take_rest, get_or_default, get_or-set_same, get_or-set_other}
+use Rattle.std.proofs.lemmas.List.{length-map, length-drop, length-take-le, length-set, take_rest, get_or-set_same, get_or-set_other}
 use Rattle.fx_rules.specs.declared.command.Command.{Command}
 use Rattle.fx_rules.specs.declared.outcome.Entry.{Entry}
 use Rattle.fx_rules.specs.Lists.{Each}
@@ -54,15 +54,6 @@ ready_again h lane way =
           (subst (λ (b : ℕ). Each (IsCommand h b) lane.stream) (sym bank_is) (subst (Each (IsCommand h begun.bank)) (sym stream_is) way.ready.may_send));
       numbers = omega (arith, sent_is, long, ran.within, way.ready.numbers, length-drop lane.done lane.stream);
     }
-
--- no stream is longer than its numbers, and no more of it is done than it has
-numbers_fit : (h : Header) (lane : Lane (Witness Entry)) → IsUnderWay h key_of seen_by mine_of lane → (lane.done ≤ length lane.stream) × (lane.sent + length lane.stream < 2 ^ 32)
-numbers_fit h lane way =
-    let begun = way.begun in
-    let ran = way.so_far in
-    let sent_is : lane.sent ≡ begun.sent = ap (λ (l : Lane (Witness Entry)). l.sent) ran.same_lane in
-    let long : length lane.stream ≡ length begun.stream = ap (λ (l : Lane (Witness Entry)). length l.stream) ran.same_lane in
-    (omega (arith, long, ran.within), omega (arith, sent_is, long, way.ready.numbers))
 
 -- the lanes up to the one that was made ready, and those behind it
 ready_more : {X : Type 0} (P : X → Type 0) (xs : List X) (at : ℕ) (now : X) → at < length xs → ((i : ℕ) (d : X) → i < at → P (get_or xs i d)) → P now → (i : ℕ) (d : X) → i < at + 1 → P (get_or (set xs at now) i d)

@@ -1,5 +1,5 @@
 -- The entries that are counted begin the history, and those that are told go on from them.
-use Rattle.std.proofs.Common.{◌≡◌, ◌++◌, ◌∙◌, List, [], ap₂, sym, subst, take, drop, take-append-drop}
+use Rattle.std.proofs.Common.{◌≡◌, ◌++◌, ◌∙◌, List, [], ap₂, sym, subst, take-append-drop}
 use Rattle.fx_rules.specs.declared.outcome.Entry.{Entry}
 use Rattle.fx_rules.specs.History.{IsLegal}
 use Rattle.flat_host.proofs.GoingOn.{legal_taken}

@@ -1,8 +1,6 @@
 -- Each round serves, keeps and tells what was read.
-use Rattle.std.proofs.Common.{rules, refl, ◌≡◌, ◌≤◌, ◌++◌, List, map, Some, None, sym, ◌∙◌, subst, ap, arith}
+use Rattle.std.proofs.Common.{rules, refl, ◌≡◌, ◌++◌, map, Some, None, sym, ◌∙◌, arith}
 use Rattle.fx_rules.specs.Sending.{sent_by}
-use Rattle.fx_rules.specs.declared.command.Sent.{Sent}
-use Rattle.keep_disk.specs.declared.rounds.RunFault.{RunFault}
 use Rattle.keep_disk.proofs.Moments.{not_err}
 use Rattle.session_script.specs.Stage.{sent_at}
 use Rattle.session_script.proofs.RoundLaws.{less_to_read, same_session, taken_within}
