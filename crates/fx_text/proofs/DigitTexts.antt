@@ -68,14 +68,6 @@ places_two more n =
     let front : n / 100 ≡ n / 10 / 10 = omega arith in
     ap (λ (m : ℕ). last_digits more m ++ last_digits 2 n) front ∙ sym (append_assoc (last_digits more (n / 10 / 10)) ((48 + n / 10 % 10) ∷ []) ((48 + n % 10) ∷ []))
 
-pub places_four : (more n : ℕ) → last_digits more (n / 10000) ++ last_digits 4 n ≡ last_digits (suc (suc (suc (suc more)))) n
-places_four more n =
-    let front : n / 10000 ≡ n / 100 / 100 = omega arith in
-    ap₂ (λ (m : ℕ) (last : List ℕ). last_digits more m ++ last) front (sym (places_two 2 n))
-    ∙ sym (append_assoc (last_digits more (n / 100 / 100)) (last_digits 2 (n / 100)) (last_digits 2 n))
-    ∙ ap (λ (t : List ℕ). t ++ last_digits 2 n) (places_two more (n / 100))
-    ∙ places_two (suc (suc more)) n
-
 -- the numeral of a longer number ends in its last four digits, and that of a still longer one in its last eight
 pub numeral_eight : (n : ℕ) → 10000 ≤ n → numeral (n / 10000) ++ last_digits 4 n ≡ numeral n
 numeral_eight n low = sym (numeral-split 4 n low)

@@ -1,5 +1,5 @@
 -- The first line that ends in a text.
-use Rattle.std.proofs.Common.{◌≡◌, ℕ, ◌+◌, ◌-◌, ◌<◌, ◌≤◌, min, Bool, false, nat_lt, List, [], ◌∷◌, ◌++◌, length, map, take, drop, get_or, position, Option, Some, None, cond, true, lt-ltb, le-ltb, refl, sym, ap, ◌∙◌, subst, arith, length-drop, append_assoc, append-nil, All, inl, inr}
+use Rattle.std.proofs.Common.{◌≡◌, ℕ, ◌+◌, ◌-◌, ◌<◌, ◌≤◌, min, Bool, false, nat_lt, List, [], ◌∷◌, ◌++◌, length, map, take, drop, get_or, position, Option, Some, None, cond, true, lt-ltb, le-ltb, refl, sym, ap, ◌∙◌, subst, arith, length-drop, append_assoc, All, inl, inr}
 use Rattle.std.proofs.lemmas.Bool.{eqb-true, cases_Bool, cond-true, cond-false, false_from_ne_true}
 use Rattle.std.proofs.lemmas.Bool.Decides.{nat_tests}
 use Rattle.std.proofs.lemmas.List.Sums.{fails_before_first, position_or_len_is}
@@ -121,19 +121,9 @@ pub record CutsOn (before piece held rest : List ℕ) (done : List Line) : Type 
   pub lines : lines_of (before ++ piece) ≡ done ++ lines_of (held ++ rest)
   pub behind : rest_of (before ++ piece) ≡ rest_of (held ++ rest)
 
-pub CutsOn-none : (before piece : List ℕ) → IsHeld before → CutsOn before piece before piece []
-CutsOn-none before piece is = record { is_held = is; lines = refl; behind = refl }
-
 pub CutsOn-line : (before piece held rest behind : List ℕ) (done : List Line) (line : Line) → CutsOn before piece held rest done → IsFirstLine (held ++ rest) line behind → CutsOn before piece [] behind (done ++ line ∷ [])
 CutsOn-line before piece held rest behind done line cuts first = record {
   is_held = IsHeld-nil;
   lines = cuts.lines ∙ ap (λ (more : List Line). done ++ more) first.lines ∙ sym (append_assoc done (line ∷ []) (lines_of behind));
   behind = cuts.behind ∙ first.rest;
 }
-
-pub CutsOn-all : (before piece held rest new : List ℕ) (done : List Line) → CutsOn before piece held rest done → IsRest (held ++ rest) → new ≡ held_of (held ++ rest)
-    → (done ≡ lines_of (before ++ piece)) × (new ≡ held_of (before ++ piece))
-CutsOn-all before piece held rest new done cuts is all = (
-  sym (cuts.lines ∙ ap (λ (more : List Line). done ++ more) is.lines ∙ append-nil done),
-  all ∙ ap (take 258) (sym cuts.behind),
-)

@@ -2,7 +2,6 @@
 use Rattle.std.proofs.Common.{◌≡◌, ℕ, zero, suc, ◌+◌, ◌-◌, ◌*◌, ◌<◌, ◌≤◌, min, List, [], ◌∷◌, ◌++◌, length, take, refl, sym, ap, ap₂, ◌∙◌, arith, append_assoc, append-nil, length-append, ⊎_elim}
 use Rattle.std.proofs.lemmas.Bool.{cases_lt}
 use Rattle.std.proofs.lemmas.List.{length-take, take-append-le, take_all}
-use Rattle.std.proofs.lemmas.Grind.{flat_map-append}
 use Rattle.std.proofs.Math.Seq.{take-append-add}
 use Rattle.std.specs.List.{AllByRecursion}
 use Rattle.fx_text.specs.Fields.{fields_text}
@@ -78,13 +77,3 @@ pushed_line first fields start one two after empty begun told ended first_few fe
     let made : after ≡ take 256 (start ++ text) = pushed_two start one after first (fields_text fields ++ 10 ∷ []) begun (pushed_two one two after (fields_text fields) (10 ∷ []) told ended) in
     let short : length text ≤ 256 = omega (arith, first_few, few, length-append first (fields_text fields ++ 10 ∷ []), length-append (fields_text fields) (10 ∷ [])) in
     fits_room text after short (made ∙ ap (λ (t : List ℕ). take 256 (t ++ text)) empty) ∙ sym (append_assoc first (fields_text fields) (10 ∷ []))
-
--- a line whose fields are pushed in two parts behind the first
-pub pushed_row : (first : List ℕ) (head rest : List (List ℕ)) (start one two three after : List ℕ) → start ≡ [] → one ≡ take 256 (start ++ first) → two ≡ take 256 (one ++ fields_text head)
-    → three ≡ take 256 (two ++ fields_text rest) → after ≡ take 256 (three ++ 10 ∷ []) → length first ≤ 39 → length (fields_text head) ≤ 84 → length (fields_text rest) ≤ 84
-    → after ≡ first ++ fields_text (head ++ rest) ++ 10 ∷ []
-pushed_row first head rest start one two three after empty begun named told ended first_few head_few rest_few =
-    let joined : fields_text (head ++ rest) ≡ fields_text head ++ fields_text rest = flat_map-append (λ (field : List ℕ). 32 ∷ field) head rest in
-    let both : three ≡ take 256 (one ++ fields_text (head ++ rest)) =
-    pushed_two one two three (fields_text head) (fields_text rest) named told ∙ ap (λ (t : List ℕ). take 256 (one ++ t)) (sym joined) in
-    pushed_line first (head ++ rest) start one three after empty begun both ended first_few (omega (arith, head_few, rest_few, ap length joined, length-append (fields_text head) (fields_text rest)))

@@ -1,5 +1,5 @@
 -- The lines of a text that is given piece by piece.
-use Rattle.std.proofs.Common.{◌≡◌, ap₂, ℕ, zero, suc, ◌+◌, ◌-◌, ◌<◌, ◌≤◌, Bool, true, false, List, [], ◌∷◌, ◌++◌, length, map, take, get_or, refl, sym, ap, ◌∙◌, arith, eqb, count_by, length-append, ⊎_elim, inl, inr, ◌⊎◌, append_assoc, append-nil}
+use Rattle.std.proofs.Common.{◌≡◌, ap₂, ℕ, zero, suc, ◌+◌, ◌-◌, ◌<◌, ◌≤◌, Bool, true, false, List, [], ◌∷◌, ◌++◌, length, map, take, get_or, refl, sym, ap, ◌∙◌, arith, eqb, count_by, length-append, ⊎_elim, inl, inr, ◌⊎◌, append_assoc}
 use Rattle.std.proofs.lemmas.Bool.{cases_Bool, cases_lt, lt-leb, cond-true, cond-false}
 use Rattle.std.proofs.lemmas.List.{map-append, length-map, take_all, take-take, length-take}
 use Rattle.std.proofs.lemmas.List.Elements.{All-take}
@@ -11,7 +11,7 @@ use Rattle.fx_text.specs.Lines.{parts_of, all_but_last, last_of, line_of, lines_
 use Rattle.fx_text.specs.inside.Held.{IsHeld}
 use Rattle.fx_text.specs.declared.line.Line.{Line}
 use Rattle.fx_text.specs.declared.line.Line.TheVariants.{Long}
-use Rattle.fx_text.proofs.PartsLemmas.{Unbroken, Unbroken-last, all_but_last-split_append, last_of-split_append, slice_split-last_passes, slice_split-last_fails, slice_split-onto_front, slice_split-put_back, onto_front}
+use Rattle.fx_text.proofs.PartsLemmas.{Unbroken, Unbroken-last, all_but_last-split_append, last_of-split_append, slice_split-onto_front, slice_split-put_back, onto_front}
 
 abbrev pub is_line_feed : ℕ → Bool
 is_line_feed byte = eqb byte 10
@@ -34,26 +34,6 @@ lines_of-append text more = ap (map line_of) (all_but_last-split_append is_line_
 pub rest_of-append : (text more : List ℕ) → rest_of (text ++ more) ≡ rest_of (rest_of text ++ more)
 unfolding rest_of
 rest_of-append text more = last_of-split_append is_line_feed text more
-
--- a line feed ends the line of the rest
-pub lines_of-line_feed : (text : List ℕ) → lines_of (text ++ 10 ∷ []) ≡ lines_of text ++ line_of (rest_of text) ∷ []
-unfolding lines_of rest_of
-lines_of-line_feed text = lines_of-append text (10 ∷ []) ∙ ap (λ (parts : List (List ℕ)). lines_of text ++ map line_of (all_but_last parts)) (slice_split-last_passes is_line_feed text 10 refl)
-
-pub rest_of-line_feed : (text : List ℕ) → rest_of (text ++ 10 ∷ []) ≡ []
-unfolding rest_of
-rest_of-line_feed text = rest_of-append text (10 ∷ []) ∙ ap last_of (slice_split-last_passes is_line_feed text 10 refl)
-
--- another byte is added to the rest
-pub lines_of-other : (text : List ℕ) (byte : ℕ) → eqb byte 10 ≡ false → lines_of (text ++ byte ∷ []) ≡ lines_of text
-unfolding lines_of rest_of
-lines_of-other text byte other = lines_of-append text (byte ∷ [])
-    ∙ ap (λ (parts : List (List ℕ)). lines_of text ++ map line_of (all_but_last parts)) (slice_split-last_fails is_line_feed text byte other)
-    ∙ append-nil (lines_of text)
-
-pub rest_of-other : (text : List ℕ) (byte : ℕ) → eqb byte 10 ≡ false → rest_of (text ++ byte ∷ []) ≡ rest_of text ++ byte ∷ []
-unfolding rest_of
-rest_of-other text byte other = rest_of-append text (byte ∷ []) ∙ ap last_of (slice_split-last_fails is_line_feed text byte other)
 
 -- a line that is long by more than a carriage return
 stripped : (part : List ℕ) → (strip_carriage_return part ≡ part) ⊎ (strip_carriage_return part ≡ take (length part - 1) part)

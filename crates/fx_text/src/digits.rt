@@ -152,12 +152,15 @@ pub(crate) fn put_number(value: u64, room: &mut [u8], at: usize) -> usize
     }
 }
 
-/// A large number's decimal digits, 39 at most.
+/// The most digits of a large number.
+pub const WIDE_DIGITS: usize = 39;
+
+/// A large number's decimal digits, `WIDE_DIGITS` at most.
 #[inline(always)]
 pub fn put_wide(value: u128, room: &mut [u8], at: usize) -> usize
-    requires room { at + 39 ≤ length room.old }
+    requires room { at + WIDE_DIGITS ≤ length room.old }
     ensures written { take result room.new ≡ take at room.old ++ numeral value }
-    ensures within { result ≤ at + 39 }
+    ensures within { result ≤ at + WIDE_DIGITS }
 {
     match u64::try_from(value) {
         Ok(small) => put_number(small, room, at),
@@ -167,9 +170,9 @@ pub fn put_wide(value: u128, room: &mut [u8], at: usize) -> usize
 
 /// A number of more than 64 bits.
 fn put_widest(value: u128, room: &mut [u8], at: usize) -> usize
-    requires room { at + 39 ≤ length room.old }
+    requires room { at + WIDE_DIGITS ≤ length room.old }
     ensures written { take result room.new ≡ take at room.old ++ numeral value }
-    ensures within { result ≤ at + 39 }
+    ensures within { result ≤ at + WIDE_DIGITS }
 {
     let mut buffer = Buffer::new();
     put_text(buffer.format(value).as_bytes(), room, at)
@@ -302,4 +305,16 @@ pub fn put_number_field(value: u64, room: &mut [u8], at: usize) -> usize
 {
     let end = put_byte(b' ', room, at);
     put_number(value, room, end)
+}
+
+/// A price behind a space, where a tick is the last of `decimals` decimal places.
+#[inline(always)]
+pub fn put_price_field(price: Price, decimals: u8, room: &mut [u8], at: usize) -> usize
+    requires decimals { IsDecimals decimals }
+    requires room { at + 28 ≤ length room.old }
+    ensures written { take result room.new ≡ take at room.old ++ 32 ∷ price_text decimals price }
+    ensures within { result ≤ at + 28 }
+{
+    let end = put_byte(b' ', room, at);
+    put_price(price, decimals, room, end)
 }

@@ -130,6 +130,19 @@ impl LineText {
         ensures text { self.new ≡ take 256 (self.old ++ price_text decimals price) }
         ensures few { length (price_text decimals price) ≤ 40 }
     {
+        if self.len <= ROOM - 27 {
+            let end = put_price(price, decimals, &mut self.bytes, self.len);
+            self.len = end;
+        } else {
+            self.push_cut_price(price, decimals);
+        }
+    }
+
+    /// Appends a price's one spelling, as much of it as there is room for.
+    fn push_cut_price(&mut self, price: Price, decimals: u8)
+        requires { IsDecimals decimals }
+        ensures { self.new ≡ take 256 (self.old ++ price_text decimals price) }
+    {
         let mut room = [0; 27];
         let end = put_price(price, decimals, &mut room, 0);
         self.push(&room[..end]);
@@ -142,15 +155,6 @@ impl LineText {
     {
         self.push_byte(b' ');
         self.push(text);
-    }
-
-    /// Appends a word behind a space. Its length is fixed, as that of `push_word`.
-    #[inline(always)]
-    pub fn push_word_field<const N: usize>(&mut self, word: &[u8; N])
-        ensures { self.new ≡ take 256 (self.old ++ 32 ∷ word.now) }
-    {
-        self.push_byte(b' ');
-        self.push_word(word);
     }
 
     /// Appends a number behind a space.

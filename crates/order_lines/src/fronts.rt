@@ -7,8 +7,9 @@ ghost use Rattle.fx_amounts.specs.Price.{IsPrice};
 ghost use Rattle.fx_amounts.specs.PriceText.{price_text};
 ghost use Rattle.fx_amounts.specs.Quantity.{IsLots};
 ghost use Rattle.fx_rules.specs.Step.{IsNumber};
-ghost use Rattle.order_lines.specs.Words.{life_text};
+ghost use Rattle.order_lines.specs.Words.{life_text, word_text};
 
+use crate::word::Word;
 use fx_amounts::{Lots, Price};
 use fx_rules::Life;
 
@@ -18,11 +19,11 @@ use fx_rules::Life;
 /// How far behind its least end a name may end: no name has more bytes than 16.
 const NEAR: usize = 16;
 
-/// The bytes of the shortest name and of the shortest word.
+/// The bytes of the shortest name.
 pub(crate) const SHORTEST: usize = 3;
 
 /// The bytes of a pair, as `EUR/USD`.
-pub(crate) const PAIR: usize = 7;
+const PAIR: usize = 7;
 
 /// The most digits of a number of lots.
 pub(crate) const LOTS_DIGITS: usize = 7;
@@ -77,7 +78,27 @@ pub(crate) fn order_number_before(text: &[u8], end: u8) -> Option<(u32, &[u8])>
     Some((number, behind))
 }
 
+/// Reads the word of a command and the space behind it, and answers what stands behind that too. The words of version 2 are not among
+/// these: their lines are read field by field, as any other line.
+#[inline(always)]
+pub(crate) fn word_before(text: &[u8]) -> Option<(Word, &[u8])>
+    ensures { IfSome result (λ found. text.now ≡ word_text found.0 ++ 32 ∷ found.1.now) }
+{
+    match text {
+        [b'B', b'U', b'Y', b' ', behind @ ..] => Some((Word::Buy, behind)),
+        [b'S', b'E', b'L', b'L', b' ', behind @ ..] => Some((Word::Sell, behind)),
+        [b'C', b'A', b'N', b'C', b'E', b'L', b' ', behind @ ..] => Some((Word::Cancel, behind)),
+        [b'R', b'E', b'D', b'U', b'C', b'E', b' ', behind @ ..] => Some((Word::Reduce, behind)),
+        [b'P', b'U', b'L', b'L', b' ', behind @ ..] => Some((Word::Pull, behind)),
+        [b'L', b'I', b'N', b'E', b' ', behind @ ..] => Some((Word::Line, behind)),
+        [b'S', b'H', b'O', b'W', b' ', behind @ ..] => Some((Word::Show, behind)),
+        [b'B', b'O', b'O', b'K', b' ', behind @ ..] => Some((Word::Book, behind)),
+        _ => None,
+    }
+}
+
 /// Reads the life of an order and the line feed behind it, and answers what stands behind that too.
+#[inline(always)]
 pub(crate) fn life_before(text: &[u8]) -> Option<(Life, &[u8])>
     ensures { IfSome result (λ found. text.now ≡ life_text found.0 ++ 10 ∷ found.1.now) }
 {
@@ -109,7 +130,7 @@ fn is_number(text: &[u8], digits: usize) -> bool
     ensures some { IsTrue result → 1 ≤ digits }
     ensures leads { IsTrue result → 1 < digits → slice_index text.now 0 ≢ 48 }
 {
-    digits == 1 || (digits > 1 && text[0] != b'0')
+    digits > 0 && (text[0] != b'0' || digits == 1)
 }
 
 /// The number that the digits at a text's front make behind those of `front`, `most` of them at most, and how many they are.
@@ -144,6 +165,19 @@ fn behind_byte(text: &[u8], at: usize, byte: u8) -> Option<&[u8]>
     let (_, rest) = text.split_at(at);
     let (_, behind) = rest.split_at(1);
     Some(behind)
+}
+
+/// The pair that a text begins with, and what stands behind the byte `end`.
+#[inline(always)]
+pub(crate) fn pair_before(text: &[u8], end: u8) -> Option<(&[u8], &[u8])>
+    ensures { IfSome result (λ found. text.now ≡ found.0.now ++ end ∷ found.1.now) }
+{
+    if text.len() <= PAIR || text[PAIR] != end {
+        return None;
+    }
+    let (field, rest) = text.split_at(PAIR);
+    let (_, behind) = rest.split_at(1);
+    Some((field, behind))
 }
 
 /// The field that a text begins with, of that many bytes at least, and what stands behind the byte `end`.

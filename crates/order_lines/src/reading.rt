@@ -2,7 +2,7 @@ ghost use Rattle.std.specs.Prelude.{◌≡◌, ◌<◌, length, IfOk};
 ghost use Rattle.fx_amounts.specs.Quantity.{IsDecimals};
 ghost use Rattle.fx_rules.specs.Session.{pair_count, decimals_of};
 ghost use Rattle.order_lines.specs.Words.{field_count};
-ghost use Rattle.order_lines.specs.Reading.{pair_said, price_said, lots_said, life_said, number_said, bank_said, other_said, limit_said, units_said, order_said, cancel_said, reduce_said, line_said, settle_said, word_said, command_said, said_after};
+ghost use Rattle.order_lines.specs.Reading.{pair_said, price_said, lots_said, life_said, number_said, bank_said, other_said, limit_said, units_said, order_said, cancel_said, reduce_said, line_said, settle_said, word_said, command_said};
 
 use crate::sender::has_word;
 use crate::word::{Word, life_from};

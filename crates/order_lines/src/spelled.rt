@@ -10,8 +10,8 @@ ghost use Rattle.order_lines.specs.declared.spoken.Spoken.TheVariants.{Of as OfB
 ghost use Rattle.order_lines.specs.declared.word.Word.TheVariants as word;
 
 use crate::fronts::{
-    LIMIT_DIGITS, LOTS_DIGITS, PAIR, SHORTEST, field_before, life_before, lots_of, number_before,
-    order_number_before, price_of, ticks_before,
+    LIMIT_DIGITS, LOTS_DIGITS, SHORTEST, field_before, life_before, lots_of, number_before,
+    order_number_before, pair_before, price_of, ticks_before, word_before,
 };
 use crate::reading::{decimals, read_other, read_pair};
 use crate::word::Word;
@@ -34,8 +34,7 @@ pub fn spelled_command<'p>(session: &Session, text: &'p [u8]) -> Option<(Sent, &
     let _banks = session.banks();
     let (name, fields) = field_before(text, SHORTEST, b' ')?;
     let bank = session.bank_named(name)?;
-    let (asked, fields) = field_before(fields, SHORTEST, b' ')?;
-    let word = Word::from_bytes(asked)?;
+    let (word, fields) = word_before(fields)?;
     match command_behind(session, bank, word, fields) {
         Some((command, behind)) => Some((Sent { bank, command }, behind)),
         None => None,
@@ -51,17 +50,17 @@ fn command_behind<'p>(
 ) -> Option<(Command, &'p [u8])>
     ensures { IfSome result (λ found. EndsWith session.now sender word text.now found.0 found.1.now) }
 {
+    if let Some(side) = word.side() {
+        return order_behind(session, sender, side, text);
+    }
     match word {
-        // They are read field by field, as any other line.
-        Word::Total | Word::Settle => None,
-        Word::Buy => order_behind(session, sender, Side::Buy, text),
-        Word::Sell => order_behind(session, sender, Side::Sell, text),
         Word::Cancel => cancel_behind(session, sender, text),
         Word::Reduce => reduce_behind(session, sender, text),
         Word::Pull => pull_behind(session, sender, text),
         Word::Line => line_behind(session, sender, text),
         Word::Show => show_behind(session, sender, text),
         Word::Book => book_behind(session, sender, text),
+        _ => None,
     }
 }
 
@@ -73,7 +72,7 @@ fn order_behind<'p>(
 ) -> Option<(Command, &'p [u8])>
     ensures { IfSome result (λ found. EndsWith session.now sender (side_word side) text.now found.0 found.1.now) }
 {
-    let (pair_text, fields) = field_before(text, PAIR, b' ')?;
+    let (pair_text, fields) = pair_before(text, b' ')?;
     let pair = read_pair(session, pair_text).ok()?;
     let places = usize::from(decimals(session, pair));
     let (ticks, fields) = ticks_before(fields, places, b' ')?;
@@ -98,7 +97,7 @@ fn cancel_behind<'p>(
 ) -> Option<(Command, &'p [u8])>
     ensures { IfSome result (λ found. EndsWith session.now sender word.Cancel text.now found.0 found.1.now) }
 {
-    let (pair_text, fields) = field_before(text, PAIR, b' ')?;
+    let (pair_text, fields) = pair_before(text, b' ')?;
     let pair = read_pair(session, pair_text).ok()?;
     let (number, behind) = order_number_before(fields, b'\n')?;
     Some((Command::Cancel { pair, number }, behind))
@@ -111,7 +110,7 @@ fn reduce_behind<'p>(
 ) -> Option<(Command, &'p [u8])>
     ensures { IfSome result (λ found. EndsWith session.now sender word.Reduce text.now found.0 found.1.now) }
 {
-    let (pair_text, fields) = field_before(text, PAIR, b' ')?;
+    let (pair_text, fields) = pair_before(text, b' ')?;
     let pair = read_pair(session, pair_text).ok()?;
     let (number, fields) = order_number_before(fields, b' ')?;
     let (count, behind) = number_before(fields, LOTS_DIGITS, b'\n')?;
@@ -132,7 +131,7 @@ fn line_behind<'p>(session: &Session, sender: BankId, text: &'p [u8]) -> Option<
 fn pull_behind<'p>(session: &Session, sender: BankId, text: &'p [u8]) -> Option<(Command, &'p [u8])>
     ensures { IfSome result (λ found. EndsWith session.now sender word.Pull text.now found.0 found.1.now) }
 {
-    let (pair_text, behind) = field_before(text, PAIR, b'\n')?;
+    let (pair_text, behind) = pair_before(text, b'\n')?;
     let pair = read_pair(session, pair_text).ok()?;
     Some((Command::Pull { pair }, behind))
 }
@@ -148,7 +147,7 @@ fn show_behind<'p>(session: &Session, sender: BankId, text: &'p [u8]) -> Option<
 fn book_behind<'p>(session: &Session, sender: BankId, text: &'p [u8]) -> Option<(Command, &'p [u8])>
     ensures { IfSome result (λ found. EndsWith session.now sender word.Book text.now found.0 found.1.now) }
 {
-    let (pair_text, behind) = field_before(text, PAIR, b'\n')?;
+    let (pair_text, behind) = pair_before(text, b'\n')?;
     let pair = read_pair(session, pair_text).ok()?;
     Some((Command::Book { pair }, behind))
 }

@@ -1,4 +1,4 @@
-ghost use Rattle.std.specs.Prelude.{◌≡◌};
+ghost use Rattle.std.specs.Prelude.{◌≡◌, IfSome};
 ghost use Rattle.order_lines.specs.Words.{word_text, word_of, field_count, side_word, life_text, life_of, fault_of};
 
 use fx_amounts::Side;
@@ -64,6 +64,17 @@ impl Word {
         match side {
             Side::Buy => Word::Buy,
             Side::Sell => Word::Sell,
+        }
+    }
+
+    /// The side of the orders that it gives.
+    pub(crate) fn side(self) -> Option<Side>
+        ensures { IfSome result (λ side. self ≡ side_word side) }
+    {
+        match self {
+            Word::Buy => Some(Side::Buy),
+            Word::Sell => Some(Side::Sell),
+            _ => None,
         }
     }
 

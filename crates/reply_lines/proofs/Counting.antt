@@ -1,8 +1,8 @@
 -- What the counts of a telling stand for, and how far they reach.
-use Rattle.std.proofs.Common.{ℕ, zero, suc, ◌≡◌, ◌≢◌, ◌+◌, ◌*◌, ◌≤◌, ◌<◌, ◌^◌, eqb, List, [], ◌∷◌, ◌++◌, inl, inr, length, take, drop, get_or, refl, ap, ap₂, sym, subst, ◌∙◌, arith, append_assoc, append-nil, add-one, length-append, flat_map, replicate, Result, Ok, Err, OnOk, OnErr}
+use Rattle.std.proofs.Common.{ℕ, zero, suc, ◌≡◌, ◌≢◌, ◌+◌, ◌*◌, ◌≤◌, ◌<◌, ◌^◌, eqb, List, [], ◌∷◌, ◌++◌, inl, inr, length, take, drop, get_or, refl, ap, ap₂, sym, subst, ◌∙◌, arith, append_assoc, append-nil, add-one, length-append, flat_map, Result, Ok, Err, OnOk, OnErr}
 use Rattle.std.proofs.Math.Seq.{drop-cons}
 use Rattle.std.proofs.lemmas.Bool.{cases_eq, eq-eqb, ne_eqb}
-use Rattle.std.proofs.lemmas.List.{get_or-set_same, get_or-set_other, get_or-replicate, length-set}
+use Rattle.std.proofs.lemmas.List.{get_or-set_same, get_or-set_other, length-set}
 use Rattle.fx_edges.specs.Writing.{IsPrefixOf}
 use Rattle.fx_edges.proofs.Writing.{IsPrefixOf-trans}
 use Rattle.fx_rules.specs.declared.orders.Fill.{Fill}
@@ -197,13 +197,6 @@ lines-told h all counts (a ∷ more) have are =
 
 counts-of : {h : Header} (entries : List Entry) {counts : List ℕ} → HasCounted h entries counts → AreCounts (addressed entries) counts
 counts-of entries has = record { each = λ sender within. has.each sender (omega (arith, within, has.places)) ∙ sym (count-notices sender entries) }
-
--- the counts of a history
-pub counted-none : (h : Header) (counts : List ℕ) (n : ℕ) → n ≡ sender_places h → counts ≡ replicate n 0 → length counts ≡ n → HasCounted h [] counts
-counted-none h counts n places none long = record {
-  places = long ∙ places;
-  each = λ sender within. ap (λ (cs : List ℕ). get_or cs sender 0) none ∙ get_or-replicate n sender 0 0 (omega (arith, within, places));
-}
 
 pub counted-behind : (h : Header) (before more : List Entry) (counts counts' : List ℕ) → HaveCounts (addressed more) counts → counts' ≡ counts_behind counts (addressed more) → HasCounted h before counts → HasCounted h (before ++ more) counts'
 counted-behind h before more counts counts' have is has =

@@ -53,12 +53,6 @@ not_begun written faults held before rest text (Ok value) same = absurd same
 not_begun {U = U} written faults held before rest text {memory} (Err fault) same =
     subst (λ (e : SinkFault). Gathered {T = U} written faults held before rest before text (Err e)) (sym same) (Gathered-wanting written faults held before rest text memory)
 
--- and before the sink got anything at all
-pub nothing_written : {K U : Type 0} (written : K → Option (List ℕ)) (faults : K → ℕ) (before : K) (text : List ℕ) {memory : OutOfMemory} (result : Result U SinkFault) → IsErrAnd result (λ fault. fault ≡ sinks.Memory memory) → Wrote {T = U} written faults before before text result
-nothing_written written faults before text (Ok value) same = absurd same
-nothing_written {U = U} written faults before text {memory} (Err fault) same =
-    subst (λ (e : SinkFault). Wrote {T = U} written faults before before text (Err e)) (sym same) (Wrote-from_none {T = U} {rest = []} refl (Gathered-wanting written faults [] before [] text memory))
-
 -- a call that met a fault in what stands before some last lines
 pub cut_off : {K T U : Type 0} {written : K → Option (List ℕ)} {faults : K → ℕ} {held : List ℕ} {a : K} {rest : List ℕ} {b : K} {text : List ℕ} {e : SinkFault} (more : List ℕ) (result : Result U SinkFault) → held ≡ [] → IsErrAnd result (λ fault. fault ≡ e) → Gathered {T = T} written faults held a rest b text (Err e) → Wrote {T = U} written faults a b (text ++ more) result
 cut_off more (Ok value) none same wrote = absurd same

@@ -4,14 +4,17 @@ use Rattle.std.proofs.lemmas.Grind.{flat_map-append}
 use Rattle.fx_text.specs.Fields.{fields_text}
 use Rattle.fx_text.proofs.DigitTexts.{then_written}
 
--- a first field, and one behind others
+-- a first field, some behind others, and one behind others
 pub first_written : (before one field : List ℕ) → one ≡ before ++ 32 ∷ field → one ≡ before ++ fields_text (field ∷ [])
 first_written before one field is = is ∙ ap (λ (t : List ℕ). before ++ t) (sym (append-nil (32 ∷ field)))
 
+pub fields_written : (before one two : List ℕ) (fields more : List (List ℕ)) → one ≡ before ++ fields_text fields → two ≡ one ++ fields_text more → two ≡ before ++ fields_text (fields ++ more)
+fields_written before one two fields more first then =
+    let joined : fields_text (fields ++ more) ≡ fields_text fields ++ fields_text more = flat_map-append (λ (f : List ℕ). 32 ∷ f) fields more in
+    then_written before one two (fields_text fields) (fields_text more) first then ∙ ap (λ (t : List ℕ). before ++ t) (sym joined)
+
 pub field_written : (before one two : List ℕ) (fields : List (List ℕ)) (field : List ℕ) → one ≡ before ++ fields_text fields → two ≡ one ++ 32 ∷ field → two ≡ before ++ fields_text (fields ++ field ∷ [])
-field_written before one two fields field first then =
-    let joined : fields_text (fields ++ field ∷ []) ≡ fields_text fields ++ fields_text (field ∷ []) = flat_map-append (λ (f : List ℕ). 32 ∷ f) fields (field ∷ []) in
-    then_written before one two (fields_text fields) (fields_text (field ∷ [])) first (first_written one two field then) ∙ ap (λ (t : List ℕ). before ++ t) (sym joined)
+field_written before one two fields field first then = fields_written before one two fields (field ∷ []) first (first_written one two field then)
 
 -- a line of a first field, some fields and some more
 pub row_written : (before one two three four first : List ℕ) (fields more : List (List ℕ)) → one ≡ before ++ first → two ≡ one ++ fields_text fields → three ≡ two ++ fields_text more → four ≡ three ++ 10 ∷ []

@@ -9,6 +9,7 @@ use Rattle.reply_lines.specs.Desks.{AreDesksOf}
 use Rattle.reply_lines.specs.Output.{entry_line}
 use Rattle.reply_lines.specs.declared.day.DayText.{DayText}
 use Rattle.reply_lines.specs.declared.day_notices.DayNotices.{DayNotices}
+use Rattle.reply_lines.specs.declared.journal.JournalLines.{JournalLines}
 use Rattle.reply_lines.specs.declared.journal.JournalText.{JournalText}
 
 -- each sender's desk has its notices of these entries, and the sums are those of the state after them
@@ -20,6 +21,11 @@ pub record AreNoticesOf (h : Header) (entries : List Entry) (told : DayNotices) 
 pub record IsJournalOf (h : Header) (entries : List Entry) (journal : JournalText) : Type 0 where
   pub count : journal.count ≡ length entries
   pub lines : journal.lines.items ≡ flat_map (entry_line h) entries
+
+-- these are the lines of these entries, of which there are so many
+pub record AreLinesOf (h : Header) (entries : List Entry) (journal : JournalLines) : Type 0 where
+  pub count : journal.count ≡ length entries
+  pub lines : journal.lines.now ≡ flat_map (entry_line h) entries
 
 -- the day tells of these entries: it has their journal, and what they give notice of
 pub record IsTextOf (h : Header) (entries : List Entry) (day : DayText) : Type 0 where

@@ -1,16 +1,19 @@
-ghost use Rattle.std.specs.Prelude.{◌≡◌, ◌<◌, ℕ, [], flat_map, OnOk, OnErr};
+ghost use Rattle.std.specs.Prelude.{◌≡◌, ◌<◌, ◌++◌, ℕ, [], flat_map, OnOk, OnErr};
 ghost use Rattle.fx_edges.specs.Gathered.{Gathered};
 ghost use Rattle.fx_rules.specs.Lists.{below};
 ghost use Rattle.fx_rules.specs.Session.{bank_count, pair_count};
+ghost use Rattle.fx_text.specs.Fields.{fields_text};
 ghost use Rattle.reply_lines.specs.Books.{LocalBook, book_line, books_text};
+ghost use Rattle.reply_lines.specs.Notices.{book_fields};
 ghost use Rattle.reply_lines.specs.inside.Books.{IsMarketOf, AreBooksOf, book_lines};
 
 use crate::lines::write_made;
-use crate::notices::push_book;
-use crate::row::{begin_word_row, end_row};
+use crate::notices::{book_room, put_book};
+use crate::room::make_room;
+use crate::row::{begin_word_row, end_row, give_up};
 use fx_amounts::{BankId, Memory, PairId};
 use fx_edges::{Pieces, Sink, SinkFault};
-use fx_rules::{Market, Outcome, Session};
+use fx_rules::{Level, Market, Outcome, Session};
 
 /// Writes the local books of each bank in each pair, as they stand in the market.
 #[tactic(auto, unfolding(crate::specs::Books::books_text))]
@@ -109,4 +112,25 @@ fn make_book<M: Market>(
     begin_word_row(session.name(bank), line)?;
     push_book(session, pair, bids.as_slice(), asks.as_slice(), line)?;
     end_row(line)
+}
+
+/// Appends the fields of a local book, each behind a space: its pair, and the levels of both sides. At `Memory` the line is emptied.
+pub fn push_book(
+    session: &Session,
+    pair: PairId,
+    bids: &[Level],
+    asks: &[Level],
+    line: &mut Vec<u8>,
+) -> Result<(), Memory>
+    requires { pair < pair_count session.now }
+    ensures ok { OnOk result (line.new.items ≡ line.old.items ++ fields_text (book_fields session.now pair bids.now asks.now)) }
+    ensures memory { OnErr result (line.new.items ≡ []) }
+{
+    let at = line.len();
+    if let Err(memory) = make_room(line, at, book_room(bids, asks)) {
+        return give_up(line, memory);
+    }
+    let end = put_book(session, pair, bids, asks, line, at);
+    line.truncate(end);
+    Ok(())
 }

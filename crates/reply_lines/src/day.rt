@@ -1,4 +1,4 @@
-ghost use Rattle.std.specs.Prelude.{◌≡◌, ℕ, List, [], ◌∷◌, ◌++◌, IfOk, OnOk};
+ghost use Rattle.std.specs.Prelude.{ℕ, List, [], ◌∷◌, ◌++◌, IfOk, OnOk};
 ghost use Rattle.fx_edges.specs.Writing.{Wrote};
 ghost use Rattle.fx_edges.specs.Gathered.{Gathered};
 ghost use Rattle.fx_rules.specs.declared.outcome.Entry.{Entry};
@@ -8,12 +8,12 @@ ghost use Rattle.reply_lines.specs.Books.{LocalBook, AreBooks};
 ghost use Rattle.reply_lines.specs.Faults.{WroteOutput};
 ghost use Rattle.reply_lines.specs.inside.Journals.{count_line};
 ghost use Rattle.reply_lines.specs.Output.{day_text, last_text, IsDayText, IsOutput};
-ghost use Rattle.reply_lines.specs.Day.{AreNoticesOf, IsJournalOf, IsTextOf};
+ghost use Rattle.reply_lines.specs.Day.{AreLinesOf, AreNoticesOf, IsJournalOf, IsTextOf};
 ghost use Rattle.reply_lines.specs.inside.Day.{IsDayOf};
 
 use crate::day_notices::DayNotices;
 use crate::desk::write_desks;
-use crate::journal::{JournalText, write_journal_line};
+use crate::journal::{JournalLines, JournalText, write_journal_line};
 use crate::output::{Ending, OutFault, write_books_and_report, write_end, write_head};
 use fx_amounts::Memory;
 use fx_edges::{Pieces, Sink, SinkFault};
@@ -89,7 +89,12 @@ impl DayText {
             IsLegal session.now entries → IsTextOf session.now entries self → M.stands market.now session.now (state session.now entries) →
             WroteOutput K.written K.faults out.old out.new (IsOutput session.now entries strays ending) result }
     {
-        match self.write_whole(alloc, session, market, strays, ending, out) {
+        let DayText { journal, notices } = self;
+        let parts = DayParts {
+            journal: journal.as_lines(),
+            notices,
+        };
+        match parts.write_whole(alloc, session, market, strays, ending, out) {
             Ok(()) => Ok(()),
             Err(fault) => Err(OutFault::from(fault)),
         }
@@ -108,12 +113,19 @@ impl DayText {
             IsLegal session.now entries → IsTextOf session.now entries self → M.stands market.now session.now (state session.now entries) →
             WroteOutput K.written K.faults out.old out.new (IsDayText session.now entries) result }
     {
-        match self.write_part(alloc, session, market, out) {
-            Ok(()) => Ok(()),
-            Err(fault) => Err(OutFault::from(fault)),
-        }
+        let DayText { journal, notices } = self;
+        write_day(alloc, session, journal.as_lines(), notices, market, out)
     }
+}
 
+/// The parts of a day, where the journal's lines may stand in any text.
+#[derive(Drop)]
+struct DayParts<'a> {
+    journal: JournalLines<'a>,
+    notices: DayNotices,
+}
+
+impl<'a> DayParts<'a> {
     /// Writes the output.
     fn write_whole<M: Market, K: Sink>(
         self,
@@ -126,7 +138,7 @@ impl DayText {
     ) -> Result<(), SinkFault>
         requires told { (entries : List Entry) × IsDayOf M.stands session.now entries self market.now }
         ensures wrote { (entries : List Entry) (books : ℕ → ℕ → LocalBook) →
-            IsDayOf M.stands session.now entries self market.now → AreBooks session.now (state session.now entries) books →
+            IsDayOf M.stands session.now entries self.entry market.now → AreBooks session.now (state session.now entries) books →
             Wrote K.written K.faults out.old out.new (day_text session.now entries books ++ last_text strays ending) result }
     {
         let mut line = Vec::new(alloc);
@@ -147,7 +159,7 @@ impl DayText {
     ) -> Result<(), SinkFault>
         requires told { (entries : List Entry) × IsDayOf M.stands session.now entries self market.now }
         ensures wrote { (entries : List Entry) (books : ℕ → ℕ → LocalBook) →
-            IsDayOf M.stands session.now entries self market.now → AreBooks session.now (state session.now entries) books →
+            IsDayOf M.stands session.now entries self.entry market.now → AreBooks session.now (state session.now entries) books →
             Wrote K.written K.faults out.old out.new (day_text session.now entries books) result }
     {
         let mut line = Vec::new(alloc);
@@ -170,15 +182,37 @@ impl DayText {
     ) -> Result<(), SinkFault>
         requires told { (entries : List Entry) × IsDayOf M.stands session.now entries self market.now }
         ensures wrote { (entries : List Entry) (books : ℕ → ℕ → LocalBook) →
-            IsDayOf M.stands session.now entries self market.now → AreBooks session.now (state session.now entries) books →
+            IsDayOf M.stands session.now entries self.entry market.now → AreBooks session.now (state session.now entries) books →
             Gathered K.written K.faults pieces.old out.old pieces.new out.new (day_text session.now entries books) result }
     {
-        let DayText { journal, notices } = self;
+        let DayParts { journal, notices } = self;
         let found = notices.into_findings(alloc, session)?;
         write_head(session, line, pieces, out)?;
-        write_journal_text(journal.count, &journal.lines, pieces, out)?;
+        write_journal_text(journal.count, journal.lines, pieces, out)?;
         write_desks(session, &found.desks, pieces, out)?;
         write_books_and_report(session, market, &found.report, line, pieces, out)
+    }
+}
+
+/// Writes the output of the history that has this journal and these notices, without its last lines. Faults are as those of
+/// `DayText::write`.
+pub fn write_day<M: Market, K: Sink>(
+    alloc: Global,
+    session: &Session,
+    journal: JournalLines<'_>,
+    notices: DayNotices,
+    market: &M,
+    out: &mut K,
+) -> Result<(), OutFault>
+    requires told { (entries : List Entry) × IsLegal session.now entries × AreLinesOf session.now entries journal × AreNoticesOf session.now entries notices × M.stands market.now session.now (state session.now entries) }
+    ensures wrote { (entries : List Entry) →
+        IsLegal session.now entries → AreLinesOf session.now entries journal.entry → AreNoticesOf session.now entries notices → M.stands market.now session.now (state session.now entries) →
+        WroteOutput K.written K.faults out.old out.new (IsDayText session.now entries) result }
+{
+    let parts = DayParts { journal, notices };
+    match parts.write_part(alloc, session, market, out) {
+        Ok(()) => Ok(()),
+        Err(fault) => Err(OutFault::from(fault)),
     }
 }
 

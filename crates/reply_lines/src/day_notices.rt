@@ -43,7 +43,7 @@ impl DayNotices {
         Ok(DayNotices {
             desks: no_desks(alloc, session)?,
             sums: DaySums::open(alloc, session)?,
-            writer: NoticeWriter::new(alloc),
+            writer: NoticeWriter::new(),
         })
     }
 

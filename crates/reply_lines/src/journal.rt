@@ -21,6 +21,13 @@ pub struct JournalText {
     line: LineText,
 }
 
+/// The lines of a journal, where they stand, and of how many entries they are.
+#[derive(Clone, Copy)]
+pub struct JournalLines<'a> {
+    pub count: usize,
+    pub lines: &'a [u8],
+}
+
 impl JournalText {
     /// The journal without an entry. It takes no memory.
     pub fn new(alloc: Global) -> JournalText
@@ -63,6 +70,17 @@ impl JournalText {
         self.lines.extend_from_slice(lines)?;
         self.count += count;
         Ok(())
+    }
+
+    /// Its lines, where they stand.
+    pub(crate) fn as_lines(&self) -> JournalLines<'_>
+        ensures count { result.count ≡ self.now.count }
+        ensures lines { result.lines.now ≡ self.now.lines.items }
+    {
+        JournalLines {
+            count: self.count,
+            lines: &self.lines,
+        }
     }
 }
 

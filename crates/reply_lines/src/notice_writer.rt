@@ -1,16 +1,13 @@
 ghost use Rattle.std.specs.Prelude.{◌≡◌, ◌<◌, ◌^◌, ◌++◌, length, OnOk, OnErr};
-ghost use Rattle.fx_rules.specs.Session.{bank_count};
-ghost use Rattle.reply_lines.specs.Fills.{AreShort, AreTextsOf, notice_to};
-ghost use Rattle.reply_lines.specs.inside.Fills.{fill_line};
+ghost use Rattle.reply_lines.specs.Fills.{AreTextsOf, notice_to};
 ghost use Rattle.reply_lines.specs.Notices.{notice_line};
 ghost use Rattle.reply_lines.specs.Notices.Notice.{Replied};
 ghost use Rattle.reply_lines.specs.Prints.{IsAnswerOf, IsFillOf};
 
-use crate::notices::{FillPart, FillTexts, Party, booked_pair, make_book_reply};
+use crate::notices::{FillPart, FillTexts, Party, booked_pair};
 use crate::sheet::NoticeSheet;
 use fx_amounts::Memory;
 use fx_rules::{Entry, Fill, Outcome, Session};
-use std::alloc::Global;
 use std::marker::Model;
 
 /// Makes the lines of notices, one at a time, for whoever tells them: a desk that keeps them, or a text that has them in the
@@ -18,8 +15,6 @@ use std::marker::Model;
 /// Contracts see what the two notices of the last fill have in common.
 #[derive(Drop)]
 pub struct NoticeWriter {
-    /// The last line that shows a local book; its memory is used again.
-    book: Vec<u8>,
     texts: FillTexts,
 }
 
@@ -33,9 +28,8 @@ impl Model for NoticeWriter {
 
 impl NoticeWriter {
     /// One that has made no line yet. It takes no memory.
-    pub fn new(alloc: Global) -> NoticeWriter {
+    pub fn new() -> NoticeWriter {
         NoticeWriter {
-            book: Vec::new(alloc),
             texts: FillTexts::new(),
         }
     }
@@ -60,9 +54,7 @@ impl NoticeWriter {
             Outcome::Depth { bids, asks } => {
                 let pair = booked_pair(&entry.command);
                 let (bids, asks) = (bids.as_slice(), asks.as_slice());
-                let book = &mut self.book;
-                make_book_reply(session, number, entry.number, pair, bids, asks, book)?;
-                out.push(book)
+                out.push_book_reply(session, number, entry.number, pair, bids, asks)
             }
             outcome => out.push_reply(number, entry.number, outcome),
         }

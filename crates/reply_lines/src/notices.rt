@@ -1,6 +1,5 @@
-ghost use Rattle.std.specs.Prelude.{◌≡◌, ◌∷◌, [], ◌<◌, ◌≤◌, ◌++◌, ◌+◌, codes, length, take, OnOk, OnErr};
+ghost use Rattle.std.specs.Prelude.{◌≡◌, ◌∷◌, [], ◌<◌, ◌≤◌, ◌++◌, ◌+◌, ◌*◌, ◌^◌, codes, length, take};
 ghost use Rattle.fx_amounts.specs.Numeral.{numeral};
-ghost use Rattle.fx_amounts.specs.PriceText.{price_text};
 ghost use Rattle.fx_amounts.specs.Quantity.{IsDecimals};
 ghost use Rattle.fx_text.specs.Fields.{fields_text};
 ghost use Rattle.order_lines.specs.Words.{word_text, side_word};
@@ -12,15 +11,19 @@ ghost use Rattle.reply_lines.specs.inside.Fills.{party_of, fill_line};
 ghost use Rattle.reply_lines.specs.inside.Replies.{plain_fields};
 ghost use Rattle.reply_lines.specs.inside.Telling.{bank_of};
 
-use crate::row::{begin_row, end_row, push_field, push_number_field, push_text};
-use fx_amounts::{BankId, Memory, PairId, Side, Units, base_amount, quote_amount};
+use fx_amounts::{BankId, PairId, Side, Units, base_amount, quote_amount};
 use fx_rules::{Command, Fill, Level, Outcome, Session};
 use fx_text::{
-    LineText, put_byte, put_field, put_number_field, put_text, put_wide, put_word_field,
+    LineText, put_byte, put_field, put_number_field, put_price_field, put_text, put_wide,
+    put_word_field,
 };
 use order_lines::sender_name;
 
-// At `Memory` a call leaves the line empty, as those of `row.rt` do.
+/// The most bytes of a line that shows no local book, and of what another has beside its levels.
+pub(crate) const LINE: usize = 256;
+
+/// The most bytes of a level of a local book: its price and its lots, a space before each.
+const LEVEL: usize = 49;
 
 /// Writes the line of the reply to a bank's command `number` into a room of bytes from a place on, with its number `notice` on the desk,
 /// where the reply shows no local book, and answers the place behind it.
@@ -31,9 +34,9 @@ pub(crate) fn put_reply(
     room: &mut [u8],
     at: usize,
 ) -> usize
-    requires room { at + 256 ≤ length room.old }
+    requires room { at + LINE ≤ length room.old }
     ensures written { take result room.new ≡ take at room.old ++ row (numeral notice) (codes "REPLY" ∷ numeral number ∷ plain_fields outcome.now) }
-    ensures within { result ≤ at + 256 }
+    ensures within { result ≤ at + LINE }
 {
     let end = put_wide(notice, room, at);
     let end = put_count(b"REPLY", number, room, end);
@@ -41,27 +44,36 @@ pub(crate) fn put_reply(
     put_byte(b'\n', room, end)
 }
 
-/// Makes the line of the reply to a bank's command `number` for the local book of a pair.
-pub(crate) fn make_book_reply(
+/// The bytes that a line which shows a local book of these levels has at most.
+pub(crate) fn book_room(bids: &[Level], asks: &[Level]) -> usize
+    ensures { result < 2 ^ 63 → result ≡ LINE + LEVEL * (length bids.now + length asks.now) }
+{
+    let levels = bids.len().saturating_add(asks.len());
+    levels.saturating_mul(LEVEL).saturating_add(LINE)
+}
+
+/// Writes the line of the reply to a bank's command `number` for the local book of a pair, as `put_reply` writes that of another reply.
+pub(crate) fn put_book_reply(
     session: &Session,
     notice: u128,
     number: u32,
     pair: PairId,
     bids: &[Level],
     asks: &[Level],
-    line: &mut Vec<u8>,
-) -> Result<(), Memory>
-    requires { pair < pair_count session.now }
-    ensures ok { OnOk result (line.new.items ≡ row (numeral notice)
-        (codes "REPLY" ∷ numeral number ∷ codes "BOOK" ∷ book_fields session.now pair bids.now asks.now)) }
-    ensures memory { OnErr result (line.new.items ≡ []) }
+    room: &mut [u8],
+    at: usize,
+) -> usize
+    requires pair { pair < pair_count session.now }
+    requires room { at + LINE + LEVEL * (length bids.now + length asks.now) ≤ length room.old }
+    ensures written { take result room.new ≡ take at room.old ++ row (numeral notice)
+        (codes "REPLY" ∷ numeral number ∷ codes "BOOK" ∷ book_fields session.now pair bids.now asks.now) }
+    ensures within { result ≤ at + LINE + LEVEL * (length bids.now + length asks.now) }
 {
-    begin_row(notice, line)?;
-    push_field(b"REPLY", line)?;
-    push_number_field(u128::from(number), line)?;
-    push_field(b"BOOK", line)?;
-    push_book(session, pair, bids, asks, line)?;
-    end_row(line)
+    let end = put_wide(notice, room, at);
+    let end = put_count(b"REPLY", number, room, end);
+    let end = put_word_field(b"BOOK", room, end);
+    let end = put_book(session, pair, bids, asks, room, end);
+    put_byte(b'\n', room, end)
 }
 
 /// Writes the fields of an outcome that is no local book.
@@ -150,48 +162,41 @@ pub(crate) fn booked_pair(command: &Command) -> PairId
     }
 }
 
-/// Appends the fields of a local book, each behind a space: its pair, and the levels of both sides. At `Memory` the line is emptied.
-pub fn push_book(
+/// Writes the fields of a local book, each behind a space: its pair, and the levels of both sides.
+pub(crate) fn put_book(
     session: &Session,
     pair: PairId,
     bids: &[Level],
     asks: &[Level],
-    line: &mut Vec<u8>,
-) -> Result<(), Memory>
-    requires { pair < pair_count session.now }
-    ensures ok { OnOk result (line.new.items ≡ line.old.items ++ fields_text (book_fields session.now pair bids.now asks.now)) }
-    ensures memory { OnErr result (line.new.items ≡ []) }
+    room: &mut [u8],
+    at: usize,
+) -> usize
+    requires pair { pair < pair_count session.now }
+    requires room { at + 18 + LEVEL * (length bids.now + length asks.now) ≤ length room.old }
+    ensures written { take result room.new ≡ take at room.old ++ fields_text (book_fields session.now pair bids.now asks.now) }
+    ensures within { result ≤ at + 18 + LEVEL * (length bids.now + length asks.now) }
 {
     let rule = session.rule(pair);
-    push_field(&rule.text(), line)?;
-    push_field(b"BIDS", line)?;
-    push_levels(rule.decimals, bids, line)?;
-    push_field(b"ASKS", line)?;
-    push_levels(rule.decimals, asks, line)
+    let end = put_field(&rule.text(), room, at);
+    let end = put_word_field(b"BIDS", room, end);
+    let end = put_levels(rule.decimals, bids, room, end);
+    let end = put_word_field(b"ASKS", room, end);
+    put_levels(rule.decimals, asks, room, end)
 }
 
-/// Appends the price and the lots of each level.
-fn push_levels(decimals: u8, levels: &[Level], line: &mut Vec<u8>) -> Result<(), Memory>
-    requires { IsDecimals decimals }
-    ensures ok { OnOk result (line.new.items ≡ line.old.items ++ fields_text (level_fields decimals levels.now)) }
-    ensures memory { OnErr result (line.new.items ≡ []) }
+/// Writes the price and the lots of each level.
+fn put_levels(decimals: u8, levels: &[Level], room: &mut [u8], at: usize) -> usize
+    requires decimals { IsDecimals decimals }
+    requires room { at + LEVEL * length levels.now ≤ length room.old }
+    ensures written { take result room.new ≡ take at room.old ++ fields_text (level_fields decimals levels.now) }
+    ensures within { result ≤ at + LEVEL * length levels.now }
 {
-    let mut text = LineText::new();
+    let mut end = at;
     for level in levels {
-        make_level(decimals, level, &mut text);
-        push_text(text.as_slice(), line)?;
+        end = put_price_field(level.price, decimals, room, end);
+        end = put_number_field(level.lots, room, end);
     }
-    Ok(())
-}
-
-/// Makes the text of a level's price and lots.
-fn make_level(decimals: u8, level: &Level, text: &mut LineText)
-    requires { IsDecimals decimals }
-    ensures { text.new ≡ fields_text (price_text decimals level.now.price ∷ numeral level.now.lots ∷ []) }
-{
-    text.clear();
-    text.push_price_field(level.price, decimals);
-    text.push_number_field(level.lots);
+    end
 }
 
 /// A bank's part in a fill.
@@ -283,9 +288,9 @@ pub(crate) fn put_fill(
 ) -> usize
     requires other { party.now.other < bank_count session.now }
     requires short { AreShort texts.now }
-    requires room { at + 256 ≤ length room.old }
+    requires room { at + LINE ≤ length room.old }
     ensures written { take result room.new ≡ take at room.old ++ fill_line session.now number party.now texts.now }
-    ensures within { result ≤ at + 256 }
+    ensures within { result ≤ at + LINE }
 {
     let end = put_wide(number, room, at);
     let end = put_own_side(party.number, party.side, room, end);

@@ -1,33 +1,19 @@
 ghost use Rattle.std.specs.Prelude.{◌≡◌, ℕ, ◌+◌, ◌≤◌, ◌<◌, ◌^◌, ◌∷◌, ◌++◌, [], codes, drop, length, take, vec_len, OnOk, OnErr};
 ghost use Rattle.fx_amounts.specs.Numeral.{numeral};
-ghost use Rattle.fx_rules.specs.Session.{bank_count};
+ghost use Rattle.fx_rules.specs.Session.{bank_count, pair_count};
 ghost use Rattle.reply_lines.specs.Fills.{AreShort};
+ghost use Rattle.reply_lines.specs.Notices.{book_fields};
 ghost use Rattle.reply_lines.specs.Rows.{row};
 ghost use Rattle.reply_lines.specs.inside.Fills.{fill_line};
 ghost use Rattle.reply_lines.specs.inside.Replies.{plain_fields};
 
-use crate::notices::{FillTexts, Party, put_fill, put_reply};
-use fx_amounts::Memory;
-use fx_rules::{Outcome, Session};
-use fx_text::{put_text, put_wide};
+use crate::notices::{FillTexts, LINE, Party, book_room, put_book_reply, put_fill, put_reply};
+use crate::room::make_room;
+use fx_amounts::{Memory, PairId};
+use fx_rules::{Level, Outcome, Session};
+use fx_text::{WIDE_DIGITS, put_text, put_wide};
 use std::alloc::Global;
 use std::marker::Model;
-
-/// The most bytes of a line that shows no local book.
-const LINE: usize = 256;
-
-/// The most digits of a number.
-const DIGITS: usize = 39;
-
-/// The bytes by which a sheet gets longer than it has to. A list has capacity for more, so that it is not moved for each of these steps;
-/// and so few are cleared at once.
-const STEP: usize = 256;
-
-/// The bytes that a list has capacity for from the first on, and those that it has capacity for next: most sheets are never moved, and
-/// few are moved twice. Capacity that was not written to yet takes addresses, and hardly any memory.
-const FIRST_CAPACITY: usize = 16_000;
-
-const NEXT_CAPACITY: usize = 120_000;
 
 /// Lines of notices one behind the other, with room behind them, so that the next one is written where it stays.
 #[derive(Debug, Drop)]
@@ -113,7 +99,7 @@ impl NoticeSheet {
         ensures memory { OnErr result (self.new ≡ self.old) }
         ensures few { length self.new < 2 ^ 63 }
     {
-        make_room(&mut self.bytes, self.len, DIGITS + behind.len())?;
+        make_room(&mut self.bytes, self.len, WIDE_DIGITS + behind.len())?;
         let end = put_wide(number, &mut self.bytes, self.len);
         let end = put_text(behind, &mut self.bytes, end);
         self.len = end;
@@ -139,6 +125,30 @@ impl NoticeSheet {
         Ok(())
     }
 
+    /// Appends the line of the reply to a bank's command `number` for the local book of a pair, with its number `notice` on the desk.
+    /// Without memory for it the sheet stays.
+    pub(crate) fn push_book_reply(
+        &mut self,
+        session: &Session,
+        notice: u128,
+        number: u32,
+        pair: PairId,
+        bids: &[Level],
+        asks: &[Level],
+    ) -> Result<(), Memory>
+        requires { pair < pair_count session.now }
+        ensures ok { OnOk result (self.new ≡ self.old ++ row (numeral notice)
+            (codes "REPLY" ∷ numeral number ∷ codes "BOOK" ∷ book_fields session.now pair bids.now asks.now)) }
+        ensures memory { OnErr result (self.new ≡ self.old) }
+        ensures few { length self.new < 2 ^ 63 }
+    {
+        make_room(&mut self.bytes, self.len, book_room(bids, asks))?;
+        let (room, at) = (&mut self.bytes, self.len);
+        let end = put_book_reply(session, notice, number, pair, bids, asks, room, at);
+        self.len = end;
+        Ok(())
+    }
+
     /// Appends the line of a fill as one of its banks sees it, with its number on the desk. Without memory for it the sheet stays.
     #[inline(always)]
     pub(crate) fn push_fill(
@@ -158,46 +168,5 @@ impl NoticeSheet {
         let end = put_fill(session, number, party, texts, &mut self.bytes, self.len);
         self.len = end;
         Ok(())
-    }
-}
-
-/// Makes room for so many bytes more behind the first `len`, which stay.
-#[inline(always)]
-fn make_room(bytes: &mut Vec<u8>, len: usize, more: usize) -> Result<(), Memory>
-    requires within { len ≤ vec_len bytes.old }
-    ensures room { OnOk result (len + more ≤ vec_len bytes.new) }
-    ensures within { len ≤ vec_len bytes.new }
-    ensures same { take len bytes.new.items ≡ take len bytes.old.items }
-{
-    if more <= bytes.len() - len {
-        return Ok(());
-    }
-    grow(bytes, more)
-}
-
-/// Makes a list longer, by so many bytes at least. At `Memory` it is as it was.
-fn grow(bytes: &mut Vec<u8>, more: usize) -> Result<(), Memory>
-    ensures room { OnOk result (vec_len bytes.old + more ≤ vec_len bytes.new) }
-    ensures longer { vec_len bytes.old ≤ vec_len bytes.new }
-    ensures same { take (vec_len bytes.old) bytes.new.items ≡ bytes.old.items }
-{
-    let size = (bytes.len() + STEP).saturating_add(more);
-    if bytes.capacity() < size {
-        bytes.reserve(capacity_for(size) - bytes.len())?;
-    }
-    bytes.resize(size, 0)?;
-    Ok(())
-}
-
-/// The capacity of a list that needs so many bytes at least.
-fn capacity_for(size: usize) -> usize
-    ensures { size ≤ result }
-{
-    if size <= FIRST_CAPACITY {
-        FIRST_CAPACITY
-    } else if size <= NEXT_CAPACITY {
-        NEXT_CAPACITY
-    } else {
-        size
     }
 }

@@ -36,7 +36,7 @@ impl Telling {
     {
         Ok(Telling {
             counts: vec![in alloc; 0; session.sender_places()]?,
-            writer: NoticeWriter::new(alloc),
+            writer: NoticeWriter::new(),
         })
     }
 

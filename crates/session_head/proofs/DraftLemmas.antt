@@ -54,11 +54,6 @@ IsDraft-empty version banks pairs limits totals least most no_banks none zeros n
       most = subst (λ (xs : List (Option ℕ)). All IsMost xs) (sym nones) (All-replicate IsMost 64 None tt);
     })
 
--- the draft of which the session was taken
-pub IsDraft-taken : (d : Draft) (banks : List (List ℕ)) (pairs : List PairRule) → IsDraft d → banks ≡ [] → pairs ≡ [] → IsDraft (record { version = d.version; banks = banks; pairs = pairs; limits = d.limits; totals = d.totals })
-IsDraft-taken d banks pairs valid no_banks none =
-    declares_nothing d.version banks pairs d.limits d.totals valid.version no_banks none valid.limits valid.totals
-
 -- a bank more
 pub IsDraft-bank : (d : Draft) (name : List ℕ) → IsDraft d → CanState d (statements.Bank name) → IsDraft (record d { banks = d.banks ++ name ∷ [] })
 IsDraft-bank d name valid can = record {

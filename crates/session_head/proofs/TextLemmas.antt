@@ -1,11 +1,11 @@
 -- The text of a header, line by line.
-use Rattle.std.proofs.Common.{◌≡◌, ℕ, ◌+◌, ◌<◌, ◌≤◌, true, false, List, [], ◌∷◌, ◌++◌, sym, ap, ap₂, ◌∙◌, append_assoc, append-nil, arith, nat_lt, Option, Some, None}
+use Rattle.std.proofs.Common.{◌≡◌, ℕ, ◌+◌, ◌<◌, ◌≤◌, true, false, List, [], ◌∷◌, ◌++◌, sym, ap, ap₂, ◌∙◌, append_assoc, append-nil, arith, nat_lt}
 use Rattle.std.proofs.lemmas.Bool.{lt-ltb, cond-true, cond-false}
 use Rattle.std.proofs.lemmas.Bool.Decides.{nat_tests}
 use Rattle.std.proofs.lemmas.Grind.{flat_map-append}
-use Rattle.fx_rules.specs.Session.{Header, opening_limit, opening_total}
+use Rattle.fx_rules.specs.Session.{Header, opening_limit}
 use Rattle.fx_rules.proofs.Below.{flat_map-more}
-use Rattle.session_head.specs.HeadText.{limit_statement, total_stated, totals_of, line_text, lines_text}
+use Rattle.session_head.specs.HeadText.{limit_statement, line_text, lines_text}
 use Rattle.session_head.specs.inside.HeadText.{limits_of}
 use Rattle.session_head.specs.Statement.{spelling}
 use Rattle.session_head.specs.declared.statement.Statement.{Statement}
@@ -40,25 +40,3 @@ limit_left h from to limit start text so_far is none =
     let test : nat_lt 0 (opening_limit h from to) ≡ false = let zero : opening_limit h from to ≤ 0 = omega arith in grind (arith, nat_tests) in
     let stated : limit_statement h from to ≡ [] = cond-false _ _ _ test in
     sym (append-nil text) ∙ limits_more h from to start text [] so_far (ap (λ (xs : List Statement). lines_text h.banks xs) (sym stated))
-
--- the total of one bank more, where it has one
-total_more : (h : Header) (bank : ℕ) (start text line : List ℕ) → text ≡ start ++ lines_text h.banks (totals_of h bank) → line ≡ lines_text h.banks (total_stated bank (opening_total h bank))
-    → text ++ line ≡ start ++ lines_text h.banks (totals_of h (bank + 1))
-total_more h bank start text line so_far is =
-    ap₂ (λ (a b : List ℕ). a ++ b) so_far is
-    ∙ append_assoc start (lines_text h.banks (totals_of h bank)) (lines_text h.banks (total_stated bank (opening_total h bank)))
-    ∙ ap (λ (xs : List ℕ). start ++ xs) (sym (lines_text-append h.banks (totals_of h bank) (total_stated bank (opening_total h bank))))
-    ∙ ap (λ (xs : List Statement). start ++ lines_text h.banks xs) (sym (flat_map-more (λ one. total_stated one (opening_total h one)) bank))
-
-pub total_pushed : (h : Header) (bank at limit : ℕ) (start text new : List ℕ) → text ≡ start ++ lines_text h.banks (totals_of h bank) → at ≡ bank → Some limit ≡ opening_total h bank
-    → new ≡ text ++ line_text (spelling h.banks (statements.Total at limit)) → new ≡ start ++ lines_text h.banks (totals_of h (bank + 1))
-total_pushed h bank at limit start text new so_far place is pushed =
-    let line : line_text (spelling h.banks (statements.Total at limit)) ≡ lines_text h.banks (total_stated bank (opening_total h bank)) =
-    ap (λ (b : ℕ). line_text (spelling h.banks (statements.Total b limit))) place
-    ∙ sym (append-nil _)
-    ∙ ap (λ (o : Option ℕ). lines_text h.banks (total_stated bank o)) is in
-    pushed ∙ total_more h bank start text _ so_far line
-
-pub total_left : (h : Header) (bank : ℕ) (start text : List ℕ) → text ≡ start ++ lines_text h.banks (totals_of h bank) → None ≡ opening_total h bank → text ≡ start ++ lines_text h.banks (totals_of h (bank + 1))
-total_left h bank start text so_far is =
-    sym (append-nil text) ∙ total_more h bank start text [] so_far (ap (λ (o : Option ℕ). lines_text h.banks (total_stated bank o)) is)

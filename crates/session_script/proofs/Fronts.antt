@@ -1,6 +1,5 @@
 -- The first lines of a text, where each is a command in its one spelling.
-use Rattle.std.proofs.Common.{◌≡◌, ℕ, ◌<◌, Bool, true, false, List, [], ◌∷◌, ◌++◌, length, take, refl, sym, ap, ◌∙◌, subst, arith, append_assoc, append-nil}
-use Rattle.std.proofs.Math.Seq.{take-append_seam}
+use Rattle.std.proofs.Common.{◌≡◌, ℕ, ◌<◌, Bool, true, false, List, [], ◌∷◌, ◌++◌, length, refl, sym, ap, ◌∙◌, subst, arith, append_assoc, append-nil}
 use Rattle.fx_rules.specs.Lists.{Each}
 use Rattle.fx_rules.specs.Sending.{IsSentOf}
 use Rattle.fx_rules.specs.Session.{Header}
@@ -106,7 +105,3 @@ pub StandsAt-goes_on : (stage : Stage) (lines done front : List Line) (line : Li
 StandsAt-goes_on stage lines done front line former at =
     subst (λ (all : List Line). StandsAt stage all former)
     (ap (λ (all : List Line). all ++ front) (append_assoc lines done (line ∷ [])) ∙ append_assoc lines (done ++ line ∷ []) front) at
-
--- the commands from before stand before those that were added
-pub AddsLines-before : (h : Header) (old new : List Sent) (text rest : List ℕ) → AddsLines h old new text rest → take (length old) new ≡ old
-AddsLines-before h old new text rest adds = ap (take (length old)) adds.added ∙ take-append_seam old adds.more

@@ -1,5 +1,5 @@
 -- A session's text as it goes on: its session, its first fault, its END line and what stands before that stay.
-use Rattle.std.proofs.Common.{◌≡◌, ℕ, ◌+◌, ◌≤◌, Bool, true, false, cond, List, [], ◌∷◌, ◌++◌, length, map, None, Some, refl, sym, ap, ◌∙◌, subst, arith, inl, inr, append-nil, length-append}
+use Rattle.std.proofs.Common.{◌≡◌, ℕ, ◌+◌, ◌≤◌, Bool, true, false, cond, List, [], ◌∷◌, ◌++◌, length, map, None, Some, refl, sym, ap, ◌∙◌, arith, inl, inr, append-nil, length-append}
 use Rattle.std.proofs.lemmas.Bool.{cases_Bool}
 use Rattle.std.proofs.lemmas.List.{map-append, length-map}
 use mathlib.Core.List.{IsPrefix}
@@ -15,7 +15,7 @@ use Rattle.order_lines.specs.Grammar.{command_line}
 use Rattle.order_lines.specs.declared.spoken.Spoken.{Spoken}
 use Rattle.order_lines.specs.declared.spoken.Spoken.TheVariants.{Of, Stray, End, Passed}
 use Rattle.session_script.specs.inside.Script.{is_started}
-use Rattle.session_script.specs.Script.{lines_behind, up_to_end, has_end, sent_among, strays_in, spoken_of, spoken_in, HasSession, HasFault, HasEnd, sent_in, strays_of}
+use Rattle.session_script.specs.Script.{lines_behind, up_to_end, has_end, sent_among, strays_in, spoken_of, spoken_in, HasSession, HasFault, sent_in}
 use Rattle.fx_rules.specs.declared.command.Sent.{Sent}
 use Rattle.session_script.specs.Rounds.{IsFront}
 
@@ -224,28 +224,6 @@ HasSession-no_fault text h line reason is faulted = no_session (read_head (lines
 spoken_in-append : (text more : List ℕ) (h : Header) → HasSession text h → spoken_in h (text ++ more) ≡ spoken_in h text ++ map (command_line h) (lines_of (rest_of text ++ more))
 unfolding HasSession spoken_in
 spoken_in-append text more h is = ap (spoken_of h) (lines_of-append text more) ∙ spoken_of-append h (lines_of text) (lines_of (rest_of text ++ more)) is
-
--- an END line stays the text's end
-pub HasEnd-more : (text more : List ℕ) → HasEnd text → HasEnd (text ++ more)
-HasEnd-more text more (h, session, end) =
-    let ends : has_end (spoken_in h (text ++ more)) ≡ true = ap has_end (spoken_in-append text more h session) ∙ has_end-more (spoken_in h text) (map (command_line h) (lines_of (rest_of text ++ more))) end in
-    (h, HasSession-more text more h session, ends)
-
--- and nothing behind it is a command of the text, or a stray
-ended : (text : List ℕ) (h : Header) → HasSession text h → HasEnd text → has_end (spoken_in h text) ≡ true
-ended text h session (g, other, end) = subst (λ (header : Header). has_end (spoken_in header text) ≡ true) (HasSession-one text g h other session) end
-
-up_to_end_in : (text more : List ℕ) (h : Header) → HasSession text h → HasEnd text → up_to_end (spoken_in h (text ++ more)) ≡ up_to_end (spoken_in h text)
-up_to_end_in text more h session end =
-    ap up_to_end (spoken_in-append text more h session) ∙ up_to_end-more (spoken_in h text) (map (command_line h) (lines_of (rest_of text ++ more))) (ended text h session end)
-
-pub sent_in-more : (text more : List ℕ) (h : Header) → HasSession text h → HasEnd text → sent_in h (text ++ more) ≡ sent_in h text
-unfolding sent_in
-sent_in-more text more h session end = ap sent_among (up_to_end_in text more h session end)
-
-pub strays_of-more : (text more : List ℕ) (h : Header) → HasSession text h → HasEnd text → strays_of h (text ++ more) ≡ strays_of h text
-unfolding strays_of
-strays_of-more text more h session end = ap strays_in (up_to_end_in text more h session end)
 
 -- as a text goes on, its commands stay in front of those that come
 pub sent_in-begins : (text more : List ℕ) (h : Header) → HasSession text h → IsPrefix (sent_in h text) (sent_in h (text ++ more))

@@ -9,9 +9,9 @@ use Rattle.day_report.specs.declared.rows.Report.{Report}
 use Rattle.reply_lines.specs.Books.{LocalBook, books_text}
 use Rattle.reply_lines.specs.Report.{report_text}
 use Rattle.reply_lines.specs.Desks.{AreDesksOf}
-use Rattle.reply_lines.specs.Day.{IsTextOf}
+use Rattle.reply_lines.specs.Day.{AreLinesOf, AreNoticesOf}
 use Rattle.reply_lines.specs.inside.Report.{IsReportOf}
-use Rattle.reply_lines.specs.declared.day.DayText.{DayText}
+use Rattle.reply_lines.specs.declared.day.DayParts.{DayParts}
 use Rattle.reply_lines.specs.declared.day_notices.Findings.{Findings}
 
 -- the report is that of the state at the end of a history
@@ -26,10 +26,11 @@ pub record AreFindingsOf (h : Header) (entries : List Entry) (found : Findings) 
   pub report : IsReportAt h entries found.report
   pub desks : AreDesksOf h entries found.desks.items
 
--- the entries are a legal history, of which the day tells, and the market stands for the state after it
-pub record IsDayOf {M : Type 0} (stands : M → Header → State → Type 0) (h : Header) (entries : List Entry) (day : DayText) (market : M) : Type 0 where
+-- the entries are a legal history, of which these are the parts, and the market stands for the state after it
+pub record IsDayOf {M : Type 0} (stands : M → Header → State → Type 0) (h : Header) (entries : List Entry) (day : DayParts) (market : M) : Type 0 where
   pub legal : IsLegal h entries
-  pub text : IsTextOf h entries day
+  pub journal : AreLinesOf h entries day.journal
+  pub notices : AreNoticesOf h entries day.notices
   pub at_the_end : stands market h (state h entries)
 
 -- what stands behind the desks, up to the last lines

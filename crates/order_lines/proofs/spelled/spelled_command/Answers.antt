@@ -1,7 +1,6 @@
 use Rattle.std.proofs.Common.{sym}
 use Rattle.fx_rules.specs.Session.{bank_name}
-use Rattle.order_lines.specs.Words.{word_text}
-use Rattle.order_lines.proofs.SaidFields.{bank_named-ok, word_of-ok}
+use Rattle.order_lines.proofs.SaidFields.{bank_named-ok}
 use Rattle.order_lines.proofs.SpelledFields.{field_says}
 use Rattle.order_lines.proofs.SpelledLines.{BeginsWith, BeginsWith-fields}
 use Rattle.order_lines.proofs.spelled.spelled_command.Goals as goal
@@ -10,9 +9,9 @@ pub returns-in-Some : goal.returns-in-Some
 returns-in-Some c =
     let named = bank_named-ok c.args.session.now c.in_ok-name.name.now c.in_ok-bank.bank (sym c.in_ok-bank.ensures.value) in
     let begins : BeginsWith c.args.session.now c.args.text.now c.in_ok-bank.bank c.in-Some.command c.in-Some.behind.now =
-    BeginsWith-fields c.args.session.now c.in_ok-bank.bank c.in_ok-word.word c.args.text.now c.in_ok-name.fields.now c.in_ok-asked.fields.now c.in-Some.command c.in-Some.behind.now
+    BeginsWith-fields c.args.session.now c.in_ok-bank.bank c.in_ok-word.word c.args.text.now c.in_ok-name.fields.now c.in_ok-word.fields.now c.in-Some.command c.in-Some.behind.now
     c.banks-banks.ensures.valid named.0
     (field_says c.args.text.now c.in_ok-name.name.now (bank_name c.args.session.now c.in_ok-bank.bank) c.in_ok-name.fields.now 32 c.in_ok-name.ensures named.1)
-    (field_says c.in_ok-name.fields.now c.in_ok-asked.asked.now (word_text c.in_ok-word.word) c.in_ok-asked.fields.now 32 c.in_ok-asked.ensures (word_of-ok c.in_ok-asked.asked.now c.in_ok-word.word (sym c.in_ok-word.ensures)))
+    c.in_ok-word.ensures
     c.in-Some.ensures in
     record { spelled = begins.spelled; line = begins.line; reads = begins.reads; valid = record { command = begins.valid }; shorter = begins.shorter }

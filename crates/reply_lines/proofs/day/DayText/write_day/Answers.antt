@@ -1,23 +1,14 @@
--- A legal history has an output, and this is all but its last lines.
-use Rattle.reply_lines.specs.Output.{IsDayText, day_text}
-use Rattle.reply_lines.proofs.Outputs.{day_whole, day_part, is_day}
+-- The journal's lines are those that stand in its text.
+use Rattle.reply_lines.proofs.Journals.{lines-stand}
 use Rattle.reply_lines.proofs.day.DayText.write_day.Goals as goal
 
-pub write_part-requires : goal.write_part-requires
-write_part-requires g c =
+pub write_day-requires : goal.write_day-requires
+write_day-requires g c =
     let told = c.requires.told in
-    record { told = (told.0, record { legal = told.1; text = told.2; at_the_end = told.3 }) }
+    record { told = (told.0, told.1, lines-stand c.args.session.now told.0 c.args.self.journal c.as_lines.result told.2.journal c.as_lines.ensures.count c.as_lines.ensures.lines, told.2.notices, told.3) }
 
-pub returns-in-Ok : goal.returns-in-Ok
-returns-in-Ok g c = record {
+pub returns : goal.returns
+returns g c = record {
   wrote = λ entries legal text stands.
-      day_whole c.args.session.now entries (IsDayText c.args.session.now entries) (day_text c.args.session.now entries) (is_day c.args.session.now entries) legal
-      (λ books are. c.in-Ok.ensures.wrote entries books (record { legal = legal; text = text; at_the_end = stands }) are);
-}
-
-pub returns-in-Err : goal.returns-in-Err
-returns-in-Err g c = record {
-  wrote = λ entries legal text stands.
-      day_part c.args.session.now entries (IsDayText c.args.session.now entries) (day_text c.args.session.now entries) (is_day c.args.session.now entries) legal
-      c.in-Err.fault c.from.result c.from.ensures (λ books are. c.in-Err.ensures.wrote entries books (record { legal = legal; text = text; at_the_end = stands }) are);
+      c.write_day.ensures.wrote entries legal (lines-stand c.args.session.now entries c.args.self.journal c.as_lines.result text.journal c.as_lines.ensures.count c.as_lines.ensures.lines) text.notices stands;
 }

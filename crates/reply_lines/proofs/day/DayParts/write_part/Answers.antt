@@ -1,6 +1,6 @@
 -- The last piece is handed on, where all was written.
 use Rattle.fx_edges.proofs.Gathering.{Wrote-rest_of_all, Wrote-from_none}
-use Rattle.reply_lines.proofs.day.DayText.write_part.Goals as goal
+use Rattle.reply_lines.proofs.day.DayParts.write_part.Goals as goal
 
 pub returns-in-Ok : goal.returns-in-Ok
 returns-in-Ok g c = record {

@@ -2,7 +2,7 @@
 use Rattle.fx_edges.proofs.Writing.{Wrote-of_longer, IsPrefixOf-append}
 use Rattle.fx_edges.proofs.Gathering.{Wrote-then_rest, Wrote-from_none}
 use Rattle.reply_lines.specs.Output.{day_text, last_text}
-use Rattle.reply_lines.proofs.day.DayText.write_whole.Goals as goal
+use Rattle.reply_lines.proofs.day.DayParts.write_whole.Goals as goal
 
 pub returns-in-Ok : goal.returns-in-Ok
 returns-in-Ok g c = record {
