@@ -4,14 +4,15 @@ use Rattle.std.proofs.Math.ListN.{set}
 use Rattle.std.proofs.lemmas.List.{get_or-replicate, get_or-set_other, get_or-set_same}
 use Rattle.std.specs.Map.{lookup}
 use Rattle.std.specs.Prelude.{IfSome}
-use Rattle.std.proofs.lemmas.Bool.{cases_eq, cases_lt, eq-eqb, le-leb, lt-leb, ne_eqb}
+use Rattle.std.proofs.lemmas.Bool.{cases_eq, cases_lt, eq-eqb, le-ltb, lt-ltb, ne_eqb}
 use Rattle.price_levels.specs.declared.level.Level.{Level}
 use Rattle.price_levels.specs.Rungs.{Rungs, holds, level_at, with_level_at}
 use Rattle.price_levels.specs.Ticks.{first_left, last_left, no_level, with_order, without_order}
 use Rattle.access_index.specs.declared.words.Head.{Head}
 use Rattle.access_index.specs.Heads.{IsHead, head_word}
 use Rattle.access_index.specs.Ranked.{AreHeadWords, IsHeadOf, bank_holds, bank_level, holds_in, level_in, with_bank_level}
-use Rattle.access_index.specs.inside.Ranked.{AreRanked, head_with}
+use Rattle.access_index.specs.inside.Ranked.{AreRanked}
+use Rattle.access_index.specs.inside.Words.{head_with}
 use Rattle.access_index.proofs.Numbering.{Writes, of_updates}
 
 -- levels that are the same at each rank have the same best order
@@ -76,17 +77,17 @@ newly old rank place lots some none =
     )
 
 pub head_come : (old : ℕ → Level) (rank place lots : ℕ) (head : Option Head) → 0 < lots → IsHeadOf old head
-    → IsHeadOf (with_level_at old rank (with_order (old rank) place lots)) (head_with head rank place)
+    → IsHeadOf (with_level_at old rank (with_order (old rank) place lots)) (head_with head (record { rank = rank; place = place }))
 head_come old rank place lots None some none = newly old rank place lots some (λ other upto. none other)
 head_come old rank place lots (Some head) some is =
     elim (cases_lt rank head.rank) [
       | inl better ↦
           subst (IsHeadOf (with_level_at old rank (with_order (old rank) place lots)))
-          (sym (ap (λ (b : Bool). if b then Some head else Some (record { rank = rank; place = place })) (lt-leb head.rank rank better)))
+          (sym (ap (λ (b : Bool). if b then Some (record { rank = rank; place = place }) else Some head) (lt-ltb rank head.rank better)))
           (newly old rank place lots some (λ other upto. is.0.first other (omega arith) (omega (arith, upto, better))))
       | inr behind ↦
           subst (IsHeadOf (with_level_at old rank (with_order (old rank) place lots)))
-          (sym (ap (λ (b : Bool). if b then Some head else Some (record { rank = rank; place = place })) (le-leb head.rank rank behind)))
+          (sym (ap (λ (b : Bool). if b then Some (record { rank = rank; place = place }) else Some head) (le-ltb rank head.rank behind)))
           (elim (cases_eq (old rank).lots 0) [
             | inl empty ↦ beside empty behind
             | inr has ↦

@@ -1,19 +1,20 @@
 -- The words of the banks' best orders, and the least of them.
-use Rattle.std.proofs.Common.{ℕ, ◌≡◌, ◌≢◌, ◌+◌, ◌-◌, ◌/◌, ◌%◌, ◌≤◌, ◌<◌, ◌^◌, ◌⊎◌, Bool, if◌then◌else◌, min, List, length, map, get_or, replicate, unwrap_or, Option, Some, None, inl, inr, ap, sym, subst, ◌∙◌, arith, eq-eqb}
+use Rattle.std.specs.Option.{IfSome}
+use Rattle.std.proofs.Common.{ℕ, ◌≡◌, ◌≢◌, ◌+◌, ◌-◌, ◌*◌, ◌/◌, ◌%◌, ◌≤◌, ◌<◌, ◌^◌, ◌⊎◌, Bool, if◌then◌else◌, min, List, length, map, get_or, replicate, unwrap_or, Option, Some, None, inl, inr, ap, sym, subst, ◌∙◌, arith, eq-eqb}
 use Rattle.std.proofs.Math.ListN.{set}
 use Rattle.std.proofs.lemmas.Bool.{cases_eq, cases_lt, ne_eqb}
 use Rattle.std.proofs.lemmas.Option.{none-some}
 use Rattle.std.proofs.lemmas.List.{get_or-map, get_or-replicate, get_or-set_other, get_or-set_same}
 use Rattle.access_index.specs.declared.words.Head.{Head}
-use Rattle.access_index.specs.Heads.{IsHead, IsLeastHead, IsUpTo, head_word, word_of}
-use Rattle.access_index.specs.inside.Words.{AreWords, IsLeastWord, head_of}
+use Rattle.access_index.specs.Heads.{IsBestWithin, IsHead, IsUpTo, head_word, word_of}
+use Rattle.access_index.specs.inside.Words.{AreWords, IsLeastOf, head_of}
 
--- one bank more
-pub least_more : (words : List ℕ) (k least word new : ℕ) → word ≡ get_or words k 0 → new ≡ min least word → IsLeastWord words k least → IsLeastWord words (k + 1) new
-least_more words k least word new here lesser was = record {
-  first = λ bank below. elim (cases_eq bank k) [
-    | inl same ↦ omega (arith, lesser, here, ap (λ (n : ℕ). get_or words n 0) same)
-    | inr differ ↦ let it = was.first bank (omega (arith, below, differ)) in omega (arith, lesser, it)
+-- one word more
+pub least_more : (words : List ℕ) (from k least word new : ℕ) → word ≡ get_or words (from + k) 0 → new ≡ min least word → IsLeastOf words from k least → IsLeastOf words from (k + 1) new
+least_more words from k least word new here lesser was = record {
+  first = λ at below. elim (cases_eq at k) [
+    | inl same ↦ omega (arith, lesser, here, ap (λ (n : ℕ). get_or words (from + n) 0) same)
+    | inr differ ↦ let it = was.first at (omega (arith, below, differ)) in omega (arith, lesser, it)
   ];
   there = λ some. elim (cases_lt word least) [
     | inl lower ↦ (k, omega arith, omega (arith, lesser, lower, here))
@@ -24,11 +25,32 @@ least_more words k least word new here lesser was = record {
   ];
 }
 
-pub none_yet : AreWords (replicate 64 (2 ^ 64 - 1))
+pub none_yet : AreWords (replicate 64 (2 ^ 64 - 1)) (replicate 8 (2 ^ 64 - 1))
 none_yet = record {
   own = λ bank small some. absurd (some (get_or-replicate 64 bank (2 ^ 64 - 1) 0 small));
   most = λ bank small. omega (arith, get_or-replicate 64 bank (2 ^ 64 - 1) 0 small);
+  least = λ group few. record {
+    first = λ at small. omega (arith, get_or-replicate 8 group (2 ^ 64 - 1) 0 few, get_or-replicate 64 (group * 8 + at) (2 ^ 64 - 1) 0 (omega (arith, few, small)));
+    there = λ some. absurd (some (get_or-replicate 8 group (2 ^ 64 - 1) 0 few));
+  };
 }
+
+-- the least of the least words of all groups is the least of all
+pub least_all : (words groups : List ℕ) (least : ℕ) → AreWords words groups → IsLeastOf groups 0 8 least → IsLeastOf words 0 64 least
+least_all words groups least are is = record {
+  first = λ at small.
+      let group : at / 8 < 8 = omega (arith, small) in
+      let same : at / 8 * 8 + at % 8 ≡ 0 + at = omega arith in
+      omega (arith, is.first (at / 8) group, ap (λ (n : ℕ). get_or groups n 0) (zero_more (at / 8)), (are.least (at / 8) group).first (at % 8) (omega arith), ap (λ (n : ℕ). get_or words n 0) same);
+  there = λ some.
+      let it = is.there some in
+      let group : get_or groups it.0 0 ≡ least = ap (λ (n : ℕ). get_or groups n 0) (sym (zero_more it.0)) ∙ it.2 in
+      let one = (are.least it.0 it.1).there (λ none. some (sym group ∙ none)) in
+      (it.0 * 8 + one.0, omega (arith, it.1, one.1), ap (λ (n : ℕ). get_or words n 0) (zero_more (it.0 * 8 + one.0)) ∙ one.2 ∙ group);
+}
+  where
+    zero_more : (n : ℕ) → 0 + n ≡ n
+    zero_more n = omega arith
 
 -- a word tells the order that it was made of
 pub head_of-word : (head : Head) (bank : ℕ) → IsHead head → bank < 64 → head_of (word_of head bank) ≡ Some head
@@ -57,39 +79,59 @@ none_of word is = ap (λ (b : Bool). if b then None else Some (record { rank = w
 some_of : (word : ℕ) → word ≢ 2 ^ 64 - 1 → head_of word ≡ Some (record { rank = word / 2 ^ 34; place = word / 64 % 2 ^ 28 })
 some_of word some = ap (λ (b : Bool). if b then None else Some (record { rank = word / 2 ^ 34; place = word / 64 % 2 ^ 28 })) (ne_eqb word (2 ^ 64 - 1) some)
 
-module _ (words : List ℕ) (heads : List (Option Head)) (banks least : ℕ) (long : length words ≡ 64) (seen : map head_of words ≡ heads) (few : banks ≤ 64) (is : IsLeastWord words banks least) where
-  pub least_none : AreWords words → least ≡ 2 ^ 64 - 1 → (bank : ℕ) → bank < banks → get_or heads bank None ≡ None
-  least_none are none bank small =
-      let it = is.first bank small in
-      let within : bank < 64 = omega (arith, small, few) in
-      read_head words heads bank long seen within ∙ none_of (get_or words bank 0) (omega (arith, it, none, are.most bank within))
+-- the least word of all has the best order of all, where its rank is low enough
+module _ (words : List ℕ) (heads : List (Option Head)) (least most : ℕ) (long : length words ≡ 64) (seen : map head_of words ≡ heads) (is : IsLeastOf words 0 64 least) where
+  least_here : (bank : ℕ) → bank < 64 → least ≤ get_or words bank 0
+  least_here bank small = omega (arith, is.first bank small, ap (λ (n : ℕ). get_or words n 0) (zero_more bank))
+    where
+      zero_more : (n : ℕ) → 0 + n ≡ n
+      zero_more n = omega arith
 
-  pub least_found : AreWords words → least ≢ 2 ^ 64 - 1 → (bank : ℕ) → bank ≡ least % 64 → IsLeastHead heads banks bank (record { rank = least / 2 ^ 34; place = least / 64 % 2 ^ 28 })
-  least_found are some bank bank_is =
+  pub none_within : most < least / 2 ^ 34 → (bank : ℕ) → bank < 64 → IfSome (get_or heads bank None) (λ (head : Head). most < head.rank)
+  none_within above bank small =
+      let w : ℕ = get_or words bank 0 in
+      let here : get_or heads bank None ≡ head_of w = read_head words heads bank long seen small in
+      elim (cases_eq w (2 ^ 64 - 1)) [
+        | inl none ↦ subst (λ (o : Option Head). IfSome o (λ (head : Head). most < head.rank)) (sym (here ∙ none_of w none)) tt
+        | inr some ↦
+            subst (λ (o : Option Head). IfSome o (λ (head : Head). most < head.rank)) (sym (here ∙ some_of w some)) (omega (arith, above, least_here bank small))
+      ]
+
+  pub best_within : (groups : List ℕ) (bank : ℕ) → AreWords words groups → most ≤ 10 ^ 9 → least / 2 ^ 34 ≤ most → bank ≡ least % 64 → IsBestWithin heads most bank
+  best_within groups bank are fits low bank_is =
+      let some : least ≢ 2 ^ 64 - 1 = λ none. omega (arith, fits, low, none) in
       let it = is.there some in
-      let within : it.0 < 64 = omega (arith, it.1, few) in
-      let own : least % 64 ≡ it.0 = ap (λ (w : ℕ). w % 64) (sym it.2) ∙ are.own it.0 within (λ none. some (sym it.2 ∙ none)) in
-      let here : it.0 ≡ bank = sym own ∙ sym bank_is in
-      subst (λ (b : ℕ). IsLeastHead heads banks b (record { rank = least / 2 ^ 34; place = least / 64 % 2 ^ 28 })) here (record {
+      let at : get_or words it.0 0 ≡ least = ap (λ (n : ℕ). get_or words n 0) (omega arith) ∙ it.2 in
+      let own : least % 64 ≡ it.0 = ap (λ (w : ℕ). w % 64) (sym at) ∙ are.own it.0 it.1 (λ none. some (sym at ∙ none)) in
+      subst (IsBestWithin heads most) (sym own ∙ sym bank_is) (record {
         within = it.1;
-        there = read_head words heads it.0 long seen within ∙ ap head_of it.2 ∙ some_of least some;
-        first = λ other found small has. first_of other found small has;
+        head = record { rank = least / 2 ^ 34; place = least / 64 % 2 ^ 28 };
+        there = read_head words heads it.0 long seen it.1 ∙ ap head_of at ∙ some_of least some;
+        low = low;
+        first = first_of;
       })
     where
-      first_of : (other : ℕ) (found : Head) → other < banks → get_or heads other None ≡ Some found → IsUpTo (record { rank = least / 2 ^ 34; place = least / 64 % 2 ^ 28 }) found
+      first_of : (other : ℕ) (found : Head) → other < 64 → get_or heads other None ≡ Some found → IsUpTo (record { rank = least / 2 ^ 34; place = least / 64 % 2 ^ 28 }) found
       first_of other found small has =
           let w : ℕ = get_or words other 0 in
-          let within : other < 64 = omega (arith, small, few) in
           elim (cases_eq w (2 ^ 64 - 1)) [
-            | inl none ↦ absurd (none-some found (sym (none_of w none) ∙ sym (read_head words heads other long seen within) ∙ has))
+            | inl none ↦ absurd (none-some found (sym (none_of w none) ∙ sym (read_head words heads other long seen small) ∙ has))
             | inr full ↦
-                let head : record { rank = w / 2 ^ 34; place = w / 64 % 2 ^ 28 } ≡ found = ap (λ (o : Option Head). unwrap_or o found) (sym (some_of w full) ∙ sym (read_head words heads other long seen within) ∙ has) in
-                subst (IsUpTo (record { rank = least / 2 ^ 34; place = least / 64 % 2 ^ 28 })) head (up_to least w (is.first other small))
+                let head : record { rank = w / 2 ^ 34; place = w / 64 % 2 ^ 28 } ≡ found = ap (λ (o : Option Head). unwrap_or o found) (sym (some_of w full) ∙ sym (read_head words heads other long seen small) ∙ has) in
+                subst (IsUpTo (record { rank = least / 2 ^ 34; place = least / 64 % 2 ^ 28 })) head (up_to least w (least_here other small))
           ]
 
--- a word is written at its bank
-pub words_set : (words : List ℕ) (at bank word : ℕ) → length words ≡ 64 → at ≡ bank → AreWords words → (word ≢ 2 ^ 64 - 1 → word % 64 ≡ bank) → word < 2 ^ 64 → AreWords (set words at word)
-words_set words at bank word long same are own fits = record {
+-- a word outside of a group is another one
+least_kept : (words : List ℕ) (at word from least : ℕ) → ((k : ℕ) → k < 8 → from + k ≢ at) → IsLeastOf words from 8 least → IsLeastOf (set words at word) from 8 least
+least_kept words at word from least apart was = record {
+  first = λ k small. omega (arith, get_or-set_other words at (from + k) word 0 (apart k small), was.first k small);
+  there = λ some. let it = was.there some in (it.0, it.1, get_or-set_other words at (from + it.0) word 0 (apart it.0 it.1) ∙ it.2);
+}
+
+-- a word is written at its bank, and the least of its group beside it
+pub words_set : (words groups : List ℕ) (at bank word group least : ℕ) → length words ≡ 64 → length groups ≡ 8 → at ≡ bank → bank < 64 → AreWords words groups → (word ≢ 2 ^ 64 - 1 → word % 64 ≡ bank) → word < 2 ^ 64
+    → group ≡ at / 8 → IsLeastOf (set words at word) (group * 8) 8 least → AreWords (set words at word) (set groups group least)
+words_set words groups at bank word group least long eight same few are own fits group_is is = record {
   own = λ other small some. elim (cases_eq other at) [
     | inl here ↦
         let is : get_or (set words at word) other 0 ≡ word = ap (λ (k : ℕ). get_or (set words at word) k 0) here ∙ get_or-set_same words at word 0 (omega (arith, here, small, long)) in
@@ -102,15 +144,23 @@ words_set words at bank word long same are own fits = record {
     | inl here ↦ omega (arith, fits, ap (λ (k : ℕ). get_or (set words at word) k 0) here, get_or-set_same words at word 0 (omega (arith, here, small, long)))
     | inr differ ↦ omega (arith, get_or-set_other words at other word 0 differ, are.most other small)
   ];
+  least = λ other small. elim (cases_eq other group) [
+    | inl here ↦
+        subst (λ (g : ℕ). IsLeastOf (set words at word) (g * 8) 8 (get_or (set groups group least) g 0)) (sym here)
+        (subst (IsLeastOf (set words at word) (group * 8) 8) (sym (get_or-set_same groups group least 0 (omega (arith, here, small, eight)))) is)
+    | inr differ ↦
+        subst (IsLeastOf (set words at word) (other * 8) 8) (sym (get_or-set_other groups group other least 0 differ))
+        (least_kept words at word (other * 8) (get_or groups other 0) (λ k below here. omega (arith, differ, group_is, below, here)) (are.least other small))
+  ];
 }
 
 pub own_word : (head : Head) (bank : ℕ) → bank < 64 → word_of head bank % 64 ≡ bank
 own_word head bank small = omega (arith, small)
 
 -- a word is that of the order which it tells
-pub word_told : (words : List ℕ) (heads : List (Option Head)) (bank : ℕ) → length words ≡ 64 → map head_of words ≡ heads → AreWords words → bank < 64
+pub word_told : (words groups : List ℕ) (heads : List (Option Head)) (bank : ℕ) → length words ≡ 64 → map head_of words ≡ heads → AreWords words groups → bank < 64
     → get_or words bank 0 ≡ head_word bank (get_or heads bank None)
-word_told words heads bank long seen are small =
+word_told words groups heads bank long seen are small =
     let w : ℕ = get_or words bank 0 in
     elim (cases_eq w (2 ^ 64 - 1)) [
       | inl none ↦ none ∙ sym (ap (head_word bank) (read_head words heads bank long seen small ∙ none_of w none))

@@ -20,8 +20,10 @@ head_word bank (Some head) = word_of head bank
 abbrev pub IsUpTo : Head → Head → Type 0
 IsUpTo head other = (head.rank < other.rank) ⊎ ((head.rank ≡ other.rank) × (head.place ≤ other.place))
 
--- a bank's best order, of the first so many banks, and none of theirs is better
-pub record IsLeastHead (heads : List (Option Head)) (banks bank : ℕ) (head : Head) : Type 0 where
-  pub within : bank < banks
+-- a bank's best order has a rank that is at most so high, and no other bank's is better
+pub record IsBestWithin (heads : List (Option Head)) (most bank : ℕ) : Type 0 where
+  pub within : bank < 64
+  pub head : Head
   pub there : slice_index_or heads bank None ≡ Some head
-  pub first : (other : ℕ) (found : Head) → other < banks → slice_index_or heads other None ≡ Some found → IsUpTo head found
+  pub low : head.rank ≤ most
+  pub first : (other : ℕ) (found : Head) → other < 64 → slice_index_or heads other None ≡ Some found → IsUpTo head found

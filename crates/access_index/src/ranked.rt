@@ -4,7 +4,7 @@ ghost use Rattle.std.specs.Option.{option_copied};
 ghost use Rattle.price_levels.specs.Ticks.{last_of_level, no_level, with_order, without_order};
 ghost use Rattle.access_index.specs.Heads.{IsHead};
 ghost use Rattle.access_index.specs.Ranked.{AreHeadWords, IsHeadOf, bank_holds, bank_level, with_bank_level};
-ghost use Rattle.access_index.specs.inside.Ranked.{AreNumbered, head_with};
+ghost use Rattle.access_index.specs.inside.Ranked.{AreNumbered};
 ghost use Rattle.price_levels.specs.Rungs.{IsNextRank, level_at};
 
 use crate::words::{Head, HeadWords};
@@ -97,8 +97,7 @@ impl RankedOwners {
         let number = self.numbers[bank.index()].unwrap();
         let ladder = &mut self.ladders[usize::from(number)];
         let before = ladder.insert(rank, place, lots);
-        let head = self.heads.of(bank);
-        self.heads.set(bank, head_with(head, rank, place));
+        self.heads.add(bank, Head { rank, place });
         before
     }
 
@@ -209,16 +208,6 @@ fn add_owner(
     ladders.insert(bank, ladder)?;
     numbers[bank.index()] = Some(number as u8);
     Ok(())
-}
-
-/// The best order of a bank, once another one of it comes, at a rank and behind all others there.
-fn head_with(head: Option<Head>, rank: u32, place: u32) -> Option<Head>
-    ensures { result ≡ head_with head rank place }
-{
-    match head {
-        Some(head) if head.rank <= rank => Some(head),
-        _ => Some(Head { rank, place }),
-    }
 }
 
 /// The best order of a ladder that has none before a rank.

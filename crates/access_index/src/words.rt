@@ -1,6 +1,6 @@
-ghost use Rattle.std.specs.Prelude.{ℕ, ◌≡◌, ◌-◌, ◌/◌, ◌%◌, ◌≤◌, ◌<◌, ◌^◌, None, length, replicate, slice_index, slice_index_or, slice_set, IfSome};
-ghost use Rattle.access_index.specs.Heads.{IsHead, IsLeastHead, head_word, word_of};
-ghost use Rattle.access_index.specs.inside.Words.{IsLeastWord};
+ghost use Rattle.std.specs.Prelude.{ℕ, ◌≡◌, ◌+◌, ◌-◌, ◌/◌, ◌%◌, ◌≤◌, ◌<◌, ◌^◌, None, length, replicate, slice_index, slice_index_or, slice_set, IfSome};
+ghost use Rattle.access_index.specs.Heads.{IsBestWithin, IsHead, head_word, word_of};
+ghost use Rattle.access_index.specs.inside.Words.{IsLeastOf, head_with, leads};
 
 use fx_amounts::BankId;
 use std::marker::Model;
@@ -17,11 +17,16 @@ pub struct Head {
 /// The word of an owner without orders. All others are lower.
 const NO_WORD: u64 = u64::MAX;
 
+/// How many banks a group has, and how many groups there are.
+const GROUP: usize = 8;
+
 /// For each bank the best order of one side in a word: its rank, its place and the bank, so that the least of some words is that of the
-/// best order. They lie side by side, and a search looks at all of them with no branch.
+/// best order. Beside them stands the least word of each group of eight banks, so that a search for the least of all looks at eight words,
+/// and a bank's new word at the eight of its group, both with no branch.
 #[derive(Debug, Drop)]
 pub struct HeadWords {
     words: [u64; BankId::COUNT],
+    groups: [u64; GROUP],
 }
 
 impl Model for HeadWords {
@@ -33,7 +38,7 @@ impl Model for HeadWords {
 
     ghost view = { λ h. map head_of h.words };
 
-    ghost invariant = { λ h. AreWords h.words };
+    ghost invariant = { λ h. AreWords h.words h.groups };
 }
 
 impl HeadWords {
@@ -43,6 +48,7 @@ impl HeadWords {
     {
         HeadWords {
             words: [NO_WORD; BankId::COUNT],
+            groups: [NO_WORD; GROUP],
         }
     }
 
@@ -52,10 +58,25 @@ impl HeadWords {
         requires head { IfSome head IsHead }
         ensures { self.new ≡ slice_set self.old bank head }
     {
-        self.words[bank.index()] = match head {
+        let at = bank.index();
+        self.words[at] = match head {
             Some(head) => word_of(head, bank),
             None => NO_WORD,
         };
+        let group = at / GROUP;
+        self.groups[group] = least_of(&self.words, group * GROUP);
+    }
+
+    /// Another order of a bank comes, behind all others at its rank.
+    pub(crate) fn add(&mut self, bank: BankId, head: Head)
+        requires bank { bank < 64 }
+        requires head { IsHead head }
+        ensures added { self.new ≡ slice_set self.old bank (head_with (slice_index_or self.old bank None) head) }
+        ensures count { length self.old ≡ 64 }
+    {
+        if leads(self.of(bank), head.rank) {
+            self.set(bank, Some(head));
+        }
     }
 
     /// The best order of a bank; `None` where it has none.
@@ -84,22 +105,34 @@ impl HeadWords {
         ensures same { result ≡ self.now }
         ensures count { length result ≡ 64 }
     {
-        HeadWords { words: self.words }
+        HeadWords {
+            words: self.words,
+            groups: self.groups,
+        }
     }
 
-    /// The best order of the first so many banks, with its bank; `None` where none of these has an order.
-    pub fn least(&self, banks: usize) -> Option<(BankId, Head)>
-        requires banks { banks ≤ 64 }
-        ensures found { IfSome result (λ found. IsLeastHead self.now banks found.0 found.1) }
-        ensures none { result ≡ None → (bank : ℕ) → bank < banks → slice_index_or self.now bank None ≡ None }
+    /// The bank with the best order of all, where the rank of that is at most so high; `None` where no bank has an order at such a rank.
+    pub fn best_within(&self, most: u32) -> Option<BankId>
+        requires most { most ≤ 10 ^ 9 }
+        ensures best { IfSome result (IsBestWithin self.now most) }
+        ensures none { result ≡ None → (bank : ℕ) → bank < 64 → IfSome (slice_index_or self.now bank None) (λ head. most < head.rank) }
         ensures count { length self.now ≡ 64 }
     {
-        let least = least_word(&self.words, banks);
-        if least == NO_WORD {
+        let least = least_of(&self.groups, 0);
+        if head_in(least).rank > most {
             return None;
         }
-        let bank = BankId::at((least % 64) as usize);
-        Some((bank, head_in(least)))
+        Some(BankId::at((least % 64) as usize))
+    }
+}
+
+/// Whether an order that comes at a rank, behind all others there, is the best one of its bank.
+fn leads(best: Option<Head>, rank: u32) -> bool
+    ensures { result ≡ leads best rank }
+{
+    match best {
+        Some(best) => rank < best.rank,
+        None => true,
     }
 }
 
@@ -123,14 +156,14 @@ fn word_of(head: Head, bank: BankId) -> u64
     (u64::from(head.rank) * (1 << 28) + u64::from(head.place)) * 64 + bank.index() as u64
 }
 
-/// The least of the words of the first so many banks; `NO_WORD` where there is none.
-fn least_word(words: &[u64; BankId::COUNT], banks: usize) -> u64
-    requires banks { banks ≤ 64 }
-    ensures { IsLeastWord words.now banks result }
+/// The least of eight words, from one on; `NO_WORD` where there is none.
+fn least_of(words: &[u64], from: usize) -> u64
+    requires within { from + 8 ≤ length words.now }
+    ensures { IsLeastOf words.now from 8 result }
 {
     let mut least = NO_WORD;
-    for bank in 0..banks {
-        least = least.min(words[bank]);
+    for count in 0..GROUP {
+        least = least.min(words[from + count]);
     }
     least
 }

@@ -14,7 +14,7 @@ fn rest(window: &mut Window, rank: u32, place: u32) -> Result<Option<u32>, Memor
     requires rank { rank < 2 ^ 31 }
 {
     window.reserve(rank)?;
-    if window.sum(rank) > 1_000 {
+    if window.level(rank).lots > 1_000 {
         return Ok(None);
     }
     Ok(window.insert(rank, place, lots(10)))
@@ -44,10 +44,10 @@ fn ranks_are_walked_from_the_best_one(rt: HostRuntime) -> Result<(), Fail> {
         (100_064, 10),
         (130_000, 10),
     ] {
-        assert!(rt; window.next(from) == Some(rank) && window.sum(rank) == sum);
+        assert!(rt; window.next(from) == Some(rank) && window.level(rank).lots == sum);
         from = rank.saturating_add(1);
     }
-    assert!(rt; window.next(from).is_none() && window.first() == Some(60));
+    assert!(rt; window.next(from).is_none() && window.next(0) == Some(60));
     Ok(())
 }
 
@@ -56,7 +56,7 @@ fn rest_on(ladder: &mut Ladder, rank: u32, place: u32) -> Result<Option<u32>, Me
     requires rank { rank < 2 ^ 31 }
 {
     ladder.reserve(rank)?;
-    if ladder.sum(rank) > 1_000 {
+    if ladder.level(rank).lots > 1_000 {
         return Ok(None);
     }
     Ok(ladder.insert(rank, place, lots(10)))
@@ -85,7 +85,7 @@ fn walked(ladder: &Ladder) -> (u64, u64, u32) {
             break;
         };
         count = count.saturating_add(1);
-        sum = sum.saturating_add(ladder.sum(rank));
+        sum = sum.saturating_add(ladder.level(rank).lots);
         from = rank.saturating_add(1);
     }
     (count, sum, from)
@@ -95,7 +95,7 @@ fn walked(ladder: &Ladder) -> (u64, u64, u32) {
 fn far_levels_come_into_the_window(rt: HostRuntime) -> Result<(), Fail> {
     let mut ladder = Ladder::new(rt.alloc());
     let before = filled_ladder(&mut ladder)?;
-    assert!(rt; before == Some(1) && ladder.first() == Some(60));
+    assert!(rt; before == Some(1) && ladder.next(0) == Some(60));
     let (count, sum, behind) = walked(&ladder);
     assert!(rt; count == 365 && sum == 3_660 && behind == 900_000_001);
     assert!(rt; ladder.next(100_364) == Some(104_500) && ladder.next(104_502) == Some(900_000_000));
@@ -105,18 +105,15 @@ fn far_levels_come_into_the_window(rt: HostRuntime) -> Result<(), Fail> {
 #[test]
 fn the_best_order_has_the_least_word(rt: HostRuntime) -> Result<(), Fail> {
     let mut words = HeadWords::new();
-    for (owner, rank, place) in [(0, 7, 3), (1, 7, 2), (2, 5, 9)] {
+    assert!(rt; words.best_within(1_000).is_none());
+    for (owner, rank, place) in [(0, 7, 3), (9, 7, 2), (2, 5, 9)] {
         words.set(bank(owner), Some(Head { rank, place }));
     }
-    let found = words.least(2);
-    assert!(rt;
-        found.map(|(owner, head)| (owner.index(), head.rank, head.place)) == Some((1, 7, 2))
-    );
-    let first = words.least(BankId::COUNT);
-    assert!(rt; first.map(|(owner, head)| (owner.index(), head.place)) == Some((2, 9)));
-    words.set(bank(1), None);
-    let next = words.least(2);
-    assert!(rt; next.map(|(owner, head)| (owner.index(), head.place)) == Some((0, 3)));
-    assert!(rt; words.least(0).is_none());
+    assert!(rt; words.best_within(4).is_none());
+    let first = words.best_within(5);
+    assert!(rt; first.map(BankId::index) == Some(2));
+    words.set(bank(2), None);
+    let next = words.best_within(7);
+    assert!(rt; next.map(BankId::index) == Some(9));
     Ok(())
 }

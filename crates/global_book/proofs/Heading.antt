@@ -1,5 +1,5 @@
 -- The heads of a walk along a side: what a word tells of the list of the orders, the best of the heads, and the next head of a bank.
-use Rattle.std.proofs.Common.{ℕ, zero, suc, ◌≡◌, ◌-◌, ◌≤◌, ◌<◌, ◌^◌, true, false, Bool, not, ◌&&◌, leb, ltb, min, List, [], ◌∷◌, length, map, Option, Some, None, get_or, inl, inr, refl, ap, sym, subst, ◌∙◌, arith}
+use Rattle.std.proofs.Common.{ℕ, zero, suc, ◌≡◌, ◌-◌, ◌≤◌, ◌<◌, ◌^◌, true, false, Bool, not, ◌&&◌, leb, ltb, List, [], ◌∷◌, length, map, Option, Some, None, get_or, inl, inr, refl, ap, sym, subst, ◌∙◌, arith}
 use Rattle.std.proofs.Math.ListN.{set}
 use Rattle.std.proofs.lemmas.Bool.{and_from, and_parts, both_ways, cases_eq, cases_lt, eq-eqb, eqb-true, false_from_ne_true, le-leb, lt-leb, lt-ltb}
 use Rattle.std.proofs.lemmas.List.{get_or-set_other, get_or-set_same, length-map, length-set, map-set}
@@ -14,16 +14,16 @@ use Rattle.fx_rules.specs.Sweep.{is_opposite, is_preferred}
 use Rattle.fx_rules.proofs.ListLemmas.{Each-among, Among-filter, among_filter}
 use Rattle.fx_rules.proofs.Preference.{preferred_trans}
 use Rattle.access_index.specs.declared.words.Head.{Head}
-use Rattle.access_index.specs.Heads.{IsHead, IsLeastHead, IsUpTo}
+use Rattle.access_index.specs.Heads.{IsBestWithin, IsHead, IsUpTo}
 use Rattle.access_index.specs.Ranked.{IsHeadOf, bank_level}
 use Rattle.order_store.specs.Linked.{AreListed}
 use Rattle.global_book.specs.Behind.{is_owned_behind, owned_behind}
-use Rattle.global_book.specs.Book.{Book, IsHeld, is_of}
+use Rattle.global_book.specs.Book.{Book, is_of}
 use Rattle.global_book.specs.Heads.{Heads, IsBegun, IsLeast, IsNext, PassesHead, count_to_come, head_in, is_from_head, is_to_come, with_head}
 use Rattle.global_book.specs.Room.{ladders_of, rank_of}
 use Rattle.global_book.specs.inside.Bests.{IsBestAt, IsBestOf, is_own_behind, is_own_from, is_past}
 use Rattle.global_book.specs.inside.Heads.{TellHeads, TellsOrder, order_told}
-use Rattle.global_book.specs.inside.Linked.{AreKept, AreLinked, IsPriced, Linked, orders_in}
+use Rattle.global_book.specs.inside.Linked.{AreKept, AreLinked, Linked, orders_in}
 use Rattle.global_book.specs.inside.Owning.{is_own}
 use Rattle.global_book.proofs.Behind.{best-past, none-past, past-none, past-some}
 use Rattle.global_book.proofs.Ending.{order_is, own_side, same_side}
@@ -87,8 +87,9 @@ module _ (banks : ℕ) (linked : Linked) (side : Side) (kept : AreKept banks lin
 
   -- the best orders are told
   pub heads-tell : (words : List (Option Head)) → length words ≡ 64
-      → ((bank : ℕ) → bank < 64 → IsHeadOf (bank_level (ladders_of linked.ladders side) bank) (get_or words bank None) × IfSome (get_or words bank None) IsHead) → TellHeads banks linked side words
+      → ((bank : ℕ) → bank < 64 → IsHeadOf (bank_level (ladders_of linked.ladders side) bank) (get_or words bank None) × IfSome (get_or words bank None) IsHead) → TellHeads linked side words
   heads-tell words count are = record {
+    banks = banks;
     kept = kept;
     priced = ladders.priced;
     count = count;
@@ -153,21 +154,19 @@ if-told words slots bank one is = of (get_or words bank None) refl is
     of None seen is = absurd (cc)
     of (Some head) seen is = (head, seen, is)
 
-module _ (banks : ℕ) (linked : Linked) (side : Side) (words : List (Option Head)) (are : TellHeads banks linked side words) where
+module _ (linked : Linked) (side : Side) (words : List (Option Head)) (are : TellHeads linked side words) where
   pub told : (bank : ℕ) (head : Head) → get_or words bank None ≡ Some head → TellsOrder linked.orders.slots side bank head
   told bank head is = subst (λ (h : Option Head). IfSome h (TellsOrder linked.orders.slots side bank)) is (are.tells bank)
 
   pub head-told : (bank : ℕ) (head : Head) (is : get_or words bank None ≡ Some head) → head_in (heads_told linked side words) bank ≡ Some (told bank head is).order
   head-told bank head is = told-at linked.orders.slots words bank ∙ ap (order_told linked.orders.slots) is ∙ (told bank head is).is
 
-  -- an order's bank is one of the book's
-  within : (bank : ℕ) (head : Head) → get_or words bank None ≡ Some head → bank < min banks 64
+  -- an order's bank is one that has a word
+  within : (bank : ℕ) (head : Head) → get_or words bank None ≡ Some head → bank < 64
   within bank head is =
       let it : TellsOrder linked.orders.slots side bank head = told bank head is in
       let owner : it.order.bank ≡ bank = eqb-true it.order.bank bank (and_parts (is_of bank it.order) (is_opposite (opposite side) it.order.side) it.own).0 in
-      let held : IsHeld banks it.order = are.kept.held head.place it.order it.is in
-      let priced : IsPriced it.order = are.priced head.place it.order it.is in
-      omega (arith, owner, held.bank, priced.bank)
+      omega (arith, owner, (are.priced head.place it.order it.is).bank)
 
   price-most : (bank : ℕ) (head : Head) (is : get_or words bank None ≡ Some head) → (told bank head is).order.price ≤ 10 ^ 9
   price-most bank head is = (are.priced head.place (told bank head is).order (told bank head is).is).price
@@ -193,20 +192,21 @@ module _ (banks : ℕ) (linked : Linked) (side : Side) (words : List (Option Hea
             subst (λ (o : Resting). is_preferred (opposite side) o one.order ≡ false) alike (not-self (opposite side) one.order)
       ]
 
-  -- the least word is of the best head, where its rank is up to that of a limit
-  pub least-found : (limit bank : ℕ) (head : Head) → limit ≤ 10 ^ 9 → IsLeastHead words (min banks 64) bank head → head.rank ≤ rank_of side limit → IsLeast (heads_told linked side words) limit bank
-  least-found limit bank head most least upto =
-      let one = told bank head least.there in
+  -- the best head within the rank of a limit is the best that the limit allows
+  pub least-found : (limit : ℕ) (bank : Option ℕ) → limit ≤ 10 ^ 9 → IfSome bank (IsBestWithin words (rank_of side limit)) → IfSome bank (IsLeast (heads_told linked side words) limit)
+  least-found limit None most best = tt
+  least-found limit (Some bank) most best =
+      let one = told bank best.head best.there in
       record {
-        within = omega (arith, least.within);
+        within = best.within;
         head = one.order;
-        is = head-told bank head least.there;
-        allowed = limit-rank side limit one.order.price most (price-most bank head least.there) (omega (arith, one.rank, upto));
+        is = head-told bank best.head best.there;
+        allowed = limit-rank side limit one.order.price most (price-most bank best.head best.there) (omega (arith, one.rank, best.low));
         first = λ other two has.
             let it = if-told words linked.orders.slots other two (sym (told-at linked.orders.slots words other) ∙ has) in
             let same : (told other it.0 it.1).order ≡ two = order_is linked.orders.slots it.0.place (told other it.0 it.1).order two (told other it.0 it.1).is it.2 in
             subst (λ (o : Resting). is_preferred (opposite side) o one.order ≡ false) same
-            (not-behind bank other head it.0 least.there it.1 (least.first other it.0 (within other it.0 it.1) it.1));
+            (not-behind bank other best.head it.0 best.there it.1 (best.first other it.0 (within other it.0 it.1) it.1));
       }
 
   if-head : (limit bank : ℕ) → ((head : Head) → (is : get_or words bank None ≡ Some head) → crosses (opposite side) limit (told bank head is).order.price ≡ false)
@@ -217,30 +217,22 @@ module _ (banks : ℕ) (linked : Linked) (side : Side) (words : List (Option Hea
       of None is = subst (λ (o : Option Resting). IfSome o (λ (o : Resting). crosses (opposite side) limit o.price ≡ false)) (sym (told-at linked.orders.slots words bank ∙ ap (order_told linked.orders.slots) is)) tt
       of (Some head) is = subst (λ (o : Option Resting). IfSome o (λ (o : Resting). crosses (opposite side) limit o.price ≡ false)) (sym (head-told bank head is)) (dear head is)
 
-  -- where it is not, no head is within the limit
-  pub least-dear : (limit bank : ℕ) (head : Head) → limit ≤ 10 ^ 9 → IsLeastHead words (min banks 64) bank head → rank_of side limit < head.rank
-      → (other : ℕ) → IfSome (head_in (heads_told linked side words) other) (λ (o : Resting). crosses (opposite side) limit o.price ≡ false)
-  least-dear limit bank head most least above other =
-      if-head limit other (λ found is.
-      let rank : head.rank ≤ found.rank = elim (least.first other found (within other found is) is) [ inl lower ↦ omega (arith, lower) | inr same ↦ omega (arith, same.0) ] in
-      dear-rank side limit (told other found is).order.price most (price-most other found is) (omega (arith, rank, above, (told other found is).rank)))
-
-  -- there are no heads
-  pub least-none : (limit : ℕ) → ((bank : ℕ) → bank < min banks 64 → get_or words bank None ≡ None)
-      → (other : ℕ) → IfSome (head_in (heads_told linked side words) other) (λ (o : Resting). crosses (opposite side) limit o.price ≡ false)
-  least-none limit none other =
-      if-head limit other (λ found is. absurd (none-some found (sym (none other (within other found is)) ∙ is)))
-    where
-      none-some : (head : Head) → None ≡ Some head → ⊥
-      none-some head is = cc
+  -- where all heads are behind the rank of a limit, it allows none
+  pub least-dear : (limit : ℕ) → limit ≤ 10 ^ 9 → ((bank : ℕ) → bank < 64 → IfSome (get_or words bank None) (λ (head : Head). rank_of side limit < head.rank))
+      → (bank : ℕ) → IfSome (head_in (heads_told linked side words) bank) (λ (o : Resting). crosses (opposite side) limit o.price ≡ false)
+  least-dear limit most above bank =
+      if-head limit bank (λ found is.
+      let behind : rank_of side limit < found.rank = subst (λ (h : Option Head). IfSome h (λ (head : Head). rank_of side limit < head.rank)) is (above bank (within bank found is)) in
+      dear-rank side limit (told bank found is).order.price most (price-most bank found is) (omega (arith, behind, (told bank found is).rank)))
 
   -- Another head of a bank.
 
   pub head-set : (bank : ℕ) (word : Option Head) → heads_told linked side (set words bank word) ≡ with_head (heads_told linked side words) bank (order_told linked.orders.slots word)
   head-set bank word = ap (λ (next : List (Option Resting)). record { side = side; orders = orders_in linked; next = next }) (map-set (order_told linked.orders.slots) words bank word)
 
-  pub told-set : (bank : ℕ) (word : Option Head) → bank < 64 → IfSome word (TellsOrder linked.orders.slots side bank) → TellHeads banks linked side (set words bank word)
+  pub told-set : (bank : ℕ) (word : Option Head) → bank < 64 → IfSome word (TellsOrder linked.orders.slots side bank) → TellHeads linked side (set words bank word)
   told-set bank word small tells = record {
+    banks = are.banks;
     kept = are.kept;
     priced = are.priced;
     count = length-set words bank word ∙ are.count;
@@ -266,7 +258,7 @@ module _ (banks : ℕ) (linked : Linked) (side : Side) (words : List (Option Hea
       past-some linked.orders.slots bank side it.order (option_map (λ (h : Head). h.place) next) (eqb-true it.order.bank bank parts.0) (sym (same_side side it.order.side parts.1)) best in (
         tells it.order next past rank fits,
         subst (λ (o : Option Resting). IfSome o (λ (passed : Resting). IsNext side bank (Some passed) (orders_in linked) (order_told linked.orders.slots next))) (sym (head-told bank head is))
-            (next-told banks linked side are.kept bank (Some it.order) next past),
+            (next-told are.banks linked side are.kept bank (Some it.order) next past),
       )
     where
       tells : (last : Resting) (next : Option Head) → IsBestOf linked.orders.slots (is_past bank side (Some last)) side (option_map (λ (h : Head). h.place) next)
@@ -340,7 +332,7 @@ fewer-to-come heads bank head next small there own is behind =
 
 -- The walk as callers see it, once a head is passed.
 
-module _ (banks : ℕ) (linked : Linked) (side : Side) (words : List (Option Head)) (are : TellHeads banks linked side words) (bank : ℕ) where
+module _ (linked : Linked) (side : Side) (words : List (Option Head)) (are : TellHeads linked side words) (bank : ℕ) where
   if-head-of : (head : Option Head) → get_or words bank None ≡ head → IsSome (order_told linked.orders.slots head) → (one : Head) × (get_or words bank None ≡ Some one)
   if-head-of None is some = absurd (cc)
   if-head-of (Some one) is some = (one, is)
@@ -351,9 +343,9 @@ module _ (banks : ℕ) (linked : Linked) (side : Side) (words : List (Option Hea
   fewer-passed small next old view words' is behind =
       subst (λ (o : Heads). IsSome (head_in o bank) → count_to_come (heads_told linked side words') < count_to_come o) view (λ some.
       let it = if-head-of (get_or words bank None) refl (subst (λ (f : Option Resting). IsSome f) (told-at linked.orders.slots words bank) some) in
-      let told_it = told banks linked side words are bank it.0 it.1 in
-      let here : head_in (heads_told linked side words) bank ≡ Some told_it.order = head-told banks linked side words are bank it.0 it.1 in
-      subst (λ (h : Heads). count_to_come h < count_to_come (heads_told linked side words)) (sym (ap (heads_told linked side) is ∙ head-set banks linked side words are bank next))
+      let told_it = told linked side words are bank it.0 it.1 in
+      let here : head_in (heads_told linked side words) bank ≡ Some told_it.order = head-told linked side words are bank it.0 it.1 in
+      subst (λ (h : Heads). count_to_come h < count_to_come (heads_told linked side words)) (sym (ap (heads_told linked side) is ∙ head-set linked side words are bank next))
       (fewer-to-come (heads_told linked side words) bank told_it.order (order_told linked.orders.slots next) (omega (arith, small, are.count, length-map words (order_told linked.orders.slots)))
       (among-at linked.orders.slots it.0.place told_it.order told_it.is) told_it.own here
       (behind told_it.order here)))
@@ -364,7 +356,7 @@ module _ (banks : ℕ) (linked : Linked) (side : Side) (words : List (Option Hea
   passes-next next old view words' is behind =
       subst (λ (o : Heads). PassesHead o (heads_told linked side words') bank) view (record {
         head = order_told linked.orders.slots next;
-        is = ap (heads_told linked side) is ∙ head-set banks linked side words are bank next;
+        is = ap (heads_told linked side) is ∙ head-set linked side words are bank next;
         next = behind;
       })
 

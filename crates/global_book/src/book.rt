@@ -182,8 +182,8 @@ impl PairBook {
         self.linked.remove(place);
     }
 
-    /// Takes so many lots from the order of this bank and number, where it rests, with one search for it; with nothing left it
-    /// is taken out. Where it has fewer lots, all of them go.
+    /// Takes so many lots from the order of this bank and number, where it rests; with nothing left it is taken out. Where it has
+    /// fewer lots, all of them go. It is searched for once, and not at all where it is its bank's best order of a side.
     pub fn take_lots(&mut self, bank: BankId, number: u32, lots: Lots)
         ensures pair { self.new.pair ≡ self.old.pair }
         ensures banks { self.new.banks ≡ self.old.banks }
@@ -191,7 +191,7 @@ impl PairBook {
         ensures room { KeepsRoom self.old.room self.new.room }
         ensures valid { IsBook self.new }
     {
-        let Some(place) = self.linked.find(bank, number) else {
+        let Some(place) = self.linked.find_first(bank, number) else {
             return;
         };
         let order = self.linked.order(place);

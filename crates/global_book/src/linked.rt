@@ -147,6 +147,36 @@ impl LinkedOrders {
         self.list.find(bank, number)
     }
 
+    /// The place of the order of this bank and number; `None` where none rests. Nothing is searched where it is its bank's best order of a side.
+    pub(crate) fn find_first(&self, bank: BankId, number: u32) -> Option<u32>
+        ensures found { IfSome result (λ place. IsSomeAnd (order_at self.now.orders place) (IsOf bank number)) }
+        ensures none { result ≡ None → Lacks self.now.orders bank number }
+    {
+        if let Some(place) = self.first_under(bank, Side::Buy, number) {
+            return Some(place);
+        }
+        if let Some(place) = self.first_under(bank, Side::Sell, number) {
+            return Some(place);
+        }
+        self.find(bank, number)
+    }
+
+    /// The place of the best order of a bank and a side, where it has this number; else `None`.
+    fn first_under(&self, bank: BankId, side: Side, number: u32) -> Option<u32>
+        ensures { IfSome result (λ place. IsSomeAnd (order_at self.now.orders place) (IsOf bank number)) }
+    {
+        if bank.index() >= BankId::COUNT {
+            return None;
+        }
+        let place = self.first_of(bank, side)?;
+        let order = self.order(place);
+        if order.number == number {
+            Some(place)
+        } else {
+            None
+        }
+    }
+
     /// The order at a place.
     pub(crate) fn order(&self, place: u32) -> Resting
         requires live { IsSome (order_at self.now.orders place) }

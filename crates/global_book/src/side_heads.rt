@@ -21,7 +21,6 @@ use std::sync::ledger::Ledger;
 #[derive(Drop)]
 pub struct SideHeads<'a> {
     linked: &'a LinkedOrders,
-    banks: usize,
     side: Side,
     words: HeadWords,
 }
@@ -40,15 +39,15 @@ impl<'a> Model for SideHeads<'a> {
       next = map (order_told h.linked.now.orders.slots) h.words;
     } };
 
-    ghost invariant = { λ h. TellHeads h.banks h.linked.now h.side h.words };
+    ghost invariant = { λ h. TellHeads h.linked.now h.side h.words };
 }
 
 impl<'a> SideHeads<'a> {
     ghost use Rattle.global_book.specs.inside.Linked.{AreKept, orders_in};
 
-    /// A walk along a side of a book for so many banks, which has passed no order.
-    pub(crate) fn new(linked: &'a LinkedOrders, banks: usize, side: Side) -> SideHeads<'a>
-        requires kept { AreKept banks linked.now }
+    /// A walk along a side of a book, which has passed no order.
+    pub(crate) fn new(linked: &'a LinkedOrders, side: Side) -> SideHeads<'a>
+        requires kept { (banks : ℕ) × AreKept banks linked.now }
         ensures side { result.side ≡ side }
         ensures orders { result.orders ≡ orders_in linked.now }
         ensures count { length result.next ≡ 64 }
@@ -56,7 +55,6 @@ impl<'a> SideHeads<'a> {
     {
         SideHeads {
             linked,
-            banks,
             side,
             words: linked.heads(side).copied(),
         }
@@ -68,11 +66,7 @@ impl<'a> SideHeads<'a> {
         ensures least { IfSome result (IsLeast self.now limit) }
         ensures none { result ≡ None → (bank : ℕ) → IfSome (head_in self.now bank) (λ head. crosses (opposite self.now.side) limit head.price ≡ false) }
     {
-        let (bank, head) = self.words.least(self.banks.min(BankId::COUNT))?;
-        if head.rank > rank_of(self.side, limit) {
-            return None;
-        }
-        Some(bank)
+        self.words.best_within(rank_of(self.side, limit))
     }
 
     /// The head of a bank; `None` where all its orders were passed. One step.

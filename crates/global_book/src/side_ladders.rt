@@ -54,10 +54,7 @@ impl SideLadders {
     pub(crate) fn level(&self, side: Side, bank: BankId, rank: u32) -> Level
         ensures { result ≡ bank_level (ladders_of self.now side) bank rank }
     {
-        match side {
-            Side::Buy => self.bids.level(bank, rank),
-            Side::Sell => self.asks.level(bank, rank),
-        }
+        self.of(side).level(bank, rank)
     }
 
     /// The first rank of a side from a rank on at which a bank has orders; `None` where there is none.
@@ -65,10 +62,7 @@ impl SideLadders {
         ensures found { IfSome result (IsNextRank (bank_level (ladders_of self.now side) bank) from) }
         ensures none { result ≡ None → (rank : ℕ) → from ≤ rank → (bank_level (ladders_of self.now side) bank rank).lots ≡ 0 }
     {
-        match side {
-            Side::Buy => self.bids.next(bank, from),
-            Side::Sell => self.asks.next(bank, from),
-        }
+        self.of(side).next(bank, from)
     }
 
     /// The level of a bank at a rank of a side, and the first rank behind it at which the bank has orders; `None` where there is none.
@@ -85,20 +79,14 @@ impl SideLadders {
     pub(crate) fn words(&self, side: Side) -> &[u64; BankId::COUNT]
         ensures { AreHeadWords (bank_level (ladders_of self.now side)) result.now }
     {
-        match side {
-            Side::Buy => self.bids.words(),
-            Side::Sell => self.asks.words(),
-        }
+        self.of(side).words()
     }
 
     /// Where the best order of each bank of a side stands.
     pub(crate) fn heads(&self, side: Side) -> &HeadWords
         ensures { (bank : ℕ) → bank < 64 → IsHeadOf (bank_level (ladders_of self.now side) bank) (slice_index_or result.now bank None) × IfSome (slice_index_or result.now bank None) IsHead }
     {
-        match side {
-            Side::Buy => self.bids.heads(),
-            Side::Sell => self.asks.heads(),
-        }
+        self.of(side).heads()
     }
 
     /// Whether a bank has orders, of either side.

@@ -62,13 +62,6 @@ impl Ladder {
         self.far.level(rank).unwrap_or(Level::NONE)
     }
 
-    /// The lots that the orders of a rank have left. Only trials call it.
-    pub fn sum(&self, rank: u32) -> u64
-        ensures { result ≡ (level_at self.now rank).lots }
-    {
-        self.level(rank).lots
-    }
-
     /// Sees to it that an order can come to rest at a rank below 2^31 without taking memory, until this is asked for another rank. The
     /// window is widened to the rank where it then has at most 4,096 ranks, or 16 for each of its levels with orders, and never more than
     /// 65,536; else the rank is kept by itself, and takes the place of the one that was made ready so before. At `Memory` each level is as it
@@ -196,14 +189,6 @@ impl Ladder {
             return (self.near.level(rank), self.near.next(rank + 1));
         }
         (self.level(rank), self.next(rank + 1))
-    }
-
-    /// The best rank with orders; `None` where there is none. Only trials call it.
-    pub fn first(&self) -> Option<u32>
-        ensures found { IfSome result (IsNextRank (level_at self.now) 0) }
-        ensures none { result ≡ None → (rank : ℕ) → (level_at self.now rank).lots ≡ 0 }
-    {
-        self.next(0)
     }
 
     /// The first rank with orders from a rank on; `None` where there is none.

@@ -99,13 +99,6 @@ impl Window {
         }
     }
 
-    /// The lots that the orders of a rank have left. Only trials call it.
-    pub fn sum(&self, rank: u32) -> u64
-        ensures { result ≡ (level_of self.now rank).lots }
-    {
-        self.level(rank).lots
-    }
-
     /// An order of so many lots comes to rest at a rank of the window, behind all others there. It answers the place of the last of
     /// these, where there is one.
     pub fn insert(&mut self, rank: u32, place: u32, lots: Lots) -> Option<u32>
@@ -153,14 +146,6 @@ impl Window {
         } else {
             mark(&mut self.words, at);
         }
-    }
-
-    /// The best rank with orders; `None` where there is none. Only trials call it.
-    pub fn first(&self) -> Option<u32>
-        ensures found { IfSome result (IsNextRank (level_of self.now) 0) }
-        ensures none { result ≡ None → (rank : ℕ) → (level_of self.now rank).lots ≡ 0 }
-    {
-        self.next(0)
     }
 
     /// The first rank with orders from a rank on; `None` where there is none.

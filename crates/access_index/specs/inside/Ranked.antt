@@ -1,5 +1,5 @@
 -- What the words of best orders tell of the levels beside them.
-use Rattle.std.specs.Prelude.{ℕ, ◌≡◌, ◌≢◌, ◌<◌, ◌≤◌, ◌^◌, nat_eq, nat_le, true, if◌then◌else◌, List, length, Option, Some, None, slice_get, slice_index_or}
+use Rattle.std.specs.Prelude.{ℕ, ◌≡◌, ◌≢◌, ◌<◌, ◌≤◌, ◌^◌, nat_eq, true, List, length, Option, Some, None, slice_get, slice_index_or}
 use Rattle.std.specs.List.{IsDistinct, list_any}
 use Rattle.std.specs.Map.{keys_of, lookup}
 use Rattle.price_levels.specs.Rungs.{Rungs}
@@ -24,8 +24,3 @@ pub record AreNumbered (numbers : List (Option ℕ)) (owners : List (ℕ × Rung
 pub record AreKept (numbers : List (Option ℕ)) (owners : List (ℕ × Rungs)) (heads : List (Option Head)) : Type 0 where
   pub numbered : AreNumbered numbers owners
   pub ranked : AreRanked owners heads
-
--- the best order once another one comes, at a rank and behind all others there
-abbrev pub head_with : Option Head → ℕ → ℕ → Option Head
-head_with None rank place = Some (record { rank = rank; place = place })
-head_with (Some head) rank place = if nat_le head.rank rank then Some head else Some (record { rank = rank; place = place })

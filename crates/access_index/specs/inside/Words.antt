@@ -1,17 +1,27 @@
 -- The words in which the best orders of the banks are kept.
-use Rattle.std.specs.Prelude.{ℕ, ◌≡◌, ◌≢◌, ◌-◌, ◌/◌, ◌%◌, ◌≤◌, ◌<◌, ◌^◌, ◌==◌, if◌then◌else◌, List, Option, Some, None, slice_index}
+use Rattle.std.specs.Prelude.{ℕ, ◌≡◌, ◌≢◌, ◌+◌, ◌-◌, ◌*◌, ◌/◌, ◌%◌, ◌≤◌, ◌<◌, ◌^◌, ◌==◌, if◌then◌else◌, Bool, true, nat_lt, List, Option, Some, None, slice_index}
 use Rattle.access_index.specs.declared.words.Head.{Head}
 
 -- the order that a word tells, where there is one
 abbrev pub head_of : ℕ → Option Head
 head_of word = if word == 2 ^ 64 - 1 then None else Some (record { rank = word / 2 ^ 34; place = word / 64 % 2 ^ 28 })
 
--- each word is of its own bank, and has 64 bits
-pub record AreWords (words : List ℕ) : Type 0 where
+-- the least of so many words from one on, where one of them tells an order
+pub record IsLeastOf (words : List ℕ) (from count least : ℕ) : Type 0 where
+  pub first : (at : ℕ) → at < count → least ≤ slice_index words (from + at)
+  pub there : least ≢ 2 ^ 64 - 1 → (at : ℕ) × (at < count) × (slice_index words (from + at) ≡ least)
+
+-- each word is of its own bank, and has 64 bits, and the least of each eight of them stands beside these
+pub record AreWords (words groups : List ℕ) : Type 0 where
   pub own : (bank : ℕ) → bank < 64 → slice_index words bank ≢ 2 ^ 64 - 1 → slice_index words bank % 64 ≡ bank
   pub most : (bank : ℕ) → bank < 64 → slice_index words bank < 2 ^ 64
+  pub least : (group : ℕ) → group < 8 → IsLeastOf words (group * 8) 8 (slice_index groups group)
 
--- the least of the words of the first so many banks
-pub record IsLeastWord (words : List ℕ) (banks least : ℕ) : Type 0 where
-  pub first : (bank : ℕ) → bank < banks → least ≤ slice_index words bank
-  pub there : least ≢ 2 ^ 64 - 1 → (bank : ℕ) × (bank < banks) × (slice_index words bank ≡ least)
+-- whether an order that comes at a rank, behind all others there, is the best one of its bank
+abbrev pub leads : Option Head → ℕ → Bool
+leads None rank = true
+leads (Some best) rank = nat_lt rank best.rank
+
+-- the best order of a bank once another one comes, behind all others at its rank
+abbrev pub head_with : Option Head → Head → Option Head
+head_with best head = if leads best head.rank then Some head else best

@@ -21,8 +21,9 @@ pub record TellsOrder (slots : List (Option Resting)) (side : Side) (bank : ℕ)
   pub rank : head.rank ≡ rank_of side order.price
   pub fits : IsHead head
 
--- of each bank, where it has one, an order of a side in the list of a book for so many banks is told
-pub record TellHeads (banks : ℕ) (linked : Linked) (side : Side) (words : List (Option Head)) : Type 0 where
+-- of each bank, where it has one, an order of a side in the list of a book is told
+pub record TellHeads (linked : Linked) (side : Side) (words : List (Option Head)) : Type 0 where
+  pub banks : ℕ
   pub kept : AreKept banks linked
   pub priced : (place : ℕ) (order : Resting) → slice_index_or linked.orders.slots place None ≡ Some order → IsPriced order
   pub count : length words ≡ 64

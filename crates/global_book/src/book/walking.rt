@@ -8,7 +8,7 @@ ghost use Rattle.global_book.specs.Heads.{IsBegun};
 use crate::book::PairBook;
 use crate::side_heads::SideHeads;
 use crate::side_ladders::rank_of;
-use fx_amounts::{BankId, Price, Side};
+use fx_amounts::{Price, Side};
 use price_levels::Steps;
 use std::sync::ledger::Ledger;
 
@@ -20,10 +20,8 @@ impl PairBook {
         ensures valid { IsBook self.now }
     {
         steps.tick();
-        match self.linked.heads(side).least(self.banks.min(BankId::COUNT)) {
-            Some((_, head)) => head.rank <= rank_of(side, limit),
-            None => false,
-        }
+        let heads = self.linked.heads(side);
+        heads.best_within(rank_of(side, limit)).is_some()
     }
 
     /// A walk along the orders of a side, from the best one on, which has passed none. It looks at no order.
@@ -31,6 +29,6 @@ impl PairBook {
         ensures begun { IsBegun self.now side result }
         ensures valid { IsBook self.now }
     {
-        SideHeads::new(&self.linked, self.banks, side)
+        SideHeads::new(&self.linked, side)
     }
 }

@@ -1,12 +1,11 @@
-use Rattle.std.proofs.Common.{ℕ, ◌≡◌, ◌+◌, ◌<◌, ◌^◌, arith, nat_eq, Option, Some, None, get_or, ap, sym, subst, ◌∙◌}
+use Rattle.std.proofs.Common.{ℕ, ◌≡◌, ◌+◌, ◌<◌, ◌^◌, arith, nat_eq, Some, None, get_or, ap, sym, subst, ◌∙◌}
 use Rattle.std.specs.Map.{lookup}
 use Rattle.indexmap.specs.IndexMap.{with_value_at}
 use Rattle.price_levels.specs.declared.level.Level.{Level}
 use Rattle.price_levels.specs.Rungs.{level_at, with_level_at}
 use Rattle.price_levels.specs.Ticks.{last_of_level, with_order}
-use Rattle.access_index.specs.declared.words.Head.{Head}
-use Rattle.access_index.specs.Ranked.{IsHeadOf}
-use Rattle.access_index.specs.inside.Ranked.{AreRanked, head_with}
+use Rattle.access_index.specs.inside.Ranked.{AreRanked}
+use Rattle.access_index.specs.inside.Words.{head_with}
 use Rattle.access_index.proofs.Numbering.{Writes, key_within, holds_here, level_here, looked_up, numbered_written, held_number, writes as written}
 use Rattle.access_index.proofs.Ranking.{first_come, had_head, had_short, head_come, head_same, holds_written, levels_written, ranked_set, short_changed}
 use Rattle.access_index.proofs.ranked.RankedOwners.insert.Goals.{After-index_mut-ladder, After-insert-before}
@@ -61,11 +60,10 @@ invariant_of-self c =
     let head = had_head heads c.self.invariant.ranked c.requires.bank writes_here in
     record {
       numbered = numbered_written c.self.inside.numbers c.self.inside.ladders c.from.result c.insert-before.new.self c.self.invariant.numbered;
-      ranked = subst (AreRanked (with_value_at c.self.inside.ladders c.from.result c.insert-before.new.self).entries) (sym c.set.ensures)
-          (ranked_set heads c.self.invariant.ranked c.requires.bank writes_here c.head_with.result c.of-head.ensures.count
-          (subst (IsHeadOf (level_at c.insert-before.new.self)) (sym (c.head_with.ensures ∙ ap (λ (h : Option Head). head_with h rank c.args.place) c.of-head.ensures.head))
-          (head_same (with_level_at old rank level) (level_at c.insert-before.new.self) (head_with (get_or heads bank None) rank c.args.place) c.insert-before.ensures.levels
-          (head_come old rank c.args.place c.args.lots (get_or heads bank None) some head)))
+      ranked = subst (AreRanked (with_value_at c.self.inside.ladders c.from.result c.insert-before.new.self).entries) (sym c.add.ensures.added)
+          (ranked_set heads c.self.invariant.ranked c.requires.bank writes_here (head_with (get_or heads bank None) (record { rank = rank; place = c.args.place })) c.add.ensures.count
+          (head_same (with_level_at old rank level) (level_at c.insert-before.new.self) (head_with (get_or heads bank None) (record { rank = rank; place = c.args.place })) c.insert-before.ensures.levels
+          (head_come old rank c.args.place c.args.lots (get_or heads bank None) some head))
           (short_changed old (level_at c.insert-before.new.self) rank level c.insert-before.ensures.levels short (λ has. c.requires.rank)
           (λ has. first_come (old rank) c.args.place c.args.lots c.requires.place (λ had. short.early rank had))));
     }

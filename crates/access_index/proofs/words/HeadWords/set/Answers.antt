@@ -1,4 +1,4 @@
-use Rattle.std.proofs.Common.{List, ℕ, Option, ◌%◌, ap, subst, sym, ◌∙◌, refl, arith}
+use Rattle.std.proofs.Common.{List, ℕ, Option, ◌/◌, ◌%◌, ap, subst, sym, ◌∙◌, refl, arith}
 use Rattle.std.proofs.Math.ListN.{set}
 use Rattle.std.proofs.lemmas.List.{map-set}
 use Rattle.std.specs.Prelude.{IfSome}
@@ -11,9 +11,9 @@ use Rattle.access_index.proofs.words.HeadWords.set.Goals.{in-Some, in-None}
 
 pub returns : goal.returns
 returns c =
-    map-set head_of c.self.inside.words c.index.result c.match-head.self
-    ∙ ap (λ (hs : List (Option Head)). set hs c.index.result (head_of c.match-head.self)) c.self.view_is
-    ∙ ap (λ (k : ℕ). set c.args.self.now k (head_of c.match-head.self)) c.index.ensures.value
+    map-set head_of c.self.inside.words c.index-at.result c.match-head.self
+    ∙ ap (λ (hs : List (Option Head)). set hs c.index-at.result (head_of c.match-head.self)) c.self.view_is
+    ∙ ap (λ (k : ℕ). set c.args.self.now k (head_of c.match-head.self)) c.index-at.ensures.value
     ∙ ap (set c.args.self.now c.args.bank) (elim c.match-head.branch [
       | in-Some w ↦
           ap head_of (w.self-is ∙ w.word_of.ensures.word) ∙ head_of-word w.in-Some.head c.args.bank (subst (λ (o : Option Head). IfSome o IsHead) w.in-Some.is c.requires.head) c.requires.bank ∙ sym w.in-Some.is
@@ -22,7 +22,7 @@ returns c =
 
 pub invariant_of-self : goal.invariant_of-self
 invariant_of-self c =
-    words_set c.self.inside.words c.index.result c.args.bank c.match-head.self c.self.told c.index.ensures.value c.self.invariant
+    words_set c.self.inside.words c.self.inside.groups c.index-at.result c.args.bank c.match-head.self (c.index-at.result / 8) c.least_of.result c.self.told.0 c.self.told.1 c.index-at.ensures.value c.requires.bank c.self.invariant
     (elim c.match-head.branch [
       | in-Some w ↦ λ _. ap (λ (n : ℕ). n % 64) (w.self-is ∙ w.word_of.ensures.word) ∙ own_word w.in-Some.head c.args.bank c.requires.bank
       | in-None w ↦ λ some. absurd (some w.self-is)
@@ -31,3 +31,4 @@ invariant_of-self c =
       | in-Some w ↦ omega (arith, w.self-is, w.word_of.ensures.some)
       | in-None w ↦ omega (arith, w.self-is)
     ])
+    refl c.least_of.ensures

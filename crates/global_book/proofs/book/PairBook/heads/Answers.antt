@@ -4,6 +4,9 @@ use Rattle.global_book.proofs.Booking.{kept-book}
 use Rattle.global_book.proofs.Heading.{begun}
 use Rattle.global_book.proofs.book.PairBook.heads.Goals as goal
 
+pub new-requires : goal.new-requires
+new-requires c = record { kept = (c.self.inside.banks, c.self.invariant) }
+
 pub returns-clause-begun : goal.returns-clause-begun
 returns-clause-begun c =
     begun c.self.inside.linked c.args.side c.args.self.now c.new.result (ap (λ (b : Book). b.orders) c.self.view_is) c.new.ensures.side c.new.ensures.orders c.new.ensures.count c.new.ensures.best
