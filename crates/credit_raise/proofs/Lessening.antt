@@ -1,18 +1,16 @@
 -- An order that has lots less, among orders of one pair.
-use Rattle.std.proofs.Common.{ℕ, ◌≡◌, ◌-◌, ◌≤◌, ◌<◌, ltb, eqb, Bool, true, false, not, cond, List, [], ◌∷◌, ◌++◌, map, inl, inr, refl, ap, sym, subst, ◌∙◌}
-use Rattle.std.proofs.lemmas.Bool.{cases_Bool, cond_both, cond-true, cond-false, both_ways, lt-ltb, le-ltb, eq-eqb, false_from_ne_true, not_from_true, not_from_false}
+use Rattle.std.proofs.Common.{ℕ, ◌≡◌, ◌-◌, ltb, eqb, Bool, true, false, cond, List, [], ◌∷◌, ◌++◌, inl, inr, refl, ap, sym, ◌∙◌}
+use Rattle.std.proofs.lemmas.Bool.{cases_Bool, cond_both, cond-true, cond-false, both_ways, eq-eqb}
 use Rattle.std.specs.List.{filter}
 use Rattle.fx_rules.specs.declared.orders.ActiveOrder.{ActiveOrder}
 use Rattle.fx_rules.specs.declared.orders.Resting.{Resting}
 use Rattle.fx_rules.specs.declared.orders.Fill.{Fill}
-use Rattle.fx_rules.specs.Lists.{Among, Each, EachPair}
+use Rattle.fx_rules.specs.Lists.{Among, Each}
 use Rattle.fx_rules.specs.State.{orders_in}
 use Rattle.fx_rules.specs.Sweep.{is_order, lowered, with_left}
-use Rattle.fx_rules.specs.Sound.{ArrivesBefore}
-use Rattle.fx_rules.proofs.ListLemmas.{Each-among, Each-weaker, filter_cons_true, filter_cons_false}
-use Rattle.fx_rules.proofs.Lowering.{is_order-says, is_order-from}
+use Rattle.fx_rules.proofs.ListLemmas.{filter_cons_true, filter_cons_false}
+use Rattle.fx_rules.proofs.Lowering.{is_order-from}
 use Rattle.fx_rules.proofs.Planning.{orders_in-here, orders_in-there}
-use Rattle.global_book.specs.Book.{relotted}
 use Rattle.credit_raise.specs.inside.Playing.{lessened, lessened_all}
 
 -- ---- by the place where it stands
@@ -69,67 +67,9 @@ Each-lessened_all P keeps orders [] all = all
 Each-lessened_all P keeps orders (f ∷ fills) all =
     Each-lessened_all P keeps (lessened f.maker f.maker_number f.lots orders) fills (Each-lessened P keeps f.maker f.maker_number f.lots orders all)
 
--- ---- as a book does it
-
 -- an order is its own command's
 pub own_order : (o : Resting) → is_order o.bank o.number o ≡ true
 own_order o = is_order-from o.bank o.number o refl refl
-
--- an order behind another one is of another command
-behind_other : (a b : Resting) → ArrivesBefore a b → is_order a.bank a.number b ≡ false
-behind_other a b before = false_from_ne_true (is_order a.bank a.number b) (λ is.
-    let says = is_order-says a.bank a.number b is in before.number (sym says.0) (sym says.1))
-
-before_other : (a b : Resting) → ArrivesBefore a b → is_order b.bank b.number a ≡ false
-before_other a b before = false_from_ne_true (is_order b.bank b.number a) (λ is.
-    let says = is_order-says b.bank b.number a is in before.number says.0 says.1)
-
-relotted_none : (bank number left : ℕ) (orders : List Resting) → Each (λ (o : Resting). is_order bank number o ≡ false) orders → map (relotted bank number left) orders ≡ orders
-relotted_none bank number left [] all = refl
-relotted_none bank number left (o ∷ orders) all =
-    ap (λ (q : Resting). q ∷ map (relotted bank number left) orders) (cond-false (is_order bank number o) (record o { left = left }) o all.0)
-    ∙ ap (λ (os : List Resting). o ∷ os) (relotted_none bank number left orders all.1)
-
-removed_none : (bank number : ℕ) (orders : List Resting) → Each (λ (o : Resting). is_order bank number o ≡ false) orders → filter (λ o. not (is_order bank number o)) orders ≡ orders
-removed_none bank number [] all = refl
-removed_none bank number (o ∷ orders) all =
-    filter_cons_true (λ (q : Resting). not (is_order bank number q)) o orders (not_from_false (is_order bank number o) all.0)
-    ∙ ap (λ (os : List Resting). o ∷ os) (removed_none bank number orders all.1)
-
--- an order that keeps some lots
-pub lessened-lower : (lots left : ℕ) (order : Resting) (orders : List Resting) → EachPair ArrivesBefore orders → Among order orders → lots < order.left → left ≡ order.left - lots → map (relotted order.bank order.number left) orders ≡ lessened order.bank order.number lots orders
-lessened-lower lots left order [] rising there more is = absurd there
-lessened-lower lots left order (o ∷ orders) rising (inl same) more is =
-    subst (λ (q : Resting). map (relotted q.bank q.number left) (o ∷ orders) ≡ lessened q.bank q.number lots (o ∷ orders)) (sym same)
-    (let itself : is_order o.bank o.number o ≡ true = own_order o in
-    let rest : map (relotted o.bank o.number left) orders ≡ orders =
-    relotted_none o.bank o.number left orders (Each-weaker (ArrivesBefore o) (λ (q : Resting). is_order o.bank o.number q ≡ false) (behind_other o) orders rising.0) in
-    ap (λ (q : Resting). q ∷ map (relotted o.bank o.number left) orders) (cond-true (is_order o.bank o.number o) (record o { left = left }) o itself)
-    ∙ ap (λ (os : List Resting). record o { left = left } ∷ os) rest
-    ∙ ap (λ (n : ℕ). record o { left = n } ∷ orders) (is ∙ ap (λ (q : Resting). q.left - lots) same)
-    ∙ sym (cond-true (ltb lots o.left) (record o { left = o.left - lots } ∷ orders) orders (lt-ltb lots o.left (subst (λ (q : Resting). lots < q.left) same more)))
-    ∙ sym (lessened_here o.bank o.number lots o orders itself))
-lessened-lower lots left order (o ∷ orders) rising (inr there) more is =
-    let other : is_order order.bank order.number o ≡ false = before_other o order (Each-among (ArrivesBefore o) orders order rising.0 there) in
-    ap (λ (q : Resting). q ∷ map (relotted order.bank order.number left) orders) (cond-false (is_order order.bank order.number o) (record o { left = left }) o other)
-    ∙ ap (λ (os : List Resting). o ∷ os) (lessened-lower lots left order orders rising.1 there more is)
-    ∙ sym (lessened_later order.bank order.number lots o orders other)
-
--- an order that keeps none
-pub lessened-remove : (lots : ℕ) (order : Resting) (orders : List Resting) → EachPair ArrivesBefore orders → Among order orders → order.left ≤ lots → filter (λ o. not (is_order order.bank order.number o)) orders ≡ lessened order.bank order.number lots orders
-lessened-remove lots order [] rising there gone = absurd there
-lessened-remove lots order (o ∷ orders) rising (inl same) gone =
-    subst (λ (q : Resting). filter (λ p. not (is_order q.bank q.number p)) (o ∷ orders) ≡ lessened q.bank q.number lots (o ∷ orders)) (sym same)
-    (let itself : is_order o.bank o.number o ≡ true = own_order o in
-    filter_cons_false (λ (q : Resting). not (is_order o.bank o.number q)) o orders (not_from_true (is_order o.bank o.number o) itself)
-    ∙ removed_none o.bank o.number orders (Each-weaker (ArrivesBefore o) (λ (q : Resting). is_order o.bank o.number q ≡ false) (behind_other o) orders rising.0)
-    ∙ sym (cond-false (ltb lots o.left) (record o { left = o.left - lots } ∷ orders) orders (le-ltb lots o.left (subst (λ (q : Resting). q.left ≤ lots) same gone)))
-    ∙ sym (lessened_here o.bank o.number lots o orders itself))
-lessened-remove lots order (o ∷ orders) rising (inr there) gone =
-    let other : is_order order.bank order.number o ≡ false = before_other o order (Each-among (ArrivesBefore o) orders order rising.0 there) in
-    filter_cons_true (λ (q : Resting). not (is_order order.bank order.number q)) o orders (not_from_false (is_order order.bank order.number o) other)
-    ∙ ap (λ (os : List Resting). o ∷ os) (lessened-remove lots order orders rising.1 there gone)
-    ∙ sym (lessened_later order.bank order.number lots o orders other)
 
 -- ---- in the state of the market
 

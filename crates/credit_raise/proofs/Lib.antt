@@ -18,3 +18,4 @@ pub mod Uncrossed
 pub mod Crossing
 pub mod Copying
 pub mod Opening
+pub mod Listed

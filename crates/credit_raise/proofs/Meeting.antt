@@ -62,7 +62,7 @@ joined-entry order left waiting rest =
           ∙ ap (λ (os : List Resting). os ++ rest) (sym (cond-false (ltb 0 left) (waiting ++ record order { left = left } ∷ []) waiting none))
     ]
 
-among_middle : (waiting : List Resting) (o : Resting) (rest : List Resting) → Among o (waiting ++ o ∷ rest)
+pub among_middle : (waiting : List Resting) (o : Resting) (rest : List Resting) → Among o (waiting ++ o ∷ rest)
 among_middle [] o rest = inl refl
 among_middle (w ∷ waiting) o rest = inr (among_middle waiting o rest)
 
@@ -74,7 +74,7 @@ before_it (w ∷ waiting) o rest rising = (
   before_it waiting o rest rising.1,
 )
 
-among_front : (xs ys : List Resting) (o : Resting) → Among o xs → Among o (xs ++ ys)
+pub among_front : (xs ys : List Resting) (o : Resting) → Among o xs → Among o (xs ++ ys)
 among_front [] ys o there = absurd there
 among_front (x ∷ xs) ys o (inl is) = inl is
 among_front (x ∷ xs) ys o (inr there) = inr (among_front xs ys o there)

@@ -4,3 +4,4 @@ pub mod Prices
 pub mod Turns
 pub mod Two
 pub mod UnderWay
+pub mod Waiting

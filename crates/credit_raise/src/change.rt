@@ -1,5 +1,5 @@
 //! A credit change over all pairs.
-ghost use Rattle.std.specs.Prelude.{ℕ, ◌≡◌, ◌<◌, ◌+◌, List, length, Some, slice_get, IfOk, OnOk, OnErr};
+ghost use Rattle.std.specs.Prelude.{ℕ, ◌≡◌, ◌<◌, ◌+◌, List, length, Some, slice_get, vec_len, vec_capacity, IfOk, OnOk, OnErr};
 ghost use Rattle.fx_amounts.specs.Quantity.{IsWeight};
 ghost use Rattle.fx_rules.specs.declared.outcome.Entry.{Entry};
 ghost use Rattle.fx_rules.specs.Session.{Header, pair_count};
@@ -116,7 +116,7 @@ impl CreditChange {
         ensures has { (banks : ℕ) → HasBanks self.old.course banks → HasBanks self.new.course banks }
         ensures memory { OnErr result (self.new ≡ self.old) }
     {
-        self.plans.reserve(1)?;
+        reserve(&mut self.plans)?;
         self.course.follow(banks, weight, plan.fills.as_slice());
         self.plans.push_reserved(plan);
         Ok(())
@@ -166,13 +166,26 @@ impl CreditChange {
     }
 }
 
+/// Makes room for a plan behind these: before the first for those of all pairs.
+fn reserve(plans: &mut Vec<Plan>) -> Result<(), Memory>
+    ensures room { OnOk result (vec_len plans.new < vec_capacity plans.new) }
+    ensures same { plans.new.items ≡ plans.old.items }
+{
+    let more = if plans.is_empty() { PairId::COUNT } else { 1 };
+    plans.reserve(more)?;
+    Ok(())
+}
+
 /// The fills of all these plans, in order.
 fn all_fills(alloc: Global, plans: &[Plan]) -> Result<Vec<Fill>, Memory>
     ensures fills { IfOk result (λ fills. fills.items ≡ fills_of_all plans.now) }
 {
     let mut fills = Vec::new(alloc);
     for plan in plans {
-        fills.extend_from_slice(plan.fills.as_slice())?;
+        let own = plan.fills.as_slice();
+        if !own.is_empty() {
+            fills.extend_from_slice(own)?;
+        }
     }
     Ok(fills)
 }

@@ -10,6 +10,7 @@ mod prices;
 mod raise;
 mod replay;
 mod sweep;
+mod waiting;
 mod walk;
 
 pub use change::{CreditChange, is_change};

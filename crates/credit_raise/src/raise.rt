@@ -24,9 +24,9 @@ use std::sync::ledger::Ledger;
 ///
 /// It looks at the two banks' orders alone, and leaves the book as it is. Those that cross the other bank's best price are gathered,
 /// with no search from one to the next, and sorted. They have their turns in arrival order, as long as the line pays for a lot.
-/// What they have left is kept in a book of its own: each order is put in there at most once, each turn looks into it once, and
-/// once more for each fill. So it takes memory for these orders and for the fills, and the time of a sort of these orders and of
-/// that many searches. Where the line does not pay for a lot, or the two banks' best prices do not cross, it answers at once.
+/// What they have left is kept in a list where they are few, and else in a book of its own: each order is put in there at most once, each
+/// turn looks into it once, and once more for each fill. So it takes memory for these orders and for the fills, and the time of a sort of
+/// these orders and of that many searches. Where the line does not pay for a lot, or the two banks' best prices do not cross, it answers at once.
 /// `Memory` when out of memory.
 pub fn plan_raise<L: Ledger>(
     alloc: Global,
@@ -99,7 +99,7 @@ fn play<L: Ledger>(
         return Ok(Vec::new(alloc));
     }
     let banks = i.index().max(j.index()) + 1;
-    let mut replay = Replay::new(alloc, pair, banks, weight, eff.get())?;
+    let mut replay = Replay::new(alloc, pair, banks, turns.len(), weight, eff.get())?;
     for order in turns {
         if replay.line < u64::from(weight) {
             return Ok(replay.fills);

@@ -1,15 +1,14 @@
 ghost use Rattle.std.specs.Prelude.{ℕ, ◌≡◌, ◌≢◌, ◌≤◌, ◌<◌, ◌*◌, ◌/◌, ◌-◌, ◌^◌, ◌++◌, ◌∷◌, [], List, false, IfOk, OnOk};
 ghost use Rattle.fx_amounts.specs.Quantity.{IsWeight};
 ghost use Rattle.fx_rules.specs.declared.orders.Fill.{Fill};
-ghost use Rattle.fx_rules.specs.Lists.{Among, Each};
+ghost use Rattle.fx_rules.specs.Lists.{Each};
 ghost use Rattle.fx_rules.specs.Sweep.{fill_with, is_order, open_in};
 ghost use Rattle.fx_rules.specs.Raise.{taker_of_resting};
-ghost use Rattle.global_book.specs.Book.{IsBook};
 ghost use Rattle.credit_raise.specs.inside.Playing.{IsBestOf, SweptAmong, joined, lessened, lessened_all, only, paid};
 
+use crate::waiting::Waiting;
 use fx_amounts::{BankId, Lots, Memory, PairId};
 use fx_rules::{Fill, Resting, SweptOrder};
-use global_book::PairBook;
 use price_levels::Steps;
 use std::alloc::Global;
 use std::sync::ledger::Ledger;
@@ -17,8 +16,9 @@ use std::sync::ledger::Ledger;
 /// Two banks' orders as they meet one another, one after the other in arrival order.
 #[derive(Drop)]
 pub(crate) struct Replay {
-    /// What the orders that had their turns have left, in a book of their own.
-    pub(crate) book: PairBook,
+    pair: PairId,
+    /// The orders that had their turns, with what they have left.
+    pub(crate) waiting: Waiting,
     /// Credit units a lot, 1 to 10^6.
     pub(crate) weight: u32,
     /// What the fills so far leave of the line between the two banks, in credit units.
@@ -28,23 +28,25 @@ pub(crate) struct Replay {
 }
 
 impl Replay {
-    /// Before the first turn, for the first so many banks, with a line of so many credit units. `Memory` when out of memory.
+    /// Before the first of so many turns, for the first so many banks, with a line of so many credit units. `Memory` when out of memory.
     pub(crate) fn new(
         alloc: Global,
         pair: PairId,
         banks: usize,
+        turns: usize,
         weight: u32,
         line: u64,
     ) -> Result<Replay, Memory>
-        ensures pair { IfOk result (λ replay. replay.book.pair ≡ pair) }
-        ensures banks { IfOk result (λ replay. replay.book.banks ≡ banks) }
-        ensures empty { IfOk result (λ replay. replay.book.orders ≡ []) }
+        ensures pair { IfOk result (λ replay. replay.pair ≡ pair) }
+        ensures banks { IfOk result (λ replay. replay.waiting.banks ≡ banks) }
+        ensures empty { IfOk result (λ replay. replay.waiting.orders ≡ []) }
         ensures weight { IfOk result (λ replay. replay.weight ≡ weight) }
         ensures line { IfOk result (λ replay. replay.line ≡ line) }
         ensures fills { IfOk result (λ replay. replay.fills.items ≡ []) }
     {
         Ok(Replay {
-            book: PairBook::new(alloc, pair, banks)?,
+            pair,
+            waiting: Waiting::new(alloc, pair, banks, turns)?,
             weight,
             line,
             fills: Vec::new(alloc),
@@ -60,24 +62,23 @@ impl Replay {
         steps: &mut Steps<L>,
     ) -> Result<(), Memory>
         requires weight { IsWeight self.old.weight }
-        requires bank { order.now.bank < self.old.book.banks }
+        requires bank { order.now.bank < self.old.waiting.banks }
         requires differ { order.now.bank ≢ other }
-        requires last { Each (λ waiting. waiting.arrival < order.now.arrival) self.old.book.orders }
+        requires last { Each (λ waiting. waiting.arrival < order.now.arrival) self.old.waiting.orders }
         requires number { 1 ≤ order.now.number }
-        requires absent { Each (λ waiting. is_order order.now.bank order.now.number waiting ≡ false) self.old.book.orders }
+        requires absent { Each (λ waiting. is_order order.now.bank order.now.number waiting ≡ false) self.old.waiting.orders }
         ensures weight { self.new.weight ≡ self.old.weight }
-        ensures banks { self.new.book.banks ≡ self.old.book.banks }
-        ensures pair { self.new.book.pair ≡ self.old.book.pair }
+        ensures banks { self.new.waiting.banks ≡ self.old.waiting.banks }
+        ensures pair { self.new.pair ≡ self.old.pair }
         ensures turn { OnOk result ((own : List Fill) × (left : ℕ)
-            × SweptAmong self.old.weight other self.old.line self.old.book.orders (taker_of_resting self.old.book.pair order.now) own left
+            × SweptAmong self.old.weight other self.old.line self.old.waiting.orders (taker_of_resting self.old.pair order.now) own left
             × (self.new.fills.items ≡ self.old.fills.items ++ own)
             × (self.new.line ≡ paid self.old.weight self.old.line own)
-            × (self.new.book.orders ≡ joined order.now left (lessened_all self.old.book.orders own))) }
+            × (self.new.waiting.orders ≡ joined order.now left (lessened_all self.old.waiting.orders own))) }
     {
         let left = self.sweep(order, other, steps)?;
         if let Some(left) = Lots::new(left) {
-            self.book.reserve(order.bank, order.side, order.price)?;
-            self.book.rest(Resting { left, ..*order });
+            self.waiting.push(Resting { left, ..*order })?;
         }
         Ok(())
     }
@@ -92,14 +93,14 @@ impl Replay {
         requires weight { IsWeight self.old.weight }
         requires differ { order.now.bank ≢ other }
         ensures weight { self.new.weight ≡ self.old.weight }
-        ensures banks { self.new.book.banks ≡ self.old.book.banks }
-        ensures pair { self.new.book.pair ≡ self.old.book.pair }
+        ensures banks { self.new.waiting.banks ≡ self.old.waiting.banks }
+        ensures pair { self.new.pair ≡ self.old.pair }
         ensures most { IfOk result (λ left. left ≤ 10 ^ 6) }
         ensures swept { IfOk result (λ left. (own : List Fill)
-            × SweptAmong self.old.weight other self.old.line self.old.book.orders (taker_of_resting self.old.book.pair order.now) own left
+            × SweptAmong self.old.weight other self.old.line self.old.waiting.orders (taker_of_resting self.old.pair order.now) own left
             × (self.new.fills.items ≡ self.old.fills.items ++ own)
             × (self.new.line ≡ paid self.old.weight self.old.line own)
-            × (self.new.book.orders ≡ lessened_all self.old.book.orders own)) }
+            × (self.new.waiting.orders ≡ lessened_all self.old.waiting.orders own)) }
     {
         let mut left = order.left.count();
         while left > 0 {
@@ -116,12 +117,11 @@ impl Replay {
 
     /// An order as it is swept in the pair, with so many lots left.
     fn swept(&self, order: &Resting, left: u32) -> SweptOrder
-        ensures value { result ≡ taker_of_resting self.now.book.pair (record order.now { left = left }) }
-        ensures valid { IsBook self.now.book }
+        ensures value { result ≡ taker_of_resting self.now.pair (record order.now { left = left }) }
     {
         SweptOrder {
             left: u128::from(left),
-            ..SweptOrder::of_resting(self.book.pair(), order)
+            ..SweptOrder::of_resting(self.pair, order)
         }
     }
 
@@ -134,13 +134,13 @@ impl Replay {
     ) -> Option<Resting>
         requires weight { IsWeight self.now.weight }
         requires differ { order.now.bank ≢ other }
-        ensures best { IsBestOf order.now.side (open_in (only other (self.now.line / self.now.weight)) (taker_of_resting self.now.book.pair order.now) self.now.book.orders) result }
+        ensures best { IsBestOf order.now.side (open_in (only other (self.now.line / self.now.weight)) (taker_of_resting self.now.pair order.now) self.now.waiting.orders) result }
     {
         if self.line < u64::from(self.weight) {
             return None;
         }
         let side = order.side.opposite();
-        let maker = self.book.best_of(other, side, order.arrival, None, steps)?;
+        let maker = self.waiting.best_of(other, side, order.arrival, steps)?;
         if !order.price.crosses(maker.price, order.side) {
             return None;
         }
@@ -150,23 +150,17 @@ impl Replay {
     /// Trades lots of a waiting order, at its price, which the line pays for.
     fn trade(&mut self, taker: &SweptOrder, maker: &Resting, lots: Lots) -> Result<(), Memory>
         requires weight { IsWeight self.old.weight }
-        requires valid { IsBook self.old.book }
-        requires waits { Among maker.now self.old.book.orders }
-        requires lots { lots ≤ maker.now.left }
         requires line { lots * self.old.weight ≤ self.old.line }
         ensures weight { self.new.weight ≡ self.old.weight }
-        ensures banks { self.new.book.banks ≡ self.old.book.banks }
-        ensures pair { self.new.book.pair ≡ self.old.book.pair }
+        ensures banks { self.new.waiting.banks ≡ self.old.waiting.banks }
+        ensures pair { self.new.pair ≡ self.old.pair }
         ensures fills { OnOk result (self.new.fills.items ≡ self.old.fills.items ++ fill_with taker.now maker.now lots ∷ []) }
         ensures line { OnOk result (self.new.line ≡ self.old.line - lots * self.old.weight) }
-        ensures orders { OnOk result (self.new.book.orders ≡ lessened maker.now.bank maker.now.number lots self.old.book.orders) }
+        ensures orders { OnOk result (self.new.waiting.orders ≡ lessened maker.now.bank maker.now.number lots self.old.waiting.orders) }
     {
         self.fills.push(taker.fill_with(maker, lots))?;
         self.line -= lots.cost(self.weight).get();
-        match Lots::new(maker.left.count() - lots.count()) {
-            Some(left) => self.book.lower(maker.bank, maker.number, left),
-            None => self.book.remove(maker.bank, maker.number),
-        }
+        self.waiting.lessen(maker.bank, maker.number, lots);
         Ok(())
     }
 }

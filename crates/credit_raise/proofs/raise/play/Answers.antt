@@ -14,8 +14,8 @@ use Rattle.credit_raise.proofs.raise.play.Goals as goal
 
 pub turn-requires-clause-bank : goal.turn-requires-clause-bank
 turn-requires-clause-bank g c =
-    let next : IsNext c.args.i c.args.j c.loop-order.order-index c.args.turns.now c.order-item.result c.loop-order.replay.book.orders =
-    turn-next c.args.i c.args.j c.loop-order.order-index c.args.turns.now c.order-item.result c.loop-order.replay.book.orders
+    let next : IsNext c.args.i c.args.j c.loop-order.order-index c.args.turns.now c.order-item.result c.loop-order.replay.waiting.orders =
+    turn-next c.args.i c.args.j c.loop-order.order-index c.args.turns.now c.order-item.result c.loop-order.replay.waiting.orders
     c.loop-order-test.true c.order-item.is c.loop-order.invariant.are_turns c.loop-order.invariant.before in
     elim next.are.owners.0 [
       | inl is ↦ omega (arith, is, c.loop-order.invariant.banks, c.max-banks.ensures, c.index.ensures.value, c.index-2.ensures.value)
@@ -24,31 +24,31 @@ turn-requires-clause-bank g c =
 
 pub turn-requires-clause-differ : goal.turn-requires-clause-differ
 turn-requires-clause-differ g c =
-    let next : IsNext c.args.i c.args.j c.loop-order.order-index c.args.turns.now c.order-item.result c.loop-order.replay.book.orders =
-    turn-next c.args.i c.args.j c.loop-order.order-index c.args.turns.now c.order-item.result c.loop-order.replay.book.orders
+    let next : IsNext c.args.i c.args.j c.loop-order.order-index c.args.turns.now c.order-item.result c.loop-order.replay.waiting.orders =
+    turn-next c.args.i c.args.j c.loop-order.order-index c.args.turns.now c.order-item.result c.loop-order.replay.waiting.orders
     c.loop-order-test.true c.order-item.is c.loop-order.invariant.are_turns c.loop-order.invariant.before in
     subst (λ n. c.order-item.result.bank ≢ n) (sym c.other_of.ensures) (other_differs c.args.i c.args.j c.order-item.result.bank c.requires.differ next.are.owners.0)
 
 pub turn-requires-clause-last : goal.turn-requires-clause-last
 turn-requires-clause-last g c =
-    let next : IsNext c.args.i c.args.j c.loop-order.order-index c.args.turns.now c.order-item.result c.loop-order.replay.book.orders =
-    turn-next c.args.i c.args.j c.loop-order.order-index c.args.turns.now c.order-item.result c.loop-order.replay.book.orders
+    let next : IsNext c.args.i c.args.j c.loop-order.order-index c.args.turns.now c.order-item.result c.loop-order.replay.waiting.orders =
+    turn-next c.args.i c.args.j c.loop-order.order-index c.args.turns.now c.order-item.result c.loop-order.replay.waiting.orders
     c.loop-order-test.true c.order-item.is c.loop-order.invariant.are_turns c.loop-order.invariant.before in
-    before-earlier c.loop-order.replay.book.orders c.order-item.result (drop (c.loop-order.order-index + 1) c.args.turns.now) next.before
+    before-earlier c.loop-order.replay.waiting.orders c.order-item.result (drop (c.loop-order.order-index + 1) c.args.turns.now) next.before
 
 pub turn-requires-clause-number : goal.turn-requires-clause-number
 turn-requires-clause-number g c =
-    let next : IsNext c.args.i c.args.j c.loop-order.order-index c.args.turns.now c.order-item.result c.loop-order.replay.book.orders =
-    turn-next c.args.i c.args.j c.loop-order.order-index c.args.turns.now c.order-item.result c.loop-order.replay.book.orders
+    let next : IsNext c.args.i c.args.j c.loop-order.order-index c.args.turns.now c.order-item.result c.loop-order.replay.waiting.orders =
+    turn-next c.args.i c.args.j c.loop-order.order-index c.args.turns.now c.order-item.result c.loop-order.replay.waiting.orders
     c.loop-order-test.true c.order-item.is c.loop-order.invariant.are_turns c.loop-order.invariant.before in
     next.are.numbers.0
 
 pub turn-requires-clause-absent : goal.turn-requires-clause-absent
 turn-requires-clause-absent g c =
-    let next : IsNext c.args.i c.args.j c.loop-order.order-index c.args.turns.now c.order-item.result c.loop-order.replay.book.orders =
-    turn-next c.args.i c.args.j c.loop-order.order-index c.args.turns.now c.order-item.result c.loop-order.replay.book.orders
+    let next : IsNext c.args.i c.args.j c.loop-order.order-index c.args.turns.now c.order-item.result c.loop-order.replay.waiting.orders =
+    turn-next c.args.i c.args.j c.loop-order.order-index c.args.turns.now c.order-item.result c.loop-order.replay.waiting.orders
     c.loop-order-test.true c.order-item.is c.loop-order.invariant.are_turns c.loop-order.invariant.before in
-    before-absent c.loop-order.replay.book.orders c.order-item.result (drop (c.loop-order.order-index + 1) c.args.turns.now) next.before
+    before-absent c.loop-order.replay.waiting.orders c.order-item.result (drop (c.loop-order.order-index + 1) c.args.turns.now) next.before
 
 pub loop-order-preserved : goal.loop-order-preserved
 loop-order-preserved g c =
@@ -58,15 +58,15 @@ loop-order-preserved g c =
     let pair : ℕ = c.args.pair in
     let order : Resting = c.order-item.result in
     let turns : List Resting = c.args.turns.now in
-    let waiting : List Resting = c.loop-order.replay.book.orders in
+    let waiting : List Resting = c.loop-order.replay.waiting.orders in
     let rest : List Resting = drop (c.loop-order.order-index + 1) c.args.turns.now in
     let was = c.loop-order.invariant in
-    let next : IsNext c.args.i c.args.j c.loop-order.order-index c.args.turns.now c.order-item.result c.loop-order.replay.book.orders =
-    turn-next c.args.i c.args.j c.loop-order.order-index c.args.turns.now c.order-item.result c.loop-order.replay.book.orders
+    let next : IsNext c.args.i c.args.j c.loop-order.order-index c.args.turns.now c.order-item.result c.loop-order.replay.waiting.orders =
+    turn-next c.args.i c.args.j c.loop-order.order-index c.args.turns.now c.order-item.result c.loop-order.replay.waiting.orders
     c.loop-order-test.true c.order-item.is c.loop-order.invariant.are_turns c.loop-order.invariant.before in
     let own : List Fill = c.in_ok-turn.ensures.turn.0 in
     let left : ℕ = c.in_ok-turn.ensures.turn.1 in
-    let waits : c.turn.new.self.book.orders ≡ joined order left (lessened_all waiting own) = c.in_ok-turn.ensures.turn.5 in
+    let waits : c.turn.new.self.waiting.orders ≡ joined order left (lessened_all waiting own) = c.in_ok-turn.ensures.turn.5 in
     record {
       goes_on = λ more played.
           subst (Played pair weight i j c.args.eff [] turns)
@@ -74,7 +74,7 @@ loop-order-preserved g c =
           (was.goes_on (own ++ more)
           (subst (λ (ts : List Resting). Played pair weight i j c.loop-order.replay.line waiting ts (own ++ more)) (sym next.here)
           (played-turn pair weight i j c.loop-order.replay.line waiting order rest own more left
-          c.other_of.result c.loop-order.replay.weight c.loop-order.replay.book.pair c.turn.new.self.line c.turn.new.self.book.orders
+          c.other_of.result c.loop-order.replay.weight c.loop-order.replay.pair c.turn.new.self.line c.turn.new.self.waiting.orders
           was.weight was.pair c.other_of.ensures c.in_ok-turn.ensures.turn.2 c.in_ok-turn.ensures.turn.4 waits played)));
       weight = c.turn.ensures.weight ∙ was.weight;
       banks = c.turn.ensures.banks ∙ was.banks;
@@ -90,7 +90,7 @@ returns-then-replay-from g c =
     let line : ℕ = c.loop-order.replay.line in
     record {
       played = subst (Played c.args.pair c.args.weight c.args.i c.args.j c.args.eff [] c.args.turns.now) (append-nil c.loop-order.replay.fills.items)
-          (was.goes_on [] (unpaid-plays c.args.pair c.args.weight c.args.i c.args.j line c.loop-order.replay.book.orders (drop c.loop-order.order-index c.args.turns.now)
+          (was.goes_on [] (unpaid-plays c.args.pair c.args.weight c.args.i c.args.j line c.loop-order.replay.waiting.orders (drop c.loop-order.order-index c.args.turns.now)
           (div_none line c.args.weight (omega (arith, c.if-replay-from.true, c.from.ensures)))));
     }
 
@@ -100,6 +100,6 @@ returns g c =
     record {
       played = subst (Played c.args.pair c.args.weight c.args.i c.args.j c.args.eff [] c.args.turns.now) (append-nil c.loop-order.replay.fills.items)
           (was.goes_on []
-          (subst (λ (os : List Resting). Played c.args.pair c.args.weight c.args.i c.args.j c.loop-order.replay.line c.loop-order.replay.book.orders os [])
+          (subst (λ (os : List Resting). Played c.args.pair c.args.weight c.args.i c.args.j c.loop-order.replay.line c.loop-order.replay.waiting.orders os [])
           (sym (drop_all c.loop-order.order-index c.args.turns.now c.loop-order-test.false)) refl));
     }

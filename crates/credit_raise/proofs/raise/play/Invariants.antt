@@ -9,11 +9,11 @@ use Rattle.credit_raise.proofs.raise.play.Given as goal
 abbrev pub invariant-loop-order : goal.invariant-loop-order
 invariant-loop-order g l = record {
   goes_on : (more : List Fill) →
-      Played l.fn.pair l.weight l.i l.j l.replay.line l.replay.book.orders (drop l.order-index l.turns) more →
+      Played l.fn.pair l.weight l.i l.j l.replay.line l.replay.waiting.orders (drop l.order-index l.turns) more →
       Played l.fn.pair l.weight l.i l.j l.fn.eff [] l.turns (l.replay.fills.items ++ more);
   weight : l.replay.weight ≡ l.weight;
-  banks : l.replay.book.banks ≡ l.banks;
-  pair : l.replay.book.pair ≡ l.fn.pair;
+  banks : l.replay.waiting.banks ≡ l.banks;
+  pair : l.replay.pair ≡ l.fn.pair;
   are_turns : AreTurns l.i l.j (drop l.order-index l.turns);
-  before : Each (λ waiting. Each (ArrivesBefore waiting) (drop l.order-index l.turns)) l.replay.book.orders;
+  before : Each (λ waiting. Each (ArrivesBefore waiting) (drop l.order-index l.turns)) l.replay.waiting.orders;
 }

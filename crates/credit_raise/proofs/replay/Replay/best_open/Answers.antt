@@ -1,5 +1,5 @@
 -- The best of the other bank's is open where the line pays for a lot and the prices cross; else nothing is.
-use Rattle.std.proofs.Common.{ℕ, ◌≡◌, ◌/◌, List, [], None, arith, refl, sym, subst, ◌∙◌}
+use Rattle.std.proofs.Common.{ℕ, ◌≡◌, ◌/◌, List, [], None, arith, sym, subst, ◌∙◌}
 use Rattle.fx_amounts.specs.Side.{opposite}
 use Rattle.fx_amounts.specs.declared.side.Side.{Side}
 use Rattle.fx_rules.specs.declared.orders.Resting.{Resting}
@@ -15,25 +15,25 @@ use Rattle.credit_raise.proofs.replay.Replay.best_open.Goals as goal
 
 pub returns-then-self-from : goal.returns-then-self-from
 returns-then-self-from g c = record {
-  best = unpaid-closed c.args.self.now.book.pair c.args.other (c.args.self.now.line / c.args.self.now.weight) c.args.order.now c.args.self.now.book.orders
+  best = unpaid-closed c.args.self.now.pair c.args.other (c.args.self.now.line / c.args.self.now.weight) c.args.order.now c.args.self.now.waiting.orders
       (div_none c.args.self.now.line c.args.self.now.weight (omega (arith, c.if-self-from.true, c.from.ensures)));
 }
 
 pub returns-in_err-maker : goal.returns-in_err-maker
 returns-in_err-maker g c =
-    let t : Taker = taker_of_resting c.args.self.now.book.pair c.args.order.now in
+    let t : Taker = taker_of_resting c.args.self.now.pair c.args.order.now in
     let lots : ℕ = c.args.self.now.line / c.args.self.now.weight in
-    let orders : List Resting = c.args.self.now.book.orders in
+    let orders : List Resting = c.args.self.now.waiting.orders in
     record {
       best = subst (IsBestOf t.side (open_in (only c.args.other lots) t orders)) (sym c.from_residual.ensures)
           (open-none c.args.other lots t orders
-          (subst (λ (s : Side). owned_behind s c.args.other t.arrival None orders ≡ []) c.opposite-side.ensures (c.in_err-maker.ensures.none.0 refl)));
+          (subst (λ (s : Side). owned_behind s c.args.other t.arrival None orders ≡ []) c.opposite-side.ensures c.in_err-maker.ensures.best));
     }
 
 pub returns-then-not-crosses : goal.returns-then-not-crosses
 returns-then-not-crosses g c =
-    let t : Taker = taker_of_resting c.args.self.now.book.pair c.args.order.now in
-    let orders : List Resting = c.args.self.now.book.orders in
+    let t : Taker = taker_of_resting c.args.self.now.pair c.args.order.now in
+    let orders : List Resting = c.args.self.now.waiting.orders in
     let maker : Resting = c.in_ok-maker.maker in
     record {
       best = open-apart c.args.other (c.args.self.now.line / c.args.self.now.weight) t orders maker
@@ -43,10 +43,10 @@ returns-then-not-crosses g c =
 
 pub returns : goal.returns
 returns g c =
-    let t : Taker = taker_of_resting c.args.self.now.book.pair c.args.order.now in
+    let t : Taker = taker_of_resting c.args.self.now.pair c.args.order.now in
     let line : ℕ = c.args.self.now.line in
     let weight : ℕ = c.args.self.now.weight in
-    let orders : List Resting = c.args.self.now.book.orders in
+    let orders : List Resting = c.args.self.now.waiting.orders in
     let maker : Resting = c.in_ok-maker.maker in
     record {
       best = open-best c.args.other (line / weight) t orders maker

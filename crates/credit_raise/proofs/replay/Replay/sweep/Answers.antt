@@ -13,15 +13,11 @@ pub amount_by_line-lots-requires-clause-line : goal.amount_by_line-lots-requires
 amount_by_line-lots-requires-clause-line g c =
     let line : ℕ = c.loop-left.self.line in
     let weight : ℕ = c.loop-left.self.weight in
-    let maker = maker-of (line / weight) c.args.other (taker_of_resting c.loop-left.self.book.pair c.args.order.now) c.loop-left.self.book.orders c.in-Some.maker c.in-Some.ensures.best.there in
+    let maker = maker-of (line / weight) c.args.other (taker_of_resting c.loop-left.self.pair c.args.order.now) c.loop-left.self.waiting.orders c.in-Some.maker c.in-Some.ensures.best.there in
     omega (arith, (le-div_iff_mul-le {k = weight} {x = 1} {y = line} (omega (arith, c.requires.weight.0, c.loop-left.invariant.weight))).0 maker.reached)
 
 pub amount_by_line-lots-requires-clause-left : goal.amount_by_line-lots-requires-clause-left
 amount_by_line-lots-requires-clause-left g c = omega (arith, c.loop-left-test.true, ap (λ (t : Taker). t.left) c.swept-taker.ensures.value)
-
-pub trade-requires-clause-waits : goal.trade-requires-clause-waits
-trade-requires-clause-waits g c =
-    (maker-of (c.loop-left.self.line / c.loop-left.self.weight) c.args.other (taker_of_resting c.loop-left.self.book.pair c.args.order.now) c.loop-left.self.book.orders c.in-Some.maker c.in-Some.ensures.best.there).waits
 
 pub loop-left-preserved : goal.loop-left-preserved
 loop-left-preserved g c =
@@ -31,7 +27,7 @@ loop-left-preserved g c =
     let lots : ℕ = c.amount_by_line-lots.result in
     let weight : ℕ = c.loop-left.self.weight in
     let line : ℕ = c.loop-left.self.line in
-    let pair : ℕ = c.loop-left.self.book.pair in
+    let pair : ℕ = c.loop-left.self.pair in
     let t : Taker = taker_of_resting pair (record order { left = c.loop-left.left }) in
     let f : Fill = fill_with t maker lots in
     let own : List Fill = was.own ++ f ∷ [] in
@@ -48,26 +44,26 @@ loop-left-preserved g c =
           ∙ sym (paid-append c.args.self.now.weight c.args.self.now.line was.own (f ∷ []));
       orders = c.in_ok-trade.ensures.orders
           ∙ ap (lessened maker.bank maker.number lots) was.orders
-          ∙ sym (lessened_all-append c.args.self.now.book.orders was.own (f ∷ []));
+          ∙ sym (lessened_all-append c.args.self.now.waiting.orders was.own (f ∷ []));
       weight = c.trade.ensures.weight ∙ was.weight;
       banks = c.trade.ensures.banks ∙ was.banks;
       pair = c.trade.ensures.pair ∙ was.pair;
       goes_on = λ more left swept.
-          subst (λ (fs : List Fill). SweptAmong c.args.self.now.weight c.args.other c.args.self.now.line c.args.self.now.book.orders (taker_of_resting c.args.self.now.book.pair order) fs left)
+          subst (λ (fs : List Fill). SweptAmong c.args.self.now.weight c.args.other c.args.self.now.line c.args.self.now.waiting.orders (taker_of_resting c.args.self.now.pair order) fs left)
           (sym (one_more was.own more f))
           (was.goes_on (f ∷ more) left
-          (sweep-step weight c.args.other line c.loop-left.self.book.orders t maker lots more left c.trade.new.self.line c.trade.new.self.book.orders
+          (sweep-step weight c.args.other line c.loop-left.self.waiting.orders t maker lots more left c.trade.new.self.line c.trade.new.self.waiting.orders
           (omega (arith, c.loop-left-test.true)) c.in-Some.ensures.best lots_is c.in_ok-trade.ensures.line c.in_ok-trade.ensures.orders
-          (subst (λ n. SweptAmong weight c.args.other c.trade.new.self.line c.trade.new.self.book.orders (taker_of_resting pair (record order { left = c.loop-left.left - n })) more left) c.count-left-in-loop-left.ensures.value
-          (subst (λ n. SweptAmong weight c.args.other c.trade.new.self.line c.trade.new.self.book.orders (taker_of_resting n (record order { left = c.loop-left.left - c.count-left-in-loop-left.result })) more left) c.trade.ensures.pair
-          (subst (λ n. SweptAmong n c.args.other c.trade.new.self.line c.trade.new.self.book.orders (taker_of_resting c.trade.new.self.book.pair (record order { left = c.loop-left.left - c.count-left-in-loop-left.result })) more left) c.trade.ensures.weight swept)))));
+          (subst (λ n. SweptAmong weight c.args.other c.trade.new.self.line c.trade.new.self.waiting.orders (taker_of_resting pair (record order { left = c.loop-left.left - n })) more left) c.count-left-in-loop-left.ensures.value
+          (subst (λ n. SweptAmong weight c.args.other c.trade.new.self.line c.trade.new.self.waiting.orders (taker_of_resting n (record order { left = c.loop-left.left - c.count-left-in-loop-left.result })) more left) c.trade.ensures.pair
+          (subst (λ n. SweptAmong n c.args.other c.trade.new.self.line c.trade.new.self.waiting.orders (taker_of_resting c.trade.new.self.pair (record order { left = c.loop-left.left - c.count-left-in-loop-left.result })) more left) c.trade.ensures.weight swept)))));
     }
 
 pub returns-after-loop-left-clause-swept : goal.returns-after-loop-left-clause-swept
 returns-after-loop-left-clause-swept g c =
     let was = c.loop-left.invariant in (
       was.own,
-      subst (λ (fs : List Fill). SweptAmong c.args.self.now.weight c.args.other c.args.self.now.line c.args.self.now.book.orders (taker_of_resting c.args.self.now.book.pair c.args.order.now) fs c.loop-left.left) (append-nil was.own)
+      subst (λ (fs : List Fill). SweptAmong c.args.self.now.weight c.args.other c.args.self.now.line c.args.self.now.waiting.orders (taker_of_resting c.args.self.now.pair c.args.order.now) fs c.loop-left.left) (append-nil was.own)
           (was.goes_on [] c.loop-left.left (refl, inl (omega (arith, c.loop-left-test.false)))),
       was.fills,
       was.line,
@@ -78,7 +74,7 @@ pub returns-in_default-clause-swept : goal.returns-in_default-clause-swept
 returns-in_default-clause-swept g c =
     let was = c.loop-left.invariant in (
       was.own,
-      subst (λ (fs : List Fill). SweptAmong c.args.self.now.weight c.args.other c.args.self.now.line c.args.self.now.book.orders (taker_of_resting c.args.self.now.book.pair c.args.order.now) fs c.loop-left.left) (append-nil was.own)
+      subst (λ (fs : List Fill). SweptAmong c.args.self.now.weight c.args.other c.args.self.now.line c.args.self.now.waiting.orders (taker_of_resting c.args.self.now.pair c.args.order.now) fs c.loop-left.left) (append-nil was.own)
           (was.goes_on [] c.loop-left.left (refl, inr c.in_default.ensures.best)),
       was.fills,
       was.line,

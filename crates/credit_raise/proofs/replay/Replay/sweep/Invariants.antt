@@ -12,13 +12,13 @@ invariant-loop-left g l = record {
   own : List Fill;
   fills : l.self.fills.items ≡ l.initial.self.fills.items ++ own;
   line : l.self.line ≡ paid l.initial.self.weight l.initial.self.line own;
-  orders : l.self.book.orders ≡ lessened_all l.initial.self.book.orders own;
+  orders : l.self.waiting.orders ≡ lessened_all l.initial.self.waiting.orders own;
   weight : l.self.weight ≡ l.initial.self.weight;
-  banks : l.self.book.banks ≡ l.initial.self.book.banks;
-  pair : l.self.book.pair ≡ l.initial.self.book.pair;
+  banks : l.self.waiting.banks ≡ l.initial.self.waiting.banks;
+  pair : l.self.pair ≡ l.initial.self.pair;
   goes_on : (more : List Fill) (left : ℕ) →
-      SweptAmong l.self.weight l.other l.self.line l.self.book.orders (taker_of_resting l.self.book.pair (record l.order { left = l.left })) more left →
-      SweptAmong l.initial.self.weight l.other l.initial.self.line l.initial.self.book.orders (taker_of_resting l.initial.self.book.pair l.order) (own ++ more) left;
+      SweptAmong l.self.weight l.other l.self.line l.self.waiting.orders (taker_of_resting l.self.pair (record l.order { left = l.left })) more left →
+      SweptAmong l.initial.self.weight l.other l.initial.self.line l.initial.self.waiting.orders (taker_of_resting l.initial.self.pair l.order) (own ++ more) left;
 }
 
 abbrev pub decreases-loop-left : goal.decreases-loop-left
