@@ -1,9 +1,12 @@
 -- A journal that is read line by line.
-use Rattle.std.proofs.Common.{◌≡◌, ℕ, zero, suc, ◌+◌, ◌-◌, ◌<◌, ◌≤◌, Bool, true, false, List, [], ◌∷◌, ◌++◌, length, map, take, drop, Option, Some, None, option_map, ok_or, Result, Ok, Err, refl, sym, ap, ap₂, ◌∙◌, arith, append-nil, length-drop, length-take-le}
+use Rattle.std.proofs.Common.{◌≡◌, ℕ, zero, suc, ◌+◌, ◌-◌, ◌<◌, ◌≤◌, Bool, true, false, List, [], ◌∷◌, ◌++◌, length, map, take, drop, Option, Some, None, option_map, ok_or, Result, Ok, Err, refl, sym, ap, ap₂, ◌∙◌, subst, arith, append-nil, length-drop, length-take-le}
+use Rattle.std.specs.Prelude.{IsErrAnd}
 use Rattle.std.proofs.lemmas.Bool.{cond-true, cond-false, lt-ltb, le-ltb}
+use Rattle.fx_amounts.specs.declared.memory.Memory.{Memory as AmountsMemory}
 use Rattle.fx_text.specs.Faults.{◌>>=◌}
 use Rattle.fx_text.specs.Lines.{line_of, line_seen}
-use Rattle.std.proofs.lemmas.List.{length_push, map-append}
+use Rattle.std.proofs.Math.Seq.{take-add}
+use Rattle.std.proofs.lemmas.List.{drop-drop, length_push, map-append}
 use Rattle.std.proofs.lemmas.List.Concat.{flat_map-append}
 use Rattle.fx_rules.specs.Session.{Header}
 use Rattle.fx_rules.specs.declared.outcome.Entry.{Entry}
@@ -11,20 +14,21 @@ use Rattle.fx_rules.specs.Sending.{sent_by, sent_of}
 use Rattle.pair_host.specs.Standing.{HostState, stands}
 use Rattle.market_run.specs.Ran.{Ran}
 use Rattle.market_run.specs.Running.{HasServed, GoesOnBy}
-use Rattle.reply_lines.specs.Day.{AreNoticesOf, IsJournalOf}
+use Rattle.reply_lines.specs.Day.{AreNoticesOf}
 use Rattle.reply_lines.specs.Output.{entry_line}
 use Rattle.reply_lines.specs.declared.day_notices.DayNotices.{DayNotices}
-use Rattle.reply_lines.specs.declared.journal.JournalText.{JournalText}
 use Rattle.order_lines.specs.Grammar.{journal_line}
 use Rattle.journal_check.specs.Lines.{LineAt, behind, is_long, lines_from}
 use Rattle.fx_rules.specs.declared.command.Command.{Command}
 use Rattle.fx_rules.specs.declared.command.Sent.{Sent}
 use Rattle.journal_check.specs.Listed.{count_told, count_among, commands_among}
-use Rattle.journal_check.specs.inside.Stops.{IsReadAt, IsStopAt, Missing, TooLong, ReadsLine, Answers, IsKept, ReadsEntries, ReadsSent, SaysAt, next_of, sent_line}
+use Rattle.journal_check.specs.inside.Stops.{IsReadAt, IsStopAt, Missing, TooLong, ReadsLine, Answers, HaveReadLines, IsKept, ReadsEntries, ReadsSent, SaysAt, StandsIn, lines_of, next_of, sent_line}
 use Rattle.journal_check.specs.declared.journal.Counted.{Counted}
 use Rattle.journal_check.specs.declared.journal.ReadSent.{ReadSent}
+use Rattle.journal_check.specs.declared.journal.ServedJournal.{ServedJournal}
 use Rattle.journal_check.specs.declared.kept.Kept.{Kept}
 use Rattle.journal_check.specs.declared.line.ReadLine.{ReadLine}
+use Rattle.journal_check.specs.declared.lines.ReadLines.{ReadLines}
 use Rattle.journal_check.specs.declared.stop.Stop.{Stop}
 use Rattle.journal_check.specs.declared.stop.Stop.TheVariants.{Wrong, Memory}
 
@@ -141,45 +145,91 @@ commands_stopped h whole kept text at before count left (Memory memory) there on
 
 -- Entries that are served as they are read
 
+-- there was no memory for one of them
+pub for_memory : (h : Header) (whole : Bool) (kept : Kept) (there : Result (List Sent) ℕ) (memory : AmountsMemory) (result : Result ServedJournal Stop) → IsErrAnd result (λ stop. stop ≡ Memory memory) → ReadsEntries h whole kept result there
+for_memory h whole kept there memory (Ok served) is = absurd is
+for_memory h whole kept there memory (Err stop) is = subst (λ (s : Stop). ReadsEntries h whole kept (Err s) there) (sym is) tt
+
 -- so many were read up to an offset, and so many are left
-pub record HasReadSome (h : Header) (text : List ℕ) (there : Result (List Sent) ℕ) (whole : Bool) (kept : Kept) (run : Ran HostState DayNotices) (journal : JournalText) (count left at : ℕ) : Type 0 where
+pub record HasReadSome (h : Header) (text : List ℕ) (there : Result (List Sent) ℕ) (whole : Bool) (kept : Kept) (run : Ran HostState DayNotices) (lines : ReadLines) (count left at : ℕ) : Type 0 where
   pub entries : List Entry
   pub has_served : HasServed stands AreNoticesOf h entries run
-  pub journal_is : IsJournalOf h entries journal
+  pub lines_are : HaveReadLines h entries lines
   pub size : length entries ≡ count
   pub reads : there ≡ commands_among h (length text) (map sent_by entries) left (lines_from text at)
   pub is_kept : IsKept whole entries kept
 
--- a journal with the line of one entry more
-line_more : (h : Header) (entries : List Entry) (e : Entry) (sent : Sent) (was now : JournalText) → IsJournalOf h entries was → sent_by e ≡ sent → now.count ≡ was.count + 1 → now.lines.items ≡ was.lines.items ++ sent_line h sent
-    → IsJournalOf h (entries ++ e ∷ []) now
-line_more h entries e sent was now is sent_is count lines = record {
-  count = count ∙ ap (λ (n : ℕ). n + 1) is.count ∙ sym (length_push entries e);
-  lines = lines
-      ∙ ap₂ (λ (front last : List ℕ). front ++ last) is.lines (ap (sent_line h) (sym sent_is) ∙ sym (append-nil (entry_line h e)))
+-- the lines stand in a text from an offset on, up to another one
+pub record StandFrom (text : List ℕ) (from at : ℕ) (lines : ReadLines) : Type 0 where
+  pub within : from ≤ length text
+  pub rest : lines.rest.now ≡ drop from text
+  pub at_is : at ≡ from + lines.len
+
+-- so the next line stands behind them
+pub stands_next : (text : List ℕ) (from at : ℕ) (lines : ReadLines) (read : ReadSent) → StandFrom text from at lines → StandsIn text at read → StandsIn lines.rest.now lines.len read
+stands_next text from at lines read are is =
+    let behind : drop at text ≡ drop lines.len lines.rest.now = ap (λ (n : ℕ). drop n text) are.at_is ∙ sym (drop-drop lines.len from text) ∙ ap (drop lines.len) (sym are.rest) in
+    record {
+      within = omega (arith, are.within, are.at_is, ap length are.rest, length-drop from text, is.within);
+      same = is.same ∙ ap (take (length read.line.now)) behind;
+    }
+
+pub stand_further : (text : List ℕ) (from at size : ℕ) (was now : ReadLines) → StandFrom text from at was → now.rest.now ≡ was.rest.now → now.len ≡ was.len + size → StandFrom text from (at + size) now
+stand_further text from at size was now are rest len = record {
+  within = are.within;
+  rest = rest ∙ are.rest;
+  at_is = omega (arith, are.at_is, len);
+}
+
+-- the lines of one entry more
+lines_more : (h : Header) (entries : List Entry) (e : Entry) (sent : Sent) (was now : ReadLines) → HaveReadLines h entries was → sent_by e ≡ sent → now.len ≤ length now.rest.now → lines_of now ≡ lines_of was ++ sent_line h sent
+    → HaveReadLines h (entries ++ e ∷ []) now
+lines_more h entries e sent was now are sent_is within lines = record {
+  within = within;
+  are = lines
+      ∙ ap₂ (λ (front last : List ℕ). front ++ last) are.are (ap (sent_line h) (sym sent_is) ∙ sym (append-nil (entry_line h e)))
       ∙ sym (flat_map-append (entry_line h) entries (e ∷ []));
 }
 
 -- one more was read
-pub entry_read : (h : Header) (text : List ℕ) (there : Result (List Sent) ℕ) (whole : Bool) (kept kept' : Kept) (was now : Ran HostState DayNotices) (journal journal' : JournalText) (count left left' at : ℕ) (read : ReadSent) (e : Entry)
-    → HasReadSome h text there whole kept was journal count left at → SaysAt h text at read → left ≡ left' + 1
-    → sent_by e ≡ read.sent → GoesOnBy stands AreNoticesOf h was now e → journal'.count ≡ journal.count + 1 → journal'.lines.items ≡ journal.lines.items ++ sent_line h read.sent
+pub entry_read : (h : Header) (text : List ℕ) (there : Result (List Sent) ℕ) (whole : Bool) (kept kept' : Kept) (was now : Ran HostState DayNotices) (lines lines' : ReadLines) (count left left' at : ℕ) (read : ReadSent) (e : Entry)
+    → HasReadSome h text there whole kept was lines count left at → SaysAt h text at read → left ≡ left' + 1
+    → sent_by e ≡ read.sent → GoesOnBy stands AreNoticesOf h was now e → lines'.len ≤ length lines'.rest.now → lines_of lines' ≡ lines_of lines ++ sent_line h read.sent
     → ((entries : List Entry) → IsKept whole entries kept → IsKept whole (entries ++ e ∷ []) kept')
-    → HasReadSome h text there whole kept' now journal' (count + 1) left' (next_of at read)
-entry_read h text there whole kept kept' was now journal journal' count left left' at read e has says one sent_is on counts lines keeps =
+    → HasReadSome h text there whole kept' now lines' (count + 1) left' (next_of at read)
+entry_read h text there whole kept kept' was now lines lines' count left left' at read e has says one sent_is on within more keeps =
     let sent : map sent_by (has.entries ++ e ∷ []) ≡ map sent_by has.entries ++ read.sent ∷ [] =
     map-append sent_by has.entries (e ∷ []) ∙ ap (λ (s : Sent). map sent_by has.entries ++ s ∷ []) sent_is in
     let up : left ≡ suc left' = omega (arith, one) in
     record {
       entries = has.entries ++ e ∷ [];
       has_served = on has.entries has.has_served;
-      journal_is = line_more h has.entries e read.sent journal journal' has.journal_is sent_is counts lines;
+      lines_are = lines_more h has.entries e read.sent lines lines' has.lines_are sent_is within more;
       size = length_push has.entries e ∙ ap (λ (n : ℕ). n + 1) has.size;
       reads = has.reads ∙ ap (λ (n : ℕ). commands_among h (length text) (map sent_by has.entries) n (lines_from text at)) up
           ∙ says.goes_on (map sent_by has.entries) left'
           ∙ ap (λ (b : List Sent). commands_among h (length text) b left' (lines_from text (next_of at read))) (sym sent);
       is_kept = keeps has.entries has.is_kept;
     }
+
+-- a line that was read stands where it was read
+pub line_stands : (text rest line : List ℕ) (at size : ℕ) → rest ≡ drop at text → line ≡ take size rest → size ≤ length rest → line ≡ take (length line) (drop at text)
+line_stands text rest line at size rest_is line_is few =
+    let len : length line ≡ size = ap length line_is ∙ length-take-le size rest few in
+    line_is ∙ ap₂ (λ (n : ℕ) (xs : List ℕ). take n xs) (sym len) rest_is
+
+-- lines that are bytes of the text, with one more
+pub line_read : (h : Header) (was now : ReadLines) (read : ReadSent) → was.is_made ≡ false → now ≡ was → StandsIn was.rest.now was.len read → read.line.now ≡ sent_line h read.sent
+    → lines_of (record now { len = now.len + length read.line.now }) ≡ lines_of was ++ sent_line h read.sent
+line_read h was now read unmade is there spelled = subst (λ (l : ReadLines). lines_of (record l { len = l.len + length read.line.now }) ≡ lines_of was ++ sent_line h read.sent) (sym is)
+    (cond-false was.is_made _ _ unmade
+    ∙ take-add was.len (length read.line.now) was.rest.now
+    ∙ ap (λ (xs : List ℕ). take was.len was.rest.now ++ xs) (sym there.same ∙ spelled)
+    ∙ ap (λ (xs : List ℕ). xs ++ sent_line h read.sent) (sym (cond-false was.is_made _ _ unmade)))
+
+-- lines that are made
+pub line_made : (now : ReadLines) (size : ℕ) (lines : List ℕ) → now.is_made ≡ true → now.made.items ≡ lines → lines_of (record now { len = now.len + size }) ≡ lines
+line_made now size lines made is = cond-true now.is_made _ _ made ∙ is
 
 -- a line that was read field by field
 pub fields_say : (h : Header) (text rest : List ℕ) (at size : ℕ) (line : ReadLine) (said : ℕ × Command) (read : ReadSent) → at ≤ length text → IsReadAt text at line → Some said ≡ journal_line h (line_seen line.line) → rest ≡ drop at text → size ≡ line.next - at
@@ -190,7 +240,10 @@ fields_say h text rest at size line said read inside is then rest_is size_is lin
     let len : length read.line.now ≡ size = ap length line_is ∙ length-take-le size rest (omega (arith, long, size_is, is.next_is, there)) in
     let next : line.next ≡ next_of at read = omega (arith, len, size_is, is.next_is) in
     record {
-      within = omega (arith, next, is.next_is, there);
+      there = record {
+        within = omega (arith, next, is.next_is, there);
+        same = line_stands text rest read.line.now at size rest_is line_is (omega (arith, long, size_is, is.next_is, there));
+      };
       goes_on = λ before count. more_sent h text at before count line said is then
           ∙ ap (λ (n : ℕ). commands_among h (length text) (before ++ sent_of said ∷ []) count (lines_from text n)) next
           ∙ ap (λ (s : Sent). commands_among h (length text) (before ++ s ∷ []) count (lines_from text (next_of at read))) (sym sent_is);

@@ -26,7 +26,7 @@ use Rattle.fx_rules.specs.Sending.{IsSentOf, sent_by}
 use Rattle.journal_check.specs.declared.journal.ReadSent.{ReadSent}
 use Rattle.journal_check.specs.inside.Stops.{SaysAt, next_of}
 use Rattle.std.proofs.lemmas.List.{take_at}
-use Rattle.journal_check.proofs.JournalLemmas.{counted, followed, count_among-short, commands_among-short, commands_among-all}
+use Rattle.journal_check.proofs.JournalLemmas.{counted, followed, count_among-short, commands_among-short, commands_among-all, line_stands}
 use Rattle.journal_check.proofs.Walking.{IsPlain, IsAt-plain, short_line, line_of-plain, ended}
 use Rattle.journal_check.proofs.Histories.{AreSentOf}
 
@@ -138,7 +138,10 @@ spelled_says h text rest behind at size read session valid within rest_is is siz
     ∙ take_at (part ++ 10 ∷ []) behind (length part + 1) (length-append part (10 ∷ [])) in
     let next_is : next_of at read ≡ at + length part + 1 = omega (arith, ap length front, length-append part (10 ∷ [])) in
     record {
-      within = omega (arith, next_is, long, ap length rest_is, length-drop at text, within);
+      there = record {
+        within = omega (arith, next_is, long, ap length rest_is, length-drop at text, within);
+        same = line_stands text rest read.line.now at size rest_is line_is (omega (arith, size_is));
+      };
       goes_on = λ before count. sent_at_line h (length text) text behind at before count read.sent session valid (sym rest_is ∙ is)
           ∙ ap (λ (n : ℕ). commands_among h (length text) (before ++ read.sent ∷ []) count (lines_from text n)) (sym next_is);
       spelled = λ _. front;

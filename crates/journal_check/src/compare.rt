@@ -7,7 +7,7 @@ use crate::journal::ServedJournal;
 use crate::stop::Stop;
 use fx_edges::{Sink, SinkFault};
 use fx_rules::Session;
-use reply_lines::{DayText, OutFault};
+use reply_lines::{JournalLines, OutFault, write_day};
 use std::alloc::Global;
 use std::marker::Model;
 
@@ -116,17 +116,20 @@ pub(crate) fn compare_day(
     alloc: Global,
     text: &[u8],
     session: &Session,
-    served: ServedJournal,
+    served: ServedJournal<'_>,
 ) -> Result<usize, Stop>
     requires served { (entries : List Entry) × HasServedJournal session.now entries served }
-    ensures compared { (entries : List Entry) → HasServedJournal session.now entries served → IsComparedWith session.now entries text.now result }
+    ensures compared { (entries : List Entry) → HasServedJournal session.now entries served.entry → IsComparedWith session.now entries text.now result }
     ensures within { IfOk result (λ end. end ≤ length text.now) }
 {
     let mut comparison = Comparison::new(text);
-    let ServedJournal { run, journal } = served;
+    let ServedJournal { run, count, lines } = served;
     let (host, notices) = run.into_parts();
-    let day = DayText::of(journal, notices);
-    match day.write_day(alloc, session, &host, &mut comparison) {
+    let journal = JournalLines {
+        count,
+        lines: lines.as_slice(),
+    };
+    match write_day(alloc, session, journal, notices, &host, &mut comparison) {
         Ok(()) => comparison.end(),
         // The text differed, and nothing more was written.
         Err(OutFault::Write) => comparison.end(),

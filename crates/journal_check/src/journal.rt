@@ -1,20 +1,20 @@
-ghost use Rattle.std.specs.Prelude.{◌≡◌, ◌≤◌, ◌<◌, ◌+◌, ◌^◌, ◌++◌, length, [], IfOk, IfSome, OnOk};
+ghost use Rattle.std.specs.Prelude.{◌≡◌, ◌≤◌, ◌^◌, length, [], IfOk, IfSome};
 ghost use Rattle.fx_rules.specs.Sending.{IsSentOf};
 ghost use Rattle.fx_text.specs.Lines.{line_seen};
 ghost use Rattle.journal_check.specs.Lines.{lines_from};
 ghost use Rattle.journal_check.specs.Listed.{count_among, count_told, commands_among, most_entries};
-ghost use Rattle.journal_check.specs.inside.Stops.{Answers, IsKept, IsSpelling, ReadsEntries, ReadsSent, sent_line};
+ghost use Rattle.journal_check.specs.inside.Stops.{Answers, IsKept, ReadsEntries, ReadsSent};
 
 use crate::kept::Kept;
 use crate::line::read_line;
+use crate::lines::ReadLines;
 use crate::stop::Stop;
-use fx_amounts::Memory;
 use fx_rules::{Sent, Session};
 use fx_text::{LineView, fields, number};
 use market_run::Run;
 use order_lines::{journal_in, spelled_command};
 use pair_host::PairHost;
-use reply_lines::{DayNotices, JournalText};
+use reply_lines::DayNotices;
 use std::alloc::Global;
 
 /// The most entries of a history whose output can be checked.
@@ -71,7 +71,7 @@ pub(crate) struct ReadSent<'a> {
     /// The bytes of the line with its line feed.
     pub(crate) line: &'a [u8],
     /// Whether they were read as the one spelling of the command.
-    spelled: bool,
+    pub(crate) spelled: bool,
 }
 
 /// Reads the command of the journal's line at an offset. Most lines are in their one spelling, and are read from the first byte to
@@ -121,37 +121,23 @@ fn read_fields<'a>(session: &Session, text: &'a [u8], at: usize) -> Result<ReadS
     })
 }
 
-/// Adds the line of a command to a journal: its bytes, where it was read in its one spelling; any other is made.
-fn add_line(session: &Session, read: &ReadSent<'_>, journal: &mut JournalText) -> Result<(), Memory>
-    requires sent { IsSentOf session.now read.now.sent }
-    requires spelled { IsSpelling session.now read.now }
-    requires few { journal.old.count + 1 < 2 ^ 64 }
-    ensures count { OnOk result (journal.new.count ≡ journal.old.count + 1) }
-    ensures lines { OnOk result (journal.new.lines.items ≡ journal.old.lines.items ++ sent_line session.now read.now.sent) }
-{
-    if read.spelled {
-        journal.add_lines(1, read.line)
-    } else {
-        journal.add(session, read.sent.bank, &read.sent.command)
-    }
-}
-
-/// The commands of a journal, served, and the journal's text.
+/// The commands of a journal, served, and the lines of their entries.
 #[derive(Drop)]
-pub(crate) struct ServedJournal {
+pub(crate) struct ServedJournal<'a> {
     pub(crate) run: Run<PairHost, DayNotices>,
-    pub(crate) journal: JournalText,
+    pub(crate) count: usize,
+    pub(crate) lines: ReadLines<'a>,
 }
 
 /// Reads the entries of a journal and carries out their commands in order: the run of the only legal history that has them. Its
 /// entries are kept, where they are to be.
-pub(crate) fn read_entries(
+pub(crate) fn read_entries<'a>(
     alloc: Global,
     session: &Session,
-    text: &[u8],
+    text: &'a [u8],
     counted: &Counted,
     kept: &mut Kept,
-) -> Result<ServedJournal, Stop>
+) -> Result<ServedJournal<'a>, Stop>
     requires within { counted.now.next ≤ length text.now }
     requires few { counted.now.entries ≤ 2 ^ 28 }
     requires none { IsKept kept.old.whole [] kept.old }
@@ -160,17 +146,21 @@ pub(crate) fn read_entries(
 {
     let host = PairHost::open(alloc, session)?;
     let mut run = Run::open(session, host, DayNotices::open(alloc, session)?);
-    let mut journal = JournalText::new(alloc);
+    let mut lines = ReadLines::new(alloc, text, counted.next);
     let mut at = counted.next;
     for _entry in 0..counted.entries {
         let read = match read_sent(session, text, at) {
             Ok(read) => read,
             Err(stop) => return Err(stop),
         };
-        add_line(session, &read, &mut journal)?;
+        lines.add(session, &read)?;
         let served = run.serve_entry(session, read.sent)?;
         kept.keep(served)?;
         at += read.line.len();
     }
-    Ok(ServedJournal { run, journal })
+    Ok(ServedJournal {
+        run,
+        count: counted.entries as usize,
+        lines,
+    })
 }

@@ -11,6 +11,7 @@ mod kept;
 mod last;
 mod laws;
 mod line;
+mod lines;
 mod read;
 mod stop;
 

@@ -1,5 +1,6 @@
 -- What a reading of a text answers.
-use Rattle.std.specs.Prelude.{ℕ, suc, ◌≡◌, ◌≤◌, ◌<◌, ◌+◌, Bool, true, if◌then◌else◌, List, [], ◌∷◌, ◌++◌, length, map, Option, Some, None, Result, Ok, Err}
+use Rattle.std.specs.Prelude.{ℕ, suc, ◌≡◌, ◌≤◌, ◌<◌, ◌+◌, Bool, true, if◌then◌else◌, List, [], ◌∷◌, ◌++◌, drop, length, map, take, Option, Some, None, Result, Ok, Err}
+use Rattle.std.specs.List.{flat_map}
 use Rattle.fx_text.specs.Lines.{line_of, line_seen}
 use Rattle.fx_rules.specs.Session.{Header}
 use Rattle.fx_rules.specs.declared.command.Sent.{Sent}
@@ -8,14 +9,15 @@ use Rattle.fx_rules.specs.Sending.{sent_by}
 use Rattle.order_lines.specs.Spelling.{command_text_of}
 use Rattle.pair_host.specs.Standing.{stands}
 use Rattle.market_run.specs.Running.{HasServed}
-use Rattle.reply_lines.specs.Day.{AreNoticesOf, IsJournalOf}
-use Rattle.reply_lines.specs.Output.{IsDayText}
+use Rattle.reply_lines.specs.Day.{AreNoticesOf}
+use Rattle.reply_lines.specs.Output.{IsDayText, entry_line}
 use Rattle.journal_check.specs.Lines.{lines_from}
 use Rattle.journal_check.specs.Compared.{beginning}
 use Rattle.journal_check.specs.Verdict.{yes, IsVerdict}
 use Rattle.journal_check.specs.Reading.{IsReadOf}
 use Rattle.journal_check.specs.declared.judging.Judged.{Judged}
 use Rattle.journal_check.specs.declared.kept.Kept.{Kept}
+use Rattle.journal_check.specs.declared.lines.ReadLines.{ReadLines}
 use Rattle.journal_check.specs.declared.journal.ReadSent.{ReadSent}
 use Rattle.journal_check.specs.declared.journal.ServedJournal.{ServedJournal}
 use Rattle.journal_check.specs.Listed.{commands_among}
@@ -67,13 +69,18 @@ sent_line h sent = command_text_of h sent.bank sent.command ++ 10 ∷ []
 abbrev pub IsSpelling : Header → ReadSent → Type 0
 IsSpelling h read = read.spelled ≡ true → read.line.now ≡ sent_line h read.sent
 
+-- the line stands in a text behind so many bytes
+pub record StandsIn (text : List ℕ) (at : ℕ) (read : ReadSent) : Type 0 where
+  pub within : at + length read.line.now ≤ length text
+  pub same : read.line.now ≡ take (length read.line.now) (drop at text)
+
 -- where the line behind begins
 abbrev pub next_of : ℕ → ReadSent → ℕ
 next_of at read = at + length read.line.now
 
 -- the line of a journal at an offset says this command, and the lines behind it follow
 pub record SaysAt (h : Header) (text : List ℕ) (at : ℕ) (read : ReadSent) : Type 0 where
-  pub within : next_of at read ≤ length text
+  pub there : StandsIn text at read
   pub goes_on : (before : List Sent) (count : ℕ) → commands_among h (length text) before (suc count) (lines_from text at)
       ≡ commands_among h (length text) (before ++ read.sent ∷ []) count (lines_from text (next_of at read))
   pub spelled : IsSpelling h read
@@ -84,10 +91,20 @@ ReadsSent h text at (Ok read) = SaysAt h text at read
 ReadsSent h text at (Err (Wrong offset)) = (before : List Sent) (count : ℕ) → commands_among h (length text) before (suc count) (lines_from text at) ≡ Err offset
 ReadsSent h text at (Err (Memory memory)) = ⊥
 
--- the commands of a history were served, and the journal is that of its entries
+-- the lines that were read of a journal, each in its one spelling
+abbrev pub lines_of : ReadLines → List ℕ
+lines_of lines = if lines.is_made then lines.made.items else take lines.len lines.rest.now
+
+-- the lines of these entries were read
+pub record HaveReadLines (h : Header) (entries : List Entry) (lines : ReadLines) : Type 0 where
+  pub within : lines.len ≤ length lines.rest.now
+  pub are : lines_of lines ≡ flat_map (entry_line h) entries
+
+-- the commands of a history were served, and the lines are those of its entries, of which there are so many
 pub record HasServedJournal (h : Header) (entries : List Entry) (served : ServedJournal) : Type 0 where
   pub run : HasServed stands AreNoticesOf h entries served.run
-  pub journal : IsJournalOf h entries served.journal
+  pub count : served.count ≡ length entries
+  pub lines : HaveReadLines h entries served.lines
 
 -- a history of these commands was served, whose entries are kept, all or none
 pub record IsRunOf (h : Header) (there : Result (List Sent) ℕ) (whole : Bool) (kept : Kept) (served : ServedJournal) : Type 0 where
