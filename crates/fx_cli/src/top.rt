@@ -29,7 +29,7 @@ use std::thread::Threads;
 ///
 /// - `run`, `run --workers N`: runs the session of the source's bytes, of which at most 2^26 are taken, in N threads at
 ///   most (1 to 64, 4 where it is not said), round by round: each is run before more bytes are asked for. The gate is
-///   called before and after each command.
+///   called before and after each command. With one worker it runs as `serial` does, and calls no gate.
 /// - `serial`: runs it in the order of its lines, round by round too.
 /// - `check`: takes the source's bytes to its end, of which there have to be fewer than 2^28, and writes `YES` where they
 ///   are the output of a legal history, else `NO` and the offset at which they are not.

@@ -11,6 +11,7 @@ ghost use Rattle.program_calls.specs.Run.{Ran};
 ghost use Rattle.program_calls.specs.TopCall.{IsOutputOf};
 
 use crate::ending::written_status;
+use crate::serial_run::serial;
 use crate::status::Status;
 use fx_amounts::Memory;
 use fx_chronicle::{Blank, Naming};
@@ -26,7 +27,8 @@ use std::sync::Wait;
 use std::thread::Threads;
 
 /// Runs the session of the source's bytes, each bank's commands in its order, in at most `workers` threads (1 or more), and
-/// answers the status that the run ends with. It may wait.
+/// answers the status that the run ends with. One worker serves them in the order of their lines, with no lock, and calls no gate. It
+/// may wait.
 pub fn run<R: AllocGlobal + Threads + Wait + Sync, S: Source, K: Sink, G: Gate + Sync>(
     rt: &R,
     workers: u32,
@@ -37,6 +39,9 @@ pub fn run<R: AllocGlobal + Threads + Wait + Sync, S: Source, K: Sink, G: Gate +
     requires workers { 1 ≤ workers }
     ensures ran { Ran (IsOutputOf IsHeadline) S.left S.faults K.written K.faults source.old source.new out.old out.new result }
 {
+    if workers == 1 {
+        return serial(rt.alloc(), source, out);
+    }
     match Reading::begin(rt.alloc(), source) {
         Ok(mut reading) => serve_text(rt, workers, &mut reading, source, out, gate),
         Err(stop) => Status::from(stop),
