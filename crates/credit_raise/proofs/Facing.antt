@@ -1,6 +1,7 @@
 -- The orders that cross the best price of the other bank are all that can take or be taken.
-use Rattle.std.proofs.Common.{ℕ, ◌≡◌, ◌≢◌, ◌≤◌, true, false, ◌&&◌, eqb, List, [], ◌⊎◌, inl, inr, Option, Some, None, refl, ap, sym, ◌∙◌, subst, arith}
+use Rattle.std.proofs.Common.{ℕ, ◌≡◌, ◌≢◌, ◌≤◌, true, false, not, ◌&&◌, eqb, List, [], length, ◌⊎◌, inl, inr, Option, Some, None, refl, ap, sym, ◌∙◌, subst, arith}
 use Rattle.std.proofs.lemmas.Bool.{cond_both, cond-true, cond-false, eq-eqb, eqb-true, ne_eqb, le-leb, leb-true, ltb-false, and_from, false≢true, both_ways}
+use Rattle.std.proofs.lemmas.List.Filters.{length-filter_both}
 use Rattle.fx_amounts.specs.Price.{crosses}
 use Rattle.fx_amounts.specs.Side.{opposite}
 use Rattle.fx_amounts.specs.declared.side.Side.{Side}
@@ -116,6 +117,11 @@ pub live-played : (pair weight i j line : ℕ) (orders : List Resting) (tops_i t
 live-played pair weight i j line orders tops_i tops_j fills differ rising are_i are_j played =
     played-all (is_live i tops_i tops_j) pair i j weight orders (spots-live pair i j orders tops_i tops_j differ are_i are_j) rising line [] (turns i j orders) fills
     (turns-among i j orders) (turns-owners i j orders) tt played
+
+-- they are no more than all turns
+pub live-few : (i j : ℕ) (tops_i tops_j : Tops) (orders : List Resting) → length (live_turns i j tops_i tops_j orders) ≤ length (turns i j orders)
+live-few i j tops_i tops_j orders =
+    omega (arith, length-filter_both (is_live i tops_i tops_j) (λ o. not (is_live i tops_i tops_j o)) (λ _. refl) (turns i j orders))
 
 -- the live turns can be played
 pub live-turns : (book : Book) (i j : ℕ) (tops_i tops_j : Tops) → IsBook book → AreTurns i j (live_turns i j tops_i tops_j book.orders)

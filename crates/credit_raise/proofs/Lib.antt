@@ -19,3 +19,4 @@ pub mod Crossing
 pub mod Copying
 pub mod Opening
 pub mod Listed
+pub mod Told

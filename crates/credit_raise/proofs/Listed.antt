@@ -1,5 +1,5 @@
 -- A list of orders that wait: the best of some, and one with lots less.
-use Rattle.std.proofs.Common.{ℕ, zero, suc, ◌≡◌, ◌-◌, ◌≤◌, ◌<◌, ltb, cond, true, false, List, [], ◌∷◌, ◌++◌, Option, Some, None, inl, inr, refl, ap, sym, subst, ◌∙◌, arith, length, get_or, ◌+◌, take, append-nil}
+use Rattle.std.proofs.Common.{ℕ, zero, suc, ◌≡◌, ◌-◌, ◌≤◌, ◌<◌, ltb, true, false, List, [], ◌∷◌, ◌++◌, Option, Some, None, inl, inr, refl, ap, sym, subst, ◌∙◌, arith, length, get_or, ◌+◌, take, append-nil}
 use Rattle.std.proofs.Math.ListN.{set}
 use Rattle.std.proofs.lemmas.Bool.{cases_Bool, cond_both, cond-true, cond-false, both_ways, false_from_ne_true, lt-ltb, le-ltb}
 use Rattle.std.proofs.lemmas.List.{take_more}
@@ -8,7 +8,6 @@ use Rattle.std.specs.List.{remove}
 use Rattle.fx_amounts.specs.Side.{opposite}
 use Rattle.fx_amounts.specs.declared.side.Side.{Side}
 use Rattle.fx_rules.specs.declared.orders.Resting.{Resting}
-use Rattle.fx_rules.specs.Lists.{Among}
 use Rattle.fx_rules.specs.Sweep.{is_order, is_preferred, IsBest}
 use Rattle.fx_rules.proofs.ListLemmas.{Each-append, Each-weaker, filter_cons_true, filter_cons_false}
 use Rattle.fx_rules.proofs.Preference.{preferred_self, preferred_trans}
@@ -21,14 +20,14 @@ use Rattle.credit_raise.proofs.Lessening.{lessened_here, lessened_later}
 use Rattle.credit_raise.proofs.Meeting.{among_front, among_middle}
 
 -- a book takes lots from an order as a list does
-pub lowered-lessened : (bank number lots : ℕ) (orders : List Resting) → lowered_in bank number lots orders ≡ lessened bank number lots orders
-lowered-lessened bank number lots [] = refl
-lowered-lessened bank number lots (o ∷ orders) =
+pub lowered_lessened : (bank number lots : ℕ) (orders : List Resting) → lowered_in bank number lots orders ≡ lessened bank number lots orders
+lowered_lessened bank number lots [] = refl
+lowered_lessened bank number lots (o ∷ orders) =
     elim (cases_Bool (is_order bank number o)) [
       | inl is ↦ lowered-here bank number lots o orders is ∙ sym (lessened_here bank number lots o orders is)
       | inr other ↦
           lowered-later bank number lots o orders other
-          ∙ ap (λ (os : List Resting). o ∷ os) (lowered-lessened bank number lots orders)
+          ∙ ap (λ (os : List Resting). o ∷ os) (lowered_lessened bank number lots orders)
           ∙ sym (lessened_later bank number lots o orders other)
     ]
 

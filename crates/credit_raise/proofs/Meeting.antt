@@ -1,6 +1,6 @@
 -- Two banks' orders, played out by themselves, make the fills that the whole market makes.
 use Rattle.std.proofs.Common.{ℕ, ◌≡◌, ◌≢◌, ◌-◌, ◌*◌, ◌/◌, ◌≤◌, ◌<◌, Bool, true, false, ◌&&◌, ◌||◌, cond, eqb, ltb, List, [], ◌∷◌, ◌++◌, Option, Some, None, ◌⊎◌, inl, inr, refl, ap, sym, subst, ◌∙◌, arith, append_assoc, append-nil, find}
-use Rattle.std.proofs.lemmas.Bool.{cases_Bool, cases_eq, cases_lt, cond_both, cond-true, cond-false, eq-eqb, ne_eqb, lt-ltb, le-ltb, le-leb, and_from, or_left, or_right, false_from_ne_true}
+use Rattle.std.proofs.lemmas.Bool.{cases_Bool, cases_eq, cases_lt, cond-true, cond-false, eq-eqb, ne_eqb, lt-ltb, le-ltb, le-leb, and_from, or_left, or_right, false_from_ne_true}
 use Rattle.std.proofs.lemmas.List.Elements.{filter-append}
 use Rattle.std.specs.List.{filter}
 use Rattle.fx_rules.specs.declared.orders.ActiveOrder.{ActiveOrder}
@@ -209,10 +209,6 @@ key_two : (i j bank number : ℕ) (o : Resting) → (bank ≡ i) ⊎ (bank ≡ j
 key_two i j bank number o owner is =
     let says = is_order-says bank number o is in
     owner-two i j o (elim owner [ inl one ↦ inl (says.0 ∙ one) | inr two ↦ inr (says.0 ∙ two) ])
-
--- the other of the two banks is one of them
-other-owner : (i j bank : ℕ) → (other_of i j bank ≡ i) ⊎ (other_of i j bank ≡ j)
-other-owner i j bank = cond_both (eqb bank i) j i (λ n. (n ≡ i) ⊎ (n ≡ j)) (λ _. inr refl) (λ _. inl refl)
 
 -- the fills are between the two
 pub fill-between : (i j bank : ℕ) (f : Fill) → (bank ≡ i) ⊎ (bank ≡ j) → i ≢ j → f.taker ≡ bank → f.maker ≡ other_of i j bank → is_between i j f ≡ true

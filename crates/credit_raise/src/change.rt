@@ -95,6 +95,7 @@ impl CreditChange {
     }
 
     /// What the orders in one pair make of what is left.
+    #[inline(always)]
     fn plan_next(&self, alloc: Global, book: &PairBook, weight: u32) -> Result<Plan, Memory>
         requires weight { IsWeight weight }
         requires banks { HasBanks self.now.course book.now.banks }
@@ -107,6 +108,7 @@ impl CreditChange {
     }
 
     /// The next pair's plan, where a lot costs `weight` credit units, is this. The pair's book was made for so many banks.
+    #[inline(always)]
     fn add(&mut self, plan: Plan, banks: usize, weight: u32) -> Result<(), Memory>
         requires weight { IsWeight weight }
         requires banks { HasBanks self.old.course banks }
@@ -167,6 +169,7 @@ impl CreditChange {
 }
 
 /// Makes room for a plan behind these: before the first for those of all pairs.
+#[inline(always)]
 fn reserve(plans: &mut Vec<Plan>) -> Result<(), Memory>
     ensures room { OnOk result (vec_len plans.new < vec_capacity plans.new) }
     ensures same { plans.new.items ≡ plans.old.items }

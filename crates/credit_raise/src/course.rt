@@ -78,6 +78,7 @@ impl Course {
     }
 
     /// The plan of the next pair, whose book this is, where a lot costs `weight` credit units, 1 to 10^6.
+    #[inline(always)]
     pub(crate) fn plan(
         &self,
         alloc: Global,
@@ -95,6 +96,7 @@ impl Course {
     }
 
     /// The same, with a ledger for the steps.
+    #[inline(always)]
     fn counted_plan<L: Ledger>(
         &self,
         alloc: Global,

@@ -1,11 +1,13 @@
-ghost use Rattle.std.specs.Prelude.{◌≡◌, ◌≤◌, ◌<◌, ◌^◌, ℕ, true, Some, None, slice_index};
+ghost use Rattle.std.specs.Prelude.{◌≡◌, ◌+◌, ◌≤◌, ◌<◌, ◌^◌, ℕ, true, List, Some, slice_index};
 ghost use Rattle.fx_amounts.specs.Price.{IsPrice};
+ghost use Rattle.fx_amounts.specs.declared.side.Side.TheVariants.{Buy, Sell};
 ghost use Rattle.fx_rules.specs.declared.orders.Resting.{Resting};
 ghost use Rattle.fx_rules.specs.Lists.{Among};
+ghost use Rattle.global_book.specs.Words.{AreBestWords};
 ghost use Rattle.credit_raise.specs.inside.Prices.{AreTops, AreTopsOfAll, IsTop, IsWithin, crosses_tops, is_crossed, top_of, tops_meet};
 
 use fx_amounts::{BankId, Price, Side};
-use global_book::PairBook;
+use global_book::{PairBook, price_at};
 use price_levels::Steps;
 use std::sync::ledger::Ledger;
 
@@ -17,19 +19,38 @@ pub(crate) struct Tops {
 }
 
 impl Tops {
-    /// Those of a bank in a book. Two steps at most.
-    pub(crate) fn of_bank<L: Ledger>(book: &PairBook, bank: BankId, steps: &mut Steps<L>) -> Tops
-        ensures tops { AreTops bank book.now.orders result }
+    /// Those of two banks in a book, by the words of the banks' best orders. Two steps.
+    #[inline(always)]
+    pub(crate) fn of_two<L: Ledger>(
+        book: &PairBook,
+        i: BankId,
+        j: BankId,
+        steps: &mut Steps<L>,
+    ) -> (Tops, Tops)
+        ensures tops_i { AreTops i book.now.orders result.0 }
+        ensures tops_j { AreTops j book.now.orders result.1 }
+        ensures steps { steps.new ≡ steps.old + 2 }
+    {
+        let buys = book.best_words(Side::Buy, steps);
+        let sells = book.best_words(Side::Sell, steps);
+        (Tops::told(buys, sells, i), Tops::told(buys, sells, j))
+    }
+
+    /// Those of a bank, which the words of the banks' best buys and sells tell.
+    #[inline(always)]
+    fn told(buys: &[u64; BankId::COUNT], sells: &[u64; BankId::COUNT], bank: BankId) -> Tops
+        ensures tops { (orders : List Resting) → AreBestWords Buy orders buys.now → AreBestWords Sell orders sells.now → AreTops bank orders result }
     {
         Tops {
-            buy: top_of(book, bank, Side::Buy, steps),
-            sell: top_of(book, bank, Side::Sell, steps),
+            buy: top_told(buys, bank, Side::Buy),
+            sell: top_told(sells, bank, Side::Sell),
         }
     }
 
-    /// Those of all banks together in a book. Four steps at most.
+    /// Those of all banks together in a book. Two steps.
     pub(crate) fn of_book<L: Ledger>(book: &PairBook, steps: &mut Steps<L>) -> Tops
         ensures tops { AreTopsOfAll book.now.orders result }
+        ensures steps { steps.new ≡ steps.old + 2 }
     {
         Tops {
             buy: best_of(book, Side::Buy, steps),
@@ -65,6 +86,7 @@ impl Tops {
     }
 
     /// Whether the best prices of two banks cross.
+    #[inline(always)]
     pub(crate) fn meet(&self, other: &Tops) -> bool
         ensures { result ≡ tops_meet self.now other.now }
     {
@@ -73,6 +95,7 @@ impl Tops {
 }
 
 /// Whether a best buy crosses a best sell, where there are both.
+#[inline(always)]
 fn is_crossed(buy: Option<Price>, sell: Option<Price>) -> bool
     ensures { result ≡ is_crossed buy sell }
 {
@@ -82,24 +105,25 @@ fn is_crossed(buy: Option<Price>, sell: Option<Price>) -> bool
     }
 }
 
-/// The best price of a bank's orders of a side; `None` where there is none.
-fn top_of<L: Ledger>(
-    book: &PairBook,
-    bank: BankId,
-    side: Side,
-    steps: &mut Steps<L>,
-) -> Option<Price>
-    ensures top { IsTop bank side book.now.orders result }
+/// The best price of a bank's orders of a side, which the word of its best one tells; `None` where there is none.
+#[inline(always)]
+fn top_told(words: &[u64; BankId::COUNT], bank: BankId, side: Side) -> Option<Price>
+    ensures top { (orders : List Resting) → AreBestWords side orders words.now → IsTop bank side orders result }
 {
-    book.next_price(bank, side, None, steps)
+    let at = bank.index();
+    if at >= BankId::COUNT {
+        return None;
+    }
+    price_at(side, (words[at] >> 34) as u32)
 }
 
-/// The best price of all orders of a side; `None` where there is none. It is that of the bank whose best order has the least word.
+/// The best price of all orders of a side; `None` where there is none. It is that of the bank whose best order has the least word. One step.
 fn best_of<L: Ledger>(book: &PairBook, side: Side, steps: &mut Steps<L>) -> Option<Price>
     ensures best { (order : Resting) → Among order book.now.orders → order.side ≡ side → IsWithin side (Some order.price) result }
+    ensures step { steps.new ≡ steps.old + 1 }
 {
-    let bank = least_of(book.best_words(side, steps));
-    top_of(book, bank, side, steps)
+    let words = book.best_words(side, steps);
+    top_told(words, least_of(words), side)
 }
 
 /// The bank of the least word.

@@ -1,10 +1,10 @@
-ghost use Rattle.std.specs.Prelude.{◌≡◌, ◌≢◌, ◌≤◌, ◌*◌, [], IfOk};
+ghost use Rattle.std.specs.Prelude.{◌≡◌, ◌≢◌, ◌≤◌, ◌+◌, ◌*◌, [], filter, length, IfOk};
 ghost use Rattle.fx_amounts.specs.Quantity.{IsWeight};
 ghost use Rattle.fx_rules.specs.Lists.{Each};
 ghost use Rattle.fx_rules.specs.Session.{Header};
 ghost use Rattle.fx_rules.specs.State.{State};
 ghost use Rattle.fx_rules.specs.Raise.{Turned};
-ghost use Rattle.credit_raise.specs.Two.{IsFillOf, IsRaised, lots_of};
+ghost use Rattle.credit_raise.specs.Two.{IsFillOf, IsRaised, is_of_two, lots_of};
 ghost use Rattle.credit_raise.specs.inside.Two.{turns};
 ghost use Rattle.credit_raise.specs.inside.Playing.{AreTurns, Played, other_of};
 
@@ -26,8 +26,9 @@ use std::sync::ledger::Ledger;
 /// with no search from one to the next, and sorted. They have their turns in arrival order, as long as the line pays for a lot.
 /// What they have left is kept in a list where they are few, and else in a book of its own: each order is put in there at most once, each
 /// turn looks into it once, and once more for each fill. So it takes memory for these orders and for the fills, and the time of a sort of
-/// these orders and of that many searches. Where the line does not pay for a lot, or the two banks' best prices do not cross, it answers at once.
-/// `Memory` when out of memory.
+/// these orders and of that many searches: six steps at most, two for each order of the two banks and one for each fill. Where the line does not
+/// pay for a lot, or the two banks' best prices do not cross, it answers at once. `Memory` when out of memory.
+#[inline(always)]
 pub fn plan_raise<L: Ledger>(
     alloc: Global,
     book: &PairBook,
@@ -44,6 +45,7 @@ pub fn plan_raise<L: Ledger>(
     ensures parties { IfOk result (λ plan. Each (IsFillOf book.now.pair i j) plan.fills) }
     ensures cost { IfOk result (λ plan. lots_of plan.fills * weight ≤ eff) }
     ensures left { IfOk result (λ plan. plan.left ≡ 0) }
+    ensures steps { IfOk result (λ plan. steps.new ≤ steps.old + 6 + 2 * length (filter (is_of_two i j) book.now.orders) + length plan.fills) }
 {
     let fills = fills_of_two(alloc, book, weight, i, j, eff, steps)?;
     Ok(Plan {
@@ -53,6 +55,7 @@ pub fn plan_raise<L: Ledger>(
 }
 
 /// The fills of the two banks' orders. Those that no order of the other bank crosses need no turn.
+#[inline(always)]
 fn fills_of_two<L: Ledger>(
     alloc: Global,
     book: &PairBook,
@@ -65,13 +68,13 @@ fn fills_of_two<L: Ledger>(
     requires weight { IsWeight weight }
     requires differ { i ≢ j }
     ensures played { IfOk result (λ fills. Played book.now.pair weight i j eff [] (turns i j book.now.orders) fills.items) }
+    ensures steps { IfOk result (λ fills. steps.new ≤ steps.old + 6 + 2 * length (turns i j book.now.orders) + length fills.items) }
 {
     let pair = book.pair();
     if eff.get() < u64::from(weight) {
         return Ok(Vec::new(alloc));
     }
-    let tops_i = Tops::of_bank(book, i, steps);
-    let tops_j = Tops::of_bank(book, j, steps);
+    let (tops_i, tops_j) = Tops::of_two(book, i, j, steps);
     if !tops_i.meet(&tops_j) {
         return Ok(Vec::new(alloc));
     }
@@ -80,6 +83,7 @@ fn fills_of_two<L: Ledger>(
 }
 
 /// Two banks' orders played out: each has its turn in arrival order, until the line does not pay for a lot.
+#[inline(never)]
 fn play<L: Ledger>(
     alloc: Global,
     pair: PairId,
@@ -94,6 +98,7 @@ fn play<L: Ledger>(
     requires differ { i ≢ j }
     requires turns { AreTurns i j turns.now }
     ensures played { IfOk result (λ fills. Played pair weight i j eff [] turns.now fills.items) }
+    ensures steps { IfOk result (λ fills. steps.new ≤ steps.old + length turns.now + length fills.items) }
 {
     if turns.is_empty() {
         return Ok(Vec::new(alloc));

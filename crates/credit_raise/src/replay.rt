@@ -1,4 +1,4 @@
-ghost use Rattle.std.specs.Prelude.{ℕ, ◌≡◌, ◌≢◌, ◌≤◌, ◌<◌, ◌*◌, ◌/◌, ◌-◌, ◌^◌, ◌++◌, ◌∷◌, [], List, false, IfOk, OnOk};
+ghost use Rattle.std.specs.Prelude.{ℕ, ◌≡◌, ◌≢◌, ◌≤◌, ◌<◌, ◌+◌, ◌*◌, ◌/◌, ◌-◌, ◌^◌, ◌++◌, ◌∷◌, [], List, false, length, IfOk, OnOk};
 ghost use Rattle.fx_amounts.specs.Quantity.{IsWeight};
 ghost use Rattle.fx_rules.specs.declared.orders.Fill.{Fill};
 ghost use Rattle.fx_rules.specs.Lists.{Each};
@@ -54,7 +54,7 @@ impl Replay {
     }
 
     /// The turn of an order that arrived behind all others, against the orders of the other bank. Where it has lots left
-    /// it waits behind them.
+    /// it waits behind them. One step at most, and one for each fill.
     pub(crate) fn turn<L: Ledger>(
         &mut self,
         order: &Resting,
@@ -75,6 +75,7 @@ impl Replay {
             × (self.new.fills.items ≡ self.old.fills.items ++ own)
             × (self.new.line ≡ paid self.old.weight self.old.line own)
             × (self.new.waiting.orders ≡ joined order.now left (lessened_all self.old.waiting.orders own))) }
+        ensures steps { OnOk result (steps.new + length self.old.fills.items ≤ steps.old + 1 + length self.new.fills.items) }
     {
         let left = self.sweep(order, other, steps)?;
         if let Some(left) = Lots::new(left) {
@@ -83,7 +84,8 @@ impl Replay {
         Ok(())
     }
 
-    /// The sweep of an order among those that wait. It answers what the order has left, 0 to 10^6 lots.
+    /// The sweep of an order among those that wait. It answers what the order has left, 0 to 10^6 lots. One step
+    /// at most, and one for each fill.
     fn sweep<L: Ledger>(
         &mut self,
         order: &Resting,
@@ -92,6 +94,7 @@ impl Replay {
     ) -> Result<u32, Memory>
         requires weight { IsWeight self.old.weight }
         requires differ { order.now.bank ≢ other }
+        requires last { Each (λ waiting. waiting.arrival < order.now.arrival) self.old.waiting.orders }
         ensures weight { self.new.weight ≡ self.old.weight }
         ensures banks { self.new.waiting.banks ≡ self.old.waiting.banks }
         ensures pair { self.new.pair ≡ self.old.pair }
@@ -101,6 +104,7 @@ impl Replay {
             × (self.new.fills.items ≡ self.old.fills.items ++ own)
             × (self.new.line ≡ paid self.old.weight self.old.line own)
             × (self.new.waiting.orders ≡ lessened_all self.old.waiting.orders own)) }
+        ensures steps { IfOk result (λ left. steps.new + length self.old.fills.items ≤ steps.old + 1 + length self.new.fills.items) }
     {
         let mut left = order.left.count();
         while left > 0 {
@@ -125,7 +129,7 @@ impl Replay {
         }
     }
 
-    /// The best of the waiting orders that are open to an order; `None` where there is none.
+    /// The best of the waiting orders that are open to an order; `None` where there is none. One step at most.
     fn best_open<L: Ledger>(
         &self,
         order: &Resting,
@@ -134,7 +138,9 @@ impl Replay {
     ) -> Option<Resting>
         requires weight { IsWeight self.now.weight }
         requires differ { order.now.bank ≢ other }
+        requires last { Each (λ waiting. waiting.arrival < order.now.arrival) self.now.waiting.orders }
         ensures best { IsBestOf order.now.side (open_in (only other (self.now.line / self.now.weight)) (taker_of_resting self.now.pair order.now) self.now.waiting.orders) result }
+        ensures steps { steps.new ≤ steps.old + 1 }
     {
         if self.line < u64::from(self.weight) {
             return None;

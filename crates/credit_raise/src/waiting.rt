@@ -1,10 +1,11 @@
 //! Orders that had their turns, with what they have left.
-ghost use Rattle.std.specs.Prelude.{ℕ, ◌≡◌, ◌<◌, ◌≤◌, ◌++◌, ◌∷◌, [], None, false, length, slice_index_or, IfOk, IfNone, IfSome, OnOk};
+ghost use Rattle.std.specs.Prelude.{ℕ, ◌≡◌, ◌<◌, ◌+◌, ◌≤◌, ◌++◌, ◌∷◌, [], None, false, length, slice_index_or, IfOk, IfNone, IfSome, OnOk};
 ghost use Rattle.fx_amounts.specs.Side.{opposite};
 ghost use Rattle.fx_rules.specs.declared.orders.Resting.{Resting};
 ghost use Rattle.fx_rules.specs.Lists.{Each};
 ghost use Rattle.fx_rules.specs.Sweep.{is_order, is_preferred};
 ghost use Rattle.global_book.specs.Behind.{is_owned_behind, owned_behind};
+ghost use Rattle.global_book.specs.Book.{AreInTime};
 ghost use Rattle.credit_raise.specs.inside.Playing.{IsBestOf, lessened};
 ghost use Rattle.credit_raise.specs.inside.Waiting.{StandsAt, better_of};
 
@@ -63,7 +64,8 @@ impl Waiting {
         Ok(Waiting { held })
     }
 
-    /// The best of a bank's orders of a side that arrived before `before`; `None` where there is none.
+    /// The best of a bank's orders of a side that arrived before `before`; `None` where there is none. Where all of the side did, one step
+    /// at most.
     pub(crate) fn best_of<L: Ledger>(
         &self,
         bank: BankId,
@@ -72,6 +74,7 @@ impl Waiting {
         steps: &mut Steps<L>,
     ) -> Option<Resting>
         ensures best { IsBestOf (opposite side) (owned_behind side bank before None self.now.orders) result }
+        ensures steps { AreInTime side before self.now.orders → steps.new ≤ steps.old + 1 }
     {
         match &self.held {
             Held::Few { orders, .. } => best_in(orders, bank, side, before),
@@ -80,13 +83,14 @@ impl Waiting {
     }
 
     /// Takes so many lots from the order of this bank and number. With nothing left it waits no more.
+    #[tactic(auto, using(crate::proofs::Listed::lowered_lessened))]
     pub(crate) fn lessen(&mut self, bank: BankId, number: u32, lots: Lots)
         ensures banks { self.new.banks ≡ self.old.banks }
         ensures orders { self.new.orders ≡ lessened bank number lots self.old.orders }
     {
         match &mut self.held {
             Held::Few { orders, .. } => lessen_in(orders, bank, number, lots),
-            Held::Many(book) => lessen_there(book, bank, number, lots),
+            Held::Many(book) => book.take_lots(bank, number, lots),
         }
     }
 
@@ -164,14 +168,6 @@ fn lessen_in(orders: &mut Vec<Resting>, bank: BankId, number: u32, lots: Lots)
             orders.remove(at);
         }
     }
-}
-
-/// Takes so many lots from the order of this bank and number in a book. With nothing left it is taken out.
-fn lessen_there(book: &mut PairBook, bank: BankId, number: u32, lots: Lots)
-    ensures banks { book.new.banks ≡ book.old.banks }
-    ensures orders { book.new.orders ≡ lessened bank number lots book.old.orders }
-{
-    book.take_lots(bank, number, lots);
 }
 
 /// The place of the first order of this bank and number in a list; `None` where there is none.

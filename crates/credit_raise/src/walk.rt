@@ -13,6 +13,7 @@ use std::sync::ledger::Ledger;
 
 /// Of the orders of two banks those that cross the other bank's best price, in arrival order. It reads no other order: a step
 /// for each, and four beside them at most. `Memory` when out of memory.
+#[inline(never)]
 pub(crate) fn live_turns<L: Ledger>(
     alloc: Global,
     book: &PairBook,

@@ -18,7 +18,7 @@ use Rattle.access_index.specs.Heads.{IsBestWithin, IsHead, IsUpTo}
 use Rattle.access_index.specs.Ranked.{IsHeadOf, bank_level}
 use Rattle.order_store.specs.Linked.{AreListed}
 use Rattle.global_book.specs.Behind.{is_owned_behind, owned_behind}
-use Rattle.global_book.specs.Book.{Book, is_of}
+use Rattle.global_book.specs.Book.{Book, RestsWithin, is_of}
 use Rattle.global_book.specs.Heads.{Heads, IsBegun, IsLeast, IsNext, PassesHead, count_to_come, head_in, is_from_head, is_to_come, with_head}
 use Rattle.global_book.specs.Room.{ladders_of, rank_of}
 use Rattle.global_book.specs.inside.Bests.{IsBestAt, IsBestOf, is_own_behind, is_own_from, is_past}
@@ -207,6 +207,17 @@ module _ (linked : Linked) (side : Side) (words : List (Option Head)) (are : Tel
             let same : (told other it.0 it.1).order ≡ two = order_is linked.orders.slots it.0.place (told other it.0 it.1).order two (told other it.0 it.1).is it.2 in
             subst (λ (o : Resting). is_preferred (opposite side) o one.order ≡ false) same
             (not-behind bank other best.head it.0 best.there it.1 (best.first other it.0 (within other it.0 it.1) it.1));
+      }
+
+  -- and it is an order of the side
+  pub least-rests : (limit bank : ℕ) → limit ≤ 10 ^ 9 → IsBestWithin words (rank_of side limit) bank → RestsWithin side limit (orders_in linked)
+  least-rests limit bank most best =
+      let one = told bank best.head best.there in
+      record {
+        order = one.order;
+        rests = among-at linked.orders.slots best.head.place one.order one.is;
+        side_is = sym (same_side side one.order.side (and_parts (is_of bank one.order) (is_opposite (opposite side) one.order.side) one.own).1);
+        allowed = limit-rank side limit one.order.price most (price-most bank best.head best.there) (omega (arith, one.rank, best.low));
       }
 
   if-head : (limit bank : ℕ) → ((head : Head) → (is : get_or words bank None ≡ Some head) → crosses (opposite side) limit (told bank head is).order.price ≡ false)

@@ -54,6 +54,13 @@ RestsAbove orders bank number left = (order : Resting) × Among order orders × 
 abbrev pub Rests : List Resting → ℕ → ℕ → Type 0
 Rests orders bank number = (order : Resting) × Among order orders × (is_order bank number order ≡ true)
 
+-- an order of a side rests whose price a limit allows a taker of the other side
+pub record RestsWithin (side : Side) (limit : ℕ) (orders : List Resting) : Type 0 where
+  pub order : Resting
+  pub rests : Among order orders
+  pub side_is : order.side ≡ side
+  pub allowed : crosses (opposite side) limit order.price ≡ true
+
 -- an order of this bank on the other side of a taker's, at this price
 abbrev pub is_level : Side → ℕ → ℕ → Resting → Bool
 is_level taker bank price order = is_of bank order && is_opposite taker order.side && order.price == price

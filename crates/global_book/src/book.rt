@@ -7,15 +7,13 @@ ghost use Rattle.fx_amounts.specs.Side.{opposite};
 ghost use Rattle.fx_rules.specs.Lists.{Each};
 ghost use Rattle.fx_rules.specs.Sweep.{IsBest, is_order};
 ghost use Rattle.global_book.specs.Behind.{IsCursor, owned_behind};
-ghost use Rattle.global_book.specs.Book.{AreInTime, AreOwners, IsBook, IsPriceOf, Rests, RestsAbove, first, is_of, is_of_from, relotted};
+ghost use Rattle.global_book.specs.Book.{AreInTime, AreOwners, IsBook, Rests, RestsAbove, first, is_of, is_of_from, relotted};
 ghost use Rattle.global_book.specs.Lowered.{lowered_in};
 ghost use Rattle.global_book.specs.Room.{HasRoom, KeepsOtherRoom, KeepsRoom, TakesRoom};
-ghost use Rattle.global_book.specs.inside.Bests.{from_rank};
 ghost use Rattle.global_book.specs.inside.Linked.{AreKept, orders_in};
 ghost use Rattle.global_book.specs.inside.Owning.{is_own};
 
 use crate::linked::LinkedOrders;
-use crate::side_ladders::rank_of;
 use fx_amounts::{BankId, Lots, Memory, PairId, Price, Side, room_for};
 use fx_rules::Resting;
 use price_levels::Steps;
@@ -96,6 +94,7 @@ impl PairBook {
 
     /// Takes the places of orders that are gone out of the list, once these are more than half of it. All room may go. At `Memory` the book
     /// is as it was.
+    #[inline(always)]
     pub fn pack(&mut self) -> Result<(), Memory>
         ensures pair { self.new.pair ≡ self.old.pair }
         ensures banks { self.new.banks ≡ self.old.banks }
@@ -110,6 +109,7 @@ impl PairBook {
 
     /// Makes room for one order more of a bank and a side at a price. Other prices of the bank and the side may have no room then. At `Memory`
     /// there may be none; there is never any for the operator, who has no orders.
+    #[inline(always)]
     pub fn reserve(&mut self, bank: BankId, side: Side, price: Price) -> Result<(), Memory>
         requires bank { bank < self.old.banks }
         ensures has_room { OnOk result (HasRoom self.new.room bank side price) }
@@ -126,6 +126,7 @@ impl PairBook {
     }
 
     /// An order comes to rest, behind all others, where room was made for it. It takes no memory, and of the places for each bank one at most.
+    #[inline(always)]
     pub fn rest(&mut self, order: Resting)
         requires room { HasRoom self.old.room order.bank order.side order.price }
         requires last { Each (λ other. other.arrival < order.arrival) self.old.orders }
@@ -241,7 +242,7 @@ impl PairBook {
         ensures best { IfSome result (IsBest (opposite side) (owned_behind side bank (2 ^ 64) None self.now.orders)) }
         ensures valid { IsBook self.now }
     {
-        let place = self.linked.best_behind(bank, side, None)?;
+        let place = self.linked.best_behind(bank, side, None, 0)?;
         Some(self.linked.order(place))
     }
 
@@ -277,8 +278,29 @@ impl PairBook {
         ensures step { steps.new ≡ steps.old + 1 }
         ensures valid { IsBook self.now }
     {
+        let mut near = 0;
+        self.next_near(bank, side, past, &mut near, steps)
+    }
+
+    /// The same, where the order `past` is looked for first at the place `near`, which then is that of the order that is found. So a walk
+    /// along a bank's orders searches for none.
+    pub(crate) fn next_near<L: Ledger>(
+        &self,
+        bank: BankId,
+        side: Side,
+        past: Option<&Resting>,
+        near: &mut u32,
+        steps: &mut Steps<L>,
+    ) -> Option<Resting>
+        requires past { IfSome (option_copied past) (IsCursor self.now.orders bank side) }
+        ensures none { (result ≡ None) ↔ (owned_behind side bank (2 ^ 64) (option_copied past.entry) self.now.orders ≡ []) }
+        ensures best { IfSome result (λ found. IsBest (opposite side) (owned_behind side bank (2 ^ 64) (option_copied past.entry) self.now.orders) found) }
+        ensures step { steps.new ≡ steps.old + 1 }
+        ensures valid { IsBook self.now }
+    {
         steps.tick();
-        let place = self.linked.best_behind(bank, side, past)?;
+        let place = self.linked.best_behind(bank, side, past, *near)?;
+        *near = place;
         Some(self.linked.order(place))
     }
 
@@ -306,35 +328,6 @@ impl PairBook {
             next = self.next_best(bank, side, Some(&order), steps);
         }
         None
-    }
-
-    /// The best price, worse than `past` where there is one, at which a bank has orders of a side; `None` where there is no
-    /// such price. One step.
-    pub fn next_price<L: Ledger>(
-        &self,
-        bank: BankId,
-        side: Side,
-        past: Option<Price>,
-        steps: &mut Steps<L>,
-    ) -> Option<Price>
-        ensures price { IsPriceOf (opposite side) bank past self.now.orders result }
-        ensures step { steps.new ≡ steps.old + 1 }
-        ensures valid { IsBook self.now }
-    {
-        steps.tick();
-        let place = self.linked.first_from(bank, side, from_rank(side, past))?;
-        Some(self.linked.order(place).price)
-    }
-}
-
-/// The first rank behind a price of a side, where there is one.
-fn from_rank(side: Side, past: Option<Price>) -> u32
-    ensures rank { result ≡ from_rank side past }
-    ensures most { IfSome past (λ price. price ≤ 10 ^ 9) }
-{
-    match past {
-        Some(price) => rank_of(side, price) + 1,
-        None => 0,
     }
 }
 

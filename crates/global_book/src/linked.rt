@@ -1,4 +1,4 @@
-ghost use Rattle.std.specs.Prelude.{ℕ, ◌≡◌, ◌≢◌, ◌+◌, ◌-◌, ◌≤◌, ◌<◌, ◌^◌, ◌++◌, ◌∷◌, [], None, Some, true, filter, is_some, length, min, slice_index_or, slice_set, IfOk, IfSome, IsSome, IsSomeAnd, OnErr, OnOk};
+ghost use Rattle.std.specs.Prelude.{ℕ, ◌≡◌, ◌≢◌, ◌+◌, ◌-◌, ◌/◌, ◌≤◌, ◌<◌, ◌^◌, ◌++◌, ◌∷◌, ◌&&◌, [], None, Some, true, filter, is_some, length, min, nat_lt, slice_index_or, slice_set, IfOk, IfSome, IsSome, IsSomeAnd, OnErr, OnOk};
 ghost use Rattle.fx_amounts.specs.declared.side.Side.{Side as OneSide};
 ghost use Rattle.order_store.specs.Orders.{IsOf, KeepsRoom, Lacks, TakesRoom, kept, order_at, room_for};
 ghost use Rattle.order_store.specs.Linked.{AreListed, HasFrom, IsFirstFrom};
@@ -76,7 +76,9 @@ impl LinkedOrders {
     }
 
     /// Whether more than half of the places are empty, and there are more of them than it would gain to save.
-    pub(crate) fn is_sparse(&self) -> bool {
+    pub(crate) fn is_sparse(&self) -> bool
+        ensures { result ≡ (nat_lt 16384 (length self.now.orders.slots) && nat_lt (kept self.now.orders) (length self.now.orders.slots / 2)) }
+    {
         let places = self.list.places();
         places > FEW_PLACES && places / 2 > self.list.len()
     }
@@ -97,6 +99,7 @@ impl LinkedOrders {
 
     /// Makes room for one order more of a bank and a side at a price. The room for the bank's orders of the side at other prices may go. At
     /// `Memory` there may be none.
+    #[inline(always)]
     pub(crate) fn reserve(&mut self, bank: BankId, side: Side, price: Price) -> Result<(), Memory>
         requires bank { bank < length self.old.orders.room }
         ensures places { OnOk result (1 ≤ room_for self.new.orders bank) }
@@ -111,6 +114,7 @@ impl LinkedOrders {
     }
 
     /// An order comes to rest behind all others, where room was made for it. It takes no memory.
+    #[inline(always)]
     pub(crate) fn rest(&mut self, order: Resting)
         requires bank { order.bank < 64 }
         requires room { 1 ≤ room_for self.old.orders order.bank }
@@ -220,6 +224,15 @@ impl LinkedOrders {
         self.owners.unlist_gone(order.bank, owns);
     }
 
+    /// The level of a bank and a side at a rank; one without orders where they have none there.
+    pub(crate) fn level(&self, bank: BankId, side: Side, rank: u32) -> Level
+        ensures level { result ≡ bank_level (ladders_of self.now.ladders side) bank rank }
+        ensures linked { AreLinked self.now.orders.slots self.now.ladders }
+        ensures valid { AreListed self.now.orders }
+    {
+        self.ladders.level(side, bank, rank)
+    }
+
     /// The level of a bank and a side at a rank, and the first rank behind it with orders of theirs; `None` where there is none.
     pub(crate) fn level_and_next(&self, bank: BankId, side: Side, rank: u32) -> (Level, Option<u32>)
         requires rank { rank ≤ 10 ^ 9 }
@@ -287,19 +300,20 @@ impl LinkedOrders {
     }
 
     /// The place of the best order of a bank and a side, of those behind an order of theirs that rests, where there is such; `None` where
-    /// there is none.
+    /// there is none. That order is looked for first at the place `near`.
     pub(crate) fn best_behind(
         &self,
         bank: BankId,
         side: Side,
         past: Option<&Resting>,
+        near: u32,
     ) -> Option<u32>
         requires past { IfSome (option_copied past) (IsCursor (orders_in self.now) bank side) }
         ensures { IsBestOf self.now.orders.slots (is_past bank side (option_copied past.entry)) side result }
     {
         match past {
             Some(last) => {
-                let place = self.list.find(last.bank, last.number).unwrap();
+                let place = self.list.find_near(last.bank, last.number, near).unwrap();
                 self.behind(place)
             }
             None => self.first_from(bank, side, 0),

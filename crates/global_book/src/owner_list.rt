@@ -45,6 +45,7 @@ impl OwnerList {
     }
 
     /// Puts a bank among the others, in the order of their numbers, unless it is among them.
+    #[inline(always)]
     pub(crate) fn list_new(&mut self, bank: BankId, is_listed: bool)
         requires room { is_listed ≡ false → length self.old < 64 }
         requires in_order { IsPartitionedBy (λ other. nat_lt other bank) self.old }

@@ -100,6 +100,7 @@ impl SideLadders {
 
     /// Sees to it that an order of a bank can come to rest at a rank of a side without taking memory, until this is asked for another
     /// rank of the bank and the side. At `Memory` each level is as it was.
+    #[inline(always)]
     pub(crate) fn reserve(&mut self, side: Side, bank: BankId, rank: u32) -> Result<(), Memory>
         requires rank { rank ≤ 10 ^ 9 }
         ensures holds { OnOk result (bank_holds (ladders_of self.new side) bank rank ≡ true) }
@@ -115,6 +116,7 @@ impl SideLadders {
 
     /// An order of so many lots of a bank comes to rest at a rank of a side, behind all others there, at a place of the list of orders. It
     /// answers the place of the last order there before it, where there is one.
+    #[inline(always)]
     pub(crate) fn insert(
         &mut self,
         side: Side,

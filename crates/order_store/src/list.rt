@@ -69,6 +69,7 @@ impl OrderList {
     }
 
     /// Makes room for one order more of a bank. At `Memory` there may be none.
+    #[inline(always)]
     pub fn reserve(&mut self, bank: BankId) -> Result<(), Memory>
         requires bank { bank < length self.old.room }
         ensures has_room { OnOk result (1 ≤ room_for self.new bank) }
@@ -83,6 +84,7 @@ impl OrderList {
 
     /// An order comes behind all others, and `before` is the place of the last one of its level. It takes one of the places that there
     /// is room for, moves no order and takes no memory.
+    #[inline(always)]
     pub fn push(&mut self, order: Resting, before: Option<u32>) -> u32
         requires room { 1 ≤ room_for self.old order.bank }
         requires absent { Lacks self.old order.bank order.number }
@@ -171,6 +173,19 @@ impl OrderList {
         } else {
             None
         }
+    }
+
+    /// The place of the order of this bank and number; `None` where none rests. It is looked for first at the place `near`, and in the bank's
+    /// row of numbers only where it is not there.
+    pub fn find_near(&self, bank: BankId, number: u32, near: u32) -> Option<u32>
+        ensures found { IfSome result (λ place. IsSomeAnd (order_at self.now place) (IsOf bank number)) }
+        ensures none { result ≡ None → Lacks self.now bank number }
+        ensures valid { AreListed self.now }
+    {
+        if is_under(&self.nodes, near as usize, bank, number) {
+            return Some(near);
+        }
+        self.find(bank, number)
     }
 
     /// The place of the first of a bank's orders that arrived at or after this; `None` where there is none. It looks at one place after the other.

@@ -60,6 +60,7 @@ impl Nodes {
     }
 
     /// Makes room for one order more. At `Memory` there may be none; there are 2^28 places at most.
+    #[inline(always)]
     pub(crate) fn reserve(&mut self) -> Result<(), Memory>
         ensures room { OnOk result (1 ≤ self.new.room) }
         ensures kept_room { self.old.room ≤ self.new.room }

@@ -60,6 +60,7 @@ impl NumberRow {
 
     /// Puts a key with a number, in the place of the one that stands with it, if any. It takes one of the places that there is
     /// room for at most.
+    #[inline(always)]
     pub(crate) fn add(&mut self, number: u32, key: u32)
         requires room { 1 ≤ self.old.room }
         ensures entries { self.new.entries ≡ with_key number key self.old.entries }
@@ -74,6 +75,7 @@ impl NumberRow {
     }
 
     /// Makes room for one entry more, and keeps stale ones. A full row grows to twice its length. At `Memory` there may be none.
+    #[inline(always)]
     pub(crate) fn widen(&mut self) -> Result<(), Memory>
         ensures room { OnOk result (1 ≤ self.new.room) }
         ensures kept_room { self.old.room ≤ self.new.room }

@@ -12,6 +12,7 @@ ghost use Rattle.global_book.specs.Words.{AreBestWords};
 
 use crate::ahead::is_behind;
 use crate::book::PairBook;
+use crate::side_ladders::rank_of;
 use fx_amounts::{BankId, Memory, Price, Side};
 use fx_rules::Resting;
 use price_levels::Steps;
@@ -28,6 +29,15 @@ impl PairBook {
     {
         steps.tick();
         self.linked.words(side)
+    }
+
+    /// The lots that a bank's orders of a side have left at a price. It reads their level, and no order.
+    #[inline(always)]
+    pub fn lots_at(&self, bank: BankId, side: Side, price: Price) -> u64
+        ensures lots { result ≡ level_lots (opposite side) bank price self.now.orders }
+        ensures valid { IsBook self.now }
+    {
+        self.linked.level(bank, side, rank_of(side, price)).lots
     }
 
     /// The lots that a bank's orders of a side have left at the price of a rank, and the first rank behind it at which the bank has such
@@ -67,7 +77,8 @@ impl PairBook {
         ensures valid { IsBook self.now }
     {
         let had = orders.len();
-        let mut next = self.next_best(bank, side, None, steps);
+        let mut near = 0;
+        let mut next = self.next_near(bank, side, None, &mut near, steps);
         while let Some(order) = next {
             if !order.price.crosses(top, side) {
                 return Ok(());
@@ -76,7 +87,7 @@ impl PairBook {
                 orders.truncate(had);
                 return Err(Memory::from(stop));
             }
-            next = self.next_best(bank, side, Some(&order), steps);
+            next = self.next_near(bank, side, Some(&order), &mut near, steps);
         }
         Ok(())
     }

@@ -1,8 +1,8 @@
-ghost use Rattle.std.specs.Prelude.{◌≡◌, ◌+◌, false};
+ghost use Rattle.std.specs.Prelude.{◌≡◌, ◌+◌, false, true};
 ghost use Rattle.fx_amounts.specs.Price.{crosses};
 ghost use Rattle.fx_amounts.specs.Side.{opposite};
 ghost use Rattle.fx_rules.specs.Lists.{Each};
-ghost use Rattle.global_book.specs.Book.{IsBook};
+ghost use Rattle.global_book.specs.Book.{IsBook, RestsWithin};
 ghost use Rattle.global_book.specs.Heads.{IsBegun};
 
 use crate::book::PairBook;
@@ -16,6 +16,7 @@ impl PairBook {
     /// Whether an order of a side is within a limit. It looks at the words of the best orders: one step for them all.
     pub fn has_within<L: Ledger>(&self, side: Side, limit: Price, steps: &mut Steps<L>) -> bool
         ensures none { result ≡ false → Each (λ order. order.side ≡ side → crosses (opposite side) limit order.price ≡ false) self.now.orders }
+        ensures some { result ≡ true → RestsWithin side limit self.now.orders }
         ensures step { steps.new ≡ steps.old + 1 }
         ensures valid { IsBook self.now }
     {

@@ -1,11 +1,11 @@
 -- The live turns' fills are those of all turns.
-use Rattle.std.proofs.Common.{ℕ, [], List, refl, ◌∙◌, arith, sym, subst}
+use Rattle.std.proofs.Common.{ℕ, [], List, ◌≤◌, ◌+◌, ◌*◌, length, refl, ap, ◌∙◌, arith, sym, subst}
 use Rattle.std.proofs.lemmas.Result.{IfOk-weaker}
 use Rattle.fx_rules.specs.declared.orders.Resting.{Resting}
 use Rattle.fx_rules.proofs.Planning.{div_none}
 use Rattle.credit_raise.specs.inside.Two.{turns}
 use Rattle.credit_raise.specs.inside.Playing.{AreTurns, Played}
-use Rattle.credit_raise.proofs.Facing.{live-turns, live-played}
+use Rattle.credit_raise.proofs.Facing.{live-few, live-turns, live-played}
 use Rattle.credit_raise.proofs.Gathering.{apart-turns}
 use Rattle.credit_raise.proofs.Quiet.{unpaid-plays}
 use Rattle.credit_raise.proofs.raise.fills_of_two.Goals as goal
@@ -16,12 +16,13 @@ returns-then-get-from g c =
       played = subst (Played c.args.book.now.pair c.args.weight c.args.i c.args.j c.args.eff [] (turns c.args.i c.args.j c.args.book.now.orders)) (sym c.new.ensures.items)
           (unpaid-plays c.args.book.now.pair c.args.weight c.args.i c.args.j c.args.eff [] (turns c.args.i c.args.j c.args.book.now.orders)
           (div_none c.args.eff c.args.weight (omega (arith, c.if-get-from.true, c.get.ensures.value, c.from.ensures))));
+      steps = omega arith;
     }
 
 pub play-requires-clause-turns : goal.play-requires-clause-turns
 play-requires-clause-turns g c =
     subst (AreTurns c.args.i c.args.j) (sym (c.deref.ensures.value ∙ c.in_ok-turns.ensures.turns))
-    (live-turns c.args.book.now c.args.i c.args.j c.of_bank-tops_i.result c.of_bank-tops_j.result c.pair-pair.ensures.valid)
+    (live-turns c.args.book.now c.args.i c.args.j c.of_two-tops_i.result.0 c.of_two-tops_i.result.1 c.pair-pair.ensures.valid)
 
 pub returns : goal.returns
 returns g c =
@@ -32,11 +33,24 @@ returns g c =
       played = IfOk-weaker c.play.result (λ fills. Played c.pair-pair.result c.args.weight i j c.args.eff [] c.deref.result.now fills.items)
           (λ fills. Played c.args.book.now.pair c.args.weight i j c.args.eff [] (turns i j orders) fills.items)
           (λ fills played.
-          live-played c.args.book.now.pair c.args.weight i j c.args.eff orders c.of_bank-tops_i.result c.of_bank-tops_j.result fills.items
-          c.requires.differ c.pair-pair.ensures.valid.rising c.of_bank-tops_i.ensures.tops c.of_bank-tops_j.ensures.tops
+          live-played c.args.book.now.pair c.args.weight i j c.args.eff orders c.of_two-tops_i.result.0 c.of_two-tops_i.result.1 fills.items
+          c.requires.differ c.pair-pair.ensures.valid.rising c.of_two-tops_i.ensures.tops_i c.of_two-tops_i.ensures.tops_j
           (subst (λ (os : List Resting). Played c.args.book.now.pair c.args.weight i j c.args.eff [] os fills.items) (c.deref.ensures.value ∙ c.in_ok-turns.ensures.turns)
           (subst (λ n. Played n c.args.weight i j c.args.eff [] c.deref.result.now fills.items) c.pair-pair.ensures.value played)))
           c.play.ensures.played;
+      steps = IfOk-weaker c.play.result (λ fills. c.play.new.steps ≤ c.live_turns.new.steps + length c.deref.result.now + length fills.items)
+          (λ fills. c.play.new.steps ≤ c.args.steps.now + 6 + 2 * length (turns i j orders) + length fills.items)
+          (λ fills played.
+          omega (
+            arith,
+            played,
+            c.of_two-tops_i.ensures.steps,
+            c.in_ok-turns.ensures.steps,
+            ap length c.deref.ensures.value,
+            ap length c.in_ok-turns.ensures.turns,
+            live-few i j c.of_two-tops_i.result.0 c.of_two-tops_i.result.1 orders,
+          ))
+          c.play.ensures.steps;
     }
 
 pub returns-then-not-meet : goal.returns-then-not-meet
@@ -47,9 +61,10 @@ returns-then-not-meet g c =
     let orders : List Resting = c.args.book.now.orders in
     record {
       played = subst (Played pair c.args.weight i j c.args.eff [] (turns i j orders)) (sym c.new-then-not-meet.ensures.items)
-          (live-played pair c.args.weight i j c.args.eff orders c.of_bank-tops_i.result c.of_bank-tops_j.result []
-          c.requires.differ c.pair-pair.ensures.valid.rising c.of_bank-tops_i.ensures.tops c.of_bank-tops_j.ensures.tops
+          (live-played pair c.args.weight i j c.args.eff orders c.of_two-tops_i.result.0 c.of_two-tops_i.result.1 []
+          c.requires.differ c.pair-pair.ensures.valid.rising c.of_two-tops_i.ensures.tops_i c.of_two-tops_i.ensures.tops_j
           (subst (λ (os : List Resting). Played pair c.args.weight i j c.args.eff [] os [])
-          (sym (apart-turns orders i j c.of_bank-tops_i.result c.of_bank-tops_j.result c.requires.differ c.of_bank-tops_i.ensures.tops c.of_bank-tops_j.ensures.tops
+          (sym (apart-turns orders i j c.of_two-tops_i.result.0 c.of_two-tops_i.result.1 c.requires.differ c.of_two-tops_i.ensures.tops_i c.of_two-tops_i.ensures.tops_j
           (sym c.meet.ensures ∙ c.if-not-meet.true))) refl));
+      steps = omega (arith, c.of_two-tops_i.ensures.steps);
     }

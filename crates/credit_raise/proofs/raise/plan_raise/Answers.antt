@@ -1,5 +1,5 @@
 -- The plan is the play's fills.
-use Rattle.std.proofs.Common.{[], List, sym, subst, ◌*◌, ◌≤◌}
+use Rattle.std.proofs.Common.{[], List, length, ap, arith, sym, subst, ◌*◌, ◌≤◌}
 use Rattle.fx_rules.specs.declared.orders.Fill.{Fill}
 use Rattle.fx_rules.specs.Lists.{Each}
 use Rattle.fx_rules.specs.Raise.{Turned}
@@ -25,3 +25,6 @@ returns-clause-cost g c =
     subst (λ (fs : List Fill). lots_of fs * c.args.weight ≤ c.args.eff) (sym c.from_vec.ensures.items)
     (played-cost c.args.book.now.pair c.args.weight c.args.i c.args.j c.args.eff [] (turns c.args.i c.args.j c.args.book.now.orders) c.in_ok-fills.fills.items
     c.requires.weight.0 c.in_ok-fills.ensures.played)
+
+pub returns-clause-steps : goal.returns-clause-steps
+returns-clause-steps g c = omega (arith, c.in_ok-fills.ensures.steps, ap length c.from_vec.ensures.items)

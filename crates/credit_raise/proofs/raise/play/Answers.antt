@@ -1,5 +1,5 @@
 -- Each turn goes on with the turns behind it, until none is left or the line pays for nothing more.
-use Rattle.std.proofs.Common.{ℕ, ◌≡◌, ◌≢◌, ◌+◌, ◌++◌, [], List, refl, sym, ap, subst, ◌∙◌, arith, inl, inr, drop, append_assoc, append-nil}
+use Rattle.std.proofs.Common.{ℕ, ◌≡◌, ◌≢◌, ◌+◌, ◌++◌, [], List, refl, sym, ap, subst, ◌∙◌, arith, inl, inr, drop, length, append_assoc, append-nil}
 use Rattle.std.proofs.lemmas.List.{drop_all}
 use Rattle.fx_rules.specs.declared.orders.Fill.{Fill}
 use Rattle.fx_rules.specs.declared.orders.Resting.{Resting}
@@ -80,6 +80,7 @@ loop-order-preserved g c =
       banks = c.turn.ensures.banks ∙ was.banks;
       pair = c.turn.ensures.pair ∙ was.pair;
       are_turns = turns-behind i j order rest next.are;
+      steps = omega (arith, was.steps, c.in_ok-turn.ensures.steps, ap length next.here);
       before = subst (Each (λ w. Each (ArrivesBefore w) rest)) (sym waits)
           (before-joined waiting order rest left own next.are.rising.0 next.before);
     }
@@ -92,6 +93,7 @@ returns-then-replay-from g c =
       played = subst (Played c.args.pair c.args.weight c.args.i c.args.j c.args.eff [] c.args.turns.now) (append-nil c.loop-order.replay.fills.items)
           (was.goes_on [] (unpaid-plays c.args.pair c.args.weight c.args.i c.args.j line c.loop-order.replay.waiting.orders (drop c.loop-order.order-index c.args.turns.now)
           (div_none line c.args.weight (omega (arith, c.if-replay-from.true, c.from.ensures)))));
+      steps = omega (arith, was.steps);
     }
 
 pub returns : goal.returns
@@ -102,4 +104,5 @@ returns g c =
           (was.goes_on []
           (subst (λ (os : List Resting). Played c.args.pair c.args.weight c.args.i c.args.j c.loop-order.replay.line c.loop-order.replay.waiting.orders os [])
           (sym (drop_all c.loop-order.order-index c.args.turns.now c.loop-order-test.false)) refl));
+      steps = omega (arith, was.steps);
     }

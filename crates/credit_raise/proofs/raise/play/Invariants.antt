@@ -1,11 +1,12 @@
-use Rattle.std.proofs.Common.{◌≡◌, ◌++◌, [], List, drop}
+use Rattle.std.proofs.Common.{◌≡◌, ◌≤◌, ◌+◌, ◌++◌, [], List, drop, length}
 use Rattle.fx_rules.specs.declared.orders.Fill.{Fill}
 use Rattle.fx_rules.specs.Lists.{Each}
 use Rattle.fx_rules.specs.Sound.{ArrivesBefore}
 use Rattle.credit_raise.specs.inside.Playing.{AreTurns, Played}
 use Rattle.credit_raise.proofs.raise.play.Given as goal
 
--- whatever fills the turns from here make, make, behind those so far, the fills of all turns; what waits came before them
+-- whatever fills the turns from here make, make, behind those so far, the fills of all turns; what waits came before them; one step for each that had its turn, and one
+-- for each fill
 abbrev pub invariant-loop-order : goal.invariant-loop-order
 invariant-loop-order g l = record {
   goes_on : (more : List Fill) →
@@ -15,5 +16,6 @@ invariant-loop-order g l = record {
   banks : l.replay.waiting.banks ≡ l.banks;
   pair : l.replay.pair ≡ l.fn.pair;
   are_turns : AreTurns l.i l.j (drop l.order-index l.turns);
+  steps : l.steps + length (drop l.order-index l.turns) ≤ l.fn.steps + length l.turns + length l.replay.fills.items;
   before : Each (λ waiting. Each (ArrivesBefore waiting) (drop l.order-index l.turns)) l.replay.waiting.orders;
 }

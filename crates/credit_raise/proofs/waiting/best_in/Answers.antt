@@ -1,5 +1,5 @@
 -- Each order that the bank owns is compared with the best so far.
-use Rattle.std.proofs.Common.{Option, Some, None, sym, subst, ◌∙◌, ap, take, ◌+◌}
+use Rattle.std.proofs.Common.{Some, None, sym, subst, ◌∙◌, ap, take, ◌+◌}
 use Rattle.fx_amounts.specs.Side.{opposite}
 use Rattle.fx_amounts.specs.declared.side.Side.{Side}
 use Rattle.fx_rules.specs.declared.orders.Resting.{Resting}

@@ -1,13 +1,37 @@
 -- Each turn of the loop is one fill; at the end nothing is left, or nothing more is open.
-use Rattle.std.proofs.Common.{ℕ, ◌≡◌, ◌-◌, ◌*◌, ◌/◌, ◌++◌, ◌∷◌, [], List, refl, sym, ap, subst, ◌∙◌, arith, inl, inr, min, append_assoc, append-nil}
+use Rattle.std.proofs.Common.{ℕ, ◌≡◌, ◌<◌, ◌-◌, ◌*◌, ◌/◌, ◌++◌, ◌∷◌, [], List, length, length-append, refl, sym, ap, subst, ◌∙◌, arith, inl, inr, min, append_assoc, append-nil}
 use Rattle.std.proofs.Math.Nat.{le-div_iff_mul-le}
 use Rattle.fx_rules.specs.declared.orders.Fill.{Fill}
 use Rattle.fx_rules.specs.declared.orders.Resting.{Resting}
+use Rattle.fx_rules.specs.Lists.{Each}
 use Rattle.fx_rules.specs.Sweep.{Taker, fill_with}
 use Rattle.fx_rules.specs.Raise.{taker_of_resting}
 use Rattle.credit_raise.specs.inside.Playing.{SweptAmong, lessened}
+use Rattle.credit_raise.proofs.Lessening.{Each-lessened_all}
 use Rattle.credit_raise.proofs.Playing.{paid-append, lessened_all-append, maker-of, sweep-step, one_more}
 use Rattle.credit_raise.proofs.replay.Replay.sweep.Goals as goal
+
+pub loop-left-init : goal.loop-left-init
+loop-left-init g c = record {
+  most = c.count-left.ensures.most;
+  own = [];
+  fills = sym (append-nil c.args.self.now.fills.items);
+  line = refl;
+  orders = refl;
+  weight = refl;
+  banks = refl;
+  pair = refl;
+  steps = omega arith;
+  goes_on = λ more left swept.
+      subst (λ n. SweptAmong c.args.self.now.weight c.args.other c.args.self.now.line c.args.self.now.waiting.orders (taker_of_resting c.args.self.now.pair (record c.args.order.now { left = n })) more left)
+      c.count-left.ensures.value swept;
+}
+
+pub best_open-requires-clause-last : goal.best_open-requires-clause-last
+best_open-requires-clause-last g c =
+    let order : Resting = c.args.order.now in
+    subst (Each (λ (o : Resting). o.arrival < order.arrival)) (sym c.loop-left.invariant.orders)
+    (Each-lessened_all (λ (o : Resting). o.arrival < order.arrival) (λ o left before. before) c.args.self.now.waiting.orders c.loop-left.invariant.own c.requires.last)
 
 pub amount_by_line-lots-requires-clause-line : goal.amount_by_line-lots-requires-clause-line
 amount_by_line-lots-requires-clause-line g c =
@@ -48,6 +72,13 @@ loop-left-preserved g c =
       weight = c.trade.ensures.weight ∙ was.weight;
       banks = c.trade.ensures.banks ∙ was.banks;
       pair = c.trade.ensures.pair ∙ was.pair;
+      steps = omega (
+        arith,
+        was.steps,
+        c.best_open.ensures.steps,
+        ap length c.in_ok-trade.ensures.fills,
+        length-append c.loop-left.self.fills.items (fill_with c.swept-taker.result maker lots ∷ []),
+      );
       goes_on = λ more left swept.
           subst (λ (fs : List Fill). SweptAmong c.args.self.now.weight c.args.other c.args.self.now.line c.args.self.now.waiting.orders (taker_of_resting c.args.self.now.pair order) fs left)
           (sym (one_more was.own more f))

@@ -15,11 +15,11 @@ loop-next-init g c = record {
   takes = (
     [],
     sym (append-nil c.args.orders.now.items),
-    crossing-begun c.args.self.now c.args.bank c.args.side c.args.top c.next_best-next.result c.next_best-next.ensures.valid c.next_best-next.ensures.none c.next_best-next.ensures.best,
+    crossing-begun c.args.self.now c.args.bank c.args.side c.args.top c.next_near-next.result c.next_near-next.ensures.valid c.next_near-next.ensures.none c.next_near-next.ensures.best,
   );
   had = omega (arith, c.len-had.ensures, c.args.orders.now.ok.0);
-  steps = omega (arith, c.next_best-next.ensures.step);
-  valid = c.next_best-next.ensures.valid;
+  steps = omega (arith, c.next_near-next.ensures.step);
+  valid = c.next_near-next.ensures.valid;
 }
 
 pub returns-then-not-crosses-clause-gathered : goal.returns-then-not-crosses-clause-gathered
@@ -27,8 +27,8 @@ returns-then-not-crosses-clause-gathered g c =
     let it = c.loop-next.invariant.takes in
     (it.0, it.1, crossing-dear c.args.self.now.orders c.args.bank c.args.side c.args.top it.0 c.loop-next.next c.in-Some.order it.2 c.in-Some.is (sym c.crosses.ensures ∙ c.if-not-crosses.true))
 
-pub next_best-next-requires-in-Some : goal.next_best-next-requires-in-Some
-next_best-next-requires-in-Some g c =
+pub next_near-next-requires-in-Some : goal.next_near-next-requires-in-Some
+next_near-next-requires-in-Some g c =
     let it = c.loop-next.invariant.takes in
     let best : IsBest (opposite c.args.side) (owned_behind c.args.side c.args.bank (2 ^ 64) it.2.last c.args.self.now.orders) c.in-Some.order =
     subst (λ (f : Option Resting). IfSome f (IsBest (opposite c.args.side) (owned_behind c.args.side c.args.bank (2 ^ 64) it.2.last c.args.self.now.orders))) c.in-Some.is it.2.best in
@@ -36,8 +36,8 @@ next_best-next-requires-in-Some g c =
 
 pub loop-next-smaller : goal.loop-next-smaller
 loop-next-smaller g c =
-    subst (λ (f : Option Resting). still_to_come c.args.self.now.orders c.args.bank c.args.side c.next_best-next-in-Some.result < still_to_come c.args.self.now.orders c.args.bank c.args.side f) (sym c.in-Some.is)
-    (late-smaller c.args.self.now c.args.bank c.args.side c.next_best-next-in-Some.result c.in-Some.order c.loop-next.invariant.valid c.next_best-next-in-Some.ensures.best)
+    subst (λ (f : Option Resting). still_to_come c.args.self.now.orders c.args.bank c.args.side c.next_near-next-in-Some.result < still_to_come c.args.self.now.orders c.args.bank c.args.side f) (sym c.in-Some.is)
+    (late-smaller c.args.self.now c.args.bank c.args.side c.next_near-next-in-Some.result c.in-Some.order c.loop-next.invariant.valid c.next_near-next-in-Some.ensures.best)
 
 pub loop-next-preserved : goal.loop-next-preserved
 loop-next-preserved g c =
@@ -47,11 +47,11 @@ loop-next-preserved g c =
       takes = (
         it.0 ++ c.in-Some.order ∷ [],
         items ∙ ap (λ (os : List Resting). os ++ c.in-Some.order ∷ []) it.1 ∙ append_assoc c.args.orders.now.items it.0 (c.in-Some.order ∷ []),
-        crossing-taken c.args.self.now c.args.bank c.args.side c.args.top it.0 c.loop-next.next c.next_best-next-in-Some.result c.in-Some.order c.loop-next.invariant.valid it.2 c.in-Some.is
-            (sym c.crosses.ensures ∙ c.if-not-crosses.false) c.next_best-next-in-Some.ensures.none c.next_best-next-in-Some.ensures.best,
+        crossing-taken c.args.self.now c.args.bank c.args.side c.args.top it.0 c.loop-next.next c.next_near-next-in-Some.result c.in-Some.order c.loop-next.invariant.valid it.2 c.in-Some.is
+            (sym c.crosses.ensures ∙ c.if-not-crosses.false) c.next_near-next-in-Some.ensures.none c.next_near-next-in-Some.ensures.best,
       );
       had = c.loop-next.invariant.had;
-      steps = omega (arith, c.next_best-next-in-Some.ensures.step, c.loop-next.invariant.steps, ap (λ (os : List Resting). length os) items, length-append c.loop-next.orders.items (c.in-Some.order ∷ []));
+      steps = omega (arith, c.next_near-next-in-Some.ensures.step, c.loop-next.invariant.steps, ap (λ (os : List Resting). length os) items, length-append c.loop-next.orders.items (c.in-Some.order ∷ []));
       valid = c.loop-next.invariant.valid;
     }
 
