@@ -24,6 +24,7 @@ use std::sync::ledger::{Blank, Ledger};
 ///
 /// The command is an order, a cancel, a reduction, a pull or a local book of the book's pair. The book was made for as many
 /// banks as the lines have, and the sender is one of them. `Memory` if memory for fills or levels is refused.
+#[inline(always)]
 pub fn answer(
     alloc: Global,
     book: &PairBook,
@@ -44,6 +45,7 @@ pub fn answer(
 }
 
 /// The same, with a ledger for the steps.
+#[inline(always)]
 fn counted_answer<L: Ledger>(
     alloc: Global,
     book: &PairBook,
@@ -101,6 +103,7 @@ fn counted_answer<L: Ledger>(
 }
 
 /// What an order answers by its life.
+#[inline(always)]
 fn order_answer<L: Ledger>(
     alloc: Global,
     book: &PairBook,
@@ -120,6 +123,7 @@ fn order_answer<L: Ledger>(
 }
 
 /// What an order for so many lots answers by its life, where this is its sweep.
+#[inline(always)]
 fn ordered(lots: Lots, life: Life, plan: Plan) -> Outcome
     requires left { plan.left ≤ lots }
     ensures ordered { IsOrderedBy lots life plan.fills plan.left result }

@@ -14,6 +14,7 @@ use match_sweep::carry_fills;
 /// Makes room for what may come to rest of a bank's command: of a Day order, and of no other. For such an order the places of orders that
 /// are gone are first taken out of the book, where these are more than half of it; all other room may go. At `Memory` there may be none.
 /// Other commands take no memory. The bank is one of the book's.
+#[inline(always)]
 pub fn reserve(book: &mut PairBook, bank: BankId, command: &Command) -> Result<(), Memory>
     requires bank { bank < book.old.banks }
     ensures has_room { OnOk result (HasRoomFor book.new bank command.now) }
@@ -40,6 +41,7 @@ pub fn reserve(book: &mut PairBook, bank: BankId, command: &Command) -> Result<(
 ///
 /// The command with its outcome is a step of a state that the book is of; then it is the pair's book in the state after
 /// it.
+#[inline(always)]
 pub fn carry_out(book: &mut PairBook, sender: &Sender, command: &Command, outcome: &Outcome)
     requires step { IsStepOfSome book.old sender.now command.now outcome.now }
     requires pair { pair_of command.now ≡ Some book.old.pair }
@@ -54,6 +56,7 @@ pub fn carry_out(book: &mut PairBook, sender: &Sender, command: &Command, outcom
 }
 
 /// The same, told by the book's orders alone.
+#[inline(always)]
 fn change(book: &mut PairBook, sender: &Sender, command: &Command, outcome: &Outcome)
     requires step { IsStepOfSome book.old sender.now command.now outcome.now }
     requires pair { pair_of command.now ≡ Some book.old.pair }
@@ -92,6 +95,7 @@ fn change(book: &mut PairBook, sender: &Sender, command: &Command, outcome: &Out
 }
 
 /// Carries the fills of an order out, and lets `rests` lots of it rest behind all others.
+#[inline(always)]
 fn carry_order(
     book: &mut PairBook,
     sender: &Sender,

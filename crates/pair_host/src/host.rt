@@ -8,12 +8,13 @@ ghost use Rattle.credit_lines.specs.Table.{Stands, is_of_no_pair};
 ghost use Rattle.fx_rules.specs.Sending.{pair_of};
 ghost use Rattle.pair_host.specs.Standing.{AreBooksOf, AreOfOneState, FollowsOn, IsNextOf, StandsFor, stands};
 
+use crate::ahead::lots_ahead;
 use crate::every_pair::{all_resting, carry_all_recorded, carry_turns, empty_books, plan_turns};
 use crate::one_pair::{follow_in_pair, serve_in_pair};
 use credit_lines::CreditTable;
 use credit_raise::{CreditChange, is_change};
 use fx_amounts::{BankId, Memory, PairId};
-use fx_rules::{Command, Entry, Outcome, Session};
+use fx_rules::{Command, Entry, Outcome, Sent, Session};
 use global_book::PairBook;
 use local_view::depth;
 use std::alloc::Global;
@@ -25,6 +26,8 @@ pub struct PairHost {
     /// In the order of the header.
     books: Vec<PairBook>,
     table: CreditTable,
+    /// What was read ahead last. It is kept so that the reads are made, and nothing depends on it.
+    ahead: u64,
 }
 
 impl Model for PairHost {
@@ -46,6 +49,7 @@ impl PairHost {
         Ok(PairHost {
             books: empty_books(alloc, session)?,
             table: CreditTable::open(alloc, session)?,
+            ahead: 0,
         })
     }
 
@@ -55,7 +59,11 @@ impl PairHost {
         requires of_one_state { AreOfOneState books.items table }
         ensures stands { (h : Header) (S : State) → AreBooksOf h S books.items → Stands h S table → StandsFor h S result }
     {
-        PairHost { books, table }
+        PairHost {
+            books,
+            table,
+            ahead: 0,
+        }
     }
 
     /// The session whose market it is.
@@ -151,6 +159,14 @@ impl PairHost {
             weight,
             bank,
         )
+    }
+
+    /// Reads the levels at which the Day orders among these commands would come to rest, so that the processor fetches them side by side
+    /// before the first of these commands is carried out. Nothing changes. It takes no memory.
+    pub fn read_ahead(&mut self, sent: &[Sent])
+        ensures same { self.new ≡ self.old }
+    {
+        self.ahead = lots_ahead(&self.books, sent);
     }
 
     /// How many orders rest, in all pairs. It walks them all, and takes no memory.

@@ -5,6 +5,7 @@
 //! not matter who keeps them.
 #![tactic(auto)]
 
+mod ahead;
 mod answering;
 mod as_market;
 mod carrying;

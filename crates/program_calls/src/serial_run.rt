@@ -89,7 +89,7 @@ fn serve_rounds<S: Source>(
 {
     loop {
         let script = reading.script();
-        run.serve_all(&script.session, &script.sent)?;
+        run.serve_ahead(&script.session, &script.sent)?;
         journal.add_lines(script.sent.len(), &script.journal)?;
         if let Some(end) = reading.end() {
             return Ok(end);
