@@ -68,6 +68,7 @@ impl RankedOwners {
 
     /// Sees to it that an order of a bank can come to rest at a rank without taking memory, until this is asked for another rank of the
     /// bank. At `Memory` each level is as it was.
+    #[inline(always)]
     pub fn reserve(&mut self, bank: BankId, rank: u32) -> Result<(), Memory>
         requires rank { rank ≤ 10 ^ 9 }
         ensures holds { OnOk result (bank_holds self.new bank rank ≡ true) }
@@ -83,6 +84,7 @@ impl RankedOwners {
 
     /// An order of so many lots of a bank comes to rest at a rank that was made ready for it, behind all others there. Its place in the
     /// list of orders is below 2^28. It answers the place of the last order there before it, where there is one.
+    #[inline(always)]
     pub fn insert(&mut self, bank: BankId, rank: u32, place: u32, lots: Lots) -> Option<u32>
         requires bank { bank < 64 }
         requires rank { rank ≤ 10 ^ 9 }

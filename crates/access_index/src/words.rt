@@ -68,6 +68,7 @@ impl HeadWords {
     }
 
     /// Another order of a bank comes, behind all others at its rank.
+    #[inline(always)]
     pub(crate) fn add(&mut self, bank: BankId, head: Head)
         requires bank { bank < 64 }
         requires head { IsHead head }

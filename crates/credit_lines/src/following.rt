@@ -9,6 +9,7 @@ use fx_amounts::BankId;
 use fx_rules::{Command, Fill, Session};
 
 /// Sets the limit or the total that a command asks for, or gives back the units, where it asks for any of them.
+#[inline(always)]
 pub(crate) fn set_asked(lines: &mut CreditLines, bank: BankId, command: &Command)
     requires valid { IsCredit lines.old }
     requires can { CanSet lines.old bank command.now }

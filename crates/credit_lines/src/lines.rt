@@ -241,6 +241,7 @@ impl CreditLines {
     /// Follows an entry of a history of the session: sets the limit or the total that its command asks for, or gives back the units,
     /// and then takes what each of its fills uses. The entry is the next step of a state that the lines stand for; then they stand
     /// for the state after it. It takes no memory.
+    #[inline(always)]
     pub fn follow(&mut self, session: &Session, entry: &Entry)
         requires next { IsNextOf session.now self.old entry.now }
         ensures value { self.new ≡ followed session.now self.old entry.now }

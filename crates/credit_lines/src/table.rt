@@ -131,6 +131,7 @@ impl CreditTable {
     /// Follows an entry of a history of the session: the limit or the total that its command asks for, or the units that it gives
     /// back, what its fills use, and one command more of its sender. The entry is the next step of a state that the table stands for; then it stands for the state after
     /// it.
+    #[inline(always)]
     pub fn follow(&mut self, entry: &Entry)
         requires next { IsNextOf self.old entry.now }
         ensures value { self.new ≡ followed self.old entry.now }

@@ -42,6 +42,7 @@ impl DaySums {
 
     /// Follows the next entry of a legal history: the limit or the total that it set or the units that it gave back, and
     /// then its fills. It takes no memory.
+    #[inline(always)]
     pub fn follow(&mut self, session: &Session, entry: &Entry)
         requires next { (entries : List Entry) × IsLegal session.now (entries ++ entry.now ∷ []) × AreSumsOf session.now (state session.now entries) self.old }
         ensures follows { (entries : List Entry) → IsLegal session.now (entries ++ entry.now ∷ []) → AreSumsOf session.now (state session.now entries) self.old → AreSumsOf session.now (state session.now (entries ++ entry.now ∷ [])) self.new }
@@ -51,6 +52,7 @@ impl DaySums {
     }
 
     /// Adds fills to the volumes and the flows.
+    #[inline(always)]
     fn add_all(&mut self, session: &Session, fills: &[Fill])
         requires { CanAddAll session.now self.old fills.now }
         ensures lines { self.new.lines ≡ self.old.lines }

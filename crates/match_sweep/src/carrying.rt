@@ -12,6 +12,7 @@ use global_book::PairBook;
 /// Carries a plan out in its pair's book: each fill in order takes its lots from its maker, and from its taker where that
 /// rests, and an order with nothing left is taken out. No room that was made goes, and it takes no memory. The lines
 /// are changed beside it, by one `CreditLines::take` for each fill.
+#[inline(always)]
 pub fn carry(book: &mut PairBook, plan: &Plan)
     ensures orders { book.new.orders ≡ carried book.old.orders plan.now.fills }
     ensures state { (S : State) → EachPair Rises S.orders → book.old.orders ≡ orders_in book.old.pair S.orders → book.new.orders ≡ orders_in book.old.pair (filled_all S plan.now.fills).orders }
@@ -23,6 +24,7 @@ pub fn carry(book: &mut PairBook, plan: &Plan)
 }
 
 /// Carries fills out in a book, in order, as `carry` does those of a plan.
+#[inline(always)]
 pub fn carry_fills(book: &mut PairBook, fills: &[Fill])
     ensures orders { book.new.orders ≡ carried book.old.orders fills.now }
     ensures state { (S : State) → EachPair Rises S.orders → book.old.orders ≡ orders_in book.old.pair S.orders → book.new.orders ≡ orders_in book.old.pair (filled_all S fills.now).orders }

@@ -30,6 +30,7 @@ pub struct SweepPlan {
 /// It finds the fills and changes nothing but the counter of its steps, of which it takes at most `(fills + 1) * banks` where
 /// every order arrived before the taker. Only the list of fills takes memory, and at `Memory` there was none for it. The book
 /// was made for as many banks as the lines have, and the taker's bank is one of them.
+#[inline(always)]
 pub fn plan<L: Ledger>(
     alloc: Global,
     book: &PairBook,
@@ -56,6 +57,7 @@ pub fn plan<L: Ledger>(
 /// The sweep of an order of the book's pair, which may want more lots than an order can have, as `plan` finds that of a taker.
 /// The lots of its fills are at most all that the lines of its bank allow. What the total of its bank, where it has one, does not pay for is
 /// left.
+#[inline(always)]
 pub fn sweep<L: Ledger>(
     alloc: Global,
     book: &PairBook,
@@ -86,6 +88,7 @@ pub fn sweep<L: Ledger>(
 }
 
 /// The sweep of an order as the lines of its bank allow it, whatever the bank's total leaves.
+#[inline(always)]
 fn sweep_by_lines<L: Ledger>(
     alloc: Global,
     book: &PairBook,

@@ -111,6 +111,7 @@ pub(crate) fn life_before(text: &[u8]) -> Option<(Life, &[u8])>
 }
 
 /// Reads a number of so many digits at most, and answers what stands behind the byte `end` too.
+#[inline(always)]
 pub(crate) fn number_before(text: &[u8], most: usize, end: u8) -> Option<(u64, &[u8])>
     requires { most ≤ 19 }
     ensures spelled { IfSome result (λ found. text.now ≡ numeral found.0 ++ end ∷ found.1.now) }
@@ -134,6 +135,7 @@ fn is_number(text: &[u8], digits: usize) -> bool
 }
 
 /// The number that the digits at a text's front make behind those of `front`, `most` of them at most, and how many they are.
+#[inline(always)]
 fn digits_from(front: u64, text: &[u8], most: usize) -> (u64, usize)
     requires most { most ≤ 19 }
     requires fits { front < 10 ^ (19 - most) }

@@ -64,6 +64,7 @@ fn command_behind<'p>(
     }
 }
 
+#[inline(always)]
 fn order_behind<'p>(
     session: &Session,
     sender: BankId,

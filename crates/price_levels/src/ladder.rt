@@ -53,6 +53,7 @@ impl Ladder {
     }
 
     /// The level of a rank; one without orders where none has come to rest there.
+    #[inline(always)]
     pub fn level(&self, rank: u32) -> Level
         ensures { result ≡ level_at self.now rank }
     {
@@ -66,6 +67,7 @@ impl Ladder {
     /// window is widened to the rank where it then has at most 4,096 ranks, or 16 for each of its levels with orders, and never more than
     /// 65,536; else the rank is kept by itself, and takes the place of the one that was made ready so before. At `Memory` each level is as it
     /// was.
+    #[inline(always)]
     pub fn reserve(&mut self, rank: u32) -> Result<(), Memory>
         requires rank { rank < 2 ^ 31 }
         ensures holds { OnOk result (holds self.new rank ≡ true) }
@@ -110,6 +112,7 @@ impl Ladder {
 
     /// An order of so many lots comes to rest at a rank that was made ready for it, behind all others there. It answers the place of the
     /// last of these, where there is one.
+    #[inline(always)]
     pub fn insert(&mut self, rank: u32, place: u32, lots: Lots) -> Option<u32>
         requires holds { holds self.old rank ≡ true }
         requires fits { (level_at self.old rank).lots + lots < 2 ^ 64 }
@@ -151,6 +154,7 @@ impl Ladder {
     }
 
     /// Writes down the level of a rank that is in the window or kept by itself.
+    #[inline(always)]
     fn set(&mut self, rank: u32, level: Level)
         requires has { has_rank self.old rank ≡ true }
         ensures levels { (other : ℕ) → level_at self.new other ≡ with_level_at (level_at self.old) rank level other }

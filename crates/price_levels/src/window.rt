@@ -134,6 +134,7 @@ impl Window {
     }
 
     /// Writes down the level of a rank of the window.
+    #[inline(always)]
     pub(crate) fn set(&mut self, rank: u32, level: Level)
         requires covered { Covers self.old rank }
         ensures { self.new ≡ with_level self.old rank level }

@@ -238,6 +238,7 @@ fn add_reply(
 }
 
 /// Adds the notices of fills, in order.
+#[inline(always)]
 fn add_fills(
     session: &Session,
     fills: &[Fill],

@@ -61,6 +61,7 @@ impl NoticeWriter {
     }
 
     /// Makes what the two notices of a fill have in common, so that `fill` can be asked for each of them.
+    #[inline(always)]
     pub fn begin_fill(&mut self, session: &Session, fill: &Fill)
         requires fill { IsFillOf session.now fill.now }
         ensures texts { AreTextsOf session.now fill.now self.new }

@@ -27,6 +27,7 @@ const LEVEL: usize = 49;
 
 /// Writes the line of the reply to a bank's command `number` into a room of bytes from a place on, with its number `notice` on the desk,
 /// where the reply shows no local book, and answers the place behind it.
+#[inline(always)]
 pub(crate) fn put_reply(
     notice: u128,
     number: u32,

@@ -127,6 +127,7 @@ impl Script {
 
     /// Adds the commands with whose lines in their one spelling a text begins, and answers what stands behind these lines. Where
     /// strays are kept it adds none: each line is taken by itself then. After `Err` none of them is added.
+    #[inline(always)]
     pub(crate) fn add_spelled<'p>(&mut self, text: &'p [u8]) -> Result<&'p [u8], Memory>
         ensures adds { IfOk result (λ rest. AddsFront self.old self.new text.now rest.now) }
         ensures session { self.new.session ≡ self.old.session }

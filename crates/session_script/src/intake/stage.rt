@@ -130,6 +130,7 @@ impl Stage {
 
     /// Takes the lines that a text begins with and that are commands in their one spelling, and answers what stands behind them.
     /// After `Err` some of them may be taken.
+    #[inline(always)]
     fn take_spelled<'p>(&mut self, text: &'p [u8]) -> Result<&'p [u8], Memory>
         requires { IsTrue (is_open self.old) }
         ensures taken { IfOk result (λ rest. TakesFront self.old self.new text.now rest.now) }
