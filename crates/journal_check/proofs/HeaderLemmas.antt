@@ -1,5 +1,5 @@
 -- A header that is read line by line.
-use Rattle.std.proofs.Common.{◌≡◌, ℕ, ◌+◌, ◌<◌, ◌≤◌, true, false, List, [], ◌∷◌, length, Some, Result, Ok, Err, refl, sym, ap, ◌∙◌, arith}
+use Rattle.std.proofs.Common.{◌≡◌, ℕ, ◌+◌, ◌≤◌, true, false, List, [], ◌∷◌, length, Some, Result, Ok, Err, refl, sym, ap, ◌∙◌, arith}
 use Rattle.std.proofs.lemmas.Bool.{cond-true, cond-false, lt-ltb, le-ltb}
 use Rattle.fx_text.specs.Lines.{line_of, line_seen}
 use Rattle.fx_rules.specs.Session.{Header}
@@ -97,9 +97,6 @@ is_started (Faulted number reason) start = cc
 -- where the next line begins, the text may have ended
 pub read-within : (text : List ℕ) (at : ℕ) (read : ReadLine) → IsReadAt text at read → read.next ≤ length text
 read-within text at read is = omega (arith, is.next_is, is.there.within)
-
-pub read-falls : (text : List ℕ) (at : ℕ) (read : ReadLine) → IsReadAt text at read → at < read.next
-read-falls text at read is = omega (arith, is.next_is)
 
 pub header_stopped : (text : List ℕ) (at : ℕ) (head : Head) (stop : Stop) → ReadsLine text at (Err stop) → (there : Result Headed ℕ) → there ≡ header_among (length text) head (lines_from text at) → Answers (Err stop) there
 header_stopped text at head (Wrong offset) stops there is = is ∙ header_stops text at offset head stops

@@ -1,32 +1,19 @@
 -- A journal that is read line by line.
-use Rattle.std.proofs.Common.{◌≡◌, ℕ, zero, suc, ◌+◌, ◌-◌, ◌<◌, ◌≤◌, Bool, true, false, List, [], ◌∷◌, ◌++◌, length, map, take, drop, Option, Some, None, option_map, ok_or, Result, Ok, Err, refl, sym, ap, ap₂, ◌∙◌, subst, arith, append-nil, length-drop, length-take-le}
-use Rattle.std.specs.Prelude.{IsErrAnd}
+use Rattle.std.proofs.Common.{◌≡◌, ℕ, zero, suc, ◌+◌, ◌-◌, ◌<◌, ◌≤◌, true, false, List, [], ◌∷◌, ◌++◌, length, take, drop, Option, Some, None, option_map, ok_or, Result, Ok, Err, refl, sym, ap, ap₂, ◌∙◌, subst, arith, length-drop, length-take-le}
 use Rattle.std.proofs.lemmas.Bool.{cond-true, cond-false, lt-ltb, le-ltb}
-use Rattle.fx_amounts.specs.declared.memory.Memory.{Memory as AmountsMemory}
 use Rattle.fx_text.specs.Faults.{◌>>=◌}
 use Rattle.fx_text.specs.Lines.{line_of, line_seen}
 use Rattle.std.proofs.Math.Seq.{take-add}
-use Rattle.std.proofs.lemmas.List.{drop-drop, length_push, map-append}
-use Rattle.std.proofs.lemmas.List.Concat.{flat_map-append}
 use Rattle.fx_rules.specs.Session.{Header}
-use Rattle.fx_rules.specs.declared.outcome.Entry.{Entry}
-use Rattle.fx_rules.specs.Sending.{sent_by, sent_of}
-use Rattle.pair_host.specs.Standing.{HostState, stands}
-use Rattle.market_run.specs.Ran.{Ran}
-use Rattle.market_run.specs.Running.{HasServed, GoesOnBy}
-use Rattle.reply_lines.specs.Day.{AreNoticesOf}
-use Rattle.reply_lines.specs.Output.{entry_line}
-use Rattle.reply_lines.specs.declared.day_notices.DayNotices.{DayNotices}
+use Rattle.fx_rules.specs.Sending.{sent_of}
 use Rattle.order_lines.specs.Grammar.{journal_line}
 use Rattle.journal_check.specs.Lines.{LineAt, behind, is_long, lines_from}
 use Rattle.fx_rules.specs.declared.command.Command.{Command}
 use Rattle.fx_rules.specs.declared.command.Sent.{Sent}
 use Rattle.journal_check.specs.Listed.{count_told, count_among, commands_among}
-use Rattle.journal_check.specs.inside.Stops.{IsReadAt, IsStopAt, Missing, TooLong, ReadsLine, Answers, HaveReadLines, IsKept, ReadsEntries, ReadsSent, SaysAt, StandsIn, lines_of, next_of, sent_line}
+use Rattle.journal_check.specs.inside.Stops.{IsReadAt, IsStopAt, Missing, TooLong, ReadsLine, Answers, ReadsSent, SaysAt, StandsIn, lines_of, next_of, sent_line}
 use Rattle.journal_check.specs.declared.journal.Counted.{Counted}
 use Rattle.journal_check.specs.declared.journal.ReadSent.{ReadSent}
-use Rattle.journal_check.specs.declared.journal.ServedJournal.{ServedJournal}
-use Rattle.journal_check.specs.declared.kept.Kept.{Kept}
 use Rattle.journal_check.specs.declared.line.ReadLine.{ReadLine}
 use Rattle.journal_check.specs.declared.lines.ReadLines.{ReadLines}
 use Rattle.journal_check.specs.declared.stop.Stop.{Stop}
@@ -135,82 +122,6 @@ count_stopped text at (Memory memory) stops = absurd stops
 pub sent_stopped : (h : Header) (text : List ℕ) (at : ℕ) (stop : Stop) → ReadsLine text at (Err stop) → ReadsSent h text at (Err stop)
 sent_stopped h text at (Wrong offset) stops = λ before count. commands_stop h text at offset before (suc count) (omega arith) stops
 sent_stopped h text at (Memory memory) stops = absurd stops
-
-pub commands_stopped : (h : Header) (whole : Bool) (kept : Kept) (text : List ℕ) (at : ℕ) (before : List Sent) (count left : ℕ) (stop : Stop) (there : Result (List Sent) ℕ) → count ≡ left + 1 → ReadsSent h text at (Err stop)
-    → there ≡ commands_among h (length text) before count (lines_from text at) → ReadsEntries h whole kept (Err stop) there
-commands_stopped h whole kept text at before count left (Wrong offset) there one stops is =
-    let up : count ≡ suc left = omega (arith, one) in
-    is ∙ ap (λ (n : ℕ). commands_among h (length text) before n (lines_from text at)) up ∙ stops before left
-commands_stopped h whole kept text at before count left (Memory memory) there one stops is = absurd stops
-
--- Entries that are served as they are read
-
--- there was no memory for one of them
-pub for_memory : (h : Header) (whole : Bool) (kept : Kept) (there : Result (List Sent) ℕ) (memory : AmountsMemory) (result : Result ServedJournal Stop) → IsErrAnd result (λ stop. stop ≡ Memory memory) → ReadsEntries h whole kept result there
-for_memory h whole kept there memory (Ok served) is = absurd is
-for_memory h whole kept there memory (Err stop) is = subst (λ (s : Stop). ReadsEntries h whole kept (Err s) there) (sym is) tt
-
--- so many were read up to an offset, and so many are left
-pub record HasReadSome (h : Header) (text : List ℕ) (there : Result (List Sent) ℕ) (whole : Bool) (kept : Kept) (run : Ran HostState DayNotices) (lines : ReadLines) (count left at : ℕ) : Type 0 where
-  pub entries : List Entry
-  pub has_served : HasServed stands AreNoticesOf h entries run
-  pub lines_are : HaveReadLines h entries lines
-  pub size : length entries ≡ count
-  pub reads : there ≡ commands_among h (length text) (map sent_by entries) left (lines_from text at)
-  pub is_kept : IsKept whole entries kept
-
--- the lines stand in a text from an offset on, up to another one
-pub record StandFrom (text : List ℕ) (from at : ℕ) (lines : ReadLines) : Type 0 where
-  pub within : from ≤ length text
-  pub rest : lines.rest.now ≡ drop from text
-  pub at_is : at ≡ from + lines.len
-
--- so the next line stands behind them
-pub stands_next : (text : List ℕ) (from at : ℕ) (lines : ReadLines) (read : ReadSent) → StandFrom text from at lines → StandsIn text at read → StandsIn lines.rest.now lines.len read
-stands_next text from at lines read are is =
-    let behind : drop at text ≡ drop lines.len lines.rest.now = ap (λ (n : ℕ). drop n text) are.at_is ∙ sym (drop-drop lines.len from text) ∙ ap (drop lines.len) (sym are.rest) in
-    record {
-      within = omega (arith, are.within, are.at_is, ap length are.rest, length-drop from text, is.within);
-      same = is.same ∙ ap (take (length read.line.now)) behind;
-    }
-
-pub stand_further : (text : List ℕ) (from at size : ℕ) (was now : ReadLines) → StandFrom text from at was → now.rest.now ≡ was.rest.now → now.len ≡ was.len + size → StandFrom text from (at + size) now
-stand_further text from at size was now are rest len = record {
-  within = are.within;
-  rest = rest ∙ are.rest;
-  at_is = omega (arith, are.at_is, len);
-}
-
--- the lines of one entry more
-lines_more : (h : Header) (entries : List Entry) (e : Entry) (sent : Sent) (was now : ReadLines) → HaveReadLines h entries was → sent_by e ≡ sent → now.len ≤ length now.rest.now → lines_of now ≡ lines_of was ++ sent_line h sent
-    → HaveReadLines h (entries ++ e ∷ []) now
-lines_more h entries e sent was now are sent_is within lines = record {
-  within = within;
-  are = lines
-      ∙ ap₂ (λ (front last : List ℕ). front ++ last) are.are (ap (sent_line h) (sym sent_is) ∙ sym (append-nil (entry_line h e)))
-      ∙ sym (flat_map-append (entry_line h) entries (e ∷ []));
-}
-
--- one more was read
-pub entry_read : (h : Header) (text : List ℕ) (there : Result (List Sent) ℕ) (whole : Bool) (kept kept' : Kept) (was now : Ran HostState DayNotices) (lines lines' : ReadLines) (count left left' at : ℕ) (read : ReadSent) (e : Entry)
-    → HasReadSome h text there whole kept was lines count left at → SaysAt h text at read → left ≡ left' + 1
-    → sent_by e ≡ read.sent → GoesOnBy stands AreNoticesOf h was now e → lines'.len ≤ length lines'.rest.now → lines_of lines' ≡ lines_of lines ++ sent_line h read.sent
-    → ((entries : List Entry) → IsKept whole entries kept → IsKept whole (entries ++ e ∷ []) kept')
-    → HasReadSome h text there whole kept' now lines' (count + 1) left' (next_of at read)
-entry_read h text there whole kept kept' was now lines lines' count left left' at read e has says one sent_is on within more keeps =
-    let sent : map sent_by (has.entries ++ e ∷ []) ≡ map sent_by has.entries ++ read.sent ∷ [] =
-    map-append sent_by has.entries (e ∷ []) ∙ ap (λ (s : Sent). map sent_by has.entries ++ s ∷ []) sent_is in
-    let up : left ≡ suc left' = omega (arith, one) in
-    record {
-      entries = has.entries ++ e ∷ [];
-      has_served = on has.entries has.has_served;
-      lines_are = lines_more h has.entries e read.sent lines lines' has.lines_are sent_is within more;
-      size = length_push has.entries e ∙ ap (λ (n : ℕ). n + 1) has.size;
-      reads = has.reads ∙ ap (λ (n : ℕ). commands_among h (length text) (map sent_by has.entries) n (lines_from text at)) up
-          ∙ says.goes_on (map sent_by has.entries) left'
-          ∙ ap (λ (b : List Sent). commands_among h (length text) b left' (lines_from text (next_of at read))) (sym sent);
-      is_kept = keeps has.entries has.is_kept;
-    }
 
 -- a line that was read stands where it was read
 pub line_stands : (text rest line : List ℕ) (at size : ℕ) → rest ≡ drop at text → line ≡ take size rest → size ≤ length rest → line ≡ take (length line) (drop at text)

@@ -1,6 +1,7 @@
 pub mod LineLemmas
 pub mod HeaderLemmas
 pub mod JournalLemmas
+pub mod Pieces
 pub mod CompareLemmas
 pub mod JudgeLemmas
 pub mod Walking

@@ -2,12 +2,13 @@ ghost use Rattle.std.specs.Prelude.{◌≡◌, ◌≤◌, ◌^◌, length, [], I
 ghost use Rattle.fx_rules.specs.Sending.{IsSentOf};
 ghost use Rattle.fx_text.specs.Lines.{line_seen};
 ghost use Rattle.journal_check.specs.Lines.{lines_from};
-ghost use Rattle.journal_check.specs.Listed.{count_among, count_told, commands_among, most_entries};
+ghost use Rattle.journal_check.specs.Listed.{count_among, count_told, commands_among};
 ghost use Rattle.journal_check.specs.inside.Stops.{Answers, IsKept, ReadsEntries, ReadsSent};
 
 use crate::kept::Kept;
 use crate::line::read_line;
 use crate::lines::ReadLines;
+use crate::piece::{read_piece, serve_piece};
 use crate::stop::Stop;
 use fx_rules::{Sent, Session};
 use fx_text::{LineView, fields, number};
@@ -19,6 +20,9 @@ use std::alloc::Global;
 
 /// The most entries of a history whose output can be checked.
 const MOST_ENTRIES: u64 = 268_435_456;
+
+/// How many lines of a journal are read before the first of their commands is served: as many as `Run::serve_ahead` reads ahead for.
+const PIECE: u64 = 16;
 
 /// The line that begins a journal.
 #[derive(Drop)]
@@ -129,8 +133,8 @@ pub(crate) struct ServedJournal<'a> {
     pub(crate) lines: ReadLines<'a>,
 }
 
-/// Reads the entries of a journal and carries out their commands in order: the run of the only legal history that has them. Its
-/// entries are kept, where they are to be.
+/// Reads the entries of a journal and carries out their commands in order, piece by piece: the run of the only legal history that has
+/// them. Its entries are kept, where they are to be.
 pub(crate) fn read_entries<'a>(
     alloc: Global,
     session: &Session,
@@ -147,16 +151,14 @@ pub(crate) fn read_entries<'a>(
     let host = PairHost::open(alloc, session)?;
     let mut run = Run::open(session, host, DayNotices::open(alloc, session)?);
     let mut lines = ReadLines::new(alloc, text, counted.next);
+    let mut sent = Vec::new(alloc);
     let mut at = counted.next;
-    for _entry in 0..counted.entries {
-        let read = match read_sent(session, text, at) {
-            Ok(read) => read,
-            Err(stop) => return Err(stop),
-        };
-        lines.add(session, &read)?;
-        let served = run.serve_entry(session, read.sent)?;
-        kept.keep(served)?;
-        at += read.line.len();
+    let mut left = counted.entries;
+    while left > 0 {
+        let count = left.min(PIECE);
+        at = read_piece(session, text, at, count, &mut lines, &mut sent)?;
+        serve_piece(session, &sent, &mut run, kept)?;
+        left -= count;
     }
     Ok(ServedJournal {
         run,

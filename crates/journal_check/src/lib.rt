@@ -12,6 +12,7 @@ mod last;
 mod laws;
 mod line;
 mod lines;
+mod piece;
 mod read;
 mod stop;
 

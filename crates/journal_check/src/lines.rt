@@ -1,4 +1,4 @@
-ghost use Rattle.std.specs.Prelude.{◌≡◌, ◌≤◌, ◌+◌, ◌++◌, true, drop, length, take, [], OnOk};
+ghost use Rattle.std.specs.Prelude.{◌≡◌, ◌≤◌, ◌+◌, ◌++◌, true, drop, length, [], OnOk};
 ghost use Rattle.fx_rules.specs.Sending.{IsSentOf};
 ghost use Rattle.journal_check.specs.inside.Stops.{IsSpelling, StandsIn, lines_of, sent_line};
 

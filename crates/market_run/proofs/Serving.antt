@@ -1,6 +1,6 @@
 -- A command that is served: its number fits, and each history that was served goes on by its entry.
-use Rattle.std.proofs.Common.{ℕ, zero, suc, ◌≡◌, ◌+◌, ◌<◌, ◌≤◌, ◌^◌, List, [], ◌∷◌, ◌++◌, refl, ap, sym, subst, ◌∙◌, arith, inl, inr, Result, Ok, Err, length, get_or, eqb, not, map, take, length-append, append_assoc, append-nil}
-use Rattle.std.proofs.lemmas.List.{length-map, map-append, length-take, take_more}
+use Rattle.std.proofs.Common.{ℕ, ◌≡◌, ◌+◌, ◌<◌, ◌≤◌, ◌^◌, List, [], ◌∷◌, ◌++◌, refl, ap, sym, subst, ◌∙◌, ap₂, arith, inl, inr, Result, Ok, Err, length, get_or, eqb, not, map, take, drop, length-append, append_assoc, append-nil}
+use Rattle.std.proofs.lemmas.List.{length-map, map-append, take_more, take-append-drop}
 use Rattle.std.proofs.lemmas.List.Filters.{length-filter_both}
 use Rattle.std.specs.Prelude.{◌⊎◌, IfOk, OnOk, OnErr}
 use Rattle.std.specs.List.{filter}
@@ -14,6 +14,7 @@ use Rattle.fx_rules.specs.History.{IsLegal, state, own}
 use Rattle.fx_rules.specs.Market.{InSome, InEach, MaySend, HasSent, GoesOn}
 use Rattle.fx_rules.specs.Sending.{IsSentOf, sent_by}
 use Rattle.fx_rules.proofs.Counting.{counts-own}
+use Rattle.fx_rules.proofs.ListLemmas.{Each-first}
 use Rattle.market_run.specs.Ran.{Ran}
 use Rattle.market_run.specs.Running.{ToldNext, StillTold, IsAsBefore, HasServed, MayServe, GoesOnBy, MadeEntry, ServesOn, ServesSome}
 
@@ -24,11 +25,14 @@ counts-most h entries bank legal =
     length-filter_both (λ (e : Entry). eqb e.bank bank) (λ (e : Entry). not (eqb e.bank bank)) (λ _. refl) entries in
     omega (arith, counts-own h entries bank legal, parted)
 
--- the command at a place is one that its sender may send
-each-at : (h : Header) (all : List Sent) (n : ℕ) (s : Sent) → Each (IsSentOf h) all → n < length all → s ≡ get_or all n s → IsSentOf h s
-each-at h [] n s valid within at' = absurd (omega arith)
-each-at h (x ∷ xs) zero s valid within at' = subst (IsSentOf h) (sym at') valid.0
-each-at h (x ∷ xs) (suc n) s valid within at' = each-at h xs n s valid.1 (omega arith) at'
+-- what each item of a list has, each of a part of it has
+each-part : {X : Type 0} (P : X → Type 0) (front part rest : List X) → Each P (front ++ part ++ rest) → Each P part
+each-part P [] part rest each = Each-first P part rest each
+each-part P (x ∷ front) part rest each = each-part P front part rest each.1
+
+-- up to an item and with it
+taken-with : {X : Type 0} (all : List X) (n : ℕ) (x : X) → n < length all → x ≡ get_or all n x → take n all ++ x ∷ [] ≡ take (n + 1) all
+taken-with all n x within at' = ap (λ y. take n all ++ y ∷ []) at' ∙ sym (take_more all n x within)
 
 pub on-err : {T E : Type 0} (P : Type 0) (result : Result T E) → P → OnErr result P
 on-err P (Ok done) is = tt
@@ -94,14 +98,6 @@ module _ {M O : Type 0} (stands : M → Header → State → Type 0) (told : Hea
   }
   made-entry leaves was now ready s count outcome (Err e) count_is on still told_next left_is = tt
 
-  -- one command was served
-  pub serves-one : {L : Type 0} (leaves : L → Entry → Type 0) (was now : Ran M O) (s : Sent) (left : L) → MadeEntry stands told h leaves was now s left → ServesOn stands told h was now (s ∷ [])
-  serves-one leaves was now s left made entries has = record {
-    more = made.entry ∷ [];
-    sent_is = ap (λ (sent : Sent). sent ∷ []) made.sent_is;
-    has_served = made.goes_on entries has;
-  }
-
   -- Commands one after another
 
   pub serves-none : (run : Ran M O) → ServesOn stands told h run run []
@@ -110,28 +106,37 @@ module _ {M O : Type 0} (stands : M → Header → State → Type 0) (told : Hea
   more-sent : (entries : List Entry) (sent : List Sent) → map sent_by entries ≡ sent → length entries ≡ length sent
   more-sent entries sent is = sym (length-map entries sent_by) ∙ ap length is
 
-  -- the one at a place can be served once those before it were
-  pub may-serve-next : (was now : Ran M O) (all : List Sent) (n : ℕ) (s : Sent) → MayServe stands told h was all → ServesOn stands told h was now (take n all) → n < length all → s ≡ get_or all n s → MayServe stands told h now (s ∷ [])
-  may-serve-next was now all n s may served within at' =
+  -- commands can be served once those in front of them were
+  pub may-serve-part : (was now : Ran M O) (front part rest : List Sent) → MayServe stands told h was (front ++ part ++ rest) → ServesOn stands told h was now front → MayServe stands told h now part
+  may-serve-part was now front part rest may served =
       let went = served may.entries may.has_served in
       record {
         entries = may.entries ++ went.more;
         has_served = went.has_served;
-        valid = (each-at h all n s may.valid within at', tt);
-        few = omega (arith, may.few, length-append may.entries went.more, more-sent went.more (take n all) went.sent_is, length-take n all);
+        valid = each-part (IsSentOf h) front part rest may.valid;
+        few = omega (arith, may.few, length-append may.entries went.more, more-sent went.more front went.sent_is, length-append (front ++ part) rest, length-append front part);
       }
+
+  -- and then both were
+  pub serves-both : (was mid now : Ran M O) (front part : List Sent) → ServesOn stands told h was mid front → ServesOn stands told h mid now part → ServesOn stands told h was now (front ++ part)
+  serves-both was mid now front part first then entries has =
+      let one = first entries has in
+      let two = then (entries ++ one.more) one.has_served in
+      record {
+        more = one.more ++ two.more;
+        sent_is = map-append sent_by one.more two.more ∙ ap₂ (λ (xs ys : List Sent). xs ++ ys) one.sent_is two.sent_is;
+        has_served = subst (λ (es : List Entry). HasServed stands told h es now) (append_assoc entries one.more two.more) two.has_served;
+      }
+
+  -- the one at a place can be served once those before it were
+  pub may-serve-next : (was now : Ran M O) (all : List Sent) (n : ℕ) (s : Sent) → MayServe stands told h was all → ServesOn stands told h was now (take n all) → n < length all → s ≡ get_or all n s → MayServe stands told h now (s ∷ [])
+  may-serve-next was now all n s may served within at' =
+      let parted : all ≡ take n all ++ (s ∷ []) ++ drop (n + 1) all = sym (take-append-drop (n + 1) all) ∙ ap (λ (xs : List Sent). xs ++ drop (n + 1) all) (sym (taken-with all n s within at')) in
+      may-serve-part was now (take n all) (s ∷ []) (drop (n + 1) all) (subst (MayServe stands told h was) parted may) served
 
   -- and then one more was
   pub serves-next : (was mid now : Ran M O) (all : List Sent) (n : ℕ) (s : Sent) → ServesOn stands told h was mid (take n all) → ServesOn stands told h mid now (s ∷ []) → n < length all → s ≡ get_or all n s → ServesOn stands told h was now (take (n + 1) all)
-  serves-next was mid now all n s so_far next within at' entries has =
-      let first = so_far entries has in
-      let second = next (entries ++ first.more) first.has_served in
-      record {
-        more = first.more ++ second.more;
-        sent_is = map-append sent_by first.more second.more ∙ ap (λ (xs : List Sent). xs ++ map sent_by second.more) first.sent_is
-            ∙ ap (λ (xs : List Sent). take n all ++ xs) second.sent_is ∙ ap (λ (x : Sent). take n all ++ x ∷ []) at' ∙ sym (take_more all n s within);
-        has_served = subst (λ (es : List Entry). HasServed stands told h es now) (append_assoc entries first.more second.more) second.has_served;
-      }
+  serves-next was mid now all n s so_far next within at' = subst (ServesOn stands told h was now) (taken-with all n s within at') (serves-both was mid now (take n all) (s ∷ []) so_far next)
 
   -- a run that is as before has served the same
   same-served : (was now : Ran M O) (entries : List Entry) → IsAsBefore told was now → HasServed stands told h entries was → HasServed stands told h entries now

@@ -1,4 +1,4 @@
-ghost use Rattle.std.specs.Prelude.{◌≡◌, ◌<◌, ◌⊎◌, ◌∷◌, [], length, IfOk, OnOk, OnErr};
+ghost use Rattle.std.specs.Prelude.{◌≡◌, ◌<◌, ◌⊎◌, ◌∷◌, [], IfOk, OnOk, OnErr};
 ghost use Rattle.fx_rules.specs.State.{opening};
 ghost use Rattle.market_run.specs.Running.{HasServed, IsAsBefore, MadeEntry, MayServe, ServesOn, ServesSome};
 
@@ -98,28 +98,23 @@ impl<M: Market, O: Observer> Run<M, O> {
 const AHEAD: usize = 16;
 
 impl<M: ReadsAhead, O: Observer> Run<M, O> {
+    /// Has the market read ahead what these commands will need. Nothing changes. It takes no memory.
+    pub fn read_ahead(&mut self, sent: &[Sent])
+        ensures same { self.new ≡ self.old }
+    {
+        self.market.read_ahead(sent);
+    }
+
     /// Serves commands one after another as `serve_all` does, and has the market read ahead for the next sixteen each time.
     pub fn serve_ahead(&mut self, session: &Session, sent: &[Sent]) -> Result<(), Memory>
         requires may_serve { MayServe M.stands O.told session.now self.old sent.now }
         ensures served { OnOk result (ServesOn M.stands O.told session.now self.old self.new sent.now) }
         ensures begun { OnErr result (ServesSome M.stands O.told session.now self.old self.new sent.now ⊎ O.may_break) }
     {
-        for (at, next) in sent.iter().enumerate() {
-            self.look_ahead(sent, at);
-            self.serve(session, *next)?;
+        for next in sent.chunks(AHEAD) {
+            self.read_ahead(next);
+            self.serve_all(session, next)?;
         }
         Ok(())
-    }
-
-    /// Has the market read ahead for the commands from a place on, where a new run of so many begins there.
-    fn look_ahead(&mut self, sent: &[Sent], at: usize)
-        requires within { at < length sent.now }
-        ensures same { self.new ≡ self.old }
-    {
-        if at % AHEAD == 0 {
-            let (_, rest) = sent.split_at(at);
-            let (next, _) = rest.split_at(rest.len().min(AHEAD));
-            self.market.read_ahead(next);
-        }
     }
 }

@@ -1,5 +1,5 @@
 -- Books, the states that they are of, and what changes one of them or all.
-use Rattle.std.proofs.Common.{ℕ, ◌≡◌, ◌≢◌, ◌+◌, ◌-◌, ◌<◌, ◌≤◌, List, [], ◌∷◌, ◌++◌, length, map, take, drop, get_or, set, length-append, inl, inr, refl, ap, sym, subst, ◌∙◌, arith}
+use Rattle.std.proofs.Common.{ℕ, ◌≡◌, ◌≢◌, ◌+◌, ◌-◌, ◌<◌, ◌≤◌, List, [], ◌∷◌, ◌++◌, length, map, take, drop, get_or, set, length-append, inl, inr, ap, sym, subst, ◌∙◌, arith}
 use Rattle.std.proofs.lemmas.Bool.{cases_eq, cases_lt}
 use Rattle.std.proofs.lemmas.List.{take-append-le, take_all, get_or_append_left, length-map, length-set, get_or-map, get_or-set_same, get_or-set_other, get_or_default}
 use Rattle.std.proofs.Math.Seq.{map-set_same, get_or-append_right}
@@ -8,8 +8,8 @@ use Rattle.fx_rules.specs.Session.{Header, bank_count, pair_count}
 use Rattle.fx_rules.specs.State.{State, orders_in}
 use Rattle.global_book.specs.Book.{Book}
 use Rattle.credit_lines.specs.Table.{Table, Stands}
-use Rattle.pair_host.specs.Standing.{HostState, StandsFor, IsBookOf, AreBooksOf}
-use Rattle.pair_host.specs.inside.Books.{IsBookAt, AreBooks, AreHosted, AreEmpty, HaveOrders, EachBook, host_of}
+use Rattle.pair_host.specs.Standing.{HostState, StandsFor, AreBooksOf}
+use Rattle.pair_host.specs.inside.Books.{IsBookAt, AreBooks, AreHosted, AreEmpty, HaveOrders, host_of}
 
 no_book : Book
 no_book = record { pair = 0; banks = 0; orders = []; room = record { places = []; ladders = record { bids = []; asks = [] } } }
@@ -40,14 +40,6 @@ stands-by h S books table of = record {
 
 -- ---- books that are made before the host is
 
-pub hosted-of : (h : Header) (S : State) (books : List Book) (table : Table) → AreBooksOf h S books → Stands h S table → AreHosted books table
-hosted-of h S books table are credit = record {
-  count = are.count ∙ ap pair_count (sym credit.session);
-  are = λ place none within.
-      let its : IsBookOf h S place (get_or books place none) = are.each place none (omega (arith, are.count, within)) in
-      record { pair = its.made_of; made_for = its.made_for ∙ ap bank_count (sym credit.session) };
-}
-
 pub stands-of : (h : Header) (S : State) (books : List Book) (table : Table) → AreBooksOf h S books → Stands h S table → StandsFor h S (host_of books table)
 stands-of h S books table are credit = stands-by h S books table (record {
   count = are.count;
@@ -56,17 +48,6 @@ stands-of h S books table are credit = stands-by h S books table (record {
 })
 
 -- ---- one book changes
-
-pub are-books-set : (banks : ℕ) (books : List Book) (at : ℕ) (new : Book) → AreBooks banks books → new.pair ≡ at → new.banks ≡ banks → AreBooks banks (set books at new)
-are-books-set banks books at new are pair made_for place none within =
-    let within' : place < length books = omega (arith, length-set books at new, within) in
-    elim (cases_eq place at) [
-      | inl same ↦
-          let here : get_or (set books at new) place none ≡ new =
-          ap (λ p. get_or (set books at new) p none) same ∙ get_or-set_same books at new none (omega (arith, same, within')) in
-          subst (IsBookAt banks place) (sym here) (record { pair = pair ∙ sym same; made_for = made_for })
-      | inr differ ↦ subst (IsBookAt banks place) (sym (get_or-set_other books at place new none differ)) (are place none within')
-    ]
 
 pub have-orders-set : (S T : State) (books : List Book) (at : ℕ) (new : Book) → HaveOrders S books → new.orders ≡ orders_in at T.orders
     → ((other : ℕ) → other ≢ at → orders_in other T.orders ≡ orders_in other S.orders) → HaveOrders T (set books at new)
@@ -88,13 +69,6 @@ pub record HaveTurned (became : Book → Book → Type 0) (was mid : List Book) 
   pub long : length mid ≡ length was
   pub so_far : (i : ℕ) (d : Book) → i < n → became (get_or was i d) (get_or mid i d)
   pub to_come : (i : ℕ) (d : Book) → n ≤ i → get_or mid i d ≡ get_or was i d
-
-pub none-turned : (became : Book → Book → Type 0) (was : List Book) → HaveTurned became was was 0
-none-turned became was = record {
-  long = refl;
-  so_far = λ i d low. absurd (omega (arith, low));
-  to_come = λ i d _. refl;
-}
 
 turned-at : (became : Book → Book → Type 0) (was mid : List Book) (n : ℕ) (item book : Book) → HaveTurned became was mid n → n < length was → became (get_or mid n item) book
     → (d : Book) → became (get_or was n d) (get_or (set mid n book) n d)
@@ -118,16 +92,6 @@ turned-next became was mid n item book turned within on = record {
       ];
   to_come = λ i d past. get_or-set_other mid n i book d (λ same. absurd (omega (arith, same, past))) ∙ turned.to_come i d (omega (arith, past));
 }
-
-pub all-turned : (became : Book → Book → Type 0) (was mid : List Book) (n : ℕ) → HaveTurned became was mid n → length was ≤ n → EachBook became was mid
-all-turned became was mid n turned all = record {
-  count = turned.long;
-  each = λ place none within. turned.so_far place none (omega (arith, all, within));
-}
-
--- the book at the place is still what it was
-pub item-pair : (became : Book → Book → Type 0) (was mid : List Book) (n : ℕ) (item : Book) → HaveTurned became was mid n → n < length was → item ≡ get_or mid n item → item ≡ get_or was n item
-item-pair became was mid n item turned within is = is ∙ turned.to_come n item (omega arith)
 
 -- ---- nothing changes
 

@@ -1,15 +1,5 @@
-ghost use Rattle.std.specs.Prelude.{◌≡◌};
-
-use crate::host::PairHost;
 use fx_rules::{Command, Life, Sent};
 use global_book::PairBook;
-use market_run::ReadsAhead;
-
-impl ReadsAhead for PairHost {
-    fn read_ahead(&mut self, sent: &[Sent]) {
-        PairHost::read_ahead(self, sent);
-    }
-}
 
 /// The lots that rest where the Day orders among these commands would come to rest, of their own bank: a sum modulo 2^64, for the sake of
 /// the reads alone.

@@ -1,9 +1,11 @@
+ghost use Rattle.std.specs.Prelude.{◌≡◌};
 ghost use Rattle.fx_rules.specs.Session.{Header};
 ghost use Rattle.fx_rules.specs.State.{State};
 
 use crate::host::PairHost;
 use fx_amounts::{BankId, Memory, PairId};
-use fx_rules::{Command, Market, Outcome};
+use fx_rules::{Command, Market, Outcome, Sent};
+use market_run::ReadsAhead;
 
 impl Market for PairHost {
     ghost use Rattle.pair_host.specs.Standing.{stands};
@@ -20,5 +22,11 @@ impl Market for PairHost {
 
     fn depth(&self, bank: BankId, pair: PairId) -> Result<Outcome, Memory> {
         PairHost::depth(self, bank, pair)
+    }
+}
+
+impl ReadsAhead for PairHost {
+    fn read_ahead(&mut self, sent: &[Sent]) {
+        PairHost::read_ahead(self, sent);
     }
 }

@@ -1,9 +1,9 @@
-use Rattle.std.proofs.Common.{take}
-use Rattle.market_run.specs.Running.{ServesOn}
+use Rattle.std.specs.Slice.Iter.{chunks_rest}
+use Rattle.market_run.proofs.Parts.{ServesFront}
 use Rattle.market_run.proofs.running.Run.serve_ahead.Given as goal
 
--- those so far were served
-abbrev pub invariant-loop-at : goal.invariant-loop-at
-invariant-loop-at g l = record {
-  served : ServesOn g.M.Market.stands g.O.Observer.told l.session l.initial.self l.self (take l.at l.sent);
+-- those in front of the rest were served
+abbrev pub invariant-loop-next : goal.invariant-loop-next
+invariant-loop-next g l = record {
+  served : ServesFront g.M.Market.stands g.O.Observer.told l.session l.initial.self l.self l.sent (chunks_rest l.next-iterator);
 }
