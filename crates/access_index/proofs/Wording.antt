@@ -4,7 +4,7 @@ use Rattle.std.proofs.Common.{ℕ, ◌≡◌, ◌≢◌, ◌+◌, ◌-◌, ◌*�
 use Rattle.std.proofs.Math.ListN.{set}
 use Rattle.std.proofs.lemmas.Bool.{cases_eq, cases_lt, ne_eqb}
 use Rattle.std.proofs.lemmas.Option.{none-some}
-use Rattle.std.proofs.lemmas.List.{get_or-map, get_or-replicate, get_or-set_other, get_or-set_same}
+use Rattle.std.proofs.lemmas.List.{get_or-map, get_or-replicate, get_or-set_other, get_or-set_same, length-replicate, length-set}
 use Rattle.access_index.specs.declared.words.Head.{Head}
 use Rattle.access_index.specs.Heads.{IsBestWithin, IsHead, IsUpTo, head_word, word_of}
 use Rattle.access_index.specs.inside.Words.{AreWords, IsLeastOf, head_of}
@@ -27,6 +27,8 @@ least_more words from k least word new here lesser was = record {
 
 pub none_yet : AreWords (replicate 64 (2 ^ 64 - 1)) (replicate 8 (2 ^ 64 - 1))
 none_yet = record {
+  count = length-replicate 64 (2 ^ 64 - 1);
+  group_count = length-replicate 8 (2 ^ 64 - 1);
   own = λ bank small some. absurd (some (get_or-replicate 64 bank (2 ^ 64 - 1) 0 small));
   most = λ bank small. omega (arith, get_or-replicate 64 bank (2 ^ 64 - 1) 0 small);
   least = λ group few. record {
@@ -129,25 +131,27 @@ least_kept words at word from least apart was = record {
 }
 
 -- a word is written at its bank, and the least of its group beside it
-pub words_set : (words groups : List ℕ) (at bank word group least : ℕ) → length words ≡ 64 → length groups ≡ 8 → at ≡ bank → bank < 64 → AreWords words groups → (word ≢ 2 ^ 64 - 1 → word % 64 ≡ bank) → word < 2 ^ 64
+pub words_set : (words groups : List ℕ) (at bank word group least : ℕ) → at ≡ bank → bank < 64 → AreWords words groups → (word ≢ 2 ^ 64 - 1 → word % 64 ≡ bank) → word < 2 ^ 64
     → group ≡ at / 8 → IsLeastOf (set words at word) (group * 8) 8 least → AreWords (set words at word) (set groups group least)
-words_set words groups at bank word group least long eight same few are own fits group_is is = record {
+words_set words groups at bank word group least same few are own fits group_is is = record {
+  count = length-set words at word ∙ are.count;
+  group_count = length-set groups group least ∙ are.group_count;
   own = λ other small some. elim (cases_eq other at) [
     | inl here ↦
-        let is : get_or (set words at word) other 0 ≡ word = ap (λ (k : ℕ). get_or (set words at word) k 0) here ∙ get_or-set_same words at word 0 (omega (arith, here, small, long)) in
+        let is : get_or (set words at word) other 0 ≡ word = ap (λ (k : ℕ). get_or (set words at word) k 0) here ∙ get_or-set_same words at word 0 (omega (arith, here, small, are.count)) in
         ap (λ (w : ℕ). w % 64) is ∙ own (λ none. some (is ∙ none)) ∙ sym same ∙ sym here
     | inr differ ↦
         let is : get_or (set words at word) other 0 ≡ get_or words other 0 = get_or-set_other words at other word 0 differ in
         ap (λ (w : ℕ). w % 64) is ∙ are.own other small (λ none. some (is ∙ none))
   ];
   most = λ other small. elim (cases_eq other at) [
-    | inl here ↦ omega (arith, fits, ap (λ (k : ℕ). get_or (set words at word) k 0) here, get_or-set_same words at word 0 (omega (arith, here, small, long)))
+    | inl here ↦ omega (arith, fits, ap (λ (k : ℕ). get_or (set words at word) k 0) here, get_or-set_same words at word 0 (omega (arith, here, small, are.count)))
     | inr differ ↦ omega (arith, get_or-set_other words at other word 0 differ, are.most other small)
   ];
   least = λ other small. elim (cases_eq other group) [
     | inl here ↦
         subst (λ (g : ℕ). IsLeastOf (set words at word) (g * 8) 8 (get_or (set groups group least) g 0)) (sym here)
-        (subst (IsLeastOf (set words at word) (group * 8) 8) (sym (get_or-set_same groups group least 0 (omega (arith, here, small, eight)))) is)
+        (subst (IsLeastOf (set words at word) (group * 8) 8) (sym (get_or-set_same groups group least 0 (omega (arith, here, small, are.group_count)))) is)
     | inr differ ↦
         subst (IsLeastOf (set words at word) (other * 8) 8) (sym (get_or-set_other groups group other least 0 differ))
         (least_kept words at word (other * 8) (get_or groups other 0) (λ k below here. omega (arith, differ, group_is, below, here)) (are.least other small))

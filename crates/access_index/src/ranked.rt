@@ -48,8 +48,8 @@ impl RankedOwners {
         })
     }
 
-    /// The ladder of a bank; `None` where it has none.
-    fn ladder(&self, bank: BankId) -> Option<&Ladder>
+    /// The levels of a bank, by rank; `None` where it never had an order.
+    pub fn ladder(&self, bank: BankId) -> Option<&Ladder>
         ensures { option_copied result ≡ lookup (nat_eq bank) self.now }
     {
         let number = self.numbers[bank.index()]?;

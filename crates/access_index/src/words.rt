@@ -25,6 +25,12 @@ const GROUP: usize = 8;
 /// and a bank's new word at the eight of its group, both with no branch.
 #[derive(Debug, Drop)]
 pub struct HeadWords {
+    tables: Tables,
+}
+
+/// The word of each bank and the least word of each group, as one piece, so that they are copied in one move.
+#[derive(Clone, Copy, Debug)]
+struct Tables {
     words: [u64; BankId::COUNT],
     groups: [u64; GROUP],
 }
@@ -36,9 +42,9 @@ impl Model for HeadWords {
 
     ghost Value = { List (Option Head) };
 
-    ghost view = { λ h. map head_of h.words };
+    ghost view = { λ h. map head_of h.tables.words };
 
-    ghost invariant = { λ h. AreWords h.words h.groups };
+    ghost invariant = { λ h. AreWords h.tables.words h.tables.groups };
 }
 
 impl HeadWords {
@@ -47,8 +53,10 @@ impl HeadWords {
         ensures { result ≡ replicate 64 None }
     {
         HeadWords {
-            words: [NO_WORD; BankId::COUNT],
-            groups: [NO_WORD; GROUP],
+            tables: Tables {
+                words: [NO_WORD; BankId::COUNT],
+                groups: [NO_WORD; GROUP],
+            },
         }
     }
 
@@ -59,12 +67,12 @@ impl HeadWords {
         ensures { self.new ≡ slice_set self.old bank head }
     {
         let at = bank.index();
-        self.words[at] = match head {
+        self.tables.words[at] = match head {
             Some(head) => word_of(head, bank),
             None => NO_WORD,
         };
         let group = at / GROUP;
-        self.groups[group] = least_of(&self.words, group * GROUP);
+        self.tables.groups[group] = least_of(&self.tables.words, group * GROUP);
     }
 
     /// Another order of a bank comes, behind all others at its rank.
@@ -86,7 +94,7 @@ impl HeadWords {
         ensures head { result ≡ slice_index_or self.now bank None }
         ensures count { length self.now ≡ 64 }
     {
-        let word = self.words[bank.index()];
+        let word = self.tables.words[bank.index()];
         if word == NO_WORD {
             return None;
         }
@@ -98,7 +106,7 @@ impl HeadWords {
         ensures words { (bank : ℕ) → bank < 64 → slice_index result.now bank ≡ head_word bank (slice_index_or self.now bank None) }
         ensures count { length result.now ≡ 64 }
     {
-        &self.words
+        &self.tables.words
     }
 
     /// The same heads once more.
@@ -107,8 +115,7 @@ impl HeadWords {
         ensures count { length result ≡ 64 }
     {
         HeadWords {
-            words: self.words,
-            groups: self.groups,
+            tables: self.tables,
         }
     }
 
@@ -119,7 +126,7 @@ impl HeadWords {
         ensures none { result ≡ None → (bank : ℕ) → bank < 64 → IfSome (slice_index_or self.now bank None) (λ head. most < head.rank) }
         ensures count { length self.now ≡ 64 }
     {
-        let least = least_of(&self.groups, 0);
+        let least = least_of(&self.tables.groups, 0);
         if head_in(least).rank > most {
             return None;
         }

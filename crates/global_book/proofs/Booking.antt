@@ -231,10 +231,6 @@ first-from orders bank after place it =
 pub and-some : (slot : Option Resting) (order : Resting) (P : Resting → Type 0) → slot ≡ Some order → IsSomeAnd slot P → P order
 and-some slot order P is holds = subst (λ s. IsSomeAnd s P) is holds
 
-pub live-and : (slot : Option Resting) (P : Resting → Type 0) → IsSomeAnd slot P → IsSome slot
-live-and None P none = absurd none
-live-and (Some order) P holds = refl
-
 pub some-if : (slot : Option Resting) (order : Resting) (P : Resting → Type 0) → slot ≡ Some order → P order → IfSome slot P
 some-if slot order P is holds = subst (λ s. IfSome s P) (sym is) holds
 

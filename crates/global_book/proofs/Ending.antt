@@ -8,14 +8,12 @@ use Rattle.fx_amounts.specs.Side.{opposite}
 use Rattle.fx_amounts.specs.declared.side.Side.{Side}
 use Rattle.fx_amounts.specs.declared.side.Side.TheVariants.{Buy, Sell}
 use Rattle.fx_rules.specs.declared.orders.Resting.{Resting}
-use Rattle.fx_rules.specs.Lists.{total}
 use Rattle.fx_rules.specs.Sweep.{is_opposite}
-use Rattle.fx_rules.proofs.ListLemmas.{filter_cons_false, filter_cons_true}
 use Rattle.order_store.specs.Linked.{HaveLots, IsFirst, IsFirstFrom, IsInLevel, IsLast, IsLastBelow}
 use Rattle.price_levels.specs.Ticks.{first_left, last_left, last_of_level, no_level, with_order, without_order}
 use Rattle.price_levels.specs.declared.level.Level.{Level}
-use Rattle.global_book.specs.Book.{is_level, level_lots}
-use Rattle.global_book.specs.inside.Ends.{IsOfLevel, TellsOrders, first_of_level, orders_of, slot_lots}
+use Rattle.global_book.specs.Book.{is_level}
+use Rattle.global_book.specs.inside.Ends.{IsOfLevel, TellsOrders, first_of_level, slot_lots}
 
 -- The first and the last order of a level, with one more or one less.
 module _ (P P' : ℕ → Type 0) where
@@ -452,24 +450,3 @@ last-asked slots order end (Some at) last = record {
   is = in-level slots order at last.is;
   last = λ place above below in'. last.last place above below (of-level slots order place in');
 }
-
--- The lots of a level are those of the book's list.
-pub lots-listed : (bank : ℕ) (side : Side) (price : ℕ) (slots : List (Option Resting)) → sum_by (slot_lots bank side price) slots ≡ level_lots (opposite side) bank price (orders_of slots)
-lots-listed bank side price [] = refl
-lots-listed bank side price (None ∷ slots) =
-    let sums = sum_by-append (slot_lots bank side price) (None ∷ []) slots in
-    omega (arith, sums, lots-listed bank side price slots)
-lots-listed bank side price (Some order ∷ slots) =
-    let sums = sum_by-append (slot_lots bank side price) (Some order ∷ []) slots in
-    let single : sum_by (slot_lots bank side price) (Some order ∷ []) ≡ 0 + slot_lots bank side price (Some order) = refl in
-    let rest = lots-listed bank side price slots in
-    elim (cases_Bool (is_level (opposite side) bank price order)) [
-      | inl at ↦
-          let listed : level_lots (opposite side) bank price (order ∷ orders_of slots) ≡ order.left + level_lots (opposite side) bank price (orders_of slots) =
-          ap (total (λ o. o.left)) (filter_cons_true (is_level (opposite side) bank price) order (orders_of slots) at) in
-          omega (arith, sums, single, lots_at bank side price order at, rest, listed)
-      | inr off ↦
-          let listed : level_lots (opposite side) bank price (order ∷ orders_of slots) ≡ level_lots (opposite side) bank price (orders_of slots) =
-          ap (total (λ o. o.left)) (filter_cons_false (is_level (opposite side) bank price) order (orders_of slots) off) in
-          omega (arith, sums, single, lots_off bank side price order off, rest, listed)
-    ]

@@ -37,7 +37,7 @@ cursor-from orders bank side before past order there =
 
 module _ (book : Book) (bank : ℕ) (side : Side) (last : Option Resting) (best : Resting) (valid : IsBook book) (is_best : IsBest (opposite side) (owned_behind side bank (2 ^ 64) last book.orders) best) where
   -- behind the best order are the others that are behind the last one
-  pub next-same : (o : Resting) → Among o book.orders → o.arrival ≢ best.arrival → is_owned_behind (opposite side) bank (2 ^ 64) (Some best) o ≡ is_owned_behind (opposite side) bank (2 ^ 64) last o
+  next-same : (o : Resting) → Among o book.orders → o.arrival ≢ best.arrival → is_owned_behind (opposite side) bank (2 ^ 64) (Some best) o ≡ is_owned_behind (opposite side) bank (2 ^ 64) last o
   next-same o there differ =
       let taker : Side = opposite side in
       let timely : Resting → Bool = λ o. is_opposite taker o.side && is_of bank o && ltb o.arrival (2 ^ 64) in

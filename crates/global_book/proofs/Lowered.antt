@@ -1,5 +1,5 @@
 -- An order lowered in a book, in the words of what its store, its rows and its levels do.
-use Rattle.std.proofs.Common.{ℕ, ◌≡◌, ◌-◌, ◌≤◌, ◌<◌, Bool, true, false, not, cond, ltb, List, [], ◌∷◌, inl, inr, refl, ap, sym, subst, ◌∙◌, map, Some, None}
+use Rattle.std.proofs.Common.{ℕ, ◌≡◌, ◌-◌, ◌≤◌, ◌<◌, Bool, true, false, not, cond, ltb, List, [], ◌∷◌, inl, inr, refl, ap, sym, subst, ◌∙◌, map, Some}
 use Rattle.std.proofs.lemmas.Bool.{cases_Bool, cond-true, cond-false, false_from_ne_true, not_from_false, not_from_true, lt-ltb, le-ltb}
 use Rattle.std.specs.List.{filter}
 use Rattle.fx_rules.specs.declared.orders.ActiveOrder.{ActiveOrder}
@@ -120,10 +120,6 @@ removed-lowered bank number lots (o ∷ orders) rest found rising is gone =
 pub first-some : (orders : List Resting) (found : Resting) → first orders ≡ Some found → (rest : List Resting) × (orders ≡ found ∷ rest)
 first-some [] found is = absurd (cc)
 first-some (o ∷ orders) found is = (orders, ap (λ (p : Resting). p ∷ orders) (let same : o ≡ found = cc in same))
-
-pub first-none : (orders : List Resting) → first orders ≡ None → orders ≡ []
-first-none [] is = refl
-first-none (o ∷ orders) is = absurd (cc)
 
 -- none is found
 pub none-lowered : (bank number lots : ℕ) (orders : List Resting) → filter (λ (o : Resting). is_order bank number o) orders ≡ [] → lowered_in bank number lots orders ≡ orders

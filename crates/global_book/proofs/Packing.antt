@@ -23,10 +23,6 @@ take-length slots zero within = ap (λ (ss : List (Option Resting)). length ss) 
 take-length [] (suc place) within = absurd (omega arith)
 take-length (slot ∷ slots) (suc place) within = ap suc (take-length slots place (omega arith))
 
-pub take-whole : (slots : List (Option Resting)) → take (length slots) slots ≡ slots
-take-whole [] = refl
-take-whole (slot ∷ slots) = ap (λ (ss : List (Option Resting)). slot ∷ ss) (take-whole slots)
-
 take-at : (slots : List (Option Resting)) (most place : ℕ) (order : Resting) → get_or (take most slots) place None ≡ Some order → get_or slots place None ≡ Some order
 take-at slots zero place order is = let it : None ≡ Some order = sym (ap (λ (ss : List (Option Resting)). get_or ss place None) (take-none slots)) ∙ is in cc
 take-at [] (suc most) place order is = let it : None ≡ Some order = is in cc

@@ -65,13 +65,13 @@ pub record IsOwn (bank : ℕ) (side : Side) (order : Resting) : Type 0 where
   pub bank_is : order.bank ≡ bank
   pub side_is : side ≡ order.side
 
-own-parts : (bank : ℕ) (side : Side) (order : Resting) (more : Bool) → (is_of bank order && is_opposite (opposite side) order.side && more) ≡ true → IsOwn bank side order × (more ≡ true)
+pub own-parts : (bank : ℕ) (side : Side) (order : Resting) (more : Bool) → (is_of bank order && is_opposite (opposite side) order.side && more) ≡ true → IsOwn bank side order × (more ≡ true)
 own-parts bank side order more is =
     let outer = and_parts (is_of bank order && is_opposite (opposite side) order.side) more is in
     let inner = and_parts (is_of bank order) (is_opposite (opposite side) order.side) outer.0 in
     (record { bank_is = eqb-true order.bank bank inner.0; side_is = same_side side order.side inner.1 }, outer.1)
 
-own-from : (bank : ℕ) (side : Side) (order : Resting) (more : Bool) → IsOwn bank side order → more ≡ true → (is_of bank order && is_opposite (opposite side) order.side && more) ≡ true
+pub own-from : (bank : ℕ) (side : Side) (order : Resting) (more : Bool) → IsOwn bank side order → more ≡ true → (is_of bank order && is_opposite (opposite side) order.side && more) ≡ true
 own-from bank side order more own is =
     and_from (is_of bank order && is_opposite (opposite side) order.side) more
     (and_from (is_of bank order) (is_opposite (opposite side) order.side) (eq-eqb order.bank bank own.bank_is) (subst (λ s. is_opposite (opposite side) s ≡ true) own.side_is (own_side side))) is
@@ -80,7 +80,7 @@ level-own : (bank : ℕ) (side : Side) (order : Resting) → IsOwn bank side ord
 level-own bank side order own = own-from bank side order (eqb order.price order.price) own (eq-eqb order.price order.price refl)
 
 -- Places and arrivals.
-arrival-upto : (slots : List (Option Resting)) (place other : ℕ) (order one : Resting) → AreRising (λ at. get_or slots at None) → get_or slots place None ≡ Some order → get_or slots other None ≡ Some one → place ≤ other
+pub arrival-upto : (slots : List (Option Resting)) (place other : ℕ) (order one : Resting) → AreRising (λ at. get_or slots at None) → get_or slots place None ≡ Some order → get_or slots other None ≡ Some one → place ≤ other
     → order.arrival ≤ one.arrival
 arrival-upto slots place other order one rising is is' upto =
     elim (cases_order place other) [
@@ -91,7 +91,7 @@ arrival-upto slots place other order one rising is is' upto =
       ]
     ]
 
-place-after : (slots : List (Option Resting)) (place other : ℕ) (order one : Resting) → AreRising (λ at. get_or slots at None) → get_or slots place None ≡ Some order → get_or slots other None ≡ Some one → order.arrival < one.arrival
+pub place-after : (slots : List (Option Resting)) (place other : ℕ) (order one : Resting) → AreRising (λ at. get_or slots at None) → get_or slots place None ≡ Some order → get_or slots other None ≡ Some one → order.arrival < one.arrival
     → place < other
 place-after slots place other order one rising is is' less =
     elim (cases_lt place other) [
@@ -103,7 +103,7 @@ place-after slots place other order one rising is is' less =
 module _ (slots : List (Option Resting)) (bank : ℕ) (side : Side) (levels : ℕ → ℕ → Level) (told : AreTold slots side levels) (priced : (place : ℕ) (order : Resting) → get_or slots place None ≡ Some order → IsPriced order)
     (rising : AreRising (λ at. get_or slots at None)) (have : HaveLots (λ at. get_or slots at None)) where
   -- a rank with an order has lots
-  has-lots : (place : ℕ) (order : Resting) → get_or slots place None ≡ Some order → IsOwn bank side order → (levels bank (rank_of side order.price)).lots ≢ 0
+  pub has-lots : (place : ℕ) (order : Resting) → get_or slots place None ≡ Some order → IsOwn bank side order → (levels bank (rank_of side order.price)).lots ≢ 0
   has-lots place order is own none =
       none_without bank side order.price slots have (sym (told.tells bank order.price (priced place order is).price).lots ∙ none) place (record { order = order; is = is; at = level-own bank side order own })
 

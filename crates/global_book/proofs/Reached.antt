@@ -100,9 +100,6 @@ module _ (book : Book) (side : Side) (reach : List ℕ) (before : ℕ) (past : O
   abbrev IsYet : ℕ → Option Resting → Type 0
   IsYet = IsBestYet book.orders side reach before past owners
 
-  pub yet-none : IsYet 0 None
-  yet-none = record { there = tt; first = λ other there at early is. absurd (omega (arith, early)) }
-
   -- a bank that is not reached
   pub yet-passed : (count bank : ℕ) (best : Option Resting) → IsYet count best → bank ≡ get_or owners count bank → count < length owners → get_or reach bank 0 ≡ 0 → IsYet (count + 1) best
   yet-passed count bank best yet bank_is within none = record {

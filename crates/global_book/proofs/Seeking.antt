@@ -1,6 +1,6 @@
 -- A search along a bank's orders of a side for the best one behind an order of any bank.
 use Rattle.std.proofs.Common.{ℕ, ◌≡◌, ◌≢◌, ◌≤◌, ◌<◌, true, false, Bool, ◌&&◌, leb, ltb, List, [], ◌∷◌, Option, Some, None, length, get_or, inl, inr, refl, ap, sym, subst, ◌∙◌, arith}
-use Rattle.std.proofs.lemmas.Bool.{and_from, and_parts, and_right, both_ways, cases_Bool, cases_order, eq-eqb, eqb-true, false_from_ne_true, le-leb, lt-ltb, ltb-true}
+use Rattle.std.proofs.lemmas.Bool.{and_from, and_parts, and_right, both_ways, cases_Bool, cases_order, eq-eqb, eqb-true, false_from_ne_true, le-leb, ltb-true}
 use Rattle.std.specs.List.{filter}
 use Rattle.fx_amounts.specs.Side.{opposite}
 use Rattle.fx_amounts.specs.declared.side.Side.{Side}
@@ -71,21 +71,6 @@ ahead-begun slots bank side before past found best = record {
           | inr later ↦ omega (arith, ap (rank_of side) later.0)
         ]
 
--- It comes to an order that is sought, which is the best of these.
-pub ahead-found : (slots : List (Option Resting)) (bank : ℕ) (side : Side) (before : ℕ) (past : Option Resting) (next : Option ℕ) (place : ℕ) (order : Resting) → SeeksAhead slots bank side before past next → next ≡ Some place
-    → get_or slots place None ≡ Some order → is_behind (opposite side) past order ≡ true → order.arrival < before → IsBestOf slots (is_owned_behind (opposite side) bank before past) side (Some place)
-ahead-found slots bank side before past next place order seeks is at behind early =
-    let here : IsBestAt slots seeks.rest side place = subst (IsBestOf slots seeks.rest side) is seeks.best in
-    let same : here.order ≡ order = order_is slots place here.order order here.is at in
-    let own = and_parts (is_of bank order) (is_opposite (opposite side) order.side) (seeks.own order (subst (λ o. seeks.rest o ≡ true) same here.passes_it)) in
-    record {
-      order = order;
-      is = at;
-      passes_it = and_from (is_opposite (opposite side) order.side && is_of bank order && ltb order.arrival before) (is_behind (opposite side) past order)
-          (and_from (is_opposite (opposite side) order.side && is_of bank order) (ltb order.arrival before) (and_from (is_opposite (opposite side) order.side) (is_of bank order) own.1 own.0) (lt-ltb order.arrival before early)) behind;
-      best = λ other one is' passes. subst (λ o. is_preferred (opposite side) one o ≡ false) same (here.best other one is' (seeks.sought other one is' passes));
-    }
-
 -- It passes an order that is not.
 pub ahead-passed : (slots : List (Option Resting)) (bank : ℕ) (side : Side) (before : ℕ) (past : Option Resting) (next next' : Option ℕ) (place : ℕ) (order : Resting) → AreRising (λ at. get_or slots at None)
     → SeeksAhead slots bank side before past next → next ≡ Some place → get_or slots place None ≡ Some order → is_owned_behind (opposite side) bank before past order ≡ false
@@ -117,13 +102,6 @@ ahead-passed slots bank side before past next next' place order rising seeks is 
             | inr later ↦ omega (arith, equal, rising place other order o at is' later)
           ]
         ]
-
--- It comes to an end.
-pub ahead-ended : (slots : List (Option Resting)) (bank : ℕ) (side : Side) (before : ℕ) (past : Option Resting) (next : Option ℕ) → SeeksAhead slots bank side before past next → next ≡ None
-    → IsBestOf slots (is_owned_behind (opposite side) bank before past) side None
-ahead-ended slots bank side before past next seeks is =
-    let none : IsBestOf slots seeks.rest side None = subst (IsBestOf slots seeks.rest side) is seeks.best in
-    λ place order at. false_from_ne_true (is_owned_behind (opposite side) bank before past order) (λ on. both_ways (seeks.rest order) (none place order at) (seeks.sought place order at on))
 
 -- Fewer orders are to come.
 pub fewer : (p q : Resting → Bool) (xs : List Resting) (x : Resting) → Among x xs → p x ≡ false → q x ≡ true → ((y : Resting) → p y ≡ true → q y ≡ true) → length (filter p xs) < length (filter q xs)

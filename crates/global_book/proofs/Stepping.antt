@@ -5,6 +5,7 @@ use Rattle.std.proofs.lemmas.List.Sums.{sum_by-cons}
 use Rattle.fx_amounts.specs.Price.{IsPrice}
 use Rattle.fx_amounts.specs.Side.{opposite}
 use Rattle.fx_amounts.specs.declared.side.Side.{Side}
+use Rattle.fx_amounts.specs.declared.side.Side.TheVariants.{Buy, Sell}
 use Rattle.fx_rules.specs.declared.orders.Resting.{Resting}
 use Rattle.fx_rules.specs.Lists.{total}
 use Rattle.fx_rules.proofs.ListLemmas.{filter_cons_false, filter_cons_true}
@@ -22,6 +23,11 @@ use Rattle.global_book.proofs.Preferring.{first-found, none-found}
 use Rattle.global_book.proofs.Pricing.{price-found, price-none}
 use Rattle.global_book.proofs.Telling.{rank-back}
 use Rattle.global_book.proofs.Words.{rank-is}
+
+-- a rank of a price is in range
+pub rank-low : (side : Side) (rank : ℕ) → IsPrice (rank_of side rank) → rank ≤ 10 ^ 9
+rank-low Buy rank valid = omega (arith, valid.0)
+rank-low Sell rank valid = valid.1
 
 -- the lots of a level are those of its orders
 level-summed : (bank : ℕ) (side : Side) (price : ℕ) (slots : List (Option Resting)) → sum_by (slot_lots bank side price) slots ≡ level_lots (opposite side) bank price (orders_of slots)

@@ -5,4 +5,5 @@ pub mod Behind
 pub mod Sought
 pub mod Words
 pub mod Heads
+pub mod Ladders
 pub mod inside

@@ -242,7 +242,7 @@ impl PairBook {
         ensures best { IfSome result (IsBest (opposite side) (owned_behind side bank (2 ^ 64) None self.now.orders)) }
         ensures valid { IsBook self.now }
     {
-        let place = self.linked.best_behind(bank, side, None, 0)?;
+        let place = self.linked.best_behind(bank, side, None)?;
         Some(self.linked.order(place))
     }
 
@@ -278,29 +278,8 @@ impl PairBook {
         ensures step { steps.new ≡ steps.old + 1 }
         ensures valid { IsBook self.now }
     {
-        let mut near = 0;
-        self.next_near(bank, side, past, &mut near, steps)
-    }
-
-    /// The same, where the order `past` is looked for first at the place `near`, which then is that of the order that is found. So a walk
-    /// along a bank's orders searches for none.
-    pub(crate) fn next_near<L: Ledger>(
-        &self,
-        bank: BankId,
-        side: Side,
-        past: Option<&Resting>,
-        near: &mut u32,
-        steps: &mut Steps<L>,
-    ) -> Option<Resting>
-        requires past { IfSome (option_copied past) (IsCursor self.now.orders bank side) }
-        ensures none { (result ≡ None) ↔ (owned_behind side bank (2 ^ 64) (option_copied past.entry) self.now.orders ≡ []) }
-        ensures best { IfSome result (λ found. IsBest (opposite side) (owned_behind side bank (2 ^ 64) (option_copied past.entry) self.now.orders) found) }
-        ensures step { steps.new ≡ steps.old + 1 }
-        ensures valid { IsBook self.now }
-    {
         steps.tick();
-        let place = self.linked.best_behind(bank, side, past, *near)?;
-        *near = place;
+        let place = self.linked.best_behind(bank, side, past)?;
         Some(self.linked.order(place))
     }
 

@@ -3,6 +3,7 @@
 
 mod ahead;
 mod book;
+mod gathering;
 mod linked;
 mod owner_list;
 mod side_heads;

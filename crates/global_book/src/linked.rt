@@ -1,13 +1,14 @@
-ghost use Rattle.std.specs.Prelude.{ℕ, ◌≡◌, ◌≢◌, ◌+◌, ◌-◌, ◌/◌, ◌≤◌, ◌<◌, ◌^◌, ◌++◌, ◌∷◌, ◌&&◌, [], None, Some, true, filter, is_some, length, min, nat_lt, slice_index_or, slice_set, IfOk, IfSome, IsSome, IsSomeAnd, OnErr, OnOk};
+ghost use Rattle.std.specs.Prelude.{ℕ, ◌≡◌, ◌≢◌, ◌+◌, ◌-◌, ◌/◌, ◌≤◌, ◌<◌, ◌^◌, ◌++◌, ◌∷◌, ◌&&◌, [], None, Some, true, filter, is_some, length, min, nat_eq, nat_lt, option_map, slice_index_or, slice_set, IfOk, IfSome, IsSome, IsSomeAnd, OnErr, OnOk};
 ghost use Rattle.fx_amounts.specs.declared.side.Side.{Side as OneSide};
 ghost use Rattle.order_store.specs.Orders.{IsOf, KeepsRoom, Lacks, TakesRoom, kept, order_at, room_for};
-ghost use Rattle.order_store.specs.Linked.{AreListed, HasFrom, IsFirstFrom};
+ghost use Rattle.order_store.specs.Linked.{AreListed, HasFrom, IsFirstFrom, IsInLevel};
 ghost use Rattle.price_levels.specs.Rungs.{IsNextRank};
 ghost use Rattle.price_levels.specs.Ticks.{with_order};
 ghost use Rattle.fx_amounts.specs.Side.{opposite};
 ghost use Rattle.access_index.specs.Heads.{IsHead};
 ghost use Rattle.access_index.specs.Ranked.{AreHeadWords, IsHeadOf, bank_holds, bank_level, with_bank_level};
 ghost use Rattle.global_book.specs.Room.{ladders_of, rank_of};
+ghost use Rattle.std.specs.Map.{lookup};
 ghost use Rattle.std.specs.Option.{option_copied};
 ghost use Rattle.global_book.specs.Behind.{IsCursor};
 ghost use Rattle.global_book.specs.inside.Linked.{AreLinked, IsPriced, orders_in};
@@ -16,11 +17,11 @@ ghost use Rattle.global_book.specs.inside.Bests.{IsBestOf, is_own_behind, is_own
 
 use crate::owner_list::OwnerList;
 use crate::side_ladders::{SideLadders, rank_of};
-use access_index::HeadWords;
+use access_index::{Head, HeadWords};
 use fx_amounts::{BankId, Lots, Memory, Price, Side};
 use fx_rules::Resting;
 use order_store::OrderList;
-use price_levels::Level;
+use price_levels::{Ladder, Level};
 use std::alloc::Global;
 use std::marker::Model;
 
@@ -245,6 +246,15 @@ impl LinkedOrders {
         self.ladders.level_and_next(side, bank, rank)
     }
 
+    /// The levels of a bank and a side, by rank; `None` where they never had an order.
+    pub(crate) fn ladder(&self, bank: BankId, side: Side) -> Option<&Ladder>
+        ensures ladder { option_copied result ≡ lookup (nat_eq bank) (ladders_of self.now.ladders side) }
+        ensures linked { AreLinked self.now.orders.slots self.now.ladders }
+        ensures valid { AreListed self.now.orders }
+    {
+        self.ladders.ladder(side, bank)
+    }
+
     /// For each bank the word of its best order of a side.
     pub(crate) fn words(&self, side: Side) -> &[u64; BankId::COUNT]
         ensures words { AreHeadWords (bank_level (ladders_of self.now.ladders side)) result.now }
@@ -280,8 +290,29 @@ impl LinkedOrders {
         if from == 0 && bank.index() < BankId::COUNT {
             return self.first_of(bank, side);
         }
+        let head = self.head_from(bank, side, from)?;
+        Some(head.place)
+    }
+
+    /// The rank and the place of the best order of a bank and a side, of those from a rank on; `None` where there is none.
+    pub(crate) fn head_from(&self, bank: BankId, side: Side, from: u32) -> Option<Head>
+        ensures best { IsBestOf self.now.orders.slots (is_own_from bank side from) side (option_map (λ head. head.place) result) }
+        ensures rank { IfSome result (λ head. IfSome (order_at self.now.orders head.place) (λ order. rank_of side order.price ≡ head.rank)) }
+        ensures linked { AreLinked self.now.orders.slots self.now.ladders }
+        ensures valid { AreListed self.now.orders }
+    {
         let rank = self.ladders.next(side, bank, from)?;
-        Some(self.ladders.level(side, bank, rank).first)
+        let place = self.ladders.level(side, bank, rank).first;
+        Some(Head { rank, place })
+    }
+
+    /// The place of the order behind that at a place, in its level; `None` where it is the last.
+    pub(crate) fn behind_in_level(&self, place: u32) -> Option<u32>
+        requires live { IsSome (order_at self.now.orders place) }
+        ensures behind { IfSome (order_at self.now.orders place) (λ order. IsFirstFrom (IsInLevel (order_at self.now.orders) order) (place + 1) result) }
+        ensures valid { AreListed self.now.orders }
+    {
+        self.list.behind(place)
     }
 
     /// The place of the best order of a bank and a side, of those behind the one at a place; `None` where there is none.
@@ -300,20 +331,19 @@ impl LinkedOrders {
     }
 
     /// The place of the best order of a bank and a side, of those behind an order of theirs that rests, where there is such; `None` where
-    /// there is none. That order is looked for first at the place `near`.
+    /// there is none.
     pub(crate) fn best_behind(
         &self,
         bank: BankId,
         side: Side,
         past: Option<&Resting>,
-        near: u32,
     ) -> Option<u32>
         requires past { IfSome (option_copied past) (IsCursor (orders_in self.now) bank side) }
         ensures { IsBestOf self.now.orders.slots (is_past bank side (option_copied past.entry)) side result }
     {
         match past {
             Some(last) => {
-                let place = self.list.find_near(last.bank, last.number, near).unwrap();
+                let place = self.list.find(last.bank, last.number).unwrap();
                 self.behind(place)
             }
             None => self.first_from(bank, side, 0),

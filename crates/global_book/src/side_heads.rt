@@ -17,12 +17,12 @@ use std::marker::Model;
 use std::sync::ledger::Ledger;
 
 /// A walk along the orders of a side in a book, from the best one on. It comes to each bank's orders in turn: a bank's head is the one that
-/// comes next.
+/// comes next. The side stands last, since a gap of the layout before the words would make a new walk copy them twice.
 #[derive(Drop)]
 pub struct SideHeads<'a> {
     linked: &'a LinkedOrders,
-    side: Side,
     words: HeadWords,
+    side: Side,
 }
 
 impl<'a> Model for SideHeads<'a> {
@@ -55,8 +55,8 @@ impl<'a> SideHeads<'a> {
     {
         SideHeads {
             linked,
-            side,
             words: linked.heads(side).copied(),
+            side,
         }
     }
 

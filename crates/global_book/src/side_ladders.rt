@@ -1,4 +1,6 @@
-ghost use Rattle.std.specs.Prelude.{ℕ, ◌≡◌, ◌≢◌, ◌+◌, ◌-◌, ◌≤◌, ◌<◌, ◌^◌, ◌↔◌, None, false, slice_index_or, true, IfOk, IfSome, IsSome, OnOk};
+ghost use Rattle.std.specs.Prelude.{ℕ, ◌≡◌, ◌≢◌, ◌+◌, ◌-◌, ◌≤◌, ◌<◌, ◌^◌, ◌↔◌, None, false, nat_eq, slice_index_or, true, IfOk, IfSome, IsSome, OnOk};
+ghost use Rattle.std.specs.Map.{lookup};
+ghost use Rattle.std.specs.Option.{option_copied};
 ghost use Rattle.fx_amounts.specs.Price.{IsPrice};
 ghost use Rattle.fx_amounts.specs.Side.{opposite};
 ghost use Rattle.fx_amounts.specs.declared.side.Side.{Side as OneSide};
@@ -10,7 +12,7 @@ ghost use Rattle.global_book.specs.Room.{ladders_of, rank_of};
 
 use access_index::{HeadWords, RankedOwners};
 use fx_amounts::{BankId, Lots, Memory, Price, Side};
-use price_levels::Level;
+use price_levels::{Ladder, Level};
 use std::alloc::Global;
 use std::marker::Model;
 
@@ -73,6 +75,13 @@ impl SideLadders {
         ensures none { result.1 ≡ None → (other : ℕ) → rank < other → (bank_level (ladders_of self.now side) bank other).lots ≡ 0 }
     {
         self.of(side).level_and_next(bank, rank)
+    }
+
+    /// The levels of a bank of a side, by rank; `None` where it never had an order there.
+    pub(crate) fn ladder(&self, side: Side, bank: BankId) -> Option<&Ladder>
+        ensures { option_copied result ≡ lookup (nat_eq bank) (ladders_of self.now side) }
+    {
+        self.of(side).ladder(bank)
     }
 
     /// For each bank the word of its best order of a side.

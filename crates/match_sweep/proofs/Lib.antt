@@ -10,6 +10,8 @@ pub mod Cutting
 pub mod LevelSteps
 mod LevelOpening
 mod Ranking
+mod Seeing
+mod Nearing
 pub mod Walking
 pub mod Lowering
 pub mod OfBook

@@ -16,7 +16,6 @@ use Rattle.global_book.specs.Book.{first}
 use Rattle.global_book.specs.Lowered.{lowered_in}
 use Rattle.global_book.proofs.Lowered.{relot, NoneIs, lowered-here, lowered-later, lowered-none, first-some}
 use Rattle.match_sweep.specs.Carries.{filled_in, carried}
-pub use Rattle.global_book.proofs.Lowered.{first-none}
 
 -- what a search by bank and number finds is among the orders
 pub found-among : (bank number : ℕ) (orders : List Resting) (found : Resting) → first (filter (λ (o : Resting). is_order bank number o) orders) ≡ Some found → Among found orders × (is_order bank number found ≡ true)

@@ -15,7 +15,7 @@ use Rattle.fx_rules.specs.Sweep.{is_better, is_opposite}
 use Rattle.fx_rules.proofs.ListLemmas.{Each-among, Each-of, filter_cons_false, filter_cons_true}
 use Rattle.global_book.specs.Book.{AreOwners, Book, IsLevel, IsPriceOf, is_level, is_of, is_worse, is_worse_of, level_at, level_lots}
 use Rattle.match_sweep.specs.declared.reached.LevelWalk.{LevelWalk}
-use Rattle.match_sweep.specs.inside.Reaches.{AreTaken, AreTakenOf, AreRanked, AreReached, HaveLevels, IsBestAmong, IsBestPrice, IsLeft, IsPaid, IsRank, IsTakenAt, IsTakenOf, Puts, TakesOf, better_price, is_asked, line_behind, price_at, price_in, price_of}
+use Rattle.match_sweep.specs.inside.Reaches.{AreTaken, AreTakenOf, AreRanked, AreReached, HaveLevels, IsBestAmong, IsBestPrice, IsLeft, IsPaid, IsRank, IsTakenAt, IsTakenOf, Puts, TakesLevel, TakesOf, better_price, is_asked, line_behind, price_at, price_in, price_of}
 use Rattle.match_sweep.proofs.Tables.{total-changed}
 use Rattle.match_sweep.proofs.Passed.{contains_or}
 use Rattle.match_sweep.proofs.Levelling.{level_parts}
@@ -530,6 +530,13 @@ taken-whole book banks past old now price lots are weighs have best all =
       ];
       sum = all.sum;
     }
+
+-- the level at the best price is taken
+pub taken_level : (book : Book) (banks : List ℕ) (past : Option ℕ) (old new : LevelWalk) (price lots : ℕ) → AreReached book old banks → IsWeight old.weight → length old.lines ≡ 65 → HaveLevels book past old → IsBestAmong old banks (Some price)
+    → AreTakenOf book old new price banks lots → TakesLevel book old new (Some (record { price = price; lots = lots }))
+taken_level book banks past old new price lots are weighs long have best all =
+    let of_all = best_of_all book banks old (Some price) are weighs long best in
+    (of_all, taken-whole book banks past old new price lots are weighs have of_all all)
 
 -- the prices behind the level that was taken
 pub levels_behind : (book : Book) (old new : LevelWalk) (price lots : ℕ) → AreTaken book old new price lots → HaveLevels book (Some price) new

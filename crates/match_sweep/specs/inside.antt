@@ -1,3 +1,4 @@
 pub mod Heads
+pub mod Near
 pub mod Reaches
 pub mod Walks

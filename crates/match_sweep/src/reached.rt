@@ -1,4 +1,6 @@
-ghost use Rattle.std.specs.Prelude.{ℕ, Option, Some, filter, take, ◌≡◌, ◌≢◌, ◌+◌, length, ◌≤◌, ◌<◌, ◌*◌, ◌/◌, ◌^◌, min, IfOk};
+mod near;
+
+ghost use Rattle.std.specs.Prelude.{Some, filter, take, ◌≡◌, ◌≢◌, ◌+◌, length, ◌≤◌, ◌<◌, ◌*◌, ◌/◌, ◌^◌, min, IfOk};
 ghost use Rattle.fx_amounts.specs.Price.{IsPrice};
 ghost use Rattle.fx_amounts.specs.Quantity.{IsWeight};
 ghost use Rattle.fx_rules.specs.Lists.{total};
@@ -15,10 +17,11 @@ use std::alloc::Global;
 use std::sync::ledger::Ledger;
 
 /// The first ten levels of what a bank reaches with an order of this side, at any price and for as many lots as there are, by
-/// its lines and its total, where a lot costs `weight` credit units, 1 to 10^6. It walks from price to price over what each bank has at
-/// it, and not from order to order, until the total pays for no more lots. It changes nothing but the counter of its steps, of which it takes one for each bank at most
-/// as it begins, and as many for each level. The book was made for as many banks as the lines have, and the bank is one of them. At
-/// `Memory` there was none for the levels.
+/// its lines and its total, where a lot costs `weight` credit units, 1 to 10^6. Where these levels lie near each other it reads the lots of each bank
+/// there at once; else it walks from price to price over what each bank has at it, and not from order to order, until the total pays for no more
+/// lots. It changes nothing but the counter of its steps, of which it takes one for each bank at most as it begins, and as many for each level; to
+/// read the lots at a known price is none. The book was made for as many banks as the lines have, and the bank is one of them. At `Memory` there
+/// was none for the levels.
 pub fn levels_in_reach<L: Ledger>(
     alloc: Global,
     book: &PairBook,
@@ -48,6 +51,9 @@ pub fn levels_in_reach<L: Ledger>(
     let count = walk.list_reached(book.owners(), &mut reached);
     let banks = &reached[..count];
     let mut rank = walk.lowest_rank(banks);
+    if walk.show_near(book, banks, rank, most, &mut levels, steps) {
+        return Ok(LevelList::from_vec(levels));
+    }
     while levels.len() < SHOWN_LEVELS && most > 0 {
         let Some(price) = price_at(side.opposite(), rank) else {
             break;

@@ -51,12 +51,6 @@ behind_live nodes count rows place order kept is at link =
     let first = subst (IsFirstFrom (IsInLevel (in_node nodes) order) (place + 1)) link (kept.are.chained.behind_is place order is) in
     (first.is.order, first.is.is)
 
-pub before_live : (nodes : List Linked) (count : ℕ) (rows : List Row) (place : ℕ) (order : Resting) → IsKept nodes count rows → in_node nodes place ≡ Some order
-    → (at : ℕ) → (node_at nodes place).before ≡ Some at → (other : Resting) × (in_node nodes at ≡ Some other)
-before_live nodes count rows place order kept is at link =
-    let last = subst (IsLastBelow (IsInLevel (in_node nodes) order) place) link (kept.are.chained.before_is place order is) in
-    (last.is.order, last.is.is)
-
 -- An order comes.
 pub pushed_is : (nodes one two : List Linked) (order : Resting) (before : Option ℕ) (place : ℕ) → one ≡ nodes ++ record { order = Some order; before = before; behind = None } ∷ []
     → two ≡ with_behind one before (Some place) → place ≡ length nodes → two ≡ pushed nodes order before

@@ -1,6 +1,6 @@
 -- A list is laid anew without its empty places, order by order.
 use Rattle.std.proofs.Common.{ℕ, zero, suc, ◌≡◌, ◌+◌, ◌≤◌, ◌<◌, min, List, [], ◌∷◌, ◌++◌, Option, Some, None, length, map, filter, take, get_or, is_some, inl, inr, refl, ap, sym, subst, ◌∙◌, arith}
-use Rattle.std.proofs.Math.Seq.{get_or-append_seam, take-length, take-suc}
+use Rattle.std.proofs.Math.Seq.{get_or-append_seam, take-suc}
 use Rattle.std.proofs.lemmas.Bool.{cases_lt}
 use Rattle.std.proofs.lemmas.List.Elements.{filter-append}
 use Rattle.std.proofs.lemmas.List.{get_or_append_left, get_or_past}
@@ -189,9 +189,3 @@ packed-none nodes room orders list place banks places seen listed packed below n
 
 pub order-seen : (nodes : List Linked) (room : List ℕ) (orders : Orders) (place : ℕ) (order : Resting) → record { slots = slots_of nodes; room = room } ≡ orders → Some order ≡ in_node nodes place → order_at orders place ≡ Some order
 order-seen nodes room orders place order seen is = sym (ap (λ (o : Orders). order_at o place) seen) ∙ sym is
-
-pub packed-all : (slots : List (Option Resting)) (upto : ℕ) (places : List ℕ) (list : Orders) (banks : ℕ) → IsPacked slots upto places list banks → upto ≡ length slots → list.slots ≡ filter is_some slots
-packed-all slots upto places list banks packed all = packed.laid ∙ ap (filter is_some) (ap (λ n. take n slots) all ∙ take-length slots)
-
-pub packed-bare : (slots : List (Option Resting)) (list : Orders) (banks : ℕ) → list.slots ≡ [] → length list.room ≡ min banks 65 → IsPacked slots 0 [] list banks
-packed-bare slots list banks bare rooms = record { laid = bare; count = refl; told = λ place order below is. absurd (omega arith); banks_are = rooms }

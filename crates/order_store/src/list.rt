@@ -175,19 +175,6 @@ impl OrderList {
         }
     }
 
-    /// The place of the order of this bank and number; `None` where none rests. It is looked for first at the place `near`, and in the bank's
-    /// row of numbers only where it is not there.
-    pub fn find_near(&self, bank: BankId, number: u32, near: u32) -> Option<u32>
-        ensures found { IfSome result (λ place. IsSomeAnd (order_at self.now place) (IsOf bank number)) }
-        ensures none { result ≡ None → Lacks self.now bank number }
-        ensures valid { AreListed self.now }
-    {
-        if is_under(&self.nodes, near as usize, bank, number) {
-            return Some(near);
-        }
-        self.find(bank, number)
-    }
-
     /// The place of the first of a bank's orders that arrived at or after this; `None` where there is none. It looks at one place after the other.
     pub fn next_of(&self, bank: BankId, after: u64) -> Option<u32>
         ensures { IsFirstFrom (HasFrom (order_at self.now) bank after) 0 result }

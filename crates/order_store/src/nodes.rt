@@ -1,4 +1,4 @@
-ghost use Rattle.std.specs.Prelude.{◌≡◌, ◌+◌, ◌≤◌, ◌<◌, ◌^◌, ◌∷◌, ◌++◌, [], None, Some, length, slice_index_or, slice_set, IfSome, IsSome, OnOk};
+ghost use Rattle.std.specs.Prelude.{◌≡◌, ◌+◌, ◌≤◌, ◌<◌, ◌^◌, ◌∷◌, ◌++◌, [], None, Some, length, slice_set, IfSome, IsSome, OnOk};
 ghost use Rattle.order_store.specs.inside.Chains.{in_node, link_of, link_to, no_node, node_at, order_of, with_before, with_behind};
 
 use fx_amounts::{Lots, Memory, room_for};

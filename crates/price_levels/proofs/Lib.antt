@@ -1,2 +1,3 @@
 mod Marking
 mod Apart
+pub mod Adding

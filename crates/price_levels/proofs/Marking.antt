@@ -4,7 +4,7 @@ use Rattle.std.proofs.Math.ListN.{get_or-append, set}
 use Rattle.std.proofs.Math.Nat.{div-div-eq-div-mul, div-le_self}
 use Rattle.std.proofs.lemmas.Bool.{cases_eq, cases_lt, le-leb, lt-leb}
 use Rattle.std.proofs.lemmas.Nat.{pow-add}
-use Rattle.std.proofs.lemmas.Nat.Bits.{bit_at-trailing_zeros, bit_at-zero, bit_at_above}
+use Rattle.std.proofs.lemmas.Nat.Bits.{bit_at-trailing_zeros, bit_at-zero, bit_at_above, bit_at_cat_high, bit_at_cat_low}
 use Rattle.std.proofs.lemmas.List.{get_or-append-add, get_or-replicate, get_or-set_same, get_or-set_other, get_or_past, length-replicate}
 use Rattle.std.specs.Int.{bit_at, trailing_zeros}
 use Rattle.std.proofs.lemmas.List.Sums.{sum_by-append, sum_by-cons}
@@ -12,6 +12,7 @@ use Rattle.std.specs.List.{sum_by}
 use Rattle.std.specs.Prelude.{IfSome}
 use Rattle.price_levels.specs.declared.level.Level.{Level}
 use Rattle.price_levels.specs.inside.Bits.{IsFirstMark, bit_of}
+use Rattle.price_levels.specs.Rungs.{AreMarks}
 use Rattle.price_levels.specs.Ticks.{Ticks, level_of, mark_of, no_level}
 use Rattle.price_levels.specs.inside.Marked.{AreMarked, padded}
 
@@ -60,7 +61,7 @@ first_of_word words first word from within fits some passed =
     }
 
 -- the bits of a word from one on
-bit_at-shifted : (n s i : ℕ) → bit_at (n / 2 ^ s) i ≡ bit_at n (s + i)
+pub bit_at-shifted : (n s i : ℕ) → bit_at (n / 2 ^ s) i ≡ bit_at n (s + i)
 bit_at-shifted n s i = ap (λ (q : ℕ). q % 2) (div-div-eq-div-mul n (2 ^ s) (2 ^ i) ∙ ap (λ (q : ℕ). n / q) (sym (pow-add 2 s i)))
 
 -- a tick of the word of another one
@@ -213,10 +214,10 @@ marked_padded base base' levels levels' words words' used first before after are
         ]
 
 -- the level of a rank stays
-at_rank : (ticks : Ticks) (rank : ℕ) → ticks.base ≤ rank → level_of ticks rank ≡ get_or ticks.levels (rank - ticks.base) no_level
+pub at_rank : (ticks : Ticks) (rank : ℕ) → ticks.base ≤ rank → level_of ticks rank ≡ get_or ticks.levels (rank - ticks.base) no_level
 at_rank ticks rank from = ap (λ (b : Bool). if b then get_or ticks.levels (rank - ticks.base) no_level else no_level) (le-leb ticks.base rank from)
 
-below_rank : (ticks : Ticks) (rank : ℕ) → rank < ticks.base → level_of ticks rank ≡ no_level
+pub below_rank : (ticks : Ticks) (rank : ℕ) → rank < ticks.base → level_of ticks rank ≡ no_level
 below_rank ticks rank under = ap (λ (b : Bool). if b then get_or ticks.levels (rank - ticks.base) no_level else no_level) (lt-leb ticks.base rank under)
 
 pub level_padded : (old new : Ticks) (before after : ℕ) → new.base + before ≡ old.base → new.levels ≡ padded no_level old.levels before after → (rank : ℕ) → level_of new rank ≡ level_of old rank
@@ -245,3 +246,50 @@ level_opened old new after none are rank = empty new (λ k. ap (λ (ls : List Le
           | inl under ↦ below_rank ticks rank under
           | inr over ↦ at_rank ticks rank over ∙ none (rank - ticks.base)
         ]
+
+-- The words of a window, and 64 ranks of two of them.
+
+-- a word of the window tells which ranks of its block have orders
+pub word_marks : (ticks : Ticks) (words : List ℕ) (used block k : ℕ) → AreMarked ticks.base ticks.levels words used → k < 64 → ticks.base / 64 ≤ block
+    → bit_at (get_or words (block - ticks.base / 64) 0) k ≡ mark_of (level_of ticks (64 * block + k))
+word_marks ticks words used block k are small from =
+    let first : ℕ = ticks.base / 64 in
+    let base : 64 * first ≡ ticks.base = omega (arith, are.aligned) in
+    let at : ℕ = 64 * (block - first) + k in
+    let place : 64 * block + k - ticks.base ≡ at = omega (arith, base, from) in
+    let there : level_of ticks (64 * block + k) ≡ get_or ticks.levels at no_level = at_rank ticks (64 * block + k) (omega (arith, base, from)) ∙ ap (λ (n : ℕ). get_or ticks.levels n no_level) place in
+    elim (cases_lt at (length ticks.levels)) [
+      | inl within ↦
+          let word : at / 64 ≡ block - first = omega (arith, small) in
+          let bit : at % 64 ≡ k = omega (arith, small) in
+          sym (ap₂ (λ (w j : ℕ). bit_at (get_or words w 0) j) word bit) ∙ are.marks at within ∙ ap mark_of (sym there)
+      | inr past ↦
+          ap (λ (w : ℕ). bit_at w k) (get_or_past words (block - first) 0 (omega (arith, past, are.blocks, small))) ∙ bit_at-zero k
+          ∙ ap mark_of (sym (there ∙ get_or_past ticks.levels at no_level past))
+    ]
+
+-- no rank before the window has
+pub word_before : (ticks : Ticks) (words : List ℕ) (used block k : ℕ) → AreMarked ticks.base ticks.levels words used → k < 64 → block < ticks.base / 64 → bit_at 0 k ≡ mark_of (level_of ticks (64 * block + k))
+word_before ticks words used block k are small before = bit_at-zero k ∙ ap mark_of (sym (below_rank ticks (64 * block + k) (omega (arith, are.aligned, before, small))))
+
+-- of the bits of two words that stand side by side those from one on
+pub marks_across : (levels : ℕ → Level) (from low high : ℕ) → low < 2 ^ 64 → ((k : ℕ) → k < 64 → bit_at low k ≡ mark_of (levels (64 * (from / 64) + k))) → ((k : ℕ) → k < 64 → bit_at high k ≡ mark_of (levels (64 * (from / 64 + 1) + k)))
+    → AreMarks levels from ((high * 2 ^ 64 + low) / 2 ^ (from % 64) % 2 ^ 64)
+marks_across levels from low high fits here next k small =
+    let both : ℕ = high * 2 ^ 64 + low in
+    let s : ℕ = from % 64 in
+    let shifted : ℕ = both / 2 ^ s in
+    cut_off shifted ∙ bit_at-shifted both s k
+    ∙ elim (cases_lt (s + k) 64) [
+      | inl first ↦
+          let place : 64 * (from / 64) + (s + k) ≡ from + k = omega arith in
+          bit_at_cat_low high 64 low (s + k) first ∙ here (s + k) first ∙ ap (λ (r : ℕ). mark_of (levels r)) place
+      | inr second ↦
+          let place : 64 * (from / 64 + 1) + (s + k - 64) ≡ from + k = omega (arith, second) in
+          bit_at_cat_high high 64 low (s + k) fits second ∙ next (s + k - 64) (omega (arith, small)) ∙ ap (λ (r : ℕ). mark_of (levels r)) place
+    ]
+  where
+    cut_off : (n : ℕ) → bit_at (n % 2 ^ 64) k ≡ bit_at n k
+    cut_off n =
+        let parts : n / 2 ^ 64 * 2 ^ 64 + n % 2 ^ 64 ≡ n = omega arith in
+        sym (bit_at_cat_low (n / 2 ^ 64) 64 (n % 2 ^ 64) k small) ∙ ap (λ (m : ℕ). bit_at m k) parts

@@ -1,10 +1,11 @@
 -- The levels of one owner and side, as contracts see them. The rank of a price tells how good it is for a taker: the lower, the better.
-use Rattle.std.specs.Prelude.{ℕ, ◌≡◌, ◌≢◌, ◌+◌, ◌*◌, ◌≤◌, ◌<◌, ◌==◌, ◌||◌, ◌&&◌, if◌then◌else◌, is_some, max, min, nat_le, nat_lt, Bool, false, List, length, Option, Some, None}
+use Rattle.std.specs.Prelude.{ℕ, zero, suc, ◌≡◌, ◌≢◌, ◌+◌, ◌*◌, ◌≤◌, ◌<◌, ◌==◌, ◌||◌, ◌&&◌, if◌then◌else◌, is_some, max, min, nat_le, nat_lt, Bool, false, List, length, Option, Some, None}
 use Rattle.std.specs.BTreeMap.{is_at}
+use Rattle.std.specs.Int.{bit_at}
 use Rattle.std.specs.Map.{lookup}
 use Rattle.std.specs.Ordering.{nat_cmp}
 use Rattle.price_levels.specs.declared.level.Level.{Level}
-use Rattle.price_levels.specs.Ticks.{Ticks, level_of, used_of}
+use Rattle.price_levels.specs.Ticks.{Ticks, level_of, mark_of, used_of}
 
 -- the levels in a window of ranks, and those that are kept one by one, each with its rank; one of these ranks may be kept without orders
 pub record Rungs : Type 0 where
@@ -54,3 +55,12 @@ pub record IsNextRank (levels : ℕ → Level) (from rank : ℕ) : Type 0 where
   pub from_on : from ≤ rank
   pub some : (levels rank).lots ≢ 0
   pub first : (other : ℕ) → from ≤ other → other < rank → (levels other).lots ≡ 0
+
+-- the lots at so many ranks from one on
+abbrev pub lots_below : (ℕ → Level) → ℕ → ℕ → ℕ
+lots_below levels from zero = 0
+lots_below levels from (suc count) = lots_below levels from count + (levels (from + count)).lots
+
+-- a word tells which of the 64 ranks from one on have orders: the k-th bit is 1 where that of rank `from + k` has
+abbrev pub AreMarks : (ℕ → Level) → ℕ → ℕ → Type 0
+AreMarks levels from word = (k : ℕ) → k < 64 → bit_at word k ≡ mark_of (levels (from + k))

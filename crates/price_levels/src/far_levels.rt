@@ -1,4 +1,4 @@
-ghost use Rattle.std.specs.Prelude.{ℕ, ◌≡◌, ◌≤◌, ◌<◌, ◌==◌, ◌^◌, None, Some, true, if◌then◌else◌, is_some, IfSome, IsSome, OnOk};
+ghost use Rattle.std.specs.Prelude.{ℕ, ◌≡◌, ◌≤◌, ◌<◌, ◌==◌, ◌^◌, ◌↔◌, [], None, Some, true, if◌then◌else◌, is_some, IfSome, IsSome, OnOk};
 ghost use Rattle.price_levels.specs.Rungs.{IsNextRank, kept_at};
 ghost use Rattle.price_levels.specs.inside.Far.{IsNextKept, far_level};
 
@@ -46,7 +46,8 @@ impl FarLevels {
 
     /// Whether no rank is kept here.
     pub(crate) fn is_empty(&self) -> bool
-        ensures { result ≡ true → (rank : ℕ) → kept_at self.now rank ≡ None }
+        ensures none { result ≡ true → (rank : ℕ) → kept_at self.now rank ≡ None }
+        ensures empty { (result ≡ true) ↔ (self.now ≡ []) }
     {
         self.levels.is_empty()
     }

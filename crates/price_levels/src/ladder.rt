@@ -1,11 +1,11 @@
-ghost use Rattle.std.specs.Prelude.{ℕ, ◌≡◌, ◌+◌, ◌-◌, ◌≤◌, ◌<◌, ◌^◌, None, false, true, length, max, IfSome, OnOk};
-ghost use Rattle.price_levels.specs.Rungs.{IsNextRank, covers, holds, level_at, either_level, most_ranks, with_level_at};
+ghost use Rattle.std.specs.Prelude.{ℕ, ◌≡◌, ◌+◌, ◌-◌, ◌≤◌, ◌<◌, ◌^◌, ◌↔◌, [], None, false, true, length, max, min, slice_index, IfSome, IsSome, OnOk};
+ghost use Rattle.price_levels.specs.Rungs.{AreMarks, IsNextRank, covers, holds, level_at, lots_below, either_level, most_ranks, with_level_at};
 ghost use Rattle.price_levels.specs.Ticks.{last_of_level, no_level, with_order, without_order};
 ghost use Rattle.price_levels.specs.inside.Far.{AreApart, has_rank};
 
 use crate::far_levels::FarLevels;
 use crate::level::Level;
-use crate::window::Window;
+use crate::window::{RANKS, Window};
 use fx_amounts::{Lots, Memory};
 use std::alloc::Global;
 use std::marker::Model;
@@ -193,6 +193,37 @@ impl Ladder {
             return (self.near.level(rank), self.near.next(rank + 1));
         }
         (self.level(rank), self.next(rank + 1))
+    }
+
+    /// Which of the 64 ranks from one on have orders: the k-th bit is that of rank `from + k`. `None` where a rank far from the window is kept.
+    #[inline(always)]
+    pub fn marks(&self, from: u32) -> Option<u64>
+        ensures marks { IfSome result (AreMarks (level_at self.now) from) }
+        ensures none { IsSome result ↔ (self.now.far ≡ []) }
+    {
+        if self.far.is_empty() {
+            return Some(self.near.marks(from));
+        }
+        None
+    }
+
+    /// Adds the lots at each of the ranks from one on up to `from + last` to its number in a list. No rank far from the window is kept, and
+    /// `marks` tells which of the ranks have orders. It answers the sum of all that it adds; `None` where a rank has 2^32 lots or more, and then
+    /// some may be added and others not.
+    #[inline(always)]
+    pub fn add_lots(&self, from: u32, marks: u64, last: u32, lots: &mut [u64; RANKS]) -> Option<u64>
+        requires low { from ≤ 2 ^ 30 }
+        requires last { last < 64 }
+        requires near { self.now.far ≡ [] }
+        requires marks { AreMarks (level_at self.now) from marks }
+        requires room { (k : ℕ) → slice_index lots.old k < 2 ^ 63 }
+        ensures sum { IfSome result (λ sum. sum ≡ lots_below (level_at self.now) from (last + 1)) }
+        ensures small { IsSome result → (k : ℕ) → k ≤ last → (level_at self.now (from + k)).lots < 2 ^ 32 }
+        ensures large { result ≡ None → (k : ℕ) × (k ≤ last) × (2 ^ 32 ≤ (level_at self.now (from + k)).lots) }
+        ensures added { IsSome result → (k : ℕ) → k ≤ last → slice_index lots.new k ≡ slice_index lots.old k + (level_at self.now (from + k)).lots }
+        ensures others { (k : ℕ) → last < k → slice_index lots.new k ≡ slice_index lots.old k }
+    {
+        self.near.add_lots(from, marks, last, lots)
     }
 
     /// The first rank with orders from a rank on; `None` where there is none.

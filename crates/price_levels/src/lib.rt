@@ -11,4 +11,4 @@ mod window;
 pub use ladder::Ladder;
 pub use level::Level;
 pub use steps::Steps;
-pub use window::Window;
+pub use window::{RANKS, Window};

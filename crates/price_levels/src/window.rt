@@ -1,6 +1,7 @@
-ghost use Rattle.std.specs.Prelude.{ℕ, ◌≡◌, ◌+◌, ◌-◌, ◌*◌, ◌^◌, ◌≤◌, ◌<◌, None, [], length, max, slice_set, IfOk, IfSome, OnErr, OnOk};
+ghost use Rattle.std.specs.Prelude.{ℕ, ◌≡◌, ◌+◌, ◌-◌, ◌*◌, ◌^◌, ◌≤◌, ◌<◌, None, [], length, max, slice_index, slice_set, IfOk, IfSome, IsSome, OnErr, OnOk};
+ghost use Rattle.std.specs.Int.{bit_at};
 ghost use Rattle.std.specs.List.{sum_by};
-ghost use Rattle.price_levels.specs.Rungs.{IsNextRank, covers};
+ghost use Rattle.price_levels.specs.Rungs.{AreMarks, IsNextRank, covers, lots_below};
 ghost use Rattle.price_levels.specs.Ticks.{Covers, last_of_level, level_of, mark_of, no_level, span_of, used_of, with_level, with_order, without_order};
 ghost use Rattle.price_levels.specs.inside.Marked.{padded};
 
@@ -9,6 +10,9 @@ use crate::level::Level;
 use fx_amounts::{Lots, Memory, room_for};
 use std::alloc::Global;
 use std::marker::Model;
+
+/// How many ranks are looked at together.
+pub const RANKS: usize = 64;
 
 /// The levels of one owner and side in a window of ranks, one for each tick of the price, under a row of bits that tells which ranks
 /// have orders. The lower a rank, the better its price, so the best level is the first one.
@@ -157,6 +161,81 @@ impl Window {
         let start = from.saturating_sub(self.base) as usize;
         let at = first_mark(&self.words, start)?;
         Some(self.base + at as u32)
+    }
+
+    /// Which of the 64 ranks from one on have orders: the k-th bit is that of rank `from + k`.
+    pub(crate) fn marks(&self, from: u32) -> u64
+        ensures { AreMarks (level_of self.now) from result }
+    {
+        let (low, high) = self.two_words(from as usize / WORD);
+        let both = (u128::from(high) << WORD) + u128::from(low);
+        ((both >> (from as usize % WORD)) % (1 << WORD)) as u64
+    }
+
+    /// The marks of a block of 64 ranks, and of the block behind it. Mostly both are in the window; then each is looked for once.
+    fn two_words(&self, block: usize) -> (u64, u64)
+        requires low { block < 2 ^ 32 }
+        ensures low { (k : ℕ) → k < 64 → bit_at result.0 k ≡ mark_of (level_of self.now (64 * block + k)) }
+        ensures fits { (result.0 < 2 ^ 64) × (result.1 < 2 ^ 64) }
+        ensures high { (k : ℕ) → k < 64 → bit_at result.1 k ≡ mark_of (level_of self.now (64 * (block + 1) + k)) }
+    {
+        let first = self.base as usize / WORD;
+        if block >= first {
+            let at = block - first;
+            if at + 1 < self.words.len() {
+                return (self.words[at], self.words[at + 1]);
+            }
+        }
+        (self.word(block), self.word(block + 1))
+    }
+
+    /// The marks of a block of 64 ranks.
+    fn word(&self, block: usize) -> u64
+        ensures { (k : ℕ) → k < 64 → bit_at result k ≡ mark_of (level_of self.now (64 * block + k)) }
+    {
+        let first = self.base as usize / WORD;
+        if block < first {
+            return 0;
+        }
+        match self.words.get(block - first) {
+            Some(word) => *word,
+            None => 0,
+        }
+    }
+
+    /// Adds the lots at each of the ranks from one on up to `from + last` to its number in a list; `marks` tells which of the ranks have orders.
+    /// It answers the sum of all that it adds; `None` where a rank has 2^32 lots or more, and then some may be added and others not.
+    #[inline(always)]
+    pub(crate) fn add_lots(
+        &self,
+        from: u32,
+        marks: u64,
+        last: u32,
+        lots: &mut [u64; RANKS],
+    ) -> Option<u64>
+        requires low { from ≤ 2 ^ 30 }
+        requires last { last < 64 }
+        requires marks { AreMarks (level_of self.now) from marks }
+        requires room { (k : ℕ) → slice_index lots.old k < 2 ^ 63 }
+        ensures sum { IfSome result (λ sum. sum ≡ lots_below (level_of self.now) from (last + 1)) }
+        ensures small { IsSome result → (k : ℕ) → k ≤ last → (level_of self.now (from + k)).lots < 2 ^ 32 }
+        ensures large { result ≡ None → (k : ℕ) × (k ≤ last) × (2 ^ 32 ≤ (level_of self.now (from + k)).lots) }
+        ensures added { IsSome result → (k : ℕ) → k ≤ last → slice_index lots.new k ≡ slice_index lots.old k + (level_of self.now (from + k)).lots }
+        ensures others { (k : ℕ) → last < k → slice_index lots.new k ≡ slice_index lots.old k }
+    {
+        let mut sum: u64 = 0;
+        let mut left = marks & (u64::MAX >> (63 - last));
+        while left != 0 {
+            let at = left.trailing_zeros();
+            left &= !(1 << at);
+            let count = self.levels[(from + at - self.base) as usize].lots;
+            if count > u64::from(u32::MAX) {
+                return None;
+            }
+            sum += count;
+            lots[at as usize] += count;
+        }
+        Some(sum)
     }
 
     /// Has the window cover a rank below 2^31. It grows by blocks of 64 ranks on the side where the rank lies, by a quarter more than is

@@ -1,5 +1,5 @@
 -- The words in which the best orders of the banks are kept.
-use Rattle.std.specs.Prelude.{ℕ, ◌≡◌, ◌≢◌, ◌+◌, ◌-◌, ◌*◌, ◌/◌, ◌%◌, ◌≤◌, ◌<◌, ◌^◌, ◌==◌, if◌then◌else◌, Bool, true, nat_lt, List, Option, Some, None, slice_index}
+use Rattle.std.specs.Prelude.{ℕ, ◌≡◌, ◌≢◌, ◌+◌, ◌-◌, ◌*◌, ◌/◌, ◌%◌, ◌≤◌, ◌<◌, ◌^◌, ◌==◌, if◌then◌else◌, Bool, true, nat_lt, List, length, Option, Some, None, slice_index}
 use Rattle.access_index.specs.declared.words.Head.{Head}
 
 -- the order that a word tells, where there is one
@@ -11,8 +11,10 @@ pub record IsLeastOf (words : List ℕ) (from count least : ℕ) : Type 0 where
   pub first : (at : ℕ) → at < count → least ≤ slice_index words (from + at)
   pub there : least ≢ 2 ^ 64 - 1 → (at : ℕ) × (at < count) × (slice_index words (from + at) ≡ least)
 
--- each word is of its own bank, and has 64 bits, and the least of each eight of them stands beside these
+-- there is a word for each bank, of that bank and of 64 bits, and the least of each eight of them stands beside these
 pub record AreWords (words groups : List ℕ) : Type 0 where
+  pub count : length words ≡ 64
+  pub group_count : length groups ≡ 8
   pub own : (bank : ℕ) → bank < 64 → slice_index words bank ≢ 2 ^ 64 - 1 → slice_index words bank % 64 ≡ bank
   pub most : (bank : ℕ) → bank < 64 → slice_index words bank < 2 ^ 64
   pub least : (group : ℕ) → group < 8 → IsLeastOf words (group * 8) 8 (slice_index groups group)

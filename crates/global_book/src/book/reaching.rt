@@ -1,4 +1,5 @@
-ghost use Rattle.std.specs.Prelude.{◌≡◌, ◌+◌, ◌≤◌, ◌↔◌, ◌++◌, ◌⊎◌, List, [], None, Some, false, length, option_map, IfSome, IsSomeAnd, IsPermutation, OnErr, OnOk};
+ghost use Rattle.std.specs.Prelude.{◌≡◌, ◌+◌, ◌≤◌, ◌↔◌, ◌++◌, ◌⊎◌, List, [], None, Some, false, length, nat_eq, option_map, IfSome, IsSomeAnd, IsPermutation, OnErr, OnOk};
+ghost use Rattle.std.specs.Map.{lookup};
 ghost use Rattle.std.specs.Option.{option_copied};
 ghost use Rattle.fx_amounts.specs.Price.{IsPrice};
 ghost use Rattle.fx_amounts.specs.Side.{opposite};
@@ -6,7 +7,8 @@ ghost use Rattle.fx_rules.specs.Sweep.{IsBest, is_preferred};
 ghost use Rattle.fx_rules.specs.declared.orders.Resting.{Resting};
 ghost use Rattle.global_book.specs.Behind.{owned_behind};
 ghost use Rattle.global_book.specs.Book.{AreInTime, IsBook, IsPriceOf, crossing, level_lots};
-ghost use Rattle.global_book.specs.Room.{rank_of as price_of_rank};
+ghost use Rattle.global_book.specs.Ladders.{TellsLots};
+ghost use Rattle.global_book.specs.Room.{ladders_of, rank_of as price_of_rank};
 ghost use Rattle.global_book.specs.Sought.{allows, sought};
 ghost use Rattle.global_book.specs.Words.{AreBestWords};
 
@@ -15,7 +17,7 @@ use crate::book::PairBook;
 use crate::side_ladders::rank_of;
 use fx_amounts::{BankId, Memory, Price, Side};
 use fx_rules::Resting;
-use price_levels::Steps;
+use price_levels::{Ladder, Steps};
 use std::sync::ledger::Ledger;
 
 impl PairBook {
@@ -61,8 +63,19 @@ impl PairBook {
         (level.lots, next)
     }
 
-    /// Puts a bank's orders of a side that cross `top`, a price of the other side, behind those that `orders` has. It looks at one order that
-    /// does not cross at most: one step, and one for each order that it puts there. At `Memory` `orders` has what it had.
+    /// The levels of a bank's orders of a side, by the rank of their price; `None` where the bank never had such an order. To read the lots at a
+    /// rank is no step, as with `lots_at`.
+    #[inline(always)]
+    pub fn ladder(&self, bank: BankId, side: Side) -> Option<&Ladder>
+        ensures ladder { option_copied result ≡ lookup (nat_eq bank) (ladders_of self.now.room.ladders side) }
+        ensures tells { TellsLots self.now side }
+        ensures valid { IsBook self.now }
+    {
+        self.linked.ladder(bank, side)
+    }
+
+    /// Puts a bank's orders of a side that cross `top`, a price of the other side, behind those that `orders` has. It looks at no other order:
+    /// one step, and one for each order that it puts there. At `Memory` `orders` has what it had.
     pub fn gather_crossing<L: Ledger>(
         &self,
         bank: BankId,
@@ -77,19 +90,11 @@ impl PairBook {
         ensures valid { IsBook self.now }
     {
         let had = orders.len();
-        let mut near = 0;
-        let mut next = self.next_near(bank, side, None, &mut near, steps);
-        while let Some(order) = next {
-            if !order.price.crosses(top, side) {
-                return Ok(());
-            }
-            if let Err(stop) = orders.push(order) {
-                orders.truncate(had);
-                return Err(Memory::from(stop));
-            }
-            next = self.next_near(bank, side, Some(&order), &mut near, steps);
+        let gathered = self.linked.gather_crossing(bank, side, top, orders, steps);
+        if gathered.is_err() {
+            orders.truncate(had);
         }
-        Ok(())
+        gathered
     }
 
     /// The best order of a side, among those whose owner can be reached for a lot at least, that the limit allows, that arrived before

@@ -1,19 +1,26 @@
 -- The levels so far are the first ones of every such order's sweep; at the end of the walk, once there are ten, or once the total pays for
 -- no more lots, they are all.
-use Rattle.std.proofs.Common.{ℕ, List, ◌≡◌, ◌≤◌, ◌+◌, ◌-◌, ◌*◌, [], ◌∷◌, ◌++◌, length, ◌↔◌, IfSome, IsSome, is_some, Option, Some, None, inl, inr, ap, ◌∙◌, refl, sym, subst, arith, take, length-append}
+use Rattle.std.proofs.Common.{ℕ, List, true, not, ◌<◌, ◌^◌, if◌then◌else◌, slice_index, ◌≡◌, ◌≤◌, ◌+◌, ◌-◌, ◌*◌, [], ◌∷◌, ◌++◌, length, ◌↔◌, IfSome, IsSome, is_some, Option, Some, None, inl, inr, ap, ◌∙◌, refl, sym, subst, arith, take, length-append}
 use Rattle.std.proofs.Math.Nat.{add-mul}
+use Rattle.std.proofs.lemmas.Bool.{both_ways, eq-eqb, lt-leb}
+use Rattle.std.proofs.lemmas.List.Kept.{IsStrictlyIncreasing-filter}
+use Rattle.std.specs.List.{filter}
 use Rattle.fx_amounts.specs.Price.{IsPrice}
 use Rattle.fx_amounts.specs.Quantity.{IsWeight}
 use Rattle.fx_amounts.specs.Side.{opposite}
 use Rattle.fx_amounts.specs.declared.side.Side.{Side}
 use Rattle.match_sweep.specs.declared.reached.LevelWalk.{LevelWalk}
-use Rattle.global_book.specs.Book.{Book}
+use Rattle.global_book.specs.Book.{AreOwners, Book, IsBook}
 use Rattle.global_book.specs.Room.{rank_of as rank_at}
+use Rattle.credit_lines.specs.Credit.{Credit, room_in}
 use Rattle.match_sweep.specs.Reaches.{IsReached}
-use Rattle.match_sweep.specs.inside.Reaches.{AreReached, AreTakenOf, HaveLevels, IsBestAmong, IsLowest, TakesLevel, price_for}
+use Rattle.match_sweep.specs.inside.Near.{AreShown}
+use Rattle.match_sweep.specs.inside.Reaches.{AreRanked, AreReached, AreTakenOf, BeginsAt, IsBestAmong, IsLowest, IsMost, IsRank, is_asked, price_for, price_in, price_of}
 use Rattle.fx_rules.specs.declared.orders.Level.{Level}
 use Rattle.match_sweep.proofs.Cutting.{cut-begins, cut-on}
-use Rattle.match_sweep.proofs.Reaching.{best_of_all, reached-begins, reached-on, taken-whole}
+use Rattle.match_sweep.proofs.Passed.{few-apart, kept-of}
+use Rattle.match_sweep.proofs.Stepping.{owner_within}
+use Rattle.match_sweep.proofs.Reaching.{best_of_all, reached-begins, reached-on, taken_level}
 use Rattle.match_sweep.proofs.Ranking.{told-price}
 use Rattle.match_sweep.proofs.LevelSteps.{reached-full, reached-whole, way_begins, way_on}
 use Rattle.match_sweep.proofs.reached.levels_in_reach.Goals as goal
@@ -23,13 +30,6 @@ use Rattle.match_sweep.proofs.reached.levels_in_reach.Goals.{else-loop-banks-tes
 one_more : (first old new levels levels' banks : ℕ) → old ≤ first + (levels + 1) * banks → new ≤ old + banks → levels' ≡ levels + 1 → new ≤ first + (levels' + 1) * banks
 one_more first old new levels levels' banks was more is =
     subst (λ (n : ℕ). new ≤ first + (n + 1) * banks) (sym is) (omega (arith, was, more, add-mul (levels + 1) 1 banks))
-
--- the level at the best price is taken
-taken_level : (book : Book) (banks : List ℕ) (past : Option ℕ) (old new : LevelWalk) (price lots : ℕ) → AreReached book old banks → IsWeight old.weight → length old.lines ≡ 65 → HaveLevels book past old → IsBestAmong old banks (Some price)
-    → AreTakenOf book old new price banks lots → TakesLevel book old new (Some (record { price = price; lots = lots }))
-taken_level book banks past old new price lots are weighs long have best all =
-    let of_all = best_of_all book banks old (Some price) are weighs long best in
-    (of_all, taken-whole book banks past old new price lots are weighs have of_all all)
 
 -- the side of the orders that would be taken
 side_same : (walk first : LevelWalk) (side other : Side) → other ≡ opposite side → walk.taker ≡ first.taker → first.taker ≡ side → other ≡ opposite walk.taker
@@ -43,12 +43,60 @@ priced side rank made price valid is = valid.0 (ap is_some is)
 best_is : (walk : LevelWalk) (banks : List ℕ) (side : Side) (rank : ℕ) (made : Option ℕ) → side ≡ opposite walk.taker → (IsSome made) ↔ (IsPrice (rank_at side rank)) → IfSome made (λ (p : ℕ). p ≡ rank_at side rank) → IsLowest walk banks rank → IsBestAmong walk banks made
 best_is walk banks side rank made side_is valid value low = subst (IsBestAmong walk banks) (sym (told-price walk.taker side low.price made rank side_is valid value low.rank)) low.best
 
+-- nothing is asked of the bank's own
+own_unasked : (walk : LevelWalk) (bank : ℕ) → 1 ≤ walk.weight → slice_index walk.lines bank ≡ 0 → AreRanked walk → bank < 65 → is_asked walk bank ≡ true → ⊥
+own_unasked walk bank some own ranked below asked =
+    let none : price_of walk bank ≡ None = ap (λ b. if b then price_in walk bank else None) (lt-leb walk.weight (slice_index walk.lines bank) (omega (arith, own, some))) in
+    let rank : IsRank walk.taker None (slice_index walk.ranks bank) = subst (λ (p : Option ℕ). IsRank walk.taker p (slice_index walk.ranks bank)) none (ranked bank below) in
+    both_ways (is_asked walk bank) (ap not (eq-eqb (slice_index walk.ranks bank) (2 ^ 30 - 1) rank.is)) asked
+
+-- so the banks of which something can be taken are fewer than those of the book
+fewer_reached : (book : Book) (owners : List ℕ) (walk : LevelWalk) (bank : ℕ) → IsBook book → AreOwners book owners → bank < book.banks → 1 ≤ walk.weight → slice_index walk.lines bank ≡ 0 → AreRanked walk → bank < 65
+    → length (filter (is_asked walk) owners) + 1 ≤ book.banks
+fewer_reached book owners walk bank valid are within some own ranked below =
+    few-apart (filter (is_asked walk) owners) book.banks bank (IsStrictlyIncreasing-filter (is_asked walk) owners are.rising)
+    (λ x there. owner_within book owners x valid are (kept-of (is_asked walk) owners x there).0) within
+    (λ there. own_unasked walk bank some own ranked below (kept-of (is_asked walk) owners bank there).1)
+
+-- what is shown of a walk is reached by the lines that it was opened by
+shown_reached : (book : Book) (credit : Credit) (weight bank most : ℕ) (side : Side) (walk : LevelWalk) (levels : List Level) → BeginsAt book credit weight bank side walk → book.banks ≡ credit.banks → bank < credit.banks
+    → IsMost (room_in credit bank) weight most → AreShown book walk most levels → IsReached book credit weight bank side levels
+shown_reached book credit weight bank most side walk levels begins banks within most_is shown =
+    let weighs : walk.weight ≡ weight = ap (λ (w : LevelWalk). w.weight) begins.is in
+    let takes : walk.taker ≡ side = ap (λ (w : LevelWalk). w.taker) begins.is in
+    subst (λ (s : Side). IsReached book credit weight bank s levels) takes
+    (subst (λ (w : ℕ). IsReached book credit w bank walk.taker levels) weighs
+    (shown credit bank
+    (subst (λ (s : Side). BeginsAt book credit walk.weight bank s walk) (sym takes) (subst (λ (w : ℕ). BeginsAt book credit w bank side walk) (sym weighs) begins))
+    banks within (subst (λ (w : ℕ). IsMost (room_in credit bank) w most) (sym weighs) most_is)))
+
+pub show_near-requires-clause-reached : goal.show_near-requires-clause-reached
+show_near-requires-clause-reached g c =
+    let begins = c.open_banks.ensures.begins in
+    subst (AreReached c.args.book.now c.open_banks.new.self) (sym c.list_reached-count.ensures.reached)
+    (reached-begins c.args.book.now c.owners.result.now None c.open_banks.new.self c.owners.ensures.owners (subst IsWeight (sym (ap (λ (w : LevelWalk). w.weight) begins.is)) c.requires.weight) begins.heads c.open_banks.ensures.ranked)
+
+pub returns-then-show_near-clause-levels : goal.returns-then-show_near-clause-levels
+returns-then-show_near-clause-levels g c =
+    shown_reached c.args.book.now c.args.lines.now c.args.weight c.args.bank c.lots_by_total-most.result c.args.side c.open_banks.new.self c.from_vec.result c.open_banks.ensures.begins c.requires.banks c.requires.bank c.lots_by_total-most.ensures.most
+    (subst (AreShown c.args.book.now c.open_banks.new.self c.lots_by_total-most.result) (sym c.from_vec.ensures.items) (c.show_near.ensures.shown c.if-show_near.true))
+
+pub returns-then-show_near-clause-steps : goal.returns-then-show_near-clause-steps
+returns-then-show_near-clause-steps g c =
+    let fewer = fewer_reached c.args.book.now c.owners.result.now c.open_banks.new.self c.args.bank c.owners.ensures.valid c.owners.ensures.owners (omega (arith, c.requires.bank, c.requires.banks))
+    (subst (λ (w : ℕ). 1 ≤ w) (sym (ap (λ (w : LevelWalk). w.weight) c.open_banks.ensures.begins.is)) c.requires.weight.0) c.open_banks.ensures.begins.own c.open_banks.ensures.ranked (omega (arith, c.requires.bank, c.lots_by_total-most.ensures.few)) in
+    let same : length (take c.list_reached-count.result c.list_reached-count.new.reached) ≡ length (filter (is_asked c.open_banks.new.self) c.owners.result.now) = ap length c.list_reached-count.ensures.reached in
+    omega (arith, c.open_banks.ensures.step, c.show_near.ensures.steps, fewer, same, add-mul (length c.from_vec.result) 1 c.args.book.now.banks)
+
 pub loop-banks-init : goal.loop-banks-init
 loop-banks-init g c =
-    let none = c.reserve_exact.ensures.items ∙ c.new-levels.ensures.items in
+    let none = c.show_near.ensures.bare c.if-show_near.false in
+    let fewer = fewer_reached c.args.book.now c.owners.result.now c.open_banks.new.self c.args.bank c.owners.ensures.valid c.owners.ensures.owners (omega (arith, c.requires.bank, c.requires.banks))
+    (subst (λ (w : ℕ). 1 ≤ w) (sym (ap (λ (w : LevelWalk). w.weight) c.open_banks.ensures.begins.is)) c.requires.weight.0) c.open_banks.ensures.begins.own c.open_banks.ensures.ranked (omega (arith, c.requires.bank, c.lots_by_total-most.ensures.few)) in
+    let same : length (take c.list_reached-count.result c.list_reached-count.new.reached) ≡ length (filter (is_asked c.open_banks.new.self) c.owners.result.now) = ap length c.list_reached-count.ensures.reached in
     record {
       whole = [];
-      cut = cut-begins c.lots_by_total-most.result c.reserve_exact.new.self.items none;
+      cut = cut-begins c.lots_by_total-most.result c.show_near.new.levels.items none;
       way = λ begins.
           way_begins c.args.book.now begins.valid c.open_banks.new.self c.args.bank []
           (subst IsWeight (sym (ap (λ (w : LevelWalk). w.weight) begins.is)) c.requires.weight)
@@ -58,7 +106,7 @@ loop-banks-init g c =
           subst (AreReached c.args.book.now c.open_banks.new.self) (sym c.list_reached-count.ensures.reached)
           (reached-begins c.args.book.now c.owners.result.now None c.open_banks.new.self c.owners.ensures.owners (subst IsWeight (sym (ap (λ (w : LevelWalk). w.weight) begins.is)) c.requires.weight) begins.heads c.open_banks.ensures.ranked);
       lowest = c.lowest_rank-rank.ensures.lowest;
-      steps = omega (arith, c.open_banks.ensures.step, ap length none, c.requires.bank, c.requires.banks);
+      steps = omega (arith, c.open_banks.ensures.step, c.show_near.ensures.steps, ap length none, fewer, same);
     }
 
 pub take_level-taken-requires : goal.take_level-taken-requires
@@ -112,7 +160,7 @@ returns g c =
     let was = c.loop-banks.invariant in
     let banks : List ℕ = take c.list_reached-count.result c.list_reached-count.new.reached in
     record {
-      levels = subst (IsReached c.args.book.now c.args.lines.now c.args.weight c.args.bank c.args.side) (sym c.from_vec.ensures.items)
+      levels = subst (IsReached c.args.book.now c.args.lines.now c.args.weight c.args.bank c.args.side) (sym c.from_vec-2.ensures.items)
           (elim c.loop-banks-test.branch [
             | else-loop-banks-test w ↦
                 reached-full c.args.book.now c.args.lines.now c.args.weight c.args.bank c.lots_by_total-most.result c.args.side c.open_banks.new.self c.loop-banks.walk begins c.requires.banks c.requires.bank c.requires.weight.0 c.lots_by_total-most.ensures.most
@@ -126,5 +174,5 @@ returns g c =
                 (best_is c.loop-banks.walk banks w.opposite.result c.loop-banks.rank w.price_at.result (side_same c.loop-banks.walk c.open_banks.new.self c.args.side w.opposite.result w.opposite.ensures (was.way begins).taker (ap (λ (w : LevelWalk). w.taker) begins.is))
                 w.price_at.ensures.valid w.price_at.ensures.value was.lowest)))
           ]);
-      steps = subst (λ (n : ℕ). c.loop-banks.steps ≤ c.args.steps.now + (n + 1) * c.args.book.now.banks) (sym (ap length c.from_vec.ensures.items)) (omega (arith, was.steps));
+      steps = subst (λ (n : ℕ). c.loop-banks.steps ≤ c.args.steps.now + (n + 1) * c.args.book.now.banks) (sym (ap length c.from_vec-2.ensures.items)) (omega (arith, was.steps));
     }

@@ -11,7 +11,7 @@ use Rattle.access_index.proofs.words.HeadWords.set.Goals.{in-Some, in-None}
 
 pub returns : goal.returns
 returns c =
-    map-set head_of c.self.inside.words c.index-at.result c.match-head.self
+    map-set head_of c.self.inside.tables.words c.index-at.result c.match-head.self
     ∙ ap (λ (hs : List (Option Head)). set hs c.index-at.result (head_of c.match-head.self)) c.self.view_is
     ∙ ap (λ (k : ℕ). set c.args.self.now k (head_of c.match-head.self)) c.index-at.ensures.value
     ∙ ap (set c.args.self.now c.args.bank) (elim c.match-head.branch [
@@ -22,7 +22,7 @@ returns c =
 
 pub invariant_of-self : goal.invariant_of-self
 invariant_of-self c =
-    words_set c.self.inside.words c.self.inside.groups c.index-at.result c.args.bank c.match-head.self (c.index-at.result / 8) c.least_of.result c.self.told.0 c.self.told.1 c.index-at.ensures.value c.requires.bank c.self.invariant
+    words_set c.self.inside.tables.words c.self.inside.tables.groups c.index-at.result c.args.bank c.match-head.self (c.index-at.result / 8) c.least_of.result c.index-at.ensures.value c.requires.bank c.self.invariant
     (elim c.match-head.branch [
       | in-Some w ↦ λ _. ap (λ (n : ℕ). n % 64) (w.self-is ∙ w.word_of.ensures.word) ∙ own_word w.in-Some.head c.args.bank c.requires.bank
       | in-None w ↦ λ some. absurd (some w.self-is)

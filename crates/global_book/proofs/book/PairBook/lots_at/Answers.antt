@@ -1,4 +1,4 @@
-use Rattle.std.proofs.Common.{ap, ◌∙◌, arith}
+use Rattle.std.proofs.Common.{ap, ◌∙◌}
 use Rattle.fx_amounts.specs.Side.{opposite}
 use Rattle.price_levels.specs.declared.level.Level.{Level}
 use Rattle.access_index.specs.Ranked.{bank_level}

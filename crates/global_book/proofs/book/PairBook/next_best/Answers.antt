@@ -8,7 +8,7 @@ use Rattle.global_book.specs.Behind.{owned_behind}
 use Rattle.global_book.specs.inside.Bests.{is_past}
 use Rattle.global_book.proofs.Behind.{best-live, either-best, is-best, is-none}
 use Rattle.global_book.proofs.Booking.{kept-book}
-use Rattle.global_book.proofs.book.PairBook.next_near.Goals as goal
+use Rattle.global_book.proofs.book.PairBook.next_best.Goals as goal
 
 pub returns-in_err-place-clause-none : goal.returns-in_err-place-clause-none
 returns-in_err-place-clause-none g c = (
