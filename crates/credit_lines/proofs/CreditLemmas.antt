@@ -1,12 +1,12 @@
 -- Where what two banks set or use stands, and what a take or a new limit leaves at each place.
-use Rattle.std.proofs.Common.{ℕ, ◌≡◌, ◌≢◌, ◌+◌, ◌-◌, ◌*◌, ◌/◌, ◌^◌, ◌≤◌, ◌<◌, min, max, List, length, get_or, set, ◌⊎◌, inl, inr, refl, ap, sym, subst, ◌∙◌, arith, Option, Some, None}
+use Rattle.std.proofs.Common.{ℕ, ◌≡◌, ◌≢◌, ◌+◌, ◌-◌, ◌*◌, ◌^◌, ◌≤◌, ◌<◌, min, max, List, length, get_or, set, ◌⊎◌, inl, inr, refl, ap, sym, subst, ◌∙◌, arith, Option, Some, None}
 use Rattle.std.specs.Option.{option_map}
 use Rattle.std.proofs.lemmas.Bool.{cases_eq}
 use Rattle.std.proofs.lemmas.List.{length-set, get_or-set_same, get_or-set_other}
-use Rattle.std.proofs.lemmas.Nat.{mul-add-lt, same_from_place, mul-le, div-add-mod'}
+use Rattle.std.proofs.lemmas.Nat.{mul-add-lt, same_from_place}
 use Rattle.fx_amounts.specs.Quantity.{IsUnits}
 use Rattle.fx_rules.specs.State.{at_most}
-use Rattle.credit_lines.specs.Credit.{Credit, place, shared_place, limit_in, used_in, total_in, spent_in, room_in, left_in, line_in, reach_in, with_used, taken, given_back, limited, totalled, IsCredit}
+use Rattle.credit_lines.specs.Credit.{Credit, place, shared_place, limit_in, used_in, total_in, spent_in, room_in, left_in, line_in, with_used, taken, given_back, limited, totalled, IsCredit}
 use Rattle.credit_lines.specs.inside.Credit.{lined, AreLines, both_set, AreSpent}
 use Rattle.credit_lines.proofs.Sums.{others-agree, others-more, others-most}
 
@@ -114,13 +114,6 @@ pub line_in-unbounded : (c : Credit) (i j : ℕ) → total_in c i ≡ None → t
 line_in-unbounded c i j first second =
     ap (λ o. at_most (option_map (λ most. most - spent_in c i) o) (at_most (room_in c j) (left_in c i j))) first
     ∙ ap (λ o. at_most (option_map (λ most. most - spent_in c j) o) (left_in c i j)) second
-
--- so many lots of so many units each are within the line where they are within the reach
-pub reach_in-units : (c : Credit) (i j weight lots : ℕ) → 1 ≤ weight → lots ≤ reach_in c i j weight → lots * weight ≤ line_in c i j
-reach_in-units c i j weight lots least within =
-    let whole : line_in c i j / weight * weight ≤ line_in c i j = omega (arith, div-add-mod' (line_in c i j) weight) in
-    let product : lots * weight ≤ line_in c i j / weight * weight = mul-le lots weight (line_in c i j / weight) weight within (omega arith) in
-    omega arith
 
 -- What two banks have used changes.
 

@@ -1,23 +1,22 @@
 -- Credit and states of the market: that the credit of a state stays that of the next one.
-use Rattle.std.proofs.Common.{ℕ, ◌≡◌, ◌≢◌, ◌+◌, ◌-◌, ◌*◌, ◌/◌, ◌<◌, Some, true, false, ◌&&◌, cond, eqb, List, length, [], ◌∷◌, inl, inr, refl, ap, sym, subst, ◌∙◌, arith}
+use Rattle.std.proofs.Common.{ℕ, ◌≡◌, ◌≢◌, ◌+◌, ◌-◌, ◌*◌, ◌<◌, Some, true, ◌&&◌, cond, eqb, List, length, [], ◌∷◌, inl, inr, refl, ap, sym, subst, ◌∙◌, arith}
 use Rattle.std.specs.Option.{option_map}
 use Rattle.std.proofs.lemmas.Bool.{cases_Bool, cases_eq, and_parts, cond-true, cond-false, eq-eqb, ne_eqb, eqb-true, false≢true}
 use Rattle.std.proofs.lemmas.Bool.Decides.{nat_tests}
 use Rattle.fx_rules.specs.declared.orders.Fill.{Fill}
-use Rattle.std.proofs.lemmas.List.{length-set}
-use Rattle.fx_rules.specs.Lists.{Each, total}
-use Rattle.fx_rules.specs.Session.{Header, bank_count, weight_of}
-use Rattle.fx_rules.specs.State.{State, Settlement, opening, is_between, cost, cost_between, settles, settled_between, used, spent, headroom, at_most, left_of_limits, line, reach, Within}
+use Rattle.fx_rules.specs.Lists.{total}
+use Rattle.fx_rules.specs.Session.{Header, bank_count}
+use Rattle.fx_rules.specs.State.{State, Settlement, opening, is_between, cost, cost_between, settles, settled_between, used, spent, headroom, at_most, left_of_limits, line}
 use Rattle.fx_rules.specs.Sound.{IsCovered}
-use Rattle.fx_rules.specs.Sweep.{filled, filled_all}
+use Rattle.fx_rules.specs.Sweep.{filled}
 use Rattle.fx_rules.specs.Raise as raise
 use Rattle.fx_rules.proofs.Falling.{Terms, terms}
-use Rattle.fx_rules.proofs.Credit.{used-filled, cost_between-one, cost_between-other, between_cases, is_between-swap, covered-filled, settles_cases, settled_between-append, settled_between-one, settled_between-other}
-use Rattle.credit_lines.specs.Credit.{Credit, shared_place, limit_in, used_in, total_in, spent_in, room_in, left_in, line_in, reach_in, others_of, opened, with_used, taken, given_back, limited, totalled, IsCredit}
-use Rattle.credit_lines.specs.Market.{StandsFor, taken_by, taken_by_all}
+use Rattle.fx_rules.proofs.Credit.{used-filled, cost_between-one, cost_between-other, between_cases, is_between-swap, settles_cases, settled_between-append, settled_between-one, settled_between-other}
+use Rattle.credit_lines.specs.Credit.{Credit, shared_place, limit_in, used_in, total_in, spent_in, room_in, left_in, line_in, others_of, opened, given_back, limited, totalled, IsCredit}
+use Rattle.credit_lines.specs.Market.{StandsFor, taken_by}
 use Rattle.credit_lines.specs.inside.Market.{IsBetweenBanks}
 use Rattle.credit_lines.proofs.Sums.{others-agree}
-use Rattle.credit_lines.proofs.CreditLemmas.{same_two, same_banks, used_in-swap, used_in-here, used_in-back, used_in-other, with_used-swap, limit_in-limited_same, limit_in-limited_other, total_in-totalled_same, total_in-totalled_other}
+use Rattle.credit_lines.proofs.CreditLemmas.{same_two, same_banks, used_in-swap, used_in-here, used_in-back, used_in-other, limit_in-limited_same, limit_in-limited_other, total_in-totalled_same, total_in-totalled_other}
 use Rattle.credit_lines.proofs.OpeningLemmas.{used_in-opened, total_in-opened}
 
 pub StandsFor-opened : (h : Header) → StandsFor h (opening h) (opened h)
@@ -64,22 +63,6 @@ line_in-line h S c i j stands p q differ =
     ∙ ap (λ o. at_most (headroom h S i) (at_most o (left_in c i j))) (room_in-headroom h S c j stands q)
     ∙ ap (λ n. at_most (headroom h S i) (at_most (headroom h S j) n)) left
 
-pub reach_in-reach : (h : Header) (S : State) (c : Credit) (i j pair : ℕ) → StandsFor h S c → i < bank_count h → j < bank_count h → i ≢ j → reach_in c i j (weight_of h pair) ≡ reach h S i j pair
-reach_in-reach h S c i j pair stands p q differ = ap (λ l. l / weight_of h pair) (line_in-line h S c i j stands p q differ)
-
--- no line is exceeded in the state
-pub Within-of : (h : Header) (S : State) (c : Credit) → IsCredit c → StandsFor h S c → Within h S
-Within-of h S c valid stands = record {
-  lines = λ i j p q differ.
-      let first : i < c.banks = omega (arith, stands.banks) in
-      let second : j < c.banks = omega (arith, stands.banks) in
-      let limit : limit_in c i j ≡ S.limits i j = stands.limits i j p q differ in
-      let both : used_in c i j ≡ used h S i j = stands.uses i j p q differ in
-      omega (arith, valid.within i j first second);
-  totals = λ i most p has.
-      omega (arith, spent_in-spent h S c i stands p, valid.within_total i most (omega (arith, stands.banks)) (stands.totals i p ∙ has));
-}
-
 is_between_banks : (i j : ℕ) (f : Fill) → f.taker ≡ i → f.maker ≡ j → is_between i j f ≡ true
 is_between_banks i j f first second = grind (arith, nat_tests)
 
@@ -121,30 +104,6 @@ StandsFor-taken_by h S c f full covered between stands = record {
       ∙ ap (λ u. u + cost_between h i j (f ∷ [])) (stands.uses i j p q differ) ∙ sym (used-filled h S f i j covered);
   totals = stands.totals;
 }
-
--- Fills in order.
-pub StandsFor-taken_by_all : (h : Header) (S : State) (c : Credit) (fs : List Fill) → length c.uses ≡ c.banks * c.banks → IsCovered h S → Each (IsBetweenBanks h) fs → StandsFor h S c → StandsFor h (filled_all S fs) (taken_by_all h c fs)
-StandsFor-taken_by_all h S c [] full covered between stands = stands
-StandsFor-taken_by_all h S c (f ∷ fs) full covered between stands =
-    let now : ℕ = used_in c f.taker f.maker + cost h f in
-    StandsFor-taken_by_all h (filled S f) (taken_by h c f) fs
-    (length-set c.uses (shared_place c.banks f.taker f.maker) now ∙ full)
-    (covered-filled h S f covered) between.1 (StandsFor-taken_by h S c f full covered between.0 stands)
-
--- whichever of the two banks is named first
-pub taken-swap : (c : Credit) (i j units : ℕ) → taken c i j units ≡ taken c j i units
-taken-swap c i j units = with_used-swap c i j (used_in c i j + units) ∙ ap (λ u. with_used c j i (u + units)) (used_in-swap c i j)
-
--- A take of a fill's cost, whichever of its two banks is named first.
-pub StandsFor-take : (h : Header) (S : State) (c new : Credit) (f : Fill) (i j units : ℕ) → length c.uses ≡ c.banks * c.banks → IsCovered h S → IsBetweenBanks h f → is_between i j f ≡ true → units ≡ cost h f → new ≡ taken c i j units → StandsFor h S c → StandsFor h (filled S f) new
-StandsFor-take h S c new f i j units full covered between is is_cost is_new stands =
-    let by_fill : StandsFor h (filled S f) (taken c f.taker f.maker (cost h f)) = StandsFor-taken_by h S c f full covered between stands in
-    let same : taken c f.taker f.maker (cost h f) ≡ taken c i j (cost h f) =
-    elim (between_cases i j f is) [
-      | inl named ↦ ap (λ x. taken c x f.maker (cost h f)) named.0 ∙ ap (λ y. taken c i y (cost h f)) named.1
-      | inr turned ↦ taken-swap c f.taker f.maker (cost h f) ∙ ap (λ x. taken c x f.taker (cost h f)) turned.1 ∙ ap (λ y. taken c i y (cost h f)) turned.0
-    ] in
-    subst (StandsFor h (filled S f)) (same ∙ ap (taken c i j) (sym is_cost) ∙ sym is_new) by_fill
 
 -- the limit as it was set, and another as it was
 limit_set-same : (S : State) (i j limit : ℕ) → (raise.limited i j limit S).limits i j ≡ limit

@@ -32,9 +32,9 @@ pub(crate) fn difference(a: Units, b: Units) -> Units
     Units::new(a.get() - b.get()).unwrap()
 }
 
-/// Credit units, and no more than a bound where there is one.
-pub(crate) fn at_most(bound: Option<u64>, units: Units) -> Units
-    ensures { result ≡ state.at_most bound units }
+/// Credit units, and no more than a bound where there is one, in credit units too.
+pub fn at_most(bound: Option<u64>, units: Units) -> Units
+    ensures value { result ≡ state.at_most bound units }
 {
     match bound {
         Some(most) if most < units.get() => Units::new(most).unwrap(),

@@ -15,6 +15,7 @@ mod places;
 mod sessions;
 mod table;
 
+pub use amounts::at_most;
 pub use laws::{steps_are_paid, sweeps_are_paid, turns_are_paid};
 pub use lines::CreditLines;
 pub use table::CreditTable;

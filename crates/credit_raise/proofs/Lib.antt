@@ -7,6 +7,7 @@ pub mod Meeting
 pub mod Paying
 pub mod Raised
 pub mod Going
+pub mod Idle
 pub mod Living
 pub mod Facing
 pub mod Gathering

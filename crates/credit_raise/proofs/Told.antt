@@ -29,7 +29,7 @@ no_price Buy word all valid = omega (arith, all, valid.0)
 no_price Sell word all valid = omega (arith, all, valid.1)
 
 -- a bank's best price is one in range
-valid_price : (side : Side) (bank : ℕ) (orders : List Resting) (price : Option ℕ) → Each (λ (order : Resting). IsPrice order.price) orders → IsPriceOf (opposite side) bank None orders price → IfSome price IsPrice
+pub valid_price : (side : Side) (bank : ℕ) (orders : List Resting) (price : Option ℕ) → Each (λ (order : Resting). IsPrice order.price) orders → IsPriceOf (opposite side) bank None orders price → IfSome price IsPrice
 valid_price side bank orders None ticks is = tt
 valid_price side bank orders (Some price) ticks is = subst IsPrice is.price (Each-among (λ (order : Resting). IsPrice order.price) orders is.order ticks is.there)
 

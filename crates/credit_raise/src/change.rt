@@ -77,9 +77,33 @@ impl CreditChange {
 
     /// The turn of the next pair, where a lot costs `weight` credit units, 1 to 10^6: what the orders there make of the line, or of
     /// the lines, that the pairs before have left. In every state of which the command was under way, and whose book and weight
-    /// these are, it goes on. A limit's turn looks at the orders of its two banks alone. It takes memory for what is found; after
-    /// `Memory` all is as it was.
+    /// these are, it goes on. A limit's turn looks at the orders of its two banks alone, and at none where its line does not pay for a
+    /// lot or the best prices of the two do not cross. It takes memory for what is found; after `Memory` all is as it was.
     pub fn pair(&mut self, alloc: Global, book: &PairBook, weight: u32) -> Result<(), Memory>
+        requires weight { IsWeight weight }
+        requires banks { HasBanks self.old.course book.now.banks }
+        requires next { book.now.pair ≡ length self.old.plans }
+        ensures goes_on { OnOk result ((h : Header) (S : State) → IsUnderWay h S self.old → IsPairOf h S book.now weight → IsUnderWay h S self.new) }
+        ensures turns { OnOk result (length self.new.plans ≡ length self.old.plans + 1) }
+        ensures command { self.new.command ≡ self.old.command }
+        ensures sender { self.new.sender ≡ self.old.sender }
+        ensures banks { (banks : ℕ) → HasBanks self.old.course banks → HasBanks self.new.course banks }
+        ensures memory { OnErr result (self.new ≡ self.old) }
+    {
+        let has_room = self.plans.len() < self.plans.capacity();
+        if has_room && self.course.is_idle(book, weight, self.sender) {
+            self.plans.push_reserved(Plan {
+                fills: FillList::from_vec(Vec::new(alloc)),
+                left: 0,
+            });
+            return Ok(());
+        }
+        self.turn(alloc, book, weight)
+    }
+
+    /// The same, whatever the orders make.
+    #[inline(never)]
+    fn turn(&mut self, alloc: Global, book: &PairBook, weight: u32) -> Result<(), Memory>
         requires weight { IsWeight weight }
         requires banks { HasBanks self.old.course book.now.banks }
         requires next { book.now.pair ≡ length self.old.plans }

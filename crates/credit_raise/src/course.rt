@@ -1,6 +1,6 @@
 //! The course that a credit change takes, by what its command is.
-ghost use Rattle.std.specs.Prelude.{◌≡◌, ◌≢◌, ◌<◌, ◌-◌, ◌*◌, max, IfOk};
-ghost use Rattle.fx_amounts.specs.Quantity.{IsUnits, IsWeight};
+ghost use Rattle.std.specs.Prelude.{◌≡◌, ◌≢◌, ◌<◌, ◌-◌, ◌*◌, true, max, IfOk};
+ghost use Rattle.fx_amounts.specs.Quantity.{IsWeight};
 ghost use Rattle.fx_rules.specs.Session.{Header};
 ghost use Rattle.fx_rules.specs.State as state;
 ghost use Rattle.fx_rules.specs.State.{State};
@@ -9,12 +9,12 @@ ghost use Rattle.credit_lines.specs.Credit.{IsCredit};
 ghost use Rattle.fx_rules.specs.declared.command.Command.TheVariants.{Line};
 ghost use Rattle.credit_raise.specs.Two.{lots_of};
 ghost use Rattle.credit_raise.specs.UnderWay.{HasBanks, IsChange, IsReady, answer_of, course_of, set_of};
-ghost use Rattle.credit_raise.specs.inside.UnderWay.{AreParties, HasCredit, IsCourse, IsCourseOf, IsSwept, course_behind};
+ghost use Rattle.credit_raise.specs.inside.UnderWay.{AreParties, HasCredit, IsCourse, IsCourseOf, IsSwept, MakesNone, course_behind};
 
 use crate::pay::pay_all;
-use crate::raise::plan_raise;
+use crate::raise::{is_idle, plan_raise};
 use crate::sweep::plan_sweep;
-use credit_lines::CreditLines;
+use credit_lines::{CreditLines, at_most};
 use fx_amounts::{BankId, Memory, Units};
 use fx_rules::{Command, Fill, FillList, Outcome, Plan};
 use global_book::PairBook;
@@ -123,6 +123,42 @@ impl Course {
         }
     }
 
+    /// Whether it is plain, with no look at an order, that the next pair makes nothing of a limit. The pair's book is this, and a lot
+    /// costs `weight` credit units there, 1 to 10^6.
+    #[inline(always)]
+    pub(crate) fn is_idle(&self, book: &PairBook, weight: u32, sender: BankId) -> bool
+        requires valid { IsCourse sender self.now }
+        requires weight { IsWeight weight }
+        ensures none { result ≡ true → MakesNone book.now weight sender self.now }
+    {
+        self.counted_idle::<Brand>(book, weight, sender, Blank::new(1))
+    }
+
+    /// The same, with a ledger for the steps.
+    #[inline(always)]
+    fn counted_idle<L: Ledger>(
+        &self,
+        book: &PairBook,
+        weight: u32,
+        sender: BankId,
+        blank: Blank,
+    ) -> bool
+        requires valid { IsCourse sender self.now }
+        requires weight { IsWeight weight }
+        requires name { blank.name ≡ L.name }
+        requires parts { blank.parts ≡ L.parts }
+        requires some { 0 < blank.parts }
+        ensures none { result ≡ true → MakesNone book.now weight sender self.now }
+    {
+        let mut steps = Steps::<L>::new(blank);
+        match self {
+            Course::Raised { other, line, .. } => {
+                is_idle(book, weight, sender, *other, *line, &mut steps)
+            }
+            Course::Swept { .. } => false,
+        }
+    }
+
     /// Fills in a pair are paid for, where a lot costs `weight` credit units. The pair's book was made for so many banks.
     pub(crate) fn follow(&mut self, banks: usize, weight: u32, fills: &[Fill])
         requires valid { HasCredit self.old }
@@ -204,16 +240,6 @@ fn left_of(units: Units, used: Units) -> Units
     ensures value { result ≡ units - used }
 {
     Units::new(units.get().saturating_sub(used.get())).unwrap()
-}
-
-/// Credit units, and no more than a bound where there is one.
-fn at_most(bound: Option<u64>, units: Units) -> Units
-    ensures value { result ≡ state.at_most bound units }
-{
-    match bound {
-        Some(most) if most < units.get() => Units::new(most).unwrap(),
-        _ => units,
-    }
 }
 
 /// What these fills leave of a line, where a lot costs `weight` credit units.

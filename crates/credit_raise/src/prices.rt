@@ -4,7 +4,7 @@ ghost use Rattle.fx_amounts.specs.declared.side.Side.TheVariants.{Buy, Sell};
 ghost use Rattle.fx_rules.specs.declared.orders.Resting.{Resting};
 ghost use Rattle.fx_rules.specs.Lists.{Among};
 ghost use Rattle.global_book.specs.Words.{AreBestWords};
-ghost use Rattle.credit_raise.specs.inside.Prices.{AreTops, AreTopsOfAll, IsTop, IsWithin, crosses_tops, is_crossed, top_of, tops_meet};
+ghost use Rattle.credit_raise.specs.inside.Prices.{AreTops, AreTopsOfAll, IsTop, IsWithin, crosses_tops, is_crossed, ranks_meet, top_of, tops_meet, words_meet};
 
 use fx_amounts::{BankId, Price, Side};
 use global_book::{PairBook, price_at};
@@ -92,6 +92,31 @@ impl Tops {
     {
         is_crossed(self.buy, other.sell) || is_crossed(other.buy, self.sell)
     }
+}
+
+/// Whether the best prices of two banks cross, as the words of the banks' best buys and sells tell.
+#[inline(always)]
+pub(crate) fn words_meet(
+    buys: &[u64; BankId::COUNT],
+    sells: &[u64; BankId::COUNT],
+    i: BankId,
+    j: BankId,
+) -> bool
+    ensures { result ≡ words_meet buys.now sells.now i j }
+{
+    let i = i.index();
+    let j = j.index();
+    i < BankId::COUNT
+        && j < BankId::COUNT
+        && (ranks_meet(buys[i], sells[j]) || ranks_meet(buys[j], sells[i]))
+}
+
+/// Whether the price of a buy's word crosses that of a sell's word, as the ranks in the two tell.
+#[inline(always)]
+fn ranks_meet(buy: u64, sell: u64) -> bool
+    ensures { result ≡ ranks_meet buy sell }
+{
+    (buy >> 34) + (sell >> 34) <= u64::from(Price::MOST)
 }
 
 /// Whether a best buy crosses a best sell, where there are both.

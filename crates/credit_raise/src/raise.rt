@@ -1,4 +1,4 @@
-ghost use Rattle.std.specs.Prelude.{◌≡◌, ◌≢◌, ◌≤◌, ◌+◌, ◌*◌, [], filter, length, IfOk};
+ghost use Rattle.std.specs.Prelude.{◌≡◌, ◌≢◌, ◌≤◌, ◌+◌, ◌*◌, true, [], filter, length, IfOk};
 ghost use Rattle.fx_amounts.specs.Quantity.{IsWeight};
 ghost use Rattle.fx_rules.specs.Lists.{Each};
 ghost use Rattle.fx_rules.specs.Session.{Header};
@@ -8,10 +8,10 @@ ghost use Rattle.credit_raise.specs.Two.{IsFillOf, IsRaised, is_of_two, lots_of}
 ghost use Rattle.credit_raise.specs.inside.Two.{turns};
 ghost use Rattle.credit_raise.specs.inside.Playing.{AreTurns, Played, other_of};
 
-use crate::prices::Tops;
+use crate::prices::{Tops, words_meet};
 use crate::replay::Replay;
 use crate::walk::live_turns;
-use fx_amounts::{BankId, Memory, PairId, Units};
+use fx_amounts::{BankId, Memory, PairId, Side, Units};
 use fx_rules::{Fill, FillList, Plan, Resting};
 use global_book::PairBook;
 use price_levels::Steps;
@@ -52,6 +52,30 @@ pub fn plan_raise<L: Ledger>(
         fills: FillList::from_vec(fills),
         left: 0,
     })
+}
+
+/// Whether a raised line between two banks makes nothing in one pair, as its `eff` credit units and the words of the two banks' best
+/// orders tell: it does not pay for a lot, which costs `weight`, or the best prices of the two do not cross. Two steps at most.
+#[inline(always)]
+pub(crate) fn is_idle<L: Ledger>(
+    book: &PairBook,
+    weight: u32,
+    i: BankId,
+    j: BankId,
+    eff: Units,
+    steps: &mut Steps<L>,
+) -> bool
+    requires weight { IsWeight weight }
+    requires differ { i ≢ j }
+    ensures none { result ≡ true → Played book.now.pair weight i j eff [] (turns i j book.now.orders) [] }
+    ensures steps { steps.new ≤ steps.old + 2 }
+{
+    if eff.get() < u64::from(weight) {
+        return true;
+    }
+    let buys = book.best_words(Side::Buy, steps);
+    let sells = book.best_words(Side::Sell, steps);
+    !words_meet(buys, sells, i, j)
 }
 
 /// The fills of the two banks' orders. Those that no order of the other bank crosses need no turn.

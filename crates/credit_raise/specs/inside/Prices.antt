@@ -1,5 +1,5 @@
 -- The best prices of two banks, and the orders that cross the other bank's.
-use Rattle.std.specs.Prelude.{ℕ, ◌≡◌, ◌==◌, ◌&&◌, ◌||◌, ◌++◌, if◌then◌else◌, Bool, true, false, List, filter, Option, Some, None}
+use Rattle.std.specs.Prelude.{ℕ, ◌≡◌, ◌+◌, ◌/◌, ◌^◌, ◌==◌, nat_le, nat_lt, slice_index, ◌&&◌, ◌||◌, ◌++◌, if◌then◌else◌, Bool, true, false, List, filter, Option, Some, None}
 use Rattle.std.specs.List.Sorted.{IsPermutation}
 use Rattle.fx_amounts.specs.Price.{crosses}
 use Rattle.fx_amounts.specs.Side.{opposite}
@@ -61,6 +61,15 @@ is_crossed (Some buy) sell = crosses_top Buy buy sell
 -- the best prices of two banks cross
 abbrev pub tops_meet : Tops → Tops → Bool
 tops_meet tops others = is_crossed tops.buy others.sell || is_crossed others.buy tops.sell
+
+-- the prices that a buy's word and a sell's word tell cross: the ranks in them, in the bits from the 34th on, are as little together
+abbrev pub ranks_meet : ℕ → ℕ → Bool
+ranks_meet buy sell = nat_le (buy / 2 ^ 34 + sell / 2 ^ 34) (10 ^ 9)
+
+-- the best prices of two banks cross, as the words of the banks' best buys and sells tell
+abbrev pub words_meet : List ℕ → List ℕ → ℕ → ℕ → Bool
+words_meet buys sells i j =
+    nat_lt i 64 && nat_lt j 64 && (ranks_meet (slice_index buys i) (slice_index sells j) || ranks_meet (slice_index buys j) (slice_index sells i))
 
 -- an order of one of two banks crosses the best price of the other's
 abbrev pub is_live : ℕ → Tops → Tops → Resting → Bool

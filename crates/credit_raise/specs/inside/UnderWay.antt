@@ -7,7 +7,10 @@ use Rattle.fx_rules.specs.declared.orders.Fill.{Fill}
 use Rattle.fx_rules.specs.declared.orders.Plan.{Plan}
 use Rattle.fx_rules.specs.Lists.{Each}
 use Rattle.credit_lines.specs.Credit.{IsCredit}
+use Rattle.global_book.specs.Book.{Book}
 use Rattle.credit_raise.specs.Two.{IsFillOf, lots_of}
+use Rattle.credit_raise.specs.inside.Two.{turns}
+use Rattle.credit_raise.specs.inside.Playing.{Played}
 use Rattle.credit_raise.specs.inside.Paying.{paid_all}
 use Rattle.credit_raise.specs.declared.course.Course.{Course}
 use Rattle.credit_raise.specs.declared.course.Course.TheVariants.{Raised, Swept}
@@ -52,3 +55,9 @@ IsCourseOf command (Swept lines set) = IsSwept command set
 abbrev pub AreParties : ℕ → ℕ → Course → List Fill → Type 0
 AreParties pair sender (Raised other limit line) fills = Each (IsFillOf pair sender other) fills
 AreParties pair sender (Swept lines set) fills = Unit {0}
+
+-- The orders in a pair, where a lot costs this weight, make nothing of a limit's line, whatever the state. Of a total or a settlement
+-- that is not known without a look at its lines.
+abbrev pub MakesNone : Book → ℕ → ℕ → Course → Type 0
+MakesNone book weight sender (Raised other limit line) = Played book.pair weight sender other line [] (turns sender other book.orders) []
+MakesNone book weight sender (Swept lines set) = ⊥

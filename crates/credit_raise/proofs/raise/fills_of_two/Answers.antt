@@ -1,12 +1,12 @@
 -- The live turns' fills are those of all turns.
-use Rattle.std.proofs.Common.{ℕ, [], List, ◌≤◌, ◌+◌, ◌*◌, length, refl, ap, ◌∙◌, arith, sym, subst}
+use Rattle.std.proofs.Common.{ℕ, [], List, ◌≤◌, ◌+◌, ◌*◌, length, ap, ◌∙◌, arith, sym, subst}
 use Rattle.std.proofs.lemmas.Result.{IfOk-weaker}
 use Rattle.fx_rules.specs.declared.orders.Resting.{Resting}
 use Rattle.fx_rules.proofs.Planning.{div_none}
 use Rattle.credit_raise.specs.inside.Two.{turns}
 use Rattle.credit_raise.specs.inside.Playing.{AreTurns, Played}
 use Rattle.credit_raise.proofs.Facing.{live-few, live-turns, live-played}
-use Rattle.credit_raise.proofs.Gathering.{apart-turns}
+use Rattle.credit_raise.proofs.Idle.{apart-played}
 use Rattle.credit_raise.proofs.Quiet.{unpaid-plays}
 use Rattle.credit_raise.proofs.raise.fills_of_two.Goals as goal
 
@@ -61,10 +61,8 @@ returns-then-not-meet g c =
     let orders : List Resting = c.args.book.now.orders in
     record {
       played = subst (Played pair c.args.weight i j c.args.eff [] (turns i j orders)) (sym c.new-then-not-meet.ensures.items)
-          (live-played pair c.args.weight i j c.args.eff orders c.of_two-tops_i.result.0 c.of_two-tops_i.result.1 []
+          (apart-played pair c.args.weight i j c.args.eff orders c.of_two-tops_i.result.0 c.of_two-tops_i.result.1
           c.requires.differ c.pair-pair.ensures.valid.rising c.of_two-tops_i.ensures.tops_i c.of_two-tops_i.ensures.tops_j
-          (subst (λ (os : List Resting). Played pair c.args.weight i j c.args.eff [] os [])
-          (sym (apart-turns orders i j c.of_two-tops_i.result.0 c.of_two-tops_i.result.1 c.requires.differ c.of_two-tops_i.ensures.tops_i c.of_two-tops_i.ensures.tops_j
-          (sym c.meet.ensures ∙ c.if-not-meet.true))) refl));
+          (sym c.meet.ensures ∙ c.if-not-meet.true));
       steps = omega (arith, c.of_two-tops_i.ensures.steps);
     }

@@ -1,21 +1,19 @@
-use Rattle.std.proofs.Common.{◌≡◌, Result, Ok, Err, OnOk, sym, subst}
-use Rattle.fx_amounts.specs.declared.memory.Memory.{Memory}
-use Rattle.fx_rules.specs.Session.{Header}
-use Rattle.fx_rules.specs.State.{State}
-use Rattle.credit_raise.specs.UnderWay.{IsPairOf, IsUnderWay}
-use Rattle.credit_raise.specs.inside.UnderWay.{with_plan}
-use Rattle.credit_raise.proofs.Pairs.{goes_on}
+-- A pair in which nothing is made has its turn: a plan without fills is added.
+use Rattle.std.proofs.Common.{List, ◌≡◌, ◌++◌, ◌∷◌, [], length, ap, subst, sym, ◌∙◌}
+use Rattle.fx_rules.specs.declared.orders.Fill.{Fill}
+use Rattle.fx_rules.specs.declared.orders.Plan.{Plan}
+use Rattle.credit_raise.specs.UnderWay.{Change, IsUnderWay}
+use Rattle.credit_raise.proofs.Idle.{none, none-goes-on}
 use Rattle.credit_raise.proofs.change.CreditChange.pair.Goals as goal
 
-on_ok : (r : Result (Unit {0}) Memory) (P Q : Type 0) → (P → Q) → OnOk r P → OnOk r Q
-on_ok (Ok u) P Q step h = step h
-on_ok (Err e) P Q step h = tt
-
-pub returns-clause-goes_on : goal.returns-clause-goes_on
-returns-clause-goes_on c =
-    on_ok c.add.result (c.add.new.self ≡ with_plan c.args.self.now c.in_ok-plan.plan c.args.weight)
-    ((h : Header) (S : State) → IsUnderWay h S c.args.self.now → IsPairOf h S c.args.book.now c.args.weight → IsUnderWay h S c.add.new.self)
-    (λ added h S under of. subst (IsUnderWay h S) (sym added)
-    (goes_on h S c.args.self.now c.args.book.now c.args.weight c.in_ok-plan.plan c.plan_next.ensures.valid c.requires.weight.0 c.requires.next
-    (λ T. c.in_ok-plan.ensures.fills h T) c.in_ok-plan.ensures.parties under of))
-    c.add.ensures.added
+pub returns-then-is_idle-clause-goes_on : goal.returns-then-is_idle-clause-goes_on
+returns-then-is_idle-clause-goes_on c h S under of =
+    let made : List Plan → Change = λ plans. record { sender = c.self.inside.sender; command = c.self.inside.command; course = c.self.inside.course; plans = plans } in
+    let change : Change = made c.self.inside.plans.items in
+    let all : c.push_reserved.new.self.items ≡ c.self.inside.plans.items ++ none ∷ [] =
+    c.push_reserved.ensures.items
+    ∙ ap (λ (fills : List Fill). c.self.inside.plans.items ++ record { fills = fills; left = 0 } ∷ []) (c.from_vec.ensures.items ∙ c.new.ensures.items) in
+    subst (λ (plans : List Plan). IsUnderWay h S (made plans)) (sym all)
+    (none-goes-on h S change c.args.book.now c.args.weight (c.is_idle.ensures.none c.if-is_idle.true) c.self.invariant.0 c.requires.weight.0
+    (subst (λ (was : Change). c.args.book.now.pair ≡ length was.plans) (sym c.self.view_is) c.requires.next)
+    (subst (IsUnderWay h S) (sym c.self.view_is) under) of)
