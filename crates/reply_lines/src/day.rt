@@ -99,23 +99,6 @@ impl DayText {
             Err(fault) => Err(OutFault::from(fault)),
         }
     }
-
-    /// Writes the output without its last lines. Faults are as those of `write`.
-    pub fn write_day<M: Market, K: Sink>(
-        self,
-        alloc: Global,
-        session: &Session,
-        market: &M,
-        out: &mut K,
-    ) -> Result<(), OutFault>
-        requires told { (entries : List Entry) × IsLegal session.now entries × IsTextOf session.now entries self × M.stands market.now session.now (state session.now entries) }
-        ensures wrote { (entries : List Entry) →
-            IsLegal session.now entries → IsTextOf session.now entries self → M.stands market.now session.now (state session.now entries) →
-            WroteOutput K.written K.faults out.old out.new (IsDayText session.now entries) result }
-    {
-        let DayText { journal, notices } = self;
-        write_day(alloc, session, journal.as_lines(), notices, market, out)
-    }
 }
 
 /// The parts of a day, where the journal's lines may stand in any text.

@@ -1,4 +1,4 @@
-ghost use Rattle.std.specs.Prelude.{◌≡◌, ◌∷◌, [], ◌<◌, ◌≤◌, ◌++◌, ◌+◌, ◌*◌, ◌^◌, codes, length, take};
+ghost use Rattle.std.specs.Prelude.{◌≡◌, ◌∷◌, [], ◌<◌, ◌≤◌, ◌++◌, ◌+◌, ◌*◌, ◌^◌, codes, false, length, take};
 ghost use Rattle.fx_amounts.specs.Numeral.{numeral};
 ghost use Rattle.fx_amounts.specs.Quantity.{IsDecimals};
 ghost use Rattle.fx_text.specs.Fields.{fields_text};
@@ -8,7 +8,7 @@ ghost use Rattle.fx_rules.specs.Session.{IsSender, bank_count, pair_count};
 ghost use Rattle.reply_lines.specs.Notices.{booked_pair, level_fields, book_fields, desk_line};
 ghost use Rattle.reply_lines.specs.Fills.{trade_fields, amount_fields, AreTextsOf, AreShort};
 ghost use Rattle.reply_lines.specs.inside.Fills.{party_of, fill_line};
-ghost use Rattle.reply_lines.specs.inside.Replies.{plain_fields};
+ghost use Rattle.reply_lines.specs.inside.Replies.{is_of_order, plain_fields};
 ghost use Rattle.reply_lines.specs.inside.Telling.{bank_of};
 
 use fx_amounts::{BankId, PairId, Side, Units, base_amount, quote_amount};
@@ -86,8 +86,21 @@ fn put_outcome(outcome: &Outcome, room: &mut [u8], at: usize) -> usize
 {
     match outcome {
         Outcome::Ordered { filled, rests, .. } => put_counts(b"ORDERED", *filled, *rests, room, at),
-        Outcome::Killed => put_word_field(b"KILLED", room, at),
         Outcome::Cancelled { left } => put_count(b"CANCELLED", *left, room, at),
+        _ => put_other_outcome(outcome, room, at),
+    }
+}
+
+/// Writes the fields of an outcome that is no local book, and of no order that was swept or taken out. It stands apart since it is seldom
+/// called, and `put_outcome` stays small enough to be made part of its callers.
+fn put_other_outcome(outcome: &Outcome, room: &mut [u8], at: usize) -> usize
+    requires other { is_of_order outcome.now ≡ false }
+    requires room { at + 84 ≤ length room.old }
+    ensures written { take result room.new ≡ take at room.old ++ fields_text (plain_fields outcome.now) }
+    ensures within { result ≤ at + 84 }
+{
+    match outcome {
+        Outcome::Killed => put_word_field(b"KILLED", room, at),
         Outcome::Reduced { left } => put_count(b"REDUCED", *left, room, at),
         Outcome::NotLess { left } => put_count(b"NOTLESS", *left, room, at),
         Outcome::Nothing => put_word_field(b"NOTHING", room, at),
@@ -98,6 +111,7 @@ fn put_outcome(outcome: &Outcome, room: &mut [u8], at: usize) -> usize
         Outcome::Shown { limit, used, eff } => put_line(*limit, *used, *eff, room, at),
         Outcome::Depth { .. } => at,
         Outcome::Rejected { reason } => put_count(b"BAD", u32::from(reason.code()), room, at),
+        Outcome::Ordered { .. } | Outcome::Cancelled { .. } => unreachable!(),
     }
 }
 

@@ -1,5 +1,5 @@
 -- The fields of a reply that shows no local book.
-use Rattle.std.specs.Prelude.{List, ℕ, [], ◌∷◌, codes}
+use Rattle.std.specs.Prelude.{Bool, false, List, ℕ, [], true, ◌∷◌, codes}
 use Rattle.fx_amounts.specs.Numeral.{numeral}
 use Rattle.fx_rules.specs.Reject.{code_of}
 use Rattle.fx_rules.specs.declared.outcome.Outcome.{Outcome}
@@ -20,3 +20,9 @@ plain_fields (Settled given fills) = codes "SETTLED" ∷ numeral given ∷ []
 plain_fields (Shown limit spent eff) = codes "SHOWN" ∷ numeral limit ∷ numeral spent ∷ numeral eff ∷ []
 plain_fields (Depth bids asks) = []
 plain_fields (Rejected reason) = codes "BAD" ∷ numeral (code_of reason) ∷ []
+
+-- an order was swept, or taken out at its bank's wish
+abbrev pub is_of_order : Outcome → Bool
+is_of_order (Ordered done rests fills) = true
+is_of_order (Cancelled left) = true
+is_of_order _ = false

@@ -2,6 +2,3 @@ use Rattle.output_trials.proofs.told.told_output.Goals as goal
 
 pub write-requires : goal.write-requires
 write-requires c = record { told = (c.args.entries.now, c.requires.legal, c.in_ok-day.ensures.told, c.in_ok-market.ensures.replays) }
-
-pub write_day-requires : goal.write_day-requires
-write_day-requires c = record { told = (c.args.entries.now, c.requires.legal, c.in_ok-day-2.ensures.told, c.in_ok-market.ensures.replays) }

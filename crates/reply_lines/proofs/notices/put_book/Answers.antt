@@ -1,4 +1,4 @@
-use Rattle.std.proofs.Common.{◌∙◌, ◌++◌, ◌∷◌, [], List, ℕ, ap, take, codes}
+use Rattle.std.proofs.Common.{◌∙◌, ◌++◌, ◌∷◌, List, ℕ, ap, take}
 use Rattle.fx_rules.specs.Session.{pair_name, decimals_of}
 use Rattle.fx_text.specs.Fields.{fields_text}
 use Rattle.reply_lines.specs.Notices.{level_fields}

@@ -2,7 +2,7 @@
 use Rattle.std.proofs.Common.{◌∙◌, ◌++◌, List, ℕ, ap, sym, take, append-nil}
 use Rattle.fx_text.specs.Fields.{fields_text}
 use Rattle.reply_lines.specs.inside.Replies.{plain_fields}
-use Rattle.reply_lines.proofs.notices.put_outcome.Goals as goal
+use Rattle.reply_lines.proofs.notices.put_other_outcome.Goals as goal
 
 pub returns-in-Depth-clause-written : goal.returns-in-Depth-clause-written
 returns-in-Depth-clause-written c =
