@@ -1,6 +1,5 @@
-ghost use Rattle.std.specs.Prelude.{ℕ, ◌≡◌, ◌<◌, ◌∷◌, ◌++◌, [], List, length, codes};
+ghost use Rattle.std.specs.Prelude.{◌≡◌, ◌<◌, List, length};
 ghost use Rattle.std.specs.List.{flat_map};
-ghost use Rattle.fx_amounts.specs.Numeral.{numeral};
 ghost use Rattle.fx_edges.specs.Gathered.{Gathered};
 ghost use Rattle.fx_edges.specs.Writing.{Wrote};
 ghost use Rattle.fx_rules.specs.Lists.{below};

@@ -1,6 +1,5 @@
 -- What a front that missed nothing of its key knows of the entries.
 use Rattle.std.proofs.Common.{ℕ, ◌≡◌, ◌==◌, Bool, true, false, true≢false, List, [], ◌∷◌, ◌++◌, refl, ap, sym, ◌∙◌, cond, ne_eqb, append-nil}
-use mathlib.Core.List.{IsPrefix}
 use mathlib.Core.Logic.{dite}
 use native.Mathlib.Decide.{ℕ_discrete}
 use Rattle.fx_rules.specs.Lists.{Each}
@@ -9,9 +8,6 @@ use Rattle.fx_rules.specs.History.{own}
 use Rattle.fx_rules.specs.Keyed.{touches_key}
 use Rattle.fx_rules.proofs.KeyedLemmas.{touches-sender}
 use Rattle.fx_chronicle.specs.Touching.{Untouched}
-
-pub untouched_prefix : {E : Type 0} (touches : E → ℕ → Bool) (key : ℕ) (met entries : List E) → Untouched touches key met entries → IsPrefix met entries
-untouched_prefix touches key met entries u = (u.0, u.1)
 
 own_append : (bank : ℕ) (xs ys : List Entry) → own bank (xs ++ ys) ≡ own bank xs ++ own bank ys
 own_append bank [] ys = refl

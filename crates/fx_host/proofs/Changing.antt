@@ -64,9 +64,6 @@ planned h first sender command change answer copy kept next most valid changes u
 pub roomy : (first mid now : Recorded) {places : ℕ} → mid ≡ first → now ≡ record mid { history = record mid.history { room = places } } → now.history.entries ≡ first.history.entries
 roomy first mid now mid_is now_is = ap (λ (b : Recorded). b.history.entries) now_is ∙ ap (λ (b : Recorded). b.history.entries) mid_is
 
-pub may_enter : (h : Header) (first now : Recorded) (key : ℕ) (command : Command) (change : Change) (entry : Entry) (answer : Outcome) → now.history.entries ≡ first.history.entries → IsPlanned h first.history.entries key command change entry answer → IsLegal h (now.history.entries ++ entry ∷ [])
-may_enter h first now key command change entry answer same plan = subst (λ (es : List Entry). IsLegal h (es ++ entry ∷ [])) (sym same) plan.legal
-
 pub entered-entries : (first now entered : Recorded) (entry : Entry) (key : ℕ) → now.history.entries ≡ first.history.entries → entered ≡ signed_by key (recorded now entry) → entered.history.entries ≡ first.history.entries ++ entry ∷ []
 entered-entries first now entered entry key same entered_is = ap (λ (b : Recorded). b.history.entries) entered_is ∙ ap (λ (es : List Entry). es ++ entry ∷ []) same
 

@@ -1,4 +1,4 @@
-ghost use Rattle.std.specs.Prelude.{◌≡◌, ◌≤◌, ◌<◌, ◌-◌, ◌^◌, Some, true, drop, length, IfOk, OnOk, OnErr, vec_len, vec_capacity};
+ghost use Rattle.std.specs.Prelude.{◌≡◌, ◌≤◌, ◌<◌, ◌-◌, ◌^◌, Some, drop, length, IfOk, OnOk, OnErr, vec_len, vec_capacity};
 ghost use Rattle.std.proofs.Props.{props};
 ghost use mathlib.Core.List.{IsPrefix};
 ghost use Rattle.fx_rules.specs.Session.{IsSession, pair_count};

@@ -1,15 +1,15 @@
 -- The digits behind a price's point.
-use Rattle.std.proofs.Common.{◌≡◌, ℕ, zero, suc, ◌+◌, ◌-◌, ◌*◌, ◌/◌, ◌%◌, ◌^◌, ◌<◌, ◌≤◌, min, List, [], ◌∷◌, ◌++◌, refl, sym, ap, ap₂, ◌∙◌, arith, div-add-mod', Ok, length, take, drop, decimal, append_assoc, append-nil, length-append, add-zero, add-one, replicate, inl, inr}
+use Rattle.std.proofs.Common.{◌≡◌, ℕ, zero, suc, ◌+◌, ◌-◌, ◌*◌, ◌/◌, ◌%◌, ◌^◌, ◌<◌, ◌≤◌, min, List, [], ◌∷◌, ◌++◌, refl, sym, ap, ap₂, ◌∙◌, arith, div-add-mod', Ok, length, take, drop, decimal, append_assoc, append-nil, add-zero, add-one, replicate, inl, inr}
 use Rattle.std.proofs.lemmas.Bool.{cases_lt}
-use Rattle.std.proofs.lemmas.List.{replicate_more, take_all, take_at, drop_at}
+use Rattle.std.proofs.lemmas.List.{replicate_more, take_all}
 use Rattle.std.proofs.lemmas.Nat.{div-mul-add, mod-mul-add, mod_below}
 use native.Mathlib.Nat.{pow-succ', one-le-pow, pow-le-pow_right}
-use Rattle.std.proofs.Math.Nat.{div-eq_of_lt, mod-eq_of_lt, div-div-eq-div-mul}
+use Rattle.std.proofs.Math.Nat.{div-eq_of_lt, div-div-eq-div-mul}
 use Rattle.fx_amounts.specs.Numeral.{numeral}
 use Rattle.fx_amounts.specs.Price.{IsPrice}
 use Rattle.fx_amounts.specs.PriceText.{last_digits, price_text, price_of}
 use Rattle.fx_amounts.proofs.NumeralLemmas.{numeral-digit, numeral-step, decimal-numeral}
-use Rattle.fx_amounts.proofs.PriceTextLemmas.{price_of-price_text, price_of_ticks-in, EndsIn-last_digits}
+use Rattle.fx_amounts.proofs.PriceTextLemmas.{price_of-price_text, price_of_ticks-in}
 
 -- a number of ten times as many, split at its last digit
 record LastDigit (unit t : ℕ) : Type 0 where

@@ -206,10 +206,6 @@ served-on h so_far more was mid now served valid filled ran done =
           (subst IsDone here (All-get_or IsDone now k lane within done));
     }
 
-pub served-none : (h : Header) (so_far more : List Sent) (lanes : List (Lane (Witness Entry))) → HaveServed h so_far lanes → more ≡ [] → HaveServed h (so_far ++ more) lanes
-served-none h so_far more lanes served none =
-    subst (λ (sent : List Sent). HaveServed h sent lanes) (sym (ap (λ (ss : List Sent). so_far ++ ss) none ∙ append-nil so_far)) served
-
 -- a row of lanes that were all handed out and came back is what came back
 pub came_back : {X : Type 0} (n : ℕ) (was now : List X) → n ≡ length was → length was ≡ length now → take n (now ++ drop (length now) was) ≡ now
 came_back n was now all same =

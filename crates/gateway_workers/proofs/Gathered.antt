@@ -305,22 +305,6 @@ are-gathered h was now heard others after legal heard_is begun same key mine own
   lanes = each-cons (IsGathered now.pass.seen) was now others after (first_gathered was now heard heard_is begun same key mine owns begins) (others_gathered heard.seen now.pass.seen others after heard_others begins told);
 }
 
--- a lane whose pass has only heard more has served the same
-pub heard-still : (was now : Lane (Witness Entry)) → now ≡ record was { pass = record was.pass { seen = now.pass.seen } } → IsStill was now
-heard-still was now is = record {
-  same_lane = is ∙ ap (λ (p : Witness Entry). record was { pass = p }) (sym (ap (λ (l : Lane (Witness Entry)). l.pass) is));
-  bank = ap (λ (l : Lane (Witness Entry)). l.pass.key) is;
-  mine = ap (λ (l : Lane (Witness Entry)). own l.pass.key l.pass.met) is;
-}
-
-pub all-still : (lanes : List (Lane (Witness Entry))) → AreEach IsStill lanes lanes
-all-still lanes = record {
-  long = refl;
-  each = λ place x y is_x is_y.
-      let same : x ≡ y = some_is x y (sym is_x ∙ is_y) in
-      subst (IsStill x) same (record { same_lane = refl; bank = refl; mine = refl });
-}
-
 -- another lane, once its pass was told and has met the history
 pub told-lane : (entries : List Entry) (was now : Lane (Witness Entry)) (heard : Witness Entry) → heard.key ≡ was.pass.key → heard.met ≡ was.pass.met → IsPrefix entries heard.seen → now ≡ record was { pass = now.pass } → now.pass.key ≡ heard.key
     → own now.pass.key now.pass.met ≡ own heard.key heard.met → own now.pass.key now.pass.seen ≡ own heard.key heard.met → IsPrefix heard.seen now.pass.seen → IsTold entries was now

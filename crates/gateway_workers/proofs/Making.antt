@@ -144,9 +144,6 @@ pub record AreFilledTo (h : Header) (more : List Sent) (was now : List (Lane (Wi
   pub so_far : (place : ℕ) (lane : Lane (Witness Entry)) → place < n → slice_get was place ≡ Some lane → slice_get now place ≡ Some (next_lane lane (stream_of (sender_at h place) more))
   pub to_come : (place : ℕ) (lane : Lane (Witness Entry)) → n ≤ place → slice_get was place ≡ Some lane → slice_get now place ≡ Some lane
 
-pub none_filled : (h : Header) (more : List Sent) (was : List (Lane (Witness Entry))) → AreFilledTo h more was was 0
-none_filled h more was = record { long = refl; so_far = λ place lane below is. absurd (omega (arith, below)); to_come = λ place lane past is. is }
-
 pub all_filled : (h : Header) (more : List Sent) (was now : List (Lane (Witness Entry))) (n : ℕ) → AreFilledTo h more was now n → length now ≤ n → AreFilled h more was now
 all_filled h more was now n filled all = record {
   long = filled.long;
@@ -177,9 +174,6 @@ one_filled h more was now n d new filled within new_is = record {
 pub record AreLeft (h : Header) (count place : ℕ) (more : List Sent) (streams : List (Vec Command Global)) : Type 0 where
   pub many : place + length streams ≡ count
   pub each : (k : ℕ) (stream : Vec Command Global) → slice_get streams k ≡ Some stream → stream.items ≡ stream_of (sender_at h (place + k)) more
-
-pub all_left : (h : Header) (count : ℕ) (more : List Sent) (streams : List (Vec Command Global)) → AreStreams h count more streams → AreLeft h count 0 more streams
-all_left h count more streams are = record { many = omega (arith, are.all); each = λ k stream is. subst (λ (j : ℕ). stream.items ≡ stream_of (sender_at h j) more) (omega arith) (are.each k stream is) }
 
 pub first_left : (h : Header) (count place : ℕ) (more : List Sent) (stream : Vec Command Global) (streams : List (Vec Command Global)) → AreLeft h count place more (stream ∷ streams)
     → (stream.items ≡ stream_of (sender_at h place) more) × AreLeft h count (place + 1) more streams

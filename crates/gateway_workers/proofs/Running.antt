@@ -1,10 +1,10 @@
 -- A lane runs on by one command, and lanes that ran on are under way.
-use Rattle.std.proofs.Common.{ℕ, zero, suc, ◌≡◌, ◌+◌, ◌<◌, ◌≤◌, ◌≢◌, List, [], ◌∷◌, ◌++◌, refl, ap, sym, subst, ◌∙◌, arith, length, get_or, set, map, take, inl, inr, append_assoc, append-nil, length-append, true≢false}
+use Rattle.std.proofs.Common.{ℕ, zero, suc, ◌≡◌, ◌+◌, ◌<◌, ◌≤◌, ◌≢◌, List, [], ◌∷◌, ◌++◌, refl, ap, sym, subst, ◌∙◌, arith, length, get_or, set, take, inl, inr, append_assoc, append-nil, length-append, true≢false}
 use Rattle.std.specs.Prelude.{All, Any, is_some, IsSome, Option, Some, None, ◌⊎◌}
 use Rattle.std.specs.Option.{option_or}
 use Rattle.std.specs.List.{AllZip}
 use Rattle.std.proofs.lemmas.Bool.{cases_lt}
-use Rattle.std.proofs.lemmas.List.{length-map, length-take, length-set, take_more, take_all, map-append, get_or_default, get_or-set_same, get_or-set_other}
+use Rattle.std.proofs.lemmas.List.{length-map, length-take, length-set, take_more, map-append, get_or_default, get_or-set_same, get_or-set_other}
 use Rattle.fx_amounts.specs.declared.memory.Memory.{Memory}
 use Rattle.fx_rules.specs.declared.command.Command.{Command}
 use Rattle.fx_rules.specs.declared.outcome.Outcome.{Outcome}
@@ -231,10 +231,3 @@ module _ {P : Type 0} (h : Header) (bank : P → ℕ) (seen mine : P → List En
       let lane = get_or now k d in
       let stream : length lane.stream ≡ length (get_or was k d).stream = ap (λ (l : Lane P). length l.stream) (ran k d within').same_lane in
       turned-out turns lane (turned k d within) (omega (arith, stream, longest k d within', all))
-
-  -- of a bank that had sent nothing a lane that is done has sent just its stream
-  pub done-sent : (was now : Lane P) → LaneRan h bank seen mine was now → IsDone now → mine was.pass ≡ [] → map (λ (e : Entry). e.command) (mine now.pass) ≡ was.stream
-  done-sent was now ran done none =
-      let commands : List Entry → List Command = map (λ (e : Entry). e.command) in
-      let whole : now.done ≡ length was.stream = done ∙ ap (λ (l : Lane P). length l.stream) ran.same_lane in
-      ap commands (ran.mine_grew ∙ ap (λ (es : List Entry). es ++ ran.entries) none) ∙ ran.in_order ∙ take_all now.done was.stream (omega (arith, whole))

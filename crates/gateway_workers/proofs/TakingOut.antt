@@ -19,9 +19,6 @@ AreFirstBooks h history books = (pair : ℕ) (none : Book) → pair < length boo
 abbrev pub AreTaken : Header → List PairState → List PairState → List Book → Type 0
 AreTaken h shards left books = (history : List Entry) → Each (HasSeenAll h history) shards → Each (HasSeenAll h history) left × AreFirstBooks h history books
 
-pub none-taken : (h : Header) (shards : List PairState) → AreTaken h shards shards []
-none-taken h shards = λ history each. (each, λ pair none within. absurd (omega (arith, within)))
-
 pub one-taken : (h : Header) (shards left rest : List PairState) (shard : PairState) (book : Book) (books more : List Book) → AreTaken h shards left books → left ≡ shard ∷ rest → IsShard h shard → book ≡ shard.book → shard.book.pair ≡ length books → more ≡ books ++ book ∷ [] → AreTaken h shards rest more
 one-taken h shards left rest shard book books more taken left_is kept book_is place more_is = λ history each.
     let before = taken history each in

@@ -1,4 +1,4 @@
-ghost use Rattle.std.specs.Prelude.{◌≡◌, ◌<◌, ◌+◌, ◌-◌, ◌^◌, ◌++◌, [], ◌∷◌, true, Some, length, IfOk, OnOk, OnErr};
+ghost use Rattle.std.specs.Prelude.{◌≡◌, ◌<◌, ◌+◌, ◌-◌, ◌^◌, [], true, Some, length, IfOk, OnOk, OnErr};
 ghost use Rattle.std.specs.Sync.Mutex.{mutex_guard_value};
 ghost use Rattle.fx_rules.specs.Session.{bank_count, pair_count};
 ghost use Rattle.fx_rules.specs.Keyed.{pair_key};
@@ -6,7 +6,7 @@ ghost use Rattle.fx_rules.specs.Step.{IsCommand, IsOutcome};
 ghost use Rattle.fx_rules.specs.History.{own, state};
 ghost use Rattle.fx_chronicle.specs.Touching.{pends};
 ghost use Rattle.fx_chronicle.specs.Faces.{witness};
-ghost use Rattle.fx_rules.specs.Sending.{IsNextIn, pair_of, entry_of};
+ghost use Rattle.fx_rules.specs.Sending.{IsNextIn, pair_of};
 ghost use Rattle.pair_host.specs.Carries.{HasRoomFor};
 ghost use Rattle.credit_raise.specs.UnderWay.{IsUnderWay};
 ghost use Rattle.credit_book.specs.Recorded.{IsCreditBook, signed_by};

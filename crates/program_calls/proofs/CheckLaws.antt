@@ -19,7 +19,7 @@ use Rattle.program_calls.specs.TopCall.{GotNothing, WritesNothing}
 use Rattle.program_calls.specs.declared.checking.Halt.{Halt}
 use Rattle.program_calls.specs.declared.checking.Halt.TheVariants as halts
 use Rattle.program_calls.specs.declared.status.Status.{Status}
-use Rattle.program_calls.specs.declared.status.Status.TheVariants.{Done, Usage, ReadFault, WriteFault, Memory, TooMuch, Differs}
+use Rattle.program_calls.specs.declared.status.Status.TheVariants.{Done, ReadFault, WriteFault, Memory, TooMuch, Differs}
 use Rattle.program_calls.proofs.TopCallLaws.{Took-is}
 use Rattle.kept_call.proofs.Ends.{told_bytes}
 
@@ -250,16 +250,3 @@ module _ (IsAnswer : KindOfAnswer) {S K : Type 0} (left : S → Option (List ℕ
     where
       memory_no_fault : failed (halts.Memory refused) ≡ failed halts.ReadFault → ⊥
       memory_no_fault is = cc
-
-  -- a check is no refusal of the words
-  pub check_accepts : (status : Status) → Checked IsAnswer left taken written faults source source' out out' status → status ≡ Usage → ⊥
-  check_accepts status ran is = usage_no (subst Answers is (after_answers IsAnswer written faults out out' ran.read status (after_told IsAnswer written faults out out' ran.read status status ran.told (inl refl))))
-    where
-      usage_no : Answers Usage → ⊥
-      usage_no (inl same) = cc
-      usage_no (inr (inl same)) = cc
-      usage_no (inr (inr (inl same))) = cc
-      usage_no (inr (inr (inr (inl same)))) = cc
-      usage_no (inr (inr (inr (inr (inl same))))) = cc
-      usage_no (inr (inr (inr (inr (inr (inl same)))))) = cc
-      usage_no (inr (inr (inr (inr (inr (inr none)))))) = none

@@ -10,7 +10,6 @@ use Rattle.client_day.specs.Rounds.{IsServed}
 use Rattle.client_day.specs.Text.{IsClientsText}
 use Rattle.client_day.specs.declared.day.ClientDay.{ClientDay}
 use Rattle.kept_call.specs.Ending.{ending_of}
-use Rattle.session_script.specs.Heard.{heard_in}
 use Rattle.session_script.specs.Reading.{ProgressedBehind}
 use Rattle.session_script.specs.Stage.{session_at}
 use Rattle.session_script.specs.declared.ends.TextEnd.{TextEnd}

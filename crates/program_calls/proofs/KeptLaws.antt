@@ -1,5 +1,5 @@
 -- What a call that keeps a session did, once the status is told.
-use Rattle.std.proofs.Common.{◌≡◌, List, [], ◌∷◌, Result, inl, inr, sym, ◌∙◌, subst}
+use Rattle.std.proofs.Common.{[], ◌∷◌, Result, inl, inr, sym, subst}
 use Rattle.fx_amounts.specs.OutOfMemory.{refused}
 use Rattle.fx_rules.specs.Lists.{Among}
 use Rattle.kept_call.specs.declared.fault.KeptFault.{KeptFault}

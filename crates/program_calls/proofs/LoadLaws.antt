@@ -10,7 +10,7 @@ use Rattle.program_calls.specs.Load.{WroteText, Loaded}
 use Rattle.program_calls.specs.LoadCall.{GotSummary, GotSummaryPart, DidLoad}
 use Rattle.program_calls.specs.TopCall.{GotNothing}
 use Rattle.program_calls.specs.declared.status.Status.{Status}
-use Rattle.program_calls.specs.declared.status.Status.TheVariants.{Done, Usage, WriteFault, Memory}
+use Rattle.program_calls.specs.declared.status.Status.TheVariants.{Done, WriteFault, Memory}
 
 module _ {K : Type 0} (written : K → Option (List ℕ)) (faults : K → ℕ) (out out' : K) where
   -- a text that was written with some status was in part
@@ -88,14 +88,3 @@ module _ {S K : Type 0} (written : K → Option (List ℕ)) (faults : K → ℕ)
         answers = answers result ended;
         complete = complete result ended;
       }
-
-  -- a load is no refusal of the words
-  pub load_accepts : (status : Status) → Loaded written faults out out' seed banks pairs commands status → status ≡ Usage → ⊥
-  unfolding Ended
-  load_accepts status loaded is = no_usage (subst (λ (s : Status). Among s (Done ∷ WriteFault ∷ Memory refused ∷ [])) is (answers status loaded.ended))
-    where
-      no_usage : Among Usage (Done ∷ WriteFault ∷ Memory refused ∷ []) → ⊥
-      no_usage (inl same) = cc
-      no_usage (inr (inl same)) = cc
-      no_usage (inr (inr (inl same))) = cc
-      no_usage (inr (inr (inr none))) = none

@@ -432,21 +432,6 @@ module _ (IsTextOf : KindOfText) {S K : Type 0} (left : S → Option (List ℕ))
     complete = complete_known status result (left source) ran tells refl;
   }
 
-  -- a run is no refusal of the words
-  pub session_accepts : (status : Status) → TheRun status → status ≡ Usage → ⊥
-  session_accepts status ran is =
-      usage_never (subst Answers is (after_answers IsTextOf written faults out out' ran.input (left source') ran.read status (after_told status status ran (inl refl))))
-    where
-      usage_never : Answers Usage → ⊥
-      usage_never (inl (line, reason, is)) = cc
-      usage_never (inr (inl is)) = cc
-      usage_never (inr (inr (inl is))) = cc
-      usage_never (inr (inr (inr (inl is)))) = cc
-      usage_never (inr (inr (inr (inr (inl is))))) = cc
-      usage_never (inr (inr (inr (inr (inr (inl is)))))) = cc
-      usage_never (inr (inr (inr (inr (inr (inr (inl is))))))) = cc
-      usage_never (inr (inr (inr (inr (inr (inr (inr none))))))) = none
-
   -- a run that did not begin, out of memory
   pub not_begun : source' ≡ source → out' ≡ out → TheRun (Memory refused)
   not_begun unread unwritten = record {

@@ -1,12 +1,11 @@
 -- A session that was watched, and its text was written.
-use Rattle.std.proofs.Common.{◌≡◌, ℕ, ◌+◌, ◌^◌, ◌≤◌, List, length, Option, Some, Result, sym, subst, arith}
+use Rattle.std.proofs.Common.{◌≡◌, ℕ, ◌^◌, ◌≤◌, List, length, Option, Some, Result, sym, subst, arith}
 use Rattle.fx_rules.specs.declared.command.Sent.{Sent}
 use Rattle.fx_rules.specs.declared.outcome.Entry.{Entry}
 use Rattle.fx_rules.specs.Session.{Header}
 use Rattle.fx_rules.specs.History.{IsLegal, state}
 use Rattle.pair_host.specs.Standing.{stands}
 use Rattle.fx_chronicle.proofs.Streams.{streams-length}
-use Rattle.reply_lines.specs.Output.{IsOutput}
 use Rattle.reply_lines.specs.Faults.{WroteOutput}
 use Rattle.reply_lines.specs.declared.output.OutFault.{OutFault}
 use Rattle.reply_lines.specs.declared.output.Ending.{Ending}

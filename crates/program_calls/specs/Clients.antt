@@ -1,5 +1,5 @@
 -- What is written of a session whose banks have clients.
-use Rattle.std.specs.Prelude.{ℕ, ◌≡◌, List, Option}
+use Rattle.std.specs.Prelude.{ℕ, List, Option}
 use Rattle.fx_rules.specs.Session.{Header}
 use Rattle.fx_chronicle.specs.Along.{IsOrderly}
 use Rattle.client_desk.specs.Clients.{entries_of}

@@ -1,4 +1,3 @@
-use Rattle.std.proofs.Common.{◌+◌, ◌*◌}
 use Rattle.fx_text.proofs.DigitTexts.{PAIRS_at, two_set}
 use Rattle.fx_text.proofs.digits.put_pair.Goals as goal
 

@@ -1,4 +1,4 @@
-use Rattle.std.proofs.Common.{◌≡◌, ◌∙◌, ℕ, ◌+◌, ◌/◌, ◌^◌, ◌∷◌, ◌++◌, [], List, ap, sym, take, refl, arith}
+use Rattle.std.proofs.Common.{◌≡◌, ◌∙◌, ℕ, ◌+◌, ◌/◌, ◌∷◌, ◌++◌, [], List, ap, sym, take, refl, arith}
 use Rattle.fx_amounts.specs.Numeral.{numeral}
 use Rattle.fx_amounts.specs.PriceText.{last_digits, price_text}
 use Rattle.fx_text.proofs.DigitTexts.{then_written}

@@ -1,4 +1,4 @@
-use Rattle.std.proofs.Common.{◌≡◌, ◌∙◌, ℕ, ◌+◌, ◌/◌, ◌%◌, List, [], ◌∷◌, ◌++◌, ap, sym, take, arith}
+use Rattle.std.proofs.Common.{◌≡◌, ◌∙◌, ℕ, ◌+◌, ◌/◌, ◌%◌, List, [], ◌∷◌, ap, take, arith}
 use Rattle.std.proofs.lemmas.List.{take_more_set}
 use Rattle.fx_amounts.proofs.NumeralLemmas.{numeral-digit}
 use Rattle.fx_text.proofs.DigitTexts.{pair, then_written, numeral_two, numeral_three, numeral_four}

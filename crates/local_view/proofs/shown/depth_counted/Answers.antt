@@ -1,7 +1,6 @@
 use Rattle.std.proofs.Common.{◌<◌, arith}
 use Rattle.fx_amounts.specs.declared.side.Side.TheVariants.{Buy, Sell}
 use Rattle.fx_rules.specs.declared.outcome.Outcome.TheVariants.{Depth}
-use Rattle.local_view.specs.LocalBook.{IsLocalBook}
 use Rattle.local_view.proofs.InHistories.{in_histories}
 use Rattle.local_view.proofs.Probing.{shown-reached}
 use Rattle.local_view.proofs.shown.depth_counted.Goals as goal

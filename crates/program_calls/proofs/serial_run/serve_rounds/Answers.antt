@@ -1,5 +1,5 @@
 -- Each round serves what it read, and adds its lines to the journal.
-use Rattle.std.proofs.Common.{[], rules, ◌≡◌, ◌+◌, ◌<◌, ◌^◌, map, Some, None, Result, sym, ◌∙◌, arith, length, ap}
+use Rattle.std.proofs.Common.{[], rules, ◌≡◌, map, Some, None, Result, sym, ◌∙◌, arith, length, ap}
 use Rattle.fx_amounts.specs.declared.memory.Memory.{Memory}
 use Rattle.fx_rules.specs.Sending.{sent_by}
 use Rattle.session_script.specs.Journal.{sent_lines}

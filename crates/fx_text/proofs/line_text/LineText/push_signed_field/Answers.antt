@@ -1,7 +1,6 @@
 use Rattle.std.proofs.Common.{◌≡◌, ◌≤◌, ◌∙◌, ◌++◌, ◌∷◌, List, ℕ, suc, ℤ, pos, negsuc, ap, take, length, to_z, of_z, to_z-of_z, arith, SFits}
 use Rattle.std.specs.Fmt.{signed_decimal}
 use mir.Syntax.{w128}
-use Rattle.fx_amounts.specs.Numeral.{numeral}
 use Rattle.fx_text.specs.Number.{signed_numeral}
 use Rattle.fx_text.proofs.FieldTexts.{length-numeral}
 use Rattle.fx_text.proofs.NumberLemmas.{signed_decimal_wide}

@@ -1,4 +1,4 @@
-use Rattle.std.proofs.Common.{◌∙◌, ◌+◌, ◌++◌, ◌≡◌, List, ℕ, ap, take, length, arith}
+use Rattle.std.proofs.Common.{◌∙◌, ◌+◌, ◌++◌, List, ℕ, ap, take, length, arith}
 use Rattle.std.proofs.lemmas.Slice.{take-put_mid}
 use Rattle.fx_text.proofs.LineTexts.{put_within}
 use Rattle.fx_text.proofs.line_text.LineText.push_word.Goals as goal
