@@ -2,10 +2,8 @@
 // parsed, matched and answered by execution reports, as the example's application does, and writes these to standard output. No session,
 // no socket and no log stands between, so that it is the least that a user of that matcher pays. bench/order_matcher.py builds and times it.
 #include <iostream>
-#include <iterator>
 #include <queue>
 #include <string>
-#include <vector>
 
 #include "OrderMatcher.h"
 #include "quickfix/Message.h"
@@ -42,12 +40,10 @@ public:
     for (; !updates.empty(); updates.pop()) {
       const Order& filled = updates.front();
       report(filled, filled.isFilled() ? FIX::OrdStatus_FILLED : FIX::OrdStatus_PARTIALLY_FILLED);
-      ++fills;
     }
   }
 
   std::string out;
-  long fills = 0;
 
 private:
   void report(const Order& order, char status) {
@@ -81,6 +77,5 @@ int main() {
   std::string line;
   while (std::getline(std::cin, line)) desk.take(line);
   std::cout << desk.out;
-  std::cerr << desk.fills / 2 << "\n";
   return 0;
 }

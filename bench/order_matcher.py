@@ -33,9 +33,9 @@ def built(source: str, folder: str) -> str:
 def message(number: int, line: str) -> str:
     """An order's line as a FIX message."""
     bank, side, pair, price, lots, _ = line.split()
-    fields = [f"35=D|49={bank}|56=HOST|34={number}|52=20260101-08:00:00|11={number}|21=1|55={pair}|54={1 if side == 'BUY' else 2}"]
-    fields.append(f"60=20260101-08:00:00|38={lots}|40=2|44={price}|59=0|")
-    body = "".join(f"{field}|" if not field.endswith("|") else field for field in fields).replace("|", "\x01")
+    number_of_side = 1 if side == "BUY" else 2
+    fields = f"35=D|49={bank}|56=HOST|34={number}|52=20260101-08:00:00|11={number}|21=1|55={pair}|54={number_of_side}|60=20260101-08:00:00|38={lots}|40=2|44={price}|59=0|"
+    body = fields.replace("|", "\x01")
     text = f"8=FIX.4.2\x019={len(body)}\x01{body}"
     return f"{text}10={sum(text.encode()) % 256:03}\x01"
 
