@@ -1,6 +1,6 @@
 -- The words of the banks' best orders, and the least of them.
 use Rattle.std.specs.Option.{IfSome}
-use Rattle.std.proofs.Common.{ℕ, ◌≡◌, ◌≢◌, ◌+◌, ◌-◌, ◌*◌, ◌/◌, ◌%◌, ◌≤◌, ◌<◌, ◌^◌, ◌⊎◌, Bool, if◌then◌else◌, min, List, length, map, get_or, replicate, unwrap_or, Option, Some, None, inl, inr, ap, sym, subst, ◌∙◌, arith, eq-eqb}
+use Rattle.std.proofs.Common.{ℕ, ◌≡◌, ◌≢◌, ◌+◌, ◌-◌, ◌*◌, ◌/◌, ◌%◌, ◌≤◌, ◌<◌, ◌^◌, ◌⊎◌, Bool, if◌then◌else◌, max, min, List, length, map, get_or, replicate, unwrap_or, Option, Some, None, inl, inr, ap, sym, subst, ◌∙◌, arith, eq-eqb}
 use Rattle.std.proofs.Math.ListN.{set}
 use Rattle.std.proofs.lemmas.Bool.{cases_eq, cases_lt, ne_eqb}
 use Rattle.std.proofs.lemmas.Option.{none-some}
@@ -25,7 +25,7 @@ least_more words from k least word new here lesser was = record {
   ];
 }
 
-pub none_yet : AreWords (replicate 64 (2 ^ 64 - 1)) (replicate 8 (2 ^ 64 - 1))
+pub none_yet : AreWords (replicate 64 (2 ^ 64 - 1)) (replicate 8 (2 ^ 64 - 1)) 0
 none_yet = record {
   count = length-replicate 64 (2 ^ 64 - 1);
   group_count = length-replicate 8 (2 ^ 64 - 1);
@@ -35,11 +35,25 @@ none_yet = record {
     first = λ at small. omega (arith, get_or-replicate 8 group (2 ^ 64 - 1) 0 few, get_or-replicate 64 (group * 8 + at) (2 ^ 64 - 1) 0 (omega (arith, few, small)));
     there = λ some. absurd (some (get_or-replicate 8 group (2 ^ 64 - 1) 0 few));
   };
+  few = omega arith;
+  empty = λ group few _. get_or-replicate 8 group (2 ^ 64 - 1) 0 few;
 }
 
--- the least of the least words of all groups is the least of all
-pub least_all : (words groups : List ℕ) (least : ℕ) → AreWords words groups → IsLeastOf groups 0 8 least → IsLeastOf words 0 64 least
-least_all words groups least are is = record {
+-- the least word of so many groups, behind which none has an order, is the least of all groups
+least_groups : (words groups : List ℕ) (filled count least : ℕ) → AreWords words groups filled → filled ≤ count → count ≤ 8 → least < 2 ^ 64 → IsLeastOf groups 0 count least → IsLeastOf groups 0 8 least
+least_groups words groups filled count least are upto most fits is = record {
+  first = λ at small. elim (cases_lt at count) [
+    | inl below ↦ is.first at below
+    | inr past ↦
+        let same : 0 + at ≡ at = omega arith in
+        omega (arith, fits, are.empty at small (omega (arith, past, upto)), ap (λ (n : ℕ). get_or groups n 0) same)
+  ];
+  there = λ some. let it = is.there some in (it.0, omega (arith, it.1, most), it.2);
+}
+
+-- and this is the least of all words
+pub least_all : (words groups : List ℕ) (filled count least : ℕ) → AreWords words groups filled → filled ≤ count → count ≤ 8 → least < 2 ^ 64 → IsLeastOf groups 0 count least → IsLeastOf words 0 64 least
+least_all words groups filled count least are upto most fits lowest = let is = least_groups words groups filled count least are upto most fits lowest in record {
   first = λ at small.
       let group : at / 8 < 8 = omega (arith, small) in
       let same : at / 8 * 8 + at % 8 ≡ 0 + at = omega arith in
@@ -99,8 +113,8 @@ module _ (words : List ℕ) (heads : List (Option Head)) (least most : ℕ) (lon
             subst (λ (o : Option Head). IfSome o (λ (head : Head). most < head.rank)) (sym (here ∙ some_of w some)) (omega (arith, above, least_here bank small))
       ]
 
-  pub best_within : (groups : List ℕ) (bank : ℕ) → AreWords words groups → most ≤ 10 ^ 9 → least / 2 ^ 34 ≤ most → bank ≡ least % 64 → IsBestWithin heads most bank
-  best_within groups bank are fits low bank_is =
+  pub best_within : (groups : List ℕ) (filled bank : ℕ) → AreWords words groups filled → most ≤ 10 ^ 9 → least / 2 ^ 34 ≤ most → bank ≡ least % 64 → IsBestWithin heads most bank
+  best_within groups filled bank are fits low bank_is =
       let some : least ≢ 2 ^ 64 - 1 = λ none. omega (arith, fits, low, none) in
       let it = is.there some in
       let at : get_or words it.0 0 ≡ least = ap (λ (n : ℕ). get_or words n 0) (omega arith) ∙ it.2 in
@@ -131,9 +145,9 @@ least_kept words at word from least apart was = record {
 }
 
 -- a word is written at its bank, and the least of its group beside it
-pub words_set : (words groups : List ℕ) (at bank word group least : ℕ) → at ≡ bank → bank < 64 → AreWords words groups → (word ≢ 2 ^ 64 - 1 → word % 64 ≡ bank) → word < 2 ^ 64
-    → group ≡ at / 8 → IsLeastOf (set words at word) (group * 8) 8 least → AreWords (set words at word) (set groups group least)
-words_set words groups at bank word group least same few are own fits group_is is = record {
+pub words_set : (words groups : List ℕ) (filled filled' at bank word group least : ℕ) → at ≡ bank → bank < 64 → AreWords words groups filled → filled' ≡ max filled (group + 1) → (word ≢ 2 ^ 64 - 1 → word % 64 ≡ bank) → word < 2 ^ 64
+    → group ≡ at / 8 → IsLeastOf (set words at word) (group * 8) 8 least → AreWords (set words at word) (set groups group least) filled'
+words_set words groups filled filled' at bank word group least same few are more own fits group_is is = record {
   count = length-set words at word ∙ are.count;
   group_count = length-set groups group least ∙ are.group_count;
   own = λ other small some. elim (cases_eq other at) [
@@ -156,15 +170,18 @@ words_set words groups at bank word group least same few are own fits group_is i
         subst (IsLeastOf (set words at word) (other * 8) 8) (sym (get_or-set_other groups group other least 0 differ))
         (least_kept words at word (other * 8) (get_or groups other 0) (λ k below here. omega (arith, differ, group_is, below, here)) (are.least other small))
   ];
+  few = omega (arith, more, are.few, group_is, same, few);
+  empty = λ other small past.
+      get_or-set_other groups group other least 0 (λ here. omega (arith, here, past, more)) ∙ are.empty other small (omega (arith, past, more));
 }
 
 pub own_word : (head : Head) (bank : ℕ) → bank < 64 → word_of head bank % 64 ≡ bank
 own_word head bank small = omega (arith, small)
 
 -- a word is that of the order which it tells
-pub word_told : (words groups : List ℕ) (heads : List (Option Head)) (bank : ℕ) → length words ≡ 64 → map head_of words ≡ heads → AreWords words groups → bank < 64
+pub word_told : (words groups : List ℕ) (filled : ℕ) (heads : List (Option Head)) (bank : ℕ) → length words ≡ 64 → map head_of words ≡ heads → AreWords words groups filled → bank < 64
     → get_or words bank 0 ≡ head_word bank (get_or heads bank None)
-word_told words groups heads bank long seen are small =
+word_told words groups filled heads bank long seen are small =
     let w : ℕ = get_or words bank 0 in
     elim (cases_eq w (2 ^ 64 - 1)) [
       | inl none ↦ none ∙ sym (ap (head_word bank) (read_head words heads bank long seen small ∙ none_of w none))

@@ -20,19 +20,24 @@ const NO_WORD: u64 = u64::MAX;
 /// How many banks a group has, and how many groups there are.
 const GROUP: usize = 8;
 
+/// How many groups the orders of most markets fill.
+const FEW_GROUPS: usize = 2;
+
 /// For each bank the best order of one side in a word: its rank, its place and the bank, so that the least of some words is that of the
-/// best order. Beside them stands the least word of each group of eight banks, so that a search for the least of all looks at eight words,
-/// and a bank's new word at the eight of its group, both with no branch.
+/// best order. Beside them stands the least word of each group of eight banks, so that a search for the least of all looks at eight words, or at
+/// the first two where no other group ever had an order, and a bank's new word at the eight of its group.
 #[derive(Debug, Drop)]
 pub struct HeadWords {
     tables: Tables,
 }
 
-/// The word of each bank and the least word of each group, as one piece, so that they are copied in one move.
+/// The word of each bank, the least word of each group, and how many groups from the first on have had an order, as one piece, so that they are
+/// copied in one move.
 #[derive(Clone, Copy, Debug)]
 struct Tables {
     words: [u64; BankId::COUNT],
     groups: [u64; GROUP],
+    filled: usize,
 }
 
 impl Model for HeadWords {
@@ -44,7 +49,7 @@ impl Model for HeadWords {
 
     ghost view = { λ h. map head_of h.tables.words };
 
-    ghost invariant = { λ h. AreWords h.tables.words h.tables.groups };
+    ghost invariant = { λ h. AreWords h.tables.words h.tables.groups h.tables.filled };
 }
 
 impl HeadWords {
@@ -56,6 +61,7 @@ impl HeadWords {
             tables: Tables {
                 words: [NO_WORD; BankId::COUNT],
                 groups: [NO_WORD; GROUP],
+                filled: 0,
             },
         }
     }
@@ -72,7 +78,8 @@ impl HeadWords {
             None => NO_WORD,
         };
         let group = at / GROUP;
-        self.tables.groups[group] = least_of(&self.tables.words, group * GROUP);
+        self.tables.groups[group] = least_of(&self.tables.words, group * GROUP, GROUP);
+        self.tables.filled = self.tables.filled.max(group + 1);
     }
 
     /// Another order of a bank comes, behind all others at its rank.
@@ -126,7 +133,11 @@ impl HeadWords {
         ensures none { result ≡ None → (bank : ℕ) → bank < 64 → IfSome (slice_index_or self.now bank None) (λ head. most < head.rank) }
         ensures count { length self.now ≡ 64 }
     {
-        let least = least_of(&self.tables.groups, 0);
+        let least = if self.tables.filled <= FEW_GROUPS {
+            least_of(&self.tables.groups, 0, FEW_GROUPS)
+        } else {
+            least_of(&self.tables.groups, 0, GROUP)
+        };
         if head_in(least).rank > most {
             return None;
         }
@@ -164,14 +175,14 @@ fn word_of(head: Head, bank: BankId) -> u64
     (u64::from(head.rank) * (1 << 28) + u64::from(head.place)) * 64 + bank.index() as u64
 }
 
-/// The least of eight words, from one on; `NO_WORD` where there is none.
-fn least_of(words: &[u64], from: usize) -> u64
-    requires within { from + 8 ≤ length words.now }
-    ensures { IsLeastOf words.now from 8 result }
+/// The least of so many words, from one on; `NO_WORD` where there is none.
+fn least_of(words: &[u64], from: usize, count: usize) -> u64
+    requires within { from + count ≤ length words.now }
+    ensures { IsLeastOf words.now from count result }
 {
     let mut least = NO_WORD;
-    for count in 0..GROUP {
-        least = least.min(words[from + count]);
+    for at in 0..count {
+        least = least.min(words[from + at]);
     }
     least
 }

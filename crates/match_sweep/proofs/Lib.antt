@@ -9,6 +9,7 @@ pub mod Reaching
 pub mod Cutting
 pub mod LevelSteps
 mod LevelOpening
+mod Listing
 mod Ranking
 mod Seeing
 mod Nearing

@@ -129,18 +129,21 @@ lowest-on walk banks n lowest below ranked so_far = record {
   best = better-on walk banks n so_far.price (price_of walk n) refl so_far.best;
 }
 
--- and once lots of other banks are taken
-best-kept : (old new : LevelWalk) (banks : List ℕ) (lots : ℕ) (price : Option ℕ) → IsPaid old new lots → ((bank : ℕ) → Contains banks bank → IsLeft old new bank) → IsBestAmong old banks price → IsBestAmong new banks price
-best-kept old new banks lots None paid left best = λ bank there. asked_left old new bank lots paid (left bank there) ∙ best bank there
-best-kept old new banks lots (Some price) paid left best = (
-  (best.0.0, best.0.1, asked_left old new best.0.0 lots paid (left best.0.0 best.0.1) ∙ best.0.2),
-  λ bank other there at.
-      subst (λ (s : Side). is_better s other price ≡ false) (sym (taker_same old new lots paid)) (best.1 bank other there (sym (asked_left old new bank lots paid (left bank there)) ∙ at)),
+-- and once another walk asks the same of these banks
+best-same : (old new : LevelWalk) (banks : List ℕ) (price : Option ℕ) → new.taker ≡ old.taker → ((bank : ℕ) → Contains banks bank → price_of new bank ≡ price_of old bank) → IsBestAmong old banks price → IsBestAmong new banks price
+best-same old new banks None taker same best = λ bank there. same bank there ∙ best bank there
+best-same old new banks (Some price) taker same best = (
+  (best.0.0, best.0.1, same best.0.0 best.0.1 ∙ best.0.2),
+  λ bank other there at. subst (λ (s : Side). is_better s other price ≡ false) (sym taker) (best.1 bank other there (sym (same bank there) ∙ at)),
 )
 
-pub lowest-kept : (old new : LevelWalk) (banks : List ℕ) (lots lowest : ℕ) → IsPaid old new lots → ((bank : ℕ) → Contains banks bank → IsLeft old new bank) → IsLowest old banks lowest → IsLowest new banks lowest
-lowest-kept old new banks lots lowest paid left low = record {
+pub lowest-same : (old new : LevelWalk) (banks : List ℕ) (lowest : ℕ) → new.taker ≡ old.taker → ((bank : ℕ) → Contains banks bank → price_of new bank ≡ price_of old bank) → IsLowest old banks lowest → IsLowest new banks lowest
+lowest-same old new banks lowest taker same low = record {
   price = low.price;
-  rank = subst (λ (s : Side). IsRank s low.price lowest) (sym (taker_same old new lots paid)) low.rank;
-  best = best-kept old new banks lots low.price paid left low.best;
+  rank = subst (λ (s : Side). IsRank s low.price lowest) (sym taker) low.rank;
+  best = best-same old new banks low.price taker same low.best;
 }
+
+-- as once lots of other banks are taken
+pub lowest-kept : (old new : LevelWalk) (banks : List ℕ) (lots lowest : ℕ) → IsPaid old new lots → ((bank : ℕ) → Contains banks bank → IsLeft old new bank) → IsLowest old banks lowest → IsLowest new banks lowest
+lowest-kept old new banks lots lowest paid left low = lowest-same old new banks lowest (taker_same old new lots paid) (λ bank there. asked_left old new bank lots paid (left bank there)) low

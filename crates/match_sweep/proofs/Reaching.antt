@@ -238,11 +238,14 @@ left_both old now new bank first second = record { line = second.line ∙ first.
 pub price_left : (old now : LevelWalk) (bank : ℕ) → now.taker ≡ old.taker → IsLeft old now bank → price_in now bank ≡ price_in old bank
 price_left old now bank taker left = ap (λ (s : Side). price_at s (slice_index now.ranks bank)) taker ∙ ap (price_at old.taker) left.rank
 
-pub asked_left : (old now : LevelWalk) (bank lots : ℕ) → IsPaid old now lots → IsLeft old now bank → price_of now bank ≡ price_of old bank
-asked_left old now bank lots paid left =
-    ap (λ w. if leb w (slice_index now.lines bank) then price_in now bank else None) (weight_same old now lots paid)
+pub asked_still : (old now : LevelWalk) (bank : ℕ) → now.weight ≡ old.weight → now.taker ≡ old.taker → IsLeft old now bank → price_of now bank ≡ price_of old bank
+asked_still old now bank weight taker left =
+    ap (λ w. if leb w (slice_index now.lines bank) then price_in now bank else None) weight
     ∙ ap (λ l. if leb old.weight l then price_in now bank else None) left.line
-    ∙ ap (λ (p : Option ℕ). if leb old.weight (slice_index old.lines bank) then p else None) (price_left old now bank (taker_same old now lots paid) left)
+    ∙ ap (λ (p : Option ℕ). if leb old.weight (slice_index old.lines bank) then p else None) (price_left old now bank taker left)
+
+pub asked_left : (old now : LevelWalk) (bank lots : ℕ) → IsPaid old now lots → IsLeft old now bank → price_of now bank ≡ price_of old bank
+asked_left old now bank lots paid left = asked_still old now bank (weight_same old now lots paid) (taker_same old now lots paid) left
 
 -- What is taken of one bank.
 

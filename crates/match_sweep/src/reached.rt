@@ -1,12 +1,12 @@
 mod near;
 
-ghost use Rattle.std.specs.Prelude.{Some, filter, take, ◌≡◌, ◌≢◌, ◌+◌, length, ◌≤◌, ◌<◌, ◌*◌, ◌/◌, ◌^◌, min, IfOk};
+ghost use Rattle.std.specs.Prelude.{Some, take, ◌≡◌, ◌≢◌, ◌+◌, length, ◌≤◌, ◌<◌, ◌*◌, ◌/◌, ◌^◌, min, slice_index, IfOk};
 ghost use Rattle.fx_amounts.specs.Price.{IsPrice};
 ghost use Rattle.fx_amounts.specs.Quantity.{IsWeight};
 ghost use Rattle.fx_rules.specs.Lists.{total};
 ghost use Rattle.credit_lines.specs.Credit.{room_in};
 ghost use Rattle.match_sweep.specs.Reaches.{IsReached};
-ghost use Rattle.match_sweep.specs.inside.Reaches.{AreRanked, AreReached, AreTakenOf, BeginsAt, HasRank, IsBareLevel, IsLowest, IsMost, OpensLevel, Puts, TakesOf, is_asked, price_for, price_of};
+ghost use Rattle.match_sweep.specs.inside.Reaches.{AreRanked, AreReached, AreTakenOf, BeginsAt, HasRank, IsBareLevel, IsLowest, IsMost, OpensLevel, Puts, TakesOf, price_for, price_of};
 
 use credit_lines::CreditLines;
 use fx_amounts::{BankId, Memory, Side};
@@ -38,19 +38,18 @@ pub fn levels_in_reach<L: Ledger>(
     ensures steps { IfOk result (λ levels. steps.new ≤ steps.old + (length levels + 1) * book.now.banks) }
 {
     let mut walk = LevelWalk {
-        taker: side,
-        weight,
         lines: [0; BankId::SENDERS],
         ranks: [NO_RANK; BankId::SENDERS],
+        weight,
+        taker: side,
     };
-    walk.open_banks(book, lines, bank, steps);
     let mut most = lots_by_total(lines, bank, weight);
+    let mut reached = [BankId::HOST; BankId::COUNT];
+    let (count, lowest) = walk.open_banks(book, lines, bank, &mut reached, steps);
+    let banks = &reached[..count];
+    let mut rank = lowest;
     let mut levels = Vec::new(alloc);
     levels.reserve_exact(SHOWN_LEVELS)?;
-    let mut reached = [BankId::HOST; BankId::COUNT];
-    let count = walk.list_reached(book.owners(), &mut reached);
-    let banks = &reached[..count];
-    let mut rank = walk.lowest_rank(banks);
     if walk.show_near(book, banks, rank, most, &mut levels, steps) {
         return Ok(LevelList::from_vec(levels));
     }
@@ -84,49 +83,65 @@ fn lots_by_total(lines: &CreditLines, bank: BankId, weight: u32) -> u64
 const NO_RANK: u32 = (1 << 30) - 1;
 
 /// A walk from price to price over what a bank can reach. It changes no book. It is large, and stays where it was made; its tables
-/// have less than 2,048 bytes, up to which they are cleared fast.
+/// have less than 2,048 bytes, up to which they are cleared fast, and stand first, since a gap of the layout before them would have them cleared
+/// once more.
 #[derive(Drop)]
 pub(crate) struct LevelWalk {
-    /// The side of the orders that would take.
-    taker: Side,
-    /// What a lot costs, in credit units.
-    weight: u32,
     /// What is left of the lines with each bank that has an order, in credit units; nothing with the bank's own.
     lines: [u64; BankId::SENDERS],
     /// Of each bank with which the line pays for a lot, the rank of its best price behind the last one for the taker; `NO_RANK` where it has
     /// none, or the line pays for no lot.
     ranks: [u32; BankId::SENDERS],
+    /// What a lot costs, in credit units.
+    weight: u32,
+    /// The side of the orders that would take.
+    taker: Side,
 }
 
 impl LevelWalk {
-    /// Finds the lines of a bank with all others that have an order, and their first prices. The walk has found none so far. One step.
+    /// Finds the lines of a bank with all others that have an order, and their first prices. It lists those of which something can be taken, and
+    /// answers how many they are and the rank of the best of their prices, `NO_RANK` where there are none. The walk has found none so far. One step.
     fn open_banks<L: Ledger>(
         &mut self,
         book: &PairBook,
         lines: &CreditLines,
         bank: BankId,
+        reached: &mut [BankId; BankId::COUNT],
         steps: &mut Steps<L>,
-    )
+    ) -> (usize, u32)
         requires bare { IsBareLevel self.old }
         requires banks { book.now.banks ≡ lines.now.banks }
         requires bank { bank < lines.now.banks }
+        requires few { lines.now.banks ≤ 64 }
         requires weight { IsWeight self.old.weight }
         ensures begins { BeginsAt book.now lines.now self.old.weight bank self.old.taker self.new }
         ensures ranked { AreRanked self.new }
+        ensures reached { AreReached book.now self.new (take result.0 reached.new) }
+        ensures fewer { length (take result.0 reached.new) + 1 ≤ book.now.banks }
+        ensures lowest { IsLowest self.new (take result.0 reached.new) result.1 }
+        ensures within { result.0 ≤ 64 }
         ensures step { steps.new ≡ steps.old + 1 }
     {
         prove!(bank.index() < BankId::SENDERS);
         let words = book.best_words(self.taker.opposite(), steps);
         let owners = book.owners();
+        let mut count = 0;
+        let mut lowest = NO_RANK;
         for owner in owners {
             if *owner != bank {
-                self.open_bank(lines, bank, *owner, words[owner.index()]);
+                let rank = self.open_bank(lines, bank, *owner, words[owner.index()]);
+                if rank != NO_RANK {
+                    reached[count] = *owner;
+                    count += 1;
+                    lowest = lowest.min(rank);
+                }
             }
         }
+        (count, lowest)
     }
 
-    /// Finds the line of a bank with another, and the rank in the word of the other's best order.
-    fn open_bank(&mut self, lines: &CreditLines, bank: BankId, other: BankId, word: u64)
+    /// Finds the line of a bank with another, and the rank in the word of the other's best order. It answers the rank that is written down.
+    fn open_bank(&mut self, lines: &CreditLines, bank: BankId, other: BankId, word: u64) -> u32
         requires bank { bank < lines.now.banks }
         requires other { other < lines.now.banks }
         requires differ { bank ≢ other }
@@ -134,54 +149,30 @@ impl LevelWalk {
         requires rank { HasRank self.old.taker (word / 2 ^ 34) }
         ensures opens { OpensLevel lines.now self.old self.new bank other (word / 2 ^ 34) }
         ensures number { other < 65 }
+        ensures rank { result ≡ slice_index self.new.ranks other }
         ensures ranked { AreRanked self.old → AreRanked self.new }
     {
         let line = lines.eff(bank, other).get();
-        self.put(other.index(), line, (word >> 34) as u32);
+        self.put(other.index(), line, (word >> 34) as u32)
     }
 
     /// Writes down what is left of the line with the bank of this number, and the rank of its next price. Where the line pays for no lot it
-    /// has none.
-    fn put(&mut self, number: usize, line: u64, rank: u32)
+    /// has none. It answers the rank that is written down.
+    fn put(&mut self, number: usize, line: u64, rank: u32) -> u32
         requires number { number < 65 }
         requires rank { HasRank self.old.taker rank }
         ensures puts { Puts self.old self.new number line rank }
+        ensures rank { result ≡ slice_index self.new.ranks number }
         ensures ranked { AreRanked self.old → AreRanked self.new }
     {
-        self.lines[number] = line;
-        self.ranks[number] = if line < u64::from(self.weight) {
+        let next = if line < u64::from(self.weight) {
             NO_RANK
         } else {
             rank
         };
-    }
-
-    /// Lists those of these banks of which something can be taken, and answers how many they are.
-    fn list_reached(&self, owners: &[BankId], reached: &mut [BankId; BankId::COUNT]) -> usize
-        requires few { length owners.now ≤ 64 }
-        ensures reached { take result reached.new ≡ filter (is_asked self.now) owners.now }
-        ensures within { result ≤ 64 }
-    {
-        let mut count = 0;
-        for owner in owners {
-            if self.ranks[owner.index()] != NO_RANK {
-                reached[count] = *owner;
-                count += 1;
-            }
-        }
-        count
-    }
-
-    /// The rank of the best price of those of these banks with which the line pays for a lot; `NO_RANK` where there is none.
-    fn lowest_rank(&self, banks: &[BankId]) -> u32
-        requires ranked { AreRanked self.now }
-        ensures lowest { IsLowest self.now banks.now result }
-    {
-        let mut lowest = NO_RANK;
-        for bank in banks {
-            lowest = lowest.min(self.ranks[bank.index()]);
-        }
-        lowest
+        self.lines[number] = line;
+        self.ranks[number] = next;
+        next
     }
 
     /// Takes of each of these banks what the line with it pays for of its lots at the price of a rank: how many they are in all, and the rank

@@ -134,9 +134,9 @@ fn walk_along<L: Ledger>(
 {
     let mut walk = Walk {
         order: *order,
-        weight,
-        used: [0; BankId::SENDERS],
         heads: book.heads(order.side.opposite()),
+        used: [0; BankId::SENDERS],
+        weight,
     };
     let mut fills = Vec::new(alloc);
     while let Some(fill) = walk.next_fill(lines, steps) {

@@ -12,17 +12,18 @@ use global_book::SideHeads;
 use price_levels::Steps;
 use std::sync::ledger::Ledger;
 
-/// A sweep as it goes from best order to best order. It changes neither the book nor the lines. It is large, and stays where it was made.
+/// A sweep as it goes from best order to best order. It changes neither the book nor the lines. It is large, and stays where it was made. Its
+/// layout has a gap at its end alone, and what is cleared stands before that, since a gap elsewhere would have more of it cleared.
 #[derive(Drop)]
 pub(crate) struct Walk<'a> {
     /// The order, with the lots that it still wants.
     pub(crate) order: SweptOrder,
-    /// What a lot costs, in credit units.
-    pub(crate) weight: u32,
-    /// What its fills have used of the line with each bank, in credit units.
-    pub(crate) used: [u64; BankId::SENDERS],
     /// Of each bank the order of the other side that it comes to next.
     pub(crate) heads: SideHeads<'a>,
+    /// What its fills have used of the line with each bank, in credit units.
+    pub(crate) used: [u64; BankId::SENDERS],
+    /// What a lot costs, in credit units.
+    pub(crate) weight: u32,
 }
 
 impl<'a> Walk<'a> {

@@ -16,6 +16,15 @@ use global_book::{PairBook, price_at};
 use price_levels::{RANKS, Steps};
 use std::sync::ledger::Ledger;
 
+/// What a look at the 64 ranks from one on finds. It stays where it was made.
+#[derive(Drop)]
+struct Sight {
+    /// Of each bank, in the order in which they are looked at, which of the ranks it has orders at.
+    marks: [u64; BankId::COUNT],
+    /// The lots at each rank.
+    lots: [u64; RANKS],
+}
+
 impl LevelWalk {
     /// Puts the levels of what is reached of these banks down, up to so many lots in all, where the first ten lie within 64 ranks from the lowest
     /// one on, and the line with each bank pays for all of its lots there. Else it answers no, puts none down, and the walk has to go on from
@@ -39,18 +48,28 @@ impl LevelWalk {
         ensures bare { result ≡ false → levels.new.items ≡ [] }
         ensures steps { steps.new ≤ steps.old + length banks.now }
     {
-        let mut marks = [0; BankId::COUNT];
-        let Some(all) = self.read_marks(book, banks, from, &mut marks, steps) else {
+        let mut sight = Sight {
+            marks: [0; BankId::COUNT],
+            lots: [0; RANKS],
+        };
+        let Some(all) = self.read_marks(book, banks, from, &mut sight.marks, steps) else {
             return false;
         };
         let Some(last) = tenth_mark(all) else {
             return false;
         };
-        let mut lots = [0; RANKS];
-        if !self.read_lots(book, banks, from, last, &marks, &mut lots) {
+        if !self.read_lots(book, banks, from, last, &sight.marks, &mut sight.lots) {
             return false;
         }
-        show_marked(self.taker.opposite(), from, all, last, &lots, most, levels)
+        show_marked(
+            self.taker.opposite(),
+            from,
+            all,
+            last,
+            &sight.lots,
+            most,
+            levels,
+        )
     }
 
     /// Which of the 64 ranks from one on each of these banks has orders at, and which any of them has. `None` where one of them has a rank far from

@@ -2,5 +2,5 @@ use Rattle.access_index.specs.inside.Words.{IsLeastOf}
 use Rattle.access_index.proofs.words.least_of.Given as goal
 
 -- the least of the words that were passed
-abbrev pub invariant-loop-count : goal.invariant-loop-count
-invariant-loop-count l = IsLeastOf l.words l.from l.count l.least
+abbrev pub invariant-loop-at : goal.invariant-loop-at
+invariant-loop-at l = IsLeastOf l.words l.from l.at l.least

@@ -1,26 +1,21 @@
 -- The levels so far are the first ones of every such order's sweep; at the end of the walk, once there are ten, or once the total pays for
 -- no more lots, they are all.
-use Rattle.std.proofs.Common.{ℕ, List, true, not, ◌<◌, ◌^◌, if◌then◌else◌, slice_index, ◌≡◌, ◌≤◌, ◌+◌, ◌-◌, ◌*◌, [], ◌∷◌, ◌++◌, length, ◌↔◌, IfSome, IsSome, is_some, Option, Some, None, inl, inr, ap, ◌∙◌, refl, sym, subst, arith, take, length-append}
+use Rattle.std.proofs.Common.{ℕ, List, ◌<◌, ◌≡◌, ◌≤◌, ◌+◌, ◌-◌, ◌*◌, [], ◌∷◌, ◌++◌, length, ◌↔◌, IfSome, IsSome, is_some, Option, Some, None, inl, inr, ap, ◌∙◌, refl, sym, subst, arith, take, length-append}
 use Rattle.std.proofs.Math.Nat.{add-mul}
-use Rattle.std.proofs.lemmas.Bool.{both_ways, eq-eqb, lt-leb}
-use Rattle.std.proofs.lemmas.List.Kept.{IsStrictlyIncreasing-filter}
-use Rattle.std.specs.List.{filter}
 use Rattle.fx_amounts.specs.Price.{IsPrice}
 use Rattle.fx_amounts.specs.Quantity.{IsWeight}
 use Rattle.fx_amounts.specs.Side.{opposite}
 use Rattle.fx_amounts.specs.declared.side.Side.{Side}
 use Rattle.match_sweep.specs.declared.reached.LevelWalk.{LevelWalk}
-use Rattle.global_book.specs.Book.{AreOwners, Book, IsBook}
+use Rattle.global_book.specs.Book.{Book}
 use Rattle.global_book.specs.Room.{rank_of as rank_at}
 use Rattle.credit_lines.specs.Credit.{Credit, room_in}
 use Rattle.match_sweep.specs.Reaches.{IsReached}
 use Rattle.match_sweep.specs.inside.Near.{AreShown}
-use Rattle.match_sweep.specs.inside.Reaches.{AreRanked, AreReached, AreTakenOf, BeginsAt, IsBestAmong, IsLowest, IsMost, IsRank, is_asked, price_for, price_in, price_of}
+use Rattle.match_sweep.specs.inside.Reaches.{AreTakenOf, BeginsAt, IsBestAmong, IsLowest, IsMost, price_for}
 use Rattle.fx_rules.specs.declared.orders.Level.{Level}
 use Rattle.match_sweep.proofs.Cutting.{cut-begins, cut-on}
-use Rattle.match_sweep.proofs.Passed.{few-apart, kept-of}
-use Rattle.match_sweep.proofs.Stepping.{owner_within}
-use Rattle.match_sweep.proofs.Reaching.{best_of_all, reached-begins, reached-on, taken_level}
+use Rattle.match_sweep.proofs.Reaching.{best_of_all, reached-on, taken_level}
 use Rattle.match_sweep.proofs.Ranking.{told-price}
 use Rattle.match_sweep.proofs.LevelSteps.{reached-full, reached-whole, way_begins, way_on}
 use Rattle.match_sweep.proofs.reached.levels_in_reach.Goals as goal
@@ -43,21 +38,6 @@ priced side rank made price valid is = valid.0 (ap is_some is)
 best_is : (walk : LevelWalk) (banks : List ℕ) (side : Side) (rank : ℕ) (made : Option ℕ) → side ≡ opposite walk.taker → (IsSome made) ↔ (IsPrice (rank_at side rank)) → IfSome made (λ (p : ℕ). p ≡ rank_at side rank) → IsLowest walk banks rank → IsBestAmong walk banks made
 best_is walk banks side rank made side_is valid value low = subst (IsBestAmong walk banks) (sym (told-price walk.taker side low.price made rank side_is valid value low.rank)) low.best
 
--- nothing is asked of the bank's own
-own_unasked : (walk : LevelWalk) (bank : ℕ) → 1 ≤ walk.weight → slice_index walk.lines bank ≡ 0 → AreRanked walk → bank < 65 → is_asked walk bank ≡ true → ⊥
-own_unasked walk bank some own ranked below asked =
-    let none : price_of walk bank ≡ None = ap (λ b. if b then price_in walk bank else None) (lt-leb walk.weight (slice_index walk.lines bank) (omega (arith, own, some))) in
-    let rank : IsRank walk.taker None (slice_index walk.ranks bank) = subst (λ (p : Option ℕ). IsRank walk.taker p (slice_index walk.ranks bank)) none (ranked bank below) in
-    both_ways (is_asked walk bank) (ap not (eq-eqb (slice_index walk.ranks bank) (2 ^ 30 - 1) rank.is)) asked
-
--- so the banks of which something can be taken are fewer than those of the book
-fewer_reached : (book : Book) (owners : List ℕ) (walk : LevelWalk) (bank : ℕ) → IsBook book → AreOwners book owners → bank < book.banks → 1 ≤ walk.weight → slice_index walk.lines bank ≡ 0 → AreRanked walk → bank < 65
-    → length (filter (is_asked walk) owners) + 1 ≤ book.banks
-fewer_reached book owners walk bank valid are within some own ranked below =
-    few-apart (filter (is_asked walk) owners) book.banks bank (IsStrictlyIncreasing-filter (is_asked walk) owners are.rising)
-    (λ x there. owner_within book owners x valid are (kept-of (is_asked walk) owners x there).0) within
-    (λ there. own_unasked walk bank some own ranked below (kept-of (is_asked walk) owners bank there).1)
-
 -- what is shown of a walk is reached by the lines that it was opened by
 shown_reached : (book : Book) (credit : Credit) (weight bank most : ℕ) (side : Side) (walk : LevelWalk) (levels : List Level) → BeginsAt book credit weight bank side walk → book.banks ≡ credit.banks → bank < credit.banks
     → IsMost (room_in credit bank) weight most → AreShown book walk most levels → IsReached book credit weight bank side levels
@@ -70,70 +50,56 @@ shown_reached book credit weight bank most side walk levels begins banks within 
     (subst (λ (s : Side). BeginsAt book credit walk.weight bank s walk) (sym takes) (subst (λ (w : ℕ). BeginsAt book credit w bank side walk) (sym weighs) begins))
     banks within (subst (λ (w : ℕ). IsMost (room_in credit bank) w most) (sym weighs) most_is)))
 
-pub show_near-requires-clause-reached : goal.show_near-requires-clause-reached
-show_near-requires-clause-reached g c =
-    let begins = c.open_banks.ensures.begins in
-    subst (AreReached c.args.book.now c.open_banks.new.self) (sym c.list_reached-count.ensures.reached)
-    (reached-begins c.args.book.now c.owners.result.now None c.open_banks.new.self c.owners.ensures.owners (subst IsWeight (sym (ap (λ (w : LevelWalk). w.weight) begins.is)) c.requires.weight) begins.heads c.open_banks.ensures.ranked)
-
 pub returns-then-show_near-clause-levels : goal.returns-then-show_near-clause-levels
 returns-then-show_near-clause-levels g c =
-    shown_reached c.args.book.now c.args.lines.now c.args.weight c.args.bank c.lots_by_total-most.result c.args.side c.open_banks.new.self c.from_vec.result c.open_banks.ensures.begins c.requires.banks c.requires.bank c.lots_by_total-most.ensures.most
-    (subst (AreShown c.args.book.now c.open_banks.new.self c.lots_by_total-most.result) (sym c.from_vec.ensures.items) (c.show_near.ensures.shown c.if-show_near.true))
+    shown_reached c.args.book.now c.args.lines.now c.args.weight c.args.bank c.lots_by_total-most.result c.args.side c.open_banks-count.new.self c.from_vec.result c.open_banks-count.ensures.begins c.requires.banks c.requires.bank c.lots_by_total-most.ensures.most
+    (subst (AreShown c.args.book.now c.open_banks-count.new.self c.lots_by_total-most.result) (sym c.from_vec.ensures.items) (c.show_near.ensures.shown c.if-show_near.true))
 
 pub returns-then-show_near-clause-steps : goal.returns-then-show_near-clause-steps
 returns-then-show_near-clause-steps g c =
-    let fewer = fewer_reached c.args.book.now c.owners.result.now c.open_banks.new.self c.args.bank c.owners.ensures.valid c.owners.ensures.owners (omega (arith, c.requires.bank, c.requires.banks))
-    (subst (λ (w : ℕ). 1 ≤ w) (sym (ap (λ (w : LevelWalk). w.weight) c.open_banks.ensures.begins.is)) c.requires.weight.0) c.open_banks.ensures.begins.own c.open_banks.ensures.ranked (omega (arith, c.requires.bank, c.lots_by_total-most.ensures.few)) in
-    let same : length (take c.list_reached-count.result c.list_reached-count.new.reached) ≡ length (filter (is_asked c.open_banks.new.self) c.owners.result.now) = ap length c.list_reached-count.ensures.reached in
-    omega (arith, c.open_banks.ensures.step, c.show_near.ensures.steps, fewer, same, add-mul (length c.from_vec.result) 1 c.args.book.now.banks)
+    omega (arith, c.open_banks-count.ensures.step, c.show_near.ensures.steps, c.open_banks-count.ensures.fewer, add-mul (length c.from_vec.result) 1 c.args.book.now.banks)
 
 pub loop-banks-init : goal.loop-banks-init
 loop-banks-init g c =
     let none = c.show_near.ensures.bare c.if-show_near.false in
-    let fewer = fewer_reached c.args.book.now c.owners.result.now c.open_banks.new.self c.args.bank c.owners.ensures.valid c.owners.ensures.owners (omega (arith, c.requires.bank, c.requires.banks))
-    (subst (λ (w : ℕ). 1 ≤ w) (sym (ap (λ (w : LevelWalk). w.weight) c.open_banks.ensures.begins.is)) c.requires.weight.0) c.open_banks.ensures.begins.own c.open_banks.ensures.ranked (omega (arith, c.requires.bank, c.lots_by_total-most.ensures.few)) in
-    let same : length (take c.list_reached-count.result c.list_reached-count.new.reached) ≡ length (filter (is_asked c.open_banks.new.self) c.owners.result.now) = ap length c.list_reached-count.ensures.reached in
     record {
       whole = [];
       cut = cut-begins c.lots_by_total-most.result c.show_near.new.levels.items none;
       way = λ begins.
-          way_begins c.args.book.now begins.valid c.open_banks.new.self c.args.bank []
+          way_begins c.args.book.now begins.valid c.open_banks-count.new.self c.args.bank []
           (subst IsWeight (sym (ap (λ (w : LevelWalk). w.weight) begins.is)) c.requires.weight)
           begins.long begins.heads begins.own refl;
-      ranked = c.open_banks.ensures.ranked;
-      reached = λ begins.
-          subst (AreReached c.args.book.now c.open_banks.new.self) (sym c.list_reached-count.ensures.reached)
-          (reached-begins c.args.book.now c.owners.result.now None c.open_banks.new.self c.owners.ensures.owners (subst IsWeight (sym (ap (λ (w : LevelWalk). w.weight) begins.is)) c.requires.weight) begins.heads c.open_banks.ensures.ranked);
-      lowest = c.lowest_rank-rank.ensures.lowest;
-      steps = omega (arith, c.open_banks.ensures.step, c.show_near.ensures.steps, ap length none, fewer, same);
+      ranked = c.open_banks-count.ensures.ranked;
+      reached = λ begins. c.open_banks-count.ensures.reached;
+      lowest = c.open_banks-count.ensures.lowest;
+      steps = omega (arith, c.open_banks-count.ensures.step, c.show_near.ensures.steps, ap length none, c.open_banks-count.ensures.fewer);
     }
 
 pub take_level-taken-requires : goal.take_level-taken-requires
 take_level-taken-requires g c =
-    let way = c.loop-banks.invariant.way c.open_banks.ensures.begins in
+    let way = c.loop-banks.invariant.way c.open_banks-count.ensures.begins in
     record {
-      reached = c.loop-banks.invariant.reached c.open_banks.ensures.begins;
+      reached = c.loop-banks.invariant.reached c.open_banks-count.ensures.begins;
       weight = subst IsWeight (sym way.weight) way.weighs;
-      most = omega (arith, way.most, c.open_banks.ensures.begins.most);
+      most = omega (arith, way.most, c.open_banks-count.ensures.begins.most);
       ranked = c.loop-banks.invariant.ranked;
-      price = subst (λ (s : Side). IsPrice (rank_at s c.loop-banks.rank)) (side_same c.loop-banks.walk c.open_banks.new.self c.args.side c.opposite.result c.opposite.ensures way.taker (ap (λ (w : LevelWalk). w.taker) c.open_banks.ensures.begins.is))
+      price = subst (λ (s : Side). IsPrice (rank_at s c.loop-banks.rank)) (side_same c.loop-banks.walk c.open_banks-count.new.self c.args.side c.opposite.result c.opposite.ensures way.taker (ap (λ (w : LevelWalk). w.taker) c.open_banks-count.ensures.begins.is))
           (priced c.opposite.result c.loop-banks.rank c.price_at.result c.in-Some.price c.price_at.ensures.valid c.in-Some.is);
     }
 
 pub loop-banks-preserved : goal.loop-banks-preserved
 loop-banks-preserved g c =
     let was = c.loop-banks.invariant in
-    let banks : List ℕ = take c.list_reached-count.result c.list_reached-count.new.reached in
+    let banks : List ℕ = take c.open_banks-count.result.0 c.open_banks-count.new.reached in
     let price : ℕ = c.in-Some.price in
     let taken : ℕ = c.take_level-taken.result.0 in
     let level : Level = record { price = price; lots = c.min-lots.result } in
     let whole : Level = record { price = price; lots = taken } in
-    let begins = c.open_banks.ensures.begins in
+    let begins = c.open_banks-count.ensures.begins in
     let before = was.way begins in
     let reached = was.reached begins in
     let side_is : c.opposite.result ≡ opposite c.loop-banks.walk.taker =
-    side_same c.loop-banks.walk c.open_banks.new.self c.args.side c.opposite.result c.opposite.ensures before.taker (ap (λ (w : LevelWalk). w.taker) begins.is) in
+    side_same c.loop-banks.walk c.open_banks-count.new.self c.args.side c.opposite.result c.opposite.ensures before.taker (ap (λ (w : LevelWalk). w.taker) begins.is) in
     let best : IsBestAmong c.loop-banks.walk banks (Some price) =
     subst (IsBestAmong c.loop-banks.walk banks) c.in-Some.is (best_is c.loop-banks.walk banks c.opposite.result c.loop-banks.rank c.price_at.result side_is c.price_at.ensures.valid c.price_at.ensures.value was.lowest) in
     let price_is : price_for c.loop-banks.walk.taker c.loop-banks.rank ≡ price =
@@ -146,7 +112,7 @@ loop-banks-preserved g c =
       cut = cut-on c.lots_by_total-most.result c.loop-banks.most (c.loop-banks.most - c.min-lots.result) was.whole c.loop-banks.levels.items c.push.new.self.items whole was.cut
           (omega (arith, c.if-most-gt0.true)) (omega (arith, c.min-lots.ensures)) (c.in_ok-push.ensures.items ∙ ap (λ n. c.loop-banks.levels.items ++ record { price = whole.price; lots = n } ∷ []) c.min-lots.ensures);
       way = λ begins.
-          way_on c.args.book.now begins.valid c.open_banks.new.self c.loop-banks.walk c.take_level-taken.new.self c.args.bank was.whole whole begins.few
+          way_on c.args.book.now begins.valid c.open_banks-count.new.self c.loop-banks.walk c.take_level-taken.new.self c.args.bank was.whole whole begins.few
           (was.way begins) (omega (arith, c.loop-banks-test.true, c.len.ensures, was.cut.long)) (taken_level c.args.book.now banks before.past c.loop-banks.walk c.take_level-taken.new.self price taken reached (subst IsWeight (sym before.weight) before.weighs) before.long before.have best all);
       ranked = c.take_level-taken.ensures.ranked;
       reached = λ begins. reached-on c.args.book.now c.loop-banks.walk c.take_level-taken.new.self price taken banks (was.reached begins) all;
@@ -156,22 +122,22 @@ loop-banks-preserved g c =
 
 pub returns : goal.returns
 returns g c =
-    let begins = c.open_banks.ensures.begins in
+    let begins = c.open_banks-count.ensures.begins in
     let was = c.loop-banks.invariant in
-    let banks : List ℕ = take c.list_reached-count.result c.list_reached-count.new.reached in
+    let banks : List ℕ = take c.open_banks-count.result.0 c.open_banks-count.new.reached in
     record {
       levels = subst (IsReached c.args.book.now c.args.lines.now c.args.weight c.args.bank c.args.side) (sym c.from_vec-2.ensures.items)
           (elim c.loop-banks-test.branch [
             | else-loop-banks-test w ↦
-                reached-full c.args.book.now c.args.lines.now c.args.weight c.args.bank c.lots_by_total-most.result c.args.side c.open_banks.new.self c.loop-banks.walk begins c.requires.banks c.requires.bank c.requires.weight.0 c.lots_by_total-most.ensures.most
+                reached-full c.args.book.now c.args.lines.now c.args.weight c.args.bank c.lots_by_total-most.result c.args.side c.open_banks-count.new.self c.loop-banks.walk begins c.requires.banks c.requires.bank c.requires.weight.0 c.lots_by_total-most.ensures.most
                 c.loop-banks.most was.whole c.loop-banks.levels.items (was.way begins) was.cut (inl (omega (arith, w.loop-banks-test.false, c.len.ensures)))
             | then-loop-banks-test+else-most-gt0 w ↦
-                reached-full c.args.book.now c.args.lines.now c.args.weight c.args.bank c.lots_by_total-most.result c.args.side c.open_banks.new.self c.loop-banks.walk begins c.requires.banks c.requires.bank c.requires.weight.0 c.lots_by_total-most.ensures.most
+                reached-full c.args.book.now c.args.lines.now c.args.weight c.args.bank c.lots_by_total-most.result c.args.side c.open_banks-count.new.self c.loop-banks.walk begins c.requires.banks c.requires.bank c.requires.weight.0 c.lots_by_total-most.ensures.most
                 c.loop-banks.most was.whole c.loop-banks.levels.items (was.way begins) was.cut (inr (omega (arith, w.if-most-gt0.false)))
             | then-loop-banks-test+then-most-gt0+in_default w ↦
-                reached-whole c.args.book.now c.args.lines.now c.args.weight c.args.bank c.lots_by_total-most.result c.args.side c.open_banks.new.self c.loop-banks.walk begins c.requires.banks c.requires.bank c.requires.weight.0 c.lots_by_total-most.ensures.most
+                reached-whole c.args.book.now c.args.lines.now c.args.weight c.args.bank c.lots_by_total-most.result c.args.side c.open_banks-count.new.self c.loop-banks.walk begins c.requires.banks c.requires.bank c.requires.weight.0 c.lots_by_total-most.ensures.most
                 c.loop-banks.most was.whole c.loop-banks.levels.items (was.way begins) was.cut (best_of_all c.args.book.now banks c.loop-banks.walk None (was.reached begins) (subst IsWeight (sym (was.way begins).weight) (was.way begins).weighs) (was.way begins).long (subst (IsBestAmong c.loop-banks.walk banks) w.in_default.is
-                (best_is c.loop-banks.walk banks w.opposite.result c.loop-banks.rank w.price_at.result (side_same c.loop-banks.walk c.open_banks.new.self c.args.side w.opposite.result w.opposite.ensures (was.way begins).taker (ap (λ (w : LevelWalk). w.taker) begins.is))
+                (best_is c.loop-banks.walk banks w.opposite.result c.loop-banks.rank w.price_at.result (side_same c.loop-banks.walk c.open_banks-count.new.self c.args.side w.opposite.result w.opposite.ensures (was.way begins).taker (ap (λ (w : LevelWalk). w.taker) begins.is))
                 w.price_at.ensures.valid w.price_at.ensures.value was.lowest)))
           ]);
       steps = subst (λ (n : ℕ). c.loop-banks.steps ≤ c.args.steps.now + (n + 1) * c.args.book.now.banks) (sym (ap length c.from_vec-2.ensures.items)) (omega (arith, was.steps));

@@ -22,7 +22,7 @@ returns c =
 
 pub invariant_of-self : goal.invariant_of-self
 invariant_of-self c =
-    words_set c.self.inside.tables.words c.self.inside.tables.groups c.index-at.result c.args.bank c.match-head.self (c.index-at.result / 8) c.least_of.result c.index-at.ensures.value c.requires.bank c.self.invariant
+    words_set c.self.inside.tables.words c.self.inside.tables.groups c.self.inside.tables.filled c.max-self-inside.result c.index-at.result c.args.bank c.match-head.self (c.index-at.result / 8) c.least_of.result c.index-at.ensures.value c.requires.bank c.self.invariant c.max-self-inside.ensures
     (elim c.match-head.branch [
       | in-Some w ↦ λ _. ap (λ (n : ℕ). n % 64) (w.self-is ∙ w.word_of.ensures.word) ∙ own_word w.in-Some.head c.args.bank c.requires.bank
       | in-None w ↦ λ some. absurd (some w.self-is)
