@@ -1,6 +1,6 @@
 -- Two banks' orders that cross the other's best price, gathered in any order and put in the order of their arrivals.
 use Rattle.std.proofs.Common.{ℕ, suc, append-nil, ◌≡◌, ◌≢◌, ◌<◌, ◌≤◌, Bool, true, false, cond, ◌&&◌, ◌||◌, eqb, List, [], ◌∷◌, ◌++◌, ◌⊎◌, inl, inr, Option, Some, None, refl, ap, sym, subst, ◌∙◌, arith}
-use Rattle.std.proofs.lemmas.Bool.{cases_Bool, cases_eq, cond-true, cond-false, both_ways, false≢true, false_from_ne_true, and_right, or_from, or_left, or_right, eq-eqb, ne_eqb, le-leb, ltb-false, leb-true}
+use Rattle.std.proofs.lemmas.Bool.{and_parts, cases_Bool, cases_eq, cond-true, cond-false, both_ways, false≢true, false_from_ne_true, or_from, or_left, or_right, eq-eqb, eqb-true, ne_eqb, le-leb, ltb-false, leb-true}
 use Rattle.std.proofs.Math.Bool.{and-false, and-true, and_comm, or-false}
 use Rattle.std.proofs.lemmas.List.{append_assoc}
 use Rattle.std.proofs.lemmas.List.Elements.{All-from_recursion, recursion_from_All}
@@ -59,17 +59,29 @@ gathers-both p q r orders a b c either one two = record {
       (IsPermutation-append (filter p orders) one.gathered (filter q orders) two.gathered one.all two.all);
 }
 
--- where there is no best price, nothing crosses it
-pub gathers-none : (bank : ℕ) (side : Side) (top : Option ℕ) (orders old : List Resting) → top ≡ None → Gathers (is_live_on bank side top) orders old old
-gathers-none bank side top orders old none = record {
+opposite_is : (side its : Side) → is_opposite (opposite side) its ≡ true → its ≡ side
+opposite_is Buy Buy is = refl
+opposite_is Buy Sell is = absurd (false≢true is)
+opposite_is Sell Buy is = absurd (false≢true is)
+opposite_is Sell Sell is = refl
+
+-- where no order of a side crosses, there is none to gather
+pub gathers-apart : (bank : ℕ) (side : Side) (top : Option ℕ) (orders old : List Resting) → ((o : Resting) → IsOf bank side orders o → crosses_top side o.price top ≡ true → ⊥) → Gathers (is_live_on bank side top) orders old old
+gathers-apart bank side top orders old apart = record {
   gathered = [];
   behind = sym (append-nil old);
   all = subst (λ (os : List Resting). IsPermutation os [])
       (sym (none_in (filter (is_live_on bank side top) orders) (λ o there.
-      let crosses_none : crosses_top side o.price top ≡ false = ap (crosses_top side o.price) none in
-      both_ways (is_live_on bank side top o) (and_right (is_across (opposite side) bank o) (crosses_top side o.price top) crosses_none)
-      (Among-filter (is_live_on bank side top) orders o there).1))) (IsPermutation-refl []);
+      let live = Among-filter (is_live_on bank side top) orders o there in
+      let parts = and_parts (is_across (opposite side) bank o) (crosses_top side o.price top) live.1 in
+      let across = and_parts (eqb o.bank bank) (is_opposite (opposite side) o.side) parts.0 in
+      apart o (record { rests = live.0; owner = eqb-true o.bank bank across.0; side_is = opposite_is side o.side across.1 }) parts.1))) (IsPermutation-refl []);
 }
+
+-- where there is no best price, nothing crosses it
+pub gathers-none : (bank : ℕ) (side : Side) (top : Option ℕ) (orders old : List Resting) → top ≡ None → Gathers (is_live_on bank side top) orders old old
+gathers-none bank side top orders old none =
+    gathers-apart bank side top orders old (λ o is cross. false≢true (sym (ap (crosses_top side o.price) none) ∙ cross))
 
 -- an order crosses as a buy or as a sell
 either_side : (own : Bool) (side : Side) (price : ℕ) (tops : Tops) →
@@ -258,12 +270,12 @@ among-live orders i j tops_i tops_j o differ there =
     )
 
 -- an order of a bank that crosses a price is not better than the bank's best, so that crosses it too
-buy_meets : (bank : ℕ) (orders : List Resting) (top : Option ℕ) (o : Resting) (sell : Option ℕ) → IsTop bank Buy orders top → IsOf bank Buy orders o → crosses_top Buy o.price sell ≡ true → is_crossed top sell ≡ true
+pub buy_meets : (bank : ℕ) (orders : List Resting) (top : Option ℕ) (o : Resting) (sell : Option ℕ) → IsTop bank Buy orders top → IsOf bank Buy orders o → crosses_top Buy o.price sell ≡ true → is_crossed top sell ≡ true
 buy_meets bank orders None o sell none is cross = absurd (none o is)
 buy_meets bank orders (Some top) o None best is cross = absurd (false≢true cross)
 buy_meets bank orders (Some top) o (Some sell) best is cross = le-leb sell top (omega (arith, leb-true sell o.price cross, ltb-false top o.price (best o is)))
 
-sell_meets : (bank : ℕ) (orders : List Resting) (top : Option ℕ) (o : Resting) (buy : Option ℕ) → IsTop bank Sell orders top → IsOf bank Sell orders o → crosses_top Sell o.price buy ≡ true → is_crossed buy top ≡ true
+pub sell_meets : (bank : ℕ) (orders : List Resting) (top : Option ℕ) (o : Resting) (buy : Option ℕ) → IsTop bank Sell orders top → IsOf bank Sell orders o → crosses_top Sell o.price buy ≡ true → is_crossed buy top ≡ true
 sell_meets bank orders None o buy none is cross = absurd (none o is)
 sell_meets bank orders (Some top) o None best is cross = absurd (false≢true cross)
 sell_meets bank orders (Some top) o (Some buy) best is cross = le-leb top buy (omega (arith, leb-true o.price buy cross, ltb-false o.price top (best o is)))

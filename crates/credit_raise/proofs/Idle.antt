@@ -3,7 +3,6 @@ use Rattle.std.proofs.Common.{ℕ, ◌≡◌, ◌≢◌, ◌≤◌, ◌<◌, ◌
 use Rattle.std.proofs.lemmas.Bool.{and_from, both_ways, cases_eq, cases_lt, cond-false, cond-true, eq-eqb, false_from_ne_true, false≢true, le-leb, leb-true, lt-ltb, ne_eqb, or_from, or_left, or_right}
 use Rattle.fx_amounts.specs.Price.{IsPrice}
 use Rattle.fx_amounts.specs.declared.side.Side.TheVariants.{Buy, Sell}
-use Rattle.fx_rules.specs.declared.orders.Plan.{Plan}
 use Rattle.fx_rules.specs.declared.orders.Resting.{Resting}
 use Rattle.fx_rules.specs.Lists.{EachPair}
 use Rattle.fx_rules.specs.Raise.{Turned}
@@ -21,7 +20,7 @@ use Rattle.credit_raise.specs.UnderWay.{Change, IsPairOf, IsReady, IsUnderWay}
 use Rattle.credit_raise.specs.inside.Prices.{AreTops, is_crossed, ranks_meet, tops_meet, words_meet}
 use Rattle.credit_raise.specs.inside.Playing.{Played}
 use Rattle.credit_raise.specs.inside.Two.{turns}
-use Rattle.credit_raise.specs.inside.UnderWay.{AreParties, HasCredit, IsCourse, MakesNone, course_behind}
+use Rattle.credit_raise.specs.inside.UnderWay.{AreParties, HasCredit, IsCourse, MakesNone, course_behind, idle_plan}
 use Rattle.credit_raise.proofs.Facing.{live-played, top-price}
 use Rattle.credit_raise.proofs.Gathering.{apart-turns}
 use Rattle.credit_raise.proofs.Pairs.{goes_on}
@@ -147,10 +146,6 @@ not_true false is = refl
 
 -- ---- a change goes on past a pair in which it makes nothing
 
--- a plan without fills
-abbrev pub none : Plan
-none = record { fills = []; left = 0 }
-
 none_turned : (h : Header) (T : State) (book : Book) (weight sender : ℕ) (course : Course) → IsCourse sender course → 1 ≤ weight → MakesNone book weight sender course
     → IsReady h T book weight sender course → Turned h book.pair T book.orders []
 none_turned h T book weight sender (Raised other limit line) differ some makes ready = raised-turned h T book weight sender other line [] differ some ready makes
@@ -171,9 +166,9 @@ behind_none weight (Swept lines set) = refl
 
 pub none-goes-on : (h : Header) (S : State) (change : Change) (book : Book) (weight : ℕ) → MakesNone book weight change.sender change.course → IsCourse change.sender change.course → 1 ≤ weight
     → book.pair ≡ length change.plans → IsUnderWay h S change → IsPairOf h S book weight
-    → IsUnderWay h S (record { sender = change.sender; command = change.command; course = change.course; plans = change.plans ++ none ∷ [] })
+    → IsUnderWay h S (record { sender = change.sender; command = change.command; course = change.course; plans = change.plans ++ idle_plan ∷ [] })
 none-goes-on h S change book weight makes valid some next under of =
-    subst (λ (course : Course). IsUnderWay h S (record { sender = change.sender; command = change.command; course = course; plans = change.plans ++ none ∷ [] }))
+    subst (λ (course : Course). IsUnderWay h S (record { sender = change.sender; command = change.command; course = course; plans = change.plans ++ idle_plan ∷ [] }))
     (behind_none weight change.course)
-    (goes_on h S change book weight none (none_credit book weight change.sender change.course makes) some next
+    (goes_on h S change book weight idle_plan (none_credit book weight change.sender change.course makes) some next
     (λ T ready. none_turned h T book weight change.sender change.course valid some makes ready) (none_parties book.pair change.sender change.course) under of)

@@ -8,6 +8,7 @@ pub mod Paying
 pub mod Raised
 pub mod Going
 pub mod Idle
+pub mod Idling
 pub mod Living
 pub mod Facing
 pub mod Gathering

@@ -6,12 +6,12 @@ ghost use Rattle.fx_rules.specs.State as state;
 ghost use Rattle.fx_rules.specs.State.{State};
 ghost use Rattle.fx_rules.specs.Raise.{Turned};
 ghost use Rattle.credit_lines.specs.Credit.{IsCredit};
-ghost use Rattle.fx_rules.specs.declared.command.Command.TheVariants.{Line};
+ghost use Rattle.fx_rules.specs.declared.command.Command.TheVariants.{Line, Settle, Total};
 ghost use Rattle.credit_raise.specs.Two.{lots_of};
 ghost use Rattle.credit_raise.specs.UnderWay.{HasBanks, IsChange, IsReady, answer_of, course_of, set_of};
 ghost use Rattle.credit_raise.specs.inside.UnderWay.{AreParties, HasCredit, IsCourse, IsCourseOf, IsSwept, MakesNone, course_behind};
 
-use crate::pay::pay_all;
+use crate::own_lines::OwnLines;
 use crate::raise::{is_idle, plan_raise};
 use crate::sweep::plan_sweep;
 use credit_lines::{CreditLines, at_most};
@@ -38,7 +38,7 @@ pub(crate) enum Course {
     /// Of a total or a settlement, which can open lines between a bank and all others.
     Swept {
         /// The lines, with the change and the fills so far made.
-        lines: CreditLines,
+        lines: OwnLines,
         /// The total that is set, or the units that are given back.
         set: u64,
     },
@@ -47,7 +47,9 @@ pub(crate) enum Course {
 impl Course {
     /// The course of a sender's credit change before the first pair's turn, by the lines as they stand. A limit takes no memory,
     /// any other change takes it for a copy of the lines.
+    #[inline(always)]
     pub(crate) fn open(
+        alloc: Global,
         lines: &CreditLines,
         sender: BankId,
         command: &Command,
@@ -60,19 +62,8 @@ impl Course {
     {
         match *command {
             Command::Line { bank, limit } => Ok(raised(lines, sender, bank, limit)),
-            Command::Total { limit } => {
-                let mut lines = lines.copy()?;
-                let set = lines.set_total(sender, limit);
-                Ok(Course::Swept { lines, set })
-            }
-            Command::Settle { a, b, units } => {
-                let mut lines = lines.copy()?;
-                let given = lines.give_back(a, b, units);
-                Ok(Course::Swept {
-                    lines,
-                    set: given.get(),
-                })
-            }
+            Command::Total { limit } => totalled(alloc, lines, sender, limit),
+            Command::Settle { a, b, units } => settled(alloc, lines, sender, a, b, units),
             _ => unreachable!(),
         }
     }
@@ -119,7 +110,9 @@ impl Course {
             Course::Raised { other, line, .. } => {
                 plan_raise(alloc, book, weight, sender, *other, *line, &mut steps)
             }
-            Course::Swept { lines, .. } => plan_sweep(alloc, book, lines, weight, &mut steps),
+            Course::Swept { lines, .. } => {
+                plan_sweep(alloc, book, lines.get(), weight, &mut steps)
+            }
         }
     }
 
@@ -169,7 +162,7 @@ impl Course {
     {
         match self {
             Course::Raised { line, .. } => *line = line_left(*line, weight, fills),
-            Course::Swept { lines, .. } => pay_all(lines, banks, weight, fills),
+            Course::Swept { lines, .. } => lines.pay(banks, weight, fills),
         }
     }
 
@@ -186,6 +179,50 @@ impl Course {
             Course::Swept { set, .. } => swept_answer(command, *set, fills),
         }
     }
+}
+
+/// The course of a total that the sender asks for.
+#[inline(never)]
+fn totalled(
+    alloc: Global,
+    lines: &CreditLines,
+    sender: BankId,
+    asked: Units,
+) -> Result<Course, Memory>
+    requires sender { sender < lines.now.banks }
+    ensures value { IfOk result (λ course. course ≡ course_of lines.now sender (Total asked)) }
+    ensures valid { IfOk result (IsCourse sender) }
+    ensures of { IfOk result (IsCourseOf (Total asked)) }
+    ensures lines { IfOk result (λ course. IsCredit lines.now) }
+{
+    let mut lines = lines.copy()?;
+    let set = lines.set_total(sender, asked);
+    let lines = OwnLines::new(alloc, lines)?;
+    Ok(Course::Swept { lines, set })
+}
+
+/// The course of a sender's settlement of so many units between two banks.
+#[inline(never)]
+fn settled(
+    alloc: Global,
+    lines: &CreditLines,
+    sender: BankId,
+    a: BankId,
+    b: BankId,
+    asked: Units,
+) -> Result<Course, Memory>
+    requires first { a < lines.now.banks }
+    requires second { b < lines.now.banks }
+    requires differ { a ≢ b }
+    ensures value { IfOk result (λ course. course ≡ course_of lines.now sender (Settle a b asked)) }
+    ensures valid { IfOk result (IsCourse sender) }
+    ensures of { IfOk result (IsCourseOf (Settle a b asked)) }
+    ensures lines { IfOk result (λ course. IsCredit lines.now) }
+{
+    let mut lines = lines.copy()?;
+    let set = lines.give_back(a, b, asked).get();
+    let lines = OwnLines::new(alloc, lines)?;
+    Ok(Course::Swept { lines, set })
 }
 
 /// The course of a limit that the sender asks for on another bank.

@@ -5,6 +5,7 @@
 mod change;
 mod course;
 mod laws;
+mod own_lines;
 mod pay;
 mod prices;
 mod raise;

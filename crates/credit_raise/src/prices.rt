@@ -121,7 +121,7 @@ fn ranks_meet(buy: u64, sell: u64) -> bool
 
 /// Whether a best buy crosses a best sell, where there are both.
 #[inline(always)]
-fn is_crossed(buy: Option<Price>, sell: Option<Price>) -> bool
+pub(crate) fn is_crossed(buy: Option<Price>, sell: Option<Price>) -> bool
     ensures { result ≡ is_crossed buy sell }
 {
     match (buy, sell) {

@@ -32,7 +32,7 @@ enum Held {
     /// Few have turns: in a list, along which each search goes.
     Few { banks: usize, orders: Vec<Resting> },
     /// More have turns: in a book.
-    Many(PairBook),
+    Many(Box<PairBook>),
 }
 
 impl Model for Waiting {
@@ -55,7 +55,7 @@ impl Waiting {
         ensures empty { IfOk result (λ waiting. waiting.orders ≡ []) }
     {
         let held = if turns > FEW {
-            Held::Many(PairBook::new(alloc, pair, banks)?)
+            Held::Many(book_of(alloc, pair, banks)?)
         } else {
             let mut orders = Vec::new(alloc);
             orders.reserve(turns)?;
@@ -112,6 +112,16 @@ impl Waiting {
         }
         Ok(())
     }
+}
+
+/// A book without orders, of a pair and for so many banks, at a place of its own.
+#[inline(never)]
+fn book_of(alloc: Global, pair: PairId, banks: usize) -> Result<Box<PairBook>, Memory>
+    ensures banks { IfOk result (λ book. book.value.banks ≡ banks) }
+    ensures empty { IfOk result (λ book. book.value.orders ≡ []) }
+{
+    let book = PairBook::new(alloc, pair, banks)?;
+    Ok(Box::new(alloc, book)?)
 }
 
 /// The best of a bank's orders of a side in a list, of those that arrived before `before`; `None` where there is none.

@@ -1,9 +1,10 @@
-ghost use Rattle.std.specs.Prelude.{◌≡◌, ◌≢◌, ◌+◌, ◌≤◌, filter, length, IfOk, OnOk};
+ghost use Rattle.std.specs.Prelude.{◌≡◌, ◌≢◌, ◌+◌, ◌≤◌, true, false, filter, length, IfOk, OnOk};
 ghost use Rattle.fx_amounts.specs.Side.{opposite};
+ghost use Rattle.fx_rules.specs.declared.orders.Resting.{Resting};
 ghost use Rattle.global_book.specs.Book.{IsBook};
-ghost use Rattle.credit_raise.specs.inside.Prices.{Gathers, crosses_tops, is_live_of, is_live_on, live_turns, top_of};
+ghost use Rattle.credit_raise.specs.inside.Prices.{AreTops, Gathers, IsOf, crosses_top, crosses_tops, is_live_of, is_live_on, live_turns, top_of};
 
-use crate::prices::Tops;
+use crate::prices::{Tops, is_crossed};
 use fx_amounts::{BankId, Memory, Side};
 use fx_rules::Resting;
 use global_book::PairBook;
@@ -11,8 +12,8 @@ use price_levels::Steps;
 use std::alloc::Global;
 use std::sync::ledger::Ledger;
 
-/// Of the orders of two banks those that cross the other bank's best price, in arrival order. It reads no other order: a step
-/// for each, and four beside them at most. `Memory` when out of memory.
+/// Of the orders of two banks, whose best prices these are, those that cross the other bank's best price, in arrival order. It reads no
+/// other order: a step for each, and four beside them at most. `Memory` when out of memory.
 #[inline(never)]
 pub(crate) fn live_turns<L: Ledger>(
     alloc: Global,
@@ -25,12 +26,14 @@ pub(crate) fn live_turns<L: Ledger>(
 ) -> Result<Vec<Resting>, Memory>
     requires differ { i ≢ j }
     requires valid { IsBook book.now }
+    requires tops_i { AreTops i book.now.orders tops_i.now }
+    requires tops_j { AreTops j book.now.orders tops_j.now }
     ensures steps { IfOk result (λ turns. steps.new ≤ steps.old + 4 + length turns.items) }
     ensures turns { IfOk result (λ turns. turns.items ≡ live_turns i j tops_i.now tops_j.now book.now.orders) }
 {
     let mut turns = Vec::new(alloc);
-    gather(book, i, tops_j, &mut turns, steps)?;
-    gather(book, j, tops_i, &mut turns, steps)?;
+    gather_live(book, i, tops_i, tops_j, &mut turns, steps)?;
+    gather_live(book, j, tops_j, tops_i, &mut turns, steps)?;
     turns.sort_unstable_by_key(|order| order.arrival);
     Ok(turns)
 }
@@ -51,6 +54,46 @@ pub(crate) fn crossing_orders<L: Ledger>(
     }
     orders.sort_unstable_by_key(|order| order.arrival);
     Ok(orders)
+}
+
+/// Gathers the orders of a bank, whose best prices are `own`, that cross another bank's best price, behind those that are there. It has no
+/// look at a side whose best price does not cross.
+fn gather_live<L: Ledger>(
+    book: &PairBook,
+    bank: BankId,
+    own: &Tops,
+    tops: &Tops,
+    turns: &mut Vec<Resting>,
+    steps: &mut Steps<L>,
+) -> Result<(), Memory>
+    requires own { AreTops bank book.now.orders own.now }
+    ensures gathered { OnOk result (Gathers (is_live_of bank tops.now) book.now.orders turns.old.items turns.new.items) }
+    ensures steps { OnOk result (steps.new + length turns.old.items ≤ steps.old + 2 + length turns.new.items) }
+{
+    let buys = is_crossed(own.buy, tops.sell);
+    let sells = is_crossed(tops.buy, own.sell);
+    gather_any(book, bank, Side::Buy, buys, tops, turns, steps)?;
+    gather_any(book, bank, Side::Sell, sells, tops, turns, steps)
+}
+
+/// Those of a side, where there are any.
+fn gather_any<L: Ledger>(
+    book: &PairBook,
+    bank: BankId,
+    side: Side,
+    any: bool,
+    tops: &Tops,
+    turns: &mut Vec<Resting>,
+    steps: &mut Steps<L>,
+) -> Result<(), Memory>
+    requires none { any ≡ false → (order : Resting) → IsOf bank side book.now.orders order → crosses_top side order.price (top_of tops.now (opposite side)) ≡ true → ⊥ }
+    ensures gathered { OnOk result (Gathers (is_live_on bank side (top_of tops.now (opposite side))) book.now.orders turns.old.items turns.new.items) }
+    ensures steps { OnOk result (steps.new + length turns.old.items ≤ steps.old + 1 + length turns.new.items) }
+{
+    if !any {
+        return Ok(());
+    }
+    gather_side(book, bank, side, tops, turns, steps)
 }
 
 /// Gathers the orders of a bank that cross another bank's best price, behind those that are there.

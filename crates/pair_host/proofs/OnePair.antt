@@ -1,5 +1,5 @@
 -- What is made in one book and the table is the step of each state that they are of.
-use Rattle.std.proofs.Common.{ℕ, ◌≡◌, ◌+◌, ◌-◌, ap, sym, subst, ◌∙◌, arith}
+use Rattle.std.proofs.Common.{ℕ, ◌≡◌, ◌+◌, ap, sym, subst, ◌∙◌, arith}
 use Rattle.fx_rules.specs.declared.command.Command.{Command}
 use Rattle.fx_rules.specs.declared.outcome.Entry.{Entry}
 use Rattle.fx_rules.specs.declared.outcome.Outcome.{Outcome}

@@ -54,6 +54,9 @@ pub(crate) fn carry_turns(books: &mut [PairBook], change: &CreditChange)
     requires turned { All (λ book. book.pair < length change.now.plans) books.old }
     ensures carried { EachBook (IsCarried change.now) books.old books.new }
 {
+    if change.makes_nothing() {
+        return;
+    }
     for book in books.iter_mut() {
         carry_turn(book, change);
     }

@@ -1,5 +1,5 @@
 -- What private functions and proofs alone say of it, beside `specs/UnderWay.antt`.
-use Rattle.std.specs.Prelude.{ℕ, ◌≢◌, ◌-◌, ◌*◌, List, [], ◌∷◌, ◌++◌}
+use Rattle.std.specs.Prelude.{ℕ, ◌≢◌, ◌-◌, ◌*◌, List, [], ◌∷◌, ◌++◌, replicate}
 use Rattle.fx_amounts.specs.Quantity.{IsUnits}
 use Rattle.fx_rules.specs.declared.command.Command.{Command}
 use Rattle.fx_rules.specs.declared.command.Command.TheVariants.{Line, Total, Settle}
@@ -27,6 +27,14 @@ with_plan change plan weight = record change {
   course = course_behind weight plan.fills change.course;
   plans = change.plans ++ plan ∷ [];
 }
+
+-- what a pair is to make that makes nothing
+abbrev pub idle_plan : Plan
+idle_plan = record { fills = []; left = 0 }
+
+-- some plans, and behind them those of so many pairs that make nothing
+abbrev pub with_idle : List Plan → ℕ → List Plan
+with_idle plans idle = plans ++ replicate idle idle_plan
 
 -- the lines of a course are lines of a market
 abbrev pub HasCredit : Course → Type 0

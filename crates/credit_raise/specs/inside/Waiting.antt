@@ -14,7 +14,7 @@ pub record Waiters : Type 0 where
 -- those that wait
 abbrev pub waiters_of : Held → Waiters
 waiters_of (Few banks orders) = record { banks = banks; orders = orders.items }
-waiters_of (Many book) = record { banks = book.banks; orders = book.orders }
+waiters_of (Many book) = record { banks = book.value.banks; orders = book.value.orders }
 
 -- the first order of this bank and number stands at this place
 pub record StandsAt (bank number : ℕ) (orders : List Resting) (at : ℕ) (fallback : Resting) : Type 0 where

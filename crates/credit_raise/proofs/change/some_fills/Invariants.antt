@@ -1,6 +1,6 @@
 use Rattle.std.proofs.Common.{◌≡◌, ◌++◌, drop}
 use Rattle.credit_raise.specs.UnderWay.{fills_of_all}
-use Rattle.credit_raise.proofs.change.all_fills.Given as goal
+use Rattle.credit_raise.proofs.change.some_fills.Given as goal
 
 -- the fills so far, and those of the plans to come
 abbrev pub invariant-loop-plan : goal.invariant-loop-plan
