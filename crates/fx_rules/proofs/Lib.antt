@@ -19,6 +19,7 @@ pub mod Determined
 pub mod NamesLemmas
 pub mod NameTexts
 pub mod Sought
+pub mod WordFronts
 pub mod SessionLemmas
 pub mod Continuing
 pub mod Falling

@@ -10,7 +10,7 @@ use Rattle.std.specs.Cmp.Derive.{both_true}
 use Rattle.std.specs.Int.{w64, from_le_bytes, to_le_bytes}
 use Rattle.std.specs.List.{position_or_len, AllPairs}
 use Rattle.fx_rules.specs.Names.{padded}
-use Rattle.fx_rules.specs.Session.{IsPairRule, pair_text}
+use Rattle.fx_rules.specs.Session.{AreSamePair, IsPairRule, pair_text}
 use Rattle.fx_rules.specs.declared.session.PairRule.{PairRule}
 use Rattle.fx_rules.proofs.NameTexts.{HasCodeBytes-code, HasPairBytes-pair_text}
 
@@ -78,6 +78,28 @@ pub place_by_parts : (pairs : List PairRule) (text : List ℕ) → All IsPairRul
     → position (λ rule. bytes_eq rule.base (take 3 text) && bytes_eq rule.quote (drop 4 text)) pairs ≡ position (λ rule. bytes_eq (pair_text rule) text) pairs
 place_by_parts pairs text valid size slash =
     position_agrees _ _ pairs (λ k rule within. pair_test text size slash (get_or pairs k rule) (valid k rule within))
+
+-- a pair that is written so is the only one
+pub place_alone : (pairs : List PairRule) (text : List ℕ) (at : ℕ) (rule : PairRule) → All IsPairRule pairs → AllPairs (λ a b. ¬ (AreSamePair a b)) pairs → at < length pairs → get_or pairs at rule ≡ rule
+    → bytes_eq (pair_text rule) text ≡ true → Some at ≡ position (λ rule. bytes_eq (pair_text rule) text) pairs
+place_alone pairs text at rule valid differ within is same =
+    let own : IsPairRule rule = subst IsPairRule is (valid at rule within) in
+    let written : pair_text rule ≡ text = (bytes_decides (pair_text rule) text).0 same in
+    let base : length rule.base ≡ 3 = (HasCodeBytes-code rule.base own.base).size in
+    let size : length text ≡ 7 = sym (ap length written) ∙ (HasPairBytes-pair_text rule own).size in
+    let seam : get_or (pair_text rule) 3 0 ≡ 47 = ap (λ n. get_or (pair_text rule) n 0) (sym base) ∙ get_or-append_seam rule.base 47 rule.quote 0 in
+    let slash : get_or text 3 0 ≡ 47 = sym (ap (λ (t : List ℕ). get_or t 3 0) written) ∙ seam in
+    let passes : (bytes_eq rule.base (take 3 text) && bytes_eq rule.quote (drop 4 text)) ≡ true = pair_test text size slash rule own ∙ same in
+    let mine = and_parts (bytes_eq rule.base (take 3 text)) (bytes_eq rule.quote (drop 4 text)) passes in
+    position_alone (λ a b. ¬ (AreSamePair a b)) (λ rule. bytes_eq rule.base (take 3 text) && bytes_eq rule.quote (drop 4 text)) pairs at rule differ
+    (λ other alike apart.
+    let parts = and_parts (bytes_eq other.base (take 3 text)) (bytes_eq other.quote (drop 4 text)) alike in
+    apart (
+      (bytes_decides other.base (take 3 text)).0 parts.0 ∙ sym ((bytes_decides rule.base (take 3 text)).0 mine.0),
+      (bytes_decides other.quote (drop 4 text)).0 parts.1 ∙ sym ((bytes_decides rule.quote (drop 4 text)).0 mine.1),
+    ))
+    within is passes
+    ∙ place_by_parts pairs text valid size slash
 
 -- a text of another form is no pair's
 not_written : (text : List ℕ) (rule : PairRule) → IsPairRule rule → ¬ ((length text ≡ 7) × (get_or text 3 0 ≡ 47)) → bytes_eq (pair_text rule) text ≡ false

@@ -1,5 +1,5 @@
-ghost use Rattle.std.specs.Prelude.{◌≡◌, IsTrue, SomeIff, bytes_eq};
-ghost use Rattle.fx_rules.specs.Names.{is_name, is_code, is_name_byte};
+ghost use Rattle.std.specs.Prelude.{◌≡◌, ◌≤◌, IsTrue, SomeIff, bytes_eq, length, take};
+ghost use Rattle.fx_rules.specs.Names.{is_name, is_code, is_name_byte, padded};
 ghost use Rattle.fx_rules.specs.inside.Names.{is_reserved};
 ghost use Rattle.std.specs.Int.{w64, to_le_bytes};
 ghost use Rattle.std.specs.List.{list_all};
@@ -117,6 +117,38 @@ impl<'a> SoughtName<'a> {
         }
     }
 
+    /// The first `len` bytes of a text, 8 at most. Where the text has eight, they are read at once. It takes no memory.
+    #[inline(always)]
+    pub(crate) fn in_front(text: &'a [u8], len: usize) -> SoughtName<'a>
+        requires len { len ≤ length text.now }
+        ensures value { result ≡ take len text.now }
+    {
+        let (name, _) = text.split_at(len);
+        match text.first_chunk::<8>() {
+            Some(first) if len >= 3 && len <= 8 => SoughtName {
+                text: name,
+                word: front_of(word_of(*first), len),
+            },
+            _ => SoughtName::of(name),
+        }
+    }
+
+    /// The text.
+    pub(crate) fn text(&self) -> &'a [u8]
+        ensures { result.now ≡ self.now }
+    {
+        self.text
+    }
+
+    /// Whether it is another text that is sought, where it has eight bytes at most: of as many bytes, and the same word.
+    #[inline(always)]
+    pub(crate) fn is(&self, other: &SoughtName<'_>) -> bool
+        requires short { length self.now ≤ 8 }
+        ensures value { result ≡ bytes_eq self.now other.now }
+    {
+        self.text.len() == other.text.len() && self.word == other.word
+    }
+
     /// The word of the text, as a name stores it.
     pub(crate) fn word(&self) -> u64 {
         self.word
@@ -128,6 +160,16 @@ fn word_of(bytes: [u8; 8]) -> u64
     ensures value { to_le_bytes w64 result ≡ bytes }
 {
     u64::from_le_bytes(bytes)
+}
+
+/// The first `count` bytes of a word, with zeros behind them.
+#[inline(always)]
+fn front_of(word: u64, count: usize) -> u64
+    requires some { 3 ≤ count }
+    requires few { count ≤ 8 }
+    ensures value { to_le_bytes w64 result ≡ padded (take count (to_le_bytes w64 word)) }
+{
+    word & (u64::MAX >> (64 - 8 * count))
 }
 
 /// Whether a text is a name.

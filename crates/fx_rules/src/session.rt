@@ -1,4 +1,4 @@
-ghost use Rattle.std.specs.Prelude.{[], ◌≡◌, ◌≢◌, ◌↔◌, ◌≤◌, ◌<◌, ◌+◌, ◌*◌, ◌&&◌, ℕ, IsTrue, SomeIff, All, AllPairs, length, position, slice_index, slice_get, bytes_eq, Contains, IfSome, IfNone, option_map};
+ghost use Rattle.std.specs.Prelude.{[], ◌≡◌, ◌≢◌, ◌↔◌, ◌≤◌, ◌<◌, ◌+◌, ◌*◌, ◌&&◌, ℕ, IsTrue, SomeIff, All, AllPairs, length, position, slice_index, slice_get, bytes_eq, Contains, IfSome, IfNone, option_map, take};
 ghost use Rattle.fx_rules.specs.Names.{is_name};
 ghost use Rattle.fx_rules.specs.Session.{Header, IsSession, IsPairRule, AreSamePair, bank_count, pair_count, newest, sender_places, opening_limit, opening_total, weight_of, decimals_of, lot_of, bank_name, bank_named, pair_named, pair_text, pair_name};
 
@@ -240,7 +240,30 @@ impl Session {
         ensures named { IfSome result (λ bank. slice_get self.now.banks bank ≡ Some text.now) }
         ensures none { IfNone result (¬ (Contains self.now.banks text.now)) }
     {
-        let place = place_of_bank_by(&self.banks, &self.bank_guesses, text)?;
+        self.bank_sought(&SoughtName::of(text))
+    }
+
+    /// The bank whose name the first `len` bytes of a text are; `None` exactly where no bank has it. It is as `bank_named`, and faster where
+    /// eight bytes of the text can be read at once. It takes no memory.
+    #[inline(always)]
+    pub fn bank_in_front(&self, text: &[u8], len: usize) -> Option<BankId>
+        requires len { len ≤ length text.now }
+        ensures value { result ≡ bank_named self.now.banks (take len text.now) }
+        ensures within { IfSome result (λ bank. bank < bank_count self.now) }
+        ensures named { IfSome result (λ bank. slice_get self.now.banks bank ≡ Some (take len text.now)) }
+    {
+        self.bank_sought(&SoughtName::in_front(text, len))
+    }
+
+    /// The bank of a name that is sought.
+    #[inline(always)]
+    fn bank_sought(&self, sought: &SoughtName<'_>) -> Option<BankId>
+        ensures value { result ≡ bank_named self.now.banks sought.now }
+        ensures within { IfSome result (λ bank. bank < bank_count self.now) }
+        ensures named { IfSome result (λ bank. slice_get self.now.banks bank ≡ Some sought.now) }
+        ensures none { IfNone result (¬ (Contains self.now.banks sought.now)) }
+    {
+        let place = place_of_bank_by(&self.banks, &self.bank_guesses, sought)?;
         Some(BankId::at(place))
     }
 
@@ -253,6 +276,21 @@ impl Session {
         ensures none { IfNone result (All (λ rule. pair_text rule ≢ text.now) self.now.pairs) }
     {
         let place = place_of_pair_text(&self.pairs, &self.pair_guesses, text)?;
+        Some(PairId::at(place))
+    }
+
+    /// The pair that is written as the first seven bytes of a text are; `None` exactly where no pair is. It is as `pair_named`, and faster
+    /// where eight bytes of the text can be read at once. It takes no memory.
+    #[inline(always)]
+    pub fn pair_in_front(&self, text: &[u8]) -> Option<PairId>
+        requires long { 7 ≤ length text.now }
+        ensures value { result ≡ pair_named self.now (take 7 text.now) }
+        ensures within { IfSome result (λ pair. pair < pair_count self.now) }
+        ensures named { IfSome result
+            (λ pair. option_map pair_text (slice_get self.now.pairs pair) ≡ Some (take 7 text.now)) }
+    {
+        let sought = SoughtName::in_front(text, 7);
+        let place = place_of_sought_pair(&self.pairs, &self.pair_guesses, &sought)?;
         Some(PairId::at(place))
     }
 }
@@ -324,19 +362,20 @@ fn guesses_of_pairs(pairs: &[PairRule]) -> Guesses
 }
 
 /// The place of the bank of that name, where all names differ. Where it guessed right it looks at one name.
-fn place_of_bank_by(banks: &[Name], guesses: &Guesses, text: &[u8]) -> Option<usize>
+#[inline(always)]
+fn place_of_bank_by(banks: &[Name], guesses: &Guesses, sought: &SoughtName<'_>) -> Option<usize>
     requires { AllPairs (λ a b. a ≢ b) banks.now }
-    ensures value { result ≡ position (λ name. bytes_eq name text.now) banks.now }
+    ensures value { result ≡ position (λ name. bytes_eq name sought.now) banks.now }
 {
-    let sought = SoughtName::of(text);
-    let guess = guesses.place(&sought);
+    let guess = guesses.place(sought);
     match banks.get(guess) {
-        Some(name) if name.is(&sought) => Some(guess),
-        _ => place_of_bank(banks, text),
+        Some(name) if name.is(sought) => Some(guess),
+        _ => place_of_bank(banks, sought.text()),
     }
 }
 
 /// The place of the first bank of that name.
+#[inline(never)]
 fn place_of_bank(banks: &[Name], text: &[u8]) -> Option<usize>
     ensures value { result ≡ position (λ name. bytes_eq name text.now) banks.now }
 {
@@ -374,7 +413,26 @@ fn place_of_pair(pairs: &[PairRule], base: &[u8], quote: &[u8]) -> Option<usize>
     pairs.iter().position(|rule| is_of(rule, base, quote))
 }
 
+/// The place of the pair that is written as a text that is sought, where all pairs differ. Where it guessed right it looks at one pair.
+#[inline(always)]
+fn place_of_sought_pair(
+    pairs: &[PairRule],
+    guesses: &Guesses,
+    sought: &SoughtName<'_>,
+) -> Option<usize>
+    requires valid { All IsPairRule pairs.now }
+    requires differ { AllPairs (λ a b. ¬ (AreSamePair a b)) pairs.now }
+    ensures value { result ≡ position (λ rule. bytes_eq (pair_text rule) sought.now) pairs.now }
+{
+    let guess = guesses.place(sought);
+    match pairs.get(guess) {
+        Some(rule) if SoughtName::of(&rule.text()).is(sought) => Some(guess),
+        _ => place_of_pair_text(pairs, guesses, sought.text()),
+    }
+}
+
 /// The place of the pair that is written so, where all pairs differ.
+#[inline(never)]
 fn place_of_pair_text(pairs: &[PairRule], guesses: &Guesses, text: &[u8]) -> Option<usize>
     requires valid { All IsPairRule pairs.now }
     requires differ { AllPairs (λ a b. ¬ (AreSamePair a b)) pairs.now }

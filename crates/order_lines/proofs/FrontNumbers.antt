@@ -1,13 +1,14 @@
 -- The number that a text begins with, by its first digits.
-use Rattle.std.proofs.Common.{◌≡◌, ◌≢◌, ℕ, suc, ◌+◌, ◌-◌, ◌*◌, ◌^◌, ◌<◌, ◌≤◌, Bool, true, ◌&&◌, not, eqb, ltb, List, ◌∷◌, ◌++◌, length, take, zero, get_or, inl, inr, refl, sym, ap, ap₂, ◌∙◌, arith, append_assoc, length-take-le, get_or-take}
+use Rattle.std.proofs.Common.{◌≡◌, ◌≢◌, ℕ, suc, ◌+◌, ◌-◌, ◌*◌, ◌^◌, ◌<◌, ◌≤◌, Bool, true, ◌&&◌, not, eqb, ltb, List, [], ◌∷◌, ◌++◌, length, take, drop, zero, get_or, inl, inr, refl, sym, ap, ap₂, ◌∙◌, arith, append_assoc, length-take-le, get_or-take}
 use Rattle.std.proofs.lemmas.Bool.{cases_lt, lt-ltb, le-ltb, ne_eqb, and_from}
-use Rattle.std.specs.Char.{is_ascii_digit}
+use Rattle.std.proofs.lemmas.List.{take_all}
+use Rattle.std.specs.Char.{is_ascii_digit, digit_value}
 use Rattle.std.specs.List.{list_all}
 use Rattle.std.specs.Str.Parse.{digits_value_after}
 use Rattle.fx_amounts.specs.Numeral.{numeral, is_numeral}
 use Rattle.fx_amounts.specs.PriceText.{price_text}
 use Rattle.fx_amounts.proofs.DigitLemmas.{below-digit, fits-digits}
-use Rattle.fx_amounts.proofs.NumeralLemmas.{numeral-digits_value}
+use Rattle.fx_amounts.proofs.NumeralLemmas.{byte-digit_value, digit_value-below, numeral-digit, numeral-digits_value}
 use Rattle.fx_amounts.proofs.PriceTextLemmas.{Extends, Extends-digits}
 
 -- digits without a leading zero are a number's one spelling
@@ -46,17 +47,31 @@ whole_price (suc more) ticks none = absurd (omega (arith, none))
 pub around_number : (text behind : List ℕ) (digits value end : ℕ) → text ≡ take digits text ++ end ∷ behind → numeral value ≡ take digits text → text ≡ numeral value ++ end ∷ behind
 around_number text behind digits value end is number = is ∙ ap (λ (front : List ℕ). front ++ end ∷ behind) (sym number)
 
+-- a text that begins with a digit and a point
+pub around_digit : (text : List ℕ) (value : ℕ) → 2 ≤ length text → is_ascii_digit (get_or text 0 0) ≡ true → value ≡ get_or text 0 0 - 48 → get_or text 1 0 ≡ 46
+    → text ≡ numeral value ++ 46 ∷ take (length text - 2) (drop 2 text)
+around_digit [] value long digit is point = absurd (omega (arith, long))
+around_digit (first ∷ []) value long digit is point = absurd (omega (arith, long))
+around_digit (first ∷ second ∷ rest) value long digit is point =
+    let value_is : value ≡ first - 48 = is in
+    let byte : 48 + digit_value first ≡ first = byte-digit_value first digit in
+    let few : digit_value first < 10 = digit_value-below first digit in
+    let one : numeral value ≡ first ∷ [] = numeral-digit value (omega arith) ∙ ap (λ (d : ℕ). d ∷ []) (omega arith) in
+    let len : length (first ∷ second ∷ rest) ≡ suc (suc (length rest)) = refl in
+    let whole : take (length (first ∷ second ∷ rest) - 2) rest ≡ rest = take_all (length (first ∷ second ∷ rest) - 2) rest (omega arith) in
+    ap₂ (λ (d : ℕ) (more : List ℕ). first ∷ d ∷ more) point (sym whole)
+    ∙ ap (λ (front : List ℕ). front ++ 46 ∷ take (length (first ∷ second ∷ rest) - 2) rest) (sym one)
+
 -- what stands around a price without a point, and around one with a point
 pub around_whole : (text behind : List ℕ) (places ticks end : ℕ) → places ≡ 0 → text ≡ numeral ticks ++ end ∷ behind → text ≡ price_text places ticks ++ end ∷ behind
 around_whole text behind places ticks end none is = is ∙ ap (λ (front : List ℕ). front ++ end ∷ behind) (sym (whole_price places ticks none))
 
-pub around_price : (text fraction behind : List ℕ) (places digits whole ticks end : ℕ) → places ≢ 0 → digits ≡ places → text ≡ numeral whole ++ 46 ∷ fraction → fraction ≡ take places fraction ++ end ∷ behind
-    → digits ≤ length fraction → list_all is_ascii_digit (take digits fraction) ≡ true → ticks ≡ digits_value_after 10 whole (take digits fraction) → text ≡ price_text places ticks ++ end ∷ behind
-around_price text fraction behind places digits whole ticks end some same is on within all ticks_are =
-    is ∙ ap (λ (rest : List ℕ). numeral whole ++ 46 ∷ rest) (on ∙ ap (λ (n : ℕ). take n fraction ++ end ∷ behind) (sym same))
-    ∙ sym (append_assoc (numeral whole) (46 ∷ take digits fraction) (end ∷ behind))
-    ∙ ap (λ (front : List ℕ). front ++ end ∷ behind)
-    (sym (front_price places whole ticks (take digits fraction) some (length-take-le digits fraction within ∙ same) all ticks_are))
+pub around_price : (text fraction behind : List ℕ) (places whole ticks end : ℕ) → places ≢ 0 → text ≡ numeral whole ++ 46 ∷ fraction → fraction ≡ take places fraction ++ end ∷ behind
+    → places ≤ length fraction → list_all is_ascii_digit (take places fraction) ≡ true → ticks ≡ digits_value_after 10 whole (take places fraction) → text ≡ price_text places ticks ++ end ∷ behind
+around_price text fraction behind places whole ticks end some is on within all ticks_are =
+    is ∙ ap (λ (rest : List ℕ). numeral whole ++ 46 ∷ rest) on
+    ∙ sym (append_assoc (numeral whole) (46 ∷ take places fraction) (end ∷ behind))
+    ∙ ap (λ (front : List ℕ). front ++ end ∷ behind) (sym (front_price places whole ticks (take places fraction) some (length-take-le places fraction within) all ticks_are))
 
 -- a number with a digit more behind it, where there is room for it
 pub more_digits : (front value digit most at : ℕ) → ((digits : ℕ) → front < 10 ^ digits → value < 10 ^ (digits + at)) → front < 10 ^ (19 - most) → at < most → most ≤ 19 → digit ≤ 9 → value * 10 + digit < 2 ^ 64

@@ -4,11 +4,11 @@ use Rattle.std.specs.Result.{result_ok}
 use Rattle.fx_amounts.specs.Numeral.{numeral}
 use Rattle.fx_amounts.specs.Price.{IsPrice}
 use Rattle.fx_amounts.specs.PriceText.{price_text}
-use Rattle.fx_rules.specs.Session.{Header, bank_count, pair_count, bank_name, decimals_of, pair_name}
+use Rattle.fx_rules.specs.Session.{Header, bank_count, bank_name, decimals_of}
 use Rattle.fx_rules.specs.declared.command.Reject.{Reject}
-use Rattle.order_lines.specs.Reading.{pair_said, other_said}
+use Rattle.order_lines.specs.Reading.{other_said}
 use Rattle.order_lines.specs.inside.Printing.{price_spelled}
-use Rattle.order_lines.proofs.SaidFields.{pair_said-ok, other_said-ok}
+use Rattle.order_lines.proofs.SaidFields.{other_said-ok}
 
 -- the field is the spelling
 pub field_says : (text field spelling behind : List ℕ) (end : ℕ) → text ≡ field ++ end ∷ behind → field ≡ spelling → text ≡ spelling ++ end ∷ behind
@@ -20,11 +20,6 @@ said-ok (Err fault) said x found is = absurd (cc)
 
 -- A text begins with a field, a byte that ends it, and this behind; the field was read, and this came of it.
 module _ (text field behind : List ℕ) (end : ℕ) (cut : text ≡ field ++ end ∷ behind) where
-  pub spelled_pair : (h : Header) (read : Result ℕ Reject) (pair : ℕ) → Some pair ≡ result_ok read → read ≡ pair_said h field → (pair < pair_count h) × (text ≡ pair_name h pair ++ end ∷ behind)
-  spelled_pair h read pair found is =
-      let said = pair_said-ok h field pair (said-ok read (pair_said h field) pair found is) in
-      (said.0, field_says text field (pair_name h pair) behind end cut said.1)
-
   pub spelled_other : (h : Header) (sender : ℕ) (read : Result ℕ Reject) (other : ℕ) → Some other ≡ result_ok read → read ≡ other_said h sender field
       → (other < bank_count h) × (other ≢ sender) × (text ≡ bank_name h other ++ end ∷ behind)
   spelled_other h sender read other found is =

@@ -1,6 +1,6 @@
 -- A command's line in its one spelling, as it is read from its front, field by field.
 use Rattle.std.proofs.Common.{◌≡◌, ◌≢◌, ℕ, ◌+◌, ◌<◌, List, ◌∷◌, ◌++◌, length, take, drop, get_or, refl, sym, ap, ap₂, ◌∙◌, arith, append_assoc, length-append}
-use Rattle.std.proofs.lemmas.List.{take-append-drop, drop_more, drop-drop}
+use Rattle.std.proofs.lemmas.List.{take-append-drop, drop_more}
 use Rattle.std.specs.List.{join_with_byte}
 use Rattle.fx_amounts.specs.Numeral.{numeral}
 use Rattle.fx_amounts.specs.Price.{IsPrice}
@@ -29,11 +29,10 @@ use Rattle.order_lines.proofs.SenderNames.{bank-operates_not, bank-name}
 use Rattle.order_lines.proofs.WrittenCommands.{IsWritten, IsWritten-command}
 
 -- a text around one of its bytes
-pub text_around : (text field rest behind : List ℕ) (at end : ℕ) → at < length text → get_or text at 0 ≡ end → field ≡ take at text → rest ≡ drop at text → behind ≡ drop 1 rest → text ≡ field ++ end ∷ behind
-text_around text field rest behind at end within is front back past =
-    let after : behind ≡ drop (at + 1) text = past ∙ ap (drop 1) back ∙ drop-drop 1 at text in
+pub text_around : (text field behind : List ℕ) (at end : ℕ) → at < length text → get_or text at 0 ≡ end → field ≡ take at text → behind ≡ drop (at + 1) text → text ≡ field ++ end ∷ behind
+text_around text field behind at end within is front back =
     sym (take-append-drop at text)
-    ∙ ap (λ (more : List ℕ). take at text ++ more) (drop_more text at 0 within ∙ ap₂ (λ (byte : ℕ) (more : List ℕ). byte ∷ more) is (sym after))
+    ∙ ap (λ (more : List ℕ). take at text ++ more) (drop_more text at 0 within ∙ ap₂ (λ (byte : ℕ) (more : List ℕ). byte ∷ more) is (sym back))
     ∙ ap (λ (first : List ℕ). first ++ end ∷ behind) (sym front)
 
 -- a field, a space, and what goes on to the line feed

@@ -5,13 +5,14 @@ ghost use Rattle.std.specs.Str.Parse.{digits_value_after};
 ghost use Rattle.fx_amounts.specs.Numeral.{numeral};
 ghost use Rattle.fx_amounts.specs.Price.{IsPrice};
 ghost use Rattle.fx_amounts.specs.PriceText.{price_text};
-ghost use Rattle.fx_amounts.specs.Quantity.{IsLots};
+ghost use Rattle.fx_amounts.specs.Quantity.{IsDecimals, IsLots};
+ghost use Rattle.fx_rules.specs.Session.{pair_count, pair_name};
 ghost use Rattle.fx_rules.specs.Step.{IsNumber};
 ghost use Rattle.order_lines.specs.Words.{life_text, word_text};
 
 use crate::word::Word;
-use fx_amounts::{Lots, Price};
-use fx_rules::Life;
+use fx_amounts::{Lots, PairId, Price};
+use fx_rules::{Life, Session};
 
 // These read a field that a text begins with, in its one spelling, up to the byte `end`, and answer what stands behind that byte too;
 // `None` where the text begins otherwise. Numbers are made as they are walked, in one pass.
@@ -34,22 +35,77 @@ const NUMBER_DIGITS: usize = 10;
 /// The most digits of a limit.
 pub(crate) const LIMIT_DIGITS: usize = 16;
 
-/// Reads a price with so many decimal places: its ticks, which may be out of range, and what stands behind the byte `end`.
+/// Reads a price with so many decimal places: its ticks, which may be out of range, and what stands behind the byte `end`. It is called, and
+/// not made part of its callers, so that its loops keep what they need in registers.
+#[inline(never)]
 pub(crate) fn ticks_before(text: &[u8], places: usize, end: u8) -> Option<(u64, &[u8])>
-    requires { places ≤ 9 }
+    requires { IsDecimals places }
     ensures { IfSome result (λ found. text.now ≡ price_text places found.0 ++ end ∷ found.1.now) }
 {
     if places == 0 {
         let (ticks, behind) = number_before(text, NUMBER_DIGITS, end)?;
         return Some((ticks, behind));
     }
-    let (whole, fraction) = number_before(text, NUMBER_DIGITS, b'.')?;
-    let (ticks, digits) = digits_from(whole, fraction, places);
-    if digits != places {
-        return None;
-    }
+    let (whole, fraction) = whole_before(text)?;
+    let ticks = places_from(whole, fraction, places)?;
     let behind = behind_byte(fraction, places, end)?;
     Some((ticks, behind))
+}
+
+/// Reads the whole part of a price, and answers what stands behind its point too. Most have one digit.
+#[inline(always)]
+fn whole_before(text: &[u8]) -> Option<(u64, &[u8])>
+    ensures spelled { IfSome result (λ found. text.now ≡ numeral found.0 ++ 46 ∷ found.1.now) }
+    ensures below { IfSome result (λ found. found.0 < 10 ^ 10) }
+{
+    match text {
+        [digit, b'.', fraction @ ..] if digit.is_ascii_digit() => {
+            Some((u64::from(*digit - b'0'), fraction))
+        }
+        _ => number_before(text, NUMBER_DIGITS, b'.'),
+    }
+}
+
+/// The number that the first `places` bytes of a text make behind the digits of `front`; `None` where not all of them are digits. Each
+/// number of places has its own `exact_digits`, whose loop has a fixed number of turns.
+#[inline(always)]
+fn places_from(front: u64, text: &[u8], places: usize) -> Option<u64>
+    requires some { 1 ≤ places }
+    requires few { IsDecimals places }
+    requires fits { front < 10 ^ (19 - places) }
+    ensures within { IfSome result (λ _. places ≤ length text.now) }
+    ensures digits { IfSome result (λ _. list_all is_ascii_digit (take places text.now) ≡ true) }
+    ensures value { IfSome result (λ value. value ≡ digits_value_after 10 front (take places text.now)) }
+{
+    match places {
+        1 => exact_digits::<1>(front, text),
+        2 => exact_digits::<2>(front, text),
+        3 => exact_digits::<3>(front, text),
+        4 => exact_digits::<4>(front, text),
+        5 => exact_digits::<5>(front, text),
+        _ => exact_digits::<6>(front, text),
+    }
+}
+
+/// The number that the first `N` bytes of a text make behind the digits of `front`; `None` where not all of them are digits.
+#[inline(always)]
+fn exact_digits<const N: usize>(front: u64, text: &[u8]) -> Option<u64>
+    requires few { N ≤ 19 }
+    requires fits { front < 10 ^ (19 - N) }
+    ensures within { IfSome result (λ _. N ≤ length text.now) }
+    ensures digits { IfSome result (λ _. list_all is_ascii_digit (take N text.now) ≡ true) }
+    ensures value { IfSome result (λ value. value ≡ digits_value_after 10 front (take N text.now)) }
+{
+    let digits = text.first_chunk::<N>()?;
+    let mut value = front;
+    for at in 0..N {
+        let byte = digits[at];
+        if !byte.is_ascii_digit() {
+            return None;
+        }
+        value = value * 10 + u64::from(byte - b'0');
+    }
+    Some(value)
 }
 
 /// The price of so many ticks, where they are in range.
@@ -171,15 +227,20 @@ fn behind_byte(text: &[u8], at: usize, byte: u8) -> Option<&[u8]>
 
 /// The pair that a text begins with, and what stands behind the byte `end`.
 #[inline(always)]
-pub(crate) fn pair_before(text: &[u8], end: u8) -> Option<(&[u8], &[u8])>
-    ensures { IfSome result (λ found. text.now ≡ found.0.now ++ end ∷ found.1.now) }
+pub(crate) fn pair_before<'p>(
+    session: &Session,
+    text: &'p [u8],
+    end: u8,
+) -> Option<(PairId, &'p [u8])>
+    ensures within { IfSome result (λ found. found.0 < pair_count session.now) }
+    ensures spelled { IfSome result (λ found. text.now ≡ pair_name session.now found.0 ++ end ∷ found.1.now) }
 {
     if text.len() <= PAIR || text[PAIR] != end {
         return None;
     }
-    let (field, rest) = text.split_at(PAIR);
-    let (_, behind) = rest.split_at(1);
-    Some((field, behind))
+    let pair = session.pair_in_front(text)?;
+    let (_, behind) = text.split_at(PAIR + 1);
+    Some((pair, behind))
 }
 
 /// The field that a text begins with, of that many bytes at least, and what stands behind the byte `end`.

@@ -121,7 +121,7 @@ fn read_settle(session: &Session, fields: &Fields<'_>) -> Result<Command, Reject
 
 #[tactic(auto, unfolding(crate::specs::Reading::pair_said))]
 #[inline(always)]
-pub(crate) fn read_pair(session: &Session, text: &[u8]) -> Result<PairId, Reject>
+fn read_pair(session: &Session, text: &[u8]) -> Result<PairId, Reject>
     ensures value { result ≡ pair_said session.now text.now }
     ensures within { IfOk result (λ pair. pair < pair_count session.now) }
 {

@@ -13,7 +13,7 @@ use crate::fronts::{
     LIMIT_DIGITS, LOTS_DIGITS, SHORTEST, field_before, life_before, lots_of, number_before,
     order_number_before, pair_before, price_of, ticks_before, word_before,
 };
-use crate::reading::{decimals, read_other, read_pair};
+use crate::reading::{decimals, read_other};
 use crate::word::Word;
 use fx_amounts::{BankId, Side, Units};
 use fx_rules::{Command, Sent, Session};
@@ -33,7 +33,7 @@ pub fn spelled_command<'p>(session: &Session, text: &'p [u8]) -> Option<(Sent, &
     // The clauses on the line rest on a valid session, as each is.
     let _banks = session.banks();
     let (name, fields) = field_before(text, SHORTEST, b' ')?;
-    let bank = session.bank_named(name)?;
+    let bank = session.bank_in_front(text, name.len())?;
     let (word, fields) = word_before(fields)?;
     match command_behind(session, bank, word, fields) {
         Some((command, behind)) => Some((Sent { bank, command }, behind)),
@@ -73,8 +73,9 @@ fn order_behind<'p>(
 ) -> Option<(Command, &'p [u8])>
     ensures { IfSome result (λ found. EndsWith session.now sender (side_word side) text.now found.0 found.1.now) }
 {
-    let (pair_text, fields) = pair_before(text, b' ')?;
-    let pair = read_pair(session, pair_text).ok()?;
+    let Some((pair, fields)) = pair_before(session, text, b' ') else {
+        return None;
+    };
     let places = usize::from(decimals(session, pair));
     let (ticks, fields) = ticks_before(fields, places, b' ')?;
     let price = price_of(ticks)?;
@@ -98,8 +99,9 @@ fn cancel_behind<'p>(
 ) -> Option<(Command, &'p [u8])>
     ensures { IfSome result (λ found. EndsWith session.now sender word.Cancel text.now found.0 found.1.now) }
 {
-    let (pair_text, fields) = pair_before(text, b' ')?;
-    let pair = read_pair(session, pair_text).ok()?;
+    let Some((pair, fields)) = pair_before(session, text, b' ') else {
+        return None;
+    };
     let (number, behind) = order_number_before(fields, b'\n')?;
     Some((Command::Cancel { pair, number }, behind))
 }
@@ -111,8 +113,9 @@ fn reduce_behind<'p>(
 ) -> Option<(Command, &'p [u8])>
     ensures { IfSome result (λ found. EndsWith session.now sender word.Reduce text.now found.0 found.1.now) }
 {
-    let (pair_text, fields) = pair_before(text, b' ')?;
-    let pair = read_pair(session, pair_text).ok()?;
+    let Some((pair, fields)) = pair_before(session, text, b' ') else {
+        return None;
+    };
     let (number, fields) = order_number_before(fields, b' ')?;
     let (count, behind) = number_before(fields, LOTS_DIGITS, b'\n')?;
     let lots = lots_of(count)?;
@@ -132,8 +135,9 @@ fn line_behind<'p>(session: &Session, sender: BankId, text: &'p [u8]) -> Option<
 fn pull_behind<'p>(session: &Session, sender: BankId, text: &'p [u8]) -> Option<(Command, &'p [u8])>
     ensures { IfSome result (λ found. EndsWith session.now sender word.Pull text.now found.0 found.1.now) }
 {
-    let (pair_text, behind) = pair_before(text, b'\n')?;
-    let pair = read_pair(session, pair_text).ok()?;
+    let Some((pair, behind)) = pair_before(session, text, b'\n') else {
+        return None;
+    };
     Some((Command::Pull { pair }, behind))
 }
 
@@ -148,7 +152,8 @@ fn show_behind<'p>(session: &Session, sender: BankId, text: &'p [u8]) -> Option<
 fn book_behind<'p>(session: &Session, sender: BankId, text: &'p [u8]) -> Option<(Command, &'p [u8])>
     ensures { IfSome result (λ found. EndsWith session.now sender word.Book text.now found.0 found.1.now) }
 {
-    let (pair_text, behind) = pair_before(text, b'\n')?;
-    let pair = read_pair(session, pair_text).ok()?;
+    let Some((pair, behind)) = pair_before(session, text, b'\n') else {
+        return None;
+    };
     Some((Command::Book { pair }, behind))
 }

@@ -1,8 +1,6 @@
-use Rattle.order_lines.proofs.SpelledFields.{spelled_pair}
+use Rattle.std.proofs.Common.{rules}
 use Rattle.order_lines.proofs.SpelledLines.{EndsWith-book}
 use Rattle.order_lines.proofs.spelled.book_behind.Goals as goal
 
 pub returns : goal.returns
-returns c =
-    EndsWith-book c.args.session.now c.args.sender c.in_ok-pair.pair c.args.text.now c.in_ok-pair_text.behind.now
-    (spelled_pair c.args.text.now c.in_ok-pair_text.pair_text.now c.in_ok-pair_text.behind.now 10 c.in_ok-pair_text.ensures c.args.session.now c.read_pair.result c.in_ok-pair.pair c.in_ok-pair.ensures.value c.read_pair.ensures.value)
+returns c = EndsWith-book c.args.session.now c.args.sender _ c.args.text.now _ (search rules)
