@@ -28,4 +28,8 @@ impl Observer for HandsBack {
     fn tell(&mut self, _session: &Session, entry: Entry) -> Result<Entry, Memory> {
         Ok(entry)
     }
+
+    fn hear(&mut self, _session: &Session, _entry: Entry) -> Result<(), Memory> {
+        Ok(())
+    }
 }

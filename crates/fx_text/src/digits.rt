@@ -285,6 +285,20 @@ pub fn put_field(text: &[u8], room: &mut [u8], at: usize) -> usize
     put_text(text, room, end)
 }
 
+/// A name behind a space. One of three or four letters is written without a call.
+#[inline(always)]
+pub fn put_name_field(name: &[u8], room: &mut [u8], at: usize) -> usize
+    requires room { at + 1 + length name.now ≤ length room.old }
+    ensures written { take result room.new ≡ take at room.old ++ 32 ∷ name.now }
+    ensures end { result ≡ at + 1 + length name.now }
+{
+    match name {
+        [a, b, c] => put_word(&[b' ', *a, *b, *c], room, at),
+        [a, b, c, d] => put_word(&[b' ', *a, *b, *c, *d], room, at),
+        _ => put_field(name, room, at),
+    }
+}
+
 /// A word behind a space. Its length is fixed, as that of `put_word`.
 #[inline(always)]
 pub fn put_word_field<const N: usize>(word: &[u8; N], room: &mut [u8], at: usize) -> usize

@@ -13,8 +13,8 @@ mod split;
 
 pub use cutter::{LineCutter, first_line};
 pub use digits::{
-    WIDE_DIGITS, put_byte, put_field, put_number_field, put_price_field, put_text, put_wide,
-    put_word_field,
+    WIDE_DIGITS, put_byte, put_field, put_name_field, put_number_field, put_price_field, put_text,
+    put_wide, put_word_field,
 };
 pub use field::Fields;
 pub use line::{Bytes, Line, LineView};

@@ -1,16 +1,19 @@
-ghost use Rattle.std.specs.Prelude.{◌≡◌, [], ◌∷◌, ◌<◌, ◌≤◌, ◌++◌, length, take};
+ghost use Rattle.std.specs.Prelude.{◌≡◌, [], ◌∷◌, ◌<◌, ◌≤◌, ◌+◌, ◌++◌, length, take};
 ghost use Rattle.fx_amounts.specs.Numeral.{numeral};
 ghost use Rattle.fx_amounts.specs.PriceText.{price_text};
 ghost use Rattle.fx_amounts.specs.Quantity.{IsDecimals};
 ghost use Rattle.fx_text.specs.Number.{signed_numeral};
 
-use crate::digits::{put_number, put_price};
+use crate::digits::{put_number, put_price, put_text};
 use fx_amounts::Price;
 use itoa::Buffer;
 use std::marker::Model;
 
 /// The most bytes of a line that is made.
 const ROOM: usize = 256;
+
+/// The bytes of a short text at most.
+const SHORT: usize = 32;
 
 /// The text of a line that is being made, in a fixed room of 256 bytes, so that it takes no memory. What goes beyond
 /// the room is left out.
@@ -47,6 +50,22 @@ impl LineText {
         ensures few { length self.now ≤ 256 }
     {
         self.bytes.split_at(self.len).0
+    }
+
+    /// Writes the text into a room of bytes from a place on, and answers the place behind it. A short text is copied with what stands behind
+    /// it, where the room has place for both: a copy of fixed length is made without a call.
+    #[inline(always)]
+    pub fn put(&self, room: &mut [u8], at: usize) -> usize
+        requires room { at + length self.now ≤ length room.old }
+        ensures written { take result room.new ≡ take at room.old ++ self.now }
+        ensures end { result ≡ at + length self.now }
+    {
+        if self.len <= SHORT && room.len() - at >= SHORT {
+            room[at..at + SHORT].copy_from_slice(&self.bytes[..SHORT]);
+            at + self.len
+        } else {
+            put_text(self.as_slice(), room, at)
+        }
     }
 
     /// Forgets all bytes.

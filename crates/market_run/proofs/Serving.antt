@@ -98,6 +98,13 @@ module _ {M O : Type 0} (stands : M → Header → State → Type 0) (told : Hea
   }
   made-entry leaves was now ready s count outcome (Err e) count_is on still told_next left_is = tt
 
+  -- and the command is served
+  pub served-one : {T E : Type 0} (was now : Ran M O) (ready : O) (s : Sent) (count : ℕ) (outcome : Outcome) (result : Result T E) → InEach (stands was.market) (HasSent s.bank count) → GoesOn (stands was.market) (stands now.market) s.bank s.command outcome
+      → StillTold told was.observer ready → OnOk result (ToldNext told h ready now.observer (made_of s count outcome)) → OnOk result (ServesOn stands told h was now (s ∷ []))
+  served-one was now ready s count outcome (Ok done) count_is on still told_next = λ entries has.
+      record { more = made_of s count outcome ∷ []; sent_is = refl; has_served = goes-on was now ready s count outcome count_is on still told_next entries has }
+  served-one was now ready s count outcome (Err e) count_is on still told_next = tt
+
   -- Commands one after another
 
   pub serves-none : (run : Ran M O) → ServesOn stands told h run run []

@@ -65,6 +65,10 @@ impl Observer for History {
         self.entries.push_reserved(entry);
         Ok(())
     }
+
+    fn hear(&mut self, session: &Session, entry: Entry) -> Result<(), Memory> {
+        self.tell(session, entry)
+    }
 }
 
 /// The history of commands, fewer than 2^32, that a market serves one after another from the session's opening state on, and the

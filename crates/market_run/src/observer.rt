@@ -37,4 +37,11 @@ pub trait Observer {
         ensures told { OnOk result (ToldNext told session.now self.old self.new entry) }
         ensures left { IfOk result (λ left. leaves left entry) }
         ensures memory { OnErr result may_break };
+
+    /// Is told the next entry likewise, and gives nothing back: an entry is large, and moving it takes time.
+    fn hear(&mut self, session: &Session, entry: Entry) -> Result<(), Memory>
+        requires ready { is_ready self.old }
+        requires next { (entries : List HistoryEntry) × IsLegal session.now (entries ++ entry ∷ []) × told session.now entries self.old }
+        ensures told { OnOk result (ToldNext told session.now self.old self.new entry) }
+        ensures memory { OnErr result may_break };
 }

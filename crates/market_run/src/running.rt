@@ -69,15 +69,24 @@ impl<M: Market, O: Observer> Run<M, O> {
         self.observer.tell(session, entry)
     }
 
-    /// Serves a sender's next command, as `serve_entry` does, without its answer. After `Memory` the run is as `serve_entry` leaves
+    /// Serves a sender's next command, as `serve_entry` does, and gives nothing back. After `Memory` the run is as `serve_entry` leaves
     /// it.
     pub fn serve(&mut self, session: &Session, sent: Sent) -> Result<(), Memory>
         requires may_serve { MayServe M.stands O.told session.now self.old (sent ∷ []) }
         ensures served { OnOk result (ServesOn M.stands O.told session.now self.old self.new (sent ∷ [])) }
         ensures memory { OnErr result (IsAsBefore O.told self.old self.new ⊎ O.may_break) }
     {
-        self.serve_entry(session, sent)?;
-        Ok(())
+        self.observer.make_ready()?;
+        let Sent { bank, command } = sent;
+        let number = self.market.count(bank) + 1;
+        let outcome = self.market.apply(bank, &command)?;
+        let entry = Entry {
+            bank,
+            number,
+            command,
+            outcome,
+        };
+        self.observer.hear(session, entry)
     }
 
     /// Serves commands one after another, each as `serve` does. After `Memory` it has served the first so many of them, and not

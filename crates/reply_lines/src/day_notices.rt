@@ -106,4 +106,9 @@ impl Observer for DayNotices {
         self.add(session, &entry)?;
         Ok(entry)
     }
+
+    #[inline(always)]
+    fn hear(&mut self, session: &Session, entry: Entry) -> Result<(), Memory> {
+        self.add(session, &entry)
+    }
 }

@@ -14,7 +14,7 @@ ghost use Rattle.reply_lines.specs.inside.Telling.{bank_of};
 use fx_amounts::{BankId, PairId, Side, Units, base_amount, quote_amount};
 use fx_rules::{Command, Fill, Level, Outcome, Session};
 use fx_text::{
-    LineText, put_byte, put_field, put_number_field, put_price_field, put_text, put_wide,
+    LineText, put_byte, put_field, put_name_field, put_number_field, put_price_field, put_wide,
     put_word_field,
 };
 use order_lines::sender_name;
@@ -309,9 +309,9 @@ pub(crate) fn put_fill(
 {
     let end = put_wide(number, room, at);
     let end = put_own_side(party.number, party.side, room, end);
-    let end = put_text(texts.trade.as_slice(), room, end);
-    let end = put_field(session.name(party.other), room, end);
-    let end = put_text(texts.amounts.as_slice(), room, end);
+    let end = texts.trade.put(room, end);
+    let end = put_name_field(session.name(party.other), room, end);
+    let end = texts.amounts.put(room, end);
     put_byte(b'\n', room, end)
 }
 

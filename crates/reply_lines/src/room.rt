@@ -6,11 +6,12 @@ use fx_amounts::Memory;
 /// and so few are cleared at once.
 const STEP: usize = 256;
 
-/// The bytes that a list has capacity for from the first on, and those that it has capacity for next: most texts are never moved, and
-/// few are moved twice. Capacity that was not written to yet takes addresses, and hardly any memory.
+/// The bytes that a list has capacity for from the first on, and those that it has capacity for next. A list of the second size gets pages of
+/// its own from the allocator, which moves pages and no bytes where it grows further, so that few texts are moved, and those once. Capacity
+/// that was not written to yet takes addresses, and hardly any memory.
 const FIRST_CAPACITY: usize = 16_000;
 
-const NEXT_CAPACITY: usize = 120_000;
+const NEXT_CAPACITY: usize = 160_000;
 
 /// Makes room for so many bytes more behind the first `len`, which stay.
 #[inline(always)]

@@ -12,13 +12,13 @@ returns-clause-written c =
     let party = c.args.party.now in
     let one : List ℕ = take c.put_wide-end.result c.put_wide-end.new.room in
     let two : List ℕ = take c.put_own_side-end.result c.put_own_side-end.new.room in
-    let three : List ℕ = take c.put_text-end.result c.put_text-end.new.room in
-    let four : List ℕ = take c.put_field-end.result c.put_field-end.new.room in
-    let five : List ℕ = take c.put_text-end-2.result c.put_text-end-2.new.room in
+    let three : List ℕ = take c.put-end.result c.put-end.new.room in
+    let four : List ℕ = take c.put_name_field-end.result c.put_name_field-end.new.room in
+    let five : List ℕ = take c.put-end-2.result c.put-end-2.new.room in
     fill_written (take c.args.at c.args.room.now) one two three four five (take c.put_byte.result c.put_byte.new.room)
     (numeral c.args.number) (fields_text (codes "FILL" ∷ numeral party.number ∷ word_text (side_word party.side) ∷ [])) texts.trade (bank_name c.args.session.now party.other) texts.amounts
     c.put_wide-end.ensures.written c.put_own_side-end.ensures.written
-    (c.put_text-end.ensures.written ∙ ap (λ (t : List ℕ). two ++ t) c.as_slice.ensures.bytes)
-    (c.put_field-end.ensures.written ∙ ap (λ (t : List ℕ). three ++ 32 ∷ t) c.name.ensures.value)
-    (c.put_text-end-2.ensures.written ∙ ap (λ (t : List ℕ). four ++ t) c.as_slice-2.ensures.bytes)
+    c.put-end.ensures.written
+    (c.put_name_field-end.ensures.written ∙ ap (λ (t : List ℕ). three ++ 32 ∷ t) c.name.ensures.value)
+    c.put-end-2.ensures.written
     c.put_byte.ensures.written
