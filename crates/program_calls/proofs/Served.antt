@@ -1,9 +1,8 @@
 -- A text that is served round by round.
-use Rattle.std.proofs.Common.{◌≡◌, ℕ, ◌+◌, ◌-◌, ◌^◌, ◌<◌, ◌≤◌, List, [], ◌∷◌, ◌++◌, length, map, Option, Some, Result, Ok, Err, refl, sym, ap, ap₂, ◌∙◌, subst, arith, inl, inr, length-append}
+use Rattle.std.proofs.Common.{◌≡◌, ℕ, ◌+◌, ◌^◌, ◌<◌, ◌≤◌, List, [], ◌∷◌, ◌++◌, length, map, Option, Some, Result, Ok, Err, refl, sym, ap, ap₂, ◌∙◌, subst, arith, inl, inr, length-append}
 use Rattle.std.specs.Prelude.{IsErrAnd}
 use Rattle.std.specs.List.{flat_map}
 use Rattle.std.proofs.lemmas.List.{length-map, map-append}
-use Rattle.std.proofs.lemmas.List.Concat.{flat_map-append}
 use Rattle.fx_amounts.specs.OutOfMemory.{refused}
 use Rattle.fx_amounts.specs.declared.memory.Memory.{Memory as AmountsMemory}
 use Rattle.fx_rules.specs.declared.command.Sent.{Sent}
@@ -21,8 +20,8 @@ use Rattle.reply_lines.specs.declared.output.Ending.{Ending}
 use Rattle.journal_check.proofs.Exactly.{outputs_list}
 use Rattle.session_script.specs.Journal.{sent_lines}
 use Rattle.session_script.specs.Reading.{ProgressedBehind}
-use Rattle.session_script.specs.Stage.{session_at, sent_at, strays_at}
-use Rattle.session_script.specs.Rounds.{HasRead, HasStopped, TookPromptlyBehind}
+use Rattle.session_script.specs.Stage.{session_at, sent_at, strays_at, journal_at}
+use Rattle.session_script.specs.Rounds.{HasJournal, HasRead, HasStopped, TookPromptlyBehind}
 use Rattle.session_script.specs.declared.ends.EarlyEnd.TheVariants as early
 use Rattle.session_script.specs.declared.ends.TextEnd.{TextEnd}
 use Rattle.session_script.specs.declared.ends.TextEnd.TheVariants.{EndLine, Early}
@@ -148,10 +147,10 @@ wrote_of written faults out out' result session h entries history strays ending 
 -- In the order of the lines
 
 -- the commands so far and those of a round are few
-pub serving_few : {S : Type 0} {left : S → Option (List ℕ)} {faults : S → ℕ} {a b : S} {reading : Reading} {h : Header} {run : MarketRan HostState DayNotices} {journal : JournalText} (sent : List Sent) (serving : IsServing left faults a b reading h run journal)
+pub serving_few : {S : Type 0} {left : S → Option (List ℕ)} {faults : S → ℕ} {a b : S} {reading : Reading} {h : Header} {run : MarketRan HostState DayNotices} {count : ℕ} (sent : List Sent) (serving : IsServing left faults a b reading h run count)
     → sent ≡ sent_at reading.intake.stage → length serving.entries + length sent < 2 ^ 32
 serving_few {reading = reading} sent serving is =
-    omega (arith, round_few (map sent_by serving.entries) (sent_at reading.intake.stage) serving.has_read, length-map serving.entries sent_by, ap (λ (all : List Sent). length all) is)
+    omega (arith, round_few (map sent_by serving.entries) (sent_at reading.intake.stage) serving.has_journal.has_read, length-map serving.entries sent_by, ap (λ (all : List Sent). length all) is)
 
 -- the lines of what was sent are those of the entries
 lines_of_entries : (h : Header) (entries : List Entry) → sent_lines h (map sent_by entries) ≡ flat_map (entry_line h) entries
@@ -159,21 +158,21 @@ lines_of_entries h [] = refl
 lines_of_entries h (entry ∷ entries) = ap (λ (lines : List ℕ). entry_line h entry ++ lines) (lines_of_entries h entries)
 
 -- a run that opens has served nothing
-pub serving_open : {S : Type 0} {left : S → Option (List ℕ)} {faults : S → ℕ} {a b : S} {reading : Reading} {h : Header} (session : Header) (run : MarketRan HostState DayNotices) (journal : JournalText) → HasRead left faults a b reading h (sent_at reading.intake.stage)
-    → session_at reading.intake.stage ≡ Some session → HasServed stands tells session [] run → journal.count ≡ 0 → journal.lines.items ≡ [] → IsServing left faults a b reading h run journal
-serving_open session run journal has is opens none no_lines = record {
+pub serving_open : {S : Type 0} {left : S → Option (List ℕ)} {faults : S → ℕ} {a b : S} {reading : Reading} {h : Header} (session : Header) (run : MarketRan HostState DayNotices) → HasJournal left faults a b reading h (sent_at reading.intake.stage)
+    → session_at reading.intake.stage ≡ Some session → HasServed stands tells session [] run → IsServing left faults a b reading h run 0
+serving_open session run has is opens = record {
   entries = [];
-  has_read = has;
-  has_served = subst (λ (g : Header). HasServed stands tells g [] run) (same_session session has is) opens;
-  journal_is = record { count = none; lines = no_lines };
+  has_journal = has;
+  has_served = subst (λ (g : Header). HasServed stands tells g [] run) (same_session session has.has_read is) opens;
+  counted = refl;
 }
 
 -- the commands of a round can be served
-pub may_serve : {S : Type 0} {left : S → Option (List ℕ)} {faults : S → ℕ} {a b : S} {reading : Reading} {h : Header} {journal : JournalText} (session : Header) (run : MarketRan HostState DayNotices) (sent : List Sent) → IsServing left faults a b reading h run journal
+pub may_serve : {S : Type 0} {left : S → Option (List ℕ)} {faults : S → ℕ} {a b : S} {reading : Reading} {h : Header} {count : ℕ} (session : Header) (run : MarketRan HostState DayNotices) (sent : List Sent) → IsServing left faults a b reading h run count
     → session_at reading.intake.stage ≡ Some session → sent ≡ sent_at reading.intake.stage → MayServe stands tells session run sent
 may_serve {reading = reading} {h = h} session run sent serving session_is is =
-    let valid : Each (IsSentOf h) (sent_at reading.intake.stage) = round_valid h (map sent_by serving.entries) (sent_at reading.intake.stage) serving.has_read.says.valid in
-    subst (λ (g : Header). MayServe stands tells g run sent) (sym (same_session session serving.has_read session_is))
+    let valid : Each (IsSentOf h) (sent_at reading.intake.stage) = round_valid h (map sent_by serving.entries) (sent_at reading.intake.stage) serving.has_journal.has_read.says.valid in
+    subst (λ (g : Header). MayServe stands tells g run sent) (sym (same_session session serving.has_journal.has_read session_is))
     (record {
       entries = serving.entries;
       has_served = serving.has_served;
@@ -181,40 +180,41 @@ may_serve {reading = reading} {h = h} session run sent serving session_is is =
       few = omega (arith, serving_few sent serving is);
     })
 
--- and then they are, and with their lines the journal is that of them all
-pub round_served : {S : Type 0} {left : S → Option (List ℕ)} {faults : S → ℕ} {a b : S} {reading : Reading} {h : Header} {journal : JournalText} (session : Header) (was now : MarketRan HostState DayNotices) (journal' : JournalText) (sent : List Sent) (count : ℕ) (lines : List ℕ)
-    → IsServing left faults a b reading h was journal → session_at reading.intake.stage ≡ Some session → sent ≡ sent_at reading.intake.stage → ServesOn stands tells session was now sent → count ≡ length sent → lines ≡ sent_lines session sent
-    → journal'.count ≡ journal.count + count → journal'.lines.items ≡ journal.lines.items ++ lines → HasServedRound left faults a b reading h now journal'
-round_served {left = left} {faults = faults} {a = a} {b = b} {reading = reading} {h = h} session was now journal' sent count lines serving session_is is on count_is lines_are counted added =
-    let went = (subst (λ (g : Header). ServesOn stands tells g was now sent) (same_session session serving.has_read session_is) on) serving.entries serving.has_served in
+-- and then they are
+pub round_served : {S : Type 0} {left : S → Option (List ℕ)} {faults : S → ℕ} {a b : S} {reading : Reading} {h : Header} {count : ℕ} (session : Header) (was now : MarketRan HostState DayNotices) (sent : List Sent) (more : ℕ)
+    → IsServing left faults a b reading h was count → session_at reading.intake.stage ≡ Some session → sent ≡ sent_at reading.intake.stage → ServesOn stands tells session was now sent → more ≡ length sent → HasServedRound left faults a b reading h now (count + more)
+round_served {left = left} {faults = faults} {a = a} {b = b} {reading = reading} {h = h} session was now sent more serving session_is is on counted =
+    let went = (subst (λ (g : Header). ServesOn stands tells g was now sent) (same_session session serving.has_journal.has_read session_is) on) serving.entries serving.has_served in
     let many : length went.more ≡ length sent = sym (length-map went.more sent_by) ∙ ap (λ (all : List Sent). length all) went.sent_is in
     record {
       entries = serving.entries ++ went.more;
-      has_read = subst (λ (all : List Sent). HasRead left faults a b reading h all)
-          (sym (map-append sent_by serving.entries went.more ∙ ap (λ (more : List Sent). map sent_by serving.entries ++ more) (went.sent_is ∙ is))) serving.has_read;
+      has_journal = subst (λ (all : List Sent). HasJournal left faults a b reading h all)
+          (sym (map-append sent_by serving.entries went.more ∙ ap (λ (more : List Sent). map sent_by serving.entries ++ more) (went.sent_is ∙ is))) serving.has_journal;
       has_served = went.has_served;
-      journal_is = record {
-        count = counted ∙ ap₂ (λ (n m : ℕ). n + m) serving.journal_is.count (count_is ∙ sym many) ∙ sym (length-append serving.entries went.more);
-        lines = added ∙ ap₂ (λ (a b : List ℕ). a ++ b) serving.journal_is.lines
-            (lines_are ∙ ap₂ sent_lines (same_session session serving.has_read session_is) (sym went.sent_is) ∙ lines_of_entries h went.more)
-            ∙ sym (flat_map-append (entry_line h) serving.entries went.more);
-      };
+      counted = ap₂ (λ (n m : ℕ). n + m) serving.counted (counted ∙ sym many) ∙ sym (length-append serving.entries went.more);
     }
 
+-- the lines that were kept of what was served, and their count, are its journal
+pub journal_served : {S : Type 0} {left : S → Option (List ℕ)} {faults : S → ℕ} {a b : S} {reading : Reading} {h : Header} {run : MarketRan HostState DayNotices} {count : ℕ} (session : Header) (journal : JournalText) (all : HasServedRound left faults a b reading h run count)
+    → session_at reading.intake.stage ≡ Some session → journal.count ≡ count → journal.lines.items ≡ journal_at reading.intake.stage → IsJournalOf session all.entries journal
+journal_served {h = h} session journal all is counted kept = record {
+  count = counted ∙ all.counted;
+  lines = kept ∙ all.has_journal.lines ∙ ap (λ (g : Header). sent_lines g (map sent_by all.entries)) (sym (same_session session all.has_journal.has_read is)) ∙ lines_of_entries session all.entries;
+}
+
 -- it has served the text, and its output was written
-pub serial_ran : {S K T : Type 0} (left : S → Option (List ℕ)) (failed : S → ℕ) (written : K → Option (List ℕ)) (faults : K → ℕ) (result : Result T OutFault) (a b : S) (out out' : K) (reading : Reading) (h session : Header) (run : MarketRan HostState DayNotices) (journal : JournalText) (end : TextEnd) (strays : ℕ) (ending : Ending) (status : Status)
-    → IsServed left failed a b reading h run journal end → session_at reading.intake.stage ≡ Some session → strays_at reading.intake.stage ≡ strays → ending ≡ ending_of end
-    → ((entries : List Entry) → HasServed stands tells session entries run → IsJournalOf session entries journal → WroteOutput written faults out out' (IsOutput session entries strays ending) result) → status ≡ written_status end result
+pub serial_ran : {S K T : Type 0} (left : S → Option (List ℕ)) (failed : S → ℕ) (written : K → Option (List ℕ)) (faults : K → ℕ) (result : Result T OutFault) (a b : S) (out out' : K) (reading : Reading) (h session : Header) (run : MarketRan HostState DayNotices) (count : ℕ) (end : TextEnd) (strays : ℕ) (ending : Ending) (status : Status)
+    → (served : IsServed left failed a b reading h run count end) → session_at reading.intake.stage ≡ Some session → strays_at reading.intake.stage ≡ strays → ending ≡ ending_of end
+    → (HasServed stands tells session served.all.entries run → WroteOutput written faults out out' (IsOutput session served.all.entries strays ending) result) → status ≡ written_status end result
     → Ran (IsOutputOf IsSerial) left failed written faults a b out out' status
-serial_ran left failed written faults result a b out out' reading h session run journal end strays ending status served is strays_is ending_is wrote status_is =
+serial_ran left failed written faults result a b out out' reading h session run count end strays ending status served is strays_is ending_is wrote status_is =
     let all = served.all in
-    let same : session ≡ h = same_session session all.has_read is in
-    ran-written IsSerial left failed written faults result a b out out' reading h (map sent_by all.entries) end all.entries strays status all.has_read served.ended (sym strays_is)
+    let same : session ≡ h = same_session session all.has_journal.has_read is in
+    ran-written IsSerial left failed written faults result a b out out' reading h (map sent_by all.entries) end all.entries strays status all.has_journal.has_read served.ended (sym strays_is)
     (serial_of h (map sent_by all.entries) all.entries all.has_served.legal refl) all.has_served.legal
-    (omega (arith, all.has_read.says.few, all.has_read.within, length-map all.entries sent_by))
+    (omega (arith, all.has_journal.has_read.says.few, all.has_journal.has_read.within, length-map all.entries sent_by))
     (wrote_of written faults out out' result session h all.entries all.entries strays ending (ending_of end) same refl ending_is
-    (wrote all.entries (subst (λ (g : Header). HasServed stands tells g all.entries run) (sym same) all.has_served)
-    (subst (λ (g : Header). IsJournalOf g all.entries journal) (sym same) all.journal_is))) status_is
+    (wrote (subst (λ (g : Header). HasServed stands tells g all.entries run) (sym same) all.has_served))) status_is
 
 -- On threads
 

@@ -4,7 +4,7 @@ ghost use Rattle.market_run.specs.Running.{HasServed};
 ghost use Rattle.pair_host.specs.Standing.{stands};
 ghost use Rattle.reply_lines.specs.Day.{AreNoticesOf};
 ghost use Rattle.session_script.specs.Stage.{sent_at};
-ghost use Rattle.session_script.specs.Rounds.{HasRead};
+ghost use Rattle.session_script.specs.Rounds.{HasJournal};
 ghost use Rattle.program_calls.specs.Headline.{IsSerial};
 ghost use Rattle.program_calls.specs.inside.Rounds.{IsServing, ServedText};
 ghost use Rattle.program_calls.specs.Run.{Ran};
@@ -19,7 +19,7 @@ use kept_call::ending_of;
 use market_run::Run;
 use pair_host::PairHost;
 use reply_lines::{DayNotices, DayText, JournalText};
-use session_script::{Reading, TextEnd};
+use session_script::{Reading, Script, TextEnd};
 use std::alloc::Global;
 
 /// Runs the session of the source's bytes in the order of its lines, as they are read, and answers the status that the run
@@ -27,8 +27,8 @@ use std::alloc::Global;
 pub fn serial<S: Source, K: Sink>(alloc: Global, source: &mut S, out: &mut K) -> Status
     ensures ran { Ran (IsOutputOf IsSerial) S.left S.faults K.written K.faults source.old source.new out.old out.new result }
 {
-    match Reading::begin(alloc, source) {
-        Ok(mut reading) => serve_text(alloc, &mut reading, source, out),
+    match Reading::begin_with_journal(alloc, source) {
+        Ok(reading) => serve_text(alloc, reading, source, out),
         Err(stop) => Status::from(stop),
     }
 }
@@ -36,36 +36,35 @@ pub fn serial<S: Source, K: Sink>(alloc: Global, source: &mut S, out: &mut K) ->
 /// Runs the session of a reading and writes its output.
 fn serve_text<S: Source, K: Sink>(
     alloc: Global,
-    reading: &mut Reading,
+    mut reading: Reading,
     source: &mut S,
     out: &mut K,
 ) -> Status
-    requires begun { (before : S) × (h : SessionHeader) × HasRead S.left S.faults before source.old reading.old h (sent_at reading.old.intake.stage) }
-    ensures ran { (before : S) (h : SessionHeader) → HasRead S.left S.faults before source.old reading.old h (sent_at reading.old.intake.stage) → Ran (IsOutputOf IsSerial) S.left S.faults K.written K.faults before source.new out.old out.new result }
+    requires begun { (before : S) × (h : SessionHeader) × HasJournal S.left S.faults before source.old reading h (sent_at reading.intake.stage) }
+    ensures ran { (before : S) (h : SessionHeader) → HasJournal S.left S.faults before source.old reading h (sent_at reading.intake.stage) → Ran (IsOutputOf IsSerial) S.left S.faults K.written K.faults before source.new out.old out.new result }
 {
     let mut run = match open_run(alloc, &reading.script().session) {
         Ok(run) => run,
         Err(memory) => return Status::Memory(memory),
     };
-    let mut journal = JournalText::new(alloc);
-    let end = match serve_rounds(reading, source, &mut run, &mut journal) {
+    let mut count = 0;
+    let end = match serve_rounds(&mut reading, source, &mut run, &mut count) {
         Ok(end) => end,
         Err(memory) => return Status::Memory(memory),
     };
-    let script = reading.script();
+    let Script {
+        session,
+        strays,
+        journal,
+        ..
+    } = reading.into_script();
     let (host, notices) = run.into_parts();
-    let written = DayText::of(journal, notices).write(
-        alloc,
-        &script.session,
-        &host,
-        script.strays,
-        ending_of(end),
-        out,
-    );
+    let day = DayText::of(JournalText::of(count, journal), notices);
+    let written = day.write(alloc, &session, &host, strays, ending_of(end), out);
     written_status(end, written)
 }
 
-/// A market on one thread, whose entries are told to the banks' desks and to the sums. The journal's lines come from the text.
+/// A market on one thread, whose entries are told to the banks' desks and to the sums. The reading keeps the journal's lines.
 type NoticeRun = Run<PairHost, DayNotices>;
 
 /// The run of a session's day as it opens, by one host over the pair books.
@@ -77,20 +76,20 @@ fn open_run(alloc: Global, session: &Session) -> Result<NoticeRun, Memory>
     Ok(Run::open(session, host, notices))
 }
 
-/// Serves the commands of a reading, round by round, adds their lines to the journal, and answers how the text ended.
+/// Serves the commands of a reading, round by round, counts them, and answers how the text ended.
 fn serve_rounds<S: Source>(
     reading: &mut Reading,
     source: &mut S,
     run: &mut NoticeRun,
-    journal: &mut JournalText,
+    count: &mut usize,
 ) -> Result<TextEnd, Memory>
-    requires serving { (before : S) × (h : SessionHeader) × IsServing S.left S.faults before source.old reading.old h run.old journal.old }
-    ensures served { (before : S) (h : SessionHeader) → IsServing S.left S.faults before source.old reading.old h run.old journal.old → ServedText S.left S.faults before source.new reading.new h run.new journal.new result }
+    requires serving { (before : S) × (h : SessionHeader) × IsServing S.left S.faults before source.old reading.old h run.old count.old }
+    ensures served { (before : S) (h : SessionHeader) → IsServing S.left S.faults before source.old reading.old h run.old count.old → ServedText S.left S.faults before source.new reading.new h run.new count.new result }
 {
     loop {
         let script = reading.script();
         run.serve_ahead(&script.session, &script.sent)?;
-        journal.add_lines(script.sent.len(), &script.journal)?;
+        *count += script.sent.len();
         if let Some(end) = reading.end() {
             return Ok(end);
         }

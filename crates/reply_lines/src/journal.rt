@@ -41,6 +41,18 @@ impl JournalText {
         }
     }
 
+    /// The journal of so many entries that has these lines. It takes no memory.
+    pub fn of(count: usize, lines: Vec<u8>) -> JournalText
+        ensures count { result.count ≡ count }
+        ensures lines { result.lines.items ≡ lines.items }
+    {
+        JournalText {
+            count,
+            lines,
+            line: LineText::new(),
+        }
+    }
+
     /// Adds the line of a sender's command, which is made. At `Memory` the journal is as it was.
     pub fn add(
         &mut self,

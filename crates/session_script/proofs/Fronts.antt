@@ -1,5 +1,6 @@
 -- The first lines of a text, where each is a command in its one spelling.
-use Rattle.std.proofs.Common.{◌≡◌, ℕ, ◌<◌, Bool, true, false, List, [], ◌∷◌, ◌++◌, length, refl, sym, ap, ◌∙◌, subst, arith, append_assoc, append-nil}
+use Rattle.std.proofs.Common.{◌≡◌, ◌≢◌, ℕ, ◌<◌, ◌-◌, Bool, false, List, [], ◌∷◌, ◌++◌, length, take, refl, sym, ap, ◌∙◌, subst, arith, append_assoc, append-nil, length-append}
+use Rattle.std.proofs.lemmas.List.{take_at}
 use Rattle.fx_rules.specs.Lists.{Each}
 use Rattle.fx_rules.specs.Sending.{IsSentOf}
 use Rattle.fx_rules.specs.Session.{Header}
@@ -13,10 +14,12 @@ use Rattle.order_lines.specs.declared.spoken.Spoken.TheVariants.{Of}
 use Rattle.session_script.specs.Script.{has_end, sent_among}
 use Rattle.session_script.specs.Stage.{Past, StandsAt, Tells, Hears}
 use Rattle.session_script.specs.inside.Stage.{AddsLines, AddsFront, TakesFront, counted}
+use Rattle.session_script.specs.Journal.{sent_lines}
+use Rattle.session_script.specs.declared.script.Keeps.TheVariants.{Journal, Strays}
 use Rattle.session_script.specs.declared.script.Script.{Script}
 use Rattle.session_script.specs.declared.intake.stage.Stage.{Stage}
 use Rattle.session_script.specs.declared.intake.stage.Stage.TheVariants.{Commanding}
-use Rattle.session_script.proofs.Journaling.{spelled_on}
+use Rattle.session_script.proofs.Journaling.{lines_more, spelled_on}
 use Rattle.session_script.proofs.Taking.{Tells-line}
 
 pub AddsLines-none : (h : Header) (sent : List Sent) (text : List ℕ) → AddsLines h sent sent text text
@@ -52,9 +55,16 @@ AddsLines-line h first old new text rest behind line sent adds starts less spell
       (subst (λ (spoken : Spoken). Each (IsSentOf h) (sent_among (spoken ∷ []))) (sym said) (valid, tt)));
 }
 
+-- what stands in front of the rest is the lines
+before_rest : (text lines rest : List ℕ) → text ≡ lines ++ rest → take (length text - length rest) text ≡ lines
+before_rest text lines rest is =
+    let many : length lines ≡ length text - length rest = omega (arith, ap length is, length-append lines rest) in
+    ap (take (length text - length rest)) is ∙ take_at lines rest (length text - length rest) many
+
 -- a script with the commands that were added
-pub AddsFront-lines : (old new : Script) (text rest : List ℕ) → AddsLines old.session old.sent.items new.sent.items text rest → new.session ≡ old.session → new.strays ≡ old.strays → new.keeps ≡ old.keeps → old.keeps ≡ false → AddsFront old new text rest
-AddsFront-lines old new text rest adds same strays kept never = record {
+pub AddsFront-lines : (old new : Script) (sent : List Sent) (text rest front : List ℕ) → AddsLines old.session old.sent.items sent text rest → new.sent.items ≡ sent → new.session ≡ old.session → new.strays ≡ old.strays → new.keeps ≡ old.keeps → old.keeps ≢ Strays
+    → front ≡ take (length text - length rest) text → (old.keeps ≡ Journal → new.journal.items ≡ old.journal.items ++ front) → AddsFront old new text rest
+AddsFront-lines old new sent text rest front adds commands same strays kept never front_is written = record {
   done = adds.done;
   lines = adds.lines;
   behind = adds.behind;
@@ -62,10 +72,20 @@ AddsFront-lines old new text rest adds same strays kept never = record {
   session = same;
   tells = λ lines former tells.
       subst (λ (h : Header). Tells (lines ++ adds.done) h (former ++ new.sent.items) new.strays false) (sym same)
-      (subst (λ (n : ℕ). Tells (lines ++ adds.done) old.session (former ++ new.sent.items) n false) (sym strays) (adds.tells lines former old.strays tells));
+      (subst (λ (all : List Sent). Tells (lines ++ adds.done) old.session (former ++ all) new.strays false) (sym commands)
+      (subst (λ (n : ℕ). Tells (lines ++ adds.done) old.session (former ++ sent) n false) (sym strays) (adds.tells lines former old.strays tells)));
   hears = λ lines former hears.
-      let none : former.keeps ≡ true → ⊥ = λ on. let e : true ≡ false = sym on ∙ sym hears.keeps ∙ never in cc in
-      record { keeps = kept ∙ hears.keeps; heard = λ on. absurd (none on); valid = λ on. absurd (none on) };
+      let none : former.keeps ≡ Strays → ⊥ = λ on. never (hears.keeps ∙ on) in
+      let added : old.keeps ≡ Journal → new.journal.items ≡ old.journal.items ++ sent_lines old.session adds.more =
+      λ on. written on ∙ ap (λ (all : List ℕ). old.journal.items ++ all) (front_is ∙ before_rest text (sent_lines old.session adds.more) rest adds.spelled) in
+      record {
+        keeps = kept ∙ hears.keeps;
+        journal = λ on.
+            lines_more old.session former.sent old.sent.items new.sent.items adds.more (hears.journal on) (commands ∙ adds.added) (added (hears.keeps ∙ on))
+            ∙ ap (λ (h : Header). sent_lines h (former.sent ++ new.sent.items)) (sym same);
+        heard = λ on. absurd (none on);
+        valid = λ on. absurd (none on);
+      };
 }
 
 -- a script to which nothing was added

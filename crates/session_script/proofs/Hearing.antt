@@ -1,4 +1,4 @@
--- What is heard of the lines behind START, as they are taken one after another.
+-- What is kept of the lines behind START, as they are taken one after another.
 use Rattle.std.proofs.Common.{◌≡◌, ℕ, ◌+◌, ◌≤◌, Bool, true, false, List, [], ◌∷◌, ◌++◌, length, map, Some, refl, sym, ap, ◌∙◌, subst, arith, append-nil, append_assoc}
 use Rattle.std.proofs.lemmas.List.{length-map}
 use Rattle.fx_rules.specs.Lists.{Each}
@@ -18,10 +18,14 @@ use Rattle.session_script.specs.Rounds.{IsFront}
 use Rattle.session_script.specs.Script.{has_end, lines_behind, sent_among, spoken_of}
 use Rattle.session_script.specs.Stage.{Past, Hears, StandsAt, Tells, no_past}
 use Rattle.session_script.specs.Heard.{Heard}
+use Rattle.session_script.specs.Journal.{sent_lines}
+use Rattle.session_script.specs.declared.script.Keeps.{Keeps}
+use Rattle.session_script.specs.declared.script.Keeps.TheVariants.{Strays}
 use Rattle.session_script.specs.declared.intake.stage.Stage.TheVariants.{Commanding}
 use Rattle.session_script.specs.declared.script.Script.{Script}
 use Rattle.session_script.specs.inside.Script.{is_started}
 use Rattle.session_script.specs.inside.Stage.{Adds, past_behind}
+use Rattle.session_script.proofs.Journaling.{lines_more}
 use Rattle.session_script.proofs.ScriptLaws.{is_started-session, length-spoken_behind, lines_behind-append, lines_behind-start}
 
 -- ---- lines
@@ -71,13 +75,15 @@ heard_of-behind h lines line is ended =
 
 -- ---- scripts
 
--- behind START nothing is heard yet
-pub Hears-start : (lines : List Line) (line : Line) (former : Past) (script : Script) (keeps : Bool) → is_started (read_head lines) ≡ false → former ≡ no_past keeps → script.keeps ≡ keeps → script.heard ≡ []
+-- behind START nothing is kept yet
+pub Hears-start : (lines : List Line) (line : Line) (former : Past) (script : Script) (keeps : Keeps) → is_started (read_head lines) ≡ false → former ≡ no_past keeps → script.keeps ≡ keeps → script.sent.items ≡ [] → script.journal.items ≡ [] → script.heard ≡ []
     → Hears (lines ++ line ∷ []) former script
-Hears-start lines line former script keeps before none kept silent =
+Hears-start lines line former script keeps before none kept unsent unwritten silent =
+    let no_command : former.sent ++ script.sent.items ≡ [] = ap (λ (past : Past). past.sent ++ script.sent.items) none ∙ unsent in
     let nothing : former.heard ++ script.heard ≡ [] = ap (λ (past : Past). past.heard ++ script.heard) none ∙ silent in
     record {
       keeps = kept ∙ sym (ap (λ (past : Past). past.keeps) none);
+      journal = λ on. unwritten ∙ sym (ap (sent_lines script.session) no_command);
       heard = λ on. nothing ∙ sym (ap (heard_among script.session) (lines_behind-start (heads.Begun 0) lines line before));
       valid = λ on. subst (Each (IsHeardOf script.session)) (sym nothing) tt;
     }
@@ -93,10 +99,13 @@ pub Hears-line : (lines : List Line) (line : Line) (former : Past) (old new : Sc
     → Hears (lines ++ line ∷ []) former new
 Hears-line lines line former old new sent strays is_end tells hears adds =
     let more : List Heard = heard_as line (command_line old.session line) in
-    let grown : former.keeps ≡ true → former.heard ++ new.heard ≡ (former.heard ++ old.heard) ++ more =
+    let grown : former.keeps ≡ Strays → former.heard ++ new.heard ≡ (former.heard ++ old.heard) ++ more =
     λ on. ap (λ (all : List Heard). former.heard ++ all) (adds.heard (hears.keeps ∙ on)) ∙ sym (append_assoc former.heard old.heard more) in
     record {
       keeps = adds.keeps ∙ hears.keeps;
+      journal = λ on.
+          lines_more old.session former.sent old.sent.items new.sent.items (sent_among (command_line old.session line ∷ [])) (hears.journal on) adds.sent (adds.journal (hears.keeps ∙ on))
+          ∙ ap (λ (h : Header). sent_lines h (former.sent ++ new.sent.items)) (sym adds.session);
       heard = λ on.
           grown on ∙ ap (λ (all : List Heard). all ++ more) (hears.heard on)
           ∙ sym (heard_of-line old.session lines line tells.session (sym tells.end))
@@ -111,32 +120,36 @@ Hears-line lines line former old new sent strays is_end tells hears adds =
 pub Hears-behind : (lines : List Line) (line : Line) (former : Past) (script : Script) (sent : List Sent) (strays : ℕ) → Tells lines script.session sent strays true → Hears lines former script → Hears (lines ++ line ∷ []) former script
 Hears-behind lines line former script sent strays tells hears = record {
   keeps = hears.keeps;
+  journal = hears.journal;
   heard = λ on. hears.heard on ∙ sym (heard_of-behind script.session lines line tells.session (sym tells.end));
   valid = hears.valid;
 }
 
 -- the round is a former one
-pub Hears-round : (lines : List Line) (former : Past) (old new : Script) → new.session ≡ old.session → new.keeps ≡ old.keeps → new.heard ≡ [] → Hears lines former old
+pub Hears-round : (lines : List Line) (former : Past) (old new : Script) → new.session ≡ old.session → former.sent ++ old.sent.items ≡ (former.sent ++ old.sent.items) ++ new.sent.items → new.keeps ≡ old.keeps → new.journal.items ≡ old.journal.items → new.heard ≡ [] → Hears lines former old
     → Hears lines (record { sent = former.sent ++ old.sent.items; keeps = former.keeps; heard = former.heard ++ old.heard }) new
-Hears-round lines former old new same kept none hears =
+Hears-round lines former old new same commands kept written none hears =
     let all : (former.heard ++ old.heard) ++ new.heard ≡ former.heard ++ old.heard =
     ap (λ (rest : List Heard). (former.heard ++ old.heard) ++ rest) none ∙ append-nil (former.heard ++ old.heard) in
     record {
       keeps = kept ∙ hears.keeps;
+      journal = λ on.
+          written ∙ hears.journal on ∙ ap (sent_lines old.session) commands
+          ∙ ap (λ (h : Header). sent_lines h ((former.sent ++ old.sent.items) ++ new.sent.items)) (sym same);
       heard = λ on. all ∙ hears.heard on ∙ ap (λ (h : Header). heard_of h lines) (sym same);
       valid = λ on. subst (λ (h : Header). Each (IsHeardOf h) ((former.heard ++ old.heard) ++ new.heard)) (sym same) (subst (Each (IsHeardOf old.session)) (sym all) (hears.valid on));
     }
 
 -- so it is for the stage
-pub StandsAt-begun : (old new : Script) (ended : Bool) (lines : List Line) (former : Past) → new.session ≡ old.session → new.sent.items ≡ [] → new.strays ≡ old.strays → new.keeps ≡ old.keeps → new.heard ≡ []
+pub StandsAt-begun : (old new : Script) (ended : Bool) (lines : List Line) (former : Past) → new.session ≡ old.session → new.sent.items ≡ [] → new.strays ≡ old.strays → new.keeps ≡ old.keeps → new.journal.items ≡ old.journal.items → new.heard ≡ []
     → StandsAt (Commanding old ended) lines former → StandsAt (Commanding new ended) lines (past_behind former (Commanding old ended))
-StandsAt-begun old new ended lines former same none strays kept silent at =
+StandsAt-begun old new ended lines former same none strays kept written silent at =
     let all : former.sent ++ old.sent.items ≡ (former.sent ++ old.sent.items) ++ new.sent.items =
     sym (ap (λ (rest : List Sent). (former.sent ++ old.sent.items) ++ rest) none ∙ append-nil (former.sent ++ old.sent.items)) in (
       subst (λ (h : Header). Tells lines h ((former.sent ++ old.sent.items) ++ new.sent.items) new.strays ended) (sym same)
           (subst (λ (n : ℕ). Tells lines old.session ((former.sent ++ old.sent.items) ++ new.sent.items) n ended) (sym strays)
           (subst (λ (sent : List Sent). Tells lines old.session sent old.strays ended) all at.0)),
-      Hears-round lines former old new same kept silent at.1,
+      Hears-round lines former old new same all kept written silent at.1,
     )
 
 -- ---- texts

@@ -1,5 +1,5 @@
 -- The reading of a session's text, read by read and round by round.
-use Rattle.std.proofs.Common.{◌≡◌, ℕ, ◌+◌, ◌<◌, ◌≤◌, Bool, true, false, List, [], ◌++◌, Option, Some, None, Result, Ok, Err, inl, inr, length, refl, sym, ap, ◌∙◌, subst, arith, append-nil, append_assoc, length-append}
+use Rattle.std.proofs.Common.{◌≡◌, ℕ, ◌+◌, ◌<◌, ◌≤◌, true, List, [], ◌++◌, Option, Some, None, Result, Ok, Err, inl, inr, length, refl, sym, ap, ◌∙◌, subst, arith, append-nil, append_assoc, length-append}
 use Rattle.std.specs.Prelude.{IsSome, OnOk}
 use Rattle.std.specs.Io.KnownBytes.{IsAtEnd}
 use Rattle.fx_amounts.specs.OutOfMemory.{refused}
@@ -10,6 +10,7 @@ use Rattle.fx_rules.specs.declared.command.Sent.{Sent}
 use Rattle.fx_rules.specs.Lists.{Each}
 use Rattle.fx_rules.specs.Session.{Header as SessionHeader, IsSession}
 use Rattle.fx_text.specs.Lines.{lines_of, rest_of}
+use Rattle.fx_text.specs.declared.line.Line.{Line}
 use Rattle.session_head.specs.Head as heads
 use Rattle.session_head.specs.Head.{read_head}
 use Rattle.session_head.specs.HeadText.{head_text_of}
@@ -18,14 +19,15 @@ use Rattle.session_script.specs.Input.{input_limit}
 use Rattle.session_script.specs.Script.{lines_behind}
 use Rattle.session_script.specs.inside.Script.{is_started}
 use Rattle.session_script.specs.Heard.{IsHeardOf, heard_in, heard_of}
-use Rattle.session_script.specs.Stage.{Past, StandsAt, no_past, session_at, sent_at, strays_at, heard_at}
+use Rattle.session_script.specs.Stage.{Past, StandsAt, no_past, session_at, sent_at, strays_at, journal_at, heard_at}
+use Rattle.session_script.specs.Journal.{sent_lines}
 use Rattle.session_script.specs.Heard.{Heard}
 use Rattle.session_script.specs.inside.Stage.{is_open, past_behind}
 use Rattle.session_script.specs.Intake.{StandsFor}
 use Rattle.session_script.specs.inside.Intake.{IsSettled, Closed}
 use Rattle.session_script.specs.Reading.{GoesOn, HasNotStarted, IsPromptBehind, MetEnd, SaysBehind, ProgressedBehind, TextEndedBehind, Stopped}
 use Rattle.session_script.specs.inside.Reading.{RoundCame}
-use Rattle.session_script.specs.Rounds.{IsFront, TookOnBehind, HasReadBehind, HasHeardBehind, HasStopped}
+use Rattle.session_script.specs.Rounds.{IsFront, TookOnBehind, HasReadBehind, HasJournalBehind, HasHeardBehind, HasStopped}
 use Rattle.session_script.specs.inside.Rounds.{ReadsOn, TookRound}
 use Rattle.session_script.specs.declared.ends.EarlyEnd.{EarlyEnd}
 use Rattle.session_script.specs.declared.ends.EarlyEnd.TheVariants.{Cut, ReadFault, TooMuch}
@@ -33,6 +35,8 @@ use Rattle.session_script.specs.declared.ends.TextEnd.{TextEnd}
 use Rattle.session_script.specs.declared.ends.TextEnd.TheVariants.{EndLine, Early}
 use Rattle.session_script.specs.declared.ends.Stop.{Stop}
 use Rattle.session_script.specs.declared.ends.Stop.TheVariants.{Header, Early as EarlyStop, Memory}
+use Rattle.session_script.specs.declared.script.Keeps.{Keeps}
+use Rattle.session_script.specs.declared.script.Keeps.TheVariants.{Nothing, Journal, Strays}
 use Rattle.session_script.specs.declared.intake.Intake.{Intake}
 use Rattle.session_script.specs.declared.intake.stage.Stage.{Stage}
 use Rattle.session_script.specs.declared.intake.stage.Stage.TheVariants.{Heading, Commanding, Faulted}
@@ -62,7 +66,7 @@ front-head h session =
 pub GoesOn-nil : GoesOn []
 GoesOn-nil = heading-goes_on [] (heads.Begun 0) (sym (ap read_head no_lines)) refl
 
-pub ReadsOn-nil : {S : Type 0} (left : S → Option (List ℕ)) (faults : S → ℕ) (source : S) (intake : Intake) (keeps : Bool) → StandsFor intake [] (no_past keeps) → intake.taken ≡ 0 → ReadsOn [] left faults source source intake (no_past keeps) []
+pub ReadsOn-nil : {S : Type 0} (left : S → Option (List ℕ)) (faults : S → ℕ) (source : S) (intake : Intake) (keeps : Keeps) → StandsFor intake [] (no_past keeps) → intake.taken ≡ 0 → ReadsOn [] left faults source source intake (no_past keeps) []
 ReadsOn-nil left faults source intake keeps stands none = record {
   took = Took-nil left faults source;
   stands = stands;
@@ -319,15 +323,33 @@ HasRead-round {front = front} {left = left} {faults = faults} {a = a} {b = b} {f
       taken = ap (λ (i : Intake). i.taken) same ∙ round.taken;
     }
 
+-- where the journal is kept, a stage has the lines of all commands
+stage_journal : (stage : Stage) (h : SessionHeader) (lines : List Line) (former : Past) → StandsAt stage lines former → session_at stage ≡ Some h → former.keeps ≡ Journal → journal_at stage ≡ sent_lines h (former.sent ++ sent_at stage)
+stage_journal (Heading reader keeps) h lines former at is on = absurd (cc)
+stage_journal (Commanding script ended) h lines former at is on =
+    at.1.journal on ∙ ap (λ (g : SessionHeader). sent_lines g (former.sent ++ script.sent.items)) (same_session script.session h is)
+stage_journal (Faulted line reason) h lines former at is on = absurd (cc)
+
+pub HasJournal-round : {front : List ℕ} {S : Type 0} {left : S → Option (List ℕ)} {faults : S → ℕ} {a b : S} {former : Past} {begun : List ℕ} (intake : Intake) (end : Option TextEnd) (reading : Reading) (h : SessionHeader) (all : List Sent)
+    → TookRound front left faults a b intake former begun (Ok end) → session_at intake.stage ≡ Some h → reading.intake ≡ intake → reading.end ≡ end → all ≡ former.sent ++ sent_at intake.stage
+    → IsFront front → former.keeps ≡ Journal → HasJournalBehind front left faults a b reading h all
+unfolding HasRead-round
+HasJournal-round {front = front} {former = former} {begun = begun} intake end reading h all round session same ends all_is is_front on = record {
+  has_read = HasRead-round intake end reading h all round session same ends all_is is_front;
+  lines = ap (λ (i : Intake). journal_at i.stage) same
+      ∙ stage_journal intake.stage h (lines_of (front ++ (begun ++ round.more))) former round.stands.stage session on ∙ ap (sent_lines h) (sym all_is);
+  keeps = on;
+}
+
 -- where strays are kept, a stage has heard what there is to hear
-stage_hears : (stage : Stage) (h : SessionHeader) (text : List ℕ) (former : Past) → StandsAt stage (lines_of text) former → session_at stage ≡ Some h → former.keeps ≡ true → former.heard ++ heard_at stage ≡ heard_in h text
+stage_hears : (stage : Stage) (h : SessionHeader) (text : List ℕ) (former : Past) → StandsAt stage (lines_of text) former → session_at stage ≡ Some h → former.keeps ≡ Strays → former.heard ++ heard_at stage ≡ heard_in h text
 unfolding heard_in
 stage_hears (Heading reader keeps) h text former at is on = absurd (cc)
 stage_hears (Commanding script ended) h text former at is on = at.1.heard on ∙ ap (λ (g : SessionHeader). heard_of g (lines_of text)) (same_session script.session h is)
 stage_hears (Faulted line reason) h text former at is on = absurd (cc)
 
 -- which may be sent
-stage_valid : (stage : Stage) (h : SessionHeader) (text : List ℕ) (former : Past) → StandsAt stage (lines_of text) former → session_at stage ≡ Some h → former.keeps ≡ true → Each (IsHeardOf h) (former.heard ++ heard_at stage)
+stage_valid : (stage : Stage) (h : SessionHeader) (text : List ℕ) (former : Past) → StandsAt stage (lines_of text) former → session_at stage ≡ Some h → former.keeps ≡ Strays → Each (IsHeardOf h) (former.heard ++ heard_at stage)
 stage_valid (Heading reader keeps) h text former at is on = absurd (cc)
 stage_valid (Commanding script ended) h text former at is on =
     subst (λ (g : SessionHeader). Each (IsHeardOf g) (former.heard ++ script.heard)) (same_session script.session h is) (at.1.valid on)
@@ -335,7 +357,7 @@ stage_valid (Faulted line reason) h text former at is on = absurd (cc)
 
 pub HasHeard-round : {front : List ℕ} {S : Type 0} {left : S → Option (List ℕ)} {faults : S → ℕ} {a b : S} {former : Past} {begun : List ℕ} (intake : Intake) (end : Option TextEnd) (reading : Reading) (h : SessionHeader) (all : List Sent) (heard : List Heard)
     → TookRound front left faults a b intake former begun (Ok end) → session_at intake.stage ≡ Some h → reading.intake ≡ intake → reading.end ≡ end → all ≡ former.sent ++ sent_at intake.stage
-    → IsFront front → former.keeps ≡ true → heard ≡ former.heard ++ heard_at intake.stage → HasHeardBehind front left faults a b reading h all heard
+    → IsFront front → former.keeps ≡ Strays → heard ≡ former.heard ++ heard_at intake.stage → HasHeardBehind front left faults a b reading h all heard
 unfolding HasRead-round
 HasHeard-round {front = front} {former = former} {begun = begun} intake end reading h all heard round session same ends all_is is_front on heard_is =
     let input : List ℕ = begun ++ round.more in
@@ -350,12 +372,12 @@ HasHeard-round {front = front} {former = former} {begun = begun} intake end read
     }
 
 -- behind the header of a session that is known, where nothing is taken yet
-pub HasRead-resumed : {S : Type 0} (left : S → Option (List ℕ)) (faults : S → ℕ) (source : S) (intake : Intake) (reading : Reading) (h : SessionHeader) → IsFront (head_text_of h) → GoesOn (head_text_of h) → StandsFor intake (head_text_of h) (no_past false)
+pub HasRead-resumed : {S : Type 0} (left : S → Option (List ℕ)) (faults : S → ℕ) (source : S) (intake : Intake) (reading : Reading) (h : SessionHeader) → IsFront (head_text_of h) → GoesOn (head_text_of h) → StandsFor intake (head_text_of h) (no_past Nothing)
     → session_at intake.stage ≡ Some h → sent_at intake.stage ≡ [] → intake.taken ≡ 0 → reading.intake ≡ intake → reading.end ≡ None → HasReadBehind (head_text_of h) left faults source source reading h []
 HasRead-resumed left faults source intake reading h is_front going stands session none untaken same ends =
     let front : List ℕ = head_text_of h in
     let whole : front ≡ front ++ [] = sym (append-nil front) in
-    let stands' : StandsFor reading.intake (front ++ []) (no_past false) = subst (λ (i : Intake). StandsFor i (front ++ []) (no_past false)) (sym same) (subst (λ (text : List ℕ). StandsFor intake text (no_past false)) whole stands) in
+    let stands' : StandsFor reading.intake (front ++ []) (no_past Nothing) = subst (λ (i : Intake). StandsFor i (front ++ []) (no_past Nothing)) (sym same) (subst (λ (text : List ℕ). StandsFor intake text (no_past Nothing)) whole stands) in
     let session' : session_at reading.intake.stage ≡ Some h = ap (λ (i : Intake). session_at i.stage) same ∙ session in
     let none' : sent_at reading.intake.stage ≡ [] = ap (λ (i : Intake). sent_at i.stage) same ∙ none in
     let going' : GoesOn (front ++ []) = subst GoesOn whole going in
@@ -365,11 +387,11 @@ HasRead-resumed left faults source intake reading h is_front going stands sessio
       within = omega arith;
       prompt = prompt_here front [] going';
       session = session';
-      says = subst (λ (sent : List Sent). SaysBehind front [] h sent (strays_at reading.intake.stage)) none' (stage_says reading.intake.stage h front [] (no_past false) is_front stands'.stage session' (omega arith));
+      says = subst (λ (sent : List Sent). SaysBehind front [] h sent (strays_at reading.intake.stage)) none' (stage_says reading.intake.stage h front [] (no_past Nothing) is_front stands'.stage session' (omega arith));
       ended = subst (λ (e : Option TextEnd). ProgressedBehind front (left source) [] e) (sym ends) going';
       cause = λ is. absurd (let e : None ≡ Some (Early ReadFault) = sym ends ∙ is in cc);
       is_front = is_front;
-      former = no_past false;
+      former = no_past Nothing;
       all_is = sym none';
       stands = stands';
       taken = ap (λ (i : Intake). i.taken) same ∙ untaken;
@@ -427,12 +449,12 @@ HasStopped-err {left = left} {b = b} {begun = begun} stop round = record {
     stopped_so known input (Memory memory) came = came
 
 -- a round before START
-none_past : (stage : Stage) (keeps : Bool) → session_at stage ≡ None → past_behind (no_past keeps) stage ≡ no_past keeps
+none_past : (stage : Stage) (keeps : Keeps) → session_at stage ≡ None → past_behind (no_past keeps) stage ≡ no_past keeps
 none_past (Heading reader kept) keeps none = refl
 none_past (Commanding script ended) keeps none = absurd (cc)
 none_past (Faulted line reason) keeps none = refl
 
-pub first_none : {S : Type 0} {left : S → Option (List ℕ)} {faults : S → ℕ} {a b : S} {intake : Intake} {input : List ℕ} {result : Result (Option TextEnd) Stop} (old : Intake) (keeps : Bool) → session_at old.stage ≡ None
+pub first_none : {S : Type 0} {left : S → Option (List ℕ)} {faults : S → ℕ} {a b : S} {intake : Intake} {input : List ℕ} {result : Result (Option TextEnd) Stop} (old : Intake) (keeps : Keeps) → session_at old.stage ≡ None
     → TookRound [] left faults a b intake (past_behind (no_past keeps) old.stage) input result → TookRound [] left faults a b intake (no_past keeps) input result
 first_none {left = left} {faults = faults} {a = a} {b = b} {intake = intake} {input = input} {result = result} old keeps none round =
     subst (λ (past : Past). TookRound [] left faults a b intake past input result) (none_past old.stage keeps none) round

@@ -1,5 +1,5 @@
 -- What a reading took of its source, round by round.
-use Rattle.std.specs.Prelude.{ℕ, ◌≡◌, ◌≤◌, true, List, [], ◌++◌, length, Option, Some, Result, Ok, Err}
+use Rattle.std.specs.Prelude.{ℕ, ◌≡◌, ◌≤◌, List, [], ◌++◌, length, Option, Some, Result, Ok, Err}
 use Rattle.fx_edges.specs.Faults.{Rose}
 use Rattle.fx_edges.specs.Reading.{Took}
 use Rattle.fx_edges.specs.Writing.{IsPrefixOf}
@@ -10,7 +10,8 @@ use Rattle.fx_text.specs.Lines.{lines_of, rest_of}
 use Rattle.session_head.specs.Head.{Begun}
 use Rattle.session_script.specs.Input.{input_limit}
 use Rattle.session_script.specs.Heard.{heard_in, IsHeardOf}
-use Rattle.session_script.specs.Stage.{Past, session_at, sent_at, strays_at, heard_at}
+use Rattle.session_script.specs.Journal.{sent_lines}
+use Rattle.session_script.specs.Stage.{Past, session_at, sent_at, strays_at, journal_at, heard_at}
 use Rattle.session_script.specs.Intake.{StandsFor}
 use Rattle.session_script.specs.Reading.{IsPrompt, IsPromptBehind, SaysBehind, ProgressedBehind, Stopped}
 use Rattle.session_script.specs.Script.{lines_behind}
@@ -19,6 +20,7 @@ use Rattle.session_script.specs.declared.ends.TextEnd.TheVariants.{Early}
 use Rattle.session_script.specs.declared.ends.Stop.{Stop}
 use Rattle.session_script.specs.declared.ends.Stop.TheVariants.{Early as EarlyStop}
 use Rattle.session_script.specs.Heard.{Heard}
+use Rattle.session_script.specs.declared.script.Keeps.TheVariants.{Journal, Strays}
 use Rattle.session_script.specs.declared.reading.Reading.{Reading}
 
 -- A front ends with a line feed, and says nothing behind START.
@@ -57,6 +59,13 @@ module _ (front : List ℕ) {S : Type 0} (left : S → Option (List ℕ)) (fault
     pub stands : StandsFor reading.intake (front ++ input) former
     pub taken : reading.intake.taken ≡ length input
 
+  -- and a reading that keeps the journal has the lines of all these commands
+  pub record HasJournalBehind (reading : Reading) (h : Header) (all : List Sent) : Type 0 where
+    pub has_read : HasReadBehind reading h all
+    pub lines : journal_at reading.intake.stage ≡ sent_lines h all
+    -- what the next round goes on from
+    pub keeps : has_read.former.keeps ≡ Journal
+
   -- and a reading that keeps strays gave all these commands and strays of it, the last round's at their end
   pub record HasHeardBehind (reading : Reading) (h : Header) (all : List Sent) (heard : List Heard) : Type 0 where
     pub has_read : HasReadBehind reading h all
@@ -64,13 +73,16 @@ module _ (front : List ℕ) {S : Type 0} (left : S → Option (List ℕ)) (fault
     pub valid : Each (IsHeardOf h) heard
     pub few : length heard ≤ length has_read.input
     -- what the next round goes on from
-    pub keeps : has_read.former.keeps ≡ true
+    pub keeps : has_read.former.keeps ≡ Strays
     pub heard_is : heard ≡ has_read.former.heard ++ heard_at reading.intake.stage
 
 module _ {S : Type 0} (left : S → Option (List ℕ)) (faults : S → ℕ) (before now : S) where
   -- where the input is all of the text
   abbrev pub HasRead : Reading → Header → List Sent → Type 0
   HasRead = HasReadBehind [] left faults before now
+
+  abbrev pub HasJournal : Reading → Header → List Sent → Type 0
+  HasJournal = HasJournalBehind [] left faults before now
 
   abbrev pub HasHeard : Reading → Header → List Sent → List Heard → Type 0
   HasHeard = HasHeardBehind [] left faults before now
@@ -88,6 +100,11 @@ module _ {S : Type 0} (left : S → Option (List ℕ)) (faults : S → ℕ) (bef
   abbrev pub HasBegun : Result Reading Stop → Type 0
   HasBegun (Ok reading) = (h : Header) × HasRead reading h (sent_at reading.intake.stage)
   HasBegun (Err stop) = HasStopped stop
+
+  -- and by a reading that keeps the journal
+  abbrev pub HasBegunJournal : Result Reading Stop → Type 0
+  HasBegunJournal (Ok reading) = (h : Header) × HasJournal reading h (sent_at reading.intake.stage)
+  HasBegunJournal (Err stop) = HasStopped stop
 
   -- and by a reading that keeps strays
   abbrev pub HasBegunHearing : Result Reading Stop → Type 0

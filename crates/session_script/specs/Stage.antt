@@ -1,5 +1,5 @@
 -- What the lines of a text have come to, as they are taken one after another.
-use Rattle.std.specs.Prelude.{ℕ, ◌≡◌, ◌-◌, ◌^◌, min, Bool, true, List, [], ◌++◌, Option, Some, None}
+use Rattle.std.specs.Prelude.{ℕ, ◌≡◌, ◌-◌, ◌^◌, min, Bool, List, [], ◌++◌, Option, Some, None}
 use Rattle.fx_rules.specs.Lists.{Each}
 use Rattle.fx_rules.specs.Session.{Header}
 use Rattle.fx_text.specs.declared.line.Line.{Line}
@@ -10,6 +10,9 @@ use Rattle.fx_rules.specs.Sending.{IsSentOf}
 use Rattle.fx_rules.specs.declared.command.Sent.{Sent}
 use Rattle.session_script.specs.Heard.{heard_of, IsHeardOf}
 use Rattle.session_script.specs.Heard.{Heard}
+use Rattle.session_script.specs.Journal.{sent_lines}
+use Rattle.session_script.specs.declared.script.Keeps.{Keeps}
+use Rattle.session_script.specs.declared.script.Keeps.TheVariants.{Journal, Strays}
 use Rattle.session_script.specs.declared.script.Script.{Script}
 use Rattle.session_script.specs.declared.intake.stage.Stage.{Stage}
 use Rattle.session_script.specs.declared.intake.stage.Stage.TheVariants.{Heading, Commanding, Faulted}
@@ -26,14 +29,14 @@ pub record Tells (lines : List Line) (h : Header) (sent : List Sent) (strays : �
   pub end : ended ≡ has_end (spoken_of h lines)
   pub valid : Each (IsSentOf h) sent
 
--- What a reading gave in former rounds: the commands; whether it keeps strays, and then the commands and the strays too.
+-- What a reading gave in former rounds: the commands; what it keeps, and where that is the strays, the commands and the strays too.
 pub record Past : Type 0 where
   pub sent : List Sent
-  pub keeps : Bool
+  pub keeps : Keeps
   pub heard : List Heard
 
 -- nothing yet
-abbrev pub no_past : Bool → Past
+abbrev pub no_past : Keeps → Past
 no_past keeps = record { sent = []; keeps = keeps; heard = [] }
 
 -- the session of a text whose START was read, the commands of the last round, and the strays so far
@@ -52,17 +55,25 @@ strays_at (Heading reader keeps) = 0
 strays_at (Commanding script ended) = script.strays
 strays_at (Faulted line reason) = 0
 
+-- the journal of all rounds, where it is kept
+abbrev pub journal_at : Stage → List ℕ
+journal_at (Heading reader keeps) = []
+journal_at (Commanding script ended) = script.journal.items
+journal_at (Faulted line reason) = []
+
 -- the commands and the strays of the last round, where strays are kept
 abbrev pub heard_at : Stage → List Heard
 heard_at (Heading reader keeps) = []
 heard_at (Commanding script ended) = script.heard
 heard_at (Faulted line reason) = []
 
--- a script keeps strays as the past does, and has heard behind it what there is to hear of these lines
+-- a script keeps what the past does: the journal has the lines of all commands, or behind the past is heard what there is to hear
+-- of these lines
 pub record Hears (lines : List Line) (former : Past) (script : Script) : Type 0 where
   pub keeps : script.keeps ≡ former.keeps
-  pub heard : former.keeps ≡ true → former.heard ++ script.heard ≡ heard_of script.session lines
-  pub valid : former.keeps ≡ true → Each (IsHeardOf script.session) (former.heard ++ script.heard)
+  pub journal : former.keeps ≡ Journal → script.journal.items ≡ sent_lines script.session (former.sent ++ script.sent.items)
+  pub heard : former.keeps ≡ Strays → former.heard ++ script.heard ≡ heard_of script.session lines
+  pub valid : former.keeps ≡ Strays → Each (IsHeardOf script.session) (former.heard ++ script.heard)
 
 -- these lines lead to the stage, where this was given in former rounds
 abbrev pub StandsAt : Stage → List Line → Past → Type 0

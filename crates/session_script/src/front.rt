@@ -1,4 +1,4 @@
-ghost use Rattle.std.specs.Prelude.{◌≡◌, length, take, IfOk};
+ghost use Rattle.std.specs.Prelude.{◌≡◌, ◌≤◌, ◌-◌, length, take, IfOk};
 ghost use Rattle.session_script.specs.inside.Stage.{AddsLines};
 
 use fx_amounts::Memory;
@@ -21,4 +21,13 @@ pub(crate) fn push_spelled<'p>(
         rest = behind;
     }
     Ok(rest)
+}
+
+/// What a text has in front of a rest of it.
+pub(crate) fn front_of<'p>(text: &'p [u8], rest: &[u8]) -> &'p [u8]
+    requires { length rest.now ≤ length text.now }
+    ensures front { result.now ≡ take (length text.now - length rest.now) text.now }
+{
+    let (front, _) = text.split_at(text.len() - rest.len());
+    front
 }

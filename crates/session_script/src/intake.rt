@@ -1,13 +1,15 @@
 mod stage;
 
-ghost use Rattle.std.specs.Prelude.{ℕ, ◌≡◌, ◌≢◌, ◌<◌, ◌≤◌, ◌+◌, ◌^◌, ◌++◌, [], List, false, Ok, Some, None, IfOk, IfErr, IsOk, OnOk, IsTrue, length};
+ghost use Rattle.std.specs.Prelude.{ℕ, ◌≡◌, ◌≢◌, ◌<◌, ◌≤◌, ◌+◌, ◌^◌, ◌++◌, [], List, Ok, Some, None, IfOk, IfErr, IsOk, OnOk, IsTrue, length};
 ghost use Rattle.std.specs.Bool.{MatchBool};
 ghost use Rattle.fx_amounts.specs.OutOfMemory.{refused};
 ghost use Rattle.fx_rules.specs.Session.{Header as SessionHeader};
 ghost use Rattle.session_head.specs.HeadText.{head_text_of};
 ghost use Rattle.session_script.specs.inside.Stage.{is_open, past_behind};
+ghost use Rattle.session_script.specs.declared.script.Keeps.TheVariants.{Nothing};
 
 use crate::ends::{EarlyEnd, Stop, TextEnd};
+use crate::script::Keeps;
 use fx_amounts::Memory;
 use fx_edges::Source;
 use fx_rules::Session;
@@ -46,8 +48,8 @@ impl Intake {
     ghost use Rattle.session_script.specs.Rounds.{IsFront};
     ghost use Rattle.session_script.specs.inside.Rounds.{ReadsOn, TookRound};
 
-    /// An intake of no bytes, which keeps strays, or not. It takes no memory.
-    pub(crate) fn new(alloc: Global, keeps: bool) -> Intake
+    /// An intake of no bytes, which is told what is kept. It takes no memory.
+    pub(crate) fn new(alloc: Global, keeps: Keeps) -> Intake
         ensures begun { StandsFor result [] (no_past keeps) }
         ensures heading { session_at result.stage ≡ None }
         ensures none { result.taken ≡ 0 }
@@ -62,7 +64,7 @@ impl Intake {
 
     /// An intake of no bytes that goes on behind the text of a session's header. It takes no memory.
     pub(crate) fn resume(alloc: Global, session: Session) -> Intake
-        ensures stands { StandsFor result (head_text_of session) (no_past false) }
+        ensures stands { StandsFor result (head_text_of session) (no_past Nothing) }
         ensures session { session_at result.stage ≡ Some session }
         ensures sent { sent_at result.stage ≡ [] }
         ensures heard { heard_at result.stage ≡ [] }
@@ -76,6 +78,13 @@ impl Intake {
             stage: Stage::resume(alloc, session),
             taken: 0,
         }
+    }
+
+    /// What its lines have come to.
+    pub(crate) fn into_stage(self) -> Stage
+        ensures { result ≡ self.stage }
+    {
+        self.stage
     }
 
     /// Takes a round of the source's bytes, up to the END line, a fault of the header, the source's end or a read that fails;

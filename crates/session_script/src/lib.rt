@@ -14,4 +14,4 @@ pub use ends::{EarlyEnd, Stop, TextEnd};
 pub use heard::{HeardLines, HeardView};
 pub use intake::{INPUT_LIMIT, ROUND};
 pub use reading::Reading;
-pub use script::Script;
+pub use script::{Keeps, Script};

@@ -12,6 +12,7 @@ use Rattle.order_lines.specs.declared.spoken.Spoken.TheVariants.{Of, Stray, End,
 use Rattle.session_script.specs.Journal.{sent_lines}
 use Rattle.session_script.specs.Script.{has_end, sent_among}
 use Rattle.fx_rules.specs.Sending.{IsSentOf}
+use Rattle.session_script.specs.declared.script.Keeps.TheVariants.{Journal, Strays}
 use Rattle.session_script.specs.declared.script.Script.{Script}
 use Rattle.session_script.specs.declared.intake.stage.Stage.{Stage}
 use Rattle.session_script.specs.declared.intake.stage.Stage.TheVariants.{Heading, Commanding, Faulted}
@@ -37,9 +38,10 @@ pub record Adds (old new : Script) (line : Line) (said : Spoken) (is_end : Bool)
   pub ended : is_end ≡ has_end (said ∷ [])
   pub valid : Each (IsSentOf old.session) (sent_among (said ∷ []))
   pub keeps : new.keeps ≡ old.keeps
-  pub heard : old.keeps ≡ true → new.heard ≡ old.heard ++ heard_as line said
+  pub journal : old.keeps ≡ Journal → new.journal.items ≡ old.journal.items ++ sent_lines old.session (sent_among (said ∷ []))
+  pub heard : old.keeps ≡ Strays → new.heard ≡ old.heard ++ heard_as line said
 
--- but for what is heard, a script is as it was
+-- but for what is kept, a script is as it was
 pub record SaysAsBefore (old new : Script) : Type 0 where
   pub session : new.session ≡ old.session
   pub sent : new.sent.items ≡ old.sent.items

@@ -1,12 +1,13 @@
-ghost use Rattle.std.specs.Prelude.{◌≡◌, ◌++◌, ◌∷◌, [], false, List, IsTrue, IfOk, OnOk, IsSome, Some, None};
+ghost use Rattle.std.specs.Prelude.{◌≡◌, ◌++◌, ◌∷◌, [], List, IsTrue, IfOk, OnOk, IsSome, Some, None};
 ghost use Rattle.std.specs.Bool.{MatchBool};
 ghost use Rattle.fx_rules.specs.Session.{Header as SessionHeader};
 ghost use Rattle.fx_text.specs.Lines.{lines_of, rest_of, line_seen, IsRest};
 ghost use Rattle.fx_text.specs.declared.line.Line.{Line as TextLine};
 ghost use Rattle.session_head.specs.Head.{session_of};
 ghost use Rattle.session_head.specs.HeadText.{head_text_of};
+ghost use Rattle.session_script.specs.declared.script.Keeps.TheVariants.{Nothing};
 
-use crate::script::Script;
+use crate::script::{Keeps, Script};
 use fx_amounts::Memory;
 use fx_rules::Session;
 use fx_text::{LineView, first_line};
@@ -17,8 +18,8 @@ use std::mem;
 /// What the lines of a text have come to.
 #[derive(Drop)]
 pub(crate) enum Stage {
-    /// The header goes on. Behind it strays are kept, or not.
-    Heading { reader: HeadReader, keeps: bool },
+    /// The header goes on. It is told what is kept behind it.
+    Heading { reader: HeadReader, keeps: Keeps },
     /// START was read. Once the END line was, no further line is looked at.
     Commanding { script: Script, ended: bool },
     /// The header has a fault. No further line is looked at.
@@ -31,8 +32,8 @@ impl Stage {
     ghost use Rattle.session_script.specs.Reading.{GoesOn};
     ghost use Rattle.session_script.specs.Rounds.{IsFront};
 
-    /// The stage before the first line, where it is told whether strays are kept. It takes no memory.
-    pub(crate) fn new(alloc: Global, keeps: bool) -> Stage
+    /// The stage before the first line, where it is told what is kept. It takes no memory.
+    pub(crate) fn new(alloc: Global, keeps: Keeps) -> Stage
         ensures begun { StandsAt result [] (no_past keeps) }
         ensures readable { IsTrue (is_open result) }
         ensures heading { session_at result ≡ None }
@@ -43,9 +44,9 @@ impl Stage {
         }
     }
 
-    /// The stage behind the START of a session's header. Strays are not kept. It takes no memory.
+    /// The stage behind the START of a session's header. Nothing is kept beside the commands. It takes no memory.
     pub(crate) fn resume(alloc: Global, session: Session) -> Stage
-        ensures stands { StandsAt result (lines_of (head_text_of session)) (no_past false) }
+        ensures stands { StandsAt result (lines_of (head_text_of session)) (no_past Nothing) }
         ensures readable { IsTrue (is_open result) }
         ensures session { session_at result ≡ Some session }
         ensures sent { sent_at result ≡ [] }
@@ -56,7 +57,7 @@ impl Stage {
         // A session is valid as it is seen.
         let _banks = session.banks();
         Stage::Commanding {
-            script: Script::of(alloc, session, false),
+            script: Script::of(alloc, session, Keeps::Nothing),
             ended: false,
         }
     }
@@ -146,14 +147,14 @@ impl Stage {
     }
 }
 
-/// The script of the session that a reader has read, so far without a command. It tells whether strays are kept. The reader
-/// begins anew.
-fn started(alloc: Global, reader: &mut HeadReader, keeps: bool) -> Script
+/// The script of the session that a reader has read, so far without a command. It tells what is kept. The reader begins anew.
+fn started(alloc: Global, reader: &mut HeadReader, keeps: Keeps) -> Script
     requires { IsSome (session_of reader.old) }
     ensures session { session_of reader.old ≡ Some result.session }
     ensures sent { result.sent.items ≡ [] }
     ensures strays { result.strays ≡ 0 }
     ensures keeps { result.keeps ≡ keeps }
+    ensures journal { result.journal.items ≡ [] }
     ensures heard { result.heard ≡ [] }
 {
     let reader = mem::replace(reader, HeadReader::new(alloc));

@@ -7,9 +7,9 @@ use Rattle.program_calls.proofs.Served.{ran-stopped}
 use Rattle.program_calls.proofs.serial_run.serial.Goals as goal
 
 pub returns-in-Ok : goal.returns-in-Ok
-returns-in-Ok g c = record { ran = c.serve_text.ensures.ran c.args.source.now c.in-Ok.ensures.begun.0 c.in-Ok.ensures.begun.1 }
+returns-in-Ok g c = record { ran = c.serve_text.ensures.ran c.args.source.now c.in-Ok.ensures.journal.0 c.in-Ok.ensures.journal.1 }
 
 pub returns-in-Err : goal.returns-in-Err
 returns-in-Err g c =
     let is : c.from.result ≡ status_of c.in-Err.stop = search rules in
-    record { ran = ran-stopped (IsOutputOf IsSerial) g.S.Source.left g.S.Source.faults g.K.Sink.written g.K.Sink.faults c.args.source.now c.begin.new.source c.args.out.now c.in-Err.stop c.from.result c.in-Err.ensures.begun is }
+    record { ran = ran-stopped (IsOutputOf IsSerial) g.S.Source.left g.S.Source.faults g.K.Sink.written g.K.Sink.faults c.args.source.now c.begin_with_journal.new.source c.args.out.now c.in-Err.stop c.from.result c.in-Err.ensures.begun is }

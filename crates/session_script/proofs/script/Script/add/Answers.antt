@@ -5,8 +5,8 @@ use Rattle.session_script.proofs.script.Script.add.Goals as goal
 
 pub returns-in-End-clause-adds : goal.returns-in-End-clause-adds
 returns-in-End-clause-adds c = subst (λ said. Adds c.args.self.now c.args.self.now (line_seen c.args.line.now) said true) c.in-End.ensures.reads
-    (record { session = refl; sent = sym (append-nil c.args.self.now.sent.items); strays = refl; ended = refl; valid = tt; keeps = refl; heard = λ on. sym (append-nil c.args.self.now.heard) })
+    (record { session = refl; sent = sym (append-nil c.args.self.now.sent.items); strays = refl; ended = refl; valid = tt; keeps = refl; journal = λ on. sym (append-nil c.args.self.now.journal.items); heard = λ on. sym (append-nil c.args.self.now.heard) })
 
 pub returns-in-Passed-clause-adds : goal.returns-in-Passed-clause-adds
 returns-in-Passed-clause-adds c = subst (λ said. Adds c.args.self.now c.args.self.now (line_seen c.args.line.now) said false) c.in-Passed.ensures.reads
-    (record { session = refl; sent = sym (append-nil c.args.self.now.sent.items); strays = refl; ended = refl; valid = tt; keeps = refl; heard = λ on. sym (append-nil c.args.self.now.heard) })
+    (record { session = refl; sent = sym (append-nil c.args.self.now.sent.items); strays = refl; ended = refl; valid = tt; keeps = refl; journal = λ on. sym (append-nil c.args.self.now.journal.items); heard = λ on. sym (append-nil c.args.self.now.heard) })

@@ -13,4 +13,4 @@ returns-in-Commanding-clause-begun c = λ lines former at.
     let new = c.begin_round.new.self in
     let its = c.begin_round.ensures in
     subst (λ (stage : Stage). StandsAt (Commanding new c.in-Commanding.ended) lines (past_behind former stage)) (sym c.in-Commanding.is)
-    (StandsAt-begun old new c.in-Commanding.ended lines former its.session its.sent its.strays its.keeps its.heard (subst (λ (stage : Stage). StandsAt stage lines former) c.in-Commanding.is at))
+    (StandsAt-begun old new c.in-Commanding.ended lines former its.session its.sent its.strays its.keeps its.journal its.heard (subst (λ (stage : Stage). StandsAt stage lines former) c.in-Commanding.is at))

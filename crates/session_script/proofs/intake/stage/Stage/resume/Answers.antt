@@ -9,6 +9,7 @@ use Rattle.session_head.specs.HeadText.{head_text_of}
 use Rattle.session_head.proofs.RoundLemmas.{head_text-ends, head_text-read}
 use Rattle.session_script.specs.Stage.{Hears, Tells, no_past}
 use Rattle.session_script.specs.inside.Script.{is_started}
+use Rattle.session_script.specs.declared.script.Keeps.TheVariants.{Nothing}
 use Rattle.session_script.specs.declared.script.Script.{Script}
 use Rattle.session_script.proofs.Closing.{told-settled}
 use Rattle.session_script.proofs.Hearing.{Hears-start}
@@ -25,15 +26,15 @@ tells h script valid same none no_strays =
     (Tells-start ends.lines ends.last (heads.Drafting ends.drafted ends.draft) (read_head (ends.lines ++ ends.last ∷ [])) script.session script.sent.items script.strays
     (sym ends.before) refl refl read none no_strays)
 
-hears : (h : Header) (script : Script) → IsSession h → script.keeps ≡ false → script.heard ≡ [] → Hears (lines_of (head_text_of h)) (no_past false) script
-hears h script valid kept silent =
+hears : (h : Header) (script : Script) → IsSession h → script.keeps ≡ Nothing → script.sent.items ≡ [] → script.journal.items ≡ [] → script.heard ≡ [] → Hears (lines_of (head_text_of h)) (no_past Nothing) script
+hears h script valid kept unsent unwritten silent =
     let ends = head_text-ends h valid in
-    subst (λ (lines : List Line). Hears lines (no_past false) script) (sym ends.all_are) (Hears-start ends.lines ends.last (no_past false) script false (ap is_started ends.before) refl kept silent)
+    subst (λ (lines : List Line). Hears lines (no_past Nothing) script) (sym ends.all_are) (Hears-start ends.lines ends.last (no_past Nothing) script Nothing (ap is_started ends.before) refl kept unsent unwritten silent)
 
 pub returns-clause-stands : goal.returns-clause-stands
 returns-clause-stands c = (
   tells c.args.session c.of.result c.banks-banks.ensures.valid c.of.ensures.session c.of.ensures.sent c.of.ensures.strays,
-  hears c.args.session c.of.result c.banks-banks.ensures.valid c.of.ensures.keeps c.of.ensures.heard,
+  hears c.args.session c.of.result c.banks-banks.ensures.valid c.of.ensures.keeps c.of.ensures.sent c.of.ensures.journal c.of.ensures.heard,
 )
 
 pub returns-clause-front : goal.returns-clause-front

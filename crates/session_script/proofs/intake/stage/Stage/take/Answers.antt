@@ -28,7 +28,7 @@ returns-in-Ok-Start-clause-taken c = λ lines former at.
       Tells-start lines (line_seen c.args.line.now) c.in-Heading.reader c.line_in.new.self started.session (former.sent ++ started.sent.items) started.strays
           before readable (c.in-Ok-Start.ensures.read ∙ c.line_in.ensures.whole lines before)
           c.started-script.ensures.session none c.started-script.ensures.strays,
-      Hears-start lines (line_seen c.args.line.now) former started c.in-Heading.keeps (ap is_started (sym before) ∙ goes_on-not_started c.in-Heading.reader readable) heading.1 c.started-script.ensures.keeps c.started-script.ensures.heard,
+      Hears-start lines (line_seen c.args.line.now) former started c.in-Heading.keeps (ap is_started (sym before) ∙ goes_on-not_started c.in-Heading.reader readable) heading.1 c.started-script.ensures.keeps c.started-script.ensures.sent c.started-script.ensures.journal c.started-script.ensures.heard,
     )
 
 pub returns-in_ok-ended-in-Commanding-clause-taken : goal.returns-in_ok-ended-in-Commanding-clause-taken
