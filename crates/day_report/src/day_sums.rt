@@ -8,6 +8,7 @@ ghost use Rattle.day_report.specs.inside.Parts.{HasFills};
 ghost use Rattle.day_report.specs.inside.Trades.{Adds};
 ghost use Rattle.day_report.specs.inside.Day.{CanAddAll};
 
+use crate::amounts::amounts_of;
 use crate::flows::Flows;
 use crate::rows::{NetList, Report, UseList, Volume, VolumeList};
 use crate::uses::uses;
@@ -59,8 +60,9 @@ impl DaySums {
         ensures adds { Adds (λ before. HasFills session.now before self.old) (λ all. HasFills session.now all self.new) fills.now }
     {
         for fill in fills {
-            add_volume(session, fill, &mut self.volumes);
-            self.flows.add(session, fill);
+            let amounts = amounts_of(session, fill);
+            add_volume(session, fill, &amounts, &mut self.volumes);
+            self.flows.add(session, fill, &amounts);
         }
     }
 

@@ -1,9 +1,10 @@
 ghost use Rattle.std.specs.Prelude.{◌≡◌, ◌≤◌, ◌<◌, [], ◌∷◌, ◌++◌, IfOk, OnOk};
+ghost use Rattle.day_report.specs.Report.{base_of, quote_of};
 ghost use Rattle.day_report.specs.inside.Trades.{CanAdd, Adds};
 ghost use Rattle.day_report.specs.Sums.{AreFlows};
 ghost use Rattle.day_report.specs.inside.Lists.{HaveNets, nets_at, nets_in};
 
-use crate::amounts::{amounts_of, buyer, seller};
+use crate::amounts::{Amounts, buyer, seller};
 use crate::currencies::Currencies;
 use crate::rows::Net;
 use crate::table::Table;
@@ -34,12 +35,13 @@ impl Flows {
         })
     }
 
-    /// Adds a fill: the buyer gets the base amount and gives the quote amount, the seller the reverse.
-    pub(crate) fn add(&mut self, session: &Session, fill: &Fill)
-        requires { CanAdd session.now (λ fills. AreFlows session.now fills self.old) fill.now }
+    /// Adds a fill, which moves these amounts: the buyer gets the base amount and gives the quote amount, the seller the reverse.
+    pub(crate) fn add(&mut self, session: &Session, fill: &Fill, amounts: &Amounts)
+        requires can { CanAdd session.now (λ fills. AreFlows session.now fills self.old) fill.now }
+        requires base { amounts.now.base ≡ base_of session.now fill.now }
+        requires quote { amounts.now.quote ≡ quote_of session.now fill.now }
         ensures adds { Adds (λ fills. AreFlows session.now fills self.old) (λ fills. AreFlows session.now fills self.new) (fill.now ∷ []) }
     {
-        let amounts = amounts_of(session, fill);
         let columns = self.currencies.of_pair(fill.pair);
         let (buyer, seller) = (buyer(fill).index(), seller(fill).index());
         self.received.add(buyer, columns.base, amounts.base);

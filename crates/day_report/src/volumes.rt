@@ -1,9 +1,10 @@
 ghost use Rattle.std.specs.Prelude.{◌≡◌, [], ◌∷◌, ◌<◌, IfOk};
+ghost use Rattle.day_report.specs.Report.{base_of, quote_of};
 ghost use Rattle.day_report.specs.inside.Trades.{CanAdd, Adds};
 ghost use Rattle.day_report.specs.inside.Parts.{no_volume};
 ghost use Rattle.day_report.specs.Sums.{AreVolumes};
 
-use crate::amounts::amounts_of;
+use crate::amounts::Amounts;
 use crate::rows::Volume;
 use fx_amounts::{Memory, PairId};
 use fx_rules::{Fill, Session};
@@ -32,12 +33,18 @@ fn no_volume(pair: PairId) -> Volume
     }
 }
 
-/// Adds a fill to the volume of its pair.
-pub(crate) fn add_volume(session: &Session, fill: &Fill, volumes: &mut Vec<Volume>)
-    requires { CanAdd session.now (λ fills. AreVolumes session.now fills volumes.old.items) fill.now }
+/// Adds a fill, which moves these amounts, to the volume of its pair.
+pub(crate) fn add_volume(
+    session: &Session,
+    fill: &Fill,
+    amounts: &Amounts,
+    volumes: &mut Vec<Volume>,
+)
+    requires can { CanAdd session.now (λ fills. AreVolumes session.now fills volumes.old.items) fill.now }
+    requires base { amounts.now.base ≡ base_of session.now fill.now }
+    requires quote { amounts.now.quote ≡ quote_of session.now fill.now }
     ensures adds { Adds (λ fills. AreVolumes session.now fills volumes.old.items) (λ fills. AreVolumes session.now fills volumes.new.items) (fill.now ∷ []) }
 {
-    let amounts = amounts_of(session, fill);
     let at = fill.pair.index();
     let before = volumes[at];
     volumes[at] = Volume {

@@ -76,14 +76,24 @@ impl<M: Market, O: Observer> Run<M, O> {
         ensures served { OnOk result (ServesOn M.stands O.told session.now self.old self.new (sent ∷ [])) }
         ensures memory { OnErr result (IsAsBefore O.told self.old self.new ⊎ O.may_break) }
     {
+        self.serve_one(session, &sent)
+    }
+
+    /// The same.
+    #[inline(always)]
+    fn serve_one(&mut self, session: &Session, sent: &Sent) -> Result<(), Memory>
+        requires may_serve { MayServe M.stands O.told session.now self.old (sent.now ∷ []) }
+        ensures served { OnOk result (ServesOn M.stands O.told session.now self.old self.new (sent.now ∷ [])) }
+        ensures memory { OnErr result (IsAsBefore O.told self.old self.new ⊎ O.may_break) }
+    {
         self.observer.make_ready()?;
-        let Sent { bank, command } = sent;
+        let bank = sent.bank;
         let number = self.market.count(bank) + 1;
-        let outcome = self.market.apply(bank, &command)?;
+        let outcome = self.market.apply(bank, &sent.command)?;
         let entry = Entry {
             bank,
             number,
-            command,
+            command: sent.command,
             outcome,
         };
         self.observer.hear(session, entry)
@@ -97,7 +107,7 @@ impl<M: Market, O: Observer> Run<M, O> {
         ensures begun { OnErr result (ServesSome M.stands O.told session.now self.old self.new sent.now ⊎ O.may_break) }
     {
         for next in sent {
-            self.serve(session, *next)?;
+            self.serve_one(session, next)?;
         }
         Ok(())
     }

@@ -88,6 +88,30 @@ impl PairHost {
         ensures goes_on { IfOk result (GoesOn (stands self.old) (stands self.new) bank command.now) }
         ensures memory { OnErr result (self.new ≡ self.old) }
     {
+        // An order and a cancel have ways of their own, each with a copy of the command, on which nothing asks again what is carried out.
+        match *command {
+            Command::Order { pair, .. } => {
+                let order = *command;
+                self.serve_in(pair, bank, &order)
+            }
+            Command::Cancel { pair, .. } => {
+                let cancel = *command;
+                self.serve_in(pair, bank, &cancel)
+            }
+            _ => {
+                let other = *command;
+                self.serve_other(bank, &other)
+            }
+        }
+    }
+
+    /// A command by what it is about.
+    #[inline(always)]
+    fn serve_other(&mut self, bank: BankId, command: &Command) -> Result<Outcome, Memory>
+        requires may_send { InSome (stands self.old) (MaySend bank command.now) }
+        ensures goes_on { IfOk result (GoesOn (stands self.old) (stands self.new) bank command.now) }
+        ensures memory { OnErr result (self.new ≡ self.old) }
+    {
         match command.pair() {
             Some(pair) => self.serve_in(pair, bank, command),
             None if is_change(command) => self.change(bank, command),
@@ -96,6 +120,7 @@ impl PairHost {
     }
 
     /// A command in one pair.
+    #[inline(always)]
     fn serve_in(&mut self, pair: PairId, bank: BankId, command: &Command) -> Result<Outcome, Memory>
         requires may_send { InSome (stands self.old) (MaySend bank command.now) }
         requires pair { pair_of command.now ≡ Some pair }

@@ -30,47 +30,6 @@ pub(crate) fn serve_in_pair(
     ensures orders { OnErr result (book.new.orders ≡ book.old.orders) }
     ensures table { OnErr result (table.new ≡ table.old) }
 {
-    // An order has a way of its own, on which nothing asks again what is carried out.
-    match *command {
-        Command::Order {
-            side,
-            pair,
-            price,
-            lots,
-            life,
-        } => {
-            let order = Command::Order {
-                side,
-                pair,
-                price,
-                lots,
-                life,
-            };
-            serve(alloc, book, table, bank, &order)
-        }
-        _ => serve(alloc, book, table, bank, command),
-    }
-}
-
-/// The same.
-#[inline(always)]
-fn serve(
-    alloc: Global,
-    book: &mut PairBook,
-    table: &mut CreditTable,
-    bank: BankId,
-    command: &Command,
-) -> Result<Outcome, Memory>
-    requires may_serve { MayServe book.old table.old bank command.now }
-    requires banks { book.old.banks ≡ bank_count table.old.session }
-    requires pair { pair_of command.now ≡ Some book.old.pair }
-    ensures serves { IfOk result (ServesEach book.old book.new table.old table.new bank command.now) }
-    ensures pair { book.new.pair ≡ book.old.pair }
-    ensures banks { book.new.banks ≡ book.old.banks }
-    ensures session { table.new.session ≡ table.old.session }
-    ensures orders { OnErr result (book.new.orders ≡ book.old.orders) }
-    ensures table { OnErr result (table.new ≡ table.old) }
-{
     let sender = table.sender(bank);
     let weight = table.weight(book.pair());
     reserve(book, sender.bank, command)?;

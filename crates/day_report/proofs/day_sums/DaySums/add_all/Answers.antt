@@ -3,6 +3,7 @@ use Rattle.std.proofs.lemmas.List.{take_all}
 use Rattle.fx_rules.specs.declared.orders.Fill.{Fill}
 use Rattle.day_report.specs.Sums.{AreVolumes, AreFlows}
 use Rattle.day_report.specs.inside.Parts.{HasFills}
+use Rattle.day_report.proofs.Bounds.{last-trade}
 use Rattle.day_report.proofs.Following.{trades-at, one-more}
 use Rattle.day_report.proofs.day_sums.DaySums.add_all.Goals as goal
 
@@ -12,19 +13,32 @@ loop-fill-init c = record {
   adds = λ before has. subst (λ (fs : List Fill). HasFills c.args.session.now fs c.args.self.now) (sym (append-nil before)) has;
 }
 
+pub amounts_of-amounts-requires : goal.amounts_of-amounts-requires
+amounts_of-amounts-requires c =
+    let trades = trades-at c.args.session.now c.requires.0 c.args.fills.now c.loop-fill.fill-index c.fill-item.result c.requires.2 c.loop-fill-test.true c.fill-item.is in
+    (last-trade c.args.session.now _ c.fill-item.result trades.each).pair
+
 pub add_volume-requires : goal.add_volume-requires
-add_volume-requires c = (
-  c.requires.0 ++ take c.loop-fill.fill-index c.args.fills.now,
-  (c.loop-fill.invariant.adds c.requires.0 c.requires.1).volumes_are,
-  trades-at c.args.session.now c.requires.0 c.args.fills.now c.loop-fill.fill-index c.fill-item.result c.requires.2 c.loop-fill-test.true c.fill-item.is,
-)
+add_volume-requires c = record {
+  can = (
+    c.requires.0 ++ take c.loop-fill.fill-index c.args.fills.now,
+    (c.loop-fill.invariant.adds c.requires.0 c.requires.1).volumes_are,
+    trades-at c.args.session.now c.requires.0 c.args.fills.now c.loop-fill.fill-index c.fill-item.result c.requires.2 c.loop-fill-test.true c.fill-item.is,
+  );
+  base = c.amounts_of-amounts.ensures.base;
+  quote = c.amounts_of-amounts.ensures.quote;
+}
 
 pub add-requires : goal.add-requires
-add-requires c = (
-  c.requires.0 ++ take c.loop-fill.fill-index c.args.fills.now,
-  (c.loop-fill.invariant.adds c.requires.0 c.requires.1).flows_are,
-  trades-at c.args.session.now c.requires.0 c.args.fills.now c.loop-fill.fill-index c.fill-item.result c.requires.2 c.loop-fill-test.true c.fill-item.is,
-)
+add-requires c = record {
+  can = (
+    c.requires.0 ++ take c.loop-fill.fill-index c.args.fills.now,
+    (c.loop-fill.invariant.adds c.requires.0 c.requires.1).flows_are,
+    trades-at c.args.session.now c.requires.0 c.args.fills.now c.loop-fill.fill-index c.fill-item.result c.requires.2 c.loop-fill-test.true c.fill-item.is,
+  );
+  base = c.amounts_of-amounts.ensures.base;
+  quote = c.amounts_of-amounts.ensures.quote;
+}
 
 pub loop-fill-preserved : goal.loop-fill-preserved
 loop-fill-preserved c = record {

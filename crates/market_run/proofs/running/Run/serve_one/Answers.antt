@@ -4,24 +4,24 @@ use Rattle.std.specs.Prelude.{OnOk}
 use Rattle.market_run.specs.Ran.{Ran}
 use Rattle.market_run.specs.Running.{IsAsBefore, MayServe, ServesOn}
 use Rattle.market_run.proofs.Serving.{may-send, number-fits, can-tell, served-one, on-err, on-err-or}
-use Rattle.market_run.proofs.running.Run.serve.Goals as goal
+use Rattle.market_run.proofs.running.Run.serve_one.Goals as goal
 
 pub overflow_add-number : goal.overflow_add-number
 overflow_add-number g c =
-    let may = subst (λ (r : Ran _ _). MayServe g.M.Market.stands g.O.Observer.told c.args.session.now r (c.args.sent ∷ [])) (sym c.self.view_is) c.requires.may_serve in
-    omega (arith, number-fits g.M.Market.stands g.O.Observer.told c.args.session.now _ c.args.sent c.count-number.result may c.count-number.ensures.count)
+    let may = subst (λ (r : Ran _ _). MayServe g.M.Market.stands g.O.Observer.told c.args.session.now r (c.args.sent.now ∷ [])) (sym c.self.view_is) c.requires.may_serve in
+    omega (arith, number-fits g.M.Market.stands g.O.Observer.told c.args.session.now _ c.args.sent.now c.count-number.result may c.count-number.ensures.count)
 
 pub apply-requires : goal.apply-requires
 apply-requires g c =
-    let may = subst (λ (r : Ran _ _). MayServe g.M.Market.stands g.O.Observer.told c.args.session.now r (c.args.sent ∷ [])) (sym c.self.view_is) c.requires.may_serve in
-    record { may_send = may-send g.M.Market.stands g.O.Observer.told c.args.session.now _ c.args.sent may }
+    let may = subst (λ (r : Ran _ _). MayServe g.M.Market.stands g.O.Observer.told c.args.session.now r (c.args.sent.now ∷ [])) (sym c.self.view_is) c.requires.may_serve in
+    record { may_send = may-send g.M.Market.stands g.O.Observer.told c.args.session.now _ c.args.sent.now may }
 
 pub hear-requires : goal.hear-requires
 hear-requires g c =
-    let may = subst (λ (r : Ran _ _). MayServe g.M.Market.stands g.O.Observer.told c.args.session.now r (c.args.sent ∷ [])) (sym c.self.view_is) c.requires.may_serve in
+    let may = subst (λ (r : Ran _ _). MayServe g.M.Market.stands g.O.Observer.told c.args.session.now r (c.args.sent.now ∷ [])) (sym c.self.view_is) c.requires.may_serve in
     record {
       ready = c.in_ok-make_ready.ensures.ready;
-      next = can-tell g.M.Market.stands g.O.Observer.told c.args.session.now (record { market = c.self.inside.market; observer = c.self.inside.observer }) c.make_ready.new.self c.apply.new.self c.args.sent c.count-number.result
+      next = can-tell g.M.Market.stands g.O.Observer.told c.args.session.now (record { market = c.self.inside.market; observer = c.self.inside.observer }) c.make_ready.new.self c.apply.new.self c.args.sent.now c.count-number.result
           c.in_ok-outcome.outcome may c.count-number.ensures.count c.in_ok-outcome.ensures.goes_on c.make_ready.ensures.same;
     }
 
@@ -32,9 +32,9 @@ returns-in_err-outcome-clause-memory g c =
 
 pub returns : goal.returns
 returns g c = record {
-  served = subst (λ (r : Ran _ _). OnOk c.hear.result (ServesOn g.M.Market.stands g.O.Observer.told c.args.session.now r (record { market = c.apply.new.self; observer = c.hear.new.self }) (c.args.sent ∷ []))) c.self.view_is
+  served = subst (λ (r : Ran _ _). OnOk c.hear.result (ServesOn g.M.Market.stands g.O.Observer.told c.args.session.now r (record { market = c.apply.new.self; observer = c.hear.new.self }) (c.args.sent.now ∷ []))) c.self.view_is
       (served-one g.M.Market.stands g.O.Observer.told c.args.session.now (record { market = c.self.inside.market; observer = c.self.inside.observer })
-      (record { market = c.apply.new.self; observer = c.hear.new.self }) c.make_ready.new.self c.args.sent c.count-number.result c.in_ok-outcome.outcome c.hear.result c.count-number.ensures.count
+      (record { market = c.apply.new.self; observer = c.hear.new.self }) c.make_ready.new.self c.args.sent.now c.count-number.result c.in_ok-outcome.outcome c.hear.result c.count-number.ensures.count
       c.in_ok-outcome.ensures.goes_on c.make_ready.ensures.same c.hear.ensures.told);
   memory = on-err-or _ _ c.hear.result c.hear.ensures.memory;
 }

@@ -10,7 +10,7 @@ use Rattle.fx_rules.specs.declared.sender.Sender.{Sender}
 use Rattle.pair_host.specs.Answers.{AnswersEach}
 use Rattle.pair_host.specs.Carries.{IsStepOf}
 use Rattle.pair_host.proofs.OnePair.{step-of, made-entry, next-made}
-use Rattle.pair_host.proofs.one_pair.serve.Goals as goal
+use Rattle.pair_host.proofs.one_pair.serve_in_pair.Goals as goal
 
 pub returns-clause-serves : goal.returns-clause-serves
 returns-clause-serves c h S of may =
