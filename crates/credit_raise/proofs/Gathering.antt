@@ -13,16 +13,14 @@ use Rattle.fx_amounts.specs.declared.side.Side.{Side}
 use Rattle.fx_amounts.specs.declared.side.Side.TheVariants.{Buy, Sell}
 use Rattle.fx_rules.specs.declared.orders.Resting.{Resting}
 use Rattle.fx_rules.specs.Lists.{Among, Each, EachPair}
-use Rattle.fx_rules.specs.Sound.{ArrivesBefore}
 use Rattle.fx_rules.specs.Sweep.{is_opposite}
 use Rattle.fx_rules.proofs.ListLemmas.{Each-among, Each-of, Each-weaker, Among-filter, filter_filter, filter_cons_true, filter_cons_false}
-use Rattle.global_book.specs.Book.{Book, IsBook, is_across, is_of}
+use Rattle.global_book.specs.Book.{is_across, is_of}
 use Rattle.credit_raise.specs.declared.prices.Tops.{Tops}
 use Rattle.credit_raise.specs.inside.Prices.{Gathers, IsOf, IsTop, AreTops, is_crossed, tops_meet, crosses_top, crosses_tops, top_of, is_live, is_live_of, is_live_on, live_turns}
 use Rattle.credit_raise.specs.Two.{is_of_two}
 use Rattle.credit_raise.specs.inside.Two.{turns}
 use Rattle.credit_raise.proofs.Apart.{none_in, two-owner}
-use Rattle.credit_raise.proofs.Facing.{live-turns}
 
 -- ---- what is gathered
 
@@ -189,7 +187,7 @@ rises (o ∷ os) rising once =
           (λ arrival. omega (arith, once arrival, sum_by-cons (arrived arrival) o os)),
     )
 
-among_permutation : (xs ys : List Resting) (o : Resting) → IsPermutation xs ys → Among o ys → Among o xs
+pub among_permutation : (xs ys : List Resting) (o : Resting) → IsPermutation xs ys → Among o ys → Among o xs
 among_permutation xs ys o same there =
     let In : Resting → Type 0 = λ q. Among q xs in
     Each-among In ys o (recursion_from_All In ys (All-permutation In xs ys same (All-from_recursion In xs (Each-of In xs (λ q here. here))))) there
@@ -229,21 +227,17 @@ either_bank i j tops_i tops_j differ o =
           (ap (λ (ts : Tops). crosses_tops ts o) (cond-false (eqb o.bank i) tops_j tops_i away))
     ]
 
--- what is gathered of two banks is, in order, the live turns
-pub gathered-turns : (i j : ℕ) (tops_i tops_j : Tops) (book : Book) (none one gathered sorted : List Resting) → i ≢ j → IsBook book → none ≡ []
-    → Gathers (is_live_of i tops_j) book.orders none one → Gathers (is_live_of j tops_i) book.orders one gathered
-    → IsPermutation gathered sorted → IsNonDecreasingBy (λ (o : Resting). o.arrival) sorted → sorted ≡ live_turns i j tops_i tops_j book.orders
-gathered-turns i j tops_i tops_j book none one gathered sorted differ valid empty first_bank second_bank same falls_not =
+-- what is gathered of two banks is the live turns, in any order
+pub gathered-live : (i j : ℕ) (tops_i tops_j : Tops) (orders none one gathered : List Resting) → i ≢ j → none ≡ []
+    → Gathers (is_live_of i tops_j) orders none one → Gathers (is_live_of j tops_i) orders one gathered
+    → IsPermutation (live_turns i j tops_i tops_j orders) gathered
+gathered-live i j tops_i tops_j orders none one gathered differ empty first_bank second_bank =
     let live : Resting → Bool = λ o. is_live i tops_i tops_j o && is_of_two i j o in
-    let turns_are : live_turns i j tops_i tops_j book.orders ≡ filter live book.orders = filter_filter (is_live i tops_i tops_j) (is_of_two i j) book.orders in
-    let all : Gathers live book.orders none gathered = gathers-both (is_live_of i tops_j) (is_live_of j tops_i) live book.orders none one gathered
+    let turns_are : live_turns i j tops_i tops_j orders ≡ filter live orders = filter_filter (is_live i tops_i tops_j) (is_of_two i j) orders in
+    let all : Gathers live orders none gathered = gathers-both (is_live_of i tops_j) (is_live_of j tops_i) live orders none one gathered
     (either_bank i j tops_i tops_j differ) first_bank second_bank in
     let found : gathered ≡ all.gathered = all.behind ∙ ap (λ (os : List Resting). os ++ all.gathered) empty in
-    sorted-back (live_turns i j tops_i tops_j book.orders) sorted
-    (pairs_weaker ArrivesBefore Earlier (λ a b is. is.arrival) (live_turns i j tops_i tops_j book.orders) (live-turns book i j tops_i tops_j valid).rising)
-    (IsPermutation-trans (live_turns i j tops_i tops_j book.orders) gathered sorted
-    (subst (λ (os : List Resting). IsPermutation os gathered) (sym turns_are) (subst (IsPermutation (filter live book.orders)) (sym found) all.all)) same)
-    falls_not
+    subst (λ (os : List Resting). IsPermutation os gathered) (sym turns_are) (subst (IsPermutation (filter live orders)) (sym found) all.all)
 
 -- ---- best prices that do not cross
 

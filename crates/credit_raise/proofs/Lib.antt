@@ -22,3 +22,6 @@ pub mod Copying
 pub mod Opening
 pub mod Listed
 pub mod Told
+pub mod Alike
+pub mod Early
+pub mod Parting

@@ -1,4 +1,4 @@
-ghost use Rattle.std.specs.Prelude.{ℕ, ◌≡◌, ◌≢◌, ◌≤◌, ◌<◌, ◌+◌, ◌*◌, ◌/◌, ◌-◌, ◌^◌, ◌++◌, ◌∷◌, [], List, false, length, IfOk, OnOk};
+ghost use Rattle.std.specs.Prelude.{ℕ, true, ◌≡◌, ◌≢◌, ◌≤◌, ◌<◌, ◌+◌, ◌*◌, ◌/◌, ◌-◌, ◌^◌, ◌++◌, ◌∷◌, [], List, false, length, IfOk, OnOk};
 ghost use Rattle.fx_amounts.specs.Quantity.{IsWeight};
 ghost use Rattle.fx_rules.specs.declared.orders.Fill.{Fill};
 ghost use Rattle.fx_rules.specs.Lists.{Each};
@@ -28,33 +28,31 @@ pub(crate) struct Replay {
 }
 
 impl Replay {
-    /// Before the first of so many turns, for the first so many banks, with a line of so many credit units. `Memory` when out of memory.
+    /// Before the first turn, where some orders wait, with a line of so many credit units.
     pub(crate) fn new(
         alloc: Global,
         pair: PairId,
-        banks: usize,
-        turns: usize,
+        waiting: Waiting,
         weight: u32,
         line: u64,
-    ) -> Result<Replay, Memory>
-        ensures pair { IfOk result (λ replay. replay.pair ≡ pair) }
-        ensures banks { IfOk result (λ replay. replay.waiting.banks ≡ banks) }
-        ensures empty { IfOk result (λ replay. replay.waiting.orders ≡ []) }
-        ensures weight { IfOk result (λ replay. replay.weight ≡ weight) }
-        ensures line { IfOk result (λ replay. replay.line ≡ line) }
-        ensures fills { IfOk result (λ replay. replay.fills.items ≡ []) }
+    ) -> Replay
+        ensures pair { result.pair ≡ pair }
+        ensures waiting { result.waiting ≡ waiting }
+        ensures weight { result.weight ≡ weight }
+        ensures line { result.line ≡ line }
+        ensures fills { result.fills.items ≡ [] }
     {
-        Ok(Replay {
+        Replay {
             pair,
-            waiting: Waiting::new(alloc, pair, banks, turns)?,
+            waiting,
             weight,
             line,
             fills: Vec::new(alloc),
-        })
+        }
     }
 
     /// The turn of an order that arrived behind all others, against the orders of the other bank. Where it has lots left
-    /// it waits behind them. One step at most, and one for each fill.
+    /// it waits behind them. One step at most, and one for each fill; none where they stand in a list.
     pub(crate) fn turn<L: Ledger>(
         &mut self,
         order: &Resting,
@@ -69,6 +67,7 @@ impl Replay {
         requires absent { Each (λ waiting. is_order order.now.bank order.now.number waiting ≡ false) self.old.waiting.orders }
         ensures weight { self.new.weight ≡ self.old.weight }
         ensures banks { self.new.waiting.banks ≡ self.old.waiting.banks }
+        ensures listed { self.new.waiting.listed ≡ self.old.waiting.listed }
         ensures pair { self.new.pair ≡ self.old.pair }
         ensures turn { OnOk result ((own : List Fill) × (left : ℕ)
             × SweptAmong self.old.weight other self.old.line self.old.waiting.orders (taker_of_resting self.old.pair order.now) own left
@@ -76,6 +75,7 @@ impl Replay {
             × (self.new.line ≡ paid self.old.weight self.old.line own)
             × (self.new.waiting.orders ≡ joined order.now left (lessened_all self.old.waiting.orders own))) }
         ensures steps { OnOk result (steps.new + length self.old.fills.items ≤ steps.old + 1 + length self.new.fills.items) }
+        ensures unlooked { self.old.waiting.listed ≡ true → steps.new ≡ steps.old }
     {
         let left = self.sweep(order, other, steps)?;
         if let Some(left) = Lots::new(left) {
@@ -85,7 +85,7 @@ impl Replay {
     }
 
     /// The sweep of an order among those that wait. It answers what the order has left, 0 to 10^6 lots. One step
-    /// at most, and one for each fill.
+    /// at most, and one for each fill; none along a list.
     fn sweep<L: Ledger>(
         &mut self,
         order: &Resting,
@@ -97,6 +97,7 @@ impl Replay {
         requires last { Each (λ waiting. waiting.arrival < order.now.arrival) self.old.waiting.orders }
         ensures weight { self.new.weight ≡ self.old.weight }
         ensures banks { self.new.waiting.banks ≡ self.old.waiting.banks }
+        ensures listed { self.new.waiting.listed ≡ self.old.waiting.listed }
         ensures pair { self.new.pair ≡ self.old.pair }
         ensures most { IfOk result (λ left. left ≤ 10 ^ 6) }
         ensures swept { IfOk result (λ left. (own : List Fill)
@@ -105,6 +106,7 @@ impl Replay {
             × (self.new.line ≡ paid self.old.weight self.old.line own)
             × (self.new.waiting.orders ≡ lessened_all self.old.waiting.orders own)) }
         ensures steps { IfOk result (λ left. steps.new + length self.old.fills.items ≤ steps.old + 1 + length self.new.fills.items) }
+        ensures unlooked { self.old.waiting.listed ≡ true → steps.new ≡ steps.old }
     {
         let mut left = order.left.count();
         while left > 0 {
@@ -129,7 +131,7 @@ impl Replay {
         }
     }
 
-    /// The best of the waiting orders that are open to an order; `None` where there is none. One step at most.
+    /// The best of the waiting orders that are open to an order; `None` where there is none. One step at most, and none along a list.
     fn best_open<L: Ledger>(
         &self,
         order: &Resting,
@@ -141,6 +143,7 @@ impl Replay {
         requires last { Each (λ waiting. waiting.arrival < order.now.arrival) self.now.waiting.orders }
         ensures best { IsBestOf order.now.side (open_in (only other (self.now.line / self.now.weight)) (taker_of_resting self.now.pair order.now) self.now.waiting.orders) result }
         ensures steps { steps.new ≤ steps.old + 1 }
+        ensures unlooked { self.now.waiting.listed ≡ true → steps.new ≡ steps.old }
     {
         if self.line < u64::from(self.weight) {
             return None;
@@ -159,6 +162,7 @@ impl Replay {
         requires line { lots * self.old.weight ≤ self.old.line }
         ensures weight { self.new.weight ≡ self.old.weight }
         ensures banks { self.new.waiting.banks ≡ self.old.waiting.banks }
+        ensures listed { self.new.waiting.listed ≡ self.old.waiting.listed }
         ensures pair { self.new.pair ≡ self.old.pair }
         ensures fills { OnOk result (self.new.fills.items ≡ self.old.fills.items ++ fill_with taker.now maker.now lots ∷ []) }
         ensures line { OnOk result (self.new.line ≡ self.old.line - lots * self.old.weight) }
@@ -166,7 +170,6 @@ impl Replay {
     {
         self.fills.push(taker.fill_with(maker, lots))?;
         self.line -= lots.cost(self.weight).get();
-        self.waiting.lessen(maker.bank, maker.number, lots);
-        Ok(())
+        self.waiting.lessen(maker.bank, maker.number, lots)
     }
 }

@@ -1,5 +1,5 @@
 //! Orders that had their turns, with what they have left.
-ghost use Rattle.std.specs.Prelude.{ℕ, ◌≡◌, ◌<◌, ◌+◌, ◌≤◌, ◌++◌, ◌∷◌, [], None, false, length, slice_index_or, IfOk, IfNone, IfSome, OnOk};
+ghost use Rattle.std.specs.Prelude.{ℕ, ◌≡◌, ◌<◌, ◌+◌, ◌≤◌, ◌++◌, ◌∷◌, [], None, true, false, length, slice_index_or, IfOk, IfNone, IfSome, OnOk};
 ghost use Rattle.fx_amounts.specs.Side.{opposite};
 ghost use Rattle.fx_rules.specs.declared.orders.Resting.{Resting};
 ghost use Rattle.fx_rules.specs.Lists.{Each};
@@ -9,7 +9,7 @@ ghost use Rattle.global_book.specs.Book.{AreInTime};
 ghost use Rattle.credit_raise.specs.inside.Playing.{IsBestOf, lessened};
 ghost use Rattle.credit_raise.specs.inside.Waiting.{StandsAt, better_of};
 
-use fx_amounts::{BankId, Lots, Memory, PairId, Side};
+use fx_amounts::{BankId, Lots, Memory, PairId, Side, room_for};
 use fx_rules::Resting;
 use global_book::PairBook;
 use price_levels::Steps;
@@ -17,10 +17,7 @@ use std::alloc::Global;
 use std::marker::Model;
 use std::sync::ledger::Ledger;
 
-/// So many turns at most are few.
-const FEW: usize = 32;
-
-/// Orders of one pair that had their turns, with what they have left, in the order of their turns.
+/// Orders of one pair that had their turns, with what they have left.
 #[derive(Drop)]
 pub(crate) struct Waiting {
     held: Held,
@@ -29,10 +26,14 @@ pub(crate) struct Waiting {
 /// Where the orders stand.
 #[derive(Drop)]
 enum Held {
-    /// Few have turns: in a list, along which each search goes.
-    Few { banks: usize, orders: Vec<Resting> },
-    /// More have turns: in a book.
-    Many(Box<PairBook>),
+    /// In a list, along which each search goes. It can be changed so often.
+    Listed {
+        banks: usize,
+        orders: Vec<Resting>,
+        changes: u32,
+    },
+    /// In a book.
+    Booked(Box<PairBook>),
 }
 
 impl Model for Waiting {
@@ -44,28 +45,35 @@ impl Model for Waiting {
 }
 
 impl Waiting {
-    /// None yet, where so many orders of a pair have turns, each of the first so many banks. `Memory` when out of memory.
-    pub(crate) fn new(
-        alloc: Global,
-        pair: PairId,
-        banks: usize,
-        turns: usize,
-    ) -> Result<Waiting, Memory>
+    /// None yet, of a pair and of the first so many banks. They will stand in a book. `Memory` when out of memory.
+    #[inline(never)]
+    pub(crate) fn in_book(alloc: Global, pair: PairId, banks: usize) -> Result<Waiting, Memory>
         ensures banks { IfOk result (λ waiting. waiting.banks ≡ banks) }
         ensures empty { IfOk result (λ waiting. waiting.orders ≡ []) }
     {
-        let held = if turns > FEW {
-            Held::Many(book_of(alloc, pair, banks)?)
-        } else {
-            let mut orders = Vec::new(alloc);
-            orders.reserve(turns)?;
-            Held::Few { banks, orders }
-        };
-        Ok(Waiting { held })
+        let book = PairBook::new(alloc, pair, banks)?;
+        Ok(Waiting {
+            held: Held::Booked(Box::new(alloc, book)?),
+        })
+    }
+
+    /// These orders of the first so many banks, in a list that can be changed so often.
+    pub(crate) fn in_list(banks: usize, orders: Vec<Resting>, changes: u32) -> Waiting
+        ensures banks { result.banks ≡ banks }
+        ensures orders { result.orders ≡ orders.items }
+        ensures listed { result.listed ≡ true }
+    {
+        Waiting {
+            held: Held::Listed {
+                banks,
+                orders,
+                changes,
+            },
+        }
     }
 
     /// The best of a bank's orders of a side that arrived before `before`; `None` where there is none. Where all of the side did, one step
-    /// at most.
+    /// at most, and none along a list.
     pub(crate) fn best_of<L: Ledger>(
         &self,
         bank: BankId,
@@ -75,37 +83,56 @@ impl Waiting {
     ) -> Option<Resting>
         ensures best { IsBestOf (opposite side) (owned_behind side bank before None self.now.orders) result }
         ensures steps { AreInTime side before self.now.orders → steps.new ≤ steps.old + 1 }
+        ensures unlooked { self.now.listed ≡ true → steps.new ≡ steps.old }
     {
         match &self.held {
-            Held::Few { orders, .. } => best_in(orders, bank, side, before),
-            Held::Many(book) => book.best_of(bank, side, before, None, steps),
+            Held::Listed { orders, .. } => best_in(orders, bank, side, before),
+            Held::Booked(book) => book.best_of(bank, side, before, None, steps),
         }
     }
 
-    /// Takes so many lots from the order of this bank and number. With nothing left it waits no more.
+    /// Takes so many lots from the order of this bank and number. With nothing left it waits no more. `Memory` where a list was changed as
+    /// often as it can be.
     #[tactic(auto, using(crate::proofs::Listed::lowered_lessened))]
-    pub(crate) fn lessen(&mut self, bank: BankId, number: u32, lots: Lots)
+    pub(crate) fn lessen(&mut self, bank: BankId, number: u32, lots: Lots) -> Result<(), Memory>
         ensures banks { self.new.banks ≡ self.old.banks }
-        ensures orders { self.new.orders ≡ lessened bank number lots self.old.orders }
+        ensures listed { self.new.listed ≡ self.old.listed }
+        ensures orders { OnOk result (self.new.orders ≡ lessened bank number lots self.old.orders) }
     {
         match &mut self.held {
-            Held::Few { orders, .. } => lessen_in(orders, bank, number, lots),
-            Held::Many(book) => book.take_lots(bank, number, lots),
+            Held::Listed {
+                orders,
+                changes,
+                ..
+            } => {
+                count_down(changes)?;
+                lessen_in(orders, bank, number, lots);
+            }
+            Held::Booked(book) => book.take_lots(bank, number, lots),
         }
+        Ok(())
     }
 
-    /// An order waits behind the others from now on. `Memory` when out of memory.
+    /// An order waits behind the others from now on. `Memory` when out of memory, or where a list was changed as often as it can be.
     pub(crate) fn push(&mut self, order: Resting) -> Result<(), Memory>
         requires bank { order.bank < self.old.banks }
         requires last { Each (λ other. other.arrival < order.arrival) self.old.orders }
         requires number { 1 ≤ order.number }
         requires absent { Each (λ other. is_order order.bank order.number other ≡ false) self.old.orders }
         ensures banks { self.new.banks ≡ self.old.banks }
+        ensures listed { self.new.listed ≡ self.old.listed }
         ensures orders { OnOk result (self.new.orders ≡ self.old.orders ++ order ∷ []) }
     {
         match &mut self.held {
-            Held::Few { orders, .. } => orders.push(order)?,
-            Held::Many(book) => {
+            Held::Listed {
+                orders,
+                changes,
+                ..
+            } => {
+                count_down(changes)?;
+                orders.push(order)?;
+            }
+            Held::Booked(book) => {
                 book.reserve(order.bank, order.side, order.price)?;
                 book.rest(order);
             }
@@ -114,14 +141,15 @@ impl Waiting {
     }
 }
 
-/// A book without orders, of a pair and for so many banks, at a place of its own.
-#[inline(never)]
-fn book_of(alloc: Global, pair: PairId, banks: usize) -> Result<Box<PairBook>, Memory>
-    ensures banks { IfOk result (λ book. book.value.banks ≡ banks) }
-    ensures empty { IfOk result (λ book. book.value.orders ≡ []) }
+/// Counts one less. `Memory` at 0.
+fn count_down(count: &mut u32) -> Result<(), Memory>
+    ensures { OnOk result (count.new + 1 ≡ count.old) }
 {
-    let book = PairBook::new(alloc, pair, banks)?;
-    Ok(Box::new(alloc, book)?)
+    if *count == 0 {
+        return room_for(usize::MAX, 1).map(|_| ());
+    }
+    *count -= 1;
+    Ok(())
 }
 
 /// The best of a bank's orders of a side in a list, of those that arrived before `before`; `None` where there is none.

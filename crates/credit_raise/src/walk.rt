@@ -1,3 +1,4 @@
+ghost use Rattle.std.specs.List.Sorted.{IsPermutation};
 ghost use Rattle.std.specs.Prelude.{◌≡◌, ◌≢◌, ◌+◌, ◌≤◌, true, false, filter, length, IfOk, OnOk};
 ghost use Rattle.fx_amounts.specs.Side.{opposite};
 ghost use Rattle.fx_rules.specs.declared.orders.Resting.{Resting};
@@ -12,10 +13,10 @@ use price_levels::Steps;
 use std::alloc::Global;
 use std::sync::ledger::Ledger;
 
-/// Of the orders of two banks, whose best prices these are, those that cross the other bank's best price, in arrival order. It reads no
-/// other order: a step for each, and four beside them at most. `Memory` when out of memory.
+/// Of the orders of two banks, whose best prices these are, those that cross the other bank's best price. It reads no other order: a step
+/// for each, and four beside them at most. `Memory` when out of memory.
 #[inline(never)]
-pub(crate) fn live_turns<L: Ledger>(
+pub(crate) fn live_orders<L: Ledger>(
     alloc: Global,
     book: &PairBook,
     i: BankId,
@@ -28,14 +29,13 @@ pub(crate) fn live_turns<L: Ledger>(
     requires valid { IsBook book.now }
     requires tops_i { AreTops i book.now.orders tops_i.now }
     requires tops_j { AreTops j book.now.orders tops_j.now }
-    ensures steps { IfOk result (λ turns. steps.new ≤ steps.old + 4 + length turns.items) }
-    ensures turns { IfOk result (λ turns. turns.items ≡ live_turns i j tops_i.now tops_j.now book.now.orders) }
+    ensures steps { IfOk result (λ orders. steps.new ≤ steps.old + 4 + length orders.items) }
+    ensures orders { IfOk result (λ orders. IsPermutation (live_turns i j tops_i.now tops_j.now book.now.orders) orders.items) }
 {
-    let mut turns = Vec::new(alloc);
-    gather_live(book, i, tops_i, tops_j, &mut turns, steps)?;
-    gather_live(book, j, tops_j, tops_i, &mut turns, steps)?;
-    turns.sort_unstable_by_key(|order| order.arrival);
-    Ok(turns)
+    let mut orders = Vec::new(alloc);
+    gather_live(book, i, tops_i, tops_j, &mut orders, steps)?;
+    gather_live(book, j, tops_j, tops_i, &mut orders, steps)?;
+    Ok(orders)
 }
 
 /// Of the orders of all banks those that cross these best prices, in arrival order. `Memory` when out of memory.

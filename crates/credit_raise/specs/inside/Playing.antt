@@ -1,5 +1,6 @@
 -- Two banks' orders met by one another in arrival order. `waiting` are those that had their turns, with what they have left.
-use Rattle.std.specs.Prelude.{ℕ, ◌≡◌, ◌≤◌, ◌-◌, ◌*◌, ◌/◌, ◌==◌, nat_lt, if◌then◌else◌, List, [], ◌∷◌, ◌++◌, ◌⊎◌, Option, Some, None}
+use Rattle.std.specs.Prelude.{ℕ, ◌≡◌, ◌≤◌, ◌-◌, ◌*◌, ◌/◌, ◌==◌, nat_lt, Bool, not, if◌then◌else◌, List, [], ◌∷◌, ◌++◌, ◌⊎◌, Option, Some, None}
+use Rattle.std.specs.List.Sorted.{IsPermutation}
 use Rattle.fx_amounts.specs.declared.side.Side.{Side}
 use Rattle.fx_rules.specs.declared.orders.Resting.{Resting}
 use Rattle.fx_rules.specs.declared.orders.Fill.{Fill}
@@ -57,6 +58,18 @@ pub record AreTurns (i j : ℕ) (orders : List Resting) : Type 0 where
   pub owners : Each (λ order. (order.bank ≡ i) ⊎ (order.bank ≡ j)) orders
   pub numbers : Each (λ order. 1 ≤ order.number) orders
   pub rising : EachPair ArrivesBefore orders
+
+-- an order arrived before this, or not
+abbrev pub is_early : ℕ → Resting → Bool
+is_early from order = nat_lt order.arrival from
+
+abbrev pub is_late : ℕ → Resting → Bool
+is_late from order = not (is_early from order)
+
+-- these are orders of two banks in any order, and those are the same in arrival order
+pub record AreGathered (i j : ℕ) (orders live : List Resting) : Type 0 where
+  pub same : IsPermutation live orders
+  pub turns : AreTurns i j live
 
 -- some orders of two banks have their turns: each is swept among those that wait, and waits with what it has left
 abbrev pub Played : ℕ → ℕ → ℕ → ℕ → ℕ → List Resting → List Resting → List Fill → Type 0

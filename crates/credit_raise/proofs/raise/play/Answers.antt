@@ -18,8 +18,8 @@ turn-requires-clause-bank g c =
     turn-next c.args.i c.args.j c.loop-order.order-index c.args.turns.now c.order-item.result c.loop-order.replay.waiting.orders
     c.loop-order-test.true c.order-item.is c.loop-order.invariant.are_turns c.loop-order.invariant.before in
     elim next.are.owners.0 [
-      | inl is ↦ omega (arith, is, c.loop-order.invariant.banks, c.max-banks.ensures, c.index.ensures.value, c.index-2.ensures.value)
-      | inr is ↦ omega (arith, is, c.loop-order.invariant.banks, c.max-banks.ensures, c.index.ensures.value, c.index-2.ensures.value)
+      | inl is ↦ omega (arith, is, c.loop-order.invariant.banks, c.requires.banks.0)
+      | inr is ↦ omega (arith, is, c.loop-order.invariant.banks, c.requires.banks.1)
     ]
 
 pub turn-requires-clause-differ : goal.turn-requires-clause-differ
@@ -69,7 +69,7 @@ loop-order-preserved g c =
     let waits : c.turn.new.self.waiting.orders ≡ joined order left (lessened_all waiting own) = c.in_ok-turn.ensures.turn.5 in
     record {
       goes_on = λ more played.
-          subst (Played pair weight i j c.args.eff [] turns)
+          subst (Played pair weight i j c.args.eff c.args.waiting.orders turns)
           (sym (ap (λ (fs : List Fill). fs ++ more) c.in_ok-turn.ensures.turn.3 ∙ append_assoc c.loop-order.replay.fills.items own more))
           (was.goes_on (own ++ more)
           (subst (λ (ts : List Resting). Played pair weight i j c.loop-order.replay.line waiting ts (own ++ more)) (sym next.here)
@@ -78,6 +78,8 @@ loop-order-preserved g c =
           was.weight was.pair c.other_of.ensures c.in_ok-turn.ensures.turn.2 c.in_ok-turn.ensures.turn.4 waits played)));
       weight = c.turn.ensures.weight ∙ was.weight;
       banks = c.turn.ensures.banks ∙ was.banks;
+      listed = c.turn.ensures.listed ∙ was.listed;
+      unlooked = λ listed. c.turn.ensures.unlooked (was.listed ∙ listed) ∙ was.unlooked listed;
       pair = c.turn.ensures.pair ∙ was.pair;
       are_turns = turns-behind i j order rest next.are;
       steps = omega (arith, was.steps, c.in_ok-turn.ensures.steps, ap length next.here);
@@ -90,19 +92,21 @@ returns-then-replay-from g c =
     let was = c.loop-order.invariant in
     let line : ℕ = c.loop-order.replay.line in
     record {
-      played = subst (Played c.args.pair c.args.weight c.args.i c.args.j c.args.eff [] c.args.turns.now) (append-nil c.loop-order.replay.fills.items)
+      played = subst (Played c.args.pair c.args.weight c.args.i c.args.j c.args.eff c.args.waiting.orders c.args.turns.now) (append-nil c.loop-order.replay.fills.items)
           (was.goes_on [] (unpaid-plays c.args.pair c.args.weight c.args.i c.args.j line c.loop-order.replay.waiting.orders (drop c.loop-order.order-index c.args.turns.now)
           (div_none line c.args.weight (omega (arith, c.if-replay-from.true, c.from.ensures)))));
       steps = omega (arith, was.steps);
+      unlooked = was.unlooked;
     }
 
 pub returns : goal.returns
 returns g c =
     let was = c.loop-order.invariant in
     record {
-      played = subst (Played c.args.pair c.args.weight c.args.i c.args.j c.args.eff [] c.args.turns.now) (append-nil c.loop-order.replay.fills.items)
+      played = subst (Played c.args.pair c.args.weight c.args.i c.args.j c.args.eff c.args.waiting.orders c.args.turns.now) (append-nil c.loop-order.replay.fills.items)
           (was.goes_on []
           (subst (λ (os : List Resting). Played c.args.pair c.args.weight c.args.i c.args.j c.loop-order.replay.line c.loop-order.replay.waiting.orders os [])
           (sym (drop_all c.loop-order.order-index c.args.turns.now c.loop-order-test.false)) refl));
       steps = omega (arith, was.steps);
+      unlooked = was.unlooked;
     }

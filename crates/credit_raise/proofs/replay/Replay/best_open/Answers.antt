@@ -1,5 +1,5 @@
 -- The best of the other bank's is open where the line pays for a lot and the prices cross; else nothing is.
-use Rattle.std.proofs.Common.{ℕ, ◌≡◌, ◌<◌, ◌/◌, List, [], None, arith, sym, subst, ◌∙◌}
+use Rattle.std.proofs.Common.{ℕ, ◌≡◌, ◌<◌, ◌/◌, List, [], None, arith, refl, sym, subst, ◌∙◌}
 use Rattle.fx_amounts.specs.Side.{opposite}
 use Rattle.fx_amounts.specs.declared.side.Side.{Side}
 use Rattle.fx_rules.specs.declared.orders.Resting.{Resting}
@@ -25,6 +25,7 @@ returns-then-self-from g c = record {
   best = unpaid-closed c.args.self.now.pair c.args.other (c.args.self.now.line / c.args.self.now.weight) c.args.order.now c.args.self.now.waiting.orders
       (div_none c.args.self.now.line c.args.self.now.weight (omega (arith, c.if-self-from.true, c.from.ensures)));
   steps = omega arith;
+  unlooked = λ listed. refl;
 }
 
 pub returns-in_err-maker : goal.returns-in_err-maker
@@ -37,6 +38,7 @@ returns-in_err-maker g c =
           (open-none c.args.other lots t orders
           (subst (λ (s : Side). owned_behind s c.args.other t.arrival None orders ≡ []) c.opposite-side.ensures c.in_err-maker.ensures.best));
       steps = c.best_of.ensures.steps (in_time c.opposite-side.result c.args.order.now.arrival c.args.self.now.waiting.orders c.requires.last);
+      unlooked = c.best_of.ensures.unlooked;
     }
 
 pub returns-then-not-crosses : goal.returns-then-not-crosses
@@ -49,6 +51,7 @@ returns-then-not-crosses g c =
           (subst (λ (s : Side). IsBest (opposite s) (owned_behind s c.args.other t.arrival None orders) maker) c.opposite-side.ensures c.in_ok-maker.ensures.best)
           (sym c.crosses.ensures ∙ c.if-not-crosses.true);
       steps = c.best_of.ensures.steps (in_time c.opposite-side.result c.args.order.now.arrival c.args.self.now.waiting.orders c.requires.last);
+      unlooked = c.best_of.ensures.unlooked;
     }
 
 pub returns : goal.returns
@@ -65,4 +68,5 @@ returns g c =
           (subst (λ (s : Side). IsBest (opposite s) (owned_behind s c.args.other t.arrival None orders) maker) c.opposite-side.ensures c.in_ok-maker.ensures.best)
           (sym c.crosses.ensures ∙ c.if-not-crosses.false);
       steps = c.best_of.ensures.steps (in_time c.opposite-side.result c.args.order.now.arrival c.args.self.now.waiting.orders c.requires.last);
+      unlooked = c.best_of.ensures.unlooked;
     }

@@ -20,6 +20,8 @@ loop-left-init g c = record {
   orders = refl;
   weight = refl;
   banks = refl;
+  listed = refl;
+  unlooked = λ listed. refl;
   pair = refl;
   steps = omega arith;
   goes_on = λ more left swept.
@@ -71,6 +73,8 @@ loop-left-preserved g c =
           ∙ sym (lessened_all-append c.args.self.now.waiting.orders was.own (f ∷ []));
       weight = c.trade.ensures.weight ∙ was.weight;
       banks = c.trade.ensures.banks ∙ was.banks;
+      listed = c.trade.ensures.listed ∙ was.listed;
+      unlooked = λ listed. c.best_open.ensures.unlooked (was.listed ∙ listed) ∙ was.unlooked listed;
       pair = c.trade.ensures.pair ∙ was.pair;
       steps = omega (
         arith,

@@ -1,4 +1,4 @@
-use Rattle.std.proofs.Common.{ℕ, ◌≡◌, ◌≤◌, ◌+◌, ◌^◌, ◌++◌, List, length}
+use Rattle.std.proofs.Common.{ℕ, ◌≡◌, ◌≤◌, ◌+◌, ◌^◌, ◌++◌, true, List, length}
 use Rattle.fx_rules.specs.declared.orders.Fill.{Fill}
 use Rattle.fx_rules.specs.Raise.{taker_of_resting}
 use Rattle.credit_raise.specs.inside.Playing.{SweptAmong, lessened_all, paid}
@@ -15,6 +15,8 @@ invariant-loop-left g l = record {
   orders : l.self.waiting.orders ≡ lessened_all l.initial.self.waiting.orders own;
   weight : l.self.weight ≡ l.initial.self.weight;
   banks : l.self.waiting.banks ≡ l.initial.self.waiting.banks;
+  listed : l.self.waiting.listed ≡ l.initial.self.waiting.listed;
+  unlooked : l.initial.self.waiting.listed ≡ true → l.steps ≡ l.initial.steps;
   pair : l.self.pair ≡ l.initial.self.pair;
   steps : l.steps + length l.initial.self.fills.items ≤ l.initial.steps + length l.self.fills.items;
   goes_on : (more : List Fill) (left : ℕ) →
