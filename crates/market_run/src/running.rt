@@ -79,7 +79,7 @@ impl<M: Market, O: Observer> Run<M, O> {
         self.serve_one(session, &sent)
     }
 
-    /// The same.
+    /// Serves the next command of a session, as `serve` does, and leaves it to its owner.
     #[inline(always)]
     fn serve_one(&mut self, session: &Session, sent: &Sent) -> Result<(), Memory>
         requires may_serve { MayServe M.stands O.told session.now self.old (sent.now ∷ []) }
